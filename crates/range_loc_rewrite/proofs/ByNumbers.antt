@@ -62,7 +62,8 @@ all_options : {X Y : Type 0} (f : X → Y) (xs : List X) → filter_map (option_
 all_options f [] = refl
 all_options {Y} f (x ∷ xs) = ap (λ (l : List Y). f x ∷ l) (all_options f xs)
 
-all_lists : {X Y : Type 0} (f : X → List Y) (xs : List X) → flat_map (λ (o : Option X). option_map_or f o []) (map (λ (x : X). Some x) xs) ≡ flat_map f xs
+all_lists : {X Y : Type 0} (f : X → List Y) (xs : List X) → flat_map (λ (o : Option X). option_map_or f o []) (map (λ (x : X). Some x) xs)
+    ≡ flat_map f xs
 all_lists f [] = refl
 all_lists {Y} f (x ∷ xs) = ap (λ (l : List Y). f x ++ l) (all_lists f xs)
 
@@ -74,7 +75,8 @@ mapped_by_number f test xs =
     ∙ ap (filter_map (option_map f)) (passing test xs) ∙ all_options f (filter test xs)
 
 pub listed_by_number : {X Y : Type 0} (f : X → List Y) (test : X → Bool) (xs : List X) →
-    flat_map (λ k. option_map_or f (slice_get xs k) []) (filter (λ k. option_map_or test (slice_get xs k) false) (range_with_len 0 (length xs)))
+    flat_map (λ k. option_map_or f (slice_get xs k) []) (filter (λ k. option_map_or test (slice_get xs k) false)
+    (range_with_len 0 (length xs)))
     ≡ flat_map f (filter test xs)
 listed_by_number {X} {Y} f test xs =
     sym (fused_lists (slice_get xs) (λ (o : Option X). option_map_or f o []) (filter (passes test xs) (range_with_len 0 (length xs))))

@@ -38,7 +38,8 @@ use Rattle.range_loc_rewrite.proofs.FreeRanges.{answers_free}
 
 -- the numbers of those whose ranges hold an address
 numbers_are : (covers : List Cover) (located : List LocatedAttr) (a : ℕ) → held_numbers covers (map ranged_of located) a
-    ≡ filter (λ k. option_map_or (λ (l : LocatedAttr). group_holds covers l.group a) (slice_get located k) false) (range_with_len 0 (length located))
+    ≡ filter (λ k. option_map_or (λ (l : LocatedAttr). group_holds covers l.group a) (slice_get located k) false)
+    (range_with_len 0 (length located))
 numbers_are covers located a = λ i. filter (λ k. tested k i) (range_with_len 0 (length-map located ranged_of i))
   where
     of_option : (o : Option LocatedAttr) → option_map_or (λ (r : RangedEntry). group_holds covers r.group a) (option_map ranged_of o) false
@@ -56,7 +57,8 @@ pub found_places : (s : ListSections) (kept : Locations) (index : CoverIndex) (b
     flat_map (said_by_number kept a) numbers ≡ places_said s a
 found_places s kept index bounds a numbers are e =
     ap (flat_map (said_by_number kept a)) (e ∙ numbers_are index.tree kept.located.items a)
-    ∙ listed_by_number (located_says kept.lists.items a) (λ (l : LocatedAttr). group_holds index.tree l.group a) kept.located.items ∙ are.says a
+    ∙ listed_by_number (located_says kept.lists.items a) (λ (l : LocatedAttr). group_holds index.tree l.group a) kept.located.items
+    ∙ are.says a
 
 -- no range of an entry or of a list starts or ends between two addresses
 
@@ -70,13 +72,15 @@ All-right P (x ∷ xs) ys all = All-right P xs ys (All-tail P x (xs ++ ys) all)
 
 list_alike : (l : KeptList) (a b : ℕ) → All (λ x. nat_le x a ≡ nat_le x b) (bounds_in l.tree) → list_says l a ≡ list_says l b
 list_alike l a b same =
-    ap (λ (t : ℕ → Bool). unless_none (filter_map (expression_of l.expressions.items) (filter t (range_with_len 0 (length l.expressions.items))))
+    ap (λ (t : ℕ → Bool). unless_none (filter_map (expression_of l.expressions.items)
+    (filter t (range_with_len 0 (length l.expressions.items))))
     (items_in l.defaults.items)) (λ i k. alike_groups l.tree a b k same i)
 
 numbered_alike : (lists : List KeptList) (n a b : ℕ) → All (λ x. nat_le x a ≡ nat_le x b) (list_bounds lists) →
     option_map_or (λ l. list_says l a) (slice_get lists n) [] ≡ option_map_or (λ l. list_says l b) (slice_get lists n) []
 numbered_alike [] n a b same = refl
-numbered_alike (l ∷ lists) zero a b same = list_alike l a b (All-left (λ x. nat_le x a ≡ nat_le x b) (bounds_in l.tree) (list_bounds lists) same)
+numbered_alike (l ∷ lists) zero a b same = list_alike l a b
+    (All-left (λ x. nat_le x a ≡ nat_le x b) (bounds_in l.tree) (list_bounds lists) same)
 numbered_alike (l ∷ lists) (suc n) a b same =
     numbered_alike lists n a b (All-right (λ x. nat_le x a ≡ nat_le x b) (bounds_in l.tree) (list_bounds lists) same)
 
@@ -85,13 +89,15 @@ source_alike : (lists : List KeptList) (x : Source) (a b : ℕ) → All (λ x. n
 source_alike lists (Direct x) a b same = refl
 source_alike lists (Listed n) a b same = numbered_alike lists n a b same
 
-all_alike : (covers : List Cover) (lists : List KeptList) (located : List LocatedAttr) (a b : ℕ) → All (λ x. nat_le x a ≡ nat_le x b) (bounds_in covers) →
+all_alike : (covers : List Cover) (lists : List KeptList) (located : List LocatedAttr) (a b : ℕ) →
+    All (λ x. nat_le x a ≡ nat_le x b) (bounds_in covers) →
     All (λ x. nat_le x a ≡ nat_le x b) (list_bounds lists) → all_located covers lists located a ≡ all_located covers lists located b
 all_alike covers lists located a b same listed =
     (λ i. flat_map (λ (l : LocatedAttr). attr_says l.place l.attr (source_alike lists l.source a b listed i))
     (filter (λ (l : LocatedAttr). alike_groups covers a b l.group same i) located))
 
-pub places_kept : (s : ListSections) (groups : Groups) (kept : Locations) (index : CoverIndex) (bounds : List ℕ) → ArePlacesOf s groups kept →
+pub places_kept : (s : ListSections) (groups : Groups) (kept : Locations) (index : CoverIndex) (bounds : List ℕ) →
+    ArePlacesOf s groups kept →
     IsCoverIndex groups.covers.items (map ranged_of kept.located.items) index → IsNonDecreasing bounds →
     IsPermutation (bounds_in groups.covers.items ++ list_bounds kept.lists.items) bounds → ArePlacesKept s kept index bounds
 places_kept s groups kept index bounds are is rising all = record {
@@ -116,7 +122,9 @@ places_kept s groups kept index bounds are is rising all = record {
 pub places_free : (elf : Elf) (s : ListSections) → s ≡ list_sections elf → IsFree (HasDwarfFault (location_places s)) →
     (place_answers elf ≡ Some (place_says s)) × IsFree (HasDwarfFault (location_places (list_sections elf)))
 places_free elf s same free =
-    subst (λ (x : ListSections). (place_answers elf ≡ Some (place_says x)) × IsFree (HasDwarfFault (location_places (list_sections elf)))) (sym same) (
-      answers_free (location_places (list_sections elf)) (place_says (list_sections elf)) (subst (λ (x : ListSections). IsFree (HasDwarfFault (location_places x))) same free),
+    subst (λ (x : ListSections). (place_answers elf ≡ Some (place_says x))
+    × IsFree (HasDwarfFault (location_places (list_sections elf)))) (sym same) (
+      answers_free (location_places (list_sections elf)) (place_says (list_sections elf))
+          (subst (λ (x : ListSections). IsFree (HasDwarfFault (location_places x))) same free),
       subst (λ (x : ListSections). IsFree (HasDwarfFault (location_places x))) same free,
     )

@@ -1,5 +1,6 @@
 -- Lists that are kept: what they say.
-use Rattle.std.proofs.Common.{◌≡◌, ◌∙◌, ◌+◌, ◌<◌, ◌≤◌, ◌==◌, ◌&&◌, ◌||◌, ◌++◌, ◌∷◌, [], ℕ, zero, suc, Bool, true, false, List, Option, Some, None}
+use Rattle.std.proofs.Common.{◌≡◌, ◌∙◌, ◌+◌, ◌<◌, ◌≤◌, ◌==◌, ◌&&◌, ◌||◌, ◌++◌, ◌∷◌, [], ℕ, zero, suc, Bool, true, false, List, Option, Some}
+use Rattle.std.proofs.Common.{None}
 use Rattle.std.proofs.Common.{refl, sym, ap, arith, length, map, filter, take, drop, get_or, append_assoc, append-nil}
 use Rattle.std.specs.Prelude.{All, filter_map, option_map, slice_get}
 use Rattle.std.specs.Global.{Vec}
@@ -172,11 +173,13 @@ pub covers_next : (ps : List Place) (i : ℕ) (d : Place) (old new : List Cover)
     new ≡ old ++ covers_for i (located_of (get_or ps i d)).range →
     new ++ numbered_covers (i + 1) (drop (i + 1) (map located_of ps)) ≡ numbered_covers 0 (map located_of ps)
 covers_next ps i d old new h before made =
-    covers_more (map located_of ps) i (located_of d) old new (numbered_covers 0 (map located_of ps)) (omega (arith, h, length-map ps located_of)) before
+    covers_more (map located_of ps) i (located_of d) old new (numbered_covers 0 (map located_of ps))
+    (omega (arith, h, length-map ps located_of)) before
     (made ∙ ap (λ (l : Located). old ++ covers_for i l.range) (sym (get_or-map located_of ps i d (located_of d) h)))
 
 pub covers_done : (ps : List Place) (i : ℕ) (old : List Cover) → length ps ≤ i →
-    old ++ numbered_covers i (drop i (map located_of ps)) ≡ numbered_covers 0 (map located_of ps) → old ≡ numbered_covers 0 (map located_of ps)
+    old ++ numbered_covers i (drop i (map located_of ps)) ≡ numbered_covers 0 (map located_of ps) → old
+    ≡ numbered_covers 0 (map located_of ps)
 covers_done ps i old h before =
     sym (append-nil old) ∙ sym (ap (λ (l : List Located). old ++ numbered_covers i l)
     (drop_all i (map located_of ps) (omega (arith, h, length-map ps located_of)))) ∙ before

@@ -1,5 +1,6 @@
 -- Location lists that were read, and the attributes that name them.
-use Rattle.std.proofs.Common.{◌≡◌, ◌∙◌, ◌==◌, ◌<◌, ◌≤◌, ◌++◌, ◌∷◌, [], ℕ, Bool, true, false, List, Option, Some, None, BTreeMap, refl, sym, ap, subst, arith}
+use Rattle.std.proofs.Common.{◌≡◌, ◌∙◌, ◌==◌, ◌<◌, ◌≤◌, ◌++◌, ◌∷◌, [], ℕ, Bool, true, false, List, Option, Some, None, BTreeMap, refl, sym}
+use Rattle.std.proofs.Common.{ap, subst, arith}
 use Rattle.std.proofs.Common.{length, filter, append-nil, append_assoc, cond, nat_cmp}
 use Rattle.std.specs.Prelude.{All, if◌then◌else◌, flat_map, option_and_then}
 use Rattle.std.specs.BTreeMap.{get, is_at}
@@ -23,7 +24,8 @@ use Rattle.range_loc_rewrite.specs.Groups.{group_holds, Grow}
 use Rattle.range_loc_rewrite.specs.KeptLists.{AreMore, IsNumberOf, AreNumbersOf, location_list, list_says, number_says}
 use Rattle.range_loc_rewrite.specs.Lists.{Located, locations_kind, list_offset, list_at}
 use Rattle.range_loc_rewrite.specs.Locations.{PlaceSaid, attr_says, block_of, expressions_of, in_force}
-use Rattle.range_loc_rewrite.specs.UnitLocations.{source_says, IsListed, IsSourceOf, IsNamedSource, AreRead, located_says, all_located, located_of}
+use Rattle.range_loc_rewrite.specs.UnitLocations.{source_says, IsListed, IsSourceOf, IsNamedSource, AreRead, located_says, all_located}
+use Rattle.range_loc_rewrite.specs.UnitLocations.{located_of}
 use Rattle.range_loc_rewrite.specs.UnitLocations.{IsHeld, IsNear, attr_said, AreLocated}
 use Rattle.range_loc_rewrite.proofs.RangeLists.{known_with}
 
@@ -58,12 +60,14 @@ module _ (s : ListSections) (u : Unit) where
   pub read_none : (xs : List KeptList) (known : BTreeMap ℕ (Option ℕ)) → AreNumbersOf (location_list s u) xs known → AreRead s u xs xs known
   read_none xs known are = record { more = more_none xs; known_are = are }
 
-  pub read_more : (olds mids news : List KeptList) (was known : BTreeMap ℕ (Option ℕ)) → AreRead s u olds mids was → AreRead s u mids news known →
+  pub read_more : (olds mids news : List KeptList) (was known : BTreeMap ℕ (Option ℕ)) → AreRead s u olds mids was →
+      AreRead s u mids news known →
       AreRead s u olds news known
   read_more olds mids news was known x y = record { more = more_more olds mids news x.more y.more; known_are = y.known_are }
 
   -- a list more is known
-  pub read_list : (olds news : List KeptList) (was known : BTreeMap ℕ (Option ℕ)) (at : ℕ) (o : Option ℕ) → AreNumbersOf (location_list s u) olds was →
+  pub read_list : (olds news : List KeptList) (was known : BTreeMap ℕ (Option ℕ)) (at : ℕ) (o : Option ℕ) →
+      AreNumbersOf (location_list s u) olds was →
       AreMore olds news → IsNumberOf news o (location_list s u at) →
       ((q : ℕ) → get nat_cmp known q ≡ cond (is_at (nat_cmp at) q) (Some o) (get nat_cmp was q)) → AreRead s u olds news known
   read_list olds news was known at o are more is made = record {
@@ -172,7 +176,8 @@ grown_same old new lists (l ∷ ls) n p grow held =
     kept g = filter (λ (l : LocatedAttr). group_holds g.covers.items l.group p) ls
 
     step : (b : Bool) → flat_map (located_says lists p) (kept new) ≡ flat_map (located_says lists p) (kept old) →
-        flat_map (located_says lists p) (if b then l ∷ kept new else kept new) ≡ flat_map (located_says lists p) (if b then l ∷ kept old else kept old)
+        flat_map (located_says lists p) (if b then l ∷ kept new else kept new)
+        ≡ flat_map (located_says lists p) (if b then l ∷ kept old else kept old)
     step true rest = ap (λ (x : List PlaceSaid). located_says lists p l ++ x) rest
     step false rest = rest
 
@@ -251,6 +256,7 @@ located_more s u nearest old mid new was known x y a b = record {
   read = read_more s u old.lists.items mid.lists.items new.lists.items was known a.read b.read;
   held = λ groups near held. b.held groups near (a.held groups near held);
   says = λ groups covers p near held.
-      b.says groups covers p near (a.held groups near held) ∙ ap (λ (l : List PlaceSaid). l ++ y covers p) (a.says groups covers p near held)
+      b.says groups covers p near (a.held groups near held)
+      ∙ ap (λ (l : List PlaceSaid). l ++ y covers p) (a.says groups covers p near held)
       ∙ append_assoc (all_located covers old.lists.items old.located.items p) (x covers p) (y covers p);
 }

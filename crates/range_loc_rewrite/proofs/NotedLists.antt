@@ -16,7 +16,8 @@ use Rattle.range_loc_rewrite.specs.KnownLists.{AreNoted, lacks_list, bad_list, b
 use Rattle.range_loc_rewrite.specs.Lists.{Kind, has_list, list_offset, list_at}
 use Rattle.range_loc_rewrite.proofs.SmallSteps.{or_false, lower_none}
 
-module _ (k : Kind) (section addr : List ℕ) (u : Unit) (attrs : List Attr) (a : Attr) (f g : ListFaults) (noted : AreNoted k section addr u attrs f) where
+module _ (k : Kind) (section addr : List ℕ) (u : Unit) (attrs : List Attr) (a : Attr) (f g : ListFaults)
+    (noted : AreNoted k section addr u attrs f) where
   noted_more : g.lacks_offset ≡ (f.lacks_offset || lacks_list k section u a) → g.bad ≡ lower f.bad (least (bad_list k section addr u a)) →
       AreNoted k section addr u (attrs ++ a ∷ []) g
   noted_more lacks bad = record {
@@ -24,7 +25,8 @@ module _ (k : Kind) (section addr : List ℕ) (u : Unit) (attrs : List Attr) (a 
         ∙ ap (λ (b : Bool). list_any (lacks_list k section u) attrs || b) (sym (or_false (lacks_list k section u a)))
         ∙ sym (list_any-append (lacks_list k section u) attrs (a ∷ []));
     bad = bad ∙ ap (λ (o : Option ℕ). lower o (least (bad_list k section addr u a))) noted.bad
-        ∙ ap (λ (l : List ℕ). lower (least (flat_map (bad_list k section addr u) attrs)) (least l)) (sym (append-nil (bad_list k section addr u a)))
+        ∙ ap (λ (l : List ℕ). lower (least (flat_map (bad_list k section addr u) attrs)) (least l))
+        (sym (append-nil (bad_list k section addr u a)))
         ∙ sym (least-append (flat_map (bad_list k section addr u) attrs) (flat_map (bad_list k section addr u) (a ∷ [])))
         ∙ ap least (sym (flat_map-append (bad_list k section addr u) attrs (a ∷ [])));
   }
@@ -78,7 +80,8 @@ module _ (k : Kind) (section addr : List ℕ) (u : Unit) where
   one_bad at offsets rest true e = e
   one_bad at offsets rest false e = ap (λ (l : List ℕ). table_place section at ∷ l) e
 
-  bad_front : (o : Option ℕ) (offsets rest : List ℕ) → rest ≡ bad_of offsets → bad_at k section addr u o ++ rest ≡ bad_of (cons_option o offsets)
+  bad_front : (o : Option ℕ) (offsets rest : List ℕ) → rest ≡ bad_of offsets → bad_at k section addr u o ++ rest
+      ≡ bad_of (cons_option o offsets)
   bad_front None offsets rest e = e
   bad_front (Some at) offsets rest e = one_bad at offsets rest (is_some (list_at k section addr u at)) e
 
@@ -92,7 +95,8 @@ module _ (k : Kind) (section addr : List ℕ) (u : Unit) where
         bad_front (list_offset k section u a) (offsets_of (filter (has_list k) ats)) (flat_map (bad_list k section addr u) ats) e
     step false e = e
 
-  module _ (attrs : List Attr) (f : ListFaults) (all : flat_map (λ (e : Entry). e.attrs) u.entries ≡ attrs) (noted : AreNoted k section addr u attrs f) where
+  module _ (attrs : List Attr) (f : ListFaults) (all : flat_map (λ (e : Entry). e.attrs) u.entries
+      ≡ attrs) (noted : AreNoted k section addr u attrs f) where
     pub lacks_all : f.lacks_offset ≡ lacks_offset k section u
     lacks_all = noted.lacks ∙ any_filtered (has_list k) (λ a. not (is_some (list_offset k section u a))) attrs
         ∙ ap (λ (l : List Attr). list_any (λ a. not (is_some (list_offset k section u a))) (filter (has_list k) l)) (sym all)

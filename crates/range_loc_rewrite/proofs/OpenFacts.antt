@@ -1,5 +1,6 @@
 -- Entries that are open: what stays so, and the nearest ranges.
-use Rattle.std.proofs.Common.{◌≡◌, ◌∙◌, ◌+◌, ◌-◌, ◌<◌, ◌≤◌, ◌++◌, ◌∷◌, [], ℕ, Bool, true, false, List, Option, Some, None, refl, sym, ap, subst, arith}
+use Rattle.std.proofs.Common.{◌≡◌, ◌∙◌, ◌+◌, ◌-◌, ◌<◌, ◌≤◌, ◌++◌, ◌∷◌, [], ℕ, Bool, true, false, List, Option, Some, None, refl, sym, ap}
+use Rattle.std.proofs.Common.{subst, arith}
 use Rattle.std.proofs.Common.{length, get_or, reverse}
 use Rattle.std.specs.Prelude.{if◌then◌else◌, filter_map, is_some, not, nat_le, nat_lt, slice_get}
 use Rattle.std.specs.List.{cons_option}
@@ -105,14 +106,16 @@ left_open depth (e ∷ es) = if nat_lt e.depth depth then e ∷ es else left_ope
 left_enclosing : (before : List Entry) (m depth : ℕ) → depth ≤ m → left_open depth (enclosing m before) ≡ enclosing depth before
 left_enclosing [] m depth le = refl
 left_enclosing (e ∷ before) m depth le =
-    by_outer (nat_lt e.depth m) (nat_lt e.depth depth) refl refl (λ h. left_enclosing before e.depth depth h) (left_enclosing before m depth le)
+    by_outer (nat_lt e.depth m) (nat_lt e.depth depth) refl refl (λ h. left_enclosing before e.depth depth h)
+    (left_enclosing before m depth le)
   where
     by_outer : (b c : Bool) → nat_lt e.depth m ≡ b → nat_lt e.depth depth ≡ c →
         (depth ≤ e.depth → left_open depth (enclosing e.depth before) ≡ enclosing depth before) →
         left_open depth (enclosing m before) ≡ enclosing depth before →
         left_open depth (if b then e ∷ enclosing e.depth before else enclosing m before)
         ≡ (if c then e ∷ enclosing e.depth before else enclosing depth before)
-    by_outer true true is isc here more = ap (λ (c : Bool). if c then e ∷ enclosing e.depth before else left_open depth (enclosing e.depth before)) isc
+    by_outer true true is isc here more = ap (λ (c : Bool). if c then e ∷ enclosing e.depth before else left_open depth
+        (enclosing e.depth before)) isc
     by_outer true false is isc here more =
         ap (λ (c : Bool). if c then e ∷ enclosing e.depth before else left_open depth (enclosing e.depth before)) isc
         ∙ here (let h : depth ≤ e.depth = grind (arith, nat_tests) in h)
@@ -123,7 +126,8 @@ pub left_chain : (before : List Entry) (depth : ℕ) → left_open depth (chain 
 left_chain [] depth = refl
 left_chain (e ∷ before) depth = by_test (nat_lt e.depth depth) refl
   where
-    by_test : (b : Bool) → nat_lt e.depth depth ≡ b → (if b then e ∷ enclosing e.depth before else left_open depth (enclosing e.depth before))
+    by_test : (b : Bool) → nat_lt e.depth depth ≡ b → (if b then e ∷ enclosing e.depth before else left_open depth
+        (enclosing e.depth before))
         ≡ (if b then e ∷ enclosing e.depth before else enclosing depth before)
     by_test true is = refl
     by_test false is = left_enclosing before e.depth depth (let h : depth ≤ e.depth = grind (arith, nat_tests) in h)
@@ -144,7 +148,8 @@ module _ (own : Entry → Option (List Range)) where
       by_test true false same more = absurd (cc)
       by_test false true same more = absurd (cc)
 
-  pub nearest_open : (g : Groups) (es : List Entry) (os : List OpenEntry) → AreOpen own g es os → HasRanges g (nearest os) (first_of (filter_map own es))
+  pub nearest_open : (g : Groups) (es : List Entry) (os : List OpenEntry) → AreOpen own g es os →
+      HasRanges g (nearest os) (first_of (filter_map own es))
   nearest_open g [] [] are = none_has g
   nearest_open g [] (o ∷ os) are = absurd are
   nearest_open g (e ∷ es) [] are = absurd are
@@ -158,20 +163,23 @@ module _ (own : Entry → Option (List Range)) where
       (are.0, has_still old new o.nearest (first_of (filter_map own (e ∷ es))) grow are.1, still_open old new es os grow are.2)
 
   -- an entry more is open, with its own ranges or those of the first one that it lies in
-  own_or : (g : Groups) (o p : Option ℕ) (x : Option (List Range)) (xs : List (List Range)) → HasRanges g o x → HasRanges g p (first_of xs) →
+  own_or : (g : Groups) (o p : Option ℕ) (x : Option (List Range)) (xs : List (List Range)) → HasRanges g o x →
+      HasRanges g p (first_of xs) →
       HasRanges g (option_or o p) (first_of (cons_option x xs))
   own_or g None p None xs has outer = outer
   own_or g None p (Some rs) xs has outer = let f : false ≡ true = has.some in absurd (cc)
   own_or g (Some n) p None xs has outer = let f : true ≡ false = has.some in absurd (cc)
   own_or g (Some n) p (Some rs) xs has outer = has
 
-  pub entered : (g : Groups) (e : Entry) (before : List Entry) (os new : List OpenEntry) (group n : Option ℕ) → AreOpen own g (chain before) os →
+  pub entered : (g : Groups) (e : Entry) (before : List Entry) (os new : List OpenEntry) (group n : Option ℕ) →
+      AreOpen own g (chain before) os →
       HasRanges g group (own e) → n ≡ option_or group (nearest (closed e.depth os)) →
       new ≡ record { depth = e.depth; nearest = n } ∷ closed e.depth os →
       HasRanges g n (first_of (filter_map own (e ∷ enclosing e.depth before))) × AreOpen own g (chain (e ∷ before)) new
   entered g e before os new group n are has is made =
       let outer : AreOpen own g (enclosing e.depth before) (closed e.depth os) =
-      subst (λ (es : List Entry). AreOpen own g es (closed e.depth os)) (left_chain before e.depth) (closed_open g e.depth (chain before) os are) in
+      subst (λ (es : List Entry). AreOpen own g es (closed e.depth os)) (left_chain before e.depth)
+      (closed_open g e.depth (chain before) os are) in
       let here : HasRanges g n (first_of (filter_map own (e ∷ enclosing e.depth before))) =
       subst (λ (o : Option ℕ). HasRanges g o (first_of (filter_map own (e ∷ enclosing e.depth before)))) (sym is)
       (own_or g group (nearest (closed e.depth os)) (own e) (filter_map own (enclosing e.depth before)) has

@@ -16,13 +16,15 @@ use Rattle.range_loc_rewrite.specs.PlaceReading.{IsProgress, is_bad_unit, ArePla
 use Rattle.range_loc_rewrite.proofs.RangeFaults.{left_none}
 
 abbrev pub of_tables : List ℕ → List ℕ
-of_tables section = map (λ (w : Walked). w.place) (filter (λ (w : Walked). not (option_map_or is_list_table w.bytes false)) (walked 5 section))
+of_tables section = map (λ (w : Walked). w.place) (filter (λ (w : Walked). not (option_map_or is_list_table w.bytes false))
+    (walked 5 section))
 
 abbrev of_units : ListSections → Option ℕ
 of_units s = first_place (is_bad_unit s) (walked 5 s.units.info)
 
 -- units first, then tables of addresses, then tables of lists
-pub bad_is : (s : ListSections) (p : PlaceProgress) (o q : Option ℕ) → IsProgress s (walked 5 s.units.info) p → o ≡ least (of_tables s.ranges) →
+pub bad_is : (s : ListSections) (p : PlaceProgress) (o q : Option ℕ) → IsProgress s (walked 5 s.units.info) p → o
+    ≡ least (of_tables s.ranges) →
     q ≡ least (of_tables s.locations) →
     option_or p.bad (option_or (bad_address_table s.units.addr) (option_or (lower o p.bad_ranges) (lower q p.bad_locations)))
     ≡ (location_places s).bad
@@ -47,11 +49,13 @@ bad_is s p o q are ranges locations = by_bad p.bad refl
         (option_or (bad_table ranges_kind s.ranges s.units) (bad_table locations_kind s.locations s.units)))) (sym e ∙ are.bad)
 
 -- without a fault all entries were read
-pub places_read : (s : ListSections) (p : PlaceProgress) → IsProgress s (walked 5 s.units.info) p → IsFree (HasDwarfFault (location_places s)) →
+pub places_read : (s : ListSections) (p : PlaceProgress) → IsProgress s (walked 5 s.units.info) p →
+    IsFree (HasDwarfFault (location_places s)) →
     ArePlacesOf s p.groups p.kept
 places_read s p are free =
     let none : p.bad ≡ None = are.bad ∙ left_none (of_units s) (option_or (bad_address_table s.units.addr)
-    (option_or (bad_table ranges_kind s.ranges s.units) (bad_table locations_kind s.locations s.units))) (no_bad (location_places s).bad refl) in
+    (option_or (bad_table ranges_kind s.ranges s.units) (bad_table locations_kind s.locations s.units)))
+    (no_bad (location_places s).bad refl) in
     let read = are.gathered none in
     record { free = free; numbered = are.numbered; held = read.held; says = read.says }
   where

@@ -28,7 +28,8 @@ use Rattle.range_loc_rewrite.proofs.ReadProgress.{units_more, read_unit, entries
 
 -- the lowest tables of one unit more
 bad_more : (s : ListSections) (k : Kind) (section : List ℕ) (ws : List Walked) (w : Walked) (u : Unit) (old new now : Option ℕ) →
-    unit_of s.units.abbrevs w ≡ Ok u → new ≡ lower old now → old ≡ least (flat_map (bad_list_tables k section s.units.addr) (units_of s ws)) →
+    unit_of s.units.abbrevs w ≡ Ok u → new ≡ lower old now → old
+    ≡ least (flat_map (bad_list_tables k section s.units.addr) (units_of s ws)) →
     now ≡ least (bad_list_tables k section s.units.addr u) →
     new ≡ least (flat_map (bad_list_tables k section s.units.addr) (units_of s (ws ++ w ∷ [])))
 bad_more s k section ws w u old new now read made before here =
@@ -70,9 +71,11 @@ module _ (s : ListSections) (ws : List Walked) (w : Walked) (old new : PlaceProg
       with_bad numbered (now ∙ sym (bad_now (is_bad_unit s) ws w (sym are.bad ∙ before) bad)) (none_bad w.place now)
 
   -- this one was read
-  module _ (f : UnitFaults) (before : old.bad ≡ None) (good : fails (is_sound_unit s.units.addr) (unit_of s.units.abbrevs w) ≡ false) (u : Unit)
+  module _ (f : UnitFaults) (before : old.bad ≡ None) (good : fails (is_sound_unit s.units.addr) (unit_of s.units.abbrevs w)
+      ≡ false) (u : Unit)
       (read : unit_of s.units.abbrevs w ≡ Ok u) (x : IsUnitPlaced s u old.groups old.kept new.groups new.kept f)
-      (ranges : new.bad_ranges ≡ lower old.bad_ranges f.ranges.bad) (locations : new.bad_locations ≡ lower old.bad_locations f.locations.bad) where
+      (ranges : new.bad_ranges ≡ lower old.bad_ranges f.ranges.bad) (locations : new.bad_locations
+      ≡ lower old.bad_locations f.locations.bad) where
     tested : is_bad_unit s w ≡ (f.ranges.lacks_offset || f.locations.lacks_offset)
     tested =
         (λ i. good i || (has_bad_offset ranges_kind s.ranges (read i) || has_bad_offset locations_kind s.locations (read i)))
@@ -107,7 +110,8 @@ unit_added s ws w old mid new r es are is form high unform groups kept ranges lo
     subst (λ (g : Groups). IsUnitPlaced s u.0 g old.kept new.groups new.kept added.faults) groups
     (subst (λ (l : Locations). IsUnitPlaced s u.0 mid.groups l new.groups new.kept added.faults) kept
     (unit_of_listed s u.0 es.items mid.groups new.groups mid.kept new.kept added.faults u.2 added.placed)) in
-    by_offset s ws w old new r are is (added.form ∙ form) (added.high ∙ high) (added.unformed_is ∙ unform) added.faults before behind.0 u.0 u.1 x
+    by_offset s ws w old new r are is (added.form ∙ form) (added.high ∙ high) (added.unformed_is
+    ∙ unform) added.faults before behind.0 u.0 u.1 x
     (added.ranges ∙ ap (λ (o : Option ℕ). lower o added.faults.ranges.bad) ranges)
     (added.locations ∙ ap (λ (o : Option ℕ). lower o added.faults.locations.bad) locations)
     (added.faults.ranges.lacks_offset || added.faults.locations.lacks_offset) refl

@@ -44,11 +44,14 @@ module _ (s : ListSections) (u : Unit) (e : Entry) (before : List Entry) where
   said_here : (g : Groups) (n : Option ℕ) (p : ℕ) → HasRanges g n nearest_ranges → entry_said s u g.covers.items n e p
       ≡ entry_says s u p (record { entry = e; own = ranges_of s u e; nearest = nearest_ranges })
   said_here g n p has =
-      (λ i. attr_says e.place DW_AT_location (if has.holds p i then option_map_or (λ v. expressions_of s u v p) (attr DW_AT_location e) [] else [])
-      ++ attr_says e.place DW_AT_frame_base (if has.holds p i then option_map_or (λ v. expressions_of s u v p) (attr DW_AT_frame_base e) [] else []))
+      (λ i. attr_says e.place DW_AT_location (if has.holds p i then option_map_or (λ v. expressions_of s u v p)
+      (attr DW_AT_location e) [] else [])
+      ++ attr_says e.place DW_AT_frame_base (if has.holds p i then option_map_or (λ v. expressions_of s u v p)
+      (attr DW_AT_frame_base e) [] else []))
 
 module _ (s : ListSections) (u : Unit) (first : Groups) (old : Locations) (e : Entry) (done rest : List Entry) (attrs : List Attr) where
-  pub placed_next : (g mid new : Groups) (kept newer : Locations) (state after : UnitState) (others f : UnitFaults) (was : BTreeMap ℕ (Option ℕ))
+  pub placed_next : (g mid new : Groups) (kept newer : Locations) (state after : UnitState) (others f : UnitFaults)
+      (was : BTreeMap ℕ (Option ℕ))
       (own n : Option ℕ) → ArePlaced s u first old g kept state done (e ∷ rest) attrs others →
       Grow g mid × AreKnown (range_list s u) mid was × AreNoted ranges_kind s.ranges s.units.addr u (attrs ++ e.attrs) f.ranges →
       Grow mid new × AreKnown (range_list s u) new after.ranges × HasRanges new own (ranges_of s u e) →
@@ -86,7 +89,8 @@ module _ (s : ListSections) (u : Unit) (first : Groups) (old : Locations) (e : E
       }
 
 -- nothing is placed yet
-pub placed_none : (s : ListSections) (u : Unit) (first : Groups) (old : Locations) (state : UnitState) (f : UnitFaults) → AreNumbered first →
+pub placed_none : (s : ListSections) (u : Unit) (first : Groups) (old : Locations) (state : UnitState) (f : UnitFaults) →
+    AreNumbered first →
     AreHeld first.count old → IsEmpty state.ranges → IsEmpty state.locations → state.entries.items ≡ [] →
     f ≡ record { ranges = record { lacks_offset = false; bad = None }; locations = record { lacks_offset = false; bad = None } } →
     ArePlaced s u first old first old state [] u.entries [] f
@@ -98,12 +102,15 @@ placed_none s u first old state f numbered held no_ranges no_locations none is =
   held = held;
   says = λ p. refl;
   are_open = subst (λ (os : List OpenEntry). AreOpen (ranges_of s u) first [] (reverse os)) (sym none) tt;
-  ranges_noted = subst (λ (f : UnitFaults). AreNoted ranges_kind s.ranges s.units.addr u [] f.ranges) (sym is) (record { lacks = refl; bad = refl });
-  locations_noted = subst (λ (f : UnitFaults). AreNoted locations_kind s.locations s.units.addr u [] f.locations) (sym is) (record { lacks = refl; bad = refl });
+  ranges_noted = subst (λ (f : UnitFaults). AreNoted ranges_kind s.ranges s.units.addr u [] f.ranges) (sym is)
+      (record { lacks = refl; bad = refl });
+  locations_noted = subst (λ (f : UnitFaults). AreNoted locations_kind s.locations s.units.addr u [] f.locations) (sym is)
+      (record { lacks = refl; bad = refl });
 }
 
 -- all of a unit is
-pub unit_placed : (s : ListSections) (es : List ListedEntry) (first g : Groups) (old kept : Locations) (state : UnitState) (done : List Entry)
+pub unit_placed : (s : ListSections) (es : List ListedEntry) (first g : Groups) (old kept : Locations) (state : UnitState)
+    (done : List Entry)
     (f : UnitFaults) → ArePlaced s (plain_unit es) first old g kept state done [] (flat_map (λ (e : ListedEntry). e.attrs) es) f →
     IsUnitPlaced s (plain_unit es) first old g kept f
 unit_placed s es first g old kept state done f x =
@@ -114,13 +121,15 @@ unit_placed s es first g old kept state done f x =
       says = λ p. sym (append-nil (all_located g.covers.items kept.lists.items kept.located.items p)) ∙ x.says p;
       lacks_ranges = lacks_all ranges_kind s.ranges s.units.addr (plain_unit es) attrs f.ranges (plain_attrs es) x.ranges_noted;
       bad_ranges = bad_all ranges_kind s.ranges s.units.addr (plain_unit es) attrs f.ranges (plain_attrs es) x.ranges_noted;
-      lacks_locations = lacks_all locations_kind s.locations s.units.addr (plain_unit es) attrs f.locations (plain_attrs es) x.locations_noted;
+      lacks_locations = lacks_all locations_kind s.locations s.units.addr (plain_unit es) attrs f.locations
+          (plain_attrs es) x.locations_noted;
       bad_locations = bad_all locations_kind s.locations s.units.addr (plain_unit es) attrs f.locations (plain_attrs es) x.locations_noted;
     }
 
 -- the next of some listed entries
 
-module _ (s : ListSections) (u : Unit) (first : Groups) (old : Locations) (g : Groups) (kept : Locations) (state : UnitState) (f : UnitFaults)
+module _ (s : ListSections) (u : Unit) (first : Groups) (old : Locations) (g : Groups) (kept : Locations) (state : UnitState)
+    (f : UnitFaults)
     (es : List ListedEntry) (n : ℕ) where
   module _ (x : ListedEntry) (lt : n < length es) (is : x ≡ get_or es n x) where
     pub placed_front : (done : List Entry) (attrs : List Attr) → ArePlaced s u first old g kept state done (map plain (drop n es)) attrs f →
@@ -138,16 +147,20 @@ module _ (s : ListSections) (u : Unit) (first : Groups) (old : Locations) (g : G
         let done : plain x ∷ reverse (map plain (take n es)) ≡ reverse (map plain (take (n + 1) es)) =
         sym (ap (λ (l : List ListedEntry). reverse (map plain l)) more ∙ ap (λ (l : List Entry). reverse l) (map_push plain (take n es) x)
         ∙ reverse-append (map plain (take n es)) (plain x ∷ [])) in
-        let attrs : flat_map (λ (e : ListedEntry). e.attrs) (take n es) ++ x.attrs ≡ flat_map (λ (e : ListedEntry). e.attrs) (take (n + 1) es) =
+        let attrs : flat_map (λ (e : ListedEntry). e.attrs) (take n es) ++ x.attrs
+        ≡ flat_map (λ (e : ListedEntry). e.attrs) (take (n + 1) es) =
         sym (ap (flat_map (λ (e : ListedEntry). e.attrs)) more ∙ flat-more (λ (e : ListedEntry). e.attrs) (take n es) x) in
         subst (λ (l : List Attr). ArePlaced s u first old g kept state (reverse (map plain (take (n + 1) es))) rest l f) attrs
-        (subst (λ (l : List Entry). ArePlaced s u first old g kept state l rest (flat_map (λ (e : ListedEntry). e.attrs) (take n es) ++ x.attrs) f)
+        (subst (λ (l : List Entry). ArePlaced s u first old g kept state l rest (flat_map (λ (e : ListedEntry). e.attrs) (take n es)
+        ++ x.attrs) f)
         done placed)
 
   pub placed_all : (done : List Entry) → length es ≤ n →
       ArePlaced s u first old g kept state done (map plain (drop n es)) (flat_map (λ (e : ListedEntry). e.attrs) (take n es)) f →
       ArePlaced s u first old g kept state done [] (flat_map (λ (e : ListedEntry). e.attrs) es) f
   placed_all done le placed =
-      subst (λ (l : List ListedEntry). ArePlaced s u first old g kept state done [] (flat_map (λ (e : ListedEntry). e.attrs) l) f) (take_all n es le)
-      (subst (λ (l : List ListedEntry). ArePlaced s u first old g kept state done (map plain l) (flat_map (λ (e : ListedEntry). e.attrs) (take n es)) f)
+      subst (λ (l : List ListedEntry). ArePlaced s u first old g kept state done [] (flat_map (λ (e : ListedEntry). e.attrs) l) f)
+      (take_all n es le)
+      (subst (λ (l : List ListedEntry). ArePlaced s u first old g kept state done (map plain l)
+      (flat_map (λ (e : ListedEntry). e.attrs) (take n es)) f)
       (drop_all n es le) placed)

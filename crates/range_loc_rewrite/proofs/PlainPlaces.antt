@@ -77,8 +77,10 @@ said_listed s place offset (e ∷ es) p = plain_maps (e ∷ es) ∙ said_from s 
     maps (d ∷ ds) = ap (λ (l : List Entry). again d ∷ l) (maps ds)
 
     plain_maps : (ds : List Entry) →
-        flat_map (entry_says s (plain_unit (map listed (e ∷ es))) p) (ranged_from (ranges_of s (plain_unit (map listed (e ∷ es)))) [] (map plain (map listed ds)))
-        ≡ flat_map (entry_says s (plain_unit (map listed (e ∷ es))) p) (ranged_from (ranges_of s (plain_unit (map listed (e ∷ es)))) [] (map again ds))
+        flat_map (entry_says s (plain_unit (map listed (e ∷ es))) p)
+        (ranged_from (ranges_of s (plain_unit (map listed (e ∷ es)))) [] (map plain (map listed ds)))
+        ≡ flat_map (entry_says s (plain_unit (map listed (e ∷ es))) p)
+        (ranged_from (ranges_of s (plain_unit (map listed (e ∷ es)))) [] (map again ds))
     plain_maps ds = ap (λ (l : List Entry). flat_map (entry_says s (plain_unit (map listed (e ∷ es))) p)
         (ranged_from (ranges_of s (plain_unit (map listed (e ∷ es)))) [] l)) (maps ds)
 

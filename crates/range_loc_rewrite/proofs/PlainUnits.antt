@@ -28,7 +28,8 @@ module _ (s : ListSections) (place offset : ℕ) where
       seen_in s (plain_unit (map listed (e ∷ ds))) (map plain (map listed xs)) a ≡ seen_in s (whole (e ∷ ds)) xs a
   seen_rest e ds [] a = refl
   seen_rest e ds (x ∷ xs) a =
-      ap (λ (l : List SeenEntry). seen_of x.place e.place (ranges_index x.attrs) (ranges_of s (whole (e ∷ ds)) x) a ++ l) (seen_rest e ds xs a)
+      ap (λ (l : List SeenEntry). seen_of x.place e.place (ranges_index x.attrs) (ranges_of s (whole (e ∷ ds)) x) a
+      ++ l) (seen_rest e ds xs a)
 
   seen_listed : (es : List Entry) (a : ℕ) → seen_in s (plain_unit (map listed es)) (map plain (map listed es)) a ≡ seen_in s (whole es) es a
   seen_listed [] a = refl
@@ -57,7 +58,8 @@ unit_weight s u es is =
     ∙ ap (λ (l : List Attr). offsets_weight (indexes_in ranges_kind.index_form l)) (attrs_listed u.entries)
 
 -- the unit that was read is gathered
-pub unit_of_listed : (s : ListSections) (u : Unit) (es : List ListedEntry) (old new : Groups) (olds news : List RangedEntry) (f : ListFaults) →
+pub unit_of_listed : (s : ListSections) (u : Unit) (es : List ListedEntry) (old new : Groups) (olds news : List RangedEntry)
+    (f : ListFaults) →
     map listed u.entries ≡ es → IsUnitGathered s (plain_unit es) old olds new news f → IsUnitGathered s u old olds new news f
 unit_of_listed s u es old new olds news f is g =
     let h : IsUnitGathered s (plain_unit (map listed u.entries)) old olds new news f =

@@ -3,7 +3,8 @@ use Rattle.std.proofs.Common.{ℕ, ◌+◌, ◌≤◌, ◌<◌, ◌≡◌, ◌�
 use Rattle.std.proofs.lemmas.List.{length-map, get_or-map}
 use Rattle.table_core.proofs.SameLists.{same-more, same-end}
 
-pub mapped_more : {A B : Type 0} (f : A → B) (x y : List A) (i : ℕ) (d e : A) → i < length x → i < length y → f (get_or x i d) ≡ f (get_or y i e) →
+pub mapped_more : {A B : Type 0} (f : A → B) (x y : List A) (i : ℕ) (d e : A) → i < length x → i < length y → f (get_or x i d)
+    ≡ f (get_or y i e) →
     (drop i (map f x) ≡ drop i (map f y) → map f x ≡ map f y) → drop (i + 1) (map f x) ≡ drop (i + 1) (map f y) → map f x ≡ map f y
 mapped_more f x y i d e l m same before =
     same-more (map f x) (map f y) i (f d) (f e) (omega (arith, length-map x f)) (omega (arith, length-map y f))

@@ -36,7 +36,8 @@ unless_none (x ∷ xs) ys = x ∷ xs
 
 -- the expressions of a list that are in force at an address
 abbrev pub list_says : KeptList → ℕ → List (List ℕ)
-list_says l a = unless_none (filter_map (expression_of l.expressions.items) (bounded_numbers l.tree (length l.expressions.items) a))
+list_says l a = unless_none (filter_map (expression_of l.expressions.items)
+    (bounded_numbers l.tree (length l.expressions.items) a))
     (items_in l.defaults.items)
 
 abbrev pub Says : KeptList → List Located → Type 0
@@ -55,7 +56,8 @@ pub record AreMore (olds news : List KeptList) : Type 0 where
 pub record IsNumberOf (lists : List KeptList) (number : Option ℕ) (said : Option (List Located)) : Type 0 where
   pub some : is_some number ≡ is_some said
   pub within : (n : ℕ) → number ≡ Some n → n < length lists
-  pub says : (a : ℕ) → option_map_or (λ n. number_says lists n a) number [] ≡ option_map_or (λ ls. in_force ls a) said []
+  pub says : (a : ℕ) → option_map_or (λ n. number_says lists n a) number []
+      ≡ option_map_or (λ ls. in_force ls a) said []
 
 -- what the location list at an offset says
 abbrev pub location_list : ListSections → Unit → ℕ → Option (List Located)

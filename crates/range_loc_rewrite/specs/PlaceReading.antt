@@ -34,7 +34,8 @@ pub record AreGathered (s : ListSections) (ws : List Walked) (p : PlaceProgress)
   pub says : (a : ℕ) → all_located p.groups.covers.items p.kept.lists.items p.kept.located.items a
       ≡ flat_map (unit_says s a) (units_of s ws)
   pub ranges : p.bad_ranges ≡ least (flat_map (bad_list_tables ranges_kind s.ranges s.units.addr) (units_of s ws))
-  pub locations : p.bad_locations ≡ least (flat_map (bad_list_tables locations_kind s.locations s.units.addr) (units_of s ws))
+  pub locations : p.bad_locations ≡ least (flat_map (bad_list_tables locations_kind s.locations s.units.addr)
+      (units_of s ws))
 
 pub record IsProgress (s : ListSections) (ws : List Walked) (p : PlaceProgress) : Type 0 where
   pub numbered : AreNumbered p.groups

@@ -34,7 +34,8 @@ pub record ArePlaced (s : ListSections) (u : Unit) (first : Groups) (old : Locat
   pub held : AreHeld g.count kept
   pub says : (p : ℕ) → all_located g.covers.items kept.lists.items kept.located.items p
       ++ flat_map (entry_says s u p) (ranged_from (ranges_of s u) done rest)
-      ≡ all_located first.covers.items old.lists.items old.located.items p ++ flat_map (entry_says s u p) (ranged_in s u)
+      ≡ all_located first.covers.items old.lists.items old.located.items p
+      ++ flat_map (entry_says s u p) (ranged_in s u)
   pub are_open : AreOpen (ranges_of s u) g (chain done) (reverse state.entries.items)
   pub ranges_noted : AreNoted ranges_kind s.ranges s.units.addr u attrs f.ranges
   pub locations_noted : AreNoted locations_kind s.locations s.units.addr u attrs f.locations
@@ -45,7 +46,8 @@ pub record IsUnitPlaced (s : ListSections) (u : Unit) (first : Groups) (old : Lo
   pub grow : Grow first g
   pub held : AreHeld g.count kept
   pub says : (p : ℕ) → all_located g.covers.items kept.lists.items kept.located.items p
-      ≡ all_located first.covers.items old.lists.items old.located.items p ++ flat_map (entry_says s u p) (ranged_in s u)
+      ≡ all_located first.covers.items old.lists.items old.located.items p
+      ++ flat_map (entry_says s u p) (ranged_in s u)
   pub lacks_ranges : f.ranges.lacks_offset ≡ lacks_offset ranges_kind s.ranges u
   pub bad_ranges : f.ranges.bad ≡ least (bad_list_tables ranges_kind s.ranges s.units.addr u)
   pub lacks_locations : f.locations.lacks_offset ≡ lacks_offset locations_kind s.locations u

@@ -1,28 +1,24 @@
 -- The locations of the attributes of a unit's entries, one entry after another.
-use Rattle.std.specs.Prelude.{◌≡◌, ◌<◌, ◌++◌, ℕ, Bool, false, List, [], ◌∷◌, All, if◌then◌else◌, length, filter, flat_map}
-use Rattle.std.specs.Prelude.{Option, Some, None, is_some}
+use Rattle.std.specs.Prelude.{◌≡◌, ◌<◌, ◌++◌, ℕ, Bool, false, List, [], ◌∷◌, All, if◌then◌else◌, length, filter}
+use Rattle.std.specs.Prelude.{flat_map}
+use Rattle.std.specs.Prelude.{Option, Some, None}
 use Rattle.std.specs.BTreeMap.{BTreeMap}
 use Rattle.std.specs.Option.{option_map_or}
-use Rattle.table_core.specs.declared.range.Range.{Range}
-use Rattle.table_core.specs.ReadSteps.{least}
 use Rattle.dw_unit.specs.declared.attribute.TheConstants.{DW_AT_location, DW_AT_frame_base}
 use Rattle.dw_unit.specs.declared.entry.Attr.{Attr}
 use Rattle.dw_unit.specs.CompUnits.{Entry, Unit, attr}
 use Rattle.range_loc_rewrite.specs.declared.cover_tree.Cover.{Cover}
-use Rattle.range_loc_rewrite.specs.declared.groups.Groups.{Groups}
 use Rattle.range_loc_rewrite.specs.declared.kept_list.KeptList.{KeptList}
 use Rattle.range_loc_rewrite.specs.declared.located_attr.LocatedAttr.{LocatedAttr}
 use Rattle.range_loc_rewrite.specs.declared.located_attr.Locations.{Locations}
 use Rattle.range_loc_rewrite.specs.declared.located_attr.Source.{Source}
 use Rattle.range_loc_rewrite.specs.declared.located_attr.Source.TheVariants.{Direct, Listed}
 use Rattle.range_loc_rewrite.specs.declared.unit_locations.UnitLocations as code
-use Rattle.range_loc_rewrite.specs.declared.unit_ranges.ListFaults.{ListFaults}
-use Rattle.range_loc_rewrite.specs.Faults.{ListSections, lacks_offset, bad_list_tables}
-use Rattle.range_loc_rewrite.specs.Groups.{group_holds, HasRanges}
+use Rattle.range_loc_rewrite.specs.Faults.{ListSections}
+use Rattle.range_loc_rewrite.specs.Groups.{group_holds}
 use Rattle.range_loc_rewrite.specs.KeptLists.{AreMore, AreNumbersOf, location_list, number_says}
 use Rattle.range_loc_rewrite.specs.Lists.{locations_kind}
-use Rattle.range_loc_rewrite.specs.Locations.{PlaceSaid, attr_says, entry_says, expressions_of}
-use Rattle.range_loc_rewrite.specs.Ranges.{ranged_in}
+use Rattle.range_loc_rewrite.specs.Locations.{PlaceSaid, attr_says, expressions_of}
 use Rattle.range_loc_rewrite.specs.UnitLists.{ReadsLists}
 
 -- what a unit needs to read its locations
@@ -42,17 +38,20 @@ IsListed count (Direct x) = Prim.Unit {0}
 IsListed count (Listed n) = n < count
 
 -- where the expressions of an attribute are, or of none
-pub record IsSourceOf (s : ListSections) (u : Unit) (lists : List KeptList) (a : Attr) (source : Option Source) : Type 0 where
+pub record IsSourceOf (s : ListSections) (u : Unit) (lists : List KeptList) (a : Attr)
+    (source : Option Source) : Type 0 where
   pub listed : (x : Source) → source ≡ Some x → IsListed (length lists) x
   pub says : (p : ℕ) → option_map_or (source_says lists p) source [] ≡ expressions_of s u a p
 
 -- of an attribute that an entry may have
-pub record IsNamedSource (s : ListSections) (u : Unit) (lists : List KeptList) (a : Option Attr) (source : Option Source) : Type 0 where
+pub record IsNamedSource (s : ListSections) (u : Unit) (lists : List KeptList) (a : Option Attr)
+    (source : Option Source) : Type 0 where
   pub listed : (x : Source) → source ≡ Some x → IsListed (length lists) x
   pub says : (p : ℕ) → option_map_or (source_says lists p) source [] ≡ option_map_or (λ v. expressions_of s u v p) a []
 
 -- some lists were read, and none forgotten
-pub record AreRead (s : ListSections) (u : Unit) (olds news : List KeptList) (known : BTreeMap ℕ (Option ℕ)) : Type 0 where
+pub record AreRead (s : ListSections) (u : Unit) (olds news : List KeptList)
+    (known : BTreeMap ℕ (Option ℕ)) : Type 0 where
   pub more : AreMore olds news
   pub known_are : AreNumbersOf (location_list s u) news known
 
@@ -84,7 +83,8 @@ nearest_holds covers nearest p = option_map_or (λ n. group_holds covers n p) ne
 
 abbrev pub attr_said : ListSections → Unit → List Cover → Option ℕ → Entry → ℕ → ℕ → List PlaceSaid
 attr_said s u covers nearest e name p =
-    attr_says e.place name (if nearest_holds covers nearest p then option_map_or (λ v. expressions_of s u v p) (attr name e) [] else [])
+    attr_says e.place name (if nearest_holds covers nearest p then option_map_or (λ v. expressions_of s u v p)
+    (attr name e) [] else [])
 
 abbrev pub entry_said : ListSections → Unit → List Cover → Option ℕ → Entry → ℕ → List PlaceSaid
 entry_said s u covers nearest e p =
@@ -95,23 +95,11 @@ abbrev pub IsNear : ℕ → Option ℕ → Type 0
 IsNear groups nearest = (n : ℕ) → nearest ≡ Some n → n < groups
 
 -- some attributes were added, of which something is said where there are groups of some ranges
-pub record AreLocated (s : ListSections) (u : Unit) (nearest : Option ℕ) (old new : Locations) (known : BTreeMap ℕ (Option ℕ))
+pub record AreLocated (s : ListSections) (u : Unit) (nearest : Option ℕ) (old new : Locations)
+    (known : BTreeMap ℕ (Option ℕ))
     (said : List Cover → ℕ → List PlaceSaid) : Type 0 where
   pub read : AreRead s u old.lists.items new.lists.items known
   pub held : (groups : ℕ) → IsNear groups nearest → AreHeld groups old → AreHeld groups new
   pub says : (groups : ℕ) (covers : List Cover) (p : ℕ) → IsNear groups nearest → AreHeld groups old →
-      all_located covers new.lists.items new.located.items p ≡ all_located covers old.lists.items old.located.items p ++ said covers p
-
--- a group, just where there are ranges
-pub record HasOwn (g : Groups) (group : Option ℕ) (ranges : Option (List Range)) : Type 0 where
-  pub some : is_some group ≡ is_some ranges
-  pub ranges_are : HasRanges g group ranges
-
--- all attributes of a unit were added, with what is wrong with its lists
-pub record IsUnitLocated (s : ListSections) (u : Unit) (g : Groups) (old new : Locations) (f : ListFaults) : Type 0 where
-  pub more : AreMore old.lists.items new.lists.items
-  pub held : AreHeld g.count new
-  pub says : (p : ℕ) → all_located g.covers.items new.lists.items new.located.items p
-      ≡ all_located g.covers.items old.lists.items old.located.items p ++ flat_map (entry_says s u p) (ranged_in s u)
-  pub lacks : f.lacks_offset ≡ lacks_offset locations_kind s.locations u
-  pub bad : f.bad ≡ least (bad_list_tables locations_kind s.locations s.units.addr u)
+      all_located covers new.lists.items new.located.items p ≡ all_located covers old.lists.items old.located.items p
+      ++ said covers p

@@ -2,7 +2,8 @@
 ghost use Rattle.std.specs.Prelude.{◌≡◌, ◌++◌, ◌∷◌, [], ℕ, IfOk, OnOk, length, map, filter, filter_map, option_map};
 ghost use Rattle.std.specs.List.{cons_option};
 ghost use Rattle.range_loc_rewrite.specs.Groups.{covers_for};
-ghost use Rattle.range_loc_rewrite.specs.KeptLists.{items_in, numbered_covers, expression_of, bounded_numbers, unless_none, list_says, Says};
+ghost use Rattle.range_loc_rewrite.specs.KeptLists.{items_in, numbered_covers, expression_of, bounded_numbers};
+ghost use Rattle.range_loc_rewrite.specs.KeptLists.{unless_none, list_says, Says};
 ghost use Rattle.range_loc_rewrite.specs.ListReading.{located_of};
 ghost use Rattle.range_loc_rewrite.specs.Locations.{expressions, is_default};
 

@@ -49,7 +49,8 @@ fn put_place(
     attr: u64,
     expressions: Vec<Vec<u8>>,
 ) -> Result<(), NoMemory>
-    ensures { OnOk result (all_said places.new ≡ all_said places.old ++ attr_says place attr (items_in expressions.items)) }
+    ensures { OnOk result (all_said places.new
+        ≡ all_said places.old ++ attr_says place attr (items_in expressions.items)) }
 {
     match expressions.first() {
         Some(_) => {

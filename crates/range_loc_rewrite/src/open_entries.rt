@@ -52,7 +52,8 @@ pub fn enter(
     depth: u32,
     own: Option<usize>,
 ) -> Result<Option<usize>, NoMemory>
-    ensures nearest { IfOk result (λ n. n ≡ option_or own (spec.nearest (spec.closed depth (reverse entries.old.items)))) }
+    ensures nearest { IfOk result (λ n. n
+        ≡ option_or own (spec.nearest (spec.closed depth (reverse entries.old.items)))) }
     ensures opened { IfOk result (λ n. reverse entries.new.items
         ≡ record { depth = depth; nearest = n } ∷ spec.closed depth (reverse entries.old.items)) }
 {

@@ -84,7 +84,8 @@ fn fault_places(
     ensures { (s : ListSections) → units.now ≡ walked 5 s.units.info → address_tables.now ≡ walked 5 s.units.addr →
         ranges.now ≡ walked 5 s.ranges → locations.now ≡ walked 5 s.locations →
         IsProgress s (walked 5 s.units.info) progress.now →
-        record { version = result.version; form = result.form; high = result.high; bad = result.bad } ≡ location_places s }
+        record { version = result.version; form = result.form; high = result.high; bad = result.bad }
+        ≡ location_places s }
 {
     let unit = other_version(units);
     let address = other_version(address_tables);
@@ -122,7 +123,8 @@ pub fn read_places(
     ensures read { IfOk result (λ r.
         ArePlacesOf (list_sections_held info.now abbrevs.now addr.now ranges.now locations.now) r.groups r.kept) }
     ensures fault { IfErr result (λ e. IsRefusalBy
-        (HasDwarfFault (location_places (list_sections_held info.now abbrevs.now addr.now ranges.now locations.now))) e) }
+        (HasDwarfFault (location_places
+        (list_sections_held info.now abbrevs.now addr.now ranges.now locations.now))) e) }
 {
     let address_tables = debug_units(alloc, VERSION, addr)?;
     let range_tables = debug_units(alloc, VERSION, ranges)?;

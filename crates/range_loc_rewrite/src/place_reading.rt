@@ -53,7 +53,8 @@ fn add_entries(
     requires ranges_walked { sections.now.ranges.tables.now ≡ walked 5 sections.now.ranges.bytes.now }
     requires rising { IsNonDecreasingBy (λ w. w.place) sections.now.locations.tables.now }
     requires walked { sections.now.locations.tables.now ≡ walked 5 sections.now.locations.bytes.now }
-    ensures { OnOk result ((s : ListSections) → sections.now.info.now ≡ s.units.info → sections.now.addr.now ≡ s.units.addr →
+    ensures { OnOk result ((s : ListSections) → sections.now.info.now ≡ s.units.info →
+        sections.now.addr.now ≡ s.units.addr →
         sections.now.ranges.bytes.now ≡ s.ranges → sections.now.locations.bytes.now ≡ s.locations →
         AreNumbered progress.old.groups → AreHeld progress.old.groups.count progress.old.kept →
         IsUnitAdded s entries.now place progress.old progress.new) }

@@ -75,8 +75,8 @@ fn place_entry(
     requires ranges_walked { context.now.ranges.tables.now ≡ walked 5 context.now.ranges.bytes.now }
     requires rising { IsNonDecreasingBy (λ w. w.place) context.now.locations.section.tables.now }
     requires walked { context.now.locations.section.tables.now ≡ walked 5 context.now.locations.section.bytes.now }
-    ensures { (s : ListSections) (u : Unit) (first : group.Groups) (old : located.Locations) (done rest : List units.Entry)
-        (attrs : List attr.Attr) →
+    ensures { (s : ListSections) (u : Unit) (first : group.Groups) (old : located.Locations)
+        (done rest : List units.Entry) (attrs : List attr.Attr) →
         ReadsUnit s u context.now →
         ArePlaced s u first old groups.old kept.old state.old done (plain entry.now ∷ rest) attrs others →
         IfOk result (ArePlaced s u first old groups.new kept.new state.new (plain entry.now ∷ done) rest

@@ -49,7 +49,8 @@ fn read_number(
     requires rising { IsNonDecreasingBy (λ w. w.place) unit.now.section.tables.now }
     requires walked { unit.now.section.tables.now ≡ walked 5 unit.now.section.bytes.now }
     ensures { (s : ListSections) (u : Unit) → ReadsLocations s u unit.now →
-        IfOk result (λ o. AreMore lists.old.items lists.new.items × IsNumberOf lists.new.items o (location_list s u at)) }
+        IfOk result (λ o. AreMore lists.old.items lists.new.items
+        × IsNumberOf lists.new.items o (location_list s u at)) }
 {
     match list_at(alloc, ListKind::Locations, unit.section, &unit.lists, at)? {
         Some(places) => {
@@ -167,7 +168,8 @@ fn source_of(
     requires walked { unit.now.section.tables.now ≡ walked 5 unit.now.section.bytes.now }
     ensures { (s : ListSections) (u : Unit) → ReadsLocations s u unit.now →
         AreNumbersOf (location_list s u) lists.old.items known.old →
-        IfOk result (λ o. AreRead s u lists.old.items lists.new.items known.new × IsSourceOf s u lists.new.items attr o) }
+        IfOk result (λ o. AreRead s u lists.old.items lists.new.items known.new
+        × IsSourceOf s u lists.new.items attr o) }
 {
     if is_block(attr.form) {
         let expression = Vec::from_slice(alloc, expression_in(unit.info, attr))?;
@@ -254,8 +256,8 @@ fn locate(
     Ok(())
 }
 
-/// Adds the attributes of an entry that say where something is, by the group of its nearest ranges; answers what is wrong
-/// with the lists that it names, and with others.
+/// Adds the attributes of an entry that say where something is, by the group of its nearest ranges; answers what is
+/// wrong with the lists that it names, and with others.
 pub fn locate_entry(
     alloc: Global,
     unit: &UnitLocations<'_, '_>,

@@ -20,7 +20,8 @@ loop-count-preserved c =
 pub returns : goal.returns
 returns c =
     none_open c.args.depth c.loop-count.entries.items
-    (omega (arith, c.loop-count-test.false, c.len-count-end.ensures, c.args.entries.now.ok.0, c.loop-count.invariant.1)) ∙ c.loop-count.invariant.0
+    (omega (arith, c.loop-count-test.false, c.len-count-end.ensures, c.args.entries.now.ok.0, c.loop-count.invariant.1))
+    ∙ c.loop-count.invariant.0
 
 pub returns-then-not-ends : goal.returns-then-not-ends
 returns-then-not-ends c =

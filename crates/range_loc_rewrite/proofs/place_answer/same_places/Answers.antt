@@ -16,7 +16,8 @@ pub loop-i-preserved : goal.loop-i-preserved
 loop-i-preserved c =
     let l : c.loop-i.i < length c.args.y.now = omega arith in
     mapped_more place_said c.args.x.now c.args.y.now c.loop-i.i c.index-x-i.result c.index-y-i.result c.loop-i-test.true l
-    (sym (ap place_said c.index-x-i.is) ∙ c.same_place.ensures.0 c.if-not-same_place.false ∙ ap place_said c.index-y-i.is) c.loop-i.invariant
+    (sym (ap place_said c.index-x-i.is) ∙ c.same_place.ensures.0 c.if-not-same_place.false
+    ∙ ap place_said c.index-y-i.is) c.loop-i.invariant
 
 pub returns : goal.returns
 returns c =

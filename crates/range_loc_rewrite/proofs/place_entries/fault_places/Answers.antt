@@ -12,11 +12,14 @@ use Rattle.range_loc_rewrite.proofs.PlaceFaults.{bad_is, of_tables}
 use Rattle.range_loc_rewrite.proofs.place_entries.fault_places.Goals as goal
 
 lists : (section : List ℕ) (ws : List Walked) → ws ≡ walked 5 section →
-    least (map (λ (w : Walked). w.place) (filter (λ (w : Walked). not (option_map_or is_list_table w.bytes false)) ws)) ≡ least (of_tables section)
+    least (map (λ (w : Walked). w.place) (filter (λ (w : Walked). not (option_map_or is_list_table w.bytes false)) ws))
+    ≡ least (of_tables section)
 lists section ws e =
-    ap (λ (ws : List Walked). least (map (λ (w : Walked). w.place) (filter (λ (w : Walked). not (option_map_or is_list_table w.bytes false)) ws))) e
+    ap (λ (ws : List Walked). least (map (λ (w : Walked). w.place)
+    (filter (λ (w : Walked). not (option_map_or is_list_table w.bytes false)) ws))) e
 
-versions : (section : List ℕ) (ws : List Walked) → ws ≡ walked 5 section → first_place (λ (w : Walked). w.is_other) ws ≡ other_version 5 section
+versions : (section : List ℕ) (ws : List Walked) → ws ≡ walked 5 section → first_place (λ (w : Walked). w.is_other) ws
+    ≡ other_version 5 section
 versions section ws e = ap (first_place (λ (w : Walked). w.is_other)) e
 
 pub returns : goal.returns

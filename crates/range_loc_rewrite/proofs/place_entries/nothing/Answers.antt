@@ -8,7 +8,8 @@ use Rattle.range_loc_rewrite.proofs.place_entries.nothing.Goals as goal
 
 pub returns : goal.returns
 returns c = λ s. record {
-  numbered = subst (λ (cs : List Cover). All (λ (x : Cover). x.group < 0) cs) (sym c.new.ensures.items) (All-nil (λ (x : Cover). x.group < 0));
+  numbered = subst (λ (cs : List Cover). All (λ (x : Cover). x.group < 0) cs) (sym c.new.ensures.items)
+      (All-nil (λ (x : Cover). x.group < 0));
   form = refl;
   high = refl;
   unformed_are = refl;

@@ -13,7 +13,8 @@ use Rattle.range_loc_rewrite.proofs.place_entries.read_places.Goals as goal
 
 pub read_all-requires-clause-ranges_rise : goal.read_all-requires-clause-ranges_rise
 read_all-requires-clause-ranges_rise c =
-    subst (IsNonDecreasingBy (λ (w : Walked). w.place)) (sym (c.deref.ensures.value ∙ c.in_ok-range_tables.ensures)) (places_rise 5 c.args.ranges.now)
+    subst (IsNonDecreasingBy (λ (w : Walked). w.place)) (sym (c.deref.ensures.value ∙ c.in_ok-range_tables.ensures))
+    (places_rise 5 c.args.ranges.now)
 
 pub read_all-requires-clause-rising : goal.read_all-requires-clause-rising
 read_all-requires-clause-rising c =
@@ -24,7 +25,8 @@ pub returns-in_err-refused-clause-fault : goal.returns-in_err-refused-clause-fau
 returns-in_err-refused-clause-fault c =
     let p = err_from_is_err_and c.from_residual-in_err-refused.result c.from_residual-in_err-refused.ensures.1 in
     let s : ListSections = list_sections_held c.args.info.now c.args.abbrevs.now c.args.addr.now c.args.ranges.now c.args.locations.now in
-    let units : c.units.result.now ≡ walked 5 c.args.info.now = c.units.ensures ∙ ap (λ (r : ReaderSections). r.units) c.in_ok-reader.ensures in
+    let units : c.units.result.now ≡ walked 5 c.args.info.now = c.units.ensures
+    ∙ ap (λ (r : ReaderSections). r.units) c.in_ok-reader.ensures in
     let read : IsProgress s (walked 5 s.units.info) c.in_ok-progress.progress =
     c.in_ok-progress.ensures s refl refl refl refl c.in_ok-reader.ensures in
     let same = c.fault_places-places.ensures s units (c.deref-3.ensures.value ∙ c.in_ok-address_tables.ensures)
@@ -34,7 +36,8 @@ returns-in_err-refused-clause-fault c =
 pub returns-clause-read : goal.returns-clause-read
 returns-clause-read c =
     let s : ListSections = list_sections_held c.args.info.now c.args.abbrevs.now c.args.addr.now c.args.ranges.now c.args.locations.now in
-    let units : c.units.result.now ≡ walked 5 c.args.info.now = c.units.ensures ∙ ap (λ (r : ReaderSections). r.units) c.in_ok-reader.ensures in
+    let units : c.units.result.now ≡ walked 5 c.args.info.now = c.units.ensures
+    ∙ ap (λ (r : ReaderSections). r.units) c.in_ok-reader.ensures in
     let read : IsProgress s (walked 5 s.units.info) c.in_ok-progress.progress =
     c.in_ok-progress.ensures s refl refl refl refl c.in_ok-reader.ensures in
     let same = c.fault_places-places.ensures s units (c.deref-3.ensures.value ∙ c.in_ok-address_tables.ensures)

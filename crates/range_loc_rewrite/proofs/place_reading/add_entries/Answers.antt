@@ -8,7 +8,8 @@ returns-then-lacks_offset c = λ s i a b l numbered held. record {
   placed = c.in_ok-faults.ensures s i a b l numbered held;
   ranges = c.lower-progress.ensures;
   locations = c.lower-progress-2.ensures;
-  bad = sym (ap (λ (t : Bool). if t then Some c.args.place else c.args.progress.now.bad) (sym c.lacks_offset.ensures ∙ c.if-lacks_offset.true));
+  bad = sym (ap (λ (t : Bool). if t then Some c.args.place else c.args.progress.now.bad) (sym c.lacks_offset.ensures
+      ∙ c.if-lacks_offset.true));
   form = refl;
   high = refl;
   unformed_is = refl;
@@ -20,7 +21,8 @@ returns-else-lacks_offset c = λ s i a b l numbered held. record {
   placed = c.in_ok-faults.ensures s i a b l numbered held;
   ranges = c.lower-progress.ensures;
   locations = c.lower-progress-2.ensures;
-  bad = sym (ap (λ (t : Bool). if t then Some c.args.place else c.args.progress.now.bad) (sym c.lacks_offset.ensures ∙ c.if-lacks_offset.false));
+  bad = sym (ap (λ (t : Bool). if t then Some c.args.place else c.args.progress.now.bad) (sym c.lacks_offset.ensures
+      ∙ c.if-lacks_offset.false));
   form = refl;
   high = refl;
   unformed_is = refl;

@@ -36,7 +36,8 @@ pub returns : goal.returns
 returns c = λ s i a b l numbered held.
     let es : List ListedEntry = c.args.entries.now in
     let n : ℕ = c.loop-entry.entry-index in
-    unit_placed s es c.args.groups.now c.loop-entry.groups c.args.kept.now c.loop-entry.kept c.loop-entry.state (reverse (map plain (take n es)))
+    unit_placed s es c.args.groups.now c.loop-entry.groups c.args.kept.now c.loop-entry.kept c.loop-entry.state
+    (reverse (map plain (take n es)))
     c.loop-entry.faults
     (placed_all s (plain_unit es) c.args.groups.now c.args.kept.now c.loop-entry.groups c.loop-entry.kept c.loop-entry.state c.loop-entry.faults es n
     (reverse (map plain (take n es))) c.loop-entry-test.false (c.loop-entry.invariant s i a b l numbered held))

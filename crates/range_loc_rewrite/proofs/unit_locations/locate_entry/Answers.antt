@@ -19,7 +19,8 @@ returns c = λ s u before r k noted.
     let q = c.in_ok-locate.ensures s u r p.0.known_are in
     let t = c.in_ok-locate-2.ensures s u r q.read.known_are in (
       located_more s u c.args.nearest old mid c.locate-2.new.kept c.note_lists.new.known c.locate-2.new.known (λ covers a. [])
-          (λ covers a. entry_said s u covers c.args.nearest (plain e) a) (located_none s u c.args.nearest old mid c.note_lists.new.known p.0 refl)
+          (λ covers a. entry_said s u covers c.args.nearest (plain e) a)
+          (located_none s u c.args.nearest old mid c.note_lists.new.known p.0 refl)
           (located_more s u c.args.nearest mid c.locate.new.kept c.locate-2.new.kept c.locate.new.known c.locate-2.new.known
           (λ covers a. attr_said s u covers c.args.nearest (plain e) DW_AT_location a)
           (λ covers a. attr_said s u covers c.args.nearest (plain e) DW_AT_frame_base a) q t),

@@ -10,7 +10,8 @@ pub returns-in-Some-2 : goal.returns-in-Some-2
 returns-in-Some-2 c = λ s u attrs r k noted.
     let p = c.in_ok-number_at.ensures s u r k in
     let offset : list_offset locations_kind s.locations u c.args.attr ≡ Some c.in-Some.at =
-    ap (λ (l : List ℕ). list_offset locations_kind l u c.args.attr) (sym r.section) ∙ sym (c.list_offset.ensures u r.lists.lists) ∙ c.in-Some.is in (
+    ap (λ (l : List ℕ). list_offset locations_kind l u c.args.attr) (sym r.section) ∙ sym (c.list_offset.ensures u r.lists.lists)
+    ∙ c.in-Some.is in (
       p.0,
       noted_sound locations_kind s.locations s.units.addr u attrs c.args.attr c.args.others c.args.others noted c.in-Some.at
           (sym c.has_list.ensures ∙ c.if-not-has_list.false) offset (sym p.1.some ∙ ap is_some c.in-Some-2.is) refl,
@@ -20,7 +21,8 @@ pub returns-in-None : goal.returns-in-None
 returns-in-None c = λ s u attrs r k noted.
     let p = c.in_ok-number_at.ensures s u r k in
     let offset : list_offset locations_kind s.locations u c.args.attr ≡ Some c.in-Some.at =
-    ap (λ (l : List ℕ). list_offset locations_kind l u c.args.attr) (sym r.section) ∙ sym (c.list_offset.ensures u r.lists.lists) ∙ c.in-Some.is in (
+    ap (λ (l : List ℕ). list_offset locations_kind l u c.args.attr) (sym r.section) ∙ sym (c.list_offset.ensures u r.lists.lists)
+    ∙ c.in-Some.is in (
       p.0,
       noted_bad locations_kind s.locations s.units.addr u attrs c.args.attr c.args.others
           (record { lacks_offset = c.args.others.lacks_offset; bad = c.lower.result }) noted c.in-Some.at

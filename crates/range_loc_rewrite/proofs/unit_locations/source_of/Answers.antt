@@ -24,9 +24,11 @@ pub returns-in-Some-2 : goal.returns-in-Some-2
 returns-in-Some-2 c = λ s u r k.
     let p = c.in_ok-number.ensures s u r k in
     let offset : list_offset locations_kind s.locations u c.args.attr ≡ Some c.in-Some.at =
-    ap (λ (l : List ℕ). list_offset locations_kind l u c.args.attr) (sym r.section) ∙ sym (c.list_offset.ensures u r.lists.lists) ∙ c.in-Some.is in (
+    ap (λ (l : List ℕ). list_offset locations_kind l u c.args.attr) (sym r.section) ∙ sym (c.list_offset.ensures u r.lists.lists)
+    ∙ c.in-Some.is in (
       p.0,
-      number_source s u c.number_at.new.lists.items c.args.attr c.in-Some.at c.in-Some-2.number (sym c.is_block.ensures ∙ c.if-is_block.false) offset
+      number_source s u c.number_at.new.lists.items c.args.attr c.in-Some.at c.in-Some-2.number (sym c.is_block.ensures
+          ∙ c.if-is_block.false) offset
           (subst (λ (o : Option ℕ). IsNumberOf c.number_at.new.lists.items o (location_list s u c.in-Some.at)) c.in-Some-2.is p.1),
     )
 
@@ -34,7 +36,8 @@ pub returns-in-None : goal.returns-in-None
 returns-in-None c = λ s u r k.
     let p = c.in_ok-number.ensures s u r k in
     let offset : list_offset locations_kind s.locations u c.args.attr ≡ Some c.in-Some.at =
-    ap (λ (l : List ℕ). list_offset locations_kind l u c.args.attr) (sym r.section) ∙ sym (c.list_offset.ensures u r.lists.lists) ∙ c.in-Some.is in (
+    ap (λ (l : List ℕ). list_offset locations_kind l u c.args.attr) (sym r.section) ∙ sym (c.list_offset.ensures u r.lists.lists)
+    ∙ c.in-Some.is in (
       p.0,
       unread_source s u c.number_at.new.lists.items c.args.attr c.in-Some.at (sym c.is_block.ensures ∙ c.if-is_block.false) offset
           (subst (λ (o : Option ℕ). IsNumberOf c.number_at.new.lists.items o (location_list s u c.in-Some.at)) c.in-None.is p.1),

@@ -48,7 +48,8 @@ pub invariant_of-result : goal.invariant_of-result
 invariant_of-result c =
     let s : ListSections = list_sections_held c.in_ok-info.info.items c.in_ok-abbrevs.abbrevs.items c.in_ok-addr.addr.items
     c.in_ok-ranges.ranges.items c.in_ok-locations.locations.items in
-    let held : list_sections_held c.deref.result.now c.deref-2.result.now c.deref-3.result.now c.deref-4.result.now c.deref-5.result.now ≡ s =
+    let held : list_sections_held c.deref.result.now c.deref-2.result.now c.deref-3.result.now c.deref-4.result.now c.deref-5.result.now
+    ≡ s =
     λ i. list_sections_held (c.deref.ensures.value i) (c.deref-2.ensures.value i) (c.deref-3.ensures.value i) (c.deref-4.ensures.value i)
     (c.deref-5.ensures.value i) in
     places_kept s c.in_ok-entries.entries.groups c.in_ok-entries.entries.kept c.in_ok-index.index c.in_ok-bounds.bounds.items
@@ -56,7 +57,8 @@ invariant_of-result c =
     (subst (λ (rs : List RangedEntry). IsCoverIndex c.in_ok-entries.entries.groups.covers.items rs c.in_ok-index.index)
     (c.deref-7.ensures.value ∙ c.in_ok-ranged.ensures ∙ ap (map ranged_of) c.deref-6.ensures.value) c.in_ok-index.ensures)
     c.in_ok-bounds.ensures.rising
-    (subst (λ (ls : List KeptList). IsPermutation (bounds_in c.in_ok-entries.entries.groups.covers.items ++ list_bounds ls) c.in_ok-bounds.bounds.items)
+    (subst (λ (ls : List KeptList). IsPermutation (bounds_in c.in_ok-entries.entries.groups.covers.items
+    ++ list_bounds ls) c.in_ok-bounds.bounds.items)
     c.deref-9.ensures.value
     (subst (λ (cs : List Cover). IsPermutation (bounds_in cs ++ list_bounds c.deref-9.result.now) c.in_ok-bounds.bounds.items)
     c.deref-8.ensures.value c.in_ok-bounds.ensures.all))
@@ -65,11 +67,13 @@ pub returns-clause-reads : goal.returns-clause-reads
 returns-clause-reads c =
     let s : ListSections = list_sections_held c.in_ok-info.info.items c.in_ok-abbrevs.abbrevs.items c.in_ok-addr.addr.items
     c.in_ok-ranges.ranges.items c.in_ok-locations.locations.items in
-    let held : list_sections_held c.deref.result.now c.deref-2.result.now c.deref-3.result.now c.deref-4.result.now c.deref-5.result.now ≡ s =
+    let held : list_sections_held c.deref.result.now c.deref-2.result.now c.deref-3.result.now c.deref-4.result.now c.deref-5.result.now
+    ≡ s =
     λ i. list_sections_held (c.deref.ensures.value i) (c.deref-2.ensures.value i) (c.deref-3.ensures.value i) (c.deref-4.ensures.value i)
     (c.deref-5.ensures.value i) in
     let same : s ≡ list_sections c.args.elf.now =
-    λ i. list_sections_held ((c.in_ok-info.ensures.items ∙ c.contents_of.ensures) i) ((c.in_ok-abbrevs.ensures.items ∙ c.contents_of-2.ensures) i)
+    λ i. list_sections_held ((c.in_ok-info.ensures.items ∙ c.contents_of.ensures) i)
+    ((c.in_ok-abbrevs.ensures.items ∙ c.contents_of-2.ensures) i)
     ((c.in_ok-addr.ensures.items ∙ c.contents_of-3.ensures) i) ((c.in_ok-ranges.ensures.items ∙ c.contents_of-4.ensures) i)
     ((c.in_ok-locations.ensures.items ∙ c.contents_of-5.ensures) i) in
     places_free c.args.elf.now s same
