@@ -8,7 +8,8 @@ use Rattle.elf_write.specs.NewSections.{bytes_called}
 use Rattle.elf_write.specs.TablePlaces.{is_given}
 use Rattle.elf_write.specs.TableSizes.{table_size}
 use Rattle.bolt_core.specs.GivenTables.{DebugContents, ReadTable, debug_listed, listed, table_seen}
-use Rattle.elf_write.proofs.GivenTables.{no_both, not_true, same_bytes}
+use Rattle.rb_bytes.proofs.Tests.{clash}
+use Rattle.elf_write.proofs.GivenTables.{not_true, same_bytes}
 
 -- the first with a name, as it is seen
 abbrev pub seen : List ℕ → List (List ℕ × List ℕ) → Option (List ℕ × List ℕ)
@@ -83,11 +84,11 @@ behind name a b (Some f) (Some i) debug = rw (a, b) refl
 other_way : (x name : List ℕ) → bytes_eq name x ≡ false → bytes_eq x name ≡ false
 other_way x name e =
     not_true (bytes_eq x name) (λ h. let same = same_bytes x name h in
-    no_both (bytes_eq name x) (ap (λ (y : List ℕ). bytes_eq y x) (sym same) ∙ ap (bytes_eq x) same ∙ h) e)
+    clash (bytes_eq name x) (ap (λ (y : List ℕ). bytes_eq y x) (sym same) ∙ ap (bytes_eq x) same ∙ h) e)
 
 no_debug : (x name : List ℕ) → names_debug x ≡ false → names_debug name ≡ true → bytes_eq x name ≡ false
 no_debug x name e debug =
-    not_true (bytes_eq x name) (λ h. no_both (names_debug x) (ap names_debug (same_bytes x name h) ∙ debug) e)
+    not_true (bytes_eq x name) (λ h. clash (names_debug x) (ap names_debug (same_bytes x name h) ∙ debug) e)
 
 module _ (tables : List ReadTable) (frames index : Option (List ℕ)) (debug : DebugContents)
     (are : map table_seen tables ≡ listed frames index debug) where

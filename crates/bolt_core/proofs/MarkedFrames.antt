@@ -9,7 +9,7 @@ use Rattle.std.specs.List.{list_any}
 use Rattle.std.proofs.lemmas.Bool.{and_parts, and_from, leb-true, ltb-true, le-leb, lt-ltb, cases_lt, cases_order, eq-eqb, eqb-true}
 use Rattle.std.proofs.lemmas.List.Elements.{All-contains}
 use Rattle.std.proofs.lemmas.List.Folds.{Any-from_list_any, list_any-from_Any}
-use Rattle.rb_bytes.proofs.ListLemmas.{one_of}
+use Rattle.rb_bytes.proofs.ListLemmas.{in_map, one_of}
 use Rattle.rb_bytes.proofs.Members.{Contains-cons_cases, Contains-there, Contains-nil}
 use Rattle.rv_code.specs.declared.placed.Placed.{Placed}
 use Rattle.rv_code.specs.declared.placed.Func.{Func}
@@ -21,6 +21,7 @@ use Rattle.elf_image.specs.file.Cuts.{IsCutAddress}
 use Rattle.elf_code.specs.Functions.{AreFunctions}
 use Rattle.elf_code.specs.Parts.{IsPart, IsInTabled, at_start}
 use Rattle.elf_image.proofs.CutLists.{IsCutAddress-from_lists, lists-from_IsCutAddress}
+use Rattle.rb_bytes.proofs.Tests.{clash}
 use Rattle.rb_bytes.proofs.Searches.{Contains-filter, find-found, find-only}
 use Rattle.addr_map.specs.declared.span.Span.{Span}
 use Rattle.addr_map.specs.Spans.{has_byte, is_of, new, owner, ShareNoByte}
@@ -34,9 +35,6 @@ use Rattle.frame_rewrite.specs.Tables.{AllowsFrames, MovesWhole}
 use Rattle.func_find.proofs.Judged.{IsCodePart-function}
 use Rattle.bolt_core.specs.internal.WholeMoves.{MoveAsOne, KeepWhole}
 use Rattle.bolt_core.proofs.Direct.{lies_in, starts_in}
-
-no_both : (b : Bool) → b ≡ true → b ≡ false → ⊥
-no_both b is fails = let c : true ≡ false = sym is ∙ fails in absurd (cc)
 
 module _ (spans : List Span) (once : AllPairs (λ s t. s.input ≢ t.input) spans) (disjoint : AllPairs ShareNoByte spans) where
   one_span : (s t : Span) → Contains spans s → Contains spans t → s.input ≡ t.input → s ≡ t
@@ -154,7 +152,7 @@ module _ (spans : List Span) (once : AllPairs (λ s t. s.input ≢ t.input) span
     in_func s cs = by (placed_at funcs s.input) refl (All-contains (λ (t : Span). IsTrue (is_code_address funcs t.input)) spans s only cs)
       where
         by : (o : Option Placed) → placed_at funcs s.input ≡ o → IsTrue (is_some (placed_at funcs s.input)) → InFunc s.input
-        by None e h = absurd (no_both (is_some (placed_at funcs s.input)) h (ap is_some e))
+        by None e h = absurd (clash (is_some (placed_at funcs s.input)) h (ap is_some e))
         by (Some p) e h =
             let f = find-found (λ (q : Placed). q.addr == s.input) (insts_of funcs) p e in
             let r = at_flat (λ (g : Func). g.insts.items) funcs p f.1 in
@@ -246,15 +244,8 @@ module _ (spans : List Span) (once : AllPairs (λ s t. s.input ≢ t.input) span
           there a low high =
               let test : Fde → Bool = λ (g : Fde). nat_lt 0 g.table in
               let kept = Contains-filter test (eh_frames elf).list f listed mark.0 in
-              let (k, within, is) = mapped (λ (g : Fde). (g.start, g.end)) (filter test (eh_frames elf).list) f kept in
+              let (k, within, is) = in_map (λ (g : Fde). (g.start, g.end)) (filter test (eh_frames elf).list) f kept in
               (k, (f.start, f.end), within, is, (low, high))
-            where
-              mapped : {X Y : Type 0} (g : X → Y) (xs : List X) (x : X) → Contains xs x → Contains (map g xs) (g x)
-              mapped g [] x c = absurd (Contains-nil x c)
-              mapped g (y ∷ ys) x c = elim (Contains-cons_cases y ys x c) [
-                | inl same ↦ (0, omega arith, ap g same)
-                | inr later ↦ Contains-there (g y) (map g ys) (g x) (mapped g ys x later)
-              ]
 
       -- two instructions of the range are of one function
       one_func : (g h : Func) → Contains funcs g → Contains funcs h → g.start ≡ h.start → g ≡ h

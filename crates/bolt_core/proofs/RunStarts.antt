@@ -11,6 +11,7 @@ use Rattle.rb_bytes.proofs.Members.{Contains-nil, Contains-cons_cases}
 use Rattle.rb_bytes.proofs.Searches.{find-found}
 use Rattle.addr_map.specs.declared.span.Span.{Span}
 use Rattle.addr_map.specs.Spans.{ShareNoByte, has_byte, owner}
+use Rattle.addr_map.proofs.Owners.{has}
 use Rattle.table_core.specs.declared.run.Run.{Run}
 use Rattle.table_core.specs.AnswerRuns.{answer_in, run_at, IsWithin, AreLongest, AreRunsOf, carried}
 
@@ -112,9 +113,6 @@ module _ {A : Type 0} where
       (λ k d in_list. let low = (starts_after (r.start + r.len) hi rs within.2 (get_or rs k d) (Contains-get_or rs k d in_list)).0 in
       let len = within.1 in omega (arith, low, len))
       (starts_rise (r.start + r.len) hi rs within.2)
-
-has : (p : ℕ) (s : Span) → s.out ≤ p → p < s.out + s.len → has_byte p s ≡ true
-has p s le lt = grind (arith, common_steps)
 
 has_bounds : (p : ℕ) (s : Span) → has_byte p s ≡ true → (s.out ≤ p) × (p < s.out + s.len)
 has_bounds p s e = grind (arith, common_steps)

@@ -19,7 +19,7 @@ use Rattle.elf_write.specs.NewSections.{adds_ranges, bytes_called}
 use Rattle.elf_write.specs.NewTables.{area_for}
 use Rattle.elf_write.specs.TablePlaces.{Holds, HoldsAt, IsLoadedAt, TablesStand, is_given}
 use Rattle.elf_write.specs.TableSizes.{table_size}
-use Rattle.elf_write.proofs.GivenTables.{no_both}
+use Rattle.rb_bytes.proofs.Tests.{clash}
 use Rattle.table_core.specs.declared.run.Run.{Run}
 use Rattle.table_core.specs.AnswerRuns.{AreRunsOf, carried}
 use Rattle.table_core.specs.Sections.{Held, bytes_of, held, held_by}
@@ -206,7 +206,7 @@ module _ (elf : Elf) (t : Tables) (comes : ComeFrom t elf) (spans : List Span) (
     -- No table of ranges is given.
     none_added : IsTrue (adds_ranges elf.sections.items given) → ⊥
     none_added adds =
-        no_both (is_given given (codes ".debug_rnglists"))
+        clash (is_given given (codes ".debug_rnglists"))
         ((and_parts (is_given given (codes ".debug_rnglists")) (is_none (section_called elf.sections.items (codes ".debug_rnglists"))) adds).0)
         (not_given given listed_frames made.are_listed.index debug made.are_listed.are (codes ".debug_rnglists") refl refl refl)
 

@@ -16,6 +16,7 @@ use Rattle.addr_map.specs.declared.span.Span.{Span}
 use Rattle.branch_fixup.specs.Forms.{EndByTable}
 use Rattle.branch_fixup.specs.Pieces.{Piece, as_it_is, length_of, laid_from, end_from}
 use Rattle.branch_fixup.specs.Strips.{Strip, insts_in, pieces_of, pieces_of_strip, spans_of, strips_of}
+use Rattle.branch_fixup.proofs.Appended.{laid_append}
 use Rattle.branch_fixup.proofs.Covered.{Covers, covers}
 use Rattle.branch_fixup.proofs.Lists.{contains_at}
 use Rattle.branch_fixup.proofs.Orders.{order_has}
@@ -31,12 +32,6 @@ laid_move all a (p ∷ ps) sub =
       sub s (0, omega arith, refl),
       laid_move all (a + length_of p) ps (λ t c. sub t (Contains-there s (laid_from (a + length_of p) ps) t c)),
     )
-
-laid_append : (a : ℕ) (ps qs : List Piece) → laid_from a (ps ++ qs) ≡ laid_from a ps ++ laid_from (end_from a ps) qs
-laid_append a [] qs = refl
-laid_append a (p ∷ ps) qs =
-    ap (λ (l : List Span). record { out = a; len = length_of p; input = p.placed.addr } ∷ l)
-    (laid_append (a + length_of p) ps qs)
 
 -- the spans of a block are among those of all
 record LaidStrip (ss : List Strip) (fs : List Form) (a : ℕ) (s : Strip) : Type 0 where

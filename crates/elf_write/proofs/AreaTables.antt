@@ -19,7 +19,8 @@ use Rattle.elf_plan.specs.NewSections.{AreNewSections, IsInArea, adds_ranges, by
 use Rattle.elf_plan.specs.OldNames.{is_renamed, new_name, old_name}
 use Rattle.elf_write.specs.TablePlaces.{HoldsAt, IsLoadedAt}
 use Rattle.elf_write.proofs.AddedSections.{AddedName, added, is_text, is_frames, is_index, is_ranges, item_place}
-use Rattle.elf_write.proofs.GivenTables.{found_first, no_both, not_true, same_bytes}
+use Rattle.rb_bytes.proofs.Tests.{clash}
+use Rattle.elf_write.proofs.GivenTables.{found_first, not_true, same_bytes}
 
 or_right : (a b : Bool) → b ≡ true → (a || b) ≡ true
 or_right true b h = refl
@@ -61,7 +62,7 @@ module _ {Y Z : Type 0} (elf new : Elf) (tables : List (String Y × Vec ℕ Z)) 
           not_true (bytes_eq m.name.now name) (λ same.
           let kept : m.name.now ≡ s.name.now = named ∙ rw e refl in
           let is : s.name.now ≡ name = sym kept ∙ same_bytes m.name.now name same in
-          no_both (is_renamed s) (or_right (holds_code s.flags) (names_frames s.name.now) (ap names_frames is ∙ frames)) e)
+          clash (is_renamed s) (or_right (holds_code s.flags) (names_frames s.name.now) (ap names_frames is ∙ frames)) e)
 
   none_before : (name : List ℕ) → names_frames name ≡ true → ((x : List ℕ) → bytes_eq (old_name x) name ≡ false) →
       (k : ℕ) (m : Section) → k < n → slice_get new.sections.items k ≡ Some m → is_called name m ≡ false

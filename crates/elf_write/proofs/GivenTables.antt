@@ -14,6 +14,7 @@ use Rattle.std.proofs.lemmas.List.Quantifiers.{position-Some}
 use Rattle.std.proofs.lemmas.Option.{slice_get_within, slice_get-get_or, get_or_from_slice_get, same_Some}
 use Rattle.std.proofs.Math.Dec.{ltb}
 use Rattle.rb_bytes.proofs.ListLemmas.{slice_get_found}
+use Rattle.rb_bytes.proofs.Tests.{bool_same, clash}
 use Rattle.elf_image.specs.declared.elf.Elf.{Elf}
 use Rattle.elf_image.specs.declared.section.Section.{Section}
 use Rattle.elf_image.specs.declared.section.TheConstants.{SHF_ALLOC}
@@ -31,9 +32,6 @@ use Rattle.elf_plan.specs.NewSections.{AreNewSections, Follows, bytes_called, fl
 use Rattle.elf_plan.specs.OldNames.{is_renamed, new_name, old_name}
 use Rattle.elf_write.specs.TablePlaces.{takes_table}
 
-pub no_both : (b : Bool) → b ≡ true → b ≡ false → ⊥
-no_both b is fails = let c : true ≡ false = sym is ∙ fails in absurd (cc)
-
 -- a test that isn't true
 pub not_true : (b : Bool) → (b ≡ true → ⊥) → b ≡ false
 not_true true h = absurd (h refl)
@@ -42,11 +40,6 @@ not_true false h = refl
 and_false : (a b : Bool) → b ≡ false → (a && b) ≡ false
 and_false true b h = h
 and_false false b h = refl
-
-same_bool : (a b : Bool) → (a ≡ true → b ≡ true) → (b ≡ true → a ≡ true) → a ≡ b
-same_bool true b f g = sym (f refl)
-same_bool false true f g = g refl
-same_bool false false f g = refl
 
 pub same_bytes : (xs ys : List ℕ) → bytes_eq xs ys ≡ true → xs ≡ ys
 same_bytes xs ys h = same_text xs ys (sym h)
@@ -58,11 +51,11 @@ other_second b c d x y differs h k =
     let p = eqb-true c b ((and_parts (nat_eq c b) x h).0) in
     let q = eqb-true d b ((and_parts (nat_eq d b) y k).0) in
     let e : nat_eq c d ≡ true = eq-eqb c d (omega (arith, p, q)) in
-    no_both (nat_eq c d) e differs
+    clash (nat_eq c d) e differs
 
 dotted : (c : ℕ) (xs name : List ℕ) → nat_eq c 100 ≡ false → names_debug name ≡ true → bytes_eq (46 ∷ c ∷ xs) name ≡ true → ⊥
 dotted c xs [] differs d h = absurd (cc)
-dotted c xs (a ∷ []) differs d h = no_both (nat_eq 46 a && false) h (and_false (nat_eq 46 a) false refl)
+dotted c xs (a ∷ []) differs d h = clash (nat_eq 46 a && false) h (and_false (nat_eq 46 a) false refl)
 dotted c xs (a ∷ b ∷ rest) differs d h =
     other_second b c 100 (bytes_eq xs rest) (bytes_eq (101 ∷ 98 ∷ 117 ∷ 103 ∷ 95 ∷ []) (take 5 rest)) differs
     ((and_parts (nat_eq 46 a) (nat_eq c b && bytes_eq xs rest) h).1)
@@ -81,7 +74,7 @@ no_frames name d =
     not_true (names_frames name) (by (bytes_eq name (codes ".eh_frame")) (bytes_eq name (codes ".eh_frame_hdr")) refl refl)
   where
     one : (other : List ℕ) → names_debug other ≡ false → bytes_eq name other ≡ true → ⊥
-    one other none h = no_both (names_debug other) (ap names_debug (sym (same_bytes name other h)) ∙ d) none
+    one other none h = clash (names_debug other) (ap names_debug (sym (same_bytes name other h)) ∙ d) none
 
     by : (a b : Bool) → bytes_eq name (codes ".eh_frame") ≡ a → bytes_eq name (codes ".eh_frame_hdr") ≡ b → (a || b) ≡ true → ⊥
     by true b is_a is_b h = one (codes ".eh_frame") refl is_a
@@ -200,7 +193,7 @@ module _ {Y Z : Type 0} (elf new : Elf) (tables : List (String Y × Vec ℕ Z)) 
         let one : n.flags ≡ SHF_ALLOC = left ∙ rw (is_l, is_k) refl in meant_so s n (rw (one, is_l) refl) kept
     left_meant true false s n is_l is_k left plain kept =
         let differs : bytes_eq s.name.now name ≡ false =
-        not_true (bytes_eq s.name.now name) (λ h. no_both (names_debug s.name.now)
+        not_true (bytes_eq s.name.now name) (λ h. clash (names_debug s.name.now)
         (ap names_debug (same_bytes s.name.now name h) ∙ debug) is_k) in
         ap (λ (b : Bool). b && is_meant_by name n) (ap (λ (x : List ℕ). bytes_eq x name) kept ∙ differs)
         ∙ sym (ap (λ (b : Bool). b && is_meant_by name s) differs)
@@ -226,7 +219,7 @@ module _ {Y Z : Type 0} (elf new : Elf) (tables : List (String Y × Vec ℕ Z)) 
         by_frames true e plain =
             renamed (rw (plain, e) refl) ∙ sym (ap (λ (b : Bool). b && is_meant_by name s)
             (not_true (bytes_eq s.name.now name) (λ same.
-            no_both (names_frames name) (ap names_frames (sym (same_bytes s.name.now name same)) ∙ e) other)))
+            clash (names_frames name) (ap names_frames (sym (same_bytes s.name.now name same)) ∙ e) other)))
         by_frames false e plain =
             plain_called s n plain (named ∙ rw (plain, e) refl) (flags_stay s n plain flags)
 
@@ -261,7 +254,7 @@ module _ {Y Z : Type 0} (elf new : Elf) (tables : List (String Y × Vec ℕ Z)) 
 
       -- a table has this place where it has the name
       pub same_table : (x : List ℕ) → is_at i (place_replaced elf.sections.items x) ≡ bytes_eq x name
-      same_table x = same_bool (is_at i (place_replaced elf.sections.items x)) (bytes_eq x name) (to (names_frames x) refl) from
+      same_table x = bool_same (is_at i (place_replaced elf.sections.items x)) (bytes_eq x name) (to (names_frames x) refl) from
         where
           from : bytes_eq x name ≡ true → is_at i (place_replaced elf.sections.items x) ≡ true
           from h =
