@@ -1,6 +1,6 @@
 -- Arguments that are commands, and arguments that are none.
 use Rattle.std.proofs.Common.{◌≡◌, ℕ, List, [], ◌∷◌, Option, Some, None, codes, refl}
-use Rattle.bolt_tool.specs.CommandLine.{Command, Record, Run, command_of}
+use Rattle.bolt_tool.specs.CommandLine.{Command, Record, Repair, Run, command_of}
 
 run : List ℕ
 run = codes "run"
@@ -70,3 +70,10 @@ recorded_over = refl
 
 recorded_on_symbols : command_of (codes "record" ∷ codes "--symbols" ∷ codes "f" ∷ codes "o" ∷ []) ≡ None
 recorded_on_symbols = refl
+
+repaired_profile : command_of (codes "repair" ∷ codes "f" ∷ codes "p" ∷ codes "o" ∷ [])
+    ≡ Some (Repair (record { inputs = record { file = codes "f"; profile = codes "p" }; out = codes "o" }))
+repaired_profile = refl
+
+repaired_over : command_of (codes "repair" ∷ codes "f" ∷ codes "p" ∷ codes "p" ∷ []) ≡ None
+repaired_over = refl

@@ -1,44 +1,18 @@
 -- Each answer of `rewrite` and `map` but Ok and want of memory has a cause: a fault that is present, or a count that rose.
-use Rattle.std.proofs.Common.{◌≤◌, sym, subst, inl, inr, ℕ, List, Option, Some, None, IsTrue, IsSomeAnd}
-use Rattle.rb_bytes.specs.declared.fault.Fault.{Fault}
+use Rattle.std.proofs.Common.{◌≤◌, sym, subst, ℕ, List, Some, IsTrue}
 use Rattle.rb_io.specs.Views.{FilesGoOn}
 use Rattle.bolt_core.specs.Refusals.{IsRefused}
 use Rattle.cli_base.specs.declared.status.Status.{Status}
 use Rattle.bolt_tool.specs.CommandAnswers.{Serves}
-use Rattle.bolt_tool.specs.rewrite.InputAnswers.{IsAccepted, IsOkOrNoMemory, HasInputFault, IsStopped, NoInputErrors, OfInputs}
-use Rattle.bolt_tool.specs.rewrite.InputAnswers.{refused}
-use Rattle.bolt_tool.specs.rewrite.InputAnswers.{at_refusal, at_file, no_memory}
+use Rattle.cli_base.specs.Inputs.{InputNames, IsAccepted, IsOkOrNoMemory, NoInputErrors, OfInputs}
+use Rattle.cli_base.proofs.InputAnswering.{stopped_completes}
 use Rattle.bolt_tool.specs.rewrite.MapAnswers.{MapAnswers, at_text, printed}
 use Rattle.bolt_tool.specs.rewrite.MapAnswers as map
 use Rattle.bolt_tool.specs.rewrite.RewriteAnswers.{NoneRoseWriting, RewriteAnswers, StopsWriting, at_map, at_out, at_summary}
 use Rattle.bolt_tool.specs.rewrite.RewriteAnswers.{at_write, done}
 use Rattle.bolt_tool.specs.rewrite.RewriteAnswers as rewrite
-use Rattle.bolt_tool.specs.CommandLine.{InputNames, Map, Rewrite, RewriteNames}
+use Rattle.bolt_tool.specs.CommandLine.{Map, Rewrite, RewriteNames}
 use Rattle.cli_base.specs.World.{World}
-
--- two facts of both inputs that exclude each other
-exclude : (a b : Option (List ℕ)) (P Q : List ℕ → List ℕ → Type 0) → ((f p : List ℕ) → P f p → Q f p → ⊥) →
-    IsSomeAnd a (λ f. IsSomeAnd b (λ p. P f p)) → IsSomeAnd a (λ f. IsSomeAnd b (λ p. Q f p)) → ⊥
-exclude None b P Q h x y = absurd x
-exclude (Some f) None P Q h x y = absurd x
-exclude (Some f) (Some p) P Q h x y = h f p x y
-
-not_present : (names : InputNames) (old : World) (fault : Fault) → HasInputFault names old fault → IsTrue old.files.told →
-    OfInputs old names IsAccepted → ⊥
-not_present names old fault present told accepted =
-    exclude (old.files.content names.file) (old.files.content names.profile) (λ f p. IsRefused f p fault) IsAccepted
-    (λ f p is_refused accepts. accepts fault is_refused) (present told) accepted
-
-stopped_completes : (names : InputNames) (old new : World) (answer : Status)
-    → IsStopped names old new answer → IsTrue old.files.told
-    → OfInputs old names IsAccepted → NoInputErrors names old new → IsOkOrNoMemory answer
-stopped_completes names old new answer (refused fault is present prints) told accepted quiet =
-    absurd (not_present names old fault present told accepted)
-stopped_completes names old new answer (at_refusal fault is present fails) told accepted quiet =
-    absurd (not_present names old fault present told accepted)
-stopped_completes names old new answer (at_file is cause silent) told accepted quiet =
-    elim cause [ inl rose ↦ absurd (quiet.file rose) | inr rose ↦ absurd (quiet.profile rose) ]
-stopped_completes names old new answer (no_memory is silent) told accepted quiet = subst IsOkOrNoMemory (sym is) tt
 
 no_write_stops : (names : RewriteNames) (written map summary : List ℕ) (old new : World) →
     StopsWriting names written map summary old new → NoneRoseWriting names old new → ⊥
@@ -48,19 +22,19 @@ no_write_stops names written map summary old new (at_summary both print) quiet =
 
 rewrite_completes : (names : RewriteNames) (old new : World) (answer : Status)
     → RewriteAnswers names old new answer → IsTrue old.files.told
-    → OfInputs old names.inputs IsAccepted → NoneRoseWriting names old new → IsOkOrNoMemory answer
+    → OfInputs old names.inputs (IsAccepted IsRefused) → NoneRoseWriting names old new → IsOkOrNoMemory answer
 rewrite_completes names old new answer (done is made of both line) told accepted quiet = subst IsOkOrNoMemory (sym is) tt
 rewrite_completes names old new answer (at_write is made of stops) told accepted quiet =
     absurd (no_write_stops names _ _ _ old new stops quiet)
 rewrite_completes names old new answer (rewrite.stopped stops) told accepted quiet =
-    stopped_completes names.inputs old new answer stops told accepted quiet.others
+    stopped_completes IsRefused names.inputs old new answer stops told accepted quiet.others
 
 map_completes : (names : InputNames) (old new : World) (answer : Status) → MapAnswers names old new answer → IsTrue old.files.told
-    → OfInputs old names IsAccepted → NoInputErrors names old new → IsOkOrNoMemory answer
+    → OfInputs old names (IsAccepted IsRefused) → NoInputErrors names old new → IsOkOrNoMemory answer
 map_completes names old new answer (printed is made of prints) told accepted quiet = subst IsOkOrNoMemory (sym is) tt
 map_completes names old new answer (at_text is made of fails) told accepted quiet = absurd (quiet.line fails.print.cause)
 map_completes names old new answer (map.stopped stops) told accepted quiet =
-    stopped_completes names old new answer stops told accepted quiet
+    stopped_completes IsRefused names old new answer stops told accepted quiet
 
 pub serves : (names : RewriteNames) (answer : Status) (old new : World) → RewriteAnswers names old new answer
     → FilesGoOn old.files new.files → old.input.faults ≤ new.input.faults → old.output.faults ≤ new.output.faults

@@ -1,9 +1,9 @@
 -- Runs whose arguments were read from the command line.
-use Rattle.std.proofs.Common.{◌≡◌, ap, subst, ℕ, List, Some}
+use Rattle.std.proofs.Common.{◌≡◌, subst, ℕ, List, Some}
 use Rattle.cli_base.specs.Served.{IsInputKept}
 use Rattle.cli_base.specs.World.{World}
 use Rattle.cli_base.specs.declared.status.Status.{Status}
-use Rattle.cli_run.specs.RunArgs.{RunArgs, RecordArgs}
+use Rattle.cli_run.specs.RunArgs.{RunArgs}
 use Rattle.cli_run.specs.declared.running.RunMode.{RunMode}
 use Rattle.cli_run.specs.declared.running.RunMode.TheVariants.{Bytes, Symbols}
 use Rattle.cli_run.specs.recording.RecordAnswers.{RecordServes}

@@ -3,7 +3,6 @@ use Rattle.std.proofs.Common.{◌≡◌, ℕ, ◌&&◌, nat_le, not, Bool, true,
 use Rattle.std.proofs.Common.{None, sum_by}
 use Rattle.std.specs.List.{list_all}
 use Rattle.std.proofs.lemmas.Bool.Decides.{nat_tests}
-use Rattle.rb_bytes.specs.Text.{decimal_number}
 use Rattle.rv_memory.specs.Limits.{IsWithinLimits}
 use Rattle.bolt_tool.specs.CommandLine.{symbols_of, holds_zero, are_program_args}
 

@@ -6,6 +6,8 @@ use Rattle.std.specs.Option.{option_map}
 use Rattle.std.specs.Str.{bytes_eq, byte}
 use Rattle.rb_bytes.specs.Text.{decimal_number}
 use Rattle.rv_memory.specs.Limits.{most_args, most_arg_bytes}
+use Rattle.cli_base.specs.Inputs.{InputNames}
+use Rattle.cli_check.specs.RepairNames.{RepairNames}
 use Rattle.cli_run.specs.RunArgs.{RecordArgs, RunArgs}
 
 -- an argument that begins with a hyphen, but for the hyphen alone
@@ -74,11 +76,6 @@ values_of name (Positional arg ∷ rest) = values_of name rest
 values_of name (Named other value ∷ rest) =
     if bytes_eq other name then value ∷ values_of name rest else values_of name rest
 
--- the names of an input and of its profile
-pub record InputNames : Type 0 where
-  pub file : List ℕ
-  pub profile : List ℕ
-
 -- the names of the files of a rewrite: its inputs, the output and its map
 pub record RewriteNames : Type 0 where
   pub inputs : InputNames
@@ -97,6 +94,14 @@ rewrite_names_of _ = None
 abbrev pub map_of : List Token → Option InputNames
 map_of (Positional file ∷ Positional profile ∷ []) = Some (record { file = file; profile = profile })
 map_of _ = None
+
+-- `IN PROFILE OUT`, which all differ
+abbrev pub repair_of : List Token → Option RepairNames
+repair_of (Positional file ∷ Positional profile ∷ Positional out ∷ []) =
+    if bytes_eq file profile || (bytes_eq file out || bytes_eq profile out)
+    then None
+    else Some (record { inputs = record { file = file; profile = profile }; out = out })
+repair_of _ = None
 
 -- the most steps of a run: `--steps` says it, once, or not at all
 abbrev pub limit_of : List (Option (List ℕ)) → Option ℕ
@@ -160,6 +165,7 @@ pub data Command : Type 0 where
   RunSymbols : RunArgs → Command
   -- on the byte machine, with a profile of the run
   Record : RecordArgs → Command
+  Repair : RepairNames → Command
 
 abbrev pub run_command : Bool → RunArgs → Command
 run_command false args = Run args
@@ -188,4 +194,6 @@ command_of (name ∷ args) =
     then run_of (tokens AnyToken args)
     else if bytes_eq name (codes "record")
     then option_map Record (record_of (tokens AnyToken args))
+    else if bytes_eq name (codes "repair")
+    then option_map Repair (repair_of (tokens AnyToken args))
     else None

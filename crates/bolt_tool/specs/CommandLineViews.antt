@@ -3,15 +3,16 @@ use Rattle.std.specs.Prelude.{◌≢◌, Bool, true, false, List, [], ◌∷◌,
 use Rattle.std.specs.Option.{option_map}
 use Rattle.rv_memory.specs.Limits.{IsWithinLimits}
 use Rattle.bolt_tool.specs.CommandLine.{Token, Positional, Named, Expected, AnyToken, OnlyPositional, tokens, positionals}
-use Rattle.bolt_tool.specs.CommandLine.{InputNames, RewriteNames}
+use Rattle.bolt_tool.specs.CommandLine.{RewriteNames}
+use Rattle.cli_base.specs.Inputs.{inputs_read}
+use Rattle.cli_check.specs.RepairNames.{repair_given}
 use Rattle.cli_run.specs.RunArgs.{RunArgs, RecordArgs}
-use Rattle.bolt_tool.specs.CommandLine.{Command, Rewrite, Map, Run, RunSymbols, Record}
+use Rattle.bolt_tool.specs.CommandLine.{Command, Rewrite, Map, Run, RunSymbols, Record, Repair}
 use Rattle.cli_run.specs.declared.running.RunMode.{RunMode}
 use Rattle.cli_run.specs.declared.running.RunMode.TheVariants as mode
 use Rattle.bolt_tool.specs.declared.command_line.Token.{Token as TokenRead}
 use Rattle.bolt_tool.specs.declared.command_line.Token.TheVariants as token
 use Rattle.bolt_tool.specs.declared.command_line.Tokens.{Tokens}
-use Rattle.bolt_tool.specs.declared.command_line.InputArgs.{InputArgs}
 use Rattle.bolt_tool.specs.declared.command_line.RewriteArgs.{RewriteArgs}
 use Rattle.bolt_tool.specs.declared.command_line.RunTokens.{RunTokens}
 use Rattle.bolt_tool.specs.declared.command_line.RecordTokens.{RecordTokens}
@@ -35,9 +36,6 @@ IsNoPositional [] = Unit {0}
 IsNoPositional (Positional arg ∷ rest) = ⊥
 IsNoPositional (Named name value ∷ rest) = Unit {0}
 
-abbrev pub inputs_read : InputArgs → InputNames
-inputs_read a = record { file = a.file.now; profile = a.profile.now }
-
 abbrev pub names_read : RewriteArgs → RewriteNames
 names_read a = record { inputs = inputs_read a.inputs; out = a.out.now; map = a.map.now }
 
@@ -58,6 +56,7 @@ command_read (read.Map a) = Map (inputs_read a)
 command_read (read.Run a) = Run (run_read a)
 command_read (read.RunSymbols a) = RunSymbols (run_read a)
 command_read (read.Record a) = Record (record_read a)
+command_read (read.Repair a) = Repair (repair_given a)
 
 -- the output and the map of a rewrite have different names
 abbrev pub NamesDiffer : CommandRead → Type 0
@@ -66,6 +65,7 @@ NamesDiffer (read.Map a) = Unit {0}
 NamesDiffer (read.Run a) = Unit {0}
 NamesDiffer (read.RunSymbols a) = Unit {0}
 NamesDiffer (read.Record a) = Unit {0}
+NamesDiffer (read.Repair a) = Unit {0}
 
 -- the arguments of a run may be given to a program
 abbrev pub ArgsFit : CommandRead → Type 0
@@ -74,3 +74,4 @@ ArgsFit (read.Map a) = Unit {0}
 ArgsFit (read.Run a) = IsWithinLimits (run_read a).args
 ArgsFit (read.RunSymbols a) = IsWithinLimits (run_read a).args
 ArgsFit (read.Record a) = IsWithinLimits (run_read a.run).args
+ArgsFit (read.Repair a) = Unit {0}

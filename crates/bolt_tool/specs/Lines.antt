@@ -5,7 +5,8 @@ use Rattle.bolt_core.specs.RewriteCounts.{RewriteCounts}
 abbrev pub usage_line : List ℕ
 usage_line =
     codes "usage: rewrite IN PROFILE OUT MAP, map IN PROFILE, run [--symbols] [--steps N] FILE [WORDS], "
-    ++ codes "lookup FILE ADDR, sample N OUT PROFILE, record [--steps N] FILE OUT [WORDS]\n"
+    ++ codes "lookup FILE ADDR, sample N OUT PROFILE, record [--steps N] FILE OUT [WORDS], "
+    ++ codes "repair IN PROFILE OUT\n"
 
 -- what was moved
 abbrev pub summary_line : RewriteCounts → List ℕ

@@ -1,5 +1,4 @@
 pub mod InputAnswers
-pub mod Inputs
 pub mod MapAnswers
 pub mod Phases
 pub mod RewriteAnswers

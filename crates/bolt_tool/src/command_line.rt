@@ -5,10 +5,15 @@ ghost use Rattle.std.specs.List.{list_all};
 ghost use Rattle.rv_memory.specs.Limits.{IsWithinLimits};
 ghost use Rattle.bolt_tool.specs.CommandLine.{Positional, steps_name, symbols_name, is_option, option_of, limit_of};
 ghost use Rattle.bolt_tool.specs.CommandLine.{symbols_of, values_of, is_run_token, is_record_token, positionals, holds_zero};
-ghost use Rattle.bolt_tool.specs.CommandLine.{are_program_args, rewrite_names_of, map_of, run_of, record_of, command_of};
+ghost use Rattle.bolt_tool.specs.CommandLine.{are_program_args, rewrite_names_of, map_of, repair_of, run_of, record_of};
+ghost use Rattle.bolt_tool.specs.CommandLine.{command_of};
 ghost use Rattle.bolt_tool.specs.CommandLineViews.{IsNoPositional, token_read, tokens_of, command_read, run_read, record_read};
-ghost use Rattle.bolt_tool.specs.CommandLineViews.{inputs_read, names_read, NamesDiffer, ArgsFit};
+ghost use Rattle.bolt_tool.specs.CommandLineViews.{names_read, NamesDiffer, ArgsFit};
+ghost use Rattle.cli_base.specs.Inputs.{inputs_read};
+ghost use Rattle.cli_check.specs.RepairNames.{repair_given};
 
+use cli_base::InputArgs;
+use cli_check::RepairArgs;
 use rb_bytes::fault::NoMemory;
 use rb_bytes::number::decimal_number;
 use rv_memory::stack::{MOST_ARG_BYTES, MOST_ARGS};
@@ -22,13 +27,6 @@ const SYMBOLS: &str = "--symbols";
 
 // The most steps of a run where no option says it.
 const DEFAULT_LIMIT: u64 = 100_000_000;
-
-/// An input and its profile.
-#[derive(Clone, Copy)]
-pub struct InputArgs<'a> {
-    pub file: &'a str,
-    pub profile: &'a str,
-}
 
 /// The files of `rewrite`.
 #[derive(Clone, Copy)]
@@ -62,6 +60,7 @@ pub enum Command<'a> {
     Run(RunTokens<'a>),
     RunSymbols(RunTokens<'a>),
     Record(RecordTokens<'a>),
+    Repair(RepairArgs<'a>),
 }
 
 /// A token of a command: an argument that is no option, or an option with its value, where it has one.
@@ -189,6 +188,22 @@ fn map_args(mut tokens: Tokens<'_>) -> Option<InputArgs<'_>>
         return None;
     }
     Some(InputArgs { file, profile })
+}
+
+// The arguments of `repair`.
+fn repair_args(mut tokens: Tokens<'_>) -> Option<RepairArgs<'_>>
+    ensures { option_map repair_given result ≡ repair_of (tokens_of tokens.entry) }
+{
+    let file = next_positional(&mut tokens)?;
+    let profile = next_positional(&mut tokens)?;
+    let out = next_positional(&mut tokens)?;
+    if tokens.next().is_some() || file == profile || file == out || profile == out {
+        return None;
+    }
+    Some(RepairArgs {
+        inputs: InputArgs { file, profile },
+        out,
+    })
 }
 
 // No options but those of `run` are among the tokens.
@@ -385,6 +400,9 @@ pub fn parse(args: &[String]) -> Option<Command<'_>>
     }
     if name.as_str() == "record" {
         return record_args(tokens).map(Command::Record);
+    }
+    if name.as_str() == "repair" {
+        return repair_args(tokens).map(Command::Repair);
     }
     None
 }

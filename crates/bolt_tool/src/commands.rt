@@ -12,6 +12,7 @@ use crate::print_map::print_map;
 use crate::rewrite::rewrite;
 use crate::running::{record_tokens, run_tokens};
 use cli_base::Status;
+use cli_check::repair;
 use cli_run::RunMode;
 use rb_io::{Files, Put, Sink, Source, print_all};
 use std::alloc::Global;
@@ -48,6 +49,7 @@ fn perform<F: Files, I: Source, O: Sink>(
         Command::Run(args) => run_tokens(alloc, args, RunMode::Bytes, files, input, out),
         Command::RunSymbols(args) => run_tokens(alloc, args, RunMode::Symbols, files, input, out),
         Command::Record(args) => record_tokens(alloc, args, files, input, out),
+        Command::Repair(args) => repair(alloc, args, files, out),
     }
 }
 

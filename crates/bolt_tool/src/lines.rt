@@ -13,7 +13,8 @@ pub fn usage() -> &'static [u8]
     ensures { result.now ≡ usage_line }
 {
     b"usage: rewrite IN PROFILE OUT MAP, map IN PROFILE, run [--symbols] [--steps N] FILE [WORDS], \
-      lookup FILE ADDR, sample N OUT PROFILE, record [--steps N] FILE OUT [WORDS]\n"
+      lookup FILE ADDR, sample N OUT PROFILE, record [--steps N] FILE OUT [WORDS], \
+      repair IN PROFILE OUT\n"
 }
 
 /// The line for a file that was rewritten.

@@ -2,13 +2,12 @@
 ghost use Rattle.std.specs.Prelude.{Some};
 ghost use Rattle.rb_io.specs.Views.{SourceSeen};
 ghost use Rattle.bolt_tool.specs.CommandAnswers.{Serves};
-ghost use Rattle.bolt_tool.specs.CommandLineViews.{inputs_read};
+ghost use Rattle.cli_base.specs.Inputs.{inputs_read};
 ghost use Rattle.bolt_tool.specs.CommandLine.{Map};
 ghost use Rattle.cli_base.specs.World.{world};
 
-use crate::command_line::InputArgs;
 use crate::inputs::rewrite_inputs;
-use cli_base::Status;
+use cli_base::{InputArgs, Status};
 use rb_io::{Files, Put, Sink};
 use std::alloc::Global;
 

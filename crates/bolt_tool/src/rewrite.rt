@@ -6,7 +6,7 @@ ghost use Rattle.bolt_tool.specs.CommandAnswers.{Serves};
 ghost use Rattle.bolt_tool.specs.CommandLineViews.{names_read};
 ghost use Rattle.bolt_tool.specs.CommandLine.{Rewrite};
 ghost use Rattle.cli_base.specs.World.{world};
-ghost use Rattle.bolt_tool.specs.rewrite.Inputs.{made_by};
+ghost use Rattle.bolt_tool.specs.rewrite.InputAnswers.{made_by};
 ghost use Rattle.bolt_tool.specs.rewrite.Phases.{AreTextsOf, OutputsWritten};
 
 use crate::command_line::RewriteArgs;

@@ -1,1 +1,3 @@
 pub mod FaultCounts
+pub mod InputAnswering
+mod ProgramFiles

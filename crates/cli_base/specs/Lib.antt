@@ -1,7 +1,11 @@
+pub mod BothRead
+pub mod Inputs
 pub mod Lines
 pub mod PrintedLines
 pub mod Printing
+pub mod ProgramFiles
 pub mod Reading
 pub mod Served
 pub mod Status
 pub mod World
+pub mod WrittenFiles

@@ -1,13 +1,17 @@
 //! What the commands share: how they end, the lines that say it, refusals, and the reading of files.
 #![tactic(auto)]
 
+mod inputs;
 pub mod lines;
 mod printing;
+mod programs;
 mod reading;
 mod refusal;
 pub mod status;
 
+pub use inputs::{InputArgs, Inputs, read_inputs};
 pub use printing::print_line;
+pub use programs::file_program;
 pub use reading::read_file;
 pub use refusal::refuse;
 pub use status::Status;

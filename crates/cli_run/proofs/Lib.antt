@@ -6,6 +6,5 @@ mod RecordEnds
 mod RunAnswering
 mod RunEnds
 pub mod RunModes
-mod SymbolPrograms
 mod SymbolRunAnswering
 mod TabledRanges

@@ -1,5 +1,5 @@
 -- What is printed and written after a run, by whether its answer says how it came out.
-use Rattle.std.proofs.Common.{◌≡◌, ◌∙◌, ap, subst, sym, refl, true, false, ℕ, List}
+use Rattle.std.proofs.Common.{◌≡◌, ◌∙◌, ap, subst, sym, true, false, ℕ, List}
 use Rattle.rb_io.specs.Names.{Unchanged}
 use Rattle.rb_io.specs.Views.{SinkSeen}
 use Rattle.rv_code.specs.declared.cause.Cause.{Cause}

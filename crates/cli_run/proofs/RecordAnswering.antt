@@ -5,13 +5,14 @@ use Rattle.rb_io.specs.Views.{FilesGoOn, FilesSeen, SinkSeen}
 use Rattle.rb_bytes.specs.declared.fault.Fault.{Fault}
 use Rattle.program.specs.Program.{Program}
 use Rattle.cli_base.specs.Served.{IsInputKept}
-use Rattle.cli_run.specs.recording.RecordAnswers.{HoldsProfile, IsRecording, RecordAnswers, RecordServes, RecordsRun}
+use Rattle.cli_base.specs.WrittenFiles.{HoldsFile}
+use Rattle.cli_run.specs.recording.RecordAnswers.{IsRecording, RecordAnswers, RecordServes, RecordsRun}
 use Rattle.cli_run.specs.recording.RecordAnswers.{NoneRoseRecording}
 use Rattle.cli_run.specs.recording.RecordAnswers.{recorded, at_profile, at_closing, stopped}
 use Rattle.cli_run.specs.recording.RecordRuns.{record_machine, record_mode}
 use Rattle.cli_run.specs.run.RunOutcomes.{Ends, HaltsAt, RunsOn}
 use Rattle.cli_run.specs.run.RunAnswers.{at_input, at_output, out_of_memory, under_way, IsRunAnswer, IsExact}
-use Rattle.cli_run.specs.run.SymbolRuns.{IsRunnableProgram, too_long}
+use Rattle.cli_base.specs.ProgramFiles.{IsFileProgram, too_long}
 use Rattle.cli_run.specs.RunArgs.{RecordArgs}
 use Rattle.cli_base.specs.World.{World}
 use Rattle.cli_base.specs.declared.status.Status.{Status}
@@ -23,7 +24,7 @@ use Rattle.cli_run.proofs.SymbolRunAnswering.{not_both}
 -- the profile still holds its text, and the others what they had
 still_holds : (out text : List ℕ) (old new : World) (files : FilesSeen) → Unchanged old.files.content files.content
     → FilesGoOn old.files files
-    → HoldsProfile out text (record { files = files; input = old.input; output = old.output }) new → HoldsProfile out text old new
+    → HoldsFile out text (record { files = files; input = old.input; output = old.output }) new → HoldsFile out text old new
 still_holds out text old new files same go_on holds = record {
   text_is = λ told. holds.text_is (go_on.told_kept ∙ told);
   others = record { others = λ name apart. holds.others.others name apart ∙ same.each name };
@@ -58,7 +59,7 @@ lawful = record {
 module _ (args : RecordArgs) (old new : World) where
   -- a run that got under way
   goes_under_way : (answer : Status) (file : List ℕ) (program : Program)
-      → (IsTrue old.files.told → old.files.content args.run.file ≡ Some file) → IsRunnableProgram file program
+      → (IsTrue old.files.told → old.files.content args.run.file ≡ Some file) → IsFileProgram file program
       → RecordsRun program args old new answer → RecordAnswers args old new answer
   goes_under_way answer file program is program_is run =
       under_way (record { file = file; file_is = is; program = program; program_is = program_is; run = run })
@@ -122,7 +123,7 @@ module _ (args : RecordArgs) (old new : World) where
       IsFileServed record_mode args.run (IsRecording args old new answer) (NoneRoseRecording args old new) old new answer
 
   pub run_recorded : (answer : Status) (file : List ℕ) (program : Program)
-      → (IsTrue old.files.told → old.files.content args.run.file ≡ Some file) → IsRunnableProgram file program
+      → (IsTrue old.files.told → old.files.content args.run.file ≡ Some file) → IsFileProgram file program
       → RecordsRun program args old new answer
       → IsExact (record_machine program args.run.args) args.run.limit old.input.left answer → IsRecordServed answer
   run_recorded answer file program is program_is run exact =

@@ -13,7 +13,7 @@ use Rattle.rv_code.specs.declared.placed.Func.{Func}
 use Rattle.elf_image.specs.declared.elf.Elf.{Elf}
 use Rattle.rv_memory.specs.Start.{start}
 use Rattle.rv_machine.specs.State.{state_of}
-use Rattle.edge_record.specs.EdgeText.{IsEdgeText}
+use Rattle.edge_text.specs.EdgeText.{IsEdgeText}
 use Rattle.edge_record.specs.Moves.{Move}
 use Rattle.edge_record.specs.RecordedRuns.{ByteMoves, Records, RunsFromStart}
 use Rattle.edge_record.specs.MoveCounts.{taken}

@@ -11,8 +11,9 @@ use Rattle.program.specs.Limits.{IsCodeTooLarge, many_functions, much_code}
 use Rattle.program.specs.Program.{Program}
 use Rattle.program.specs.Refusals.{IsUnreadable, bad_code, not_built, unsound}
 use Rattle.program.specs.declared.unbuilt.Unbuilt.TheVariants.{Nothing}
-use Rattle.cli_run.specs.run.SymbolRuns.{symbol_mode, IsRunnableProgram, CanRunSymbols, CannotRunSymbols, large_code, too_long}
-use Rattle.cli_run.specs.run.SymbolRuns.{unreadable}
+use Rattle.cli_base.specs.ProgramFiles.{IsFileProgram, IsProgramFile, IsNoProgram, large_code, too_long}
+use Rattle.cli_run.specs.run.SymbolRuns.{symbol_mode}
+use Rattle.cli_base.specs.ProgramFiles.{unreadable}
 use Rattle.cli_run.proofs.RunAnswering.{IsLawful}
 use Rattle.cli_run.proofs.TabledRanges.{same_tabled}
 
@@ -22,7 +23,7 @@ by_count : (file : List ℕ) (funcs funcs' : List Func) → length funcs ≡ len
 by_count file funcs funcs' same place (much_code e much) = much_code e much
 by_count file funcs funcs' same place (many_functions e many) = many_functions e (omega (arith, same, many))
 
-readable : (file : List ℕ) (fault : Fault) → IsUnreadable Nothing file fault → CanRunSymbols file → ⊥
+readable : (file : List ℕ) (fault : Fault) → IsUnreadable Nothing file fault → IsProgramFile file → ⊥
 readable file fault (unsound present) can = can.faultless.plain.sound fault.kind fault.place present.present
 readable file fault (not_built sound frames e) can = can.faultless.plain.no_tables frames
 readable file fault (bad_code plain elf is has) can =
@@ -32,7 +33,7 @@ readable file fault (bad_code plain elf is has) can =
     one.0.free.1 free fault.kind fault.place has.present
 
 -- a file that can't be run isn't one that can
-pub not_both : (file : List ℕ) (fault : Fault) → CannotRunSymbols file fault → CanRunSymbols file → ⊥
+pub not_both : (file : List ℕ) (fault : Fault) → IsNoProgram file fault → IsProgramFile file → ⊥
 not_both file fault (too_long long e) can = let fits = can.faultless.plain.fits in absurd (omega arith)
 not_both file fault (unreadable fits is) can = readable file fault is can
 not_both file fault (large_code elf faultless funcs are limit) can =
@@ -50,6 +51,6 @@ lawful = record {
 }
 
 -- what is read of a file keeps the file
-pub own_file : (file : List ℕ) (program : Program) → IsRunnableProgram file program →
-    IsRunnableProgram program.elf.file.now program
-own_file file program is = subst (λ f. IsRunnableProgram f program) (sym is.program.faultless.read.file_is) is
+pub own_file : (file : List ℕ) (program : Program) → IsFileProgram file program →
+    IsFileProgram program.elf.file.now program
+own_file file program is = subst (λ f. IsFileProgram f program) (sym is.program.faultless.read.file_is) is

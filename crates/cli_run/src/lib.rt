@@ -3,7 +3,6 @@
 
 mod byte_run;
 mod closing;
-mod programs;
 pub mod recording;
 mod run_args;
 pub mod running;

@@ -5,18 +5,17 @@ ghost use Rattle.rb_io.specs.Views.{FilesGoOn, SourceSeen};
 ghost use Rattle.rv_memory.specs.Limits.{IsWithinLimits};
 ghost use Rattle.rv_machine.specs.StepResults.{answered};
 ghost use Rattle.program.specs.Program.{program_seen};
+ghost use Rattle.cli_base.specs.ProgramFiles.{IsFileProgram};
 ghost use Rattle.cli_base.specs.Served.{IsInputKept};
 ghost use Rattle.cli_run.specs.RunArgs.{record_given, run_given};
 ghost use Rattle.cli_run.specs.recording.Phases.{Finished, ProfileWritten};
 ghost use Rattle.cli_run.specs.recording.RecordAnswers.{IsAnsweredRecording, RecordServes};
 ghost use Rattle.cli_run.specs.run.RunOutcomes.{closing_line};
-ghost use Rattle.cli_run.specs.run.SymbolRuns.{IsRunnableProgram};
 ghost use Rattle.cli_base.specs.World.{world};
 
 use crate::closing::{closing_line, status_of};
-use crate::programs::runnable_program;
 use crate::run_args::RecordArgs;
-use cli_base::{Status, read_file, refuse};
+use cli_base::{Status, file_program, read_file, refuse};
 use edge_record::{Recorded, trace_edges};
 use program::{FILE_LIMIT, Program};
 use rb_io::{Files, Put, Sink, Source, Wrote, print_all};
@@ -81,7 +80,7 @@ fn record_elf<F: Files, I: Source, O: Sink>(
     out: &mut O,
 ) -> Status
     requires limits { IsWithinLimits (run_given args.now.run).args }
-    requires program { IsRunnableProgram program.now.elf.file.now (program_seen program.now) }
+    requires program { IsFileProgram program.now.elf.file.now (program_seen program.now) }
     ensures recorded { IsAnsweredRecording (program_seen program.now) (record_given args.now)
         (world (F.seen files.old) (I.seen input.old) (O.seen out.old))
         (world (F.seen files.new) (I.seen input.new) (O.seen out.new)) result }
@@ -122,7 +121,7 @@ pub fn record<F: Files, I: Source, O: Sink>(
         Ok(file) => file,
         Err(answer) => return answer,
     };
-    match runnable_program(alloc, &file) {
+    match file_program(alloc, &file) {
         Ok(program) => record_elf(alloc, args, &program, files, input, out),
         Err(refusal) => refuse(alloc, refusal, out),
     }

@@ -6,10 +6,9 @@ ghost use Rattle.cli_run.specs.run.Serving.{ServesRun};
 ghost use Rattle.cli_base.specs.World.{world};
 
 use crate::byte_run::{run_elf, runnable_file};
-use crate::programs::runnable_program;
 use crate::run_args::RunArgs;
 use crate::symbol_run::run_program;
-use cli_base::{Status, read_file, refuse};
+use cli_base::{Status, file_program, read_file, refuse};
 use program::FILE_LIMIT;
 use rb_io::{Files, Sink, Source};
 use std::alloc::Global;
@@ -46,7 +45,7 @@ pub fn run<F: Files, I: Source, O: Sink>(
             Ok(elf) => run_elf(alloc, args, &elf, input, out),
             Err(refusal) => refuse(alloc, refusal, out),
         },
-        RunMode::Symbols => match runnable_program(alloc, &file) {
+        RunMode::Symbols => match file_program(alloc, &file) {
             Ok(program) => run_program(alloc, &program, args, input, out),
             Err(refusal) => refuse(alloc, refusal, out),
         },

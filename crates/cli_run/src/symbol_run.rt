@@ -6,7 +6,8 @@ ghost use Rattle.program.specs.Program.{program_seen};
 ghost use Rattle.cli_run.specs.RunArgs.{run_given};
 ghost use Rattle.cli_run.specs.run.Phases.{status_of};
 ghost use Rattle.cli_run.specs.run.RunAnswers.{IsAnsweredRun};
-ghost use Rattle.cli_run.specs.run.SymbolRuns.{IsRunnableProgram, symbol_machine};
+ghost use Rattle.cli_base.specs.ProgramFiles.{IsFileProgram};
+ghost use Rattle.cli_run.specs.run.SymbolRuns.{symbol_machine};
 ghost use Rattle.run_core.specs.Inputs.{outside_of};
 
 use crate::closing::close;
@@ -39,7 +40,7 @@ pub fn run_program<I: Source, O: Sink>(
     input: &mut I,
     out: &mut O,
 ) -> Status
-    requires program { IsRunnableProgram program.now.elf.file.now (program_seen program.now) }
+    requires program { IsFileProgram program.now.elf.file.now (program_seen program.now) }
     requires limits { IsWithinLimits (run_given args.now).args }
     ensures ran { IsAnsweredRun (symbol_machine (program_seen program.now) (run_given args.now).args) args.now.limit
         (outside_of (I.seen input.old) (O.seen out.old))

@@ -3,7 +3,7 @@ use crate::sessions::{commands_refuse, play_rows};
 use std::test::Fail;
 
 /// Each of these names a file that is there.
-const NO_COMMANDS: [&str; 37] = [
+const NO_COMMANDS: [&str; 43] = [
     "$",
     "$ rewrite",
     "$ rewrite in profile out",
@@ -41,13 +41,19 @@ const NO_COMMANDS: [&str; 37] = [
     "$ record --steps in out",
     "$ record --steps 3 --steps=4 in out",
     "$ record --steps=x in out",
+    "$ repair in profile",
+    "$ repair in profile in",
+    "$ repair in in out",
+    "$ repair in profile profile",
+    "$ repair in profile out map",
+    "$ repair --steps=3 in profile out",
 ];
 
 const USAGE: &str = "\
 # What is printed where the arguments are no command.
 like exit7
 - => 220 Usage usage: rewrite IN PROFILE OUT MAP, map IN PROFILE, run [--symbols] [--steps N] FILE [WORDS], \
-lookup FILE ADDR, sample N OUT PROFILE, record [--steps N] FILE OUT [WORDS]/";
+lookup FILE ADDR, sample N OUT PROFILE, record [--steps N] FILE OUT [WORDS], repair IN PROFILE OUT/";
 
 #[test]
 fn arguments_that_are_no_command(rt: HostRuntime) -> Result<(), Fail> {

@@ -11,6 +11,8 @@ mod reach;
 #[cfg(test)]
 mod refused;
 #[cfg(test)]
+mod repaired;
+#[cfg(test)]
 mod rewritten;
 #[cfg(test)]
 mod runs;

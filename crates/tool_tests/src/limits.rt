@@ -19,6 +19,7 @@ fn long_files(rt: HostRuntime) -> Result<(), Fail> {
     let mut files = files_with(alloc, "", vec![in alloc; 0; TOO_LONG]?)?;
     let session = "\
 $ rewrite in profile out map | 221 TooLarge 0 0 0 refused 28 TooLarge at 0/ | none out | none map \
+| $ repair in profile out | 221 TooLarge 0 0 0 refused 28 TooLarge at 0/ | none out \
 | $ run in | 221 TooLarge 0 0 0 refused 28 TooLarge at 0/";
     play(&rt, alloc, &mut files, "a long input", session)?;
     let exit7 = file_in_words(alloc, "code .text 10078 lui a0,0; addi a0,a0,7; exit")?;
@@ -28,7 +29,8 @@ $ rewrite in profile out map | 221 TooLarge 0 0 0 refused 28 TooLarge at 0/ | no
     )?;
     files.put(String::from_str(alloc, "in")?, exit7)?;
     let session = "\
-$ rewrite in profile out map | 221 TooLarge 1 0 0 refused 28 TooLarge at 1/ | none out | none map";
+$ rewrite in profile out map | 221 TooLarge 1 0 0 refused 28 TooLarge at 1/ | none out | none map \
+| $ repair in profile out | 221 TooLarge 1 0 0 refused 28 TooLarge at 1/ | none out";
     play(&rt, alloc, &mut files, "a long profile", session)
 }
 

@@ -4,8 +4,9 @@ use Rattle.addr_map.specs.MapText.{map_text}
 use Rattle.cli_base.specs.declared.status.Status.{Status}
 use Rattle.cli_base.specs.declared.status.Status.TheVariants as status
 use Rattle.cli_base.specs.PrintedLines.{PrintsOnly, FailsAtLine}
-use Rattle.bolt_tool.specs.rewrite.InputAnswers.{IsMadeOf, IsStopped, MadeRewrite}
-use Rattle.bolt_tool.specs.CommandLine.{InputNames}
+use Rattle.bolt_core.specs.Refusals.{IsRefused}
+use Rattle.bolt_tool.specs.rewrite.InputAnswers.{IsMadeOf, MadeRewrite}
+use Rattle.cli_base.specs.Inputs.{InputNames, IsStopped}
 use Rattle.cli_base.specs.World.{World}
 
 pub data MapAnswers (names : InputNames) (old new : World) (answer : Status) : Type 0 where
@@ -13,4 +14,4 @@ pub data MapAnswers (names : InputNames) (old new : World) (answer : Status) : T
       → MapAnswers names old new answer
   at_text : answer ≡ status.WriteFault → (made : MadeRewrite) → IsMadeOf names old.files made
       → FailsAtLine (map_text made.spans) old new → MapAnswers names old new answer
-  stopped : IsStopped names old new answer → MapAnswers names old new answer
+  stopped : IsStopped IsRefused names old new answer → MapAnswers names old new answer

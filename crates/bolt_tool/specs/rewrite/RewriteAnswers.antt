@@ -7,7 +7,9 @@ use Rattle.cli_base.specs.declared.status.Status.{Status}
 use Rattle.cli_base.specs.declared.status.Status.TheVariants as status
 use Rattle.bolt_tool.specs.Lines.{summary_line}
 use Rattle.cli_base.specs.PrintedLines.{FailsToPrint}
-use Rattle.bolt_tool.specs.rewrite.InputAnswers.{IsMadeOf, IsStopped, MadeRewrite, NoInputErrors}
+use Rattle.bolt_core.specs.Refusals.{IsRefused}
+use Rattle.bolt_tool.specs.rewrite.InputAnswers.{IsMadeOf, MadeRewrite}
+use Rattle.cli_base.specs.Inputs.{IsStopped, NoInputErrors}
 use Rattle.bolt_tool.specs.CommandLine.{RewriteNames}
 use Rattle.cli_base.specs.World.{World, WriteRose}
 
@@ -43,7 +45,7 @@ pub data RewriteAnswers (names : RewriteNames) (old new : World) (answer : Statu
   at_write : answer ≡ status.WriteFault → (made : MadeRewrite) → IsMadeOf names.inputs old.files made
       → StopsWriting names made.written (map_text made.spans) (summary_line made.counts) old new
       → RewriteAnswers names old new answer
-  stopped : IsStopped names.inputs old new answer → RewriteAnswers names old new answer
+  stopped : IsStopped IsRefused names.inputs old new answer → RewriteAnswers names old new answer
 
 -- no count of faults rose, of the files that are written neither
 pub record NoneRoseWriting (names : RewriteNames) (old new : World) : Type 0 where

@@ -6,21 +6,21 @@ use Rattle.rb_io.specs.TakenText.{TakesAll, TakesPrefix}
 use Rattle.rv_code.specs.declared.cause.Cause.{Cause}
 use Rattle.run_core.specs.Answers.{Answer}
 use Rattle.run_core.specs.Answers as answer
-use Rattle.cli_run.specs.recording.RecordAnswers.{HoldsProfile}
 use Rattle.cli_run.specs.run.RunOutcomes.{closing_line}
 use Rattle.cli_base.specs.World.{World, WriteRose}
+use Rattle.cli_base.specs.WrittenFiles.{HoldsFile}
 use Rattle.cli_base.specs.declared.status.Status.{Status}
 use Rattle.cli_base.specs.declared.status.Status.TheVariants as status
 
 -- The profile was written and then the line printed, and `came` answered; or the profile fails, or the line; or neither was
 -- written, out of memory.
 pub data ProfileWritten (result came : Status) (out text line : List ℕ) (old new : World) : Type 0 where
-  written : result ≡ came → HoldsProfile out text old new → TakesAll old.output.taken new.output.taken line
+  written : result ≡ came → HoldsFile out text old new → TakesAll old.output.taken new.output.taken line
       → ProfileWritten result came out text line old new
   at_profile : result ≡ status.WriteFault → WriteRose old new out
       → UnchangedBut out old.files.content new.files.content → new.output.taken ≡ old.output.taken
       → ProfileWritten result came out text line old new
-  at_line : result ≡ status.WriteFault → Rose old.output.faults new.output.faults → HoldsProfile out text old new
+  at_line : result ≡ status.WriteFault → Rose old.output.faults new.output.faults → HoldsFile out text old new
       → TakesPrefix old.output.taken new.output.taken line → ProfileWritten result came out text line old new
   unwritten : result ≡ status.NoMemory → Unchanged old.files.content new.files.content
       → new.output.taken ≡ old.output.taken → ProfileWritten result came out text line old new

@@ -5,7 +5,7 @@ use Rattle.rb_io.specs.Names.{Unchanged, UnchangedBut}
 use Rattle.rb_io.specs.TakenText.{TakesAll, TakesPrefix}
 use Rattle.rv_code.specs.declared.cause.Cause.{Cause}
 use Rattle.rv_code.specs.machine.Step.{ByteState}
-use Rattle.edge_record.specs.EdgeText.{IsEdgeText}
+use Rattle.edge_text.specs.EdgeText.{IsEdgeText}
 use Rattle.edge_record.specs.Moves.{Move}
 use Rattle.edge_record.specs.RecordedRuns.{ByteMoves}
 use Rattle.edge_record.specs.MoveCounts.{taken}
@@ -13,21 +13,17 @@ use Rattle.program.specs.Program.{Program}
 use Rattle.cli_run.specs.recording.RecordRuns.{record_machine, record_mode, moving_steps}
 use Rattle.cli_run.specs.run.RunOutcomes.{Ending, answer_of}
 use Rattle.cli_run.specs.run.RunAnswers.{Taking, ComesOut, StopsRun, FileAnswers, IsComplete, IsExact, NoRunErrors, outside}
-use Rattle.cli_run.specs.run.SymbolRuns.{IsRunnableProgram}
+use Rattle.cli_base.specs.ProgramFiles.{IsFileProgram}
 use Rattle.cli_run.specs.RunArgs.{RecordArgs}
 use Rattle.cli_base.specs.Served.{IsServed}
 use Rattle.cli_base.specs.World.{World, WriteRose}
+use Rattle.cli_base.specs.WrittenFiles.{HoldsFile}
 use Rattle.cli_base.specs.declared.status.Status.{Status}
 use Rattle.cli_base.specs.declared.status.Status.TheVariants as status
 
 -- nothing of the line was taken
 abbrev pub TakesNone : Taking
 TakesNone before after line = after ≡ before
-
--- the profile holds a text, where files are told, and no other name changed
-pub record HoldsProfile (out : List ℕ) (text : List ℕ) (old new : World) : Type 0 where
-  pub text_is : IsTrue old.files.told → new.files.content out ≡ Some text
-  pub others : UnchangedBut out old.files.content new.files.content
 
 module _ (program : Program) (args : RecordArgs) (old new : World) where
   -- The run comes out so, and the text is that of its moves: a line for each pair that was taken, by which a profile of
@@ -44,13 +40,13 @@ module _ (program : Program) (args : RecordArgs) (old new : World) where
   -- how a run is answered that got under way
   pub data RecordsRun (answer : Status) : Type 0 where
     recorded : (ending : Ending Cause) (text : List ℕ) → answer ≡ answer_of (record_machine program args.run.args) ending
-        → IsProfiled TakesAll ending text → HoldsProfile args.out text old new → RecordsRun answer
+        → IsProfiled TakesAll ending text → HoldsFile args.out text old new → RecordsRun answer
     at_profile : (ending : Ending Cause) → answer ≡ status.WriteFault → WriteRose old new args.out
         → ComesOut (record_machine program args.run.args) args.run.limit (outside old) (outside new) TakesNone ending
         → UnchangedBut args.out old.files.content new.files.content → RecordsRun answer
     at_closing : (ending : Ending Cause) (text : List ℕ) → answer ≡ status.WriteFault
         → Rose old.output.faults new.output.faults → IsProfiled TakesPrefix ending text
-        → HoldsProfile args.out text old new → RecordsRun answer
+        → HoldsFile args.out text old new → RecordsRun answer
     stopped : StopsRun (record_machine program args.run.args) args.run.limit (outside old) (outside new) answer
         → Unchanged old.files.content new.files.content → RecordsRun answer
 
@@ -64,7 +60,7 @@ pub record IsRecording (args : RecordArgs) (old new : World) (answer : Status) :
   pub file : List ℕ
   pub file_is : IsTrue old.files.told → old.files.content args.run.file ≡ Some file
   pub program : Program
-  pub program_is : IsRunnableProgram file program
+  pub program_is : IsFileProgram file program
   pub run : RecordsRun program args old new answer
 
 abbrev pub RecordAnswers : RecordArgs → World → World → Status → Type 0

@@ -6,7 +6,7 @@ use Rattle.program.specs.Program.{Program}
 use Rattle.cli_run.specs.run.ByteRuns.{byte_machine}
 use Rattle.cli_run.specs.run.RunOutcomes.{Ending, Ends, Loaded}
 use Rattle.cli_run.specs.run.Modes.{Mode}
-use Rattle.cli_run.specs.run.SymbolRuns.{CanRunSymbols, CannotRunSymbols, IsRunnableProgram}
+use Rattle.cli_base.specs.ProgramFiles.{IsProgramFile, IsNoProgram, IsFileProgram}
 
 abbrev pub record_machine : Program → List (List ℕ) → Loaded ℕ ℕ Cause
 record_machine program args = byte_machine program.elf.file.now args
@@ -14,10 +14,10 @@ record_machine program args = byte_machine program.elf.file.now args
 -- files are run that the symbol machine runs
 abbrev pub record_mode : Mode Program ℕ ℕ Cause
 record_mode = record {
-  IsProgram = IsRunnableProgram;
+  IsProgram = IsFileProgram;
   machine = record_machine;
-  CanRun = CanRunSymbols;
-  CannotRun = CannotRunSymbols;
+  CanRun = IsProgramFile;
+  CannotRun = IsNoProgram;
 }
 
 -- how many of the steps that count make a move: all but one that ends

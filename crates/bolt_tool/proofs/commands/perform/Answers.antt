@@ -20,3 +20,11 @@ returns-in-Map-clause-serves g c =
     world (g.F.Files.seen c.print_map.new.files) (g.I.Source.seen c.args.input.now) (g.O.Sink.seen c.print_map.new.out) in
     subst (λ (command : Command). Serves (Some (command_read command)) c.print_map.result old new) (sym c.in-Map.is)
     (c.print_map.ensures (g.I.Source.seen c.args.input.now))
+
+pub returns-in-Repair-clause-serves : goal.returns-in-Repair-clause-serves
+returns-in-Repair-clause-serves g c =
+    let old : World = world (g.F.Files.seen c.args.files.now) (g.I.Source.seen c.args.input.now) (g.O.Sink.seen c.args.out.now) in
+    let new : World =
+    world (g.F.Files.seen c.repair.new.files) (g.I.Source.seen c.args.input.now) (g.O.Sink.seen c.repair.new.out) in
+    subst (λ (command : Command). Serves (Some (command_read command)) c.repair.result old new) (sym c.in-Repair.is)
+    (c.repair.ensures (g.I.Source.seen c.args.input.now))

@@ -1,10 +1,11 @@
 use Rattle.std.proofs.Common.{◌≤◌, arith, refl}
-use Rattle.bolt_tool.specs.CommandLineViews.{inputs_read}
+use Rattle.cli_base.specs.Inputs.{inputs_read}
 use Rattle.cli_base.specs.World.{World, world}
 use Rattle.cli_base.specs.declared.status.Status.TheVariants as status
-use Rattle.bolt_tool.specs.rewrite.Inputs.{made_by}
+use Rattle.bolt_tool.specs.rewrite.InputAnswers.{made_by}
 use Rattle.bolt_tool.specs.rewrite.MapAnswers.{stopped}
-use Rattle.bolt_tool.proofs.Answering.{IsBetween, fails, prints}
+use Rattle.cli_base.proofs.InputAnswering.{IsBetween}
+use Rattle.bolt_tool.proofs.Answering.{fails, prints}
 use Rattle.bolt_tool.proofs.Completing.{serves_map}
 use Rattle.bolt_tool.proofs.print_map.print_map.Goals as goal
 

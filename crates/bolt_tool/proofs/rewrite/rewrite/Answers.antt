@@ -1,9 +1,10 @@
 use Rattle.std.proofs.Common.{◌≤◌, arith}
 use Rattle.bolt_tool.specs.CommandLineViews.{names_read}
 use Rattle.cli_base.specs.World.{World, world}
-use Rattle.bolt_tool.specs.rewrite.Inputs.{made_by}
+use Rattle.bolt_tool.specs.rewrite.InputAnswers.{made_by}
 use Rattle.bolt_tool.specs.rewrite.RewriteAnswers.{stopped}
-use Rattle.bolt_tool.proofs.Answering.{IsBetween, writes}
+use Rattle.cli_base.proofs.InputAnswering.{IsBetween}
+use Rattle.bolt_tool.proofs.Answering.{writes}
 use Rattle.cli_base.proofs.FaultCounts.{go_on_after}
 use Rattle.bolt_tool.proofs.Completing.{serves}
 use Rattle.bolt_tool.proofs.rewrite.rewrite.Goals as goal

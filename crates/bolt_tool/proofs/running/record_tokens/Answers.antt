@@ -1,4 +1,4 @@
-use Rattle.std.proofs.Common.{◌≡◌, ◌∙◌, ap, ℕ, List}
+use Rattle.std.proofs.Common.{◌≡◌, ◌∙◌, ap}
 use Rattle.std.specs.Prelude.{map, string_bytes}
 use Rattle.cli_base.specs.World.{World, world}
 use Rattle.cli_run.specs.RunArgs.{RecordArgs}

@@ -1,4 +1,4 @@
-use Rattle.std.proofs.Common.{◌∙◌, ap, refl, sym}
+use Rattle.std.proofs.Common.{◌∙◌, refl, sym}
 use Rattle.rv_machine.specs.StepResults.{answered}
 use Rattle.cli_base.specs.World.{World, world}
 use Rattle.cli_run.proofs.Outcomes.{finished, left}

@@ -61,8 +61,8 @@ returns-in-Bytes-clause-serves g c =
     (c.in-Ok.ensures.read told)) c.in-Err-runnable_file.ensures.fault c.refuse.ensures.refused)
     c.in-Ok.ensures.files_go_on (omega arith) (omega arith))
 
-pub returns-in-Ok-runnable_program-clause-serves : goal.returns-in-Ok-runnable_program-clause-serves
-returns-in-Ok-runnable_program-clause-serves g c =
+pub returns-in-Ok-file_program-clause-serves : goal.returns-in-Ok-file_program-clause-serves
+returns-in-Ok-file_program-clause-serves g c =
     let args : RunArgs = run_given c.args.args.now in
     let old : World = world (g.F.Files.seen c.args.files.now) (g.I.Source.seen c.args.input.now) (g.O.Sink.seen c.args.out.now) in
     let mid : World =
@@ -75,11 +75,11 @@ returns-in-Ok-runnable_program-clause-serves g c =
     subst (λ (m : RunMode). ServesRun m args c.run_program.result old new) (sym c.in-Symbols.is)
     (serves symbol_mode args old new c.run_program.result
     (run_answered symbol_mode args old new by_symbols.lawful c.run_program.result c.in-Ok.ensures.kept
-    c.deref-in-Symbols.result.now (program_seen c.in-Ok-runnable_program.program)
+    c.deref-in-Symbols.result.now (program_seen c.in-Ok-file_program.program)
     mid.output c.in-Ok.ensures.unprinted
     (λ told. passed_is (old.files.content args.file) c.in-Ok.file.items c.deref-in-Symbols.result.now
     c.deref-in-Symbols.ensures.value
-    (c.in-Ok.ensures.read told)) c.in-Ok-runnable_program.ensures.program c.run_program.ensures.ran.answers c.run_program.ensures.ran.exact)
+    (c.in-Ok.ensures.read told)) c.in-Ok-file_program.ensures.program c.run_program.ensures.ran.answers c.run_program.ensures.ran.exact)
     c.in-Ok.ensures.files_go_on c.run_program.ensures.reads (omega arith))
 
 pub returns-clause-serves : goal.returns-clause-serves
@@ -90,28 +90,28 @@ returns-clause-serves g c =
     world (g.F.Files.seen c.read_file.new.files) (g.I.Source.seen c.args.input.now) (g.O.Sink.seen c.read_file.new.out) in
     let new : World =
     world (g.F.Files.seen c.read_file.new.files) (g.I.Source.seen c.args.input.now)
-    (g.O.Sink.seen c.refuse-in-Err-runnable_program.new.out) in
+    (g.O.Sink.seen c.refuse-in-Err-file_program.new.out) in
     let first : old.output.faults ≤ mid.output.faults = c.in-Ok.ensures.never_falls in
-    let next : mid.output.faults ≤ new.output.faults = c.refuse-in-Err-runnable_program.ensures.never_falls in
-    subst (λ (m : RunMode). ServesRun m args c.refuse-in-Err-runnable_program.result old new) (sym c.in-Symbols.is)
-    (serves symbol_mode args old new c.refuse-in-Err-runnable_program.result
-    (file_refused symbol_mode args old new by_symbols.lawful (λ quiet. quiet) c.refuse-in-Err-runnable_program.result
+    let next : mid.output.faults ≤ new.output.faults = c.refuse-in-Err-file_program.ensures.never_falls in
+    subst (λ (m : RunMode). ServesRun m args c.refuse-in-Err-file_program.result old new) (sym c.in-Symbols.is)
+    (serves symbol_mode args old new c.refuse-in-Err-file_program.result
+    (file_refused symbol_mode args old new by_symbols.lawful (λ quiet. quiet) c.refuse-in-Err-file_program.result
     c.in-Ok.ensures.kept refl
-    c.deref-in-Symbols.result.now c.in-Err-runnable_program.refusal mid.output c.in-Ok.ensures.unprinted
+    c.deref-in-Symbols.result.now c.in-Err-file_program.refusal mid.output c.in-Ok.ensures.unprinted
     (λ told. passed_is (old.files.content args.file) c.in-Ok.file.items c.deref-in-Symbols.result.now
     c.deref-in-Symbols.ensures.value
-    (c.in-Ok.ensures.read told)) c.in-Err-runnable_program.ensures.fault c.refuse-in-Err-runnable_program.ensures.refused)
+    (c.in-Ok.ensures.read told)) c.in-Err-file_program.ensures.fault c.refuse-in-Err-file_program.ensures.refused)
     c.in-Ok.ensures.files_go_on (omega arith) (omega arith))
 
-pub returns-in-Ok-runnable_program-clause-input_kept : goal.returns-in-Ok-runnable_program-clause-input_kept
-returns-in-Ok-runnable_program-clause-input_kept g c =
+pub returns-in-Ok-file_program-clause-input_kept : goal.returns-in-Ok-file_program-clause-input_kept
+returns-in-Ok-file_program-clause-input_kept g c =
     let args : RunArgs = run_given c.args.args.now in
     let old : World = world (g.F.Files.seen c.args.files.now) (g.I.Source.seen c.args.input.now) (g.O.Sink.seen c.args.out.now) in
     run_keeps_input c.run_program.result c.args.input.now c.run_program.new.input
-    (λ fault. run_not_refused symbol_mode args old old by_symbols.lawful (program_seen c.in-Ok-runnable_program.program) _ _
+    (λ fault. run_not_refused symbol_mode args old old by_symbols.lawful (program_seen c.in-Ok-file_program.program) _ _
     c.run_program.result fault c.run_program.ensures.ran.answers)
 
 pub run_program-requires-clause-program : goal.run_program-requires-clause-program
 run_program-requires-clause-program g c =
-    by_symbols.own_file c.deref-in-Symbols.result.now (program_seen c.in-Ok-runnable_program.program)
-    c.in-Ok-runnable_program.ensures.program
+    by_symbols.own_file c.deref-in-Symbols.result.now (program_seen c.in-Ok-file_program.program)
+    c.in-Ok-file_program.ensures.program

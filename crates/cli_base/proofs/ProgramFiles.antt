@@ -1,4 +1,4 @@
--- What was read of a file is a program that is run, or a reason for which none is.
+-- What was read of a file is its program, or a reason for which it is none.
 use Rattle.std.proofs.Common.{◌≡◌, sym, subst, ℕ, ◌≤◌, List, length}
 use Rattle.rb_bytes.specs.declared.fault.Refusal.{Refusal}
 use Rattle.rb_bytes.specs.declared.fault.Refusal.TheVariants as refusal
@@ -8,29 +8,29 @@ use Rattle.program.specs.Program.{IsProgramOf, program_seen}
 use Rattle.program.specs.Refusals.{IsRefusalFor, IsUnreadable}
 use Rattle.program.specs.declared.program.Program.{Program}
 use Rattle.program.specs.declared.unbuilt.Unbuilt.TheVariants.{Nothing}
-use Rattle.cli_run.specs.run.SymbolRuns.{CannotRunSymbols, IsRunnableProgram, large_code, unreadable}
+use Rattle.cli_base.specs.ProgramFiles.{IsNoProgram, IsFileProgram, large_code, unreadable}
 
 module _ (file : List ℕ) where
   pub unreadable_refused : length file ≤ file_limit → (r : Refusal) → IsRefusalFor (IsUnreadable Nothing file) r →
-      IsRefusalFor (CannotRunSymbols file) r
+      IsRefusalFor (IsNoProgram file) r
   unreadable_refused fits (refusal.Fault fault) is = unreadable fits is
   unreadable_refused fits refusal.Memory is = tt
 
   -- `given` are its functions as a slice
   module _ (p : Program) (given : List Func) (is : IsProgramOf Nothing file (program_seen p)) (same : given ≡ p.funcs.items) where
     refused : (r : Refusal) → IsRefusalFor (IsLimitFault (IsCodeTooLarge file p.funcs.items)) r →
-        IsRefusalFor (CannotRunSymbols file) r
+        IsRefusalFor (IsNoProgram file) r
     refused (refusal.Fault fault) limit = large_code p.elf is.faultless p.funcs.items is.code_is.funcs limit
     refused refusal.Memory limit = tt
 
     pub large_refused : (r : Refusal) → IsRefusalFor (IsLimitFault (IsCodeTooLarge p.elf.file.now given)) r →
-        IsRefusalFor (CannotRunSymbols file) r
+        IsRefusalFor (IsNoProgram file) r
     large_refused r limit =
         refused r (subst (λ (f : List ℕ). IsRefusalFor (IsLimitFault (IsCodeTooLarge f p.funcs.items)) r)
         is.faultless.read.file_is
         (subst (λ (fs : List Func). IsRefusalFor (IsLimitFault (IsCodeTooLarge p.elf.file.now fs)) r) same limit))
 
-    pub runnable : ((place : ℕ) → IsCodeTooLarge p.elf.file.now given place → ⊥) → IsRunnableProgram file (program_seen p)
+    pub runnable : ((place : ℕ) → IsCodeTooLarge p.elf.file.now given place → ⊥) → IsFileProgram file (program_seen p)
     runnable within = record {
       program = is;
       within = λ place large. within place

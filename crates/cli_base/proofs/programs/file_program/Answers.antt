@@ -1,8 +1,8 @@
 use Rattle.std.proofs.Common.{sym, subst}
 use Rattle.std.proofs.lemmas.Result.{err_from_is_err_and}
 use Rattle.elf_image.specs.file.ParsedFile.{IsElfOf}
-use Rattle.cli_run.proofs.SymbolPrograms.{large_refused, runnable, unreadable_refused}
-use Rattle.cli_run.proofs.programs.runnable_program.Goals as goal
+use Rattle.cli_base.proofs.ProgramFiles.{large_refused, runnable, unreadable_refused}
+use Rattle.cli_base.proofs.programs.file_program.Goals as goal
 
 pub returns-in_err-program-clause-fault : goal.returns-in_err-program-clause-fault
 returns-in_err-program-clause-fault c =

@@ -1,0 +1,33 @@
+-- Files that are programs, for the commands that read code but no tables: those that are read, and whose code passes no
+-- limit.
+use Rattle.std.specs.Prelude.{◌≡◌, ℕ, ◌<◌, ◌≤◌, List, length}
+use Rattle.rb_bytes.specs.Fault.{fault_at}
+use Rattle.rb_bytes.specs.declared.fault.Fault.{Fault}
+use Rattle.rb_bytes.specs.declared.fault.FaultKind.TheVariants.{TooLarge}
+use Rattle.rv_code.specs.declared.placed.Func.{Func}
+use Rattle.elf_image.specs.declared.elf.Elf.{Elf}
+use Rattle.elf_code.specs.Functions.{AreFunctions}
+use Rattle.cfi_rows.specs.Frames.{tabled}
+use Rattle.program.specs.Limits.{IsCodeTooLarge, IsLimitFault, file_limit}
+use Rattle.program.specs.Program.{IsFaultless, IsProgramOf, Program}
+use Rattle.program.specs.Refusals.{IsUnreadable}
+use Rattle.program.specs.declared.unbuilt.Unbuilt.TheVariants.{Nothing}
+
+pub record IsProgramFile (file : List ℕ) : Type 0 where
+  pub elf : Elf
+  pub faultless : IsFaultless Nothing file elf
+  pub funcs : List Func
+  pub funcs_are : AreFunctions elf (tabled elf) funcs
+  pub within : (place : ℕ) → IsCodeTooLarge file funcs place → ⊥
+
+-- Why a file is none: its length comes first, then why it isn't read, and then the size of its code.
+pub data IsNoProgram (file : List ℕ) (fault : Fault) : Type 0 where
+  too_long : file_limit < length file → fault ≡ fault_at TooLarge 0 → IsNoProgram file fault
+  unreadable : length file ≤ file_limit → IsUnreadable Nothing file fault → IsNoProgram file fault
+  large_code : (elf : Elf) → IsFaultless Nothing file elf → (funcs : List Func) → AreFunctions elf (tabled elf) funcs
+      → IsLimitFault (IsCodeTooLarge file funcs) fault → IsNoProgram file fault
+
+-- the program of a file
+pub record IsFileProgram (file : List ℕ) (x : Program) : Type 0 where
+  pub program : IsProgramOf Nothing file x
+  pub within : (place : ℕ) → IsCodeTooLarge file x.code.funcs place → ⊥

@@ -1,0 +1,2 @@
+mod RepairEnds
+mod RepairSteps

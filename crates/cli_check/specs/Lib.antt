@@ -1,0 +1,4 @@
+pub mod Phases
+pub mod RepairAnswers
+pub mod RepairNames
+pub mod RepairedFiles

@@ -1,0 +1,59 @@
+// A profile repaired, with the lines that show that no other one changes less.
+ghost use Rattle.std.specs.Prelude.{◌≤◌, length, IfErr, IfOk};
+ghost use Rattle.program.specs.Limits.{file_limit};
+ghost use Rattle.program.specs.Program.{program_seen};
+ghost use Rattle.program.specs.Refusals.{IsRefusalFor};
+ghost use Rattle.cli_base.specs.ProgramFiles.{IsFileProgram};
+ghost use Rattle.cli_check.specs.RepairedFiles.{CannotRepair, IsRepairOf};
+
+use cli_base::{Inputs, file_program};
+use flow_text::{repaired_profile, report};
+use program::Program;
+use rb_bytes::fault::{NoMemory, Refusal};
+use std::alloc::Global;
+
+/// The text of a repaired profile, and the lines that are printed.
+#[derive(Drop)]
+pub struct Outputs {
+    pub profile: Vec<u8>,
+    pub lines: Vec<u8>,
+}
+
+/// Repairs the profile of an input, or says which fault keeps it from that: `TooLarge` for a length, the faults 1 to 17,
+/// or `TooLarge` for the code.
+pub fn repaired(alloc: Global, inputs: &Inputs) -> Result<Outputs, Refusal>
+    requires file { length inputs.now.file.items ≤ file_limit }
+    requires profile { length inputs.now.profile.items ≤ file_limit }
+    ensures made { IfOk result
+        (λ r. IsRepairOf inputs.now.file.items inputs.now.profile.items r.profile.items r.lines.items) }
+    ensures fault { IfErr result (IsRefusalFor (CannotRepair inputs.now.file.items inputs.now.profile.items)) }
+{
+    let program = file_program(alloc, &inputs.file)?;
+    let made = repaired_counts(alloc, &program, &inputs.profile)?;
+    Ok(made)
+}
+
+// Repairs a profile of a program.
+fn repaired_counts(
+    alloc: Global,
+    program: &Program<'_>,
+    profile: &[u8],
+) -> Result<Outputs, NoMemory>
+    requires program { IsFileProgram program.now.elf.file.now (program_seen program.now) }
+    requires profile { length profile.now ≤ file_limit }
+    ensures { IfOk result
+        (λ r. IsRepairOf program.now.elf.file.now profile.now r.profile.items r.lines.items) }
+{
+    let funcs = program.funcs.as_slice();
+    let blocks = program.blocks.as_slice();
+    let targets = jump_tables::tables(alloc, funcs, &program.refs.cells)?;
+    let found = cfg_build::edges(alloc, funcs, blocks, &targets)?;
+    let edges = found.as_slice();
+    let counts = edge_profile::read(alloc, profile, &program.elf, funcs)?;
+    let pairs = counts.pairs();
+    let entry = program.elf.entry;
+    let flow = flow_infer::repair(alloc, funcs, blocks, edges, &program.refs, entry, &counts)?;
+    let profile = repaired_profile(alloc, funcs, blocks, &flow.links, pairs)?;
+    let lines = report(alloc, funcs, blocks, &flow)?;
+    Ok(Outputs { profile, lines })
+}
