@@ -1,0 +1,3 @@
+pub mod LookAnswering
+pub mod LookingUp
+pub mod SampleAnswering

@@ -1,0 +1,13 @@
+//! Commands that make files to look at, and look at files.
+#![tactic(auto)]
+
+mod lines;
+mod looking_up;
+mod sample_args;
+mod sampling;
+mod words;
+
+pub use looking_up::{LookupArgs, lookup};
+pub use sample_args::SampleArgs;
+pub use sampling::sample;
+pub use words::{address, sample_number};
