@@ -4,8 +4,8 @@
     python3 bench/lines.py [--tool COMMAND] [--instructions N] [RUNS]
 
 The files have an eighth, a quarter and a half of N instructions, and all of them: of two bytes each, 96 a function, with
-five rows each in `.debug_line`, which has 16 units with a sequence for each function. With 4,200,000 instructions, if N isn't
-given, that is a file of 64 MiB with 21 million rows. COMMAND (`sudrepka` where it isn't given) rewrites each file, and
+five rows each in `.debug_line`, which has 16 units with a sequence for each function. With 3,840,000 instructions, if N isn't
+given, that is a file of 64 MiB with 19 million rows. COMMAND (`sudrepka` where it isn't given) rewrites each file, and
 the same file without the table; `llvm-dwarfdump --debug-line` prints the table to /dev/null. Each line has the MiB of the
 table before and after, the medians of the processor's seconds and of the peak in MiB, and by how much the seconds and the
 peak of the first grew since the file of half the size.
@@ -74,7 +74,7 @@ def measure(command, runs):
 def main():
     words = argparse.ArgumentParser(description="seconds and memory that a large line table takes")
     words.add_argument("--tool", default="sudrepka", help="the command that takes `rewrite ..`")
-    words.add_argument("--instructions", type=int, default=4_200_000)
+    words.add_argument("--instructions", type=int, default=3_840_000)
     words.add_argument("--write", nargs=2, help=argparse.SUPPRESS)
     words.add_argument("runs", type=int, nargs="?", default=3)
     given = words.parse_args()
