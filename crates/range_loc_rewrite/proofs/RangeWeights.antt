@@ -177,7 +177,7 @@ group_says s spans covers kept runs held free seen holds within answers r there 
     are.answers p
     ∙ ap if_held (group_owner s spans covers kept runs holds (kept_ascend s covers kept seen (places_ascend s.units (units_free s free))) within answers r there p)
 
-within_there : (n : ℕ) (xs : List RangedEntry) (r : RangedEntry) → AreWithin n xs → Contains xs r → r.group < n
+pub within_there : (n : ℕ) (xs : List RangedEntry) (r : RangedEntry) → AreWithin n xs → Contains xs r → r.group < n
 within_there n [] r w c = absurd (Contains-nil r c)
 within_there n (x ∷ xs) r w c = ⊎_elim
     (λ (is : x ≡ r). subst (λ (y : RangedEntry). y.group < n) is (All-head (λ (r : RangedEntry). r.group < n) x xs w))

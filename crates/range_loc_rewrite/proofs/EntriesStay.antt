@@ -1,0 +1,257 @@
+-- Each entry of a written file has ranges where the entry that it was made of has them, and names a list that can be read.
+use Rattle.std.proofs.Common.{◌≡◌, ◌∙◌, ◌+◌, ◌*◌, ◌<◌, ◌==◌, ◌&&◌, ◌||◌, ◌∷◌, [], ℕ, Bool, true, false, List, Option, Some, None}
+use Rattle.std.proofs.Common.{refl, sym, ap, subst, arith, length, map, All, ⊎_elim}
+use Rattle.std.specs.Prelude.{flat_map, Contains, option_and_then, option_map, if◌then◌else◌, is_some, unwrap_or}
+use Rattle.std.specs.Global.{Vec}
+use Rattle.std.specs.List.{AllZip}
+use Rattle.std.specs.Option.{option_map_or}
+use Rattle.std.proofs.lemmas.Bool.{eqb-true, eq-eqb}
+use Rattle.rb_bytes.proofs.Members.{Contains-nil}
+use Rattle.addr_map.specs.declared.span.Span.{Span}
+use Rattle.addr_map.specs.Spans.{owner}
+use Rattle.table_core.specs.declared.range.Range.{Range}
+use Rattle.table_core.specs.declared.run.Run.{Run}
+use Rattle.table_core.specs.declared.written.ListAt.{ListAt}
+use Rattle.table_core.specs.AnswerRuns.{run_at}
+use Rattle.table_core.specs.ReadSteps.{first_of}
+use Rattle.table_core.proofs.UnitsBack.{IsUnit, units_bytes}
+use Rattle.dw_unit.specs.declared.entry.Attr.{Attr}
+use Rattle.dw_unit.specs.CompUnits.{Entry, Unit, attr, base, number_in, low_pc, may_repeat}
+use Rattle.dw_unit.specs.Changes.{is_own, is_first_of}
+use Rattle.dw_unit.specs.ChangedEntries.{IsChangedEntry}
+use Rattle.dw_unit.specs.EntryMoves.{Moves, new_list_offset}
+use Rattle.dw_unit.proofs.NamedOffsets.{Ascends}
+use Rattle.dw_unit.proofs.SoundEntries.{IsSoundEntry, AreSoundUnits}
+use Rattle.range_loc_rewrite.specs.declared.cover_tree.Cover.{Cover}
+use Rattle.range_loc_rewrite.specs.declared.groups.RangedEntry.{RangedEntry}
+use Rattle.range_loc_rewrite.specs.declared.list_kind.ListKind.TheVariants as kind
+use Rattle.range_loc_rewrite.specs.Faults.{ListSections}
+use Rattle.range_loc_rewrite.specs.GroupRuns.{runs_in, holds_some, if_held}
+use Rattle.range_loc_rewrite.specs.Groups.{group_holds, ranges_in}
+use Rattle.range_loc_rewrite.specs.KnownLists.{range_list}
+use Rattle.range_loc_rewrite.specs.ListBytes.{IsWritable}
+use Rattle.range_loc_rewrite.specs.Lists.{Located, ranges_kind, has_list, list_offset}
+use Rattle.range_loc_rewrite.specs.Ranges.{ranges_of, hold, up_to}
+use Rattle.range_loc_rewrite.specs.UnitLists.{own_place}
+use Rattle.range_loc_rewrite.specs.WrittenRanges.{bounded, group_bytes, StandsAt, IsNamed}
+use Rattle.range_loc_rewrite.proofs.ChangedAttrs.{changed, for_high, new_high, from_high, from_ranges, from_base}
+use Rattle.range_loc_rewrite.proofs.KeptLookups.{IsFound, kept_entry, same_index, sound_at, no_bounds, all_of, place_of}
+use Rattle.range_loc_rewrite.proofs.KeptPairs.{AllPaired}
+use Rattle.range_loc_rewrite.proofs.ListsThere.{list_inside, offset_there}
+use Rattle.range_loc_rewrite.proofs.OwnRanges.{listed_ranges, of_offset, own_bounds}
+use Rattle.range_loc_rewrite.proofs.RangesStay.{found_name, found_there, held_by, fine_by, SoundTests, tests_of, new_offset, kept_index, new_base, plain_offset, index_offset}
+use Rattle.range_loc_rewrite.proofs.SoundLists.{IsFine, AreFine, flat_contains}
+
+pub record Stays (s t : ListSections) (spans : List Span) (u v : Unit) (d e : Entry) : Type 0 where
+  pub held : (p o : ℕ) → owner spans p ≡ Some o → hold (ranges_of t v e) p ≡ hold (ranges_of s u d) o
+  pub fine : AreFine t v e.attrs
+
+some_if : (b : Bool) → is_some (if_held b) ≡ b
+some_if true = refl
+some_if false = refl
+
+-- an entry with a high address has ranges
+high_some : (s : ListSections) (u : Unit) (d : Entry) (h : Attr) → attr 0x12 d ≡ Some h → is_some (low_pc s.units.addr u d) ≡ true → ranges_of s u d ≡ None → ⊥
+high_some s u d h is some none = by_low (low_pc s.units.addr u d) refl some
+  where
+    clash : (r : List Range) → Some r ≡ None → ⊥
+    clash r e = cc
+
+    by_low : (o : Option ℕ) → low_pc s.units.addr u d ≡ o → is_some o ≡ true → ⊥
+    by_low None f g = absurd (cc)
+    by_low (Some l) f g =
+        clash (up_to l h ∷ []) (sym (own_bounds s u d (up_to l h)
+        (λ i. option_and_then (λ high. option_map (λ low. up_to low high) (f i)) (is i))) ∙ none)
+
+-- and so has one with a list that can be read
+list_some : (s : ListSections) (u : Unit) (d : Entry) (a : Attr) → attr 0x12 d ≡ None → attr 0x55 d ≡ Some a → IsFine s u a → ranges_of s u d ≡ None → ⊥
+list_some s u d a high is fine none =
+    by_list (range_list s u fine.at) refl fine.read
+    (sym (no_bounds s u d high ∙ ap (listed_ranges s u) is ∙ of_offset s u a (Some fine.at) fine.offset) ∙ none)
+  where
+    by_list : (o : Option (List Located)) → range_list s u fine.at ≡ o → is_some o ≡ true → option_map ranges_in (range_list s u fine.at) ≡ None → ⊥
+    by_list None f g e = absurd (cc)
+    by_list (Some ls) f g e = let x : Some (ranges_in ls) ≡ None = sym (ap (option_map ranges_in) f) ∙ e in absurd (cc)
+
+-- the first of entries one by one
+record OwnPair (R : Entry → Entry → Type 0) (xs ys : List Entry) : Type 0 where
+  pub d : Entry
+  pub e : Entry
+  pub old : first_of xs ≡ Some d
+  pub new : first_of ys ≡ Some e
+  pub are : R d e
+  pub there : Contains xs d
+
+own_pair : (R : Entry → Entry → Type 0) (xs ys : List Entry) (x : Entry) → AllZip R xs ys → Contains xs x → OwnPair R xs ys
+own_pair R [] ys x z c = absurd (Contains-nil x c)
+own_pair R (d ∷ xs) [] x z c = absurd z
+own_pair R (d ∷ xs) (e ∷ ys) x z c = record { d = d; e = e; old = refl; new = refl; are = z.0; there = (0, omega arith, refl) }
+
+module _ (s t : ListSections) (tables : List (List ℕ)) (tables_are : All (IsUnit 5) tables) (ranges_are : t.ranges ≡ units_bytes tables) (spans : List Span)
+    (covers : List Cover) (kept : List RangedEntry) (lists : List (Vec (Run Bool))) (names : List ListAt) (m : Moves)
+    (given : (e attr o : ℕ) → new_list_offset names e attr ≡ Some o → new_list_offset m.lists e attr ≡ Some o)
+    (named : (r : RangedEntry) → Contains kept r → IsNamed lists tables names kept r r.index)
+    (says : (r : RangedEntry) → Contains kept r → (p : ℕ) → run_at (runs_in lists r.group) p ≡ if_held (holds_some covers r.group (owner spans p)))
+    (writable : (r : RangedEntry) → Contains kept r → All (IsWritable kind.Ranges) (map bounded (runs_in lists r.group)))
+    (us : List Unit) (pairs : AllPaired s covers us kept) (sound_old : AreSoundUnits s.units.addr us) (up : Ascends 0 (map place_of (all_of us)))
+    (fine_old : (u : Unit) → Contains us u → AreFine s u (flat_map (λ (e : Entry). e.attrs) u.entries))
+    (u v : Unit) (uc : Contains us u)
+    (zip : AllZip (λ x y. IsChangedEntry s.units t.units.info m (is_first_of u x) x y) u.entries v.entries) where
+  -- the new base of indexes
+  base_by : (d : Entry) → Contains u.entries d → (r : RangedEntry) → r.own ≡ own_place u → is_some (base 0x74 u) ≡ true → (b : ℕ) →
+      new_list_offset m.lists r.own 0x74 ≡ Some b → base 0x74 v ≡ Some b
+  base_by d dc r own some b offset = by_base (attr 0x74 w.d) refl
+    where
+      w : OwnPair (λ x y. IsChangedEntry s.units t.units.info m (is_first_of u x) x y) u.entries v.entries
+      w = own_pair _ u.entries v.entries d zip dc
+
+      first : is_first_of u w.d ≡ true
+      first = ap (λ (o : Option Entry). option_map_or (λ (f : Entry). f.place == w.d.place) o false) w.old ∙ eq-eqb w.d.place w.d.place refl
+
+      place : r.own ≡ w.d.place
+      place = own ∙ ap (λ (o : Option Entry). option_map_or (λ (e : Entry). e.place) o 0) w.old
+
+      based : base 0x74 u ≡ option_map (λ (a : Attr). a.value) (attr 0x74 w.d)
+      based = ap (λ (o : Option Entry). option_map (λ (a : Attr). a.value) (option_and_then (attr 0x74) o)) w.old
+
+      by_base : (o : Option Attr) → attr 0x74 w.d ≡ o → base 0x74 v ≡ Some b
+      by_base None is = let f : true ≡ false = sym some ∙ ap is_some (based ∙ ap (option_map (λ (a : Attr). a.value)) is) in absurd (cc)
+      by_base (Some a) is =
+          let tests : SoundTests s.units.addr u a = tests_of s.units.addr u w.d 0x74 a (sound_at s.units.addr us u w.d sound_old uc w.there) is in
+          let name : a.name ≡ 0x74 = found_name 0x74 w.d.attrs a is in
+          let form : a.form ≡ 0x17 = eqb-true a.form 0x17 (tests.bases (eq-eqb a.name 0x74 name)) in
+          let own_decl : Bool = is_own s.units w.d.declaration in
+          ap (λ (o : Option Entry). option_map (λ (a : Attr). a.value) (option_and_then (attr 0x74) o)) w.new
+          ∙ ap (option_map (λ (a : Attr). a.value))
+          (from_base s.units t.units.info m (is_first_of u w.d) w.d w.e w.are ∙ ap (option_map (changed m own_decl (is_first_of u w.d) w.d)) is)
+          ∙ ap (λ (b : Bool). Some (changed m own_decl b w.d a).value) first
+          ∙ ap (λ (n : ℕ). Some n) (new_base m own_decl w.d a b name form (subst (λ (n : ℕ). new_list_offset m.lists n 0x74 ≡ Some b) place offset))
+
+  module _ (d e : Entry) (dc : Contains u.entries d) (c : IsChangedEntry s.units t.units.info m (is_first_of u d) d e) (sound : IsSoundEntry t.units.addr v e) where
+    abbrev own : Bool
+    own = is_own s.units d.declaration
+
+    none_high : attr 0x12 e ≡ None
+    none_high = new_high s.units t.units.info m (is_first_of u d) d e c
+
+    -- its list stands in a table
+    stays_by : (a : Attr) → attr 0x55 e ≡ Some a → (at : ℕ) → list_offset ranges_kind t.ranges v a ≡ Some at → (r : RangedEntry) → Contains kept r →
+        StandsAt tables at (group_bytes lists r.group) → ((x : ℕ) → group_holds covers r.group x ≡ hold (ranges_of s u d) x) → Stays s t spans u v d e
+    stays_by a is at offset r rc stands same = record {
+      held = λ p o owned.
+          held_by t v e tables tables_are ranges_are none_high sound a is at offset lists r.group stands (writable r rc) p
+          ∙ ap is_some (says r rc p) ∙ some_if (holds_some covers r.group (owner spans p)) ∙ ap (holds_some covers r.group) owned ∙ same o;
+      fine = fine_by t v e tables tables_are ranges_are none_high sound a is at offset lists r.group stands (writable r rc);
+    }
+
+    inside : (at : ℕ) (g : ℕ) → StandsAt tables at (group_bytes lists g) → at < length t.ranges
+    inside at g stands =
+        subst (λ (l : List ℕ). at < length l) (sym ranges_are) (list_inside kind.Ranges tables at (map bounded (runs_in lists g)) stands tables_are)
+
+    -- it had a high address
+    stays_high : (h : Attr) → attr 0x12 d ≡ Some h → IsFound s covers u d kept → Stays s t spans u v d e
+    stays_high h is f =
+        let old = sound_at s.units.addr us u d sound_old uc dc in
+        let none : attr 0x55 d ≡ None = old.ranges h is in
+        let index : f.r.index ≡ None =
+        f.kept_as.index ∙ ap (λ (o : Option Attr). option_and_then (λ (a : Attr). if a.form == 0x23 then Some a.value else None) o) none in
+        let n = subst (IsNamed lists tables names kept f.r) index (named f.r f.there) in
+        let offset : new_list_offset m.lists d.place 0x55 ≡ Some n.0 =
+        subst (λ (k : ℕ). new_list_offset m.lists k 0x55 ≡ Some n.0) f.kept_as.place (given f.r.place 0x55 n.0 n.1) in
+        stays_by (for_high m own (is_first_of u d) d h) (from_high s.units t.units.info m (is_first_of u d) d e c h is none) n.0
+        (plain_offset t.ranges v (for_high m own (is_first_of u d) d h) n.0 refl (ap (λ (o : Option ℕ). unwrap_or o 0) offset) (inside n.0 f.r.group n.2))
+        f.r f.there n.2 f.kept_as.held
+
+    module _ (high : attr 0x12 d ≡ None) (a : Attr) (is : attr 0x55 d ≡ Some a) where
+      abbrev new : Attr
+      new = changed m own (is_first_of u d) d a
+
+      name : a.name ≡ 0x55
+      name = found_name 0x55 d.attrs a is
+
+      new_is : attr 0x55 e ≡ Some new
+      new_is = from_ranges s.units t.units.info m (is_first_of u d) d e c high ∙ ap (option_map (changed m own (is_first_of u d) d)) is
+
+      -- it had a list that was named by its offset
+      stays_offset : a.form ≡ 0x17 → IsFound s covers u d kept → Stays s t spans u v d e
+      stays_offset form f =
+          let index : f.r.index ≡ None =
+          f.kept_as.index ∙ ap (λ (o : Option Attr). option_and_then (λ (a : Attr). if a.form == 0x23 then Some a.value else None) o) is
+          ∙ ap (λ (k : ℕ). if k == 0x23 then Some a.value else None) form in
+          let n = subst (IsNamed lists tables names kept f.r) index (named f.r f.there) in
+          let offset : new_list_offset m.lists d.place 0x55 ≡ Some n.0 =
+          subst (λ (k : ℕ). new_list_offset m.lists k 0x55 ≡ Some n.0) f.kept_as.place (given f.r.place 0x55 n.0 n.1) in
+          stays_by new new_is n.0
+          (plain_offset t.ranges v new n.0 form (new_offset m own (is_first_of u d) d a n.0 name form offset) (inside n.0 f.r.group n.2)) f.r f.there n.2 f.kept_as.held
+
+      -- it had one that was named by an index
+      stays_index : a.form ≡ 0x23 → IsFound s covers u d kept → Stays s t spans u v d e
+      stays_index form f =
+          let old = sound_at s.units.addr us u d sound_old uc dc in
+          let tests : SoundTests s.units.addr u a = tests_of s.units.addr u d 0x55 a old is in
+          let index : f.r.index ≡ Some a.value =
+          f.kept_as.index ∙ ap (λ (o : Option Attr). option_and_then (λ (a : Attr). if a.form == 0x23 then Some a.value else None) o) is
+          ∙ ap (λ (k : ℕ). if k == 0x23 then Some a.value else None) form in
+          let n = subst (IsNamed lists tables names kept f.r) index (named f.r f.there) in
+          let based : base 0x74 v ≡ Some n.0 =
+          base_by d dc f.r f.kept_as.own (tests.index (eq-eqb a.form 0x23 form)) n.0 (given f.r.own 0x74 n.0 n.3) in
+          let there = subst (λ (l : List ℕ). number_in 4 (n.0 + 4 * a.value) l ≡ Some n.1) (sym ranges_are) (offset_there tables (n.0 + 4 * a.value) n.1 n.4 tables_are n.5) in
+          stays_by new new_is (n.0 + n.1)
+          (index_offset t.ranges v new a.value n.0 n.1 form (kept_index m own (is_first_of u d) d a name form) based there (inside (n.0 + n.1) n.2.group n.9))
+          n.2 n.8 n.9
+          (λ x. same_index s covers us kept f.r n.2 a.value pairs sound_old up f.there n.8 (sym n.6) index n.7 x ∙ f.kept_as.held x)
+
+      stays_list : Stays s t spans u v d e
+      stays_list =
+          let old = sound_at s.units.addr us u d sound_old uc dc in
+          let tests : SoundTests s.units.addr u a = tests_of s.units.addr u d 0x55 a old is in
+          let forms = tests.ranges (eq-eqb a.name 0x55 name) in
+          let lists_it : has_list ranges_kind a ≡ true = both (a.name == 0x55) (a.form == 0x17 || a.form == 0x23) (eq-eqb a.name 0x55 name) forms in
+          let fine : IsFine s u a = fine_old u uc a (flat_contains u.entries d a dc (found_there 0x55 d.attrs a is)) lists_it in
+          ⊎_elim
+          (λ (none : ranges_of s u d ≡ None). absurd (list_some s u d a high is fine none))
+          (λ (f : IsFound s covers u d kept). by_form (a.form == 0x17) (a.form == 0x23) refl refl forms f)
+          (kept_entry s covers us kept u d pairs uc dc)
+        where
+          both : (x y : Bool) → x ≡ true → y ≡ true → (x && y) ≡ true
+          both true y f g = g
+          both false y f g = absurd (cc)
+
+          by_form : (x y : Bool) → (a.form == 0x17) ≡ x → (a.form == 0x23) ≡ y → (x || y) ≡ true → IsFound s covers u d kept → Stays s t spans u v d e
+          by_form true y f g h k = stays_offset (eqb-true a.form 0x17 f) k
+          by_form false true f g h k = stays_index (eqb-true a.form 0x23 g) k
+          by_form false false f g h k = absurd (cc)
+
+    -- it has no ranges
+    stays_none : attr 0x12 d ≡ None → attr 0x55 d ≡ None → Stays s t spans u v d e
+    stays_none high none =
+        let new : attr 0x55 e ≡ None = from_ranges s.units t.units.info m (is_first_of u d) d e c high ∙ ap (option_map (changed m own (is_first_of u d) d)) none in
+        record {
+          held = λ p o owned. ap (λ (x : Option (List Range)). hold x p) (no_bounds t v e none_high ∙ ap (listed_ranges t v) new)
+              ∙ sym (ap (λ (x : Option (List Range)). hold x o) (no_bounds s u d high ∙ ap (listed_ranges s u) none));
+          fine = λ x xc h. absurd (clash x xc h new);
+        }
+      where
+        first : (b f : Bool) → (b && f) ≡ true → b ≡ true
+        first true f g = refl
+        first false f g = absurd (cc)
+
+        clash : (x : Attr) → Contains e.attrs x → has_list ranges_kind x ≡ true → attr 0x55 e ≡ None → ⊥
+        clash x xc h new =
+            let name : x.name ≡ 0x55 = eqb-true x.name 0x55 (first (x.name == 0x55) (x.form == 0x17 || x.form == 0x23) h) in
+            let f : None ≡ Some x = sym new ∙ subst (λ (n : ℕ). attr n e ≡ Some x) name (sound.sole x xc (ap may_repeat name)) in
+            absurd (cc)
+
+    pub stays : Stays s t spans u v d e
+    stays = by_high (attr 0x12 d) refl
+      where
+        by_ranges : attr 0x12 d ≡ None → (o : Option Attr) → attr 0x55 d ≡ o → Stays s t spans u v d e
+        by_ranges high None is = stays_none high is
+        by_ranges high (Some a) is = stays_list high a is
+
+        by_high : (o : Option Attr) → attr 0x12 d ≡ o → Stays s t spans u v d e
+        by_high None is = by_ranges is (attr 0x55 d) refl
+        by_high (Some h) is = ⊎_elim
+            (λ (none : ranges_of s u d ≡ None). absurd (high_some s u d h is ((sound_at s.units.addr us u d sound_old uc dc).low h is) none))
+            (λ (f : IsFound s covers u d kept). stays_high h is f)
+            (kept_entry s covers us kept u d pairs uc dc)
