@@ -31,9 +31,8 @@ pub record AreUnitsKept (spans : List Span) (lists : List ListAt) (i f : Elf) : 
 -- the debug sections that are written anew, and those that are left out
 abbrev pub written_names : List (List ℕ)
 written_names =
-    codes ".debug_info" ∷ codes ".debug_abbrev" ∷ codes ".debug_addr" ∷ codes ".debug_line" ∷ codes ".debug_rnglists"
-    ∷ codes ".debug_loclists"
-    ∷ codes ".debug_aranges" ∷ codes ".debug_frame" ∷ []
+    codes ".debug_info" ∷ codes ".debug_abbrev" ∷ codes ".debug_addr" ∷ codes ".debug_line" ∷ codes ".debug_loclists"
+    ∷ codes ".debug_aranges" ∷ codes ".debug_frame" ∷ codes ".debug_rnglists" ∷ []
 
 abbrev pub dropped_names : List (List ℕ)
 dropped_names = codes ".debug_macro" ∷ []

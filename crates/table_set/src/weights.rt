@@ -1,0 +1,56 @@
+// The weights of tables that would be written.
+ghost use Rattle.std.specs.Prelude.{◌≡◌, AllPairs, IfOk, IsTrue, false};
+ghost use Rattle.rb_bytes.specs.FirstFault.{IsFree};
+ghost use Rattle.addr_map.specs.MapText.{IsLineBefore};
+ghost use Rattle.addr_map.specs.Spans.{ShareNoByte};
+ghost use Rattle.table_core.specs.AnswerRuns.{AreLow};
+ghost use Rattle.dw_unit.specs.Faults.{HasDwarfFault, unit_fault_places};
+ghost use Rattle.dw_unit.specs.Tables.{sections_of};
+ghost use Rattle.table_set.specs.AllTables.{AllComeFrom};
+ghost use Rattle.table_set.specs.TableLimits.{IsTooHeavy};
+
+use crate::all::AllTables;
+use addr_map::AddrMap;
+use dw_unit::abbrev_weight;
+use elf_image::Elf;
+use rb_bytes::fault::NoMemory;
+use std::alloc::Global;
+use table_core::AddrTable;
+
+// The greatest weight of a table that is written.
+const WEIGHT_LIMIT: u64 = 4_000_000_000;
+
+/// Whether a table would weigh too much, written for a map; or the declarations of its units.
+pub fn is_too_heavy(
+    alloc: Global,
+    elf: &Elf<'_>,
+    tables: &AllTables,
+    map: &AddrMap,
+) -> Result<bool, NoMemory>
+    requires comes { AllComeFrom tables.now elf.now }
+    requires ordered { AllPairs IsLineBefore map.now }
+    requires disjoint { AllPairs ShareNoByte map.now }
+    requires low { AreLow map.now }
+    requires sound { IsFree (HasDwarfFault (unit_fault_places (sections_of elf.now))) }
+    ensures heavy { IfOk result (λ heavy. IsTrue heavy → IsTooHeavy elf.now map.now) }
+    ensures light { IfOk result (λ heavy. heavy ≡ false → IsTooHeavy elf.now map.now → ⊥) }
+{
+    let lines = tables.lines.weight(alloc, map)?;
+    if lines > WEIGHT_LIMIT {
+        return Ok(true);
+    }
+    let ranges = tables.ranges.weight(alloc, map)?;
+    if ranges > WEIGHT_LIMIT {
+        return Ok(true);
+    }
+    let places = tables.places.weight(alloc, map)?;
+    if places > WEIGHT_LIMIT {
+        return Ok(true);
+    }
+    let aranges = tables.aranges.weight(alloc, map)?;
+    if aranges > WEIGHT_LIMIT {
+        return Ok(true);
+    }
+    let abbrevs = abbrev_weight(alloc, elf)?;
+    Ok(abbrevs > WEIGHT_LIMIT)
+}
