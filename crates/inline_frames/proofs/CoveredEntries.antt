@@ -12,7 +12,7 @@ use Rattle.dw_unit.specs.CompUnits.{Entry, Unit, units}
 use Rattle.dw_unit.specs.Faults.{HasDwarfFault, unit_fault_places}
 use Rattle.range_loc_rewrite.specs.Faults.{ListSections}
 use Rattle.range_loc_rewrite.specs.Ranges.{Ranged, ranges_of, ranged_from, ranged_in, ranged, hold, covers}
-use Rattle.inline_frames.proofs.Pairs.{AllOf}
+use Rattle.inline_frames.proofs.Pairs.{AllOf, map_all}
 
 -- Entries that ascend by their places
 
@@ -124,10 +124,6 @@ of_ranged : (s : ListSections) (a : ℕ) (own : Entry → Option (List Range)) (
     AllOf (λ (e : Entry). covers s e.place a ≡ hold (own e) a) es
 of_ranged s a own before [] h = tt
 of_ranged s a own before (e ∷ es) h = (h.0, of_ranged s a own (e ∷ before) es h.1)
-
-map_all : {A : Type 0} (P Q : A → Type 0) → ((x : A) → P x → Q x) → (xs : List A) → AllOf P xs → AllOf Q xs
-map_all P Q to [] h = tt
-map_all P Q to (x ∷ xs) h = (to x h.0, map_all P Q to xs h.1)
 
 -- an entry of a unit covers what its ranges hold
 abbrev pub Covered : ListSections → ℕ → Unit → Type 0

@@ -10,6 +10,10 @@ abbrev pub AllOf : {A : Type 0} → (A → Type 0) → List A → Type 0
 AllOf P [] = Unit {0}
 AllOf P (x ∷ xs) = P x × AllOf P xs
 
+pub map_all : {A : Type 0} (P Q : A → Type 0) → ((x : A) → P x → Q x) → (xs : List A) → AllOf P xs → AllOf Q xs
+map_all P Q to [] h = tt
+map_all P Q to (x ∷ xs) h = (to x h.0, map_all P Q to xs h.1)
+
 pub map_each : {A B : Type 0} (R S : A → B → Type 0) → ((x : A) (y : B) → R x y → S x y) → (xs : List A) (ys : List B) →
     AllZip R xs ys → AllZip S xs ys
 map_each R S to [] [] h = tt

@@ -2,3 +2,9 @@ pub mod Names
 pub mod Chains
 pub mod Frames
 pub mod Faults
+pub mod Naming
+pub mod Links
+pub mod UnitChains
+pub mod FileChains
+pub mod Following
+pub mod Positions

@@ -1,13 +1,27 @@
 // The functions that an address belongs to.
-ghost use Rattle.std.specs.Prelude.{◌≡◌, IfOk, IfErr, OnOk};
+ghost use Rattle.std.specs.Prelude.{◌≡◌, IfOk, IfErr, OnOk, length, map};
 ghost use Rattle.rb_bytes.specs.FirstFault.{IsFree, IsRefusalBy};
+ghost use Rattle.table_set.specs.AllTables.{DebugTablesComeFrom};
+ghost use Rattle.table_set.specs.TableFaults.{HasDebugFault};
 ghost use Rattle.inline_frames.specs.Faults.{HasChainFault};
 ghost use Rattle.inline_frames.specs.Frames as spec;
+ghost use Rattle.inline_frames.specs.Names.{NameSections};
+ghost use Rattle.inline_frames.specs.Positions.{frame_at, link_frames};
 
+use crate::follow::resolved;
+use crate::link::Link;
+use crate::naming::Naming;
+use crate::position::{Position, call_position, or_unknown, row_position};
+use crate::text::{Texts, text_named};
+use crate::walk::{covering_places, file_links};
+use dw_unit::UnitReader;
 use elf_image::Elf;
-use rb_bytes::fault::Refusal;
+use line_rewrite::Lines;
+use rb_bytes::fault::{NoMemory, Refusal};
 use std::alloc::Global;
 use std::marker::Model;
+use table_core::section::contents_of;
+use table_set::{DebugTables, read_debug};
 
 /// A function, and where control is in it.
 #[derive(Drop)]
@@ -29,11 +43,95 @@ impl Model for Frame {
     ghost view = { λ f. record { name = f.name.items; path = f.path.items; line = f.line; column = f.column } };
 }
 
+fn namings_of(alloc: Global, links: &[Link]) -> Result<Vec<Naming>, NoMemory>
+    ensures { IfOk result (λ ns. ns.items ≡ map (λ l. l.naming) links.now) }
+{
+    let mut namings = Vec::new(alloc);
+    for link in links {
+        namings.push(link.naming)?;
+    }
+    Ok(namings)
+}
+
+fn frame_of(
+    alloc: Global,
+    texts: Texts<'_>,
+    naming: Naming,
+    position: Position,
+) -> Result<Frame, NoMemory>
+    ensures { IfOk result (λ f. (s : NameSections) → s.units.info ≡ texts.entry.info.now → s.str ≡ texts.entry.str.now →
+        s.line_str ≡ texts.entry.line_str.now → f ≡ frame_at s position naming) }
+{
+    let text = text_named(alloc, texts, naming)?;
+    let name = or_unknown(alloc, text)?;
+    Ok(Frame {
+        name,
+        path: position.path,
+        line: position.line,
+        column: position.column,
+    })
+}
+
+// The frames of some links, the first of them at a position.
+fn frames_from(
+    alloc: Global,
+    lines: &Lines,
+    texts: Texts<'_>,
+    first: Position,
+    links: &[Link],
+    namings: &[Naming],
+) -> Result<Vec<Frame>, NoMemory>
+    requires { length namings.now ≡ length links.now }
+    ensures { IfOk result (λ fs. (s : NameSections) → s.units.info ≡ texts.entry.info.now → s.str ≡ texts.entry.str.now →
+        s.line_str ≡ texts.entry.line_str.now → fs.items ≡ link_frames lines.now s first links.now namings.now) }
+{
+    let mut frames = Vec::new(alloc);
+    let mut position = first;
+    for number in 0..links.len() {
+        let next = call_position(alloc, lines, links[number])?;
+        let frame = frame_of(alloc, texts, namings[number], position)?;
+        frames.push(frame)?;
+        position = next;
+    }
+    Ok(frames)
+}
+
+fn frames_in(
+    alloc: Global,
+    elf: &Elf<'_>,
+    tables: &DebugTables,
+    a: u64,
+) -> Result<Vec<Frame>, NoMemory>
+    requires comes { DebugTablesComeFrom tables.now elf.now }
+    requires free { IsFree (HasDebugFault elf.now) }
+    ensures { IfOk result (λ fs. fs.items ≡ spec.frames elf.now a) }
+{
+    let info = contents_of(elf, b".debug_info");
+    let abbrevs = contents_of(elf, b".debug_abbrev");
+    let addr = contents_of(elf, b".debug_addr");
+    let str_offsets = contents_of(elf, b".debug_str_offsets");
+    let reader = UnitReader::new(alloc, info, abbrevs, addr)?;
+    let covering = covering_places(alloc, &tables.ranges, a)?;
+    let links = file_links(alloc, &reader, str_offsets, &covering)?;
+    let own = namings_of(alloc, &links)?;
+    let namings = resolved(alloc, &reader, str_offsets, own)?;
+    let texts = Texts {
+        info,
+        str: contents_of(elf, b".debug_str"),
+        line_str: contents_of(elf, b".debug_line_str"),
+    };
+    let first = row_position(alloc, &tables.lines, a)?;
+    let frames = frames_from(alloc, &tables.lines, texts, first, &links, &namings)?;
+    Ok(frames)
+}
+
 /// The functions of an address, from the innermost inlined one out to one that isn't inlined.
-pub fn frames(_alloc: Global, elf: &Elf<'_>, a: u64) -> Result<Vec<Frame>, Refusal>
+pub fn frames(alloc: Global, elf: &Elf<'_>, a: u64) -> Result<Vec<Frame>, Refusal>
     ensures frames { IfOk result (λ fs. fs.items ≡ spec.frames elf.now a) }
     ensures sound { OnOk result (IsFree (HasChainFault elf.now)) }
     ensures fault { IfErr result (IsRefusalBy (HasChainFault elf.now)) }
 {
-    Err(Refusal::Memory)
+    let tables = read_debug(alloc, elf)?;
+    let frames = frames_in(alloc, elf, &tables, a)?;
+    Ok(frames)
 }

@@ -1,8 +1,14 @@
-//! The functions that an address belongs to, inlined ones among them: so far their definition, and the contract of what
-//! finds them.
+//! The functions that an address belongs to, inlined ones among them.
 #![tactic(auto)]
 
 mod chain;
+mod follow;
+mod link;
+mod naming;
+mod position;
 mod tag;
+mod text;
+mod unit_chain;
+mod walk;
 
 pub use chain::{Frame, frames};

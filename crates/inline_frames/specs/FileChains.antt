@@ -1,0 +1,31 @@
+-- The chain of a file, unit by unit.
+use Rattle.std.specs.Prelude.{◌≡◌, ℕ, false, List, [], ◌∷◌, map, slice_get, Some}
+use Rattle.std.specs.BTreeSet.{BTreeSet}
+use Rattle.table_core.specs.DebugUnits.{Walked}
+use Rattle.table_core.specs.ReadSteps.{oks}
+use Rattle.dw_unit.specs.CompUnits.{Unit, unit_of}
+use Rattle.dw_unit.specs.Faults.{fails, is_sound_unit}
+use Rattle.dw_unit.specs.ListedEntries.{ListedEntry, listed}
+use Rattle.inline_frames.specs.UnitChains.{link_in, unit_chain}
+use Rattle.inline_frames.specs.declared.link.Link.{Link}
+
+-- each unit can be read, and is sound
+abbrev pub AreReadable : (abbrevs addr : List ℕ) → List Walked → Type 0
+AreReadable abbrevs addr ws = (n : ℕ) (w : Walked) → slice_get ws n ≡ Some w → fails (is_sound_unit addr) (unit_of abbrevs w) ≡ false
+
+-- the entries of each unit
+abbrev pub listed_units : List ℕ → List Walked → List (List ListedEntry)
+listed_units abbrevs ws = map (λ (u : Unit). map listed u.entries) (oks (map (unit_of abbrevs) ws))
+
+abbrev pub unit_links : List ℕ → BTreeSet ℕ → List ListedEntry → List Link
+unit_links str_offsets covering es = map (link_in str_offsets es) (unit_chain covering es)
+
+abbrev pub or_before : List Link → List Link → List Link
+or_before [] before = before
+or_before (l ∷ ls) before = l ∷ ls
+
+-- the last unit that has some
+abbrev pub file_links : List ℕ → BTreeSet ℕ → List Link → List (List ListedEntry) → List Link
+file_links str_offsets covering found [] = found
+file_links str_offsets covering found (es ∷ units) =
+    file_links str_offsets covering (or_before (unit_links str_offsets covering es) found) units

@@ -1,0 +1,86 @@
+-- How names are found by following references, one after another.
+use Rattle.std.specs.Prelude.{◌+◌, ◌-◌, ◌*◌, ◌==◌, ◌&&◌, ℕ, zero, suc, List, drop, nat_le, take, if◌then◌else◌, Option, Some, None, option_and_then}
+use Rattle.std.specs.Prelude.{option_map}
+use Rattle.std.specs.List.{find}
+use Rattle.std.specs.Option.{option_or}
+use Rattle.table_core.specs.declared.form.TheConstants.{DW_FORM_string, DW_FORM_strp, DW_FORM_line_strp}
+use Rattle.table_core.specs.declared.form.TheConstants.{DW_FORM_ref_addr, DW_FORM_ref_udata}
+use Rattle.table_core.specs.AttributeForms.{is_text_index}
+use Rattle.table_core.specs.Texts.{text_in}
+use Rattle.dw_unit.specs.declared.attribute.TheConstants.{DW_AT_name, DW_AT_abstract_origin, DW_AT_specification}
+use Rattle.dw_unit.specs.declared.attribute.TheConstants.{DW_AT_str_offsets_base}
+use Rattle.dw_unit.specs.declared.entry.Attr.{Attr}
+use Rattle.dw_unit.specs.CompUnits.{Entry, base, entries, number_in}
+use Rattle.inline_frames.specs.Names.{NameSections, unit_of_entry}
+use Rattle.inline_frames.specs.declared.naming.Naming.{Naming}
+use Rattle.inline_frames.specs.declared.naming.Naming.TheVariants.{Named, Refers}
+use Rattle.inline_frames.specs.declared.naming.TextPlace.{TextPlace}
+use Rattle.inline_frames.specs.declared.naming.TextPlace.TheVariants.{InInfo, InStr, InLineStr}
+
+abbrev pub attr_in : ℕ → List Attr → Option Attr
+attr_in name attrs = find (λ (a : Attr). a.name == name) attrs
+
+-- where the text of an attribute stands, by the base of its unit's indices
+abbrev pub index_place : List ℕ → Option ℕ → ℕ → Option TextPlace
+index_place str_offsets base index =
+    option_map InStr (option_and_then (λ b. number_in 4 (b + 4 * index) str_offsets) base)
+
+abbrev pub text_place : List ℕ → Option ℕ → Attr → Option TextPlace
+text_place str_offsets base a =
+    if a.form == DW_FORM_string then Some (InInfo a.place (a.len - 1))
+    else (if a.form == DW_FORM_strp then Some (InStr a.value)
+    else (if a.form == DW_FORM_line_strp then Some (InLineStr a.value)
+    else (if is_text_index a.form then index_place str_offsets base a.value else None)))
+
+-- the place that a reference of a unit's entry names
+abbrev pub target_by : ℕ → Attr → Option ℕ
+target_by unit a =
+    if a.form == DW_FORM_ref_addr then Some a.value
+    else (if nat_le DW_FORM_ref_addr a.form && nat_le a.form DW_FORM_ref_udata then Some (unit + a.value) else None)
+
+abbrev pub reference_in : List Attr → Option Attr
+reference_in attrs = option_or (attr_in DW_AT_abstract_origin attrs) (attr_in DW_AT_specification attrs)
+
+-- a name of its own, or the entry that is referred to
+abbrev pub naming_by : List ℕ → Option ℕ → Option Attr → Option ℕ → Naming
+naming_by str_offsets base (Some a) target = Named (text_place str_offsets base a)
+naming_by str_offsets base None (Some place) = Refers place
+naming_by str_offsets base None None = Named None
+
+abbrev pub naming_in : List ℕ → Option ℕ → (unit : ℕ) → List Attr → Naming
+naming_in str_offsets base unit attrs =
+    naming_by str_offsets base (attr_in DW_AT_name attrs) (option_and_then (target_by unit) (reference_in attrs))
+
+-- Namings in a file
+
+abbrev pub naming_of : NameSections → Entry → Naming
+naming_of s e =
+    naming_in s.str_offsets (option_and_then (base DW_AT_str_offsets_base) (unit_of_entry s e)) e.unit e.attrs
+
+-- the text at a place
+abbrev pub text_at_place : NameSections → TextPlace → Option (List ℕ)
+text_at_place s (InInfo place len) = Some (take len (drop place s.units.info))
+text_at_place s (InStr offset) = text_in s.str offset
+text_at_place s (InLineStr offset) = text_in s.line_str offset
+
+-- a naming with its reference followed once
+abbrev pub naming_or_none : Option Naming → Naming
+naming_or_none (Some n) = n
+naming_or_none None = Named None
+
+abbrev pub entry_at : NameSections → ℕ → Option Entry
+entry_at s place = find (λ (x : Entry). x.place == place) (entries s.units)
+
+abbrev pub followed : NameSections → Naming → Naming
+followed s (Named t) = Named t
+followed s (Refers place) = naming_or_none (option_map (naming_of s) (entry_at s place))
+
+-- the text of a naming, where no reference is followed
+abbrev pub text_named : NameSections → Naming → Option (List ℕ)
+text_named s (Named t) = option_and_then (text_at_place s) t
+text_named s (Refers place) = None
+
+-- references are followed so many times
+abbrev pub followed_times : NameSections → ℕ → Naming → Naming
+followed_times s zero n = n
+followed_times s (suc k) n = followed_times s k (followed s n)

@@ -1,0 +1,136 @@
+// How names of entries are found. DWARF 5, sections 2.15, 3.3.8, 7.5.5 and 7.26.
+ghost use Rattle.std.specs.Prelude.{◌≡◌, ◌==◌, option_and_then};
+ghost use Rattle.std.specs.Option.{option_copied};
+ghost use Rattle.std.specs.List.{find};
+ghost use Rattle.table_core.specs.AttributeForms.{is_text_index};
+ghost use Rattle.inline_frames.specs.Naming as spec;
+
+use byteorder::{ByteOrder, LittleEndian};
+use dw_unit::Attr;
+use dw_unit::attribute::{DW_AT_abstract_origin, DW_AT_name, DW_AT_specification};
+use table_core::form::{
+    DW_FORM_line_strp, DW_FORM_ref_addr, DW_FORM_ref_udata, DW_FORM_string, DW_FORM_strp,
+    DW_FORM_strx, DW_FORM_strx1, DW_FORM_strx4,
+};
+
+/// Where a text stands.
+#[derive(Clone, Copy)]
+pub enum TextPlace {
+    /// In `.debug_info`, from an offset on so many bytes.
+    InInfo(u64, u64),
+    /// At an offset of `.debug_str`.
+    InStr(u64),
+    /// At an offset of `.debug_line_str`.
+    InLineStr(u64),
+}
+
+/// How the name of an entry is found.
+#[derive(Clone, Copy)]
+pub enum Naming {
+    /// It is this text, or there is none.
+    Named(Option<TextPlace>),
+    /// It is that of the entry at an offset, which may pass 2^64.
+    Refers(u128),
+}
+
+fn found(name: u64, attrs: &[Attr]) -> Option<&Attr>
+    ensures { option_copied result ≡ find (λ a. a.name == name) attrs.now }
+{
+    attrs.iter().find(|attr| attr.name == name)
+}
+
+/// The attribute of a name.
+pub fn attr_named(name: u64, attrs: &[Attr]) -> Option<Attr>
+    ensures { result ≡ find (λ a. a.name == name) attrs.now }
+{
+    match found(name, attrs) {
+        Some(attr) => Some(*attr),
+        None => None,
+    }
+}
+
+fn is_text_index(form: u64) -> bool
+    ensures { result ≡ is_text_index form }
+{
+    form == DW_FORM_strx || DW_FORM_strx1 <= form && form <= DW_FORM_strx4
+}
+
+// Where the text of an index stands, by the base of its unit's indices.
+fn index_place(str_offsets: &[u8], base: Option<u64>, index: u64) -> Option<TextPlace>
+    ensures { result ≡ spec.index_place str_offsets.now base index }
+{
+    match base {
+        Some(base) => {
+            let place = base as u128 + 4 * index as u128;
+            if place + 4 <= str_offsets.len() as u128 {
+                let offset = LittleEndian::read_u32(&str_offsets[place as usize..]);
+                Some(TextPlace::InStr(offset as u64))
+            } else {
+                None
+            }
+        }
+        None => None,
+    }
+}
+
+fn text_place(str_offsets: &[u8], base: Option<u64>, attr: Attr) -> Option<TextPlace>
+    ensures { result ≡ spec.text_place str_offsets.now base attr }
+{
+    if attr.form == DW_FORM_string {
+        return Some(TextPlace::InInfo(attr.place, attr.len.saturating_sub(1)));
+    }
+    if attr.form == DW_FORM_strp {
+        return Some(TextPlace::InStr(attr.value));
+    }
+    if attr.form == DW_FORM_line_strp {
+        return Some(TextPlace::InLineStr(attr.value));
+    }
+    if is_text_index(attr.form) {
+        return index_place(str_offsets, base, attr.value);
+    }
+    None
+}
+
+// The offset of the entry that an attribute of a unit's entry refers to.
+fn target_of(unit: u64, attr: Attr) -> Option<u128>
+    ensures { result ≡ spec.target_by unit attr }
+{
+    if attr.form == DW_FORM_ref_addr {
+        return Some(attr.value as u128);
+    }
+    if DW_FORM_ref_addr <= attr.form && attr.form <= DW_FORM_ref_udata {
+        return Some(unit as u128 + attr.value as u128);
+    }
+    None
+}
+
+// The attribute that refers to the entry of which this is an instance, or that it completes.
+fn reference(attrs: &[Attr]) -> Option<Attr>
+    ensures { result ≡ spec.reference_in attrs.now }
+{
+    let origin = attr_named(DW_AT_abstract_origin, attrs);
+    let specification = attr_named(DW_AT_specification, attrs);
+    origin.or(specification)
+}
+
+fn referred(unit: u64, attrs: &[Attr]) -> Option<u128>
+    ensures { result ≡ option_and_then (spec.target_by unit) (spec.reference_in attrs.now) }
+{
+    match reference(attrs) {
+        Some(attr) => target_of(unit, attr),
+        None => None,
+    }
+}
+
+/// How the name of a unit's entry is found, by the base of its indices of texts.
+pub fn naming_of(str_offsets: &[u8], base: Option<u64>, unit: u64, attrs: &[Attr]) -> Naming
+    ensures { result ≡ spec.naming_in str_offsets.now base unit attrs.now }
+{
+    match attr_named(DW_AT_name, attrs) {
+        Some(attr) => Naming::Named(text_place(str_offsets, base, attr)),
+        None => match referred(unit, attrs) {
+            Some(place) => Naming::Refers(place),
+            None => Naming::Named(None),
+        },
+    }
+}

@@ -1,0 +1,69 @@
+// The functions of a file that hold an address.
+ghost use Rattle.std.specs.Prelude.{◌≡◌, ◌==◌, [], ℕ, IfOk};
+ghost use Rattle.std.specs.List.{list_any};
+ghost use Rattle.std.specs.Ordering.{nat_cmp};
+ghost use Rattle.std.specs.BTreeSet.{contains};
+ghost use Rattle.range_loc_rewrite.specs.Ranges.{covers};
+ghost use Rattle.inline_frames.specs.FileChains as spec;
+
+use crate::link::Link;
+use crate::unit_chain::links_in;
+use dw_unit::UnitReader;
+use range_loc_rewrite::Ranges;
+use rb_bytes::fault::NoMemory;
+use std::alloc::Global;
+use std::collections::BTreeSet;
+use table_core::ByAddress;
+
+// Some places as a set.
+fn place_set(alloc: Global, places: &[u64]) -> Result<BTreeSet<u64>, NoMemory>
+    ensures { IfOk result (λ set. (q : ℕ) → contains nat_cmp set q ≡ list_any (λ m. m == q) places.now) }
+{
+    let mut set = BTreeSet::new(alloc);
+    for place in places {
+        set.insert(*place)?;
+    }
+    Ok(set)
+}
+
+/// The places of the entries that hold an address.
+pub fn covering_places(alloc: Global, ranges: &Ranges, a: u64) -> Result<BTreeSet<u64>, NoMemory>
+    ensures { IfOk result (λ set. (q : ℕ) → contains nat_cmp set q ≡ covers ranges.now q a) }
+{
+    let Some(places) = ranges.at(alloc, a)? else {
+        return Ok(BTreeSet::new(alloc));
+    };
+    let set = place_set(alloc, &places)?;
+    Ok(set)
+}
+
+// Some links, unless there are none; then those before them.
+fn or_before(links: Vec<Link>, before: Vec<Link>) -> Vec<Link>
+    ensures { result.items ≡ spec.or_before links.items before.items }
+{
+    if links.is_empty() { before } else { links }
+}
+
+/// The functions that stand at some places, from the last one of all units out to one that isn't inlined.
+pub fn file_links(
+    alloc: Global,
+    reader: &UnitReader<'_, '_>,
+    str_offsets: &[u8],
+    covering: &BTreeSet<u64>,
+) -> Result<Vec<Link>, NoMemory>
+    requires { spec.AreReadable reader.now.abbrevs reader.now.addr reader.now.units }
+    ensures { IfOk result (λ links. links.items
+        ≡ spec.file_links str_offsets.now covering.now [] (spec.listed_units reader.now.abbrevs reader.now.units)) }
+{
+    let mut found = Vec::new(alloc);
+    let units = reader.units();
+    for number in 0..units.len() {
+        let reading = reader.read(alloc, number)?;
+        let Some(entries) = reading.entries else {
+            unreachable!();
+        };
+        let links = links_in(alloc, str_offsets, &entries, covering)?;
+        found = or_before(links, found);
+    }
+    Ok(found)
+}
