@@ -8,8 +8,10 @@ one function of so many blocks each, and, of the largest number, functions of up
 count off by up to a tenth, a stale one lacks three lines of ten, and a sampled one has each tenth occurrence, ten times.
 Each line has the seconds of the processor, the peak of memory, the total change, and how far the counts of edges are from
 the true ones in sum, before and after, as parts of the sum of true counts. Last come functions that are one path of
-20,000 blocks, of which the last half of the counts is halved, or the ways in or out lack. Two lines of each run are checked:
-that the true profile is repaired with no change, and comes back as it was. COMMAND stands for `./sudrepka`.
+20,000 blocks, of which the last half of the counts is halved, or the ways in or out lack; and the programs of
+`bench/programs` that `real_programs.py` can build here, with the profile that `record` writes of a short run. The true
+profiles are checked to be repaired with no change, and to come back as they were; those of runs that ended, to be repaired
+with no change. COMMAND stands for `./sudrepka`.
 
 A function of 20,000 blocks has to be repaired in 5 seconds, and a file of 1,000,000 blocks with a noisy profile in 20.
 """
@@ -21,7 +23,10 @@ import subprocess
 import sys
 import tempfile
 
-from flow_files import BRANCHES, FALLS, JUMPS, RETURNS, Block, place, profile_line, write_file
+sys.path.insert(0, os.path.dirname(os.path.abspath(__file__)))
+from flow_files import BRANCHES, FALLS, JUMPS, RETURNS, Block, place, profile_line, write_file  # noqa: E402
+from profiles import record  # noqa: E402
+from real_programs import LONGER, build, compilers, layouts_of  # noqa: E402
 
 ROOT = os.path.dirname(os.path.dirname(os.path.abspath(__file__)))
 MIB = 1 << 20
@@ -245,6 +250,18 @@ def without(program, inner):
     }
 
 
+def recorded(command, folder):
+    """Profiles of runs that ended are consistent."""
+    for program in sorted(LONGER):
+        for compiler, parts in compilers().items():
+            layout = layouts_of(program, compiler)[0]
+            path = os.path.join(folder, "in")
+            build(path, program, compiler, parts, layout, "-O2")
+            ended = record(command, path, [], os.path.join(folder, "profile"))
+            _, _, last = run(command, folder)
+            print(f"{program:12} {compiler:6} {ended}  {last}", flush=True)
+
+
 def main():
     words = argparse.ArgumentParser(description="seconds, memory and effect of `repair`")
     words.add_argument("--tool", default=os.path.join(ROOT, "sudrepka"), help="the command that takes `repair ..`")
@@ -262,6 +279,7 @@ def main():
         for name, change in [("true", changes[0][1]), ("halved", halved(path)), ("no way in", without(path, True)),
                              ("no way out", without(path, False))]:
             measure(command, folder, path, name, change, 1)
+        recorded(command, folder)
 
 
 if __name__ == "__main__":
