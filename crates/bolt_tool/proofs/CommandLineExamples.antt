@@ -1,6 +1,6 @@
 -- Arguments that are commands, and arguments that are none.
 use Rattle.std.proofs.Common.{◌≡◌, ℕ, List, [], ◌∷◌, Option, Some, None, codes, refl}
-use Rattle.bolt_tool.specs.CommandLine.{Command, Record, Repair, Run, command_of}
+use Rattle.bolt_tool.specs.CommandLine.{Command, Lookup, Record, Repair, Run, Sample, Verify, command_of}
 
 run : List ℕ
 run = codes "run"
@@ -77,3 +77,32 @@ repaired_profile = refl
 
 repaired_over : command_of (codes "repair" ∷ codes "f" ∷ codes "p" ∷ codes "p" ∷ []) ≡ None
 repaired_over = refl
+
+-- an address of digits of either case, of which there have to be some
+address_prefixed : command_of (codes "lookup" ∷ codes "f" ∷ codes "0x1Fa" ∷ []) ≡
+    Some (Lookup (record { file = codes "f"; address = 0x1fa }))
+address_prefixed = refl
+
+no_digits : command_of (codes "lookup" ∷ codes "f" ∷ codes "0x" ∷ []) ≡ None
+no_digits = refl
+
+-- samples have numbers from 1 to 1000
+last_sample : command_of (codes "sample" ∷ codes "01000" ∷ codes "f" ∷ codes "p" ∷ []) ≡
+    Some (Sample (record { number = 1000; file = codes "f"; profile = codes "p" }))
+last_sample = refl
+
+sample_beyond : command_of (codes "sample" ∷ codes "1001" ∷ codes "f" ∷ codes "p" ∷ []) ≡ None
+sample_beyond = refl
+
+no_sample : command_of (codes "sample" ∷ codes "0" ∷ codes "f" ∷ codes "p" ∷ []) ≡ None
+no_sample = refl
+
+one_file : command_of (codes "sample" ∷ codes "1" ∷ codes "f" ∷ codes "f" ∷ []) ≡ None
+one_file = refl
+
+verified_rewrite : command_of (codes "verify" ∷ codes "f" ∷ codes "o" ∷ codes "m" ∷ [])
+    ≡ Some (Verify (record { input = codes "f"; output = codes "o"; map = codes "m" }))
+verified_rewrite = refl
+
+verified_with_option : command_of (codes "verify" ∷ codes "f" ∷ codes "-o" ∷ codes "m" ∷ []) ≡ None
+verified_with_option = refl

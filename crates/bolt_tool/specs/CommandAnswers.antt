@@ -7,13 +7,17 @@ use Rattle.cli_base.specs.declared.status.Status.TheVariants as status
 use Rattle.cli_base.specs.Status.{exit_number}
 use Rattle.cli_base.specs.Served.{IsInputKept, IsServed}
 use Rattle.cli_base.specs.World.{World}
-use Rattle.bolt_tool.specs.CommandLine.{Command, Rewrite, Map, Run, RunSymbols, Record, Repair}
+use Rattle.bolt_tool.specs.CommandLine.{Command, Rewrite, Map, Run, RunSymbols, Record, Repair, Lookup, Sample, Verify}
 use Rattle.bolt_tool.specs.Lines.{usage_line}
 use Rattle.cli_base.specs.PrintedLines.{PrintsOnly, FailsAtLine}
 use Rattle.cli_run.specs.recording.RecordAnswers.{RecordAnswers, RecordCompletes}
 use Rattle.bolt_core.specs.Refusals.{IsRefused}
 use Rattle.cli_base.specs.Inputs.{IsAccepted, IsOkOrNoMemory, NoInputErrors, OfInputs}
 use Rattle.cli_check.specs.RepairAnswers.{RepairAnswers, RepairCompletes}
+use Rattle.cli_check.specs.VerifyAnswers.{VerifyAnswers, VerifyCompletes}
+use Rattle.cli_look.specs.LookAnswers.{LookAnswers, LookCompletes}
+use Rattle.cli_look.specs.LookingUp.{looking_up}
+use Rattle.cli_look.specs.SampleAnswers.{SampleAnswers, SampleCompletes}
 use Rattle.bolt_tool.specs.rewrite.MapAnswers.{MapAnswers}
 use Rattle.bolt_tool.specs.rewrite.RewriteAnswers.{NoneRoseWriting, RewriteAnswers}
 use Rattle.cli_run.specs.run.ByteRuns.{byte_mode}
@@ -33,10 +37,13 @@ CommandAnswers (Some (Run args)) answer old new = RunAnswers byte_mode args old 
 CommandAnswers (Some (RunSymbols args)) answer old new = RunAnswers symbol_mode args old new answer
 CommandAnswers (Some (Record args)) answer old new = RecordAnswers args old new answer
 CommandAnswers (Some (Repair names)) answer old new = RepairAnswers names old new answer
+CommandAnswers (Some (Lookup args)) answer old new = LookAnswers (looking_up args.address) args.file old new answer
+CommandAnswers (Some (Sample args)) answer old new = SampleAnswers args old new answer
+CommandAnswers (Some (Verify names)) answer old new = VerifyAnswers names old new answer
 CommandAnswers None answer old new = UsageAnswers answer old new
 
--- A rewrite is done, a map is printed and a profile is repaired, or memory runs out, where no fault is present and no count rose. A run of a
--- file that can be run answers how that comes out.
+-- A rewrite is done, a map is printed, a profile is repaired, an address is looked up, a sample is made and an output is judged,
+-- or memory runs out, where no fault is present and no count rose. A run of a file that can be run answers how that comes out.
 abbrev pub Completes : Option Command → Status → World → World → Type 0
 Completes (Some (Rewrite names)) answer old new =
     IsTrue old.files.told → OfInputs old names.inputs (IsAccepted IsRefused) → NoneRoseWriting names old new → IsOkOrNoMemory answer
@@ -46,6 +53,9 @@ Completes (Some (Run args)) answer old new = CompletesRun byte_mode args answer 
 Completes (Some (RunSymbols args)) answer old new = CompletesRun symbol_mode args answer old new
 Completes (Some (Record args)) answer old new = RecordCompletes args answer old new
 Completes (Some (Repair names)) answer old new = RepairCompletes names answer old new
+Completes (Some (Lookup args)) answer old new = LookCompletes (looking_up args.address) args.file answer old new
+Completes (Some (Sample args)) answer old new = SampleCompletes args answer old new
+Completes (Some (Verify names)) answer old new = VerifyCompletes names answer old new
 Completes None answer old new = Unit {0}
 
 -- the command doesn't touch standard input

@@ -8,6 +8,10 @@ use Rattle.rb_bytes.specs.Text.{decimal_number}
 use Rattle.rv_memory.specs.Limits.{most_args, most_arg_bytes}
 use Rattle.cli_base.specs.Inputs.{InputNames}
 use Rattle.cli_check.specs.RepairNames.{RepairNames}
+use Rattle.cli_check.specs.VerifyNames.{VerifyNames}
+use Rattle.cli_look.specs.LookupArgs.{LookupArgs}
+use Rattle.cli_look.specs.SampleArgs.{SampleArgs}
+use Rattle.cli_look.specs.Words.{address_of, sample_number_of}
 use Rattle.cli_run.specs.RunArgs.{RecordArgs, RunArgs}
 
 -- an argument that begins with a hyphen, but for the hyphen alone
@@ -103,6 +107,26 @@ repair_of (Positional file ∷ Positional profile ∷ Positional out ∷ []) =
     else Some (record { inputs = record { file = file; profile = profile }; out = out })
 repair_of _ = None
 
+-- `FILE ADDR`
+abbrev pub lookup_of : List Token → Option LookupArgs
+lookup_of (Positional file ∷ Positional word ∷ []) =
+    option_map (λ address. record { file = file; address = address }) (address_of word)
+lookup_of _ = None
+
+-- `N OUT PROFILE`, where OUT and PROFILE differ
+abbrev pub sample_of : List Token → Option SampleArgs
+sample_of (Positional digits ∷ Positional file ∷ Positional profile ∷ []) =
+    if bytes_eq file profile
+    then None
+    else option_map (λ number. record { number = number; file = file; profile = profile }) (sample_number_of digits)
+sample_of _ = None
+
+-- `IN OUT MAP`
+abbrev pub verify_of : List Token → Option VerifyNames
+verify_of (Positional input ∷ Positional output ∷ Positional map ∷ []) =
+    Some (record { input = input; output = output; map = map })
+verify_of _ = None
+
 -- the most steps of a run: `--steps` says it, once, or not at all
 abbrev pub limit_of : List (Option (List ℕ)) → Option ℕ
 limit_of [] = Some 100000000
@@ -166,6 +190,9 @@ pub data Command : Type 0 where
   -- on the byte machine, with a profile of the run
   Record : RecordArgs → Command
   Repair : RepairNames → Command
+  Lookup : LookupArgs → Command
+  Sample : SampleArgs → Command
+  Verify : VerifyNames → Command
 
 abbrev pub run_command : Bool → RunArgs → Command
 run_command false args = Run args
@@ -196,4 +223,10 @@ command_of (name ∷ args) =
     then option_map Record (record_of (tokens AnyToken args))
     else if bytes_eq name (codes "repair")
     then option_map Repair (repair_of (tokens AnyToken args))
+    else if bytes_eq name (codes "lookup")
+    then option_map Lookup (lookup_of (tokens AnyToken args))
+    else if bytes_eq name (codes "sample")
+    then option_map Sample (sample_of (tokens AnyToken args))
+    else if bytes_eq name (codes "verify")
+    then option_map Verify (verify_of (tokens AnyToken args))
     else None

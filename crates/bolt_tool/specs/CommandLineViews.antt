@@ -6,8 +6,11 @@ use Rattle.bolt_tool.specs.CommandLine.{Token, Positional, Named, Expected, AnyT
 use Rattle.bolt_tool.specs.CommandLine.{RewriteNames}
 use Rattle.cli_base.specs.Inputs.{inputs_read}
 use Rattle.cli_check.specs.RepairNames.{repair_given}
+use Rattle.cli_check.specs.VerifyNames.{verify_given}
+use Rattle.cli_look.specs.LookupArgs.{lookup_given}
+use Rattle.cli_look.specs.SampleArgs.{IsSampleNumber, sample_given}
 use Rattle.cli_run.specs.RunArgs.{RunArgs, RecordArgs}
-use Rattle.bolt_tool.specs.CommandLine.{Command, Rewrite, Map, Run, RunSymbols, Record, Repair}
+use Rattle.bolt_tool.specs.CommandLine.{Command, Rewrite, Map, Run, RunSymbols, Record, Repair, Lookup, Sample, Verify}
 use Rattle.cli_run.specs.declared.running.RunMode.{RunMode}
 use Rattle.cli_run.specs.declared.running.RunMode.TheVariants as mode
 use Rattle.bolt_tool.specs.declared.command_line.Token.{Token as TokenRead}
@@ -57,8 +60,11 @@ command_read (read.Run a) = Run (run_read a)
 command_read (read.RunSymbols a) = RunSymbols (run_read a)
 command_read (read.Record a) = Record (record_read a)
 command_read (read.Repair a) = Repair (repair_given a)
+command_read (read.Lookup a) = Lookup (lookup_given a)
+command_read (read.Sample a) = Sample (sample_given a)
+command_read (read.Verify a) = Verify (verify_given a)
 
--- the output and the map of a rewrite have different names
+-- the output and the map of a rewrite have different names, and so have the two files of a sample
 abbrev pub NamesDiffer : CommandRead → Type 0
 NamesDiffer (read.Rewrite a) = a.out.now ≢ a.map.now
 NamesDiffer (read.Map a) = Unit {0}
@@ -66,8 +72,11 @@ NamesDiffer (read.Run a) = Unit {0}
 NamesDiffer (read.RunSymbols a) = Unit {0}
 NamesDiffer (read.Record a) = Unit {0}
 NamesDiffer (read.Repair a) = Unit {0}
+NamesDiffer (read.Lookup a) = Unit {0}
+NamesDiffer (read.Sample a) = a.file.now ≢ a.profile.now
+NamesDiffer (read.Verify a) = Unit {0}
 
--- the arguments of a run may be given to a program
+-- the arguments of a run may be given to a program, and there is such a sample
 abbrev pub ArgsFit : CommandRead → Type 0
 ArgsFit (read.Rewrite a) = Unit {0}
 ArgsFit (read.Map a) = Unit {0}
@@ -75,3 +84,6 @@ ArgsFit (read.Run a) = IsWithinLimits (run_read a).args
 ArgsFit (read.RunSymbols a) = IsWithinLimits (run_read a).args
 ArgsFit (read.Record a) = IsWithinLimits (run_read a.run).args
 ArgsFit (read.Repair a) = Unit {0}
+ArgsFit (read.Lookup a) = Unit {0}
+ArgsFit (read.Sample a) = IsSampleNumber a.number
+ArgsFit (read.Verify a) = Unit {0}

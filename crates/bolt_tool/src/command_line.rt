@@ -3,17 +3,22 @@ ghost use Rattle.std.specs.Prelude.{◌≡◌, ◌≢◌, ◌∷◌, [], map, st
 ghost use Rattle.std.specs.Option.{option_map};
 ghost use Rattle.std.specs.List.{list_all};
 ghost use Rattle.rv_memory.specs.Limits.{IsWithinLimits};
+ghost use Rattle.cli_look.specs.LookupArgs.{lookup_given};
+ghost use Rattle.cli_look.specs.SampleArgs.{IsSampleNumber, sample_given};
+ghost use Rattle.bolt_tool.specs.CommandLine.{lookup_of, sample_of};
 ghost use Rattle.bolt_tool.specs.CommandLine.{Positional, steps_name, symbols_name, is_option, option_of, limit_of};
 ghost use Rattle.bolt_tool.specs.CommandLine.{symbols_of, values_of, is_run_token, is_record_token, positionals, holds_zero};
 ghost use Rattle.bolt_tool.specs.CommandLine.{are_program_args, rewrite_names_of, map_of, repair_of, run_of, record_of};
-ghost use Rattle.bolt_tool.specs.CommandLine.{command_of};
+ghost use Rattle.bolt_tool.specs.CommandLine.{command_of, verify_of};
 ghost use Rattle.bolt_tool.specs.CommandLineViews.{IsNoPositional, token_read, tokens_of, command_read, run_read, record_read};
 ghost use Rattle.bolt_tool.specs.CommandLineViews.{names_read, NamesDiffer, ArgsFit};
 ghost use Rattle.cli_base.specs.Inputs.{inputs_read};
 ghost use Rattle.cli_check.specs.RepairNames.{repair_given};
+ghost use Rattle.cli_check.specs.VerifyNames.{verify_given};
 
 use cli_base::InputArgs;
-use cli_check::RepairArgs;
+use cli_check::{RepairArgs, VerifyArgs};
+use cli_look::{LookupArgs, SampleArgs, address, sample_number};
 use rb_bytes::fault::NoMemory;
 use rb_bytes::number::decimal_number;
 use rv_memory::stack::{MOST_ARG_BYTES, MOST_ARGS};
@@ -61,6 +66,9 @@ pub enum Command<'a> {
     RunSymbols(RunTokens<'a>),
     Record(RecordTokens<'a>),
     Repair(RepairArgs<'a>),
+    Lookup(LookupArgs<'a>),
+    Sample(SampleArgs<'a>),
+    Verify(VerifyArgs<'a>),
 }
 
 /// A token of a command: an argument that is no option, or an option with its value, where it has one.
@@ -204,6 +212,52 @@ fn repair_args(mut tokens: Tokens<'_>) -> Option<RepairArgs<'_>>
         inputs: InputArgs { file, profile },
         out,
     })
+}
+
+// The arguments of `lookup`.
+fn lookup_args(mut tokens: Tokens<'_>) -> Option<LookupArgs<'_>>
+    ensures { option_map lookup_given result ≡ lookup_of (tokens_of tokens.entry) }
+{
+    let file = next_positional(&mut tokens)?;
+    let word = next_positional(&mut tokens)?;
+    if tokens.next().is_some() {
+        return None;
+    }
+    let address = address(word.as_bytes())?;
+    Some(LookupArgs { file, address })
+}
+
+// The arguments of `sample`.
+fn sample_args(mut tokens: Tokens<'_>) -> Option<SampleArgs<'_>>
+    ensures command { option_map sample_given result ≡ sample_of (tokens_of tokens.entry) }
+    ensures number { IfSome result (λ a. IsSampleNumber a.number) }
+    ensures apart { IfSome result (λ a. a.file.now ≢ a.profile.now) }
+{
+    let digits = next_positional(&mut tokens)?;
+    let file = next_positional(&mut tokens)?;
+    let profile = next_positional(&mut tokens)?;
+    if tokens.next().is_some() || file == profile {
+        return None;
+    }
+    let number = sample_number(digits.as_bytes())?;
+    Some(SampleArgs {
+        number,
+        file,
+        profile,
+    })
+}
+
+// The arguments of `verify`.
+fn verify_args(mut tokens: Tokens<'_>) -> Option<VerifyArgs<'_>>
+    ensures { option_map verify_given result ≡ verify_of (tokens_of tokens.entry) }
+{
+    let input = next_positional(&mut tokens)?;
+    let output = next_positional(&mut tokens)?;
+    let map = next_positional(&mut tokens)?;
+    if tokens.next().is_some() {
+        return None;
+    }
+    Some(VerifyArgs { input, output, map })
 }
 
 // No options but those of `run` are among the tokens.
@@ -403,6 +457,15 @@ pub fn parse(args: &[String]) -> Option<Command<'_>>
     }
     if name.as_str() == "repair" {
         return repair_args(tokens).map(Command::Repair);
+    }
+    if name.as_str() == "lookup" {
+        return lookup_args(tokens).map(Command::Lookup);
+    }
+    if name.as_str() == "sample" {
+        return sample_args(tokens).map(Command::Sample);
+    }
+    if name.as_str() == "verify" {
+        return verify_args(tokens).map(Command::Verify);
     }
     None
 }

@@ -12,7 +12,8 @@ use crate::print_map::print_map;
 use crate::rewrite::rewrite;
 use crate::running::{record_tokens, run_tokens};
 use cli_base::Status;
-use cli_check::repair;
+use cli_check::{repair, verify};
+use cli_look::{lookup, sample};
 use cli_run::RunMode;
 use rb_io::{Files, Put, Sink, Source, print_all};
 use std::alloc::Global;
@@ -50,6 +51,9 @@ fn perform<F: Files, I: Source, O: Sink>(
         Command::RunSymbols(args) => run_tokens(alloc, args, RunMode::Symbols, files, input, out),
         Command::Record(args) => record_tokens(alloc, args, files, input, out),
         Command::Repair(args) => repair(alloc, args, files, out),
+        Command::Lookup(args) => lookup(alloc, args, files, out),
+        Command::Sample(args) => sample(alloc, args, files, out),
+        Command::Verify(args) => verify(alloc, args, files, out),
     }
 }
 

@@ -14,6 +14,7 @@ exit_number status.NoMemory = 224
 exit_number (status.Trapped pc cause) = 225
 exit_number status.OutOfSteps = 226
 exit_number (status.Stuck pc reason) = 227
+exit_number (status.Unfaithful clause place) = 228
 
 -- an answer says how a run came out
 abbrev pub is_outcome : Status → Bool

@@ -2,6 +2,7 @@
 ghost use Rattle.std.specs.Prelude.{◌≡◌};
 ghost use Rattle.cli_base.specs.Status.{exit_number, is_outcome};
 
+use map_check::Clause;
 use rb_bytes::fault::Fault;
 use rv_code::Cause;
 use sym_machine::Reason;
@@ -29,6 +30,8 @@ pub enum Status {
     OutOfSteps,
     /// The symbol machine got stuck in the program that was run, at this pc.
     Stuck(u64, Reason),
+    /// An output and a map are no faithful rewrite: the first clause that is false, at its lowest place.
+    Unfaithful(Clause, u64),
 }
 
 impl Status {
@@ -47,6 +50,7 @@ impl Status {
             Status::Trapped(_, _) => 225,
             Status::OutOfSteps => 226,
             Status::Stuck(_, _) => 227,
+            Status::Unfaithful(_, _) => 228,
         }
     }
 

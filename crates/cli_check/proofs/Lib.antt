@@ -1,2 +1,3 @@
 mod RepairEnds
 mod RepairSteps
+mod VerifyEnds

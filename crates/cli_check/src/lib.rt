@@ -1,9 +1,17 @@
-//! The commands that check what others made of a program: `repair`, which repairs a profile.
+//! The commands that check what others made of a program: `repair`, which repairs a profile, and `verify`,
+//! which tells whether an output and a map are a faithful rewrite.
 #![tactic(auto)]
 
+mod given;
+mod judging;
 mod making;
 pub mod repair_args;
 pub mod repairing;
+mod verdict_lines;
+pub mod verify_args;
+pub mod verifying;
 
 pub use repair_args::RepairArgs;
 pub use repairing::repair;
+pub use verify_args::VerifyArgs;
+pub use verifying::verify;

@@ -26,6 +26,7 @@ module _ (result : Status) (steps : ℕ) (before after : SinkSeen) where
   line_closes status.ReadFault is printed = absurd (cc)
   line_closes status.WriteFault is printed = absurd (cc)
   line_closes status.NoMemory is printed = absurd (cc)
+  line_closes (status.Unfaithful clause place) is printed = absurd (cc)
 
   pub nothing_closes : (came : Status) → is_outcome came ≡ false → result ≡ came → after.taken ≡ before.taken →
       Closed result steps before after came
@@ -39,6 +40,7 @@ module _ (result : Status) (steps : ℕ) (before after : SinkSeen) where
   nothing_closes status.ReadFault is same kept = (same, kept)
   nothing_closes status.WriteFault is same kept = (same, kept)
   nothing_closes status.NoMemory is same kept = (same, kept)
+  nothing_closes (status.Unfaithful clause place) is same kept = (same, kept)
 
 module _ (result : Status) (out text : List ℕ) (steps : ℕ) (old new : World) where
   -- the answer says how the run came out, and the profile was written

@@ -3,7 +3,7 @@ use crate::sessions::{commands_refuse, play_rows};
 use std::test::Fail;
 
 /// Each of these names a file that is there.
-const NO_COMMANDS: [&str; 43] = [
+const NO_COMMANDS: [&str; 59] = [
     "$",
     "$ rewrite",
     "$ rewrite in profile out",
@@ -15,7 +15,20 @@ const NO_COMMANDS: [&str; 43] = [
     "$ map in",
     "$ map in profile out",
     "$ run --steps=x in",
+    "$ lookup",
+    "$ lookup in",
     "$ lookup in zz",
+    "$ lookup in 0x",
+    "$ lookup in 0X10078",
+    "$ lookup in 00000000000010078",
+    "$ lookup in 10078 more",
+    "$ sample 1 out",
+    "$ sample 0 out map",
+    "$ sample 1001 out map",
+    "$ sample +1 out map",
+    "$ sample 1 out out",
+    "$ sample 1 out map more",
+    "$ sample --steps=3 1 out map",
     "$ run",
     "$ run --",
     "$ run --steps 5",
@@ -47,13 +60,17 @@ const NO_COMMANDS: [&str; 43] = [
     "$ repair in profile profile",
     "$ repair in profile out map",
     "$ repair --steps=3 in profile out",
+    "$ verify in out",
+    "$ verify in out map more",
+    "$ verify --steps=3 in out map",
 ];
 
 const USAGE: &str = "\
 # What is printed where the arguments are no command.
 like exit7
 - => 220 Usage usage: rewrite IN PROFILE OUT MAP, map IN PROFILE, run [--symbols] [--steps N] FILE [WORDS], \
-lookup FILE ADDR, sample N OUT PROFILE, record [--steps N] FILE OUT [WORDS], repair IN PROFILE OUT/";
+lookup FILE ADDR, sample N OUT PROFILE, record [--steps N] FILE OUT [WORDS], repair IN PROFILE OUT, \
+verify IN OUT MAP/";
 
 #[test]
 fn arguments_that_are_no_command(rt: HostRuntime) -> Result<(), Fail> {

@@ -7,6 +7,8 @@ mod arguments;
 #[cfg(test)]
 mod limits;
 #[cfg(test)]
+mod looked_up;
+#[cfg(test)]
 mod reach;
 #[cfg(test)]
 mod refused;
@@ -22,3 +24,5 @@ mod samples;
 mod sessions;
 #[cfg(test)]
 mod smallest;
+#[cfg(test)]
+mod verified;

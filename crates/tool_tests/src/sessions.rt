@@ -151,10 +151,28 @@ fn check_file(
     Ok(())
 }
 
+// Puts bytes over those of a file: its name, the offset and the bytes.
+fn patch(alloc: Global, files: &mut MemFiles, words: &str) -> Result<(), Fail> {
+    let (name, rest) = words.split_once(' ').ok_or("no name")?;
+    let (offset, digits) = rest.split_once(' ').ok_or("no bytes")?;
+    let mut over = Vec::new(alloc);
+    push_bytes(&mut over, digits)?;
+    let offset = hexadecimal(offset)? as usize;
+    let content = files.content(name).ok_or("no file")?;
+    let (front, behind) = content.split_at_checked(offset).ok_or("short")?;
+    let (_, rest) = behind.split_at_checked(over.len()).ok_or("short")?;
+    let mut patched = Vec::from_slice(alloc, front)?;
+    patched.extend_from_slice(&over)?;
+    patched.extend_from_slice(rest)?;
+    files.put(text(alloc, name)?, patched)?;
+    Ok(())
+}
+
 /// Plays a session with these files. Its parts, with ` | ` between them, are
 ///
 /// - `$ ARGS`: the tool is run; `*COUNT*SIZE` stands for so many arguments of so many bytes
 /// - `NUMBER STATUS PRINTED`: its answer and what it printed, with `/` for the end of a line
+/// - `patch FILE OFFSET BYTES`: these bytes stand in the file from there on
 /// - `none FILE`, `text FILE TEXT`, `starts FILE TEXT`, `ends FILE TEXT`, `bytes FILE OFFSET BYTES`
 pub fn play(
     rt: &impl Abort,
@@ -169,6 +187,8 @@ pub fn play(
         let (first, rest) = part.split_once(' ').unwrap_or((part, ""));
         if first == "$" {
             shown = answer(alloc, files, words, part)?;
+        } else if first == "patch" {
+            patch(alloc, files, rest)?;
         } else if first.parse::<u8>().is_ok() {
             assert_eq!(rt; shown.as_str(), part, "{words}");
         } else {

@@ -28,3 +28,27 @@ returns-in-Repair-clause-serves g c =
     world (g.F.Files.seen c.repair.new.files) (g.I.Source.seen c.args.input.now) (g.O.Sink.seen c.repair.new.out) in
     subst (λ (command : Command). Serves (Some (command_read command)) c.repair.result old new) (sym c.in-Repair.is)
     (c.repair.ensures (g.I.Source.seen c.args.input.now))
+
+pub returns-in-Lookup-clause-serves : goal.returns-in-Lookup-clause-serves
+returns-in-Lookup-clause-serves g c =
+    let old : World = world (g.F.Files.seen c.args.files.now) (g.I.Source.seen c.args.input.now) (g.O.Sink.seen c.args.out.now) in
+    let new : World =
+    world (g.F.Files.seen c.lookup.new.files) (g.I.Source.seen c.args.input.now) (g.O.Sink.seen c.lookup.new.out) in
+    subst (λ (command : Command). Serves (Some (command_read command)) c.lookup.result old new) (sym c.in-Lookup.is)
+    (c.lookup.ensures (g.I.Source.seen c.args.input.now))
+
+pub returns-in-Sample-clause-serves : goal.returns-in-Sample-clause-serves
+returns-in-Sample-clause-serves g c =
+    let old : World = world (g.F.Files.seen c.args.files.now) (g.I.Source.seen c.args.input.now) (g.O.Sink.seen c.args.out.now) in
+    let new : World =
+    world (g.F.Files.seen c.sample.new.files) (g.I.Source.seen c.args.input.now) (g.O.Sink.seen c.sample.new.out) in
+    subst (λ (command : Command). Serves (Some (command_read command)) c.sample.result old new) (sym c.in-Sample.is)
+    (c.sample.ensures (g.I.Source.seen c.args.input.now))
+
+pub returns-in-Verify-clause-serves : goal.returns-in-Verify-clause-serves
+returns-in-Verify-clause-serves g c =
+    let old : World = world (g.F.Files.seen c.args.files.now) (g.I.Source.seen c.args.input.now) (g.O.Sink.seen c.args.out.now) in
+    let new : World =
+    world (g.F.Files.seen c.verify.new.files) (g.I.Source.seen c.args.input.now) (g.O.Sink.seen c.verify.new.out) in
+    subst (λ (command : Command). Serves (Some (command_read command)) c.verify.result old new) (sym c.in-Verify.is)
+    (c.verify.ensures (g.I.Source.seen c.args.input.now))

@@ -1,0 +1,67 @@
+// The three files, all of which are read before any is judged.
+ghost use Rattle.std.specs.Prelude.{IfErr, IfOk, IsTrue};
+ghost use Rattle.rb_io.specs.Names.{Unchanged};
+ghost use Rattle.rb_io.specs.Views.{FilesGoOn};
+ghost use Rattle.cli_check.specs.GivenFiles.{AreGiven, FitsLimit, IsGiven, IsUngiven, IsUnread};
+ghost use Rattle.program.specs.Limits.{file_limit};
+ghost use Rattle.cli_check.specs.VerifyNames.{verify_given};
+
+use crate::verify_args::VerifyArgs;
+use cli_base::Status;
+use program::FILE_LIMIT;
+use rb_io::{Files, ReadAll};
+use std::alloc::Global;
+
+/// The most bytes of a map.
+pub const MAP_LIMIT: usize = 200_000_000;
+
+/// An input, an output and a map, each where it isn't too long.
+#[derive(Drop)]
+pub struct Given {
+    pub input: Option<Vec<u8>>,
+    pub output: Option<Vec<u8>>,
+    pub map: Option<Vec<u8>>,
+}
+
+// The content of a file, if it has no more than `limit` bytes.
+fn read_within<F: Files>(
+    alloc: Global,
+    name: &str,
+    limit: usize,
+    files: &mut F,
+) -> Result<Option<Vec<u8>>, Status>
+    ensures given { IfOk result (λ given. IsTrue (F.seen files.old).told →
+        IsGiven limit ((F.seen files.old).content name.now) given) }
+    ensures fits { IfOk result (FitsLimit limit) }
+    ensures unread { IfErr result (IsUnread name.now (F.seen files.old) (F.seen files.new)) }
+    ensures kept { Unchanged (F.seen files.old).content (F.seen files.new).content }
+    ensures files_go_on { FilesGoOn (F.seen files.old) (F.seen files.new) }
+{
+    let mut file = Vec::new(alloc);
+    match files.read_all(name, limit, &mut file) {
+        ReadAll::Done => Ok(Some(file)),
+        ReadAll::TooLong => Ok(None),
+        ReadAll::Failed => Err(Status::ReadFault),
+        ReadAll::Memory => Err(Status::NoMemory),
+    }
+}
+
+/// Reads an input, an output and a map, or says how the command ends.
+pub fn read_given<F: Files>(
+    alloc: Global,
+    args: &VerifyArgs<'_>,
+    files: &mut F,
+) -> Result<Given, Status>
+    ensures given { IfOk result (λ given. IsTrue (F.seen files.old).told →
+        AreGiven (F.seen files.old).content (verify_given args.now) given) }
+    ensures input_fits { IfOk result (λ given. FitsLimit file_limit given.input) }
+    ensures output_fits { IfOk result (λ given. FitsLimit file_limit given.output) }
+    ensures unread { IfErr result (IsUngiven (verify_given args.now) (F.seen files.old) (F.seen files.new)) }
+    ensures kept { Unchanged (F.seen files.old).content (F.seen files.new).content }
+    ensures files_go_on { FilesGoOn (F.seen files.old) (F.seen files.new) }
+{
+    let input = read_within(alloc, args.input, FILE_LIMIT, files)?;
+    let output = read_within(alloc, args.output, FILE_LIMIT, files)?;
+    let map = read_within(alloc, args.map, MAP_LIMIT, files)?;
+    Ok(Given { input, output, map })
+}
