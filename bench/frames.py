@@ -181,12 +181,14 @@ def backtrace(path, place, words):
 
 
 def backtrace_problems(old, new, moved, name, words):
-    """Where gdb unwinds a rewritten program otherwise than its input, both stopped at the start of a function."""
+    """Where gdb unwinds a rewritten program otherwise than its input, both stopped where a function starts, if it is there."""
     if not shutil.which("gdb-multiarch") or not shutil.which("qemu-riscv64"):
         return []
     symbols = [line.split() for line in output([CROSS + "nm", old]).splitlines()]
     places = [int(symbol[0], 16) for symbol in symbols if symbol[-1] == name and len(symbol) == 3]
-    if not places or places[0] not in moved:
+    if not places:
+        return []
+    if places[0] not in moved:
         return [f"{name} isn't moved"]
     before, after = backtrace(old, places[0], words), backtrace(new, moved[places[0]], words)
     if len(before) < 2 or len(before) != len(after):
