@@ -177,6 +177,13 @@ class Checks:
                     self.say(f"qemu runs {os.path.basename(path)} otherwise")
         return before[2], after[2]
 
+    def judged(self, map_path):
+        """Asks the tool itself whether the output is a faithful rewrite."""
+        done = subprocess.run([*self.tool, "verify", self.old, self.new, map_path], capture_output=True, text=True,
+                              check=False)
+        if done.stdout != "faithful\n":
+            self.say(f"verify says {done.stdout.strip()!r}")
+
     def complaints(self, command, pattern, kept=lambda line: line):
         """Lines that a tool prints of the output and not of the input, without numbers."""
         found = []
@@ -280,6 +287,7 @@ def check(tool, name, old, folder):
     unwinds = program in UNWINDING
     short = checks.runs([], unwinds)
     longer = checks.runs([LONGER[program]], unwinds) if program in LONGER else short
+    checks.judged(path("map"))
     checks.readers()
     checks.debugger(checks.disassembly())
     if layout in UNWOUND:
