@@ -5,13 +5,14 @@ use Rattle.rb_bytes.specs.declared.fault.Refusal.{Refusal}
 use Rattle.rb_bytes.specs.declared.fault.Refusal.TheVariants as refusal
 use Rattle.elf_image.specs.declared.elf.Elf.{Elf}
 use Rattle.program.specs.Refusals.{IsRefusalFor}
-use Rattle.table_set.specs.TableFaults.{HasTableFault}
 use Rattle.cli_look.specs.LookingUp.{CannotLookUp, IsSoundElf, bad_table}
+use Rattle.cli_look.specs.Questions.{HasFaultFor}
+use Rattle.cli_look.specs.declared.question.Question.{Question}
 
-pub by_tables : (file : List ℕ) (elf : Elf) (r : Refusal) → IsSoundElf file elf → IsRefusalBy (HasTableFault elf) r →
-    IsRefusalFor (CannotLookUp file) r
-by_tables file elf (refusal.Fault fault) read why = bad_table elf read why
-by_tables file elf refusal.Memory read why = tt
+pub by_tables : (q : Question) (file : List ℕ) (elf : Elf) (r : Refusal) → IsSoundElf file elf →
+    IsRefusalBy (HasFaultFor q elf) r → IsRefusalFor (CannotLookUp q file) r
+by_tables q file elf (refusal.Fault fault) read why = bad_table elf read why
+by_tables q file elf refusal.Memory read why = tt
 
 -- what a test would have told isn't so, where the test fails
 pub denied : (P : Type 0) (answer : Bool) → (P → IsTrue answer) → answer ≡ false → P → ⊥

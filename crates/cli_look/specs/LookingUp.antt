@@ -1,4 +1,4 @@
--- What the tables of a file say at an address, and for which faults the file is refused.
+-- What the tables of a file answer at an address, and for which faults the file is refused.
 use Rattle.std.specs.Prelude.{◌≡◌, ◌<◌, ◌≤◌, ℕ, List, length}
 use Rattle.rb_bytes.specs.Fault.{fault_at}
 use Rattle.rb_bytes.specs.FirstFault.{IsAnswered, IsFree}
@@ -8,9 +8,9 @@ use Rattle.elf_image.specs.declared.elf.Elf.{Elf}
 use Rattle.elf_image.specs.faults.FileFaults.{IsFirstFault, IsSound}
 use Rattle.elf_image.specs.file.ParsedFile.{IsElfOf}
 use Rattle.program.specs.Limits.{HasTooMuchCode, file_limit}
-use Rattle.table_set.specs.TableFaults.{HasTableFault}
-use Rattle.lookup_core.specs.Report.{report}
 use Rattle.cli_look.specs.LookAnswers.{Looking}
+use Rattle.cli_look.specs.Questions.{HasFaultFor, answer_text}
+use Rattle.cli_look.specs.declared.question.Question.{Question}
 
 -- a file of at most so many bytes in which its reader finds nothing wrong, as that keeps it
 pub record IsSoundElf (file : List ℕ) (elf : Elf) : Type 0 where
@@ -18,22 +18,23 @@ pub record IsSoundElf (file : List ℕ) (elf : Elf) : Type 0 where
   pub sound : IsSound file
   pub read : IsElfOf file elf
 
--- no fault is present, and this is the report on an address
-pub record IsReportOf (address : ℕ) (file text : List ℕ) : Type 0 where
-  pub elf : Elf
-  pub read : IsSoundElf file elf
-  pub tables : IsFree (HasTableFault elf)
-  pub code_fits : HasTooMuchCode file → ⊥
-  pub text_is : text ≡ report elf address
+module _ (question : Question) where
+  -- no fault is present, and this is the answer at an address
+  pub record IsAnswerAt (address : ℕ) (file text : List ℕ) : Type 0 where
+    pub elf : Elf
+    pub read : IsSoundElf file elf
+    pub tables : IsFree (HasFaultFor question elf)
+    pub code_fits : HasTooMuchCode file → ⊥
+    pub text_is : text ≡ answer_text question address elf
 
--- Length comes first; then what is wrong in the file, and in its tables; and then the size of its code.
-pub data CannotLookUp (file : List ℕ) (fault : Fault) : Type 0 where
-  too_long : file_limit < length file → fault ≡ fault_at TooLarge 0 → CannotLookUp file fault
-  unsound : length file ≤ file_limit → IsFirstFault file fault → CannotLookUp file fault
-  bad_table : (elf : Elf) → IsSoundElf file elf → IsAnswered (HasTableFault elf) fault → CannotLookUp file fault
-  much_code : (elf : Elf) → IsSoundElf file elf → IsFree (HasTableFault elf) → HasTooMuchCode file
-      → fault ≡ fault_at TooLarge 2 → CannotLookUp file fault
+  -- Length comes first; then what is wrong in the file, and in its tables; and then the size of its code.
+  pub data CannotLookUp (file : List ℕ) (fault : Fault) : Type 0 where
+    too_long : file_limit < length file → fault ≡ fault_at TooLarge 0 → CannotLookUp file fault
+    unsound : length file ≤ file_limit → IsFirstFault file fault → CannotLookUp file fault
+    bad_table : (elf : Elf) → IsSoundElf file elf → IsAnswered (HasFaultFor question elf) fault → CannotLookUp file fault
+    much_code : (elf : Elf) → IsSoundElf file elf → IsFree (HasFaultFor question elf) → HasTooMuchCode file
+        → fault ≡ fault_at TooLarge 2 → CannotLookUp file fault
 
--- the command `lookup` at an address
-abbrev pub looking_up : ℕ → Looking
-looking_up address = record { Says = IsReportOf address; Refuses = CannotLookUp }
+-- a command that asks this of an address
+abbrev pub looking_up : Question → ℕ → Looking
+looking_up question address = record { Says = IsAnswerAt question address; Refuses = CannotLookUp question }

@@ -1,0 +1,131 @@
+"""What scripts on debug data share: programs with all debug tables, the addresses of their instructions, and what the tool
+answers at each of them."""
+import concurrent.futures
+import os
+import re
+import subprocess
+import tempfile
+import time
+
+from frames import mend_tables
+from profiles import CROSS, output
+from real_programs import (COMPILE, LAYOUTS, LINK, MACHINE, NO_DATA, OF_LINKER, OWN_TABLES, PICOLIBC, PROGRAMS, TABLES, UNWINDING,
+                           call, linker_of)
+
+# GNU as writes frame tables that aren't as DWARF has them, so GCC writes its own.
+KINDS = {"gcc": [*OWN_TABLES, "-g"], "clang": [*TABLES, "-g"]}
+
+
+def bare_libraries(folder, libraries):
+    """The libraries of a link without their debug data: GNU as gives functions of assembly a high address in a form that can't be
+    changed in place, and its frame tables aren't as DWARF has them."""
+    found = []
+    for word in libraries:
+        paths = [word] if word.endswith(".a") else []
+        if word in ("-lc", "-lgcc"):
+            paths = [output([CROSS + "gcc", *MACHINE, f"-print-file-name=lib{word[2:]}.a"]).strip()]
+            if word == "-lc":
+                paths = [os.path.join(PICOLIBC, "lib", "rv64im", "lp64", "libc.a")]
+        for path in paths:
+            copy = os.path.join(folder, "bare-" + os.path.basename(path))
+            if not os.path.exists(copy):
+                call([CROSS + "objcopy", "-g", path, copy])
+            found.append(copy)
+    return ["-Wl,--start-group", *found, "-Wl,--end-group"]
+
+
+def build_with_tables(path, program, compiler, parts, level):
+    """Builds a program of `programs` with all debug tables of its own code."""
+    front, libraries = parts
+    folder = os.path.dirname(path)
+    objects = []
+    for source in ["start.c", *UNWINDING.get(program, ([program + ".c"],))[0]]:
+        objects.append(f"{path}.{source}.o")
+        kind = ["-fno-rtti"] if source.endswith(".cc") else []
+        compiled = [word for word in COMPILE if word != "-g0"]
+        call([*front, *MACHINE, *compiled, *KINDS[compiler], *kind, level, "-isystem", os.path.join(PICOLIBC, "include"), "-c",
+              os.path.join(PROGRAMS, source), "-o", objects[-1]])
+    layout = LAYOUTS["tables"] if program in UNWINDING else [*LAYOUTS["tables"], *OF_LINKER.get((compiler, "tables"), [])]
+    call([*front, *MACHINE, "-nostdlib", *LINK, *layout, *linker_of(folder, program, compiler), *objects,
+          *bare_libraries(folder, libraries), "-o", path])
+    mend_tables(path)  # also those of libraries
+    for name in objects:
+        os.remove(name)
+
+
+def instructions(path, section=".text"):
+    """The addresses at which objdump finds instructions."""
+    text = output([CROSS + "objdump", "-d", "-j", section, "--no-show-raw-insn", path])
+    return [int(row[1], 16) for row in re.finditer(r"^ *([0-9a-f]+):\t", text, re.M)]
+
+
+def asked(tool, command, path, addresses):
+    """What the tool prints of each address, in order."""
+    def ask(address):
+        done = subprocess.run([*tool, command, path, f"{address:x}"], capture_output=True, text=True, errors="replace", check=False)
+        return done.stdout if done.returncode == 0 else f"{done.returncode} {done.stdout}"
+
+    with concurrent.futures.ThreadPoolExecutor(os.cpu_count()) as pool:
+        return list(pool.map(ask, addresses))
+
+
+# A function of a large program: with an inlined one, local variables, a loop and a switch.
+FUNCTION = """
+static inline int clamp_@(int value, int low) { int most = low + @; return value < low ? low : value > most ? most : value; }
+__attribute__((noinline)) int f@(int *values, int count) {
+    int sum = @;
+    for (int i = 0; i < count; i++) {
+        int value = values[i] + i * @;
+        sum += value % 3 ? clamp_@(value, sum & 63) : clamp_@(value * 5, i);
+        if (sum > 100000) { int half = sum / 2; sum = half - @; }
+    }
+    return sum & 1 ? f$(values, count / 2) + sum : sum;
+}
+"""
+
+
+def build_large(path, mib):
+    """Builds a program of about so many MiB with all tables, of units of 200 functions each by GCC, and gives an address in the
+    middle of its code, of an inlined function."""
+    folder = os.path.dirname(path)
+    source, one = (os.path.join(folder, name) for name in ("unit.c", "unit.o"))
+    with open(source, "w", encoding="ascii") as file:
+        file.write("int f0(int *values, int count);\n")
+        for k in range(200):
+            file.write(FUNCTION.replace("@", str(k)).replace("$", str(max(k - 1, 0))))
+    call([CROSS + "gcc", *MACHINE, *OWN_TABLES, "-g", "-O2", "-c", source, "-o", one])
+    count = max(1, round(mib * 2**20 / (1.04 * os.path.getsize(one))))
+    objects = [os.path.join(folder, f"unit{k}.o") for k in range(count)]
+    for k, copy in enumerate(objects):
+        call([CROSS + "objcopy", f"--prefix-symbols=u{k}_", one, copy])
+    start = os.path.join(folder, "start-large.c")
+    with open(start, "w", encoding="ascii") as file:
+        calls = "".join(f"int u{k}_f199(int *, int); " for k in range(count))
+        sums = " + ".join(f"u{k}_f199(values, 4)" for k in range(count))
+        file.write(f"{calls}\nvoid _start(void) {{ int values[4] = {{1, 2, 3, 4}}; register int a0 __asm__(\"a0\") = {sums}; "
+                   "register int a7 __asm__(\"a7\") = 93; __asm__ volatile(\"ecall\" : : \"r\"(a0), \"r\"(a7)); __builtin_unreachable(); }\n")
+    call([CROSS + "gcc", *MACHINE, *OWN_TABLES, "-g", "-O2", "-nostdlib", "-nostartfiles", *LINK, "-Wl,-Ttext-segment=0x100000",
+          "-Wl,-z,max-page-size=0x100000", start, *objects, "-o", path])
+    for name in [*objects, one]:
+        os.remove(name)
+    names = [line.split() for line in output([CROSS + "nm", path]).splitlines()]
+    low = next(int(row[0], 16) for row in names if row[-1] == f"u{count // 2}_f100")
+    text = output([CROSS + "objdump", "-d", "--no-show-raw-insn", f"--start-address={low}", f"--stop-address={low + 256}", path])
+    places = [int(row[1], 16) for row in re.finditer(r"^ *([0-9a-f]+):\t", text, re.M)]
+    inlined = subprocess.run(["llvm-symbolizer", "-e", path, *(f"0x{at:x}" for at in places)], capture_output=True, text=True, check=False)
+    parts = inlined.stdout.split("\n\n")
+    return next((at for at, part in zip(places, parts) if len(part.splitlines()) > 2), low)
+
+
+def best_of(command, runs):
+    """The best seconds of the clock, the peak in MiB, and what was printed, in one line."""
+    best, peak, said = float("inf"), 0, ""
+    for _ in range(runs):
+        with tempfile.TemporaryFile() as printed:
+            began = time.monotonic()
+            process = subprocess.Popen(command, stdout=printed, stderr=subprocess.DEVNULL)
+            _, _, usage = os.wait4(process.pid, 0)
+            best, peak = min(best, time.monotonic() - began), max(peak, usage.ru_maxrss / 1024)
+            printed.seek(0)
+            said = " / ".join(printed.read().decode(errors="replace").split("\n"))[:100]
+    return best, peak, said

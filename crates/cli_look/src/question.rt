@@ -1,0 +1,45 @@
+// What is asked of the tables of a file at an address.
+ghost use Rattle.std.specs.Prelude.{◌≡◌, IfErr, IfOk, OnOk};
+ghost use Rattle.rb_bytes.specs.FirstFault.{IsFree, IsRefusalBy};
+ghost use Rattle.cli_look.specs.Questions.{HasFaultFor, answer_text};
+
+use crate::frame_lines::frames_text;
+use elf_image::Elf;
+use inline_frames::frames;
+use lookup_core::look;
+use rb_bytes::fault::Refusal;
+use std::alloc::Global;
+
+/// What is asked of an address.
+#[derive(Clone, Copy, PartialEq, Eq, Debug)]
+pub enum Question {
+    /// All that the tables say of it.
+    Report,
+    /// The functions that it belongs to, inlined ones among them, and where control is in each.
+    Frames,
+}
+
+/// The answer in lines, or the fault with the lowest number of the tables that it needs.
+pub fn answer(
+    alloc: Global,
+    elf: &Elf<'_>,
+    question: Question,
+    address: u64,
+) -> Result<Vec<u8>, Refusal>
+    ensures text { IfOk result (λ text. text.items ≡ answer_text question address elf.now) }
+    ensures sound { OnOk result (IsFree (HasFaultFor question elf.now)) }
+    ensures fault { IfErr result (IsRefusalBy (HasFaultFor question elf.now)) }
+{
+    match question {
+        Question::Report => {
+            let report = look(alloc, elf, address)?;
+            let text = Vec::from_slice(alloc, report.text())?;
+            Ok(text)
+        }
+        Question::Frames => {
+            let frames = frames(alloc, elf, address)?;
+            let text = frames_text(alloc, &frames)?;
+            Ok(text)
+        }
+    }
+}
