@@ -1,3 +1,4 @@
 pub mod FaultCounts
+pub mod ImageFiles
 pub mod InputAnswering
 mod ProgramFiles

@@ -7,17 +7,16 @@ use Rattle.program.specs.Limits.{IsCodeTooLarge, IsLimitFault, file_limit}
 use Rattle.program.specs.Program.{IsProgramOf, program_seen}
 use Rattle.program.specs.Refusals.{IsRefusalFor, IsUnreadable}
 use Rattle.program.specs.declared.program.Program.{Program}
-use Rattle.program.specs.declared.unbuilt.Unbuilt.TheVariants.{Nothing}
 use Rattle.cli_base.specs.ProgramFiles.{IsNoProgram, IsFileProgram, large_code, unreadable}
 
 module _ (file : List ℕ) where
-  pub unreadable_refused : length file ≤ file_limit → (r : Refusal) → IsRefusalFor (IsUnreadable Nothing file) r →
+  pub unreadable_refused : length file ≤ file_limit → (r : Refusal) → IsRefusalFor (IsUnreadable file) r →
       IsRefusalFor (IsNoProgram file) r
   unreadable_refused fits (refusal.Fault fault) is = unreadable fits is
   unreadable_refused fits refusal.Memory is = tt
 
   -- `given` are its functions as a slice
-  module _ (p : Program) (given : List Func) (is : IsProgramOf Nothing file (program_seen p)) (same : given ≡ p.funcs.items) where
+  module _ (p : Program) (given : List Func) (is : IsProgramOf file (program_seen p)) (same : given ≡ p.funcs.items) where
     refused : (r : Refusal) → IsRefusalFor (IsLimitFault (IsCodeTooLarge file p.funcs.items)) r →
         IsRefusalFor (IsNoProgram file) r
     refused (refusal.Fault fault) limit = large_code p.elf is.faultless p.funcs.items is.code_is.funcs limit

@@ -1,4 +1,5 @@
 pub mod BothRead
+pub mod ImageFiles
 pub mod Inputs
 pub mod Lines
 pub mod PrintedLines

@@ -11,11 +11,10 @@ use Rattle.cfi_rows.specs.Frames.{tabled}
 use Rattle.program.specs.Limits.{IsCodeTooLarge, IsLimitFault, file_limit}
 use Rattle.program.specs.Program.{IsFaultless, IsProgramOf, Program}
 use Rattle.program.specs.Refusals.{IsUnreadable}
-use Rattle.program.specs.declared.unbuilt.Unbuilt.TheVariants.{Nothing}
 
 pub record IsProgramFile (file : List ℕ) : Type 0 where
   pub elf : Elf
-  pub faultless : IsFaultless Nothing file elf
+  pub faultless : IsFaultless file elf
   pub funcs : List Func
   pub funcs_are : AreFunctions elf (tabled elf) funcs
   pub within : (place : ℕ) → IsCodeTooLarge file funcs place → ⊥
@@ -23,11 +22,11 @@ pub record IsProgramFile (file : List ℕ) : Type 0 where
 -- Why a file is none: its length comes first, then why it isn't read, and then the size of its code.
 pub data IsNoProgram (file : List ℕ) (fault : Fault) : Type 0 where
   too_long : file_limit < length file → fault ≡ fault_at TooLarge 0 → IsNoProgram file fault
-  unreadable : length file ≤ file_limit → IsUnreadable Nothing file fault → IsNoProgram file fault
-  large_code : (elf : Elf) → IsFaultless Nothing file elf → (funcs : List Func) → AreFunctions elf (tabled elf) funcs
+  unreadable : length file ≤ file_limit → IsUnreadable file fault → IsNoProgram file fault
+  large_code : (elf : Elf) → IsFaultless file elf → (funcs : List Func) → AreFunctions elf (tabled elf) funcs
       → IsLimitFault (IsCodeTooLarge file funcs) fault → IsNoProgram file fault
 
 -- the program of a file
 pub record IsFileProgram (file : List ℕ) (x : Program) : Type 0 where
-  pub program : IsProgramOf Nothing file x
+  pub program : IsProgramOf file x
   pub within : (place : ℕ) → IsCodeTooLarge file x.code.funcs place → ⊥

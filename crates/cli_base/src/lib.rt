@@ -1,6 +1,7 @@
 //! What the commands share: how they end, the lines that say it, refusals, and the reading of files.
 #![tactic(auto)]
 
+mod images;
 mod inputs;
 pub mod lines;
 mod printing;
@@ -9,6 +10,7 @@ mod reading;
 mod refusal;
 pub mod status;
 
+pub use images::file_image;
 pub use inputs::{InputArgs, Inputs, read_inputs};
 pub use printing::print_line;
 pub use programs::file_program;

@@ -5,7 +5,7 @@ ghost use Rattle.program.specs.Program.{program_seen};
 ghost use Rattle.program.specs.Refusals.{IsRefusalFor};
 ghost use Rattle.cli_base.specs.ProgramFiles.{IsNoProgram, IsFileProgram};
 
-use program::{Program, Unbuilt, check_code, read_program};
+use program::{Program, check_code, read_program};
 use rb_bytes::fault::Refusal;
 use std::alloc::Global;
 
@@ -16,7 +16,7 @@ pub fn file_program<'file>(alloc: Global, file: &'file [u8]) -> Result<Program<'
     ensures program { IfOk result (λ program. IsFileProgram file.now (program_seen program)) }
     ensures fault { IfErr result (IsRefusalFor (IsNoProgram file.now)) }
 {
-    let program = read_program(alloc, file, Unbuilt::Nothing)?;
+    let program = read_program(alloc, file)?;
     check_code(&program.elf, &program.funcs)?;
     Ok(program)
 }

@@ -34,7 +34,6 @@ use Rattle.flow_text.proofs.ProfilePairs.{code_pairs, repaired_links}
 use Rattle.program.specs.Program.{program_seen}
 use Rattle.program.specs.Refusals.{IsRefusalFor}
 use Rattle.program.specs.declared.program.Program.{Program}
-use Rattle.program.specs.declared.unbuilt.Unbuilt.TheVariants.{Nothing}
 use Rattle.program.specs.Limits.{file_limit}
 use Rattle.program.proofs.Programs.{laid_out}
 use Rattle.cli_base.specs.ProgramFiles.{IsFileProgram, IsNoProgram}
@@ -70,7 +69,7 @@ module _ (p : Program) (is : IsFileProgram p.elf.file.now (program_seen p)) wher
   module _ (funcs : List Func) (blocks : List Block) (funcs_are : funcs ≡ p.funcs.items) (blocks_are : blocks ≡ p.blocks.items) where
     pub laid : AreLaidOut funcs
     laid = subst AreLaidOut (sym funcs_are)
-        (laid_out Nothing p.elf.file.now p.elf is.program.faultless p.funcs.items is.program.code_is.funcs)
+        (laid_out p.elf.file.now p.elf is.program.faultless p.funcs.items is.program.code_is.funcs)
 
     pub stretches : AreStretches funcs blocks
     stretches =
@@ -85,18 +84,24 @@ module _ (p : Program) (is : IsFileProgram p.elf.file.now (program_seen p)) wher
     }
 
     -- the edges, by targets of jumps through tables
-    pub edges_are : (cells : List CodeCell) (targets given found edges : List (ℕ × ℕ)) → cells ≡ p.refs.cells.items →
-        given ≡ targets → edges ≡ found → AreTablePairs funcs cells targets →
-        ((cs : List CodeCell) → AreTablePairs funcs cs given → AreEdges funcs cs blocks found) →
-        AreEdges funcs p.refs.cells.items blocks edges
-    edges_are cells targets given found edges same_cells same_targets same_edges tables by =
-        subst (AreEdges funcs p.refs.cells.items blocks) (sym same_edges)
+    pub edges_are : (cells : List CodeCell) (targets given edges : List (ℕ × ℕ)) → cells ≡ p.refs.cells.items →
+        given ≡ targets → AreTablePairs funcs cells targets →
+        ((cs : List CodeCell) → AreTablePairs funcs cs given → AreEdges funcs cs blocks edges) →
+        AreEdges p.funcs.items p.refs.cells.items p.blocks.items edges
+    edges_are cells targets given edges same_cells same_targets tables by =
+        subst (λ (bs : List Block). AreEdges p.funcs.items p.refs.cells.items bs edges) blocks_are
+        (subst (λ (fs : List Func). AreEdges fs p.refs.cells.items blocks edges) funcs_are
         (by p.refs.cells.items (subst (AreTablePairs funcs p.refs.cells.items) (sym same_targets)
-        (subst (λ (cs : List CodeCell). AreTablePairs funcs cs targets) same_cells tables)))
+        (subst (λ (cs : List CodeCell). AreTablePairs funcs cs targets) same_cells tables))))
 
-    module _ (edges : List (ℕ × ℕ)) (edges_of : AreEdges funcs p.refs.cells.items blocks edges) where
+    -- The edges, as a slice.
+    module _ (found edges : List (ℕ × ℕ)) (same_edges : edges ≡ found)
+        (found_are : AreEdges p.funcs.items p.refs.cells.items p.blocks.items found) where
       pub joined : JoinBlocks blocks edges
-      joined = edges_join funcs p.refs.cells.items blocks edges edges_of
+      joined =
+          subst (λ (bs : List Block). JoinBlocks bs edges) (sym blocks_are)
+          (subst (JoinBlocks p.blocks.items) (sym same_edges)
+          (edges_join p.funcs.items p.refs.cells.items p.blocks.items found found_are))
 
       module _ (profile : List ℕ) (counts : Profile) (pairs : List Counted)
           (same : (x y : ℕ) → profile_counts counts x y ≡ count_in profile p.elf funcs x y)
@@ -123,8 +128,7 @@ module _ (p : Program) (is : IsFileProgram p.elf.file.now (program_seen p)) wher
               program = program_seen p;
               program_is = is;
               edges = edges;
-              edges_are = subst (λ (bs : List Block). AreEdges p.funcs.items p.refs.cells.items bs edges) blocks_are
-                  (subst (λ (fs : List Func). AreEdges fs p.refs.cells.items blocks edges) funcs_are edges_of);
+              edges_are = subst (AreEdges p.funcs.items p.refs.cells.items p.blocks.items) (sym same_edges) found_are;
               pairs = pairs;
               pairs_are = subst (λ (fs : List Func). ArePairs (count_in profile p.elf fs) pairs) funcs_are
                   (subst (λ (f : ℕ → ℕ → ℕ). ArePairs f pairs) (λ i x y. same x y i) exact);

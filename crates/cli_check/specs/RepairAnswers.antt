@@ -20,8 +20,8 @@ pub record IsMadeOf (names : InputNames) (files : FilesSeen) (written printed : 
   pub are_read : IsTrue files.told → AreRead files.content names file profile
   pub repair : IsRepairOf file profile written printed
 
--- The profile was written and the lines printed; or the write fails, of the file, which alone may have changed, or of the
--- lines; or nothing was written.
+-- The profile was written and the lines printed; or the write fails, of the file, which alone may have changed, or of
+-- the lines; or nothing was written.
 pub data RepairAnswers (names : RepairNames) (old new : World) (answer : Status) : Type 0 where
   done : answer ≡ status.Ok → (written printed : List ℕ) → IsMadeOf names.inputs old.files written printed
       → HoldsFile names.out written old new → TakesAll old.output.taken new.output.taken printed

@@ -18,9 +18,9 @@ pub data CannotRepair (file profile : List ℕ) (fault : Fault) : Type 0 where
   too_long : IsTooLong file profile fault → CannotRepair file profile fault
   no_program : length profile ≤ file_limit → IsNoProgram file fault → CannotRepair file profile fault
 
--- Flows on all links of the file's functions balance at each block, and prices show that they change the profile's counts
--- least. Read as a profile of the file, what is written has the flow of each edge, and the old count of each other pair; and
--- the lines are those of these flows and prices.
+-- Flows on all links of the file's functions balance at each block, and prices show that they change the profile's
+-- counts least. Read as a profile of the file, what is written has the flow of each edge, and the old count of each
+-- other pair; and the lines are those of these flows and prices.
 pub record IsRepairOf (file profile written printed : List ℕ) : Type 0 where
   pub program : Program
   pub program_is : IsFileProgram file program

@@ -4,28 +4,21 @@ use Rattle.rb_bytes.specs.Fault.{fault_at}
 use Rattle.rb_bytes.specs.declared.fault.Fault.{Fault}
 use Rattle.rb_bytes.specs.declared.fault.FaultKind.TheVariants.{TooLarge}
 use Rattle.elf_image.specs.declared.elf.Elf.{Elf}
-use Rattle.elf_image.specs.faults.FileFaults.{IsFirstFault, IsSound}
 use Rattle.elf_image.specs.file.ParsedFile.{IsElfOf}
 use Rattle.map_check.specs.FirstFalse.{Claim, IsVerdict}
 use Rattle.map_check.specs.declared.clause.Verdict.{Verdict}
-use Rattle.program.specs.Limits.{file_limit}
 use Rattle.program.specs.Program.{Program}
 use Rattle.program.specs.Room.{is_tight_program}
+use Rattle.cli_base.specs.ImageFiles.{IsImageFile, IsNoImage}
 use Rattle.cli_base.specs.Lines.{refused_line}
 use Rattle.cli_base.specs.ProgramFiles.{IsFileProgram, IsNoProgram}
 use Rattle.cli_check.specs.GivenFiles.{map_limit}
 use Rattle.cli_check.specs.VerdictLines.{refused_output_line}
 
--- an output within the limit in which the reader finds nothing wrong
+-- an output that is an image, as the reader keeps it
 pub record IsOutputFile (file : List ℕ) (elf : Elf) : Type 0 where
-  pub fits : length file ≤ file_limit
   pub read : IsElfOf file elf
-  pub sound : IsSound file
-
--- Why an output is refused: for its length, and else for what is wrong in it.
-pub data IsNoOutput (file : List ℕ) (fault : Fault) : Type 0 where
-  too_long : file_limit < length file → fault ≡ fault_at TooLarge 0 → IsNoOutput file fault
-  unsound : length file ≤ file_limit → IsFirstFault file fault → IsNoOutput file fault
+  pub image : IsImageFile file
 
 abbrev pub claim_of : Program → Elf → List ℕ → Claim
 claim_of program output map = record {
@@ -39,7 +32,7 @@ claim_of program output map = record {
 -- The input is judged first, then the output, and then the length of the map. Each is refused by a line.
 pub data IsRefusedBy (input output map : List ℕ) (fault : Fault) (line : List ℕ) : Type 0 where
   by_input : IsNoProgram input fault → line ≡ refused_line fault → IsRefusedBy input output map fault line
-  by_output : (program : Program) → IsFileProgram input program → IsNoOutput output fault →
+  by_output : (program : Program) → IsFileProgram input program → IsNoImage output fault →
       line ≡ refused_output_line fault → IsRefusedBy input output map fault line
   by_map : (program : Program) → IsFileProgram input program → (elf : Elf) → IsOutputFile output elf →
       map_limit < length map → fault ≡ fault_at TooLarge 4 → line ≡ refused_line fault →

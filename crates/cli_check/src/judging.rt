@@ -5,13 +5,14 @@ ghost use Rattle.program.specs.Program.{program_seen};
 ghost use Rattle.program.specs.Refusals.{IsRefusalFor};
 ghost use Rattle.map_check.specs.FirstFalse.{IsVerdict};
 ghost use Rattle.rb_bytes.specs.declared.fault.Refusal.TheVariants as refusal;
+ghost use Rattle.cli_base.specs.ImageFiles.{IsNoImage};
 ghost use Rattle.cli_base.specs.ProgramFiles.{IsFileProgram, IsNoProgram};
 ghost use Rattle.cli_check.specs.GivenFiles.{AreBytesGiven, FitsLimit, map_limit};
 ghost use Rattle.cli_check.specs.Judged.{AreFilesGiven, IsJudged};
-ghost use Rattle.cli_check.specs.VerifiedFiles.{IsNoOutput, IsOutputFile, claim_of};
+ghost use Rattle.cli_check.specs.VerifiedFiles.{IsOutputFile, claim_of};
 
 use crate::given::Given;
-use cli_base::file_program;
+use cli_base::{file_image, file_program};
 use elf_image::Elf;
 use map_check::{Verdict, check};
 use program::{Program, is_tight};
@@ -59,10 +60,10 @@ fn read_output<'file>(alloc: Global, file: &'file Option<Vec<u8>>) -> Result<Elf
     ensures same { (bytes : List ℕ) → AreBytesGiven file_limit file.now bytes →
         IfOk result (λ elf. elf.file.now ≡ bytes) }
     ensures refused { (bytes : List ℕ) → AreBytesGiven file_limit file.now bytes →
-        IfErr result (IsRefusalFor (IsNoOutput bytes)) }
+        IfErr result (IsRefusalFor (IsNoImage bytes)) }
 {
     match file {
-        Some(bytes) => elf_image::read(alloc, bytes),
+        Some(bytes) => file_image(alloc, bytes),
         None => Err(Refusal::Fault(Fault::at(FaultKind::TooLarge, 0))),
     }
 }

@@ -1,5 +1,6 @@
 // A profile repaired, with the lines that show that no other one changes less.
 ghost use Rattle.std.specs.Prelude.{◌≤◌, length, IfErr, IfOk};
+ghost use Rattle.rv_code.specs.layout.Edges.{AreEdges};
 ghost use Rattle.program.specs.Limits.{file_limit};
 ghost use Rattle.program.specs.Program.{program_seen};
 ghost use Rattle.program.specs.Refusals.{IsRefusalFor};
@@ -19,8 +20,8 @@ pub struct Outputs {
     pub lines: Vec<u8>,
 }
 
-/// Repairs the profile of an input, or says which fault keeps it from that: `TooLarge` for a length, the faults 1 to 17,
-/// or `TooLarge` for the code.
+/// Repairs the profile of an input, or says which fault keeps it from that: `TooLarge` for a length, the faults 1 to
+/// 17, or `TooLarge` for the code.
 pub fn repaired(alloc: Global, inputs: &Inputs) -> Result<Outputs, Refusal>
     requires file { length inputs.now.file.items ≤ file_limit }
     requires profile { length inputs.now.profile.items ≤ file_limit }
@@ -31,6 +32,19 @@ pub fn repaired(alloc: Global, inputs: &Inputs) -> Result<Outputs, Refusal>
     let program = file_program(alloc, &inputs.file)?;
     let made = repaired_counts(alloc, &program, &inputs.profile)?;
     Ok(made)
+}
+
+// The edges between the blocks of a program, those of jumps through tables among them.
+fn edges_of(alloc: Global, program: &Program<'_>) -> Result<Vec<(usize, usize)>, NoMemory>
+    requires { IsFileProgram program.now.elf.file.now (program_seen program.now) }
+    ensures { IfOk result (λ edges.
+        AreEdges program.now.funcs.items program.now.refs.cells.items program.now.blocks.items edges.items) }
+{
+    let funcs = program.funcs.as_slice();
+    let blocks = program.blocks.as_slice();
+    let targets = jump_tables::tables(alloc, funcs, &program.refs.cells)?;
+    let edges = cfg_build::edges(alloc, funcs, blocks, &targets)?;
+    Ok(edges)
 }
 
 // Repairs a profile of a program.
@@ -46,8 +60,7 @@ fn repaired_counts(
 {
     let funcs = program.funcs.as_slice();
     let blocks = program.blocks.as_slice();
-    let targets = jump_tables::tables(alloc, funcs, &program.refs.cells)?;
-    let found = cfg_build::edges(alloc, funcs, blocks, &targets)?;
+    let found = edges_of(alloc, program)?;
     let edges = found.as_slice();
     let counts = edge_profile::read(alloc, profile, &program.elf, funcs)?;
     let pairs = counts.pairs();

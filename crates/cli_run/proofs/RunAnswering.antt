@@ -1,5 +1,5 @@
 -- From what the steps of `run` come to, to the answers of the whole, in either mode.
-use Rattle.std.proofs.Common.{◌≡◌, ◌∙◌, ◌<◌, ◌≤◌, ◌⊎◌, sym, ap, subst, inl, inr, Bool, false, ℕ, List, length, Option, Some}
+use Rattle.std.proofs.Common.{◌≡◌, ◌∙◌, ◌<◌, ◌≤◌, ◌⊎◌, sym, ap, subst, inl, inr, ℕ, List, length, Option, Some}
 use Rattle.std.proofs.Common.{None, IsTrue, IsSomeAnd}
 use Rattle.std.specs.Prelude.{unwrap_or}
 use Rattle.rb_io.specs.Names.{Unchanged}
@@ -28,10 +28,6 @@ use Rattle.cli_run.specs.RunArgs.{RunArgs}
 use Rattle.cli_base.specs.World.{World}
 use Rattle.cli_base.specs.declared.status.Status.{Status}
 use Rattle.cli_base.specs.declared.status.Status.TheVariants as status
-
--- what a test would have told isn't so, where the test fails
-pub denied : (P : Type 0) (answer : Bool) → (P → IsTrue answer) → answer ≡ false → P → ⊥
-denied P answer tells fails p = let holds = tells p in absurd (cc)
 
 -- a file that is too long, and one with a fault
 present_long : (content : Option (List ℕ)) (Has P : List ℕ → Type 0) → ((file : List ℕ) → Has file → P file) →

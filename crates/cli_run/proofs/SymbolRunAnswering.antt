@@ -9,8 +9,7 @@ use Rattle.elf_readings.proofs.Readings.{reading_law}
 use Rattle.cfi_rows.specs.Frames.{tabled}
 use Rattle.program.specs.Limits.{IsCodeTooLarge, many_functions, much_code}
 use Rattle.program.specs.Program.{Program}
-use Rattle.program.specs.Refusals.{IsUnreadable, bad_code, not_built, unsound}
-use Rattle.program.specs.declared.unbuilt.Unbuilt.TheVariants.{Nothing}
+use Rattle.program.specs.Refusals.{IsUnreadable, bad_code, unsound}
 use Rattle.cli_base.specs.ProgramFiles.{IsFileProgram, IsProgramFile, IsNoProgram, large_code, too_long}
 use Rattle.cli_run.specs.run.SymbolRuns.{symbol_mode}
 use Rattle.cli_base.specs.ProgramFiles.{unreadable}
@@ -23,9 +22,8 @@ by_count : (file : List ℕ) (funcs funcs' : List Func) → length funcs ≡ len
 by_count file funcs funcs' same place (much_code e much) = much_code e much
 by_count file funcs funcs' same place (many_functions e many) = many_functions e (omega (arith, same, many))
 
-readable : (file : List ℕ) (fault : Fault) → IsUnreadable Nothing file fault → IsProgramFile file → ⊥
+readable : (file : List ℕ) (fault : Fault) → IsUnreadable file fault → IsProgramFile file → ⊥
 readable file fault (unsound present) can = can.faultless.plain.sound fault.kind fault.place present.present
-readable file fault (not_built sound frames e) can = can.faultless.plain.no_tables frames
 readable file fault (bad_code plain elf is has) can =
     let one = reading_law file elf can.elf is can.faultless.read (tabled elf) in
     let free = subst (λ (ranges : List (ℕ × ℕ)). IsFree (HasCodeFault can.elf ranges))

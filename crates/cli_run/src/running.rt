@@ -5,10 +5,10 @@ ghost use Rattle.cli_run.specs.RunArgs.{run_given};
 ghost use Rattle.cli_run.specs.run.Serving.{ServesRun};
 ghost use Rattle.cli_base.specs.World.{world};
 
-use crate::byte_run::{run_elf, runnable_file};
+use crate::byte_run::run_elf;
 use crate::run_args::RunArgs;
 use crate::symbol_run::run_program;
-use cli_base::{Status, file_program, read_file, refuse};
+use cli_base::{Status, file_image, file_program, read_file, refuse};
 use program::FILE_LIMIT;
 use rb_io::{Files, Sink, Source};
 use std::alloc::Global;
@@ -41,7 +41,7 @@ pub fn run<F: Files, I: Source, O: Sink>(
         Err(answer) => return answer,
     };
     match mode {
-        RunMode::Bytes => match runnable_file(alloc, &file) {
+        RunMode::Bytes => match file_image(alloc, &file) {
             Ok(elf) => run_elf(alloc, args, &elf, input, out),
             Err(refusal) => refuse(alloc, refusal, out),
         },

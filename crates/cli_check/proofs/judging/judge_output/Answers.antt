@@ -3,14 +3,15 @@ use Rattle.std.specs.declared.alloc.Global.{Global}
 use Rattle.map_check.specs.FirstFalse.{IsVerdict}
 use Rattle.program.specs.Program.{program_seen}
 use Rattle.program.specs.Refusals.{IsRefusalFor}
+use Rattle.cli_base.specs.ImageFiles.{IsNoImage}
 use Rattle.cli_check.specs.GivenFiles.{AreBytesGiven, map_limit}
-use Rattle.cli_check.specs.VerifiedFiles.{IsNoOutput, IsOutputFile, by_map, by_output, claim_of}
+use Rattle.cli_check.specs.VerifiedFiles.{IsOutputFile, by_map, by_output, claim_of}
 use Rattle.cli_check.proofs.judging.judge_output.Goals as goal
 
 pub returns-in-Err : goal.returns-in-Err
 returns-in-Err c = λ output map given mapped.
     by_output (program_seen c.args.program.now) c.requires.program
-    (subst (IsRefusalFor (IsNoOutput output)) c.in_ok-fault_of-in-Err.ensures (c.in-Err.ensures.refused output given)) refl
+    (subst (IsRefusalFor (IsNoImage output)) c.in_ok-fault_of-in-Err.ensures (c.in-Err.ensures.refused output given)) refl
 
 pub returns-in-Some : goal.returns-in-Some
 returns-in-Some c = λ output map given mapped.

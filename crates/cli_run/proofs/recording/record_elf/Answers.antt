@@ -3,7 +3,6 @@ use Rattle.rv_machine.specs.StepResults.{answered}
 use Rattle.std.proofs.Common.{subst, sym}
 use Rattle.rv_code.specs.layout.FunctionLists.{AreLaidOut}
 use Rattle.program.specs.Program.{Program, program_seen}
-use Rattle.program.specs.declared.unbuilt.Unbuilt.TheVariants.{Nothing}
 use Rattle.program.proofs.Programs.{laid_out}
 use Rattle.cli_run.specs.RunArgs.{record_given}
 use Rattle.cli_run.specs.RunArgs.{RecordArgs}
@@ -15,7 +14,7 @@ pub trace_edges-recorded-requires-clause-funcs : goal.trace_edges-recorded-requi
 trace_edges-recorded-requires-clause-funcs g c =
     let is = c.requires.program.program in
     subst AreLaidOut (sym c.as_slice-funcs.ensures.value)
-    (laid_out Nothing _ c.args.program.now.elf is.faultless c.args.program.now.funcs.items is.code_is.funcs)
+    (laid_out _ c.args.program.now.elf is.faultless c.args.program.now.funcs.items is.code_is.funcs)
 
 pub returns-clause-recorded : goal.returns-clause-recorded
 returns-clause-recorded g c =

@@ -21,8 +21,8 @@ returns-in-Err-clause-serves g c =
     unread_serves args old new c.in-Err.answer c.in-Err.ensures.kept refl c.in-Err.ensures.unread c.in-Err.ensures.files_go_on
     c.in-Err.ensures.never_falls c.args.mode
 
-pub returns-in-Ok-runnable_file-clause-serves : goal.returns-in-Ok-runnable_file-clause-serves
-returns-in-Ok-runnable_file-clause-serves g c =
+pub returns-in-Ok-file_image-clause-serves : goal.returns-in-Ok-file_image-clause-serves
+returns-in-Ok-file_image-clause-serves g c =
     let args : RunArgs = run_given c.args.args.now in
     let old : World = world (g.F.Files.seen c.args.files.now) (g.I.Source.seen c.args.input.now) (g.O.Sink.seen c.args.out.now) in
     let mid : World =
@@ -34,12 +34,12 @@ returns-in-Ok-runnable_file-clause-serves g c =
     subst (λ (m : RunMode). ServesRun m args c.run_elf.result old new) (sym c.in-Bytes.is)
     (serves byte_mode args old new c.run_elf.result
     (run_answered byte_mode args old new by_bytes.lawful c.run_elf.result c.in-Ok.ensures.kept c.deref.result.now
-    c.in-Ok-runnable_file.elf.file.now
+    c.in-Ok-file_image.elf.file.now
     mid.output c.in-Ok.ensures.unprinted
     (λ told. passed_is (old.files.content args.file) c.in-Ok.file.items c.deref.result.now c.deref.ensures.value
     (c.in-Ok.ensures.read told)) (record {
-      program_is = c.in-Ok-runnable_file.ensures.fields.file_is;
-      runnable = c.in-Ok-runnable_file.ensures.runnable;
+      program_is = c.in-Ok-file_image.ensures.fields.file_is;
+      image = c.in-Ok-file_image.ensures.image;
     }) c.run_elf.ensures.ran.answers c.run_elf.ensures.ran.exact)
     c.in-Ok.ensures.files_go_on c.run_elf.ensures.reads (omega arith))
 
@@ -56,9 +56,9 @@ returns-in-Bytes-clause-serves g c =
     subst (λ (m : RunMode). ServesRun m args c.refuse.result old new) (sym c.in-Bytes.is)
     (serves byte_mode args old new c.refuse.result
     (file_refused byte_mode args old new by_bytes.lawful (λ quiet. quiet) c.refuse.result c.in-Ok.ensures.kept refl
-    c.deref.result.now c.in-Err-runnable_file.refusal mid.output c.in-Ok.ensures.unprinted
+    c.deref.result.now c.in-Err-file_image.refusal mid.output c.in-Ok.ensures.unprinted
     (λ told. passed_is (old.files.content args.file) c.in-Ok.file.items c.deref.result.now c.deref.ensures.value
-    (c.in-Ok.ensures.read told)) c.in-Err-runnable_file.ensures.fault c.refuse.ensures.refused)
+    (c.in-Ok.ensures.read told)) c.in-Err-file_image.ensures.fault c.refuse.ensures.refused)
     c.in-Ok.ensures.files_go_on (omega arith) (omega arith))
 
 pub returns-in-Ok-file_program-clause-serves : goal.returns-in-Ok-file_program-clause-serves

@@ -13,7 +13,6 @@ use Rattle.sym_machine.specs.declared.machine.SymMachine.{SymMachine}
 use Rattle.cli_run.specs.RunArgs.{run_given}
 use Rattle.cfi_rows.specs.Frames.{tabled}
 use Rattle.program.specs.Program.{Program, program_seen}
-use Rattle.program.specs.declared.unbuilt.Unbuilt.TheVariants.{Nothing}
 use Rattle.program.proofs.Programs.{laid_out}
 use Rattle.cli_run.specs.run.Phases.{Closed}
 use Rattle.cli_run.specs.run.SymbolRuns.{symbol_machine}
@@ -41,7 +40,7 @@ started m elf given tight given_cells cells args same_tight same_cells loaded in
 pub is_tight-requires-clause-laid : goal.is_tight-requires-clause-laid
 is_tight-requires-clause-laid g c =
     let is = c.requires.program.program in
-    laid_out Nothing _ c.args.program.now.elf is.faultless c.args.program.now.funcs.items is.code_is.funcs
+    laid_out _ c.args.program.now.elf is.faultless c.args.program.now.funcs.items is.code_is.funcs
 
 pub is_tight-requires-clause-blocks : goal.is_tight-requires-clause-blocks
 is_tight-requires-clause-blocks g c = ((program_seen c.args.program.now).code, refl, c.requires.program.program.blocks_are)
@@ -50,7 +49,7 @@ pub load-requires-clause-laid_out : goal.load-requires-clause-laid_out
 load-requires-clause-laid_out g c =
     let is = c.requires.program.program in
     subst AreLaidOut (sym c.as_slice-funcs.ensures.value)
-    (laid_out Nothing _ c.args.program.now.elf is.faultless c.args.program.now.funcs.items is.code_is.funcs)
+    (laid_out _ c.args.program.now.elf is.faultless c.args.program.now.funcs.items is.code_is.funcs)
 
 pub load-requires-clause-cells : goal.load-requires-clause-cells
 load-requires-clause-cells g c =
