@@ -16,7 +16,7 @@ abbrev pub named : ℕ → Attr → Bool
 named k a = a.name == k
 
 -- a name that no change takes or gives
-record IsKept (k : ℕ) : Type 0 where
+pub record IsKept (k : ℕ) : Type 0 where
   pub high : (0x12 == k) ≡ false
   pub low : (0x11 == k) ≡ false
   pub entry : (0x52 == k) ≡ false
@@ -28,8 +28,39 @@ record IsKept (k : ℕ) : Type 0 where
 ranges_kept : IsKept 0x55
 ranges_kept = record { high = refl; low = refl; entry = refl; unused_low = refl; macros = refl; views = refl; unused_table = refl }
 
-base_kept : IsKept 0x74
-base_kept = record { high = refl; low = refl; entry = refl; unused_low = refl; macros = refl; views = refl; unused_table = refl }
+-- and that none of the attributes has that stand for a high address
+pub record IsOther (k : ℕ) : Type 0 where
+  pub kept : IsKept k
+  pub ranges : (0x55 == k) ≡ false
+  pub spare : (0x3f10 == k) ≡ false
+
+pub range_base : IsOther 0x74
+range_base = record {
+  kept = record { high = refl; low = refl; entry = refl; unused_low = refl; macros = refl; views = refl; unused_table = refl };
+  ranges = refl;
+  spare = refl;
+}
+
+pub location_base : IsOther 0x8c
+location_base = record {
+  kept = record { high = refl; low = refl; entry = refl; unused_low = refl; macros = refl; views = refl; unused_table = refl };
+  ranges = refl;
+  spare = refl;
+}
+
+pub location : IsOther 0x02
+location = record {
+  kept = record { high = refl; low = refl; entry = refl; unused_low = refl; macros = refl; views = refl; unused_table = refl };
+  ranges = refl;
+  spare = refl;
+}
+
+pub frame_base : IsOther 0x40
+frame_base = record {
+  kept = record { high = refl; low = refl; entry = refl; unused_low = refl; macros = refl; views = refl; unused_table = refl };
+  ranges = refl;
+  spare = refl;
+}
 
 named_not : (n j k : ℕ) → (n == j) ≡ true → (j == k) ≡ false → (n == k) ≡ false
 named_not n j k e f = ap (λ (x : ℕ). x == k) (eqb-true n j e) ∙ f
@@ -75,6 +106,16 @@ module _ (m : Moves) (own first : Bool) (e : Entry) where
     len = a.len;
     value = unwrap_or (new_value m own first e a) a.value;
   }
+
+  -- the ranges that stand for a high address, and what its other bytes do
+  abbrev pub for_high : Attr → Attr
+  for_high h = record { name = 0x55; form = 0x17; place = h.place; len = 4; value = unwrap_or (new_list_offset m.lists e.place 0x55) 0 }
+
+  abbrev unused_high : Attr → Attr
+  unused_high h = record { name = 0x3f10; form = 0x06; place = h.place + 4; len = 4; value = 0 }
+
+  abbrev unused : Attr → Bool → List Attr
+  unused h b = if b then unused_high h ∷ [] else []
 
   other : (a : Attr) → (a.name == 0x12) ≡ false → change a ≡ changed a ∷ []
   other a f = ap (λ (b : Bool). if b then ranges_attrs m e a else changed a ∷ []) f
@@ -124,28 +165,29 @@ module _ (m : Moves) (own first : Bool) (e : Entry) where
       let p = not_there 0x12 a xs (a.name == 0x12) refl none in
       plain_step 0x55 ranges_kept a xs p.0 (same_ranges xs p.1)
 
-  -- the base of indexes
-  spare_base : (a : Attr) (b : Bool) → find (named 0x74) (if b then record { name = 0x3f10; form = 0x06; place = a.place + 4; len = 4; value = 0 } ∷ [] else []) ≡ None
-  spare_base a true = refl
-  spare_base a false = refl
-
-  same_base : (xs : List Attr) → find (named 0x74) (flat_map change xs) ≡ option_map changed (find (named 0x74) xs)
-  same_base [] = refl
-  same_base (a ∷ xs) = step (a.name == 0x12) refl (same_base xs)
+  -- an attribute that has nothing to do with ranges
+  spare_other : (k : ℕ) → IsOther k → (a : Attr) → find (named k) (ranges_attrs m e a) ≡ None
+  spare_other k i a =
+      ap (λ (b : Bool). if b then Some (for_high a) else find (named k) (unused a (a.len == 8))) i.ranges ∙ unused_other (a.len == 8)
     where
-      step : (b : Bool) → (a.name == 0x12) ≡ b → find (named 0x74) (flat_map change xs) ≡ option_map changed (find (named 0x74) xs) →
-          find (named 0x74) (flat_map change (a ∷ xs)) ≡ option_map changed (find (named 0x74) (a ∷ xs))
-      step false f more = plain_step 0x74 base_kept a xs f more
+      unused_other : (b : Bool) → find (named k) (unused a b) ≡ None
+      unused_other true = ap (λ (c : Bool). if c then Some (unused_high a) else None) i.spare
+      unused_other false = refl
+
+  same_other : (k : ℕ) → IsOther k → (xs : List Attr) → find (named k) (flat_map change xs) ≡ option_map changed (find (named k) xs)
+  same_other k i [] = refl
+  same_other k i (a ∷ xs) = step (a.name == 0x12) refl (same_other k i xs)
+    where
+      step : (b : Bool) → (a.name == 0x12) ≡ b → find (named k) (flat_map change xs) ≡ option_map changed (find (named k) xs) →
+          find (named k) (flat_map change (a ∷ xs)) ≡ option_map changed (find (named k) (a ∷ xs))
+      step false f more = plain_step k i.kept a xs f more
       step true f more =
-          find-append (named 0x74) (change a) (flat_map change xs)
-          ∙ ap (λ (l : List Attr). option_or (find (named 0x74) l) (find (named 0x74) (flat_map change xs))) (high a f)
-          ∙ ap (λ (o : Option Attr). option_or o (find (named 0x74) (flat_map change xs))) (spare_base a (a.len == 8))
-          ∙ more ∙ sym (ap (λ (b : Bool). option_map changed (if b then Some a else find (named 0x74) xs)) (named_not a.name 0x12 0x74 f refl))
+          find-append (named k) (change a) (flat_map change xs)
+          ∙ ap (λ (l : List Attr). option_or (find (named k) l) (find (named k) (flat_map change xs))) (high a f)
+          ∙ ap (λ (o : Option Attr). option_or o (find (named k) (flat_map change xs))) (spare_other k i a)
+          ∙ more ∙ sym (ap (λ (b : Bool). option_map changed (if b then Some a else find (named k) xs)) (named_not a.name 0x12 k f i.kept.high))
 
   -- the ranges that stand for a high address
-  abbrev pub for_high : Attr → Attr
-  for_high h = record { name = 0x55; form = 0x17; place = h.place; len = 4; value = unwrap_or (new_list_offset m.lists e.place 0x55) 0 }
-
   high_ranges : (xs : List Attr) (h : Attr) → find (named 0x12) xs ≡ Some h → find (named 0x55) xs ≡ None → find (named 0x55) (flat_map change xs) ≡ Some (for_high h)
   high_ranges [] h is none = absurd (cc)
   high_ranges (a ∷ xs) h is none = step (a.name == 0x12) refl is (λ is none. high_ranges xs h is none)
@@ -179,5 +221,5 @@ module _ (s : Sections) (info : List ℕ) (m : Moves) (first : Bool) (old new : 
   pub from_ranges : attr 0x12 old ≡ None → attr 0x55 new ≡ option_map (changed m own first old) (attr 0x55 old)
   from_ranges none = ap (find (named 0x55)) c.attrs ∙ same_ranges m own first old old.attrs none
 
-  pub from_base : attr 0x74 new ≡ option_map (changed m own first old) (attr 0x74 old)
-  from_base = ap (find (named 0x74)) c.attrs ∙ same_base m own first old old.attrs
+  pub from_other : (k : ℕ) → IsOther k → attr k new ≡ option_map (changed m own first old) (attr k old)
+  from_other k i = ap (find (named k)) c.attrs ∙ same_other m own first old k i old.attrs

@@ -13,7 +13,6 @@ use Rattle.table_core.specs.declared.range.Range.{Range}
 use Rattle.table_core.specs.declared.run.Run.{Run}
 use Rattle.table_core.specs.declared.written.ListAt.{ListAt}
 use Rattle.table_core.specs.AnswerRuns.{run_at}
-use Rattle.table_core.specs.ReadSteps.{first_of}
 use Rattle.table_core.proofs.UnitsBack.{IsUnit, units_bytes}
 use Rattle.dw_unit.specs.declared.entry.Attr.{Attr}
 use Rattle.dw_unit.specs.CompUnits.{Entry, Unit, attr, base, number_in, low_pc, may_repeat}
@@ -33,14 +32,18 @@ use Rattle.range_loc_rewrite.specs.ListBytes.{IsWritable}
 use Rattle.range_loc_rewrite.specs.Lists.{Located, ranges_kind, has_list, list_offset}
 use Rattle.range_loc_rewrite.specs.Ranges.{ranges_of, hold, up_to}
 use Rattle.range_loc_rewrite.specs.UnitLists.{own_place}
-use Rattle.range_loc_rewrite.specs.WrittenRanges.{bounded, group_bytes, StandsAt, IsNamed}
-use Rattle.range_loc_rewrite.proofs.ChangedAttrs.{changed, for_high, new_high, from_high, from_ranges, from_base}
+use Rattle.range_loc_rewrite.specs.WrittenRanges.{bounded}
+use Rattle.range_loc_rewrite.specs.WrittenTables.{StandsAt}
+use Rattle.range_loc_rewrite.proofs.NamedRanges.{group_list, IsNamed}
+use Rattle.range_loc_rewrite.proofs.BasesStay.{base_stays}
+use Rattle.range_loc_rewrite.proofs.ChangedAttrs.{changed, for_high, new_high, from_high, from_ranges, range_base}
 use Rattle.range_loc_rewrite.proofs.KeptLookups.{IsFound, kept_entry, same_index, sound_at, no_bounds, all_of, place_of}
 use Rattle.range_loc_rewrite.proofs.KeptPairs.{AllPaired}
 use Rattle.range_loc_rewrite.proofs.ListsThere.{list_inside, offset_there}
 use Rattle.range_loc_rewrite.proofs.OwnRanges.{listed_ranges, of_offset, own_bounds}
+use Rattle.range_loc_rewrite.proofs.PutEntries.{flat_has}
 use Rattle.range_loc_rewrite.proofs.RangesStay.{found_name, found_there, held_by, fine_by, SoundTests, tests_of, new_offset, kept_index, new_base, plain_offset, index_offset}
-use Rattle.range_loc_rewrite.proofs.SoundLists.{IsFine, AreFine, flat_contains}
+use Rattle.range_loc_rewrite.proofs.SoundLists.{IsFine, AreFine}
 
 pub record Stays (s t : ListSections) (spans : List Span) (u v : Unit) (d e : Entry) : Type 0 where
   pub held : (p o : ℕ) → owner spans p ≡ Some o → hold (ranges_of t v e) p ≡ hold (ranges_of s u d) o
@@ -51,7 +54,7 @@ some_if true = refl
 some_if false = refl
 
 -- an entry with a high address has ranges
-high_some : (s : ListSections) (u : Unit) (d : Entry) (h : Attr) → attr 0x12 d ≡ Some h → is_some (low_pc s.units.addr u d) ≡ true → ranges_of s u d ≡ None → ⊥
+pub high_some : (s : ListSections) (u : Unit) (d : Entry) (h : Attr) → attr 0x12 d ≡ Some h → is_some (low_pc s.units.addr u d) ≡ true → ranges_of s u d ≡ None → ⊥
 high_some s u d h is some none = by_low (low_pc s.units.addr u d) refl some
   where
     clash : (r : List Range) → Some r ≡ None → ⊥
@@ -64,7 +67,7 @@ high_some s u d h is some none = by_low (low_pc s.units.addr u d) refl some
         (λ i. option_and_then (λ high. option_map (λ low. up_to low high) (f i)) (is i))) ∙ none)
 
 -- and so has one with a list that can be read
-list_some : (s : ListSections) (u : Unit) (d : Entry) (a : Attr) → attr 0x12 d ≡ None → attr 0x55 d ≡ Some a → IsFine s u a → ranges_of s u d ≡ None → ⊥
+pub list_some : (s : ListSections) (u : Unit) (d : Entry) (a : Attr) → attr 0x12 d ≡ None → attr 0x55 d ≡ Some a → IsFine s u a → ranges_of s u d ≡ None → ⊥
 list_some s u d a high is fine none =
     by_list (range_list s u fine.at) refl fine.read
     (sym (no_bounds s u d high ∙ ap (listed_ranges s u) is ∙ of_offset s u a (Some fine.at) fine.offset) ∙ none)
@@ -72,20 +75,6 @@ list_some s u d a high is fine none =
     by_list : (o : Option (List Located)) → range_list s u fine.at ≡ o → is_some o ≡ true → option_map ranges_in (range_list s u fine.at) ≡ None → ⊥
     by_list None f g e = absurd (cc)
     by_list (Some ls) f g e = let x : Some (ranges_in ls) ≡ None = sym (ap (option_map ranges_in) f) ∙ e in absurd (cc)
-
--- the first of entries one by one
-record OwnPair (R : Entry → Entry → Type 0) (xs ys : List Entry) : Type 0 where
-  pub d : Entry
-  pub e : Entry
-  pub old : first_of xs ≡ Some d
-  pub new : first_of ys ≡ Some e
-  pub are : R d e
-  pub there : Contains xs d
-
-own_pair : (R : Entry → Entry → Type 0) (xs ys : List Entry) (x : Entry) → AllZip R xs ys → Contains xs x → OwnPair R xs ys
-own_pair R [] ys x z c = absurd (Contains-nil x c)
-own_pair R (d ∷ xs) [] x z c = absurd z
-own_pair R (d ∷ xs) (e ∷ ys) x z c = record { d = d; e = e; old = refl; new = refl; are = z.0; there = (0, omega arith, refl) }
 
 module _ (s t : ListSections) (tables : List (List ℕ)) (tables_are : All (IsUnit 5) tables) (ranges_are : t.ranges ≡ units_bytes tables) (spans : List Span)
     (covers : List Cover) (kept : List RangedEntry) (lists : List (Vec (Run Bool))) (names : List ListAt) (m : Moves)
@@ -100,32 +89,9 @@ module _ (s t : ListSections) (tables : List (List ℕ)) (tables_are : All (IsUn
   -- the new base of indexes
   base_by : (d : Entry) → Contains u.entries d → (r : RangedEntry) → r.own ≡ own_place u → is_some (base 0x74 u) ≡ true → (b : ℕ) →
       new_list_offset m.lists r.own 0x74 ≡ Some b → base 0x74 v ≡ Some b
-  base_by d dc r own some b offset = by_base (attr 0x74 w.d) refl
-    where
-      w : OwnPair (λ x y. IsChangedEntry s.units t.units.info m (is_first_of u x) x y) u.entries v.entries
-      w = own_pair _ u.entries v.entries d zip dc
-
-      first : is_first_of u w.d ≡ true
-      first = ap (λ (o : Option Entry). option_map_or (λ (f : Entry). f.place == w.d.place) o false) w.old ∙ eq-eqb w.d.place w.d.place refl
-
-      place : r.own ≡ w.d.place
-      place = own ∙ ap (λ (o : Option Entry). option_map_or (λ (e : Entry). e.place) o 0) w.old
-
-      based : base 0x74 u ≡ option_map (λ (a : Attr). a.value) (attr 0x74 w.d)
-      based = ap (λ (o : Option Entry). option_map (λ (a : Attr). a.value) (option_and_then (attr 0x74) o)) w.old
-
-      by_base : (o : Option Attr) → attr 0x74 w.d ≡ o → base 0x74 v ≡ Some b
-      by_base None is = let f : true ≡ false = sym some ∙ ap is_some (based ∙ ap (option_map (λ (a : Attr). a.value)) is) in absurd (cc)
-      by_base (Some a) is =
-          let tests : SoundTests s.units.addr u a = tests_of s.units.addr u w.d 0x74 a (sound_at s.units.addr us u w.d sound_old uc w.there) is in
-          let name : a.name ≡ 0x74 = found_name 0x74 w.d.attrs a is in
-          let form : a.form ≡ 0x17 = eqb-true a.form 0x17 (tests.bases (eq-eqb a.name 0x74 name)) in
-          let own_decl : Bool = is_own s.units w.d.declaration in
-          ap (λ (o : Option Entry). option_map (λ (a : Attr). a.value) (option_and_then (attr 0x74) o)) w.new
-          ∙ ap (option_map (λ (a : Attr). a.value))
-          (from_base s.units t.units.info m (is_first_of u w.d) w.d w.e w.are ∙ ap (option_map (changed m own_decl (is_first_of u w.d) w.d)) is)
-          ∙ ap (λ (b : Bool). Some (changed m own_decl b w.d a).value) first
-          ∙ ap (λ (n : ℕ). Some n) (new_base m own_decl w.d a b name form (subst (λ (n : ℕ). new_list_offset m.lists n 0x74 ≡ Some b) place offset))
+  base_by d dc r own some b offset =
+      base_stays s t m u v zip (λ d dc. sound_at s.units.addr us u d sound_old uc dc) 0x74 range_base refl d dc some b
+      (subst (λ (n : ℕ). new_list_offset m.lists n 0x74 ≡ Some b) own offset)
 
   module _ (d e : Entry) (dc : Contains u.entries d) (c : IsChangedEntry s.units t.units.info m (is_first_of u d) d e) (sound : IsSoundEntry t.units.addr v e) where
     abbrev own : Bool
@@ -136,7 +102,7 @@ module _ (s t : ListSections) (tables : List (List ℕ)) (tables_are : All (IsUn
 
     -- its list stands in a table
     stays_by : (a : Attr) → attr 0x55 e ≡ Some a → (at : ℕ) → list_offset ranges_kind t.ranges v a ≡ Some at → (r : RangedEntry) → Contains kept r →
-        StandsAt tables at (group_bytes lists r.group) → ((x : ℕ) → group_holds covers r.group x ≡ hold (ranges_of s u d) x) → Stays s t spans u v d e
+        StandsAt tables at (group_list lists r.group) → ((x : ℕ) → group_holds covers r.group x ≡ hold (ranges_of s u d) x) → Stays s t spans u v d e
     stays_by a is at offset r rc stands same = record {
       held = λ p o owned.
           held_by t v e tables tables_are ranges_are none_high sound a is at offset lists r.group stands (writable r rc) p
@@ -144,7 +110,7 @@ module _ (s t : ListSections) (tables : List (List ℕ)) (tables_are : All (IsUn
       fine = fine_by t v e tables tables_are ranges_are none_high sound a is at offset lists r.group stands (writable r rc);
     }
 
-    inside : (at : ℕ) (g : ℕ) → StandsAt tables at (group_bytes lists g) → at < length t.ranges
+    inside : (at : ℕ) (g : ℕ) → StandsAt tables at (group_list lists g) → at < length t.ranges
     inside at g stands =
         subst (λ (l : List ℕ). at < length l) (sym ranges_are) (list_inside kind.Ranges tables at (map bounded (runs_in lists g)) stands tables_are)
 
@@ -159,7 +125,7 @@ module _ (s t : ListSections) (tables : List (List ℕ)) (tables_are : All (IsUn
         let offset : new_list_offset m.lists d.place 0x55 ≡ Some n.0 =
         subst (λ (k : ℕ). new_list_offset m.lists k 0x55 ≡ Some n.0) f.kept_as.place (given f.r.place 0x55 n.0 n.1) in
         stays_by (for_high m own (is_first_of u d) d h) (from_high s.units t.units.info m (is_first_of u d) d e c h is none) n.0
-        (plain_offset t.ranges v (for_high m own (is_first_of u d) d h) n.0 refl (ap (λ (o : Option ℕ). unwrap_or o 0) offset) (inside n.0 f.r.group n.2))
+        (plain_offset ranges_kind t.ranges v (for_high m own (is_first_of u d) d h) n.0 refl (ap (λ (o : Option ℕ). unwrap_or o 0) offset) (inside n.0 f.r.group n.2))
         f.r f.there n.2 f.kept_as.held
 
     module _ (high : attr 0x12 d ≡ None) (a : Attr) (is : attr 0x55 d ≡ Some a) where
@@ -182,7 +148,7 @@ module _ (s t : ListSections) (tables : List (List ℕ)) (tables_are : All (IsUn
           let offset : new_list_offset m.lists d.place 0x55 ≡ Some n.0 =
           subst (λ (k : ℕ). new_list_offset m.lists k 0x55 ≡ Some n.0) f.kept_as.place (given f.r.place 0x55 n.0 n.1) in
           stays_by new new_is n.0
-          (plain_offset t.ranges v new n.0 form (new_offset m own (is_first_of u d) d a n.0 name form offset) (inside n.0 f.r.group n.2)) f.r f.there n.2 f.kept_as.held
+          (plain_offset ranges_kind t.ranges v new n.0 (ap (λ (n : ℕ). n == 0x23) form) (new_offset m own (is_first_of u d) d a n.0 name form offset) (inside n.0 f.r.group n.2)) f.r f.there n.2 f.kept_as.held
 
       -- it had one that was named by an index
       stays_index : a.form ≡ 0x23 → IsFound s covers u d kept → Stays s t spans u v d e
@@ -197,7 +163,7 @@ module _ (s t : ListSections) (tables : List (List ℕ)) (tables_are : All (IsUn
           base_by d dc f.r f.kept_as.own (tests.index (eq-eqb a.form 0x23 form)) n.0 (given f.r.own 0x74 n.0 n.3) in
           let there = subst (λ (l : List ℕ). number_in 4 (n.0 + 4 * a.value) l ≡ Some n.1) (sym ranges_are) (offset_there tables (n.0 + 4 * a.value) n.1 n.4 tables_are n.5) in
           stays_by new new_is (n.0 + n.1)
-          (index_offset t.ranges v new a.value n.0 n.1 form (kept_index m own (is_first_of u d) d a name form) based there (inside (n.0 + n.1) n.2.group n.9))
+          (index_offset ranges_kind t.ranges v new a.value n.0 n.1 (eq-eqb a.form 0x23 form) (kept_index m own (is_first_of u d) d a name form) based there (inside (n.0 + n.1) n.2.group n.9))
           n.2 n.8 n.9
           (λ x. same_index s covers us kept f.r n.2 a.value pairs sound_old up f.there n.8 (sym n.6) index n.7 x ∙ f.kept_as.held x)
 
@@ -207,7 +173,7 @@ module _ (s t : ListSections) (tables : List (List ℕ)) (tables_are : All (IsUn
           let tests : SoundTests s.units.addr u a = tests_of s.units.addr u d 0x55 a old is in
           let forms = tests.ranges (eq-eqb a.name 0x55 name) in
           let lists_it : has_list ranges_kind a ≡ true = both (a.name == 0x55) (a.form == 0x17 || a.form == 0x23) (eq-eqb a.name 0x55 name) forms in
-          let fine : IsFine s u a = fine_old u uc a (flat_contains u.entries d a dc (found_there 0x55 d.attrs a is)) lists_it in
+          let fine : IsFine s u a = fine_old u uc a (flat_has (λ (e : Entry). e.attrs) u.entries d a dc (found_there 0x55 d.attrs a is)) lists_it in
           ⊎_elim
           (λ (none : ranges_of s u d ≡ None). absurd (list_some s u d a high is fine none))
           (λ (f : IsFound s covers u d kept). by_form (a.form == 0x17) (a.form == 0x23) refl refl forms f)

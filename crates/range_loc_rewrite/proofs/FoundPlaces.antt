@@ -52,10 +52,10 @@ numbers_are covers located a = λ i. filter (λ k. tested k i) (range_with_len 0
     tested k = ap (λ (o : Option RangedEntry). option_map_or (λ (r : RangedEntry). group_holds covers r.group a) o false)
         (slice_get-map ranged_of located k) ∙ of_option (slice_get located k)
 
-pub found_places : (s : ListSections) (kept : Locations) (index : CoverIndex) (bounds : List ℕ) (a : ℕ) (numbers : List ℕ) →
-    ArePlacesKept s kept index bounds → numbers ≡ held_numbers index.tree (map ranged_of kept.located.items) a →
+pub found_places : (s : ListSections) (kept : Locations) (index : CoverIndex) (bounds : List ℕ) (weight a : ℕ) (numbers : List ℕ) →
+    ArePlacesKept s kept index bounds weight → numbers ≡ held_numbers index.tree (map ranged_of kept.located.items) a →
     flat_map (said_by_number kept a) numbers ≡ places_said s a
-found_places s kept index bounds a numbers are e =
+found_places s kept index bounds weight a numbers are e =
     ap (flat_map (said_by_number kept a)) (e ∙ numbers_are index.tree kept.located.items a)
     ∙ listed_by_number (located_says kept.lists.items a) (λ (l : LocatedAttr). group_holds index.tree l.group a) kept.located.items
     ∙ are.says a
@@ -76,7 +76,7 @@ list_alike l a b same =
     (filter t (range_with_len 0 (length l.expressions.items))))
     (items_in l.defaults.items)) (λ i k. alike_groups l.tree a b k same i)
 
-numbered_alike : (lists : List KeptList) (n a b : ℕ) → All (λ x. nat_le x a ≡ nat_le x b) (list_bounds lists) →
+pub numbered_alike : (lists : List KeptList) (n a b : ℕ) → All (λ x. nat_le x a ≡ nat_le x b) (list_bounds lists) →
     option_map_or (λ l. list_says l a) (slice_get lists n) [] ≡ option_map_or (λ l. list_says l b) (slice_get lists n) []
 numbered_alike [] n a b same = refl
 numbered_alike (l ∷ lists) zero a b same = list_alike l a b
@@ -96,14 +96,16 @@ all_alike covers lists located a b same listed =
     (λ i. flat_map (λ (l : LocatedAttr). attr_says l.place l.attr (source_alike lists l.source a b listed i))
     (filter (λ (l : LocatedAttr). alike_groups covers a b l.group same i) located))
 
-pub places_kept : (s : ListSections) (groups : Groups) (kept : Locations) (index : CoverIndex) (bounds : List ℕ) →
-    ArePlacesOf s groups kept →
+pub places_kept : (s : ListSections) (groups : Groups) (kept : Locations) (index : CoverIndex) (bounds : List ℕ) (weight : ℕ) →
+    ArePlacesOf s groups kept weight →
     IsCoverIndex groups.covers.items (map ranged_of kept.located.items) index → IsNonDecreasing bounds →
-    IsPermutation (bounds_in groups.covers.items ++ list_bounds kept.lists.items) bounds → ArePlacesKept s kept index bounds
-places_kept s groups kept index bounds are is rising all = record {
+    IsPermutation (bounds_in groups.covers.items ++ list_bounds kept.lists.items) bounds → ArePlacesKept s kept index bounds weight
+places_kept s groups kept index bounds weight are is rising all = record {
   free = are.free;
   index_is = record { held = λ g a. refl; members = is.members };
   says = λ a. same_covers a ∙ are.says a;
+  listed = are.listed;
+  indexes = are.indexes;
   rising = rising;
   apart = λ a b same.
       let bounded : All (λ x. nat_le x a ≡ nat_le x b) (bounds_in groups.covers.items ++ list_bounds kept.lists.items) =

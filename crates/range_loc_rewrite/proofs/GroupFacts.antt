@@ -6,6 +6,7 @@ use Rattle.std.specs.List.{cons_option, list_any}
 use Rattle.std.proofs.lemmas.Bool.Decides.{nat_tests}
 use Rattle.std.proofs.lemmas.List.Folds.{list_any-append}
 use Rattle.std.proofs.lemmas.List.Elements.{All-nil, All-cons, All-head, All-tail, All-append, All-weaker}
+use Rattle.std.proofs.lemmas.Bool.{and_left}
 use Rattle.table_core.specs.declared.range.Range.{Range}
 use Rattle.table_core.specs.AddressRanges.{holds_address}
 use Rattle.range_loc_rewrite.specs.declared.cover_tree.Cover.{Cover}
@@ -17,9 +18,6 @@ use Rattle.range_loc_rewrite.proofs.SmallSteps.{or_false}
 
 pub test_is : (b c : Bool) → b ≡ true → (b && c) ≡ c
 test_is b c e = ap (λ x. x && c) e
-
-pub test_not : (b c : Bool) → b ≡ false → (b && c) ≡ false
-test_not b c e = ap (λ x. x && c) e
 
 pub equal_self : (n : ℕ) → (n == n) ≡ true
 equal_self n = grind (arith, nat_tests)
@@ -48,13 +46,13 @@ other_covers n m a (l ∷ ls) h = by_range l.range (other_covers n m a ls h) whe
   by_range : (r : Option Range) → here m a (covers_in n ls) ≡ false → here m a (covers_for n r ++ covers_in n ls) ≡ false
   by_range None more = more
   by_range (Some r) more =
-      ap (λ (b : Bool). b || here m a (covers_in n ls)) (test_not (n == m) (holds_address a r) (differ n m h)) ∙ more
+      ap (λ (b : Bool). b || here m a (covers_in n ls)) (and_left (n == m) (holds_address a r) (differ n m h)) ∙ more
 
 no_cover : (n a : ℕ) (cs : List Cover) → All (λ (c : Cover). c.group < n) cs → here n a cs ≡ false
 no_cover n a [] below = refl
 no_cover n a (c ∷ cs) below =
     let h : c.group < n = All-head (λ (c : Cover). c.group < n) c cs below in
-    ap (λ (b : Bool). b || here n a cs) (test_not (c.group == n) (holds a c) (less c.group n h))
+    ap (λ (b : Bool). b || here n a cs) (and_left (c.group == n) (holds a c) (less c.group n h))
     ∙ no_cover n a cs (All-tail (λ (c : Cover). c.group < n) c cs below)
   where
     less : (m n : ℕ) → m < n → (m == n) ≡ false

@@ -21,6 +21,7 @@ use Rattle.range_loc_rewrite.specs.CoverTree.{holds}
 use Rattle.range_loc_rewrite.specs.Groups.{is_in_group}
 use Rattle.range_loc_rewrite.specs.GroupRuns.{runs_in, AreHeld, IsStretched, IsStretchedIf, AreStretched, holders, holds_some, run_holds, if_held}
 use Rattle.range_loc_rewrite.specs.GroupRuns.{in_run, runs_end, IsGroupRuns}
+use Rattle.range_loc_rewrite.proofs.SmallSteps.{or_false, or_true}
 
 -- One stretch more
 
@@ -84,14 +85,6 @@ module _ (start len : ℕ) (some : 0 < len) (old now : List (Run Bool)) (h : Are
       subst (λ (l : List (Run Bool)). IsStretched start len l new) s
       (more (ap (ends_at (start + len)) s ∙ not_ended 0 old start (start + len) h.within (omega arith)))
 
-or_true : (b : Bool) → (b || (true || false)) ≡ true
-or_true true = refl
-or_true false = refl
-
-or_none : (b : Bool) → (b || (false || false)) ≡ b
-or_none true = refl
-or_none false = refl
-
 abbrev among : ℕ → List ℕ → Bool
 among g gs = list_any (λ h. h == g) gs
 
@@ -103,7 +96,7 @@ module _ (gs : List ℕ) (h start len : ℕ) (old now new : List (Vec (Run Bool)
 
   among_other : (g : ℕ) → g ≢ h → among g (gs ++ h ∷ []) ≡ among g gs
   among_other g ne =
-      list_any-append (λ k. k == g) gs (h ∷ []) ∙ ap (λ (b : Bool). among g gs || (b || false)) (ne_eqb h g (λ e. ne (sym e))) ∙ or_none (among g gs)
+      list_any-append (λ k. k == g) gs (h ∷ []) ∙ ap (λ (b : Bool). among g gs || (b || false)) (ne_eqb h g (λ e. ne (sym e))) ∙ or_false (among g gs)
 
   pub stretched_more : length new ≡ length now → ((g : ℕ) → g ≢ h → runs_in new g ≡ runs_in now g) →
       (ends_at (start + len) (runs_in now h) ≡ true → runs_in new h ≡ runs_in now h) →
@@ -159,7 +152,7 @@ holders_are : (covers : List Cover) (g : ℕ) (o : Option ℕ) → among g (hold
 holders_are covers g None = refl
 holders_are covers g (Some a) = find_group g a covers
 
-runs_end_more : {A : Type 0} (lo : ℕ) (xs : List (Run A)) (r : Run A) → runs_end lo (xs ++ r ∷ []) ≡ r.start + r.len
+pub runs_end_more : {A : Type 0} (lo : ℕ) (xs : List (Run A)) (r : Run A) → runs_end lo (xs ++ r ∷ []) ≡ r.start + r.len
 runs_end_more lo [] r = refl
 runs_end_more lo (x ∷ xs) r = runs_end_more (x.start + x.len) xs r
 

@@ -19,6 +19,7 @@ use Rattle.range_loc_rewrite.specs.Groups.{group_holds, held_places}
 use Rattle.range_loc_rewrite.specs.ListTables.{range_says}
 use Rattle.range_loc_rewrite.specs.Ranges.{covering}
 use Rattle.range_loc_rewrite.proofs.KeptEntries.{kept_place, same_tests, none_pass}
+use Rattle.range_loc_rewrite.proofs.SmallSteps.{or_false}
 
 not_in : {A : Type 0} (r : Run A) (p : ℕ) → p < r.start → in_run r p ≡ false
 not_in r p h = grind (arith, nat_tests)
@@ -31,10 +32,6 @@ start_in r h = grind (arith, nat_tests)
 
 in_below : {A : Type 0} (r : Run A) (p : ℕ) → in_run r p ≡ true → p < r.start + r.len
 in_below r p e = grind (arith, nat_tests)
-
-or_false : (b : Bool) → (b || false) ≡ b
-or_false true = refl
-or_false false = refl
 
 module _ {A : Type 0} (spans : List Span) (covers : List Cover) (g : ℕ) where
   abbrev here : ℕ → List (Run A) → Bool

@@ -12,6 +12,7 @@ use Rattle.std.proofs.lemmas.List.{drop_more, drop_all, get_or-map, length-map, 
 use Rattle.std.proofs.lemmas.List.Elements.{All-nil, All-cons, All-head, All-tail, All-append, filter-append}
 use Rattle.std.proofs.lemmas.List.Sorted.{All-permutation, list_any-IsPermutation}
 use Rattle.std.proofs.lemmas.Option.{slice_get-map}
+use Rattle.std.proofs.lemmas.Bool.{and_left}
 use Rattle.table_core.specs.declared.range.Range.{Range}
 use Rattle.table_core.specs.AddressRanges.{holds_address}
 use Rattle.range_loc_rewrite.specs.declared.cover_tree.Cover.{Cover}
@@ -23,7 +24,7 @@ use Rattle.range_loc_rewrite.specs.ListReading.{located_of}
 use Rattle.range_loc_rewrite.specs.Lists.{Located}
 use Rattle.range_loc_rewrite.specs.Locations.{expressions, is_bounded_at, is_default, in_force, unless_bounded}
 use Rattle.range_loc_rewrite.proofs.ByNumbers.{mapped_by_number}
-use Rattle.range_loc_rewrite.proofs.GroupFacts.{test_is, test_not, equal_self, differ}
+use Rattle.range_loc_rewrite.proofs.GroupFacts.{test_is, equal_self, differ}
 use Rattle.range_loc_rewrite.proofs.MemberLists.{any_map, any_filter}
 use Rattle.range_loc_rewrite.proofs.SmallSteps.{or_false}
 
@@ -60,7 +61,7 @@ other_number n m a (l ∷ ls) h = by_range l.range (other_number (n + 1) m a ls 
         group_holds (covers_for n r ++ numbered_covers (n + 1) ls) m a ≡ false
     by_range None more = more
     by_range (Some r) more =
-        ap (λ (b : Bool). b || group_holds (numbered_covers (n + 1) ls) m a) (test_not (n == m) (holds_address a r) (differ n m h)) ∙ more
+        ap (λ (b : Bool). b || group_holds (numbered_covers (n + 1) ls) m a) (and_left (n == m) (holds_address a r) (differ n m h)) ∙ more
 
 abbrev holds_item : List Located → ℕ → ℕ → Bool
 holds_item ls a k = option_map_or (is_bounded_at a) (slice_get ls k) false
@@ -89,7 +90,7 @@ own_number n (suc k) m a (l ∷ ls) e = by_range l.range (own_number (n + 1) k m
         group_holds (covers_for n r ++ numbered_covers (n + 1) ls) m a ≡ holds_item ls a k
     by_range None more = more
     by_range (Some r) more =
-        ap (λ (b : Bool). b || group_holds (numbered_covers (n + 1) ls) m a) (test_not (n == m) (holds_address a r) apart) ∙ more
+        ap (λ (b : Bool). b || group_holds (numbered_covers (n + 1) ls) m a) (and_left (n == m) (holds_address a r) apart) ∙ more
 
 -- what is kept of a list says what the list says
 

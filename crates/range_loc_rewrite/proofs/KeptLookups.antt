@@ -143,7 +143,7 @@ own_first lo x us u v e d up same c there dc own =
     clash : (a b m n : ℕ) → a < m → m ≡ n → n ≤ b → a ≡ b → ⊥
     clash a b m n h e k f = omega arith
 
-own_unique : (lo : ℕ) (us : List Unit) (u v : Unit) (e d : Entry) → Ascends lo (map place_of (all_of us)) → Contains us u → Contains u.entries e → Contains us v →
+pub own_unique : (lo : ℕ) (us : List Unit) (u v : Unit) (e d : Entry) → Ascends lo (map place_of (all_of us)) → Contains us u → Contains u.entries e → Contains us v →
     Contains v.entries d → own_place u ≡ own_place v → u ≡ v
 own_unique lo [] u v e d up c ec vc dc own = absurd (Contains-nil u c)
 own_unique lo (x ∷ us) u v e d up c ec vc dc own = ⊎_elim

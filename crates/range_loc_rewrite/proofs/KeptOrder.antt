@@ -10,6 +10,7 @@ use Rattle.dw_unit.specs.CompUnits.{Entry, Unit, attr, units}
 use Rattle.dw_unit.proofs.NamedOffsets.{Ascends}
 use Rattle.range_loc_rewrite.specs.declared.cover_tree.Cover.{Cover}
 use Rattle.range_loc_rewrite.specs.declared.groups.RangedEntry.{RangedEntry}
+use Rattle.range_loc_rewrite.specs.declared.named_list.NamedList.{NamedList}
 use Rattle.range_loc_rewrite.specs.Faults.{ListSections}
 use Rattle.range_loc_rewrite.specs.Gathering.{seen_of, seen_in, seen_kept, ranges_index}
 use Rattle.range_loc_rewrite.specs.Groups.{ranges_in}
@@ -19,42 +20,43 @@ use Rattle.range_loc_rewrite.specs.ListTables.{AreWithoutHighAddresses}
 use Rattle.range_loc_rewrite.specs.RangeReading.{all_seen}
 use Rattle.range_loc_rewrite.specs.Ranges.{ranges_of}
 use Rattle.range_loc_rewrite.specs.UnitLists.{own_place}
-use Rattle.range_loc_rewrite.specs.WrittenRanges.{OwnsRise}
+use Rattle.range_loc_rewrite.specs.WrittenRanges.{named_of}
+use Rattle.range_loc_rewrite.specs.WrittenTables.{OwnsRise}
 use Rattle.range_loc_rewrite.proofs.KeptLookups.{place_of, all_of, entries_end, ascends_behind, end_least, own_below, own_least, entry_of, no_bounds}
 use Rattle.range_loc_rewrite.proofs.KeptPairs.{AllPaired, no_more}
 use Rattle.range_loc_rewrite.proofs.OwnRanges.{listed_ranges}
 
-owns_less : (less lo : ℕ) (rs : List RangedEntry) → less ≤ lo → OwnsRise lo rs → OwnsRise less rs
+owns_less : (less lo : ℕ) (rs : List NamedList) → less ≤ lo → OwnsRise lo rs → OwnsRise less rs
 owns_less less lo [] h rise = tt
 owns_less less lo (r ∷ rs) h rise = (omega (arith, h, rise.0), rise.1)
 
-owns_front : (own : ℕ) (front back : List RangedEntry) → ((r : RangedEntry) → Contains front r → r.own ≡ own) → OwnsRise own back → OwnsRise own (front ++ back)
+owns_front : (own : ℕ) (front back : List RangedEntry) → ((r : RangedEntry) → Contains front r → r.own ≡ own) → OwnsRise own (map named_of back) → OwnsRise own (map named_of (front ++ back))
 owns_front own [] back owned rise = rise
 owns_front own (r ∷ front) back owned rise =
     let is : r.own ≡ own = owned r (0, omega arith, refl) in (
       omega (arith, is),
-      subst (λ (n : ℕ). OwnsRise n (front ++ back)) (sym is) (owns_front own front back (λ x c. owned x (Contains-there r front x c)) rise),
+      subst (λ (n : ℕ). OwnsRise n (map named_of (front ++ back))) (sym is) (owns_front own front back (λ x c. owned x (Contains-there r front x c)) rise),
     )
 
 pub owns_rise : (s : ListSections) (covers : List Cover) (us : List Unit) (kept : List RangedEntry) (lo : ℕ) → AllPaired s covers us kept →
-    Ascends lo (map place_of (all_of us)) → OwnsRise lo kept
+    Ascends lo (map place_of (all_of us)) → OwnsRise lo (map named_of kept)
 owns_rise s covers [] [] lo p up = tt
 owns_rise s covers [] (r ∷ kept) lo p up = elim p [ ]
 owns_rise s covers (u ∷ us) kept lo (AllPaired.unit_more _ _ [] back p more) up =
-    owns_less lo (entries_end lo u.entries) back (end_least lo u.entries (all_of us) up)
+    owns_less lo (entries_end lo u.entries) (map named_of back) (end_least lo u.entries (all_of us) up)
     (owns_rise s covers us back (entries_end lo u.entries) more (ascends_behind lo u.entries (all_of us) up))
 owns_rise s covers (u ∷ us) kept lo (AllPaired.unit_more _ _ (r ∷ front) back p more) up =
     let first = entry_of s covers u u.entries (r ∷ front) r p (0, omega arith, refl) in
     let low = own_least lo u.entries (all_of us) first.0 u.place u.abbrev_offset up first.1 in
     let below = own_below lo u.entries (all_of us) first.0 u.place u.abbrev_offset up first.1 in
     let rest = owns_rise s covers us back (entries_end lo u.entries) more (ascends_behind lo u.entries (all_of us) up) in
-    owns_less lo (own_place u) ((r ∷ front) ++ back) low
+    owns_less lo (own_place u) (map named_of ((r ∷ front) ++ back)) low
     (owns_front (own_place u) (r ∷ front) back (λ x c. (entry_of s covers u u.entries (r ∷ front) x p c).2.own)
-    (owns_less (own_place u) (entries_end lo u.entries) back (omega (arith, below)) rest))
+    (owns_less (own_place u) (entries_end lo u.entries) (map named_of back) (omega (arith, below)) rest))
 
 -- Without a section no list is there.
 
-nowhere : (o : Option ℕ) → option_and_then (only_within []) o ≡ None
+pub nowhere : (o : Option ℕ) → option_and_then (only_within []) o ≡ None
 nowhere None = refl
 nowhere (Some n) = let t : nat_lt n 0 ≡ false = grind (arith, nat_tests) in ap (λ (b : Bool). if b then Some n else None) t
 

@@ -16,7 +16,7 @@ use Rattle.range_loc_rewrite.specs.ListBytes.{Bounded, IsWritable, list_bytes, l
 use Rattle.range_loc_rewrite.specs.ListEntries.{items_within}
 use Rattle.range_loc_rewrite.specs.ListReading.{kind_of, item_of}
 use Rattle.range_loc_rewrite.specs.Lists.{table_below, end_of_table, list_end, items_said, list_at, base_address}
-use Rattle.range_loc_rewrite.specs.WrittenRanges.{StandsAt}
+use Rattle.range_loc_rewrite.specs.WrittenTables.{StandsAt}
 use Rattle.range_loc_rewrite.proofs.ListsBack.{list-back, list-said}
 use Rattle.range_loc_rewrite.proofs.SpelledEntries.{length-little}
 use Rattle.range_loc_rewrite.proofs.UnitTables.{units-append, one_unit_more}

@@ -40,7 +40,7 @@ more_more olds mids news x y = record {
   same = λ n h. y.same n (omega (arith, x.count)) ∙ x.same n h;
 }
 
-number_same : (olds news : List KeptList) (n p : ℕ) → AreMore olds news → n < length olds → number_says news n p ≡ number_says olds n p
+pub number_same : (olds news : List KeptList) (n p : ℕ) → AreMore olds news → n < length olds → number_says news n p ≡ number_says olds n p
 number_same olds news n p more h = ap (λ (o : Option KeptList). option_map_or (λ l. list_says l p) o []) (more.same n h)
 
 pub number_still : (olds news : List KeptList) (o : Option ℕ) (said : Option (List Located)) → AreMore olds news → IsNumberOf olds o said →
@@ -92,7 +92,7 @@ module _ (s : ListSections) (u : Unit) where
       expressions p = ap (λ (b : Bool). if b then block_of s.units.info a ∷ [] else option_map_or (λ ls. in_force ls p)
           (option_and_then (list_at locations_kind s.locations s.units.addr u) (list_offset locations_kind s.locations u a)) []) block
 
-  listed_expressions : (a : Attr) (o : Option ℕ) (p : ℕ) → is_block a.form ≡ false → list_offset locations_kind s.locations u a ≡ o →
+  pub listed_expressions : (a : Attr) (o : Option ℕ) (p : ℕ) → is_block a.form ≡ false → list_offset locations_kind s.locations u a ≡ o →
       expressions_of s u a p ≡ option_map_or (λ ls. in_force ls p) (option_and_then (location_list s u) o) []
   listed_expressions a o p block offset =
       ap (λ (b : Bool). if b then block_of s.units.info a ∷ [] else option_map_or (λ ls. in_force ls p)

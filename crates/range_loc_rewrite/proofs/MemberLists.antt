@@ -14,7 +14,7 @@ use Rattle.range_loc_rewrite.specs.declared.groups.RangedEntry.{RangedEntry}
 use Rattle.range_loc_rewrite.specs.CoverIndex.{members_in, is_member, is_held}
 use Rattle.range_loc_rewrite.specs.CoverTree.{holds}
 use Rattle.range_loc_rewrite.specs.Groups.{group_holds}
-use Rattle.range_loc_rewrite.proofs.SmallSteps.{or_false, and_true, and_false}
+use Rattle.range_loc_rewrite.proofs.SmallSteps.{or_false, or_true, and_true, and_false}
 
 -- an empty group more
 pub none_more : (ms : List (Vec ℕ)) (v : Vec ℕ) (g : ℕ) → v.items ≡ [] → ((g : ℕ) → members_in ms g ≡ []) → members_in (ms ++ v ∷ []) g ≡ []
@@ -118,10 +118,6 @@ held_within covers ranged a k e = by_entry (slice_get ranged k) refl e
 
 any_later : (q x : ℕ) (xs : List ℕ) → list_any (λ o. o == q) xs ≡ true → list_any (λ o. o == q) (x ∷ xs) ≡ true
 any_later q x xs e = ap (λ (b : Bool). (x == q) || b) e ∙ or_true (x == q)
-  where
-    or_true : (b : Bool) → (b || true) ≡ true
-    or_true true = refl
-    or_true false = refl
 
 any_first : (x : ℕ) (xs : List ℕ) → list_any (λ o. o == x) (x ∷ xs) ≡ true
 any_first x xs = grind (arith, nat_tests)

@@ -51,13 +51,20 @@ bad_is s p o q are ranges locations = by_bad p.bad refl
 -- without a fault all entries were read
 pub places_read : (s : ListSections) (p : PlaceProgress) → IsProgress s (walked 5 s.units.info) p →
     IsFree (HasDwarfFault (location_places s)) →
-    ArePlacesOf s p.groups p.kept
+    ArePlacesOf s p.groups p.kept p.index_weight
 places_read s p are free =
     let none : p.bad ≡ None = are.bad ∙ left_none (of_units s) (option_or (bad_address_table s.units.addr)
     (option_or (bad_table ranges_kind s.ranges s.units) (bad_table locations_kind s.locations s.units)))
     (no_bad (location_places s).bad refl) in
     let read = are.gathered none in
-    record { free = free; numbered = are.numbered; held = read.held; says = read.says }
+    record {
+      free = free;
+      numbered = are.numbered;
+      held = read.held;
+      says = read.says;
+      listed = read.listed;
+      indexes = read.indexes;
+    }
   where
     no_bad : (o : Option ℕ) → (location_places s).bad ≡ o → o ≡ None
     no_bad None e = refl

@@ -1,13 +1,19 @@
 -- What was read of the locations of some units, with what is read of the next one.
-use Rattle.std.proofs.Common.{◌≡◌, ◌∙◌, ◌||◌, ◌++◌, ◌∷◌, [], ℕ, Bool, true, false, List, Option, Some, None, Ok, refl, sym, ap, subst}
+use Rattle.std.proofs.Common.{◌≡◌, ◌∙◌, ◌||◌, ◌&&◌, ◌==◌, ◌+◌, ◌-◌, ◌^◌, ◌++◌, ◌∷◌, [], ℕ, Bool, true, false, List, Option, Some, None, Ok, refl, sym, ap, subst, min, not}
 use Rattle.std.specs.Prelude.{if◌then◌else◌, flat_map, is_some}
+use Rattle.std.specs.List.{list_all}
+use Rattle.std.proofs.lemmas.List.Folds.{list_all-append}
 use Rattle.std.specs.Global.{Vec}
+use Rattle.table_core.specs.declared.form.TheConstants.{DW_FORM_sec_offset, DW_FORM_loclistx, DW_FORM_rnglistx}
+use Rattle.table_core.specs.AttributeForms.{is_address_index, is_text_index}
 use Rattle.table_core.specs.DebugUnits.{Walked, first_place}
 use Rattle.table_core.specs.ReadSteps.{lower, least}
 use Rattle.dw_unit.specs.declared.unit_reading.UnitReading.{UnitReading}
-use Rattle.dw_unit.specs.CompUnits.{Unit, unit_of}
+use Rattle.dw_unit.specs.declared.attribute.TheConstants.{DW_AT_ranges, DW_AT_str_offsets_base, DW_AT_rnglists_base, DW_AT_loclists_base}
+use Rattle.dw_unit.specs.declared.entry.Attr.{Attr}
+use Rattle.dw_unit.specs.CompUnits.{Entry, Unit, base, address_of, unit_of}
 use Rattle.dw_unit.specs.Declarations.{has_bad_form, has_bad_high}
-use Rattle.dw_unit.specs.Faults.{fails, is_sound_unit}
+use Rattle.dw_unit.specs.Faults.{fails, implies, is_sound_attr, is_sound_unit}
 use Rattle.dw_unit.specs.ListedEntries.{ListedEntry}
 use Rattle.dw_unit.specs.UnitReadings.{IsReading}
 use Rattle.dw_unit.proofs.Leasts.{least-append}
@@ -23,8 +29,51 @@ use Rattle.range_loc_rewrite.specs.Locations.{PlaceSaid}
 use Rattle.range_loc_rewrite.specs.PlaceReading.{is_bad_unit, unit_says, AreGathered, IsProgress, IsUnitAdded}
 use Rattle.range_loc_rewrite.specs.Placing.{IsUnitPlaced}
 use Rattle.range_loc_rewrite.specs.RangeReading.{units_of}
+use Rattle.range_loc_rewrite.specs.ReadLists.{unit_lists, is_formed, are_formed}
+use Rattle.range_loc_rewrite.specs.Weights.{index_weight}
 use Rattle.range_loc_rewrite.proofs.PlainPlaces.{unit_of_listed}
-use Rattle.range_loc_rewrite.proofs.ReadProgress.{units_more, read_unit, entries_by}
+use Rattle.range_loc_rewrite.proofs.PlainUnits.{unit_weight}
+use Rattle.range_loc_rewrite.proofs.ReadListFacts.{both_true}
+use Rattle.range_loc_rewrite.proofs.ReadProgress.{units_more, read_unit, entries_by, indexes_more}
+
+-- of a sound unit all attributes that say where something is are formed
+
+not_false : (b : Bool) → not b ≡ false → b ≡ true
+not_false true e = refl
+not_false false e = absurd (cc)
+
+attr_formed : (addr : List ℕ) (u : Unit) (a : Attr) → is_sound_attr addr u a ≡ true → is_formed a ≡ true
+attr_formed addr u a e = fifth
+    (implies (is_text_index a.form) (is_some (base DW_AT_str_offsets_base u)))
+    (implies (is_address_index a.form) (is_some (address_of addr u a)))
+    (implies (a.form == DW_FORM_loclistx) (is_some (base DW_AT_loclists_base u)))
+    (implies (a.form == DW_FORM_rnglistx) (is_some (base DW_AT_rnglists_base u)))
+    (is_formed a)
+    (implies (a.name == DW_AT_ranges) (a.form == DW_FORM_sec_offset || a.form == DW_FORM_rnglistx))
+    (implies (a.name == DW_AT_rnglists_base || a.name == DW_AT_loclists_base) (a.form == DW_FORM_sec_offset)) e
+  where
+    fifth : (a b c d e f g : Bool) → (a && b && c && d && e && f && g) ≡ true → e ≡ true
+    fifth a b c d e f g all =
+        let six = both_true (a && b && c && d && e && f) g all in
+        let five = both_true (a && b && c && d && e) f six.0 in
+        (both_true (a && b && c && d) e five.0).1
+
+attrs_formed : (addr : List ℕ) (u : Unit) (attrs : List Attr) → list_all (is_sound_attr addr u) attrs ≡ true → are_formed attrs ≡ true
+attrs_formed addr u [] e = refl
+attrs_formed addr u (a ∷ attrs) e =
+    let both = both_true (is_sound_attr addr u a) (list_all (is_sound_attr addr u) attrs) e in
+    (λ i. attr_formed addr u a both.0 i && attrs_formed addr u attrs both.1 i)
+
+entries_formed : (addr : List ℕ) (u : Unit) (es : List Entry) → list_all (λ (e : Entry). list_all (is_sound_attr addr u) e.attrs) es ≡ true →
+    are_formed (flat_map (λ (e : Entry). e.attrs) es) ≡ true
+entries_formed addr u [] e = refl
+entries_formed addr u (x ∷ es) e =
+    let both = both_true (list_all (is_sound_attr addr u) x.attrs) (list_all (λ (e : Entry). list_all (is_sound_attr addr u) e.attrs) es) e in
+    list_all-append is_formed x.attrs (flat_map (λ (e : Entry). e.attrs) es)
+    ∙ (λ i. attrs_formed addr u x.attrs both.0 i && entries_formed addr u es both.1 i)
+
+unit_formed : (addr : List ℕ) (u : Unit) → is_sound_unit addr u ≡ true → are_formed (flat_map (λ (e : Entry). e.attrs) u.entries) ≡ true
+unit_formed addr u sound = entries_formed addr u u.entries sound
 
 -- the lowest tables of one unit more
 bad_more : (s : ListSections) (k : Kind) (section : List ℕ) (ws : List Walked) (w : Walked) (u : Unit) (old new now : Option ℕ) →
@@ -75,11 +124,16 @@ module _ (s : ListSections) (ws : List Walked) (w : Walked) (old new : PlaceProg
       ≡ false) (u : Unit)
       (read : unit_of s.units.abbrevs w ≡ Ok u) (x : IsUnitPlaced s u old.groups old.kept new.groups new.kept f)
       (ranges : new.bad_ranges ≡ lower old.bad_ranges f.ranges.bad) (locations : new.bad_locations
-      ≡ lower old.bad_locations f.locations.bad) where
+      ≡ lower old.bad_locations f.locations.bad)
+      (indexes : new.index_weight ≡ min (old.index_weight + min (index_weight locations_kind.index_form u) (2 ^ 64 - 1)) (2 ^ 64 - 1)) where
     tested : is_bad_unit s w ≡ (f.ranges.lacks_offset || f.locations.lacks_offset)
     tested =
         (λ i. good i || (has_bad_offset ranges_kind s.ranges (read i) || has_bad_offset locations_kind s.locations (read i)))
         ∙ (λ i. sym x.lacks_ranges i || sym x.lacks_locations i)
+
+    formed : are_formed (flat_map (λ (e : Entry). e.attrs) u.entries) ≡ true
+    formed = unit_formed s.units.addr u
+        (not_false (is_sound_unit s.units.addr u) (sym (ap (fails (is_sound_unit s.units.addr)) read) ∙ good))
 
     pub by_offset : (b : Bool) → (f.ranges.lacks_offset || f.locations.lacks_offset) ≡ b → new.bad ≡ (if b then Some w.place else old.bad) →
         IsProgress s (ws ++ w ∷ []) new
@@ -95,15 +149,18 @@ module _ (s : ListSections) (ws : List Walked) (w : Walked) (old new : PlaceProg
           ranges = bad_more s ranges_kind s.ranges ws w u old.bad_ranges new.bad_ranges f.ranges.bad read ranges was.ranges x.bad_ranges;
           locations = bad_more s locations_kind s.locations ws w u old.bad_locations new.bad_locations f.locations.bad read locations was.locations
               x.bad_locations;
+          listed = x.listed formed ∙ ap (λ (l : List (ℕ → List (List ℕ))). l ++ unit_lists s u) was.listed
+              ∙ sym (ap (flat_map (unit_lists s)) (units_more s ws w u read) ∙ flat-more (unit_lists s) (units_of s ws) u);
+          indexes = indexes_more s locations_kind.index_form ws w u old.index_weight new.index_weight read indexes was.indexes;
         })
 
 -- a unit whose entries can be read
 pub unit_added : (s : ListSections) (ws : List Walked) (w : Walked) (old mid new : PlaceProgress) (r : UnitReading) (es : Vec ListedEntry) →
     IsProgress s ws old → IsReading s.units.abbrevs s.units.addr w r → mid.bad_form ≡ lower old.bad_form r.bad_form →
     mid.bad_high ≡ lower old.bad_high r.bad_high → mid.unformed ≡ lower old.unformed r.unformed → mid.groups ≡ old.groups →
-    mid.kept ≡ old.kept → mid.bad_ranges ≡ old.bad_ranges → mid.bad_locations ≡ old.bad_locations → mid.bad ≡ old.bad → old.bad ≡ None →
+    mid.kept ≡ old.kept → mid.index_weight ≡ old.index_weight → mid.bad_ranges ≡ old.bad_ranges → mid.bad_locations ≡ old.bad_locations → mid.bad ≡ old.bad → old.bad ≡ None →
     r.entries ≡ Some es → IsUnitAdded s es.items w.place mid new → IsProgress s (ws ++ w ∷ []) new
-unit_added s ws w old mid new r es are is form high unform groups kept ranges locations bad before some added =
+unit_added s ws w old mid new r es are is form high unform groups kept weight ranges locations bad before some added =
     let behind = entries_by s w r (Some es) is some in
     let u = read_unit (unit_of s.units.abbrevs w) es.items behind.1 in
     let x : IsUnitPlaced s u.0 old.groups old.kept new.groups new.kept added.faults =
@@ -114,5 +171,6 @@ unit_added s ws w old mid new r es are is form high unform groups kept ranges lo
     ∙ unform) added.faults before behind.0 u.0 u.1 x
     (added.ranges ∙ ap (λ (o : Option ℕ). lower o added.faults.ranges.bad) ranges)
     (added.locations ∙ ap (λ (o : Option ℕ). lower o added.faults.locations.bad) locations)
+    (added.indexes ∙ (λ i. min (weight i + min (unit_weight locations_kind.index_form u.0 es.items u.2 i) (2 ^ 64 - 1)) (2 ^ 64 - 1)))
     (added.faults.ranges.lacks_offset || added.faults.locations.lacks_offset) refl
     (added.bad ∙ ap (λ (o : Option ℕ). if added.faults.ranges.lacks_offset || added.faults.locations.lacks_offset then Some w.place else o) bad)

@@ -1,5 +1,5 @@
 -- Entries of a unit with their ranges and locations, one entry more.
-use Rattle.std.proofs.Common.{◌≡◌, ◌∙◌, ◌+◌, ◌<◌, ◌≤◌, ◌++◌, ◌∷◌, [], ℕ, false, List, Option, None, BTreeMap, refl, sym, ap, subst, arith}
+use Rattle.std.proofs.Common.{◌≡◌, ◌∙◌, ◌+◌, ◌<◌, ◌≤◌, ◌++◌, ◌∷◌, [], ℕ, true, false, List, Option, None, BTreeMap, refl, sym, ap, subst, arith}
 use Rattle.std.proofs.Common.{length, reverse, append-nil, append_assoc, map, get_or, take, drop}
 use Rattle.std.proofs.lemmas.List.{drop_all, drop_more, take_all, take_more, map_push, reverse-append}
 use Rattle.dw_unit.proofs.UnitReadings.{flat-more}
@@ -7,6 +7,7 @@ use Rattle.std.specs.Prelude.{if◌then◌else◌, flat_map, filter_map}
 use Rattle.std.specs.BTreeMap.{IsEmpty}
 use Rattle.std.specs.Option.{option_or, option_map_or}
 use Rattle.std.proofs.lemmas.List.Elements.{All-weaker}
+use Rattle.std.proofs.lemmas.List.Folds.{list_all-append}
 use Rattle.table_core.specs.declared.range.Range.{Range}
 use Rattle.table_core.specs.ReadSteps.{first_of}
 use Rattle.dw_unit.specs.declared.attribute.TheConstants.{DW_AT_location, DW_AT_frame_base}
@@ -28,6 +29,7 @@ use Rattle.range_loc_rewrite.specs.Locations.{PlaceSaid, attr_says, entry_says, 
 use Rattle.range_loc_rewrite.specs.OpenEntries.{AreOpen, chain, closed, nearest}
 use Rattle.range_loc_rewrite.specs.Placing.{ArePlaced, IsUnitPlaced}
 use Rattle.range_loc_rewrite.specs.Ranges.{ranges_of, ranged_from}
+use Rattle.range_loc_rewrite.specs.ReadLists.{firsts, all_say, read_at, offsets_in, AreListed, is_formed, are_formed}
 use Rattle.range_loc_rewrite.specs.UnitLocations.{AreLocated, AreHeld, IsHeld, all_located, entry_said}
 use Rattle.range_loc_rewrite.proofs.Gathered.{plain_attrs}
 use Rattle.range_loc_rewrite.proofs.GroupFacts.{grow_none, grow_more}
@@ -35,6 +37,7 @@ use Rattle.range_loc_rewrite.proofs.LocationFacts.{grown_same, read_more, read_n
 use Rattle.range_loc_rewrite.proofs.NotedLists.{lacks_all, bad_all}
 use Rattle.range_loc_rewrite.proofs.OpenFacts.{entered, still_open}
 use Rattle.range_loc_rewrite.proofs.RangeLists.{none_with}
+use Rattle.range_loc_rewrite.proofs.ReadListFacts.{listed_none, both_true}
 
 module _ (s : ListSections) (u : Unit) (e : Entry) (before : List Entry) where
   abbrev nearest_ranges : Option (List Range)
@@ -59,8 +62,10 @@ module _ (s : ListSections) (u : Unit) (first : Groups) (old : Locations) (e : E
       reverse after.entries.items ≡ record { depth = e.depth; nearest = n } ∷ closed e.depth (reverse state.entries.items) →
       AreLocated s u n kept newer after.locations (λ covers p. entry_said s u covers n e p)
       × AreNoted locations_kind s.locations s.units.addr u (attrs ++ e.attrs) f.locations →
+      (are_formed e.attrs ≡ true → AreListed s u (offsets_in s u attrs) old.lists.items kept.lists.items state.locations →
+      AreListed s u (offsets_in s u (attrs ++ e.attrs)) old.lists.items newer.lists.items after.locations) →
       ArePlaced s u first old new newer after (e ∷ done) rest (attrs ++ e.attrs) f
-  placed_next g mid new kept newer state after others f was own n x noted owned is opened located =
+  placed_next g mid new kept newer state after others f was own n x noted owned is opened located listed =
       let grow : Grow g new = grow_more g mid new noted.0 owned.0 in
       let entry = entered (ranges_of s u) new e done (reverse state.entries.items) (reverse after.entries.items) own n
       (still_open (ranges_of s u) g new (chain done) (reverse state.entries.items) grow x.are_open) owned.2 is opened in
@@ -70,6 +75,9 @@ module _ (s : ListSections) (u : Unit) (first : Groups) (old : Locations) (e : E
         grow = grow_more first g new x.grow grow;
         known_are = owned.1;
         read = read_more s u old.lists.items kept.lists.items newer.lists.items state.locations after.locations x.read located.0.read;
+        listed = λ formed.
+            let both = both_true (are_formed attrs) (are_formed e.attrs) (sym (list_all-append is_formed attrs e.attrs) ∙ formed) in
+            listed both.1 (x.listed both.0);
         held = located.0.held new.count entry.0.within held;
         says = λ p.
             let now : all_located new.covers.items newer.lists.items newer.located.items p
@@ -99,6 +107,7 @@ placed_none s u first old state f numbered held no_ranges no_locations none is =
   known_are = none_with (λ (at : ℕ) (o : Option ℕ). IsGroupOf first o (range_list s u at)) state.ranges no_ranges;
   read = read_none s u old.lists.items state.locations
       (none_with (λ (at : ℕ) (o : Option ℕ). IsNumberOf old.lists.items o (location_list s u at)) state.locations no_locations);
+  listed = λ formed. listed_none s u old.lists.items state.locations no_locations;
   held = held;
   says = λ p. refl;
   are_open = subst (λ (os : List OpenEntry). AreOpen (ranges_of s u) first [] (reverse os)) (sym none) tt;
@@ -119,6 +128,9 @@ unit_placed s es first g old kept state done f x =
       grow = x.grow;
       held = x.held;
       says = λ p. sym (append-nil (all_located g.covers.items kept.lists.items kept.located.items p)) ∙ x.says p;
+      listed = λ formed.
+          (x.listed (ap are_formed (sym (plain_attrs es)) ∙ formed)).kept
+          ∙ ap (λ (l : List Attr). all_say old.lists.items ++ read_at s (plain_unit es) (firsts (offsets_in s (plain_unit es) l))) (sym (plain_attrs es));
       lacks_ranges = lacks_all ranges_kind s.ranges s.units.addr (plain_unit es) attrs f.ranges (plain_attrs es) x.ranges_noted;
       bad_ranges = bad_all ranges_kind s.ranges s.units.addr (plain_unit es) attrs f.ranges (plain_attrs es) x.ranges_noted;
       lacks_locations = lacks_all locations_kind s.locations s.units.addr (plain_unit es) attrs f.locations

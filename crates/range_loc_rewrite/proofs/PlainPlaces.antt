@@ -4,6 +4,7 @@ use Rattle.std.specs.Prelude.{if◌then◌else◌, nat_lt, flat_map, filter_map}
 use Rattle.std.specs.List.{cons_option}
 use Rattle.table_core.specs.declared.range.Range.{Range}
 use Rattle.table_core.specs.ReadSteps.{least, first_of}
+use Rattle.dw_unit.specs.declared.entry.Attr.{Attr}
 use Rattle.dw_unit.specs.CompUnits.{Entry, Unit, enclosing}
 use Rattle.dw_unit.specs.ListedEntries.{ListedEntry, listed}
 use Rattle.dw_unit.specs.ListedUnits.{plain, plain_unit}
@@ -16,8 +17,9 @@ use Rattle.range_loc_rewrite.specs.Locations.{PlaceSaid, entry_says}
 use Rattle.range_loc_rewrite.specs.PlaceReading.{unit_says}
 use Rattle.range_loc_rewrite.specs.Placing.{IsUnitPlaced}
 use Rattle.range_loc_rewrite.specs.Ranges.{ranges_of, ranged_from}
+use Rattle.range_loc_rewrite.specs.ReadLists.{firsts, all_say, read_at, offsets_in, unit_lists, are_formed}
 use Rattle.range_loc_rewrite.specs.UnitLocations.{all_located}
-use Rattle.range_loc_rewrite.proofs.PlainUnits.{whole, lacks_listed, bad_listed}
+use Rattle.range_loc_rewrite.proofs.PlainUnits.{whole, attrs_listed, lacks_listed, bad_listed}
 
 abbrev again : Entry → Entry
 again e = plain (listed e)
@@ -84,6 +86,13 @@ said_listed s place offset (e ∷ es) p = plain_maps (e ∷ es) ∙ said_from s 
     plain_maps ds = ap (λ (l : List Entry). flat_map (entry_says s (plain_unit (map listed (e ∷ es))) p)
         (ranged_from (ranges_of s (plain_unit (map listed (e ∷ es)))) [] l)) (maps ds)
 
+lists_listed : (s : ListSections) (place offset : ℕ) (es : List Entry) →
+    unit_lists s (plain_unit (map listed es)) ≡ unit_lists s (whole s place offset es)
+lists_listed s place offset [] = refl
+lists_listed s place offset (e ∷ es) =
+    ap (λ (l : List Attr). read_at s (whole s place offset (e ∷ es)) (firsts (offsets_in s (whole s place offset (e ∷ es)) l)))
+    (attrs_listed (e ∷ es))
+
 -- the unit that was read is placed
 pub unit_of_listed : (s : ListSections) (u : Unit) (es : List ListedEntry) (first g : Groups) (old kept : Locations) (f : UnitFaults) →
     map listed u.entries ≡ es → IsUnitPlaced s (plain_unit es) first old g kept f → IsUnitPlaced s u first old g kept f
@@ -95,6 +104,9 @@ unit_of_listed s u es first g old kept f is placed =
       held = x.held;
       says = λ p. x.says p ∙ ap (λ (l : List PlaceSaid). all_located first.covers.items old.lists.items old.located.items p ++ l)
           (said_listed s u.place u.abbrev_offset u.entries p);
+      listed = λ formed.
+          x.listed (ap are_formed (attrs_listed u.entries) ∙ formed)
+          ∙ ap (λ (l : List (ℕ → List (List ℕ))). all_say old.lists.items ++ l) (lists_listed s u.place u.abbrev_offset u.entries);
       lacks_ranges = x.lacks_ranges ∙ lacks_listed s u.place u.abbrev_offset ranges_kind s.ranges u.entries;
       bad_ranges = x.bad_ranges ∙ ap least (bad_listed s u.place u.abbrev_offset ranges_kind s.ranges u.entries);
       lacks_locations = x.lacks_locations ∙ lacks_listed s u.place u.abbrev_offset locations_kind s.locations u.entries;

@@ -16,7 +16,7 @@ use Rattle.range_loc_rewrite.specs.Lists.{Kind, ranges_kind, has_list, list_offs
 use Rattle.range_loc_rewrite.specs.Ranges.{ranges_of}
 use Rattle.range_loc_rewrite.specs.Weights.{index_weight, indexes_in, offsets_weight}
 
-attrs_listed : (es : List Entry) → flat_map (λ (e : Entry). e.attrs) (map plain (map listed es)) ≡ flat_map (λ (e : Entry). e.attrs) es
+pub attrs_listed : (es : List Entry) → flat_map (λ (e : Entry). e.attrs) (map plain (map listed es)) ≡ flat_map (λ (e : Entry). e.attrs) es
 attrs_listed [] = refl
 attrs_listed (e ∷ es) = ap (λ (l : List Attr). e.attrs ++ l) (attrs_listed es)
 
@@ -51,11 +51,11 @@ module _ (s : ListSections) (place offset : ℕ) where
       (filter_map (list_offset k section (whole (e ∷ ds))) (filter (has_list k) l)))) (attrs_listed (e ∷ ds))
 
 -- and so it is weighed
-pub unit_weight : (s : ListSections) (u : Unit) (es : List ListedEntry) → map listed u.entries ≡ es →
-    index_weight ranges_kind.index_form (plain_unit es) ≡ index_weight ranges_kind.index_form u
-unit_weight s u es is =
-    ap (λ (l : List ListedEntry). index_weight ranges_kind.index_form (plain_unit l)) (sym is)
-    ∙ ap (λ (l : List Attr). offsets_weight (indexes_in ranges_kind.index_form l)) (attrs_listed u.entries)
+pub unit_weight : (form : ℕ) (u : Unit) (es : List ListedEntry) → map listed u.entries ≡ es →
+    index_weight form (plain_unit es) ≡ index_weight form u
+unit_weight form u es is =
+    ap (λ (l : List ListedEntry). index_weight form (plain_unit l)) (sym is)
+    ∙ ap (λ (l : List Attr). offsets_weight (indexes_in form l)) (attrs_listed u.entries)
 
 -- the unit that was read is gathered
 pub unit_of_listed : (s : ListSections) (u : Unit) (es : List ListedEntry) (old new : Groups) (olds news : List RangedEntry)

@@ -1,11 +1,13 @@
 -- Lists of a unit as they are read and kept.
-use Rattle.std.proofs.Common.{◌≡◌, ◌≢◌, ◌∙◌, ◌+◌, ◌-◌, ◌++◌, ℕ, Bool, true, false, List, Option, Some, None, Result, Ok}
+use Rattle.std.proofs.Common.{◌≡◌, ◌≢◌, ◌∙◌, ◌+◌, ◌-◌, ◌++◌, ℕ, Bool, true, List, Option, Some, None, Result, Ok}
 use Rattle.std.proofs.Common.{Err, BTreeMap, nat_cmp, refl, sym, ap, subst, arith, length, take, drop, cond, ⊎_elim}
 use Rattle.std.specs.Prelude.{option_map}
 use Rattle.std.specs.BTreeMap.{IsEmpty, get, is_at}
 use Rattle.std.specs.Map.{lookup}
 use Rattle.std.proofs.lemmas.Grind.{common_steps}
 use Rattle.std.proofs.lemmas.Bool.{cases_eq}
+use Rattle.std.proofs.lemmas.Option.{same_Some}
+use Rattle.rb_bytes.proofs.Tests.{at_key}
 use Rattle.dw_unit.specs.declared.attribute.TheConstants.{DW_AT_addr_base}
 use Rattle.dw_unit.specs.declared.trouble.Trouble.{Trouble}
 use Rattle.dw_unit.specs.CompUnits.{Unit, base}
@@ -42,14 +44,8 @@ list_is k section addr bytes u l at r e =
 
 -- a list more is known
 
-at_key : (k q : ℕ) → k ≢ q → is_at (nat_cmp k) q ≡ false
-at_key k q ne = grind (arith, common_steps)
-
-at_same : (k : ℕ) → is_at (nat_cmp k) k ≡ true
+pub at_same : (k : ℕ) → is_at (nat_cmp k) k ≡ true
 at_same k = grind (arith, common_steps)
-
-some_same : (o p : Option ℕ) → Some o ≡ Some p → o ≡ p
-some_same o p e = cc
 
 pub still_group : (old new : Groups) (o : Option ℕ) (said : Option (List Located)) → Grow old new → IsGroupOf old o said →
     IsGroupOf new o said
@@ -69,7 +65,7 @@ known_with Is known more at o are is made = λ q p e. ⊎_elim
     (λ (same : at ≡ q).
     let here : get nat_cmp more q ≡ Some o =
     made q ∙ ap (λ (b : Bool). cond b (Some o) (get nat_cmp known q)) (ap (is_at (nat_cmp at)) (sym same) ∙ at_same at) in
-    subst (λ (p : Option ℕ). Is q p) (some_same o p (sym here ∙ e)) (subst (λ (q : ℕ). Is q o) same is))
+    subst (λ (p : Option ℕ). Is q p) (same_Some o p (sym here ∙ e)) (subst (λ (q : ℕ). Is q o) same is))
     (λ (ne : at ≢ q).
     are q p (sym (made q ∙ ap (λ (b : Bool). cond b (Some o) (get nat_cmp known q)) (at_key at q ne)) ∙ e))
     (cases_eq at q)

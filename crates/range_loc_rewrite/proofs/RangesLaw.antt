@@ -7,7 +7,7 @@ use Rattle.std.specs.Option.{option_map_or}
 use Rattle.std.proofs.lemmas.Bool.{eqb-true}
 use Rattle.std.proofs.lemmas.List.{map-append}
 use Rattle.std.proofs.lemmas.List.Elements.{filter-append}
-use Rattle.rb_bytes.proofs.Members.{Contains-nil, Contains-cons_cases, Contains-there}
+use Rattle.rb_bytes.proofs.Members.{Contains-there}
 use Rattle.rb_bytes.specs.FirstFault.{IsFree}
 use Rattle.addr_map.specs.declared.span.Span.{Span}
 use Rattle.addr_map.specs.Spans.{owner}
@@ -33,34 +33,17 @@ use Rattle.range_loc_rewrite.specs.Faults.{ListSections, range_places, is_list_t
 use Rattle.range_loc_rewrite.specs.Gathering.{seen_kept}
 use Rattle.range_loc_rewrite.specs.GroupRuns.{runs_in, runs_end, holds_some, if_held}
 use Rattle.range_loc_rewrite.specs.ListBytes.{IsWritable}
-use Rattle.range_loc_rewrite.specs.ListTables.{range_says}
 use Rattle.range_loc_rewrite.specs.RangeReading.{all_seen}
 use Rattle.range_loc_rewrite.specs.Ranges.{Ranged, ranged_from, ranged_in, ranges_of, hold, covering}
-use Rattle.range_loc_rewrite.specs.WrittenRanges.{bounded, AreWritten}
+use Rattle.range_loc_rewrite.specs.WrittenRanges.{bounded}
 use Rattle.range_loc_rewrite.proofs.EntriesStay.{Stays, stays}
 use Rattle.range_loc_rewrite.proofs.KeptLookups.{sound_at}
 use Rattle.range_loc_rewrite.proofs.KeptPairs.{all_paired}
+use Rattle.range_loc_rewrite.proofs.NamedRanges.{AreNamed}
 use Rattle.range_loc_rewrite.proofs.SoundLists.{AreFine, lists_fine, fine_free}
 use Rattle.range_loc_rewrite.proofs.TableFaults.{no_other, no_bad}
 use Rattle.range_loc_rewrite.proofs.UnitsFree.{units_free}
-
--- Lists side by side
-
-zip_with : {X : Type 0} (R S : X → X → Type 0) (xs ys : List X) → AllZip R xs ys → ((x y : X) → Contains xs x → Contains ys y → R x y → S x y) → AllZip S xs ys
-zip_with R S [] [] z f = tt
-zip_with R S [] (y ∷ ys) z f = absurd z
-zip_with R S (x ∷ xs) [] z f = absurd z
-zip_with R S (x ∷ xs) (y ∷ ys) z f =
-    (f x y (0, omega arith, refl) (0, omega arith, refl) z.0, zip_with R S xs ys z.1 (λ a b c d. f a b (Contains-there x xs a c) (Contains-there y ys b d)))
-
-zip_right : {X : Type 0} (R : X → X → Type 0) (xs ys : List X) (y : X) → AllZip R xs ys → Contains ys y → (x : X) × R x y
-zip_right R [] ys y z c = none ys z c
-  where
-    none : (ys : List _) → AllZip R [] ys → Contains ys y → (x : _) × R x y
-    none [] z c = absurd (Contains-nil y c)
-    none (q ∷ ys) z c = absurd z
-zip_right R (x ∷ xs) [] y z c = absurd z
-zip_right R (x ∷ xs) (q ∷ ys) y z c = ⊎_elim (λ (same : q ≡ y). (x, subst (R x) same z.0)) (λ (there : Contains ys y). zip_right R xs ys y z.1 there) (Contains-cons_cases q ys y c)
+use Rattle.range_loc_rewrite.proofs.Zips.{zip_with, zip_right}
 
 -- Entries that hold two addresses alike cover them at the same places.
 
@@ -120,7 +103,7 @@ find_member e attr (x ∷ xs) o f = step (x.entry == e) (x.attr == attr) refl re
     step true false f g h ih = again (ih h)
     step false b f g h ih = again (ih h)
 
-given_by : (names lists : List ListAt) → ((l : ListAt) → Contains names l → new_list_offset lists l.entry l.attr ≡ Some l.offset) →
+pub given_by : (names lists : List ListAt) → ((l : ListAt) → Contains names l → new_list_offset lists l.entry l.attr ≡ Some l.offset) →
     (e attr o : ℕ) → new_list_offset names e attr ≡ Some o → new_list_offset lists e attr ≡ Some o
 given_by names lists named e attr o f =
     let q = find_member e attr names o f in
@@ -128,7 +111,7 @@ given_by names lists named e attr o f =
 
 module _ (s t : ListSections) (spans : List Span) (covers : List Cover) (kept : List RangedEntry) (lists : List (Vec (Run Bool))) (bytes : List ℕ) (names : List ListAt) (m : Moves)
     (free : IsFree (HasDwarfFault (range_places s))) (seen : (a : ℕ) → seen_kept covers kept a ≡ all_seen s a)
-    (w : AreWritten lists kept kept [] bytes names) (table : t.ranges ≡ bytes) (free_units : IsFree (HasDwarfFault (unit_fault_places t.units)))
+    (w : AreNamed lists kept bytes names) (table : t.ranges ≡ bytes) (free_units : IsFree (HasDwarfFault (unit_fault_places t.units)))
     (changed : AreChangedUnits s.units m t.units)
     (named : (l : ListAt) → Contains names l → new_list_offset m.lists l.entry l.attr ≡ Some l.offset)
     (says : (r : RangedEntry) → Contains kept r → (p : ℕ) → run_at (runs_in lists r.group) p ≡ if_held (holds_some covers r.group (owner spans p)))
@@ -162,7 +145,7 @@ module _ (s t : ListSections) (spans : List Span) (covers : List Cover) (kept : 
             alike_from (ranges_of s u) (ranges_of t v) o p [] [] u.entries v.entries
             (zip_with (λ d e. (e.place ≡ d.place) × Stays s t spans u v d e) (Alike (ranges_of s u) (ranges_of t v) o p) u.entries v.entries z
             (λ d e dc ec x. record { place = x.0; held = x.1.held p o owned }));
-        fine = λ e ec. (zip_right (λ d e. (e.place ≡ d.place) × Stays s t spans u v d e) u.entries v.entries e z ec).1.1.fine;
+        fine = λ e ec. (zip_right (λ d e. (e.place ≡ d.place) × Stays s t spans u v d e) u.entries v.entries e z ec).2.1.fine;
       }
 
   all_stay : AllZip UnitStays (units s.units) (units t.units)
@@ -184,25 +167,26 @@ module _ (s t : ListSections) (spans : List Span) (covers : List Cover) (kept : 
   pub new_free : IsFree (HasDwarfFault (range_places t))
   new_free =
       fine_free t free_units (ap (other_version 5) ranges_are ∙ no_other w.tables w.units) (ap of_tables_in ranges_are ∙ no_bad w.tables w.units w.sound)
-      (λ v vc e ec. (zip_right UnitStays (units s.units) (units t.units) v all_stay vc).1.fine e ec)
+      (λ v vc e ec. (zip_right UnitStays (units s.units) (units t.units) v all_stay vc).2.fine e ec)
     where
       of_tables_in : List ℕ → List ℕ
       of_tables_in section = map (λ (w : Walked). w.place) (filter (λ (w : Walked). not (option_map_or is_list_table w.bytes false)) (walked 5 section))
 
-agree_same : (o : Option (List ℕ)) → Agree (λ x y. x ≡ y) o o
+agree_same : {X : Type 0} (o : Option (List X)) → Agree (λ x y. x ≡ y) o o
 agree_same None = tt
 agree_same (Some x) = refl
 
 -- what is carried
-pub is_carried : (s t : ListSections) (spans : List Span) (wanted : ℕ → Option (List ℕ)) → ((p : ℕ) → wanted p ≡ carried (range_says s) spans p) →
-    ((p o : ℕ) → owner spans p ≡ Some o → covering t p ≡ covering s o) → IsCarried (λ x y. x ≡ y) spans wanted (Some (range_says t))
-is_carried s t spans wanted answers same p some = by_owner (owner spans p) refl some
+pub is_carried : {X : Type 0} (old new : ℕ → List X) (spans : List Span) (wanted : ℕ → Option (List X)) →
+    ((p : ℕ) → wanted p ≡ carried (λ a. unless_empty (old a)) spans p) → ((p o : ℕ) → owner spans p ≡ Some o → new p ≡ old o) →
+    IsCarried (λ x y. x ≡ y) spans wanted (Some (λ p. unless_empty (new p)))
+is_carried old new spans wanted answers same p some = by_owner (owner spans p) refl some
   where
-    by_owner : (o : Option ℕ) → owner spans p ≡ o → IsSome o → Agree (λ x y. x ≡ y) (wanted p) (range_says t p)
+    by_owner : (o : Option ℕ) → owner spans p ≡ o → IsSome o → Agree (λ x y. x ≡ y) (wanted p) (unless_empty (new p))
     by_owner None e f = absurd (cc)
     by_owner (Some o) e f =
-        let is : wanted p ≡ range_says t p = answers p ∙ ap (option_and_then (range_says s)) e ∙ ap unless_empty (sym (same p o e)) in
-        subst (λ (x : Option (List ℕ)). Agree (λ a b. a ≡ b) x (range_says t p)) (sym is) (agree_same (range_says t p))
+        let is : wanted p ≡ unless_empty (new p) = answers p ∙ ap (option_and_then (λ a. unless_empty (old a))) e ∙ ap unless_empty (sym (same p o e)) in
+        subst (λ x. Agree (λ a b. a ≡ b) x (unless_empty (new p))) (sym is) (agree_same (unless_empty (new p)))
 
 -- runs of groups can be written
 pub runs_end_le : {A : Type 0} (lo : ℕ) (rs : List (Run A)) (hi : ℕ) → IsWithin lo rs hi → runs_end lo rs ≤ hi

@@ -23,9 +23,11 @@ use Rattle.range_loc_rewrite.specs.Faults.{ListSections}
 use Rattle.range_loc_rewrite.specs.GroupRuns.{runs_in}
 use Rattle.range_loc_rewrite.specs.Groups.{ranges_in}
 use Rattle.range_loc_rewrite.specs.ListBytes.{IsWritable, located_at}
-use Rattle.range_loc_rewrite.specs.Lists.{Located, ranges_kind, has_list, list_offset, list_at, only_within, offset_of_index}
+use Rattle.range_loc_rewrite.specs.Lists.{Kind, Located, ranges_kind, has_list, list_offset, list_at, only_within, offset_of_index}
 use Rattle.range_loc_rewrite.specs.Ranges.{ranges_of, hold}
-use Rattle.range_loc_rewrite.specs.WrittenRanges.{bounded, group_bytes, StandsAt}
+use Rattle.range_loc_rewrite.specs.WrittenRanges.{bounded}
+use Rattle.range_loc_rewrite.specs.WrittenTables.{StandsAt}
+use Rattle.range_loc_rewrite.proofs.NamedRanges.{group_list}
 use Rattle.range_loc_rewrite.proofs.ChangedAttrs.{named, changed}
 use Rattle.range_loc_rewrite.proofs.HeldRuns.{ranges_hold}
 use Rattle.range_loc_rewrite.proofs.KeptLookups.{no_bounds}
@@ -69,7 +71,7 @@ found_there k (x ∷ xs) a e = step (x.name == k) e (λ e. found_there k xs a e)
 -- The ranges of an entry of a written file, by its list.
 module _ (t : ListSections) (v : Unit) (e : Entry) (tables : List (List ℕ)) (units : All (IsUnit 5) tables) (ranges_are : t.ranges ≡ units_bytes tables)
     (none : attr 0x12 e ≡ None) (sound : IsSoundEntry t.units.addr v e) (a : Attr) (is : attr 0x55 e ≡ Some a) (at : ℕ)
-    (offset : list_offset ranges_kind t.ranges v a ≡ Some at) (lists : List (Vec (Run Bool))) (g : ℕ) (stands : StandsAt tables at (group_bytes lists g))
+    (offset : list_offset ranges_kind t.ranges v a ≡ Some at) (lists : List (Vec (Run Bool))) (g : ℕ) (stands : StandsAt tables at (group_list lists g))
     (writable : All (IsWritable kind.Ranges) (map bounded (runs_in lists g))) where
   abbrev said : List Located
   said = map located_at (map bounded (runs_in lists g))
@@ -102,11 +104,13 @@ module _ (t : ListSections) (v : Unit) (e : Entry) (tables : List (List ℕ)) (u
   pub fine_by : AreFine t v e.attrs
   fine_by x c h = subst (IsFine t v) (only x c h) (record { at = at; offset = offset; read = ap is_some listed })
 
--- the six and the seventh of the tests of a sound attribute, and the fourth
+-- what the tests of a sound attribute say of lists
 pub record SoundTests (addr : List ℕ) (u : Unit) (a : Attr) : Type 0 where
+  pub location : (a.form == 0x22) ≡ true → is_some (base 0x8c u) ≡ true
   pub index : (a.form == 0x23) ≡ true → is_some (base 0x74 u) ≡ true
+  pub located : is_located a.name ≡ true → (is_block a.form || a.form == 0x17 || a.form == 0x22) ≡ true
   pub ranges : (a.name == 0x55) ≡ true → (a.form == 0x17 || a.form == 0x23) ≡ true
-  pub bases : (a.name == 0x74) ≡ true → (a.form == 0x17) ≡ true
+  pub bases : (a.name == 0x74 || a.name == 0x8c) ≡ true → (a.form == 0x17) ≡ true
 
 sound_tests : (addr : List ℕ) (u : Unit) (a : Attr) → is_sound_attr addr u a ≡ true → SoundTests addr u a
 sound_tests addr u a e =
@@ -115,17 +119,19 @@ sound_tests addr u a e =
     (implies (is_located a.name) (is_block a.form || a.form == 0x17 || a.form == 0x22)) (implies (a.name == 0x55) (a.form == 0x17 || a.form == 0x23))
     (implies (a.name == 0x74 || a.name == 0x8c) (a.form == 0x17)) e in
     record {
-      index = λ f. implied (a.form == 0x23) (is_some (base 0x74 u)) p.0 f;
-      ranges = λ f. implied (a.name == 0x55) (a.form == 0x17 || a.form == 0x23) p.1 f;
-      bases = λ f. implied (a.name == 0x74 || a.name == 0x8c) (a.form == 0x17) p.2 (ap (λ (b : Bool). b || a.name == 0x8c) f);
+      location = λ f. implied (a.form == 0x22) (is_some (base 0x8c u)) p.0 f;
+      index = λ f. implied (a.form == 0x23) (is_some (base 0x74 u)) p.1 f;
+      located = λ f. implied (is_located a.name) (is_block a.form || a.form == 0x17 || a.form == 0x22) p.2 f;
+      ranges = λ f. implied (a.name == 0x55) (a.form == 0x17 || a.form == 0x23) p.3 f;
+      bases = λ f. implied (a.name == 0x74 || a.name == 0x8c) (a.form == 0x17) p.4 f;
     }
   where
     implied : (b d : Bool) → (not b || d) ≡ true → b ≡ true → d ≡ true
     implied true d f g = f
     implied false d f g = absurd (cc)
 
-    seven : (b1 b2 b3 b4 b5 b6 b7 : Bool) → (b1 && b2 && b3 && b4 && b5 && b6 && b7) ≡ true → (b4 ≡ true) × (b6 ≡ true) × (b7 ≡ true)
-    seven true true true true true true true f = (refl, refl, refl)
+    seven : (b1 b2 b3 b4 b5 b6 b7 : Bool) → (b1 && b2 && b3 && b4 && b5 && b6 && b7) ≡ true → (b3 ≡ true) × (b4 ≡ true) × (b5 ≡ true) × (b6 ≡ true) × (b7 ≡ true)
+    seven true true true true true true true f = (refl, refl, refl, refl, refl)
     seven true true true true true true false f = absurd (cc)
     seven true true true true true false b7 f = absurd (cc)
     seven true true true true false b6 b7 f = absurd (cc)
@@ -165,16 +171,17 @@ new_base m own d a at n f given =
 
 -- The offset of a list, by its attribute
 
-pub plain_offset : (section : List ℕ) (v : Unit) (a : Attr) (at : ℕ) → a.form ≡ 0x17 → a.value ≡ at → at < length section → list_offset ranges_kind section v a ≡ Some at
-plain_offset section v a at f value h =
-    ap (λ (n : ℕ). option_and_then (only_within section) (if n == 0x23 then offset_of_index ranges_kind section v a.value else Some a.value)) f
+pub plain_offset : (k : Kind) (section : List ℕ) (v : Unit) (a : Attr) (at : ℕ) → (a.form == k.index_form) ≡ false → a.value ≡ at → at < length section →
+    list_offset k section v a ≡ Some at
+plain_offset k section v a at f value h =
+    ap (λ (b : Bool). option_and_then (only_within section) (if b then offset_of_index k section v a.value else Some a.value)) f
     ∙ ap (only_within section) value ∙ inside_is section at h
 
-pub index_offset : (section : List ℕ) (v : Unit) (a : Attr) (i b o : ℕ) → a.form ≡ 0x23 → a.value ≡ i → base 0x74 v ≡ Some b → number_in 4 (b + 4 * i) section ≡ Some o →
-    b + o < length section → list_offset ranges_kind section v a ≡ Some (b + o)
-index_offset section v a i b o f value based there h =
-    ap (λ (n : ℕ). option_and_then (only_within section) (if n == 0x23 then offset_of_index ranges_kind section v a.value else Some a.value)) f
-    ∙ ap (λ (n : ℕ). option_and_then (only_within section) (offset_of_index ranges_kind section v n)) value
+pub index_offset : (k : Kind) (section : List ℕ) (v : Unit) (a : Attr) (i b o : ℕ) → (a.form == k.index_form) ≡ true → a.value ≡ i → base k.base_name v ≡ Some b →
+    number_in 4 (b + 4 * i) section ≡ Some o → b + o < length section → list_offset k section v a ≡ Some (b + o)
+index_offset k section v a i b o f value based there h =
+    ap (λ (b : Bool). option_and_then (only_within section) (if b then offset_of_index k section v a.value else Some a.value)) f
+    ∙ ap (λ (n : ℕ). option_and_then (only_within section) (offset_of_index k section v n)) value
     ∙ ap (λ (x : Option ℕ). option_and_then (only_within section) (option_and_then (λ b. option_map (λ n. b + n) (number_in 4 (b + 4 * i) section)) x)) based
     ∙ ap (λ (x : Option ℕ). option_and_then (only_within section) (option_map (λ n. b + n) x)) there
     ∙ inside_is section (b + o) h

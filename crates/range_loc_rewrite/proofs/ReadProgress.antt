@@ -58,6 +58,16 @@ entries_by s w r o is e = subst (λ o. MatchOption o (fails (is_sound_unit s.uni
 weights_more : (n m limit : ℕ) → min (min n limit + min m limit) limit ≡ min (n + m) limit
 weights_more n m limit = omega arith
 
+-- the weights of the tables of offsets of one unit more
+pub indexes_more : (s : ListSections) (form : ℕ) (ws : List Walked) (w : Walked) (u : Unit) (old new : ℕ) → unit_of s.units.abbrevs w ≡ Ok u →
+    new ≡ min (old + min (index_weight form u) (2 ^ 64 - 1)) (2 ^ 64 - 1) → old ≡ min (sum_by (index_weight form) (units_of s ws)) (2 ^ 64 - 1) →
+    new ≡ min (sum_by (index_weight form) (units_of s (ws ++ w ∷ []))) (2 ^ 64 - 1)
+indexes_more s form ws w u old new read made before =
+    made ∙ ap (λ (n : ℕ). min (n + min (index_weight form u) (2 ^ 64 - 1)) (2 ^ 64 - 1)) before
+    ∙ weights_more (sum_by (index_weight form) (units_of s ws)) (index_weight form u) (2 ^ 64 - 1)
+    ∙ ap (λ (n : ℕ). min n (2 ^ 64 - 1))
+    (sym (ap (sum_by (index_weight form)) (units_more s ws w u read) ∙ sum_by_push (index_weight form) (units_of s ws) u))
+
 module _ (s : ListSections) (ws : List Walked) (w : Walked) (old new : Progress) (r : UnitReading) (are : IsProgress s ws old)
     (is : IsReading s.units.abbrevs s.units.addr w r) (form : new.bad_form ≡ lower old.bad_form r.bad_form)
     (high : new.bad_high ≡ lower old.bad_high r.bad_high) (unform : new.unformed ≡ lower old.unformed r.unformed) where
@@ -121,12 +131,7 @@ module _ (s : ListSections) (ws : List Walked) (w : Walked) (old new : Progress)
               ∙ sym (ap (λ (us : List Unit). least (flat_map (bad_list_tables ranges_kind s.ranges s.units.addr) us)) (units_more s ws w u read)
               ∙ ap least (flat-more (bad_list_tables ranges_kind s.ranges s.units.addr) (units_of s ws) u)
               ∙ least-append (flat_map (bad_list_tables ranges_kind s.ranges s.units.addr) (units_of s ws)) (bad_list_tables ranges_kind s.ranges s.units.addr u));
-          indexes = indexes
-              ∙ ap (λ (n : ℕ). min (n + min (index_weight ranges_kind.index_form u) (2 ^ 64 - 1)) (2 ^ 64 - 1)) was.indexes
-              ∙ weights_more (sum_by (index_weight ranges_kind.index_form) (units_of s ws)) (index_weight ranges_kind.index_form u) (2 ^ 64 - 1)
-              ∙ ap (λ (n : ℕ). min n (2 ^ 64 - 1))
-              (sym (ap (sum_by (index_weight ranges_kind.index_form)) (units_more s ws w u read)
-              ∙ sum_by_push (index_weight ranges_kind.index_form) (units_of s ws) u));
+          indexes = indexes_more s ranges_kind.index_form ws w u old.index_weight new.index_weight read indexes was.indexes;
         })
 
 -- a unit whose entries can be read
@@ -144,6 +149,6 @@ unit_added s ws w old mid new r es are is form high unform groups ranged weight 
     (unit_of_listed s u.0 es.items mid.groups new.groups mid.ranged.items new.ranged.items added.faults u.2 added.gathered)) in
     by_offset s ws w old new r are is (added.form ∙ form) (added.high ∙ high) (added.unformed_is ∙ unform) es.items added.faults before behind.0 u.0 u.1 g
     (added.table ∙ ap (λ (o : Option ℕ). lower o added.faults.bad) table)
-    (added.indexes ∙ (λ i. min (weight i + min (unit_weight s u.0 es.items u.2 i) (2 ^ 64 - 1)) (2 ^ 64 - 1)))
+    (added.indexes ∙ (λ i. min (weight i + min (unit_weight ranges_kind.index_form u.0 es.items u.2 i) (2 ^ 64 - 1)) (2 ^ 64 - 1)))
     added.faults.lacks_offset refl
     (added.bad ∙ ap (λ (o : Option ℕ). if added.faults.lacks_offset then Some w.place else o) bad)

@@ -5,42 +5,39 @@ use Rattle.std.specs.Global.{Vec}
 use Rattle.std.proofs.lemmas.Grind.{common_steps}
 use Rattle.std.proofs.lemmas.List.Elements.{All-append, All-cons, All-nil}
 use Rattle.rb_bytes.proofs.Members.{Contains-nil, Contains-cons_cases, Contains-there}
-use Rattle.table_core.specs.declared.run.Run.{Run}
 use Rattle.table_core.specs.declared.written.ListAt.{ListAt}
 use Rattle.table_core.proofs.UnitsBack.{IsUnit, units_bytes}
-use Rattle.dw_unit.specs.declared.attribute.TheConstants.{DW_AT_ranges, DW_AT_rnglists_base}
-use Rattle.dw_unit.proofs.NamedOffsets.{Ascends}
-use Rattle.range_loc_rewrite.specs.declared.groups.RangedEntry.{RangedEntry}
+use Rattle.range_loc_rewrite.specs.declared.list_kind.ListKind.{ListKind}
+use Rattle.range_loc_rewrite.specs.declared.named_list.NamedList.{NamedList}
 use Rattle.range_loc_rewrite.specs.Faults.{is_list_table}
-use Rattle.range_loc_rewrite.specs.WrittenRanges.{AreNames, Keeps, places_end, StandsAt, IsNamed, IsUnitWritten, OwnsRise, AreWritten}
-use Rattle.range_loc_rewrite.proofs.KeptEntries.{kept_place}
+use Rattle.range_loc_rewrite.specs.WrittenTables.{base_name, key, AreInOrder, AreNames, Keeps, keys_end, StandsAt, IsNamed, IsUnitWritten, OwnsRise, AreWritten}
 use Rattle.range_loc_rewrite.proofs.PutEntries.{contains_split, contains_still, contains_behind}
 
-places_append : (lo : ℕ) (xs ys : List RangedEntry) → places_end lo (xs ++ ys) ≡ places_end (places_end lo xs) ys
-places_append lo [] ys = refl
-places_append lo (x ∷ xs) ys = places_append (x.place + 1) xs ys
+keys_append : (lo : ℕ) (xs ys : List NamedList) → keys_end lo (xs ++ ys) ≡ keys_end (keys_end lo xs) ys
+keys_append lo [] ys = refl
+keys_append lo (x ∷ xs) ys = keys_append (key x.place x.attr + 1) xs ys
 
-ascends_front : (lo : ℕ) (xs ys : List RangedEntry) → Ascends lo (map kept_place (xs ++ ys)) → Ascends lo (map kept_place xs)
-ascends_front lo [] ys up = tt
-ascends_front lo (x ∷ xs) ys up = (up.0, ascends_front (x.place + 1) xs ys up.1)
+order_front : (kind : ListKind) (lo : ℕ) (xs ys : List NamedList) → AreInOrder kind lo (xs ++ ys) → AreInOrder kind lo xs
+order_front kind lo [] ys up = tt
+order_front kind lo (x ∷ xs) ys up = (up.0, up.1, order_front kind (key x.place x.attr + 1) xs ys up.2)
 
-ascends_back : (lo : ℕ) (xs ys : List RangedEntry) → Ascends lo (map kept_place (xs ++ ys)) → Ascends (places_end lo xs) (map kept_place ys)
-ascends_back lo [] ys up = up
-ascends_back lo (x ∷ xs) ys up = ascends_back (x.place + 1) xs ys up.1
+order_back : (kind : ListKind) (lo : ℕ) (xs ys : List NamedList) → AreInOrder kind lo (xs ++ ys) → AreInOrder kind (keys_end lo xs) ys
+order_back kind lo [] ys up = up
+order_back kind lo (x ∷ xs) ys up = order_back kind (key x.place x.attr + 1) xs ys up.2
 
 -- the next entry is of another unit
-abbrev Next : ℕ → List RangedEntry → Type 0
+abbrev Next : ℕ → List NamedList → Type 0
 Next own [] = ⊤
 Next own (r ∷ rs) = r.own ≢ own
 
-owns_split : (lo own : ℕ) (unit behind : List RangedEntry) → OwnsRise lo (unit ++ behind) → ((r : RangedEntry) → Contains unit r → r.own ≡ own) → 0 < length unit →
+owns_split : (lo own : ℕ) (unit behind : List NamedList) → OwnsRise lo (unit ++ behind) → ((r : NamedList) → Contains unit r → r.own ≡ own) → 0 < length unit →
     OwnsRise own behind
 owns_split lo own [] behind rise owned h = absurd (omega arith)
 owns_split lo own (r ∷ []) behind rise owned h = subst (λ (n : ℕ). OwnsRise n behind) (owned r (0, omega arith, refl)) rise.1
 owns_split lo own (r ∷ q ∷ unit) behind rise owned h =
     owns_split r.own own (q ∷ unit) behind rise.1 (λ x c. owned x (Contains-there r (q ∷ unit) x c)) (omega arith)
 
-owns_next : (own : ℕ) (behind : List RangedEntry) → OwnsRise own behind → Next own behind → OwnsRise (own + 1) behind
+owns_next : (own : ℕ) (behind : List NamedList) → OwnsRise own behind → Next own behind → OwnsRise (own + 1) behind
 owns_next own [] rise next = tt
 owns_next own (r ∷ rs) rise next = (above own r.own rise.0 next, rise.1)
   where
@@ -56,16 +53,16 @@ owns_next own (r ∷ rs) rise next = (above own r.own rise.0 next, rise.1)
 
 -- Of a unit's length
 
-pub taken_own : (rest : List RangedEntry) (n own : ℕ) → ((k : ℕ) (d : RangedEntry) → k < n → (get_or rest k d).own ≡ own) → n ≤ length rest →
-    (r : RangedEntry) → Contains (take n rest) r → r.own ≡ own
+pub taken_own : (rest : List NamedList) (n own : ℕ) → ((k : ℕ) (d : NamedList) → k < n → (get_or rest k d).own ≡ own) → n ≤ length rest →
+    (r : NamedList) → Contains (take n rest) r → r.own ≡ own
 taken_own rest zero own same h r c = absurd (Contains-nil r c)
 taken_own [] (suc n) own same h r c = absurd (omega arith)
 taken_own (x ∷ rest) (suc n) own same h r c = ⊎_elim
-    (λ (e : x ≡ r). sym (ap (λ (q : RangedEntry). q.own) e) ∙ same 0 x (omega arith))
+    (λ (e : x ≡ r). sym (ap (λ (q : NamedList). q.own) e) ∙ same 0 x (omega arith))
     (λ (there : Contains (take n rest) r). taken_own rest n own (λ k d l. same (suc k) d (omega (arith, l))) (omega arith) r there)
     (Contains-cons_cases x (take n rest) r c)
 
-pub next_own : (rest : List RangedEntry) (n own : ℕ) → ((d : RangedEntry) → n < length rest → (get_or rest n d).own ≢ own) → Next own (drop n rest)
+pub next_own : (rest : List NamedList) (n own : ℕ) → ((d : NamedList) → n < length rest → (get_or rest n d).own ≢ own) → Next own (drop n rest)
 next_own [] zero own next = tt
 next_own [] (suc n) own next = tt
 next_own (x ∷ rest) zero own next = next x (omega arith)
@@ -87,35 +84,35 @@ stands_still tables ys at part s = record {
     assoc [] y z = refl
     assoc (q ∷ x) y z = ap (λ (l : List (List ℕ)). q ∷ l) (assoc x y z)
 
-named_still : (lists : List (Vec (Run Bool))) (tables ys : List (List ℕ)) (names more : List ListAt) (all : List RangedEntry) (r : RangedEntry) (i : Option ℕ) → Keeps names more →
-    IsNamed lists tables names all r i → IsNamed lists (tables ++ ys) more all r i
-named_still lists tables ys names more all r None keeps n = (n.0, keeps r.place DW_AT_ranges n.0 n.1, stands_still tables ys n.0 _ n.2)
-named_still lists tables ys names more all r (Some i) keeps n =
-    (n.0, n.1, n.2, keeps r.own DW_AT_rnglists_base n.0 n.3, stands_still tables ys _ _ n.4, n.5, n.6, n.7, n.8, stands_still tables ys _ _ n.9)
+named_still : (kind : ListKind) (lists : List (Vec ℕ)) (tables ys : List (List ℕ)) (names more : List ListAt) (all : List NamedList) (r : NamedList) (i : Option ℕ) → Keeps names more →
+    IsNamed kind lists tables names all r i → IsNamed kind lists (tables ++ ys) more all r i
+named_still kind lists tables ys names more all r None keeps n = (n.0, keeps r.place r.attr n.0 n.1, stands_still tables ys n.0 _ n.2)
+named_still kind lists tables ys names more all r (Some i) keeps n =
+    (n.0, n.1, n.2, keeps r.own (base_name kind) n.0 n.3, stands_still tables ys _ _ n.4, n.5, n.6, n.7, n.8, stands_still tables ys _ _ n.9)
 
-named_of : (lists : List (Vec (Run Bool))) (tables : List (List ℕ)) (names : List ListAt) (unit all : List RangedEntry) (r : RangedEntry) (i : Option ℕ) →
-    ((x : RangedEntry) → Contains unit x → Contains all x) → IsNamed lists tables names unit r i → IsNamed lists tables names all r i
-named_of lists tables names unit all r None within n = n
-named_of lists tables names unit all r (Some i) within n = (n.0, n.1, n.2, n.3, n.4, n.5, n.6, n.7, within n.2 n.8, n.9)
+named_of : (kind : ListKind) (lists : List (Vec ℕ)) (tables : List (List ℕ)) (names : List ListAt) (unit all : List NamedList) (r : NamedList) (i : Option ℕ) →
+    ((x : NamedList) → Contains unit x → Contains all x) → IsNamed kind lists tables names unit r i → IsNamed kind lists tables names all r i
+named_of kind lists tables names unit all r None within n = n
+named_of kind lists tables names unit all r (Some i) within n = (n.0, n.1, n.2, n.3, n.4, n.5, n.6, n.7, within n.2 n.8, n.9)
 
 -- A unit more.
-module _ (lists : List (Vec (Run Bool))) (all done rest unit behind : List RangedEntry) (bytes new : List ℕ) (names more : List ListAt) (own : ℕ)
-    (w : AreWritten lists all done rest bytes names) (split : rest ≡ unit ++ behind) (whole : all ≡ done ++ rest) where
+module _ (kind : ListKind) (lists : List (Vec ℕ)) (all done rest unit behind : List NamedList) (bytes new : List ℕ) (names more : List ListAt) (own : ℕ)
+    (w : AreWritten kind lists all done rest bytes names) (split : rest ≡ unit ++ behind) (whole : all ≡ done ++ rest) where
   rises : OwnsRise w.own (unit ++ behind)
   rises = subst (OwnsRise w.own) split w.owns
 
-  places : Ascends (places_end 0 done) (map kept_place (unit ++ behind))
-  places = subst (λ (l : List RangedEntry). Ascends (places_end 0 done) (map kept_place l)) split w.places
+  order : AreInOrder kind (keys_end 0 done) (unit ++ behind)
+  order = subst (AreInOrder kind (keys_end 0 done)) split w.order
 
-  pub unit_places : Ascends (places_end 0 done) (map kept_place unit)
-  unit_places = ascends_front (places_end 0 done) unit behind places
+  pub unit_order : AreInOrder kind (keys_end 0 done) unit
+  unit_order = order_front kind (keys_end 0 done) unit behind order
 
-  within : (x : RangedEntry) → Contains unit x → Contains all x
-  within x c = subst (λ (l : List RangedEntry). Contains l x) (sym whole)
-      (contains_behind done rest x (subst (λ (l : List RangedEntry). Contains l x) (sym split) (contains_still unit behind x c)))
+  within : (x : NamedList) → Contains unit x → Contains all x
+  within x c = subst (λ (l : List NamedList). Contains l x) (sym whole)
+      (contains_behind done rest x (subst (λ (l : List NamedList). Contains l x) (sym split) (contains_still unit behind x c)))
 
-  pub more_written : ((r : RangedEntry) → Contains unit r → r.own ≡ own) → 0 < length unit → Next own behind →
-      IsUnitWritten lists (places_end 0 done) own unit w.tables new names more → AreWritten lists all (done ++ unit) behind new more
+  pub more_written : ((r : NamedList) → Contains unit r → r.own ≡ own) → 0 < length unit → Next own behind →
+      IsUnitWritten kind lists (keys_end 0 done) own unit w.tables new names more → AreWritten kind lists all (done ++ unit) behind new more
   more_written owned some next u = record {
     tables = w.tables ++ u.table ∷ [];
     bytes_are = u.bytes_are;
@@ -124,79 +121,79 @@ module _ (lists : List (Vec (Run Bool))) (all done rest unit behind : List Range
         (All-cons (λ b. is_list_table b ≡ Bool.true) u.table [] u.is_table (All-nil (λ b. is_list_table b ≡ Bool.true)));
     own = own + 1;
     owns = owns_next own behind (owns_split w.own own unit behind rises owned some) next;
-    places = subst (λ (n : ℕ). Ascends n (map kept_place behind)) (sym (places_append 0 done unit)) (ascends_back (places_end 0 done) unit behind places);
-    names_are = subst (λ (n : ℕ). AreNames n (own + 1) more) (sym (places_append 0 done unit)) u.names_are;
+    order = subst (λ (n : ℕ). AreInOrder kind n behind) (sym (keys_append 0 done unit)) (order_back kind (keys_end 0 done) unit behind order);
+    names_are = subst (λ (n : ℕ). AreNames kind n (own + 1) more) (sym (keys_append 0 done unit)) u.names_are;
     each = λ r c. ⊎_elim
-        (λ (there : Contains done r). named_still lists w.tables (u.table ∷ []) names more all r r.index u.keeps (w.each r there))
-        (λ (there : Contains unit r). named_of lists (w.tables ++ u.table ∷ []) more unit all r r.index within (u.each r there))
+        (λ (there : Contains done r). named_still kind lists w.tables (u.table ∷ []) names more all r r.index u.keeps (w.each r there))
+        (λ (there : Contains unit r). named_of kind lists (w.tables ++ u.table ∷ []) more unit all r r.index within (u.each r there))
         (contains_split done unit r c);
   }
 
-pub first_own : (lo own : ℕ) (rest : List RangedEntry) (first : RangedEntry) → OwnsRise lo rest → 0 < length rest → get_or rest 0 first ≡ first → first.own ≡ own → lo ≤ own
+pub first_own : (lo own : ℕ) (rest : List NamedList) (first : NamedList) → OwnsRise lo rest → 0 < length rest → get_or rest 0 first ≡ first → first.own ≡ own → lo ≤ own
 first_own lo own [] first rise h is e = absurd (omega arith)
-first_own lo own (x ∷ rest) first rise h is e = let o : x.own ≡ own = ap (λ (q : RangedEntry). q.own) is ∙ e in omega (arith, rise.0, o)
+first_own lo own (x ∷ rest) first rise h is e = let o : x.own ≡ own = ap (λ (q : NamedList). q.own) is ∙ e in omega (arith, rise.0, o)
 
-pub none_written : (lists : List (Vec (Run Bool))) (all : List RangedEntry) (bytes : List ℕ) (names : List ListAt) → bytes ≡ [] → names ≡ [] →
-    Ascends 0 (map kept_place all) → OwnsRise 0 all → AreWritten lists all [] all bytes names
+pub none_written : (kind : ListKind) (lists : List (Vec ℕ)) (all : List NamedList) (bytes : List ℕ) (names : List ListAt) → bytes ≡ [] → names ≡ [] →
+    AreInOrder kind 0 all → OwnsRise 0 all → AreWritten kind lists all [] all bytes names
 unfolding units_bytes
-none_written lists all bytes names empty unnamed up rise = record {
+none_written kind lists all bytes names empty unnamed up rise = record {
   tables = [];
   bytes_are = empty;
   units = All-nil (IsUnit 5);
   sound = All-nil (λ b. is_list_table b ≡ Bool.true);
   own = 0;
   owns = rise;
-  places = up;
-  names_are = subst (AreNames 0 0) (sym unnamed) (record {
+  order = up;
+  names_are = subst (AreNames kind 0 0) (sym unnamed) (record {
     attrs = All-nil _;
     once = λ l c. absurd (Contains-nil l c);
     low = All-nil _;
-    lists = λ e h. refl;
+    lists = λ e attr is h. refl;
     bases = λ e h. refl;
   });
   each = λ r c. absurd (Contains-nil r c);
 }
 
-split_is : (xs : List RangedEntry) (n : ℕ) → xs ≡ take n xs ++ drop n xs
+split_is : (xs : List NamedList) (n : ℕ) → xs ≡ take n xs ++ drop n xs
 split_is xs zero = refl
 split_is [] (suc n) = refl
-split_is (x ∷ xs) (suc n) = ap (λ (l : List RangedEntry). x ∷ l) (split_is xs n)
+split_is (x ∷ xs) (suc n) = ap (λ (l : List NamedList). x ∷ l) (split_is xs n)
 
-some_len : (rest : List RangedEntry) (n own : ℕ) (first : RangedEntry) → ((d : RangedEntry) → n < length rest → (get_or rest n d).own ≢ own) →
+some_len : (rest : List NamedList) (n own : ℕ) (first : NamedList) → ((d : NamedList) → n < length rest → (get_or rest n d).own ≢ own) →
     get_or rest 0 first ≡ first → 0 < length rest → first.own ≡ own → 0 < n
-some_len rest zero own first next is h e = absurd (next first h (ap (λ (q : RangedEntry). q.own) is ∙ e))
+some_len rest zero own first next is h e = absurd (next first h (ap (λ (q : NamedList). q.own) is ∙ e))
 some_len rest (suc n) own first next is h e = omega arith
 
-taken_len : (xs : List RangedEntry) (n : ℕ) → n ≤ length xs → length (take n xs) ≡ n
+taken_len : (xs : List NamedList) (n : ℕ) → n ≤ length xs → length (take n xs) ≡ n
 taken_len xs n h = grind (arith, common_steps)
 
-dropped_len : (xs : List RangedEntry) (n : ℕ) → length (drop n xs) ≡ length xs - n
+dropped_len : (xs : List NamedList) (n : ℕ) → length (drop n xs) ≡ length xs - n
 dropped_len xs n = grind (arith, common_steps)
 
 -- The unit at the front of the rest, and what is behind it.
-pub next_units : (lists : List (Vec (Run Bool))) (all done rest unit behind : List RangedEntry) (bytes new : List ℕ) (names more : List ListAt) (own n : ℕ)
-    (first : RangedEntry) (w : AreWritten lists all done rest bytes names) → all ≡ done ++ rest → unit ≡ take n rest → behind ≡ drop n rest → n ≤ length rest →
-    ((k : ℕ) (d : RangedEntry) → k < n → (get_or rest k d).own ≡ own) → ((d : RangedEntry) → n < length rest → (get_or rest n d).own ≢ own) →
+pub next_units : (kind : ListKind) (lists : List (Vec ℕ)) (all done rest unit behind : List NamedList) (bytes new : List ℕ) (names more : List ListAt) (own n : ℕ)
+    (first : NamedList) (w : AreWritten kind lists all done rest bytes names) → all ≡ done ++ rest → unit ≡ take n rest → behind ≡ drop n rest → n ≤ length rest →
+    ((k : ℕ) (d : NamedList) → k < n → (get_or rest k d).own ≡ own) → ((d : NamedList) → n < length rest → (get_or rest n d).own ≢ own) →
     get_or rest 0 first ≡ first → 0 < length rest → first.own ≡ own →
-    ((tables : List (List ℕ)) (lo bound : ℕ) → bytes ≡ units_bytes tables → AreNames lo bound names → Ascends lo (map kept_place unit) → bound ≤ own →
-    ((r : RangedEntry) → Contains unit r → r.own ≡ own) → IsUnitWritten lists lo own unit tables new names more) → (number : ℕ) → length rest + number ≤ length all →
-    (x : List RangedEntry) × (all ≡ x ++ behind) × (length behind + (number + 1) ≤ length all) × AreWritten lists all x behind new more
-next_units lists all done rest unit behind bytes new names more own n first w whole front back le same next is h e written number fits =
+    ((tables : List (List ℕ)) (lo bound : ℕ) → bytes ≡ units_bytes tables → AreNames kind lo bound names → AreInOrder kind lo unit → bound ≤ own →
+    ((r : NamedList) → Contains unit r → r.own ≡ own) → IsUnitWritten kind lists lo own unit tables new names more) → (number : ℕ) → length rest + number ≤ length all →
+    (x : List NamedList) × (all ≡ x ++ behind) × (length behind + (number + 1) ≤ length all) × AreWritten kind lists all x behind new more
+next_units kind lists all done rest unit behind bytes new names more own n first w whole front back le same next is h e written number fits =
     let some : 0 < n = some_len rest n own first next is h e in
     let split : rest ≡ unit ++ behind = split_is rest n ∙ (λ i. sym front i ++ sym back i) in
     let size : length unit ≡ n = ap length front ∙ taken_len rest n le in
     let left : length behind ≡ length rest - n = ap length back ∙ dropped_len rest n in
-    let owned : (r : RangedEntry) → Contains unit r → r.own ≡ own =
-    λ r c. taken_own rest n own same le r (subst (λ (l : List RangedEntry). Contains l r) front c) in
+    let owned : (r : NamedList) → Contains unit r → r.own ≡ own =
+    λ r c. taken_own rest n own same le r (subst (λ (l : List NamedList). Contains l r) front c) in
     let after : Next own behind = subst (Next own) (sym back) (next_own rest n own next) in
-    let u = written w.tables (places_end 0 done) w.own w.bytes_are w.names_are
-    (unit_places lists all done rest unit behind bytes new names more own w split whole) (first_own w.own own rest first w.owns h is e) owned in (
+    let u = written w.tables (keys_end 0 done) w.own w.bytes_are w.names_are
+    (unit_order kind lists all done rest unit behind bytes new names more own w split whole) (first_own w.own own rest first w.owns h is e) owned in (
       done ++ unit,
-      whole ∙ ap (λ (l : List RangedEntry). done ++ l) split ∙ sym (assoc done unit behind),
+      whole ∙ ap (λ (l : List NamedList). done ++ l) split ∙ sym (assoc done unit behind),
       omega (arith, some, left, fits, le),
-      more_written lists all done rest unit behind bytes new names more own w split whole owned (omega (arith, size, some)) after u,
+      more_written kind lists all done rest unit behind bytes new names more own w split whole owned (omega (arith, size, some)) after u,
     )
   where
-    assoc : (x y z : List RangedEntry) → ((x ++ y) ++ z) ≡ x ++ (y ++ z)
+    assoc : (x y z : List NamedList) → ((x ++ y) ++ z) ≡ x ++ (y ++ z)
     assoc [] y z = refl
-    assoc (q ∷ x) y z = ap (λ (l : List RangedEntry). q ∷ l) (assoc x y z)
+    assoc (q ∷ x) y z = ap (λ (l : List NamedList). q ∷ l) (assoc x y z)

@@ -1,4 +1,4 @@
--- A table that is written holds the lists of its unit's entries.
+-- A table that is written holds the lists of its unit.
 use Rattle.std.proofs.Common.{◌≡◌, ◌∙◌, ◌+◌, ◌-◌, ◌*◌, ◌^◌, ◌<◌, ◌≤◌, ◌==◌, ◌&&◌, ◌++◌, ◌∷◌, [], ℕ, zero, suc, Bool, true, false, List, Option, Some, None, BTreeMap}
 use Rattle.std.proofs.Common.{refl, sym, ap, subst, arith, length, drop, ⊎_elim, append-nil, append_assoc, length-append, add-one}
 use Rattle.std.specs.Prelude.{Contains, nat_le, unwrap_or}
@@ -7,15 +7,14 @@ use Rattle.std.proofs.lemmas.Bool.{cases_lt}
 use Rattle.std.proofs.lemmas.Bool.Decides.{nat_tests}
 use Rattle.byteorder.specs.Endian.{little_number, little_bytes}
 use Rattle.byteorder.specs.Numbers.{little_number-reads_back}
-use Rattle.table_core.specs.declared.run.Run.{Run}
 use Rattle.table_core.specs.declared.written.ListAt.{ListAt}
 use Rattle.table_core.proofs.UnitsBack.{IsUnit, units_bytes}
-use Rattle.dw_unit.specs.declared.attribute.TheConstants.{DW_AT_ranges, DW_AT_rnglists_base}
 use Rattle.dw_unit.specs.EntryMoves.{new_list_offset}
-use Rattle.range_loc_rewrite.specs.declared.groups.RangedEntry.{RangedEntry}
+use Rattle.range_loc_rewrite.specs.declared.list_kind.ListKind.{ListKind}
+use Rattle.range_loc_rewrite.specs.declared.named_list.NamedList.{NamedList}
 use Rattle.range_loc_rewrite.specs.Faults.{is_list_table}
-use Rattle.range_loc_rewrite.specs.WrittenRanges.{group_bytes, Begins, AreNames, Keeps, base_at, IsPut, ArePut, places_end, list_header, offset_of, list_offsets, list_table}
-use Rattle.range_loc_rewrite.specs.WrittenRanges.{IsTablePut, StandsAt, IsNamed, IsUnitWritten}
+use Rattle.range_loc_rewrite.specs.WrittenTables.{bytes_in, base_name, Begins, AreNames, Keeps, base_at, IsPut, ArePut, keys_end, list_header, offset_of, list_offsets, list_table}
+use Rattle.range_loc_rewrite.specs.WrittenTables.{IsTablePut, StandsAt, IsNamed, IsUnitWritten}
 use Rattle.range_loc_rewrite.proofs.PutEntries.{keeps_more, new_name, names_less, names_base}
 use Rattle.range_loc_rewrite.proofs.SpelledEntries.{length-little}
 
@@ -146,9 +145,9 @@ pub one_unit_more : (b : List ℕ) (cs : List (List ℕ)) → units_bytes (b ∷
 unfolding units_bytes
 one_unit_more b cs = refl
 
--- Where entries find their lists
+-- Where attributes find their lists
 
-module _ (lists : List (Vec (Run Bool))) (tables : List (List ℕ)) (count base : ℕ) (m : BTreeMap ℕ ℕ) (body : List ℕ)
+module _ (lists : List (Vec ℕ)) (tables : List (List ℕ)) (count base : ℕ) (m : BTreeMap ℕ ℕ) (body : List ℕ)
     (low : (i : ℕ) → i < count → offset_of (4 * count) m i < 2 ^ 32) (based : base ≡ length (units_bytes tables) + 12) where
   abbrev with_table : List (List ℕ)
   with_table = tables ++ list_table count m body ∷ []
@@ -183,13 +182,13 @@ module _ (lists : List (Vec (Run Bool))) (tables : List (List ℕ)) (count base 
       let e = offsets_len (4 * count) m i in
       record { before = tables; after = []; head = head; more = p.more ++ body; are = ap (λ (l : List ℕ). tables ++ l ∷ []) split; at_is = omega (arith, a, d, e, based) }
 
-  module _ (own : ℕ) (names more : List ListAt) (entries : List RangedEntry) (keeps : Keeps names more)
-      (owned : (r : RangedEntry) → Contains entries r → r.own ≡ own) (counted : (r : RangedEntry) (i : ℕ) → Contains entries r → r.index ≡ Some i → i < count)
-      (named : 0 < count → new_list_offset more own DW_AT_rnglists_base ≡ Some base) where
-    is_named : (r : RangedEntry) → Contains entries r → (index : Option ℕ) → r.index ≡ index →
-        IsPut lists (base + 4 * count) body m names entries r index → IsNamed lists with_table more entries r index
+  module _ (kind : ListKind) (own : ℕ) (names more : List ListAt) (entries : List NamedList) (keeps : Keeps names more)
+      (owned : (r : NamedList) → Contains entries r → r.own ≡ own) (counted : (r : NamedList) (i : ℕ) → Contains entries r → r.index ≡ Some i → i < count)
+      (named : 0 < count → new_list_offset more own (base_name kind) ≡ Some base) where
+    is_named : (r : NamedList) → Contains entries r → (index : Option ℕ) → r.index ≡ index →
+        IsPut lists (base + 4 * count) body m names entries r index → IsNamed kind lists with_table more entries r index
     is_named r there None is p =
-        (base + 4 * count + p.0, keeps r.place DW_AT_ranges (base + 4 * count + p.0) p.1, list_stands p.0 (group_bytes lists r.group) p.2)
+        (base + 4 * count + p.0, keeps r.place r.attr (base + 4 * count + p.0) p.1, list_stands p.0 (bytes_in lists r.list) p.2)
     is_named r there (Some i) is p =
         let h : i < count = counted r i there is in
         let o : offset_of (4 * count) m i ≡ 4 * count + p.0 = ap (λ (x : Option ℕ). 4 * count + unwrap_or x 0) p.2 in
@@ -197,40 +196,40 @@ module _ (lists : List (Vec (Run Bool))) (tables : List (List ℕ)) (count base 
           base,
           offset_of (4 * count) m i,
           p.1,
-          ap (λ (n : ℕ). new_list_offset more n DW_AT_rnglists_base) (owned r there) ∙ named (omega (arith, h)),
+          ap (λ (n : ℕ). new_list_offset more n (base_name kind)) (owned r there) ∙ named (omega (arith, h)),
           offset_stands i h,
           low i h,
           owned p.1 p.4 ∙ sym (owned r there),
           p.3,
           p.4,
-          subst (λ (n : ℕ). StandsAt with_table n (group_bytes lists p.1.group)) at (list_stands p.0 (group_bytes lists p.1.group) p.5),
+          subst (λ (n : ℕ). StandsAt with_table n (bytes_in lists p.1.list)) at (list_stands p.0 (bytes_in lists p.1.list) p.5),
         )
 
 -- A unit's table is written, and the base of its indexes named.
-module _ (lists : List (Vec (Run Bool))) (lo bound own count base : ℕ) (entries : List RangedEntry) (tables : List (List ℕ)) (old new : List ℕ)
+module _ (kind : ListKind) (lists : List (Vec ℕ)) (lo bound own count base : ℕ) (entries : List NamedList) (tables : List (List ℕ)) (old new : List ℕ)
     (body : List ℕ) (m : BTreeMap ℕ ℕ) (was names more : List ListAt)
     (before : old ≡ units_bytes tables) (based : base ≡ length old + 12) (small : base < 2 ^ 32) (fits : 4 * count < 2 ^ 32)
-    (put : ArePut lists (base + 4 * count) lo bound body m was names entries) (le : bound ≤ own)
-    (owned : (r : RangedEntry) → Contains entries r → r.own ≡ own)
-    (counted : (r : RangedEntry) (i : ℕ) → Contains entries r → r.index ≡ Some i → i < count)
-    (some : 0 < count → more ≡ names ++ base_at own base ∷ []) (none : count ≡ 0 → more ≡ names)
+    (put : ArePut kind lists (base + 4 * count) lo bound body m was names entries) (le : bound ≤ own)
+    (owned : (r : NamedList) → Contains entries r → r.own ≡ own)
+    (counted : (r : NamedList) (i : ℕ) → Contains entries r → r.index ≡ Some i → i < count)
+    (some : 0 < count → more ≡ names ++ base_at kind own base ∷ []) (none : count ≡ 0 → more ≡ names)
     (table : IsTablePut count m body old new) where
   at_tables : base ≡ length (units_bytes tables) + 12
   at_tables = based ∙ ap (λ (l : List ℕ). length l + 12) before
 
-  kept_by : (n : ℕ) → count ≡ n → Keeps names more × AreNames (places_end lo entries) (own + 1) more
+  kept_by : (n : ℕ) → count ≡ n → Keeps names more × AreNames kind (keys_end lo entries) (own + 1) more
   kept_by zero e = (
     subst (Keeps names) (sym (none e)) (λ e attr o is. is),
-    subst (AreNames (places_end lo entries) (own + 1)) (sym (none e))
-        (names_less (places_end lo entries) bound (places_end lo entries) (own + 1) names (omega arith) (omega (arith, le)) put.names_are),
+    subst (AreNames kind (keys_end lo entries) (own + 1)) (sym (none e))
+        (names_less kind (keys_end lo entries) bound (keys_end lo entries) (own + 1) names (omega arith) (omega (arith, le)) put.names_are),
   )
   kept_by (suc n) e =
-      let is : more ≡ names ++ base_at own base ∷ [] = some (omega (arith, e)) in (
-        subst (Keeps names) (sym is) (keeps_more names (base_at own base)),
-        subst (AreNames (places_end lo entries) (own + 1)) (sym is) (names_base (places_end lo entries) bound own base names put.names_are le small),
+      let is : more ≡ names ++ base_at kind own base ∷ [] = some (omega (arith, e)) in (
+        subst (Keeps names) (sym is) (keeps_more names (base_at kind own base)),
+        subst (AreNames kind (keys_end lo entries) (own + 1)) (sym is) (names_base kind (keys_end lo entries) bound own base names put.names_are le small),
       )
 
-  pub unit_written : IsUnitWritten lists lo own entries tables new was more
+  pub unit_written : IsUnitWritten kind lists lo own entries tables new was more
   unit_written =
       let k = kept_by count refl in
       let size : 8 + 4 * count + length body ≡ length (list_table count m body) = sym (table_size count m body) in
@@ -243,9 +242,9 @@ module _ (lists : List (Vec (Run Bool))) (lo bound own count base : ℕ) (entrie
         is_table = is_table count m body fits table.small;
         names_are = k.1;
         keeps = λ e attr o is. k.0 e attr o (put.keeps e attr o is);
-        each = λ r there. is_named lists tables count base m body table.low at_tables own names more entries k.0 owned counted
-            (λ h. ap (λ (l : List ListAt). new_list_offset l own DW_AT_rnglists_base) (some h)
-            ∙ new_name names (base_at own base) (put.names_are.bases own le)) r there r.index refl (put.each r there);
+        each = λ r there. is_named lists tables count base m body table.low at_tables kind own names more entries k.0 owned counted
+            (λ h. ap (λ (l : List ListAt). new_list_offset l own (base_name kind)) (some h)
+            ∙ new_name names (base_at kind own base) (put.names_are.bases own le)) r there r.index refl (put.each r there);
       }
 
 -- a table's bytes, one part behind another

@@ -4,14 +4,15 @@ use Rattle.std.specs.Prelude.{if◌then◌else◌, option_map}
 use Rattle.std.specs.List.{find}
 use Rattle.std.specs.Option.{option_or}
 use Rattle.rb_bytes.specs.FirstFault.{IsFree}
+use Rattle.rb_bytes.proofs.Options.{both_none}
 use Rattle.table_core.specs.DebugUnits.{Walked, walked, first_place, other_version}
 use Rattle.dw_unit.specs.CompUnits.{unit_of}
 use Rattle.dw_unit.specs.Faults.{HasDwarfFault, unit_fault_places, is_bad, bad_address_table}
-use Rattle.dw_unit.proofs.NoFaults.{AreAbsent, absent, free_of, both_none, no_first}
+use Rattle.dw_unit.proofs.NoFaults.{AreAbsent, absent, free_of, no_first}
 use Rattle.range_loc_rewrite.specs.Faults.{ListSections, range_places, has_bad_offset, bad_table}
 use Rattle.range_loc_rewrite.specs.Lists.{ranges_kind}
 
-none_less : (p q : Walked → Bool) (ws : List Walked) → find (λ w. p w || q w) ws ≡ None → find p ws ≡ None
+pub none_less : (p q : Walked → Bool) (ws : List Walked) → find (λ w. p w || q w) ws ≡ None → find p ws ≡ None
 none_less p q [] e = refl
 none_less p q (w ∷ ws) e = step (p w) (q w) e (none_less p q ws)
   where

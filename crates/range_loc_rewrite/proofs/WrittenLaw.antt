@@ -1,5 +1,5 @@
 -- The law of written ranges, of a file in which they stand.
-use Rattle.std.proofs.Common.{◌≡◌, ◌-◌, ◌^◌, ◌<◌, ℕ, Bool, [], List, Option, refl, sym, ap, subst, map, All, length}
+use Rattle.std.proofs.Common.{◌≡◌, ◌-◌, ◌^◌, ◌<◌, ℕ, Bool, [], List, Option, refl, sym, ap, subst, arith, map, All, length}
 use Rattle.std.specs.Prelude.{option_map, Contains}
 use Rattle.std.specs.Global.{Vec}
 use Rattle.rb_bytes.specs.FirstFault.{IsFree}
@@ -13,7 +13,6 @@ use Rattle.table_core.specs.CarriedAnswers.{IsCarried}
 use Rattle.dw_unit.specs.CompUnits.{units}
 use Rattle.dw_unit.specs.Faults.{HasDwarfFault}
 use Rattle.dw_unit.proofs.EntryPlaces.{places_ascend}
-use Rattle.dw_unit.proofs.NamedOffsets.{Ascends}
 use Rattle.range_loc_rewrite.specs.declared.cover_index.CoverIndex.{CoverIndex}
 use Rattle.range_loc_rewrite.specs.declared.groups.RangedEntry.{RangedEntry}
 use Rattle.range_loc_rewrite.specs.declared.list_kind.ListKind.TheVariants as kind
@@ -22,43 +21,53 @@ use Rattle.range_loc_rewrite.specs.GroupRuns.{IsGroupRuns, runs_in, runs_end, if
 use Rattle.range_loc_rewrite.specs.KeptRanges.{AreKept}
 use Rattle.range_loc_rewrite.specs.ListBytes.{IsWritable}
 use Rattle.range_loc_rewrite.specs.ListTables.{range_says, RangesMade}
+use Rattle.range_loc_rewrite.specs.Ranges.{covering}
 use Rattle.range_loc_rewrite.specs.Tables.{list_sections, range_answers, StandsRanges}
-use Rattle.range_loc_rewrite.specs.WrittenRanges.{AreWritten, OwnsRise, bounded}
+use Rattle.range_loc_rewrite.specs.WrittenRanges.{bounded, group_bytes, named_of}
+use Rattle.range_loc_rewrite.specs.WrittenTables.{AreInOrder, AreWritten, OwnsRise}
 use Rattle.range_loc_rewrite.proofs.FreeRanges.{ranges_free}
 use Rattle.range_loc_rewrite.proofs.HeldRuns.{runs_writable}
-use Rattle.range_loc_rewrite.proofs.KeptEntries.{kept_place, kept_ascend}
+use Rattle.range_loc_rewrite.proofs.KeptEntries.{kept_ascend}
 use Rattle.range_loc_rewrite.proofs.KeptOrder.{owns_rise, none_kept}
 use Rattle.range_loc_rewrite.proofs.KeptPairs.{all_paired}
+use Rattle.range_loc_rewrite.proofs.NamedRanges.{AreNamed, are_named, group_at, ranges_in_order}
 use Rattle.range_loc_rewrite.proofs.RangesLaw.{new_covering, new_free, is_carried, runs_end_le}
 use Rattle.range_loc_rewrite.proofs.RangeWeights.{kept_says, within_there}
 use Rattle.range_loc_rewrite.proofs.UnitsFree.{units_free}
 
 module _ (s : ListSections) (kept : List RangedEntry) (count : ℕ) (index : CoverIndex) (bounds : List ℕ) (weight : ℕ) (are : AreKept s kept count index bounds weight) where
   -- entries are kept in order
-  pub kept_places : Ascends 0 (map kept_place kept)
-  kept_places = kept_ascend s index.tree kept are.seen (places_ascend s.units (units_free s are.free))
+  pub kept_order : AreInOrder kind.Ranges 0 (map named_of kept)
+  kept_order = ranges_in_order 0 0 kept (kept_ascend s index.tree kept are.seen (places_ascend s.units (units_free s are.free))) (omega arith)
 
-  pub kept_owns : OwnsRise 0 kept
+  pub kept_owns : OwnsRise 0 (map named_of kept)
   kept_owns = owns_rise s index.tree (units s.units) kept 0 (all_paired s index.tree (units s.units) kept are.seen) (places_ascend s.units (units_free s are.free))
 
   -- what is made
-  pub made_of : (lists : List (Vec (Run Bool))) (w : Written) → AreWritten lists kept kept [] w.bytes.items w.lists.items → (length kept ≡ 0 → w.bytes.items ≡ []) → RangesMade s w
-  made_of lists w written none = record {
+  pub made_of : (bs : List (Vec ℕ)) (w : Written) → AreWritten kind.Ranges bs (map named_of kept) (map named_of kept) [] w.bytes.items w.lists.items →
+      (length (map named_of kept) ≡ 0 → w.bytes.items ≡ []) → RangesMade s w
+  made_of bs w written none = record {
     lists = record { attrs = written.names_are.attrs; once = written.names_are.once; low = written.names_are.low };
-    nothing = λ empty high. none (ap length (none_kept s empty index.tree kept are.seen high));
+    nothing = λ empty high. none (ap (λ (rs : List RangedEntry). length (map named_of rs)) (none_kept s empty index.tree kept are.seen high));
   }
 
 module _ (i f : Elf) (spans : List Span) (kept : List RangedEntry) (count : ℕ) (index : CoverIndex) (bounds : List ℕ) (weight : ℕ)
     (are : AreKept (list_sections i) kept count index bounds weight) (runs : List (Run (Vec ℕ))) (lists : List (Vec (Run Bool)))
     (within : IsWithin 0 runs (2 ^ 64 - 1))
     (answers : (p : ℕ) → option_map (λ v. v.items) (run_at runs p) ≡ carried (range_says (list_sections i)) spans p)
-    (grouped : (g : ℕ) → g < count → IsGroupRuns spans index.tree g runs (runs_in lists g)) (w : Written)
-    (written : AreWritten lists kept kept [] w.bytes.items w.lists.items) (stands : StandsRanges i spans w f) where
+    (grouped : (g : ℕ) → g < count → IsGroupRuns spans index.tree g runs (runs_in lists g)) (counted : length lists ≡ count)
+    (bs : List (Vec ℕ)) (spelled : map (λ (b : Vec ℕ). b.items) bs ≡ map group_bytes lists) (w : Written)
+    (made : AreWritten kind.Ranges bs (map named_of kept) (map named_of kept) [] w.bytes.items w.lists.items) (stands : StandsRanges i spans w f) where
   abbrev s : ListSections
   s = list_sections i
 
   abbrev t : ListSections
   t = list_sections f
+
+  written : AreNamed lists kept w.bytes.items w.lists.items
+  written =
+      are_named bs lists kept w.bytes.items w.lists.items made
+      (λ r c. group_at bs lists r.group spelled (subst (λ (n : ℕ). r.group < n) (sym counted) (within_there count kept r are.within c)))
 
   writable : (r : RangedEntry) → Contains kept r → All (IsWritable kind.Ranges) (map bounded (runs_in lists r.group))
   writable r c =
@@ -75,7 +84,7 @@ module _ (i f : Elf) (spans : List Span) (kept : List RangedEntry) (count : ℕ)
       new_free s t spans index.tree kept lists w.bytes.items w.lists.items c.moves are.free are.seen written stands.table stands.units c.units_are c.named says writable in
       let p = ranges_free f t refl free in (
         subst (λ (x : Option (ℕ → Option (List ℕ))). IsCarried (λ x y. x ≡ y) spans (λ p. option_map (λ v. v.items) (run_at runs p)) x) (sym p.0)
-            (is_carried s t spans (λ p. option_map (λ v. v.items) (run_at runs p)) answers
+            (is_carried (covering s) (covering t) spans (λ p. option_map (λ v. v.items) (run_at runs p)) answers
             (new_covering s t spans index.tree kept lists w.bytes.items w.lists.items c.moves are.free are.seen written stands.table stands.units c.units_are c.named says writable)),
         free,
         tt,

@@ -1,9 +1,9 @@
 -- What was read of the locations of some units.
-use Rattle.std.specs.Prelude.{◌≡◌, ◌||◌, ℕ, Bool, List, if◌then◌else◌, flat_map, Some, None}
+use Rattle.std.specs.Prelude.{◌≡◌, ◌||◌, ◌+◌, ◌-◌, ◌^◌, ℕ, Bool, List, if◌then◌else◌, flat_map, Some, None, min, sum_by}
 use Rattle.rb_bytes.specs.FirstFault.{IsFree}
 use Rattle.table_core.specs.DebugUnits.{Walked, first_place}
 use Rattle.table_core.specs.ReadSteps.{lower, least}
-use Rattle.dw_unit.specs.CompUnits.{Unit, unit_of}
+use Rattle.dw_unit.specs.CompUnits.{Unit, unit_of, units}
 use Rattle.dw_unit.specs.Declarations.{has_bad_form, has_bad_high}
 use Rattle.dw_unit.specs.Faults.{HasDwarfFault, declarations_of, places_with, unformed, is_bad}
 use Rattle.dw_unit.specs.ListedEntries.{ListedEntry}
@@ -19,7 +19,9 @@ use Rattle.range_loc_rewrite.specs.Locations.{PlaceSaid, entry_says, places_said
 use Rattle.range_loc_rewrite.specs.Placing.{IsUnitPlaced}
 use Rattle.range_loc_rewrite.specs.RangeReading.{units_of}
 use Rattle.range_loc_rewrite.specs.Ranges.{ranged_in}
+use Rattle.range_loc_rewrite.specs.ReadLists.{all_say, unit_lists}
 use Rattle.range_loc_rewrite.specs.UnitLocations.{AreHeld, all_located}
+use Rattle.range_loc_rewrite.specs.Weights.{index_weight, index_weights}
 
 -- a unit that can't be read, or names a list of either kind that isn't there
 abbrev pub is_bad_unit : ListSections → Walked → Bool
@@ -36,6 +38,8 @@ pub record AreGathered (s : ListSections) (ws : List Walked) (p : PlaceProgress)
   pub ranges : p.bad_ranges ≡ least (flat_map (bad_list_tables ranges_kind s.ranges s.units.addr) (units_of s ws))
   pub locations : p.bad_locations ≡ least (flat_map (bad_list_tables locations_kind s.locations s.units.addr)
       (units_of s ws))
+  pub listed : all_say p.kept.lists.items ≡ flat_map (unit_lists s) (units_of s ws)
+  pub indexes : p.index_weight ≡ min (sum_by (index_weight locations_kind.index_form) (units_of s ws)) (2 ^ 64 - 1)
 
 pub record IsProgress (s : ListSections) (ws : List Walked) (p : PlaceProgress) : Type 0 where
   pub numbered : AreNumbered p.groups
@@ -51,14 +55,18 @@ pub record IsUnitAdded (s : ListSections) (es : List ListedEntry) (place : ℕ) 
   pub placed : IsUnitPlaced s (plain_unit es) old.groups old.kept new.groups new.kept faults
   pub ranges : new.bad_ranges ≡ lower old.bad_ranges faults.ranges.bad
   pub locations : new.bad_locations ≡ lower old.bad_locations faults.locations.bad
+  pub indexes : new.index_weight
+      ≡ min (old.index_weight + min (index_weight locations_kind.index_form (plain_unit es)) (2 ^ 64 - 1)) (2 ^ 64 - 1)
   pub bad : new.bad ≡ (if faults.ranges.lacks_offset || faults.locations.lacks_offset then Some place else old.bad)
   pub form : new.bad_form ≡ old.bad_form
   pub high : new.bad_high ≡ old.bad_high
   pub unformed_is : new.unformed ≡ old.unformed
 
--- What sections without a fault say of locations.
-pub record ArePlacesOf (s : ListSections) (groups : Groups) (kept : Locations) : Type 0 where
+-- What sections without a fault say of locations, and what their tables of offsets weigh.
+pub record ArePlacesOf (s : ListSections) (groups : Groups) (kept : Locations) (weight : ℕ) : Type 0 where
   pub free : IsFree (HasDwarfFault (location_places s))
   pub numbered : AreNumbered groups
   pub held : AreHeld groups.count kept
   pub says : (a : ℕ) → all_located groups.covers.items kept.lists.items kept.located.items a ≡ places_said s a
+  pub listed : all_say kept.lists.items ≡ flat_map (unit_lists s) (units s.units)
+  pub indexes : weight ≡ min (index_weights locations_kind.index_form s) (2 ^ 64 - 1)

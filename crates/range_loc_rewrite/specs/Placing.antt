@@ -1,5 +1,5 @@
 -- Ranges and locations of the entries of a unit, one entry after another.
-use Rattle.std.specs.Prelude.{◌≡◌, ◌++◌, ℕ, List, reverse, flat_map}
+use Rattle.std.specs.Prelude.{◌≡◌, ◌++◌, ℕ, true, List, reverse, flat_map}
 use Rattle.table_core.specs.ReadSteps.{least}
 use Rattle.dw_unit.specs.declared.entry.Attr.{Attr}
 use Rattle.dw_unit.specs.CompUnits.{Entry, Unit}
@@ -15,6 +15,7 @@ use Rattle.range_loc_rewrite.specs.Lists.{ranges_kind, locations_kind}
 use Rattle.range_loc_rewrite.specs.Locations.{entry_says}
 use Rattle.range_loc_rewrite.specs.OpenEntries.{AreOpen, chain}
 use Rattle.range_loc_rewrite.specs.Ranges.{ranges_of, ranged_from, ranged_in}
+use Rattle.range_loc_rewrite.specs.ReadLists.{all_say, offsets_in, unit_lists, AreListed, are_formed}
 use Rattle.range_loc_rewrite.specs.UnitLists.{ReadsLists}
 use Rattle.range_loc_rewrite.specs.UnitLocations.{ReadsLocations, AreRead, AreHeld, all_located}
 
@@ -31,6 +32,8 @@ pub record ArePlaced (s : ListSections) (u : Unit) (first : Groups) (old : Locat
   pub grow : Grow first g
   pub known_are : AreKnown (range_list s u) g state.ranges
   pub read : AreRead s u old.lists.items kept.lists.items state.locations
+  pub listed : are_formed attrs ≡ true →
+      AreListed s u (offsets_in s u attrs) old.lists.items kept.lists.items state.locations
   pub held : AreHeld g.count kept
   pub says : (p : ℕ) → all_located g.covers.items kept.lists.items kept.located.items p
       ++ flat_map (entry_says s u p) (ranged_from (ranges_of s u) done rest)
@@ -48,6 +51,8 @@ pub record IsUnitPlaced (s : ListSections) (u : Unit) (first : Groups) (old : Lo
   pub says : (p : ℕ) → all_located g.covers.items kept.lists.items kept.located.items p
       ≡ all_located first.covers.items old.lists.items old.located.items p
       ++ flat_map (entry_says s u p) (ranged_in s u)
+  pub listed : are_formed (flat_map (λ (e : Entry). e.attrs) u.entries) ≡ true →
+      all_say kept.lists.items ≡ all_say old.lists.items ++ unit_lists s u
   pub lacks_ranges : f.ranges.lacks_offset ≡ lacks_offset ranges_kind s.ranges u
   pub bad_ranges : f.ranges.bad ≡ least (bad_list_tables ranges_kind s.ranges s.units.addr u)
   pub lacks_locations : f.locations.lacks_offset ≡ lacks_offset locations_kind s.locations u

@@ -63,7 +63,8 @@ pub fn place_bounds(
     Ok(bounds)
 }
 
-fn count_up_to(bounds: &[u128], a: u64) -> usize
+/// How many of some numbers that ascend are at most an address.
+pub fn count_up_to(bounds: &[u128], a: u64) -> usize
     requires { IsNonDecreasing bounds.now }
     ensures below { (k d : ℕ) → k < result → slice_index_or bounds.now k d ≤ a }
     ensures above { (k d : ℕ) → result ≤ k → k < length bounds.now → a < slice_index_or bounds.now k d }

@@ -1,7 +1,7 @@
 // Ranges of addresses as a search tree.
 ghost use Rattle.std.specs.Prelude.{◌≡◌, ◌++◌, IfOk, OnOk, map, filter, min, max};
 ghost use Rattle.range_loc_rewrite.specs.Bounds.{bounds_in};
-ghost use Rattle.range_loc_rewrite.specs.CoverTree.{holds, AreReached};
+ghost use Rattle.range_loc_rewrite.specs.CoverTree.{holds, regrouped, AreReached};
 
 use rb_bytes::fault::NoMemory;
 use std::alloc::Global;
@@ -129,6 +129,24 @@ impl CoverTree {
                 bounds.push(cover.low)?;
                 bounds.push(cover.high)?;
                 behind.put_bounds(bounds)
+            }
+        }
+    }
+
+    /// Appends the ranges, as ranges of a given group.
+    pub fn put_regrouped(&self, group: usize, covers: &mut Vec<Cover>) -> Result<(), NoMemory>
+        ensures { OnOk result (covers.new.items ≡ covers.old.items ++ map (regrouped group) self.now) }
+    {
+        match &self.node {
+            Node::Leaf => Ok(()),
+            Node::Fork(before, cover, behind, _, _) => {
+                before.put_regrouped(group, covers)?;
+                covers.push(Cover {
+                    low: cover.low,
+                    high: cover.high,
+                    group,
+                })?;
+                behind.put_regrouped(group, covers)
             }
         }
     }

@@ -11,7 +11,8 @@ fn same_bytes(x: &[u8], y: &[u8]) -> bool
     x == y
 }
 
-fn same_expressions(x: &[Vec<u8>], y: &[Vec<u8>]) -> bool
+/// Whether two lists have the same expressions.
+pub fn same_expressions(x: &[Vec<u8>], y: &[Vec<u8>]) -> bool
     ensures { IsTrue result ↔ (map (λ v. v.items) x.now ≡ map (λ v. v.items) y.now) }
 {
     if x.len() != y.len() {

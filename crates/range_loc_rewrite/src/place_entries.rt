@@ -26,6 +26,8 @@ use table_core::{DebugUnit, debug_units};
 pub struct PlacedEntries {
     pub groups: Groups,
     pub kept: Locations,
+    /// What the tables of offsets weigh, or the greatest number where that is none of 64 bits.
+    pub index_weight: u64,
 }
 
 fn nothing(alloc: Global) -> PlaceProgress
@@ -46,6 +48,7 @@ fn nothing(alloc: Global) -> PlaceProgress
         bad: None,
         bad_ranges: None,
         bad_locations: None,
+        index_weight: 0,
     }
 }
 
@@ -121,7 +124,7 @@ pub fn read_places(
     locations: &[u8],
 ) -> Result<PlacedEntries, Refusal>
     ensures read { IfOk result (λ r.
-        ArePlacesOf (list_sections_held info.now abbrevs.now addr.now ranges.now locations.now) r.groups r.kept) }
+        ArePlacesOf (list_sections_held info.now abbrevs.now addr.now ranges.now locations.now) r.groups r.kept r.index_weight) }
     ensures fault { IfErr result (λ e. IsRefusalBy
         (HasDwarfFault (location_places
         (list_sections_held info.now abbrevs.now addr.now ranges.now locations.now))) e) }
@@ -154,5 +157,6 @@ pub fn read_places(
     Ok(PlacedEntries {
         groups: progress.groups,
         kept: progress.kept,
+        index_weight: progress.index_weight,
     })
 }

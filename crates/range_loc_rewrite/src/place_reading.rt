@@ -9,6 +9,7 @@ ghost use Rattle.range_loc_rewrite.specs.PlaceReading.{IsProgress, IsUnitAdded};
 ghost use Rattle.range_loc_rewrite.specs.UnitLocations.{AreHeld};
 
 use crate::groups::Groups;
+use crate::index_weight::index_weight;
 use crate::located_attr::Locations;
 use crate::placing::{PlaceSections, UnitFaults, place_unit};
 use dw_unit::Entry;
@@ -16,6 +17,7 @@ use dw_unit::lowest::lower;
 use dw_unit::unit_reading::UnitReading;
 use rb_bytes::fault::NoMemory;
 use std::alloc::Global;
+use table_core::form::DW_FORM_loclistx;
 
 /// What was read of some units.
 #[derive(Drop)]
@@ -32,6 +34,8 @@ pub struct PlaceProgress {
     /// If there is none, the lowest tables of each section whose lists can't be read.
     pub bad_ranges: Option<u64>,
     pub bad_locations: Option<u64>,
+    /// What the tables of offsets weigh, or the greatest number where that is none of 64 bits.
+    pub index_weight: u64,
 }
 
 // Whether a unit names a list that isn't there.
@@ -68,6 +72,8 @@ fn add_entries(
     )?;
     progress.bad_ranges = lower(progress.bad_ranges, faults.ranges.bad);
     progress.bad_locations = lower(progress.bad_locations, faults.locations.bad);
+    let weight = index_weight(DW_FORM_loclistx, entries);
+    progress.index_weight = progress.index_weight.saturating_add(weight);
     if lacks_offset(&faults) {
         progress.bad = Some(place);
     }

@@ -8,7 +8,7 @@ use crate::groups::RangedEntry;
 use table_core::Run;
 
 /// What a run weighs.
-const RUN_WEIGHT: u64 = 32;
+pub const RUN_WEIGHT: u64 = 32;
 
 // The weight of the runs of an entry.
 fn entry_weight(entry: RangedEntry, lists: &[Vec<Run<bool>>]) -> u64

@@ -1,16 +1,19 @@
 // The locations of the attributes of a unit's entries. DWARF 5, sections 2.6 and 7.29.
-ghost use Rattle.std.specs.Prelude.{◌≡◌, ◌++◌, ◌∷◌, [], ℕ, List, IfOk, OnOk};
+ghost use Rattle.std.specs.Prelude.{◌≡◌, ◌++◌, ◌∷◌, [], ℕ, List, IfOk, OnOk, true};
 ghost use Rattle.std.specs.List.Sorted.{IsNonDecreasingBy};
 ghost use Rattle.table_core.specs.DebugUnits.{walked};
 ghost use Rattle.dw_unit.specs.declared.entry.Attr.{Attr};
 ghost use Rattle.dw_unit.specs.CompUnits as units;
 ghost use Rattle.dw_unit.specs.CompUnits.{Unit, attr};
+ghost use Rattle.dw_unit.specs.Faults.{is_located};
 ghost use Rattle.dw_unit.specs.ListedUnits.{plain};
+ghost use Rattle.range_loc_rewrite.specs.declared.kept_list.KeptList as list;
 ghost use Rattle.range_loc_rewrite.specs.Faults.{ListSections};
 ghost use Rattle.range_loc_rewrite.specs.KeptLists.{AreMore, AreNumbersOf, IsNumberOf, location_list};
 ghost use Rattle.range_loc_rewrite.specs.KnownLists.{AreNoted};
 ghost use Rattle.range_loc_rewrite.specs.Lists as lists;
 ghost use Rattle.range_loc_rewrite.specs.Lists.{locations_kind};
+ghost use Rattle.range_loc_rewrite.specs.ReadLists.{all_say, read_at, offsets_in, AreListed, IsOffsetAmong, are_formed};
 ghost use Rattle.range_loc_rewrite.specs.UnitLocations as spec;
 ghost use Rattle.range_loc_rewrite.specs.UnitLocations.{ReadsLocations, AreRead, IsSourceOf, IsNamedSource, AreLocated};
 ghost use Rattle.range_loc_rewrite.specs.UnitLocations.{attr_said, entry_said};
@@ -48,9 +51,11 @@ fn read_number(
 ) -> Result<Option<usize>, NoMemory>
     requires rising { IsNonDecreasingBy (λ w. w.place) unit.now.section.tables.now }
     requires walked { unit.now.section.tables.now ≡ walked 5 unit.now.section.bytes.now }
-    ensures { (s : ListSections) (u : Unit) → ReadsLocations s u unit.now →
+    ensures read { (s : ListSections) (u : Unit) → ReadsLocations s u unit.now →
         IfOk result (λ o. AreMore lists.old.items lists.new.items
         × IsNumberOf lists.new.items o (location_list s u at)) }
+    ensures says { (s : ListSections) (u : Unit) → ReadsLocations s u unit.now →
+        OnOk result (all_say lists.new.items ≡ all_say lists.old.items ++ read_at s u (at ∷ [])) }
 {
     match list_at(alloc, ListKind::Locations, unit.section, &unit.lists, at)? {
         Some(places) => {
@@ -63,8 +68,8 @@ fn read_number(
     }
 }
 
-// The number of the list at an offset, which is read if it isn't known; none if it can't be read.
-fn number_at(
+/// The number of the list at an offset, which is read if it isn't known; none if it can't be read.
+pub fn number_at(
     alloc: Global,
     unit: &UnitLocations<'_, '_>,
     known: &mut KnownLists,
@@ -73,10 +78,14 @@ fn number_at(
 ) -> Result<Option<usize>, NoMemory>
     requires rising { IsNonDecreasingBy (λ w. w.place) unit.now.section.tables.now }
     requires walked { unit.now.section.tables.now ≡ walked 5 unit.now.section.bytes.now }
-    ensures { (s : ListSections) (u : Unit) → ReadsLocations s u unit.now →
+    ensures read { (s : ListSections) (u : Unit) → ReadsLocations s u unit.now →
         AreNumbersOf (location_list s u) lists.old.items known.old →
         IfOk result (λ o. AreRead s u lists.old.items lists.new.items known.new
         × IsNumberOf lists.new.items o (location_list s u at)) }
+    ensures listed { (s : ListSections) (u : Unit) (offsets : List ℕ) (first : List list.KeptList) →
+        ReadsLocations s u unit.now →
+        AreListed s u offsets first lists.old.items known.old →
+        OnOk result (AreListed s u (offsets ++ at ∷ []) first lists.new.items known.new) }
 {
     if let Some(number) = known_number(known, at) {
         return Ok(number);
@@ -86,7 +95,8 @@ fn number_at(
     Ok(number)
 }
 
-fn has_list(attr: Attr) -> bool
+/// Whether an attribute names a location list.
+pub fn has_list(attr: Attr) -> bool
     ensures { result ≡ lists.has_list locations_kind attr }
 {
     (attr.name == DW_AT_location || attr.name == DW_AT_frame_base)
@@ -104,11 +114,15 @@ fn note_list(
 ) -> Result<ListFaults, NoMemory>
     requires rising { IsNonDecreasingBy (λ w. w.place) unit.now.section.tables.now }
     requires walked { unit.now.section.tables.now ≡ walked 5 unit.now.section.bytes.now }
-    ensures { (s : ListSections) (u : Unit) (attrs : List Attr) → ReadsLocations s u unit.now →
+    ensures read { (s : ListSections) (u : Unit) (attrs : List Attr) → ReadsLocations s u unit.now →
         AreNumbersOf (location_list s u) lists.old.items known.old →
         AreNoted locations_kind s.locations s.units.addr u attrs others →
         IfOk result (λ f. AreRead s u lists.old.items lists.new.items known.new
         × AreNoted locations_kind s.locations s.units.addr u (attrs ++ attr ∷ []) f) }
+    ensures listed { (s : ListSections) (u : Unit) (attrs : List Attr) (first : List list.KeptList) →
+        ReadsLocations s u unit.now →
+        AreListed s u (offsets_in s u attrs) first lists.old.items known.old →
+        OnOk result (AreListed s u (offsets_in s u (attrs ++ attr ∷ [])) first lists.new.items known.new) }
 {
     if !has_list(attr) {
         return Ok(others);
@@ -143,11 +157,15 @@ fn note_lists(
 ) -> Result<ListFaults, NoMemory>
     requires rising { IsNonDecreasingBy (λ w. w.place) unit.now.section.tables.now }
     requires walked { unit.now.section.tables.now ≡ walked 5 unit.now.section.bytes.now }
-    ensures { (s : ListSections) (u : Unit) (before : List Attr) → ReadsLocations s u unit.now →
+    ensures read { (s : ListSections) (u : Unit) (before : List Attr) → ReadsLocations s u unit.now →
         AreNumbersOf (location_list s u) lists.old.items known.old →
         AreNoted locations_kind s.locations s.units.addr u before others →
         IfOk result (λ f. AreRead s u lists.old.items lists.new.items known.new
         × AreNoted locations_kind s.locations s.units.addr u (before ++ attrs.now) f) }
+    ensures listed { (s : ListSections) (u : Unit) (before : List Attr) (first : List list.KeptList) →
+        ReadsLocations s u unit.now →
+        AreListed s u (offsets_in s u before) first lists.old.items known.old →
+        OnOk result (AreListed s u (offsets_in s u (before ++ attrs.now)) first lists.new.items known.new) }
 {
     let mut faults = others;
     for attr in attrs {
@@ -166,10 +184,14 @@ fn source_of(
 ) -> Result<Option<Source>, NoMemory>
     requires rising { IsNonDecreasingBy (λ w. w.place) unit.now.section.tables.now }
     requires walked { unit.now.section.tables.now ≡ walked 5 unit.now.section.bytes.now }
-    ensures { (s : ListSections) (u : Unit) → ReadsLocations s u unit.now →
+    ensures read { (s : ListSections) (u : Unit) → ReadsLocations s u unit.now →
         AreNumbersOf (location_list s u) lists.old.items known.old →
         IfOk result (λ o. AreRead s u lists.old.items lists.new.items known.new
         × IsSourceOf s u lists.new.items attr o) }
+    ensures listed { (s : ListSections) (u : Unit) (offsets : List ℕ) (first : List list.KeptList) →
+        ReadsLocations s u unit.now → IsOffsetAmong s u offsets attr →
+        AreListed s u offsets first lists.old.items known.old →
+        OnOk result (AreListed s u offsets first lists.new.items known.new) }
 {
     if is_block(attr.form) {
         let expression = Vec::from_slice(alloc, expression_in(unit.info, attr))?;
@@ -196,10 +218,14 @@ fn named_source(
 ) -> Result<Option<Source>, NoMemory>
     requires rising { IsNonDecreasingBy (λ w. w.place) unit.now.section.tables.now }
     requires walked { unit.now.section.tables.now ≡ walked 5 unit.now.section.bytes.now }
-    ensures { (s : ListSections) (u : Unit) (e : units.Entry) → e.attrs ≡ attrs.now → ReadsLocations s u unit.now →
+    ensures read { (s : ListSections) (u : Unit) (e : units.Entry) → e.attrs ≡ attrs.now → ReadsLocations s u unit.now →
         AreNumbersOf (location_list s u) lists.old.items known.old →
         IfOk result (λ o. AreRead s u lists.old.items lists.new.items known.new
         × IsNamedSource s u lists.new.items (attr name e) o) }
+    ensures listed { (s : ListSections) (u : Unit) (before : List Attr) (first : List list.KeptList) →
+        ReadsLocations s u unit.now → is_located name ≡ true → are_formed attrs.now ≡ true →
+        AreListed s u (offsets_in s u (before ++ attrs.now)) first lists.old.items known.old →
+        OnOk result (AreListed s u (offsets_in s u (before ++ attrs.now)) first lists.new.items known.new) }
 {
     match attr_named(name, attrs) {
         Some(attr) => {
@@ -246,10 +272,14 @@ fn locate(
 ) -> Result<(), NoMemory>
     requires rising { IsNonDecreasingBy (λ w. w.place) unit.now.section.tables.now }
     requires walked { unit.now.section.tables.now ≡ walked 5 unit.now.section.bytes.now }
-    ensures { (s : ListSections) (u : Unit) → ReadsLocations s u unit.now →
+    ensures read { (s : ListSections) (u : Unit) → ReadsLocations s u unit.now →
         AreNumbersOf (location_list s u) kept.old.lists.items known.old →
         OnOk result (AreLocated s u nearest kept.old kept.new known.new (λ covers p. attr_said s u covers nearest (plain
         entry.now) name p)) }
+    ensures listed { (s : ListSections) (u : Unit) (before : List Attr) (first : List list.KeptList) →
+        ReadsLocations s u unit.now → is_located name ≡ true → are_formed entry.now.attrs ≡ true →
+        AreListed s u (offsets_in s u (before ++ entry.now.attrs)) first kept.old.lists.items known.old →
+        OnOk result (AreListed s u (offsets_in s u (before ++ entry.now.attrs)) first kept.new.lists.items known.new) }
 {
     let source = named_source(alloc, unit, known, &mut kept.lists, &entry.attrs, name)?;
     put_located(&mut kept.located, entry.place, name, nearest, source)?;
@@ -269,12 +299,16 @@ pub fn locate_entry(
 ) -> Result<ListFaults, NoMemory>
     requires rising { IsNonDecreasingBy (λ w. w.place) unit.now.section.tables.now }
     requires walked { unit.now.section.tables.now ≡ walked 5 unit.now.section.bytes.now }
-    ensures { (s : ListSections) (u : Unit) (before : List Attr) → ReadsLocations s u unit.now →
+    ensures read { (s : ListSections) (u : Unit) (before : List Attr) → ReadsLocations s u unit.now →
         AreNumbersOf (location_list s u) kept.old.lists.items known.old →
         AreNoted locations_kind s.locations s.units.addr u before others →
         IfOk result (λ f. AreLocated s u nearest kept.old kept.new known.new (λ covers p. entry_said s u covers nearest
         (plain entry.now) p)
         × AreNoted locations_kind s.locations s.units.addr u (before ++ entry.now.attrs) f) }
+    ensures listed { (s : ListSections) (u : Unit) (before : List Attr) (first : List list.KeptList) →
+        ReadsLocations s u unit.now → are_formed entry.now.attrs ≡ true →
+        AreListed s u (offsets_in s u before) first kept.old.lists.items known.old →
+        OnOk result (AreListed s u (offsets_in s u (before ++ entry.now.attrs)) first kept.new.lists.items known.new) }
 {
     let faults = note_lists(alloc, unit, known, &mut kept.lists, &entry.attrs, others)?;
     locate(alloc, unit, known, kept, entry, DW_AT_location, nearest)?;

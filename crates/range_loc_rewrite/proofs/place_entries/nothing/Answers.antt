@@ -3,6 +3,7 @@ use Rattle.std.specs.Prelude.{All}
 use Rattle.std.proofs.lemmas.List.Elements.{All-nil}
 use Rattle.range_loc_rewrite.specs.declared.cover_tree.Cover.{Cover}
 use Rattle.range_loc_rewrite.specs.declared.located_attr.LocatedAttr.{LocatedAttr}
+use Rattle.range_loc_rewrite.specs.ReadLists.{all_say}
 use Rattle.range_loc_rewrite.specs.UnitLocations.{IsHeld, all_located}
 use Rattle.range_loc_rewrite.proofs.place_entries.nothing.Goals as goal
 
@@ -20,5 +21,7 @@ returns c = λ s. record {
     says = λ a. ap (λ (ls : List LocatedAttr). all_located c.new.result.items c.new-2.result.items ls a) c.new-3.ensures.items;
     ranges = refl;
     locations = refl;
+    listed = ap all_say c.new-2.ensures.items;
+    indexes = refl;
   };
 }

@@ -24,6 +24,7 @@ returns-in_ok-add_entries-in-Some c = λ s ws w place i a b l are is.
       bad = old.bad;
       bad_ranges = old.bad_ranges;
       bad_locations = old.bad_locations;
+      index_weight = old.index_weight;
     } in
     let new : PlaceProgress = c.add_entries.new.progress in
     let items : c.deref.result.now ≡ c.in-Some.entries.items = search (rules, c.deref.ensures.value, c.in-Some.entries-is) in
@@ -32,7 +33,7 @@ returns-in_ok-add_entries-in-Some c = λ s ws w place i a b l are is.
     (subst (λ (l : List ListedEntry). IsUnitAdded s l c.args.place mid new) items
     (c.in_ok-add_entries-in-Some.ensures s i a b l are.numbered (are.gathered before).held)) in
     unit_added s ws w old mid new c.args.reading c.in-Some.entries are is c.lower-progress.ensures c.lower-progress-2.ensures
-    c.lower-progress-3.ensures refl refl refl refl refl before c.in-Some.is added
+    c.lower-progress-3.ensures refl refl refl refl refl refl before c.in-Some.is added
 
 pub returns-in-None : goal.returns-in-None
 returns-in-None c = λ s ws w place i a b l are is.

@@ -1,4 +1,4 @@
-use Rattle.std.proofs.Common.{◌∙◌, ◌++◌, [], List, ap, refl, subst}
+use Rattle.std.proofs.Common.{◌≡◌, ◌∙◌, ◌++◌, [], List, ap, refl, subst}
 use Rattle.dw_unit.specs.declared.attribute.TheConstants.{DW_AT_location, DW_AT_frame_base}
 use Rattle.dw_unit.specs.declared.entry.Attr.{Attr}
 use Rattle.dw_unit.specs.ListedEntries.{ListedEntry}
@@ -6,18 +6,19 @@ use Rattle.dw_unit.specs.ListedUnits.{plain}
 use Rattle.range_loc_rewrite.specs.declared.located_attr.Locations.{Locations}
 use Rattle.range_loc_rewrite.specs.KnownLists.{AreNoted}
 use Rattle.range_loc_rewrite.specs.Lists.{locations_kind}
+use Rattle.range_loc_rewrite.specs.ReadLists.{offsets_in, AreListed}
 use Rattle.range_loc_rewrite.specs.UnitLocations.{attr_said, entry_said}
 use Rattle.range_loc_rewrite.proofs.LocationFacts.{located_none, located_more}
 use Rattle.range_loc_rewrite.proofs.unit_locations.locate_entry.Goals as goal
 
-pub returns : goal.returns
-returns c = λ s u before r k noted.
+pub returns-clause-read : goal.returns-clause-read
+returns-clause-read c = λ s u before r k noted.
     let e : ListedEntry = c.args.entry.now in
     let old : Locations = c.args.kept.now in
     let mid : Locations = record { lists = c.note_lists.new.lists; located = old.located } in
-    let p = c.in_ok-faults.ensures s u before r k noted in
-    let q = c.in_ok-locate.ensures s u r p.0.known_are in
-    let t = c.in_ok-locate-2.ensures s u r q.read.known_are in (
+    let p = c.in_ok-faults.ensures.read s u before r k noted in
+    let q = c.in_ok-locate.ensures.read s u r p.0.known_are in
+    let t = c.in_ok-locate-2.ensures.read s u r q.read.known_are in (
       located_more s u c.args.nearest old mid c.locate-2.new.kept c.note_lists.new.known c.locate-2.new.known (λ covers a. [])
           (λ covers a. entry_said s u covers c.args.nearest (plain e) a)
           (located_none s u c.args.nearest old mid c.note_lists.new.known p.0 refl)
@@ -27,3 +28,11 @@ returns c = λ s u before r k noted.
       subst (λ (l : List Attr). AreNoted locations_kind s.locations s.units.addr u (before ++ l) c.in_ok-faults.faults)
           (c.deref.ensures.value ∙ ap (λ (e : ListedEntry). e.attrs) c.entry.view_is) p.1,
     )
+
+pub returns-clause-listed : goal.returns-clause-listed
+returns-clause-listed c = λ s u before first r formed x.
+    let attrs : c.deref.result.now ≡ c.args.entry.now.attrs = c.deref.ensures.value ∙ ap (λ (e : ListedEntry). e.attrs) c.entry.view_is in
+    let noted : AreListed s u (offsets_in s u (before ++ c.args.entry.now.attrs)) first c.note_lists.new.lists.items c.note_lists.new.known =
+    subst (λ (l : List Attr). AreListed s u (offsets_in s u (before ++ l)) first c.note_lists.new.lists.items c.note_lists.new.known) attrs
+    (c.in_ok-faults.ensures.listed s u before first r x) in
+    c.in_ok-locate-2.ensures.listed s u before first r refl formed (c.in_ok-locate.ensures.listed s u before first r refl formed noted)

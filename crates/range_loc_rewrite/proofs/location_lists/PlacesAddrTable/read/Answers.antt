@@ -52,8 +52,8 @@ invariant_of-result c =
     ≡ s =
     λ i. list_sections_held (c.deref.ensures.value i) (c.deref-2.ensures.value i) (c.deref-3.ensures.value i) (c.deref-4.ensures.value i)
     (c.deref-5.ensures.value i) in
-    places_kept s c.in_ok-entries.entries.groups c.in_ok-entries.entries.kept c.in_ok-index.index c.in_ok-bounds.bounds.items
-    (subst (λ (x : ListSections). ArePlacesOf x c.in_ok-entries.entries.groups c.in_ok-entries.entries.kept) held c.in_ok-entries.ensures.read)
+    places_kept s c.in_ok-entries.entries.groups c.in_ok-entries.entries.kept c.in_ok-index.index c.in_ok-bounds.bounds.items c.in_ok-entries.entries.index_weight
+    (subst (λ (x : ListSections). ArePlacesOf x c.in_ok-entries.entries.groups c.in_ok-entries.entries.kept c.in_ok-entries.entries.index_weight) held c.in_ok-entries.ensures.read)
     (subst (λ (rs : List RangedEntry). IsCoverIndex c.in_ok-entries.entries.groups.covers.items rs c.in_ok-index.index)
     (c.deref-7.ensures.value ∙ c.in_ok-ranged.ensures ∙ ap (map ranged_of) c.deref-6.ensures.value) c.in_ok-index.ensures)
     c.in_ok-bounds.ensures.rising
@@ -77,4 +77,4 @@ returns-clause-reads c =
     ((c.in_ok-addr.ensures.items ∙ c.contents_of-3.ensures) i) ((c.in_ok-ranges.ensures.items ∙ c.contents_of-4.ensures) i)
     ((c.in_ok-locations.ensures.items ∙ c.contents_of-5.ensures) i) in
     places_free c.args.elf.now s same
-    (subst (λ (x : ListSections). ArePlacesOf x c.in_ok-entries.entries.groups c.in_ok-entries.entries.kept) held c.in_ok-entries.ensures.read).free
+    (subst (λ (x : ListSections). ArePlacesOf x c.in_ok-entries.entries.groups c.in_ok-entries.entries.kept c.in_ok-entries.entries.index_weight) held c.in_ok-entries.ensures.read).free

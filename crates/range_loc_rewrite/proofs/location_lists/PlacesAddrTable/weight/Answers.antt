@@ -1,0 +1,26 @@
+use Rattle.std.proofs.Common.{◌∙◌, ◌+◌, ◌-◌, ◌^◌, ℕ, List, ap, subst, min}
+use Rattle.range_loc_rewrite.specs.declared.kept_list.KeptList.{KeptList}
+use Rattle.range_loc_rewrite.specs.Faults.{ListSections, list_sections_held}
+use Rattle.range_loc_rewrite.specs.Lists.{locations_kind}
+use Rattle.range_loc_rewrite.specs.ListWeights.{IsListsWeight}
+use Rattle.range_loc_rewrite.specs.Weights.{IsPlacesWeight, index_weights}
+use Rattle.range_loc_rewrite.proofs.PlaceWeights.{places_weight}
+use Rattle.range_loc_rewrite.proofs.RangeWeights.{weights_joined}
+use Rattle.range_loc_rewrite.proofs.location_lists.PlacesAddrTable.weight.Goals as goal
+
+pub returns : goal.returns
+returns c =
+    let t = c.self.inside in
+    let s : ListSections = list_sections_held t.info.items t.abbrevs.items t.addr.items t.ranges.items t.locations.items in
+    let spans = c.args.map.now in
+    let of_lists = c.in_ok-weight.ensures in
+    let n : ℕ = of_lists.0 in
+    let lists : IsListsWeight t.kept.lists.items spans n =
+    subst (λ (ls : List KeptList). IsListsWeight ls spans n) c.deref.ensures.value of_lists.1 in
+    let weighed : IsPlacesWeight s spans (index_weights locations_kind.index_form s + n) =
+    places_weight s spans t.kept t.index t.bounds.items t.index_weight n c.self.invariant lists in (
+      index_weights locations_kind.index_form s + n,
+      subst (λ (x : ListSections). IsPlacesWeight x spans (index_weights locations_kind.index_form s + n)) c.self.view_is weighed,
+      weights_joined c.saturating_add.result n t.index_weight (index_weights locations_kind.index_form s) (2 ^ 64 - 1)
+          (c.saturating_add.ensures ∙ ap (λ (m : ℕ). min (m + t.index_weight) (2 ^ 64 - 1)) of_lists.2) c.self.invariant.indexes,
+    )
