@@ -24,11 +24,9 @@ use Rattle.program.specs.Program.{IsProgramOf, Program, program_of, program_seen
 use Rattle.program.specs.Refusals.{IsRefusalFor, IsUnreadable}
 use Rattle.program.specs.Room.{new_start, no_program_room}
 use Rattle.program.specs.declared.program.Program.{Program as ReadProgram}
-use Rattle.program.specs.declared.unbuilt.Unbuilt.TheVariants.{Debug}
 use Rattle.program.proofs.Programs.{laid_out}
 use Rattle.addr_map.specs.declared.span.Span.{Span}
-use Rattle.line_rewrite.specs.Tables.{IsLineWeight, LineSections, line_sections}
-use Rattle.bolt_core.specs.Limits.{IsTooLarge, lines}
+use Rattle.bolt_core.specs.Limits.{IsTooLarge}
 use Rattle.bolt_core.specs.NewCode.{IsLaidOutBy}
 use Rattle.bolt_core.specs.ProfileOrder.{ArePartsBy, ArePartsOf, IsProfileOrder, cold_starts, counts_of}
 use Rattle.bolt_core.specs.internal.TableLimits.{IsHeavy}
@@ -41,10 +39,10 @@ pub same_program : (p : ReadProgram) {funcs : List Func} {blocks : List Block} �
 same_program p same_funcs same_blocks = λ i. program_of p.elf (sym same_funcs i) p.refs (sym same_blocks i)
 
 pub input_of : {file profile : List ℕ} {funcs : List Func} {blocks : List Block} (p : ReadProgram) → funcs ≡ p.funcs.items →
-    blocks ≡ p.blocks.items → IsProgramOf Debug file (program_seen p) → Fit file profile →
+    blocks ≡ p.blocks.items → IsProgramOf file (program_seen p) → Fit file profile →
     IsInput file profile (program_of p.elf funcs p.refs blocks)
 input_of {file = file} p same_funcs same_blocks is fit = record {
-  program = subst (IsProgramOf Debug file) (same_program p same_funcs same_blocks) is;
+  program = subst (IsProgramOf file) (same_program p same_funcs same_blocks) is;
   profile_fits = fit.profile_fits;
 }
 
@@ -68,26 +66,26 @@ no_room_by p same_funcs same_blocks r is =
     subst (λ (x : Program). IsRefusalFor (λ fault. no_program_room x ≡ Some fault) r) (same_program p same_funcs same_blocks) is
 
 -- what is read of a file keeps the file
-pub read_again : {file : List ℕ} {x : Program} → IsProgramOf Debug file x → IsElfOf x.elf.file.now x.elf
+pub read_again : {file : List ℕ} {x : Program} → IsProgramOf file x → IsElfOf x.elf.file.now x.elf
 read_again {x = x} is =
     let read = (is.faultless).read in
     subst (λ (f : List ℕ). IsElfOf f x.elf) (sym read.file_is) read
 
-pub readable_again : {file : List ℕ} {x : Program} → IsProgramOf Debug file x → IsReadable x.elf.file.now
+pub readable_again : {file : List ℕ} {x : Program} → IsProgramOf file x → IsReadable x.elf.file.now
 readable_again {file} {x} is =
     let plain = (is.faultless).plain in
     let readable : IsReadable file =
     lowest-readable file None (IsLowest-none (λ place truncated. plain.sound Truncated place truncated)) in
     subst IsReadable (sym (is.faultless).read.file_is) readable
 
-pub unreadable_refusal : (file profile : List ℕ) → Fit file profile → (r : Refusal) → IsRefusalFor (IsUnreadable Debug file) r →
+pub unreadable_refusal : (file profile : List ℕ) → Fit file profile → (r : Refusal) → IsRefusalFor (IsUnreadable file) r →
     IsRefusal file profile r
 unreadable_refusal file profile fit (refusal.Fault fault) is = unreadable fit is
 unreadable_refusal file profile fit refusal.Memory is = tt
 
 module _ {file profile : List ℕ} {x : Program} (is : IsInput file profile x) where
   pub laid_program : AreLaidOut x.code.funcs
-  laid_program = laid_out Debug file x.elf (is.program).faultless x.code.funcs ((is.program).code_is).funcs
+  laid_program = laid_out file x.elf (is.program).faultless x.code.funcs ((is.program).code_is).funcs
 
   pub apart_blocks : AreBlocksApart x.blocks
   apart_blocks = AreApart-blocks x.code x.blocks (is.program).blocks_are
@@ -120,19 +118,17 @@ module _ {file profile : List ℕ} {x : Program} (is : IsInput file profile x) w
       (subst (λ (c : List ℕ). IsLimitFault (IsTooLarge x.elf x.code.funcs c) fault) same limit)
   too_large_refusal stands pairs parts are cold same refusal.Memory limit = tt
 
-  -- the line table of the file weighs too much
+  -- a table of the file weighs too much
   pub too_heavy_refusal : CanStand x → (pairs : List Counted) (parts : Chains) (cold : List ℕ) →
       cold ≡ cold_starts x.code.funcs x.blocks parts →
       ((place : ℕ) → IsTooLarge x.elf x.code.funcs cold place → ⊥) →
       (order : List ℕ) → IsProfileOrder x profile pairs parts order → (spans : List Span) (code : List ℕ) →
-      IsLaidOutBy x order spans code → (t : LineSections) → t ≡ line_sections x.elf → (r : Refusal) →
-      IsRefusalFor (IsHeavy t spans) r → IsRefusal file profile r
-  too_heavy_refusal stands pairs parts cold same fits order ordered spans code laid t comes (refusal.Fault fault) heavy =
+      IsLaidOutBy x order spans code → (r : Refusal) → IsRefusalFor (IsHeavy x.elf spans) r → IsRefusal file profile r
+  too_heavy_refusal stands pairs parts cold same fits order ordered spans code laid (refusal.Fault fault) heavy =
       too_heavy x is stands pairs parts
       (subst (λ (c : List ℕ). (place : ℕ) → IsTooLarge x.elf x.code.funcs c place → ⊥) same fits) order ordered spans code laid
-      (lines heavy.weight (subst (λ (s : LineSections). IsLineWeight s spans heavy.weight) comes heavy.is_weight) heavy.over)
-      heavy.fault_is
-  too_heavy_refusal stands pairs parts cold same fits order ordered spans code laid t comes refusal.Memory heavy = tt
+      heavy.heavy heavy.fault_is
+  too_heavy_refusal stands pairs parts cold same fits order ordered spans code laid refusal.Memory heavy = tt
 
   pub parts_by : (counts : ℕ → ℕ → ℕ) (pairs : List Counted) (parts : Chains) →
       ArePartsOf counts pairs x.code.funcs x.code.cells x.blocks parts →

@@ -1,15 +1,16 @@
 -- The code cells of an accepted file can hold their new content, and share no byte.
-use Rattle.std.proofs.Common.{◌≡◌, sym, subst, ℕ, ◌+◌, ◌%◌, ◌^◌, ◌<◌, ◌≤◌, ◌⊎◌, inl, inr, Bool, true, false, List, arith, map}
-use Rattle.std.specs.Prelude.{All, AllPairs, not}
+use Rattle.std.proofs.Common.{◌≡◌, sym, subst, ℕ, ◌+◌, ◌%◌, ◌^◌, ◌<◌, ◌≤◌, ◌⊎◌, inl, inr, true, List, arith, map}
+use Rattle.std.specs.Prelude.{All, AllPairs}
 use Rattle.std.proofs.lemmas.List.Elements.{All-map}
 use Rattle.std.proofs.lemmas.Bool.{cases_lt}
 use Rattle.rv_code.specs.declared.cell.CodeCell.{CodeCell}
 use Rattle.rv_code.specs.layout.ProgramCode.{ProgramCode}
-use Rattle.elf_code.specs.Cells.{CanBeCell, Content, Counts, Field, IsCell, counts, gives_way}
+use Rattle.elf_code.specs.Cells.{CanBeCell, Content, Counts, Field, IsCell, counts}
+use Rattle.elf_code.proofs.Counts.{can_of, no_both}
 use Rattle.elf_image.specs.declared.elf.Elf.{Elf}
 use Rattle.move_law.specs.Laws.{IsAcceptedCode}
 use Rattle.rb_bytes.proofs.ListLemmas.{all_of, pairs_in, pairs_map}
-use Rattle.move_law.proofs.code.CellWidths.{can_of, field_width}
+use Rattle.move_law.proofs.code.CellWidths.{field_width}
 use Rattle.code_emit.specs.Output.{new_cell}
 use Rattle.elf_write.specs.WrittenFile.{CanHold}
 
@@ -19,13 +20,6 @@ below w n (inr eight) = subst (λ (k : ℕ). n % 256 ^ k < 256 ^ k) (sym eight) 
 
 abbrev field_of : CodeCell → Content → Field
 field_of c content = record { place = c.addr; width = c.width; content = content }
-
--- a field that counts doesn't give way
-no_both : (elf : Elf) (tabled : List (ℕ × ℕ)) (f : Field) (b : Bool) → Counts elf tabled f b → Counts elf tabled f (not b) → ⊥
-no_both elf tabled f true (counts g can later) (gives_way h other can' before share counted) =
-    no_both elf tabled other false (later other (can_of counted) before share) counted
-no_both elf tabled f false (gives_way h other can before share counted) (counts g can' later) =
-    no_both elf tabled other true counted (later other (can_of counted) before share)
 
 module _ (elf : Elf) (tabled : List (ℕ × ℕ)) where
   can_hold : (new : ℕ → ℕ) (c : CodeCell) → IsCell elf tabled c → CanHold elf (new_cell new c)
@@ -45,7 +39,7 @@ module _ (elf : Elf) (tabled : List (ℕ × ℕ)) where
       shares : d.addr < c.addr + c.width → Counts elf tabled (field_of d is_d.content) true → ⊥
       shares over (counts f can later) =
           let width = field_width elf tabled (field_of d is_d.content) (can_of is_d.counted).is_field in
-          no_both elf tabled (field_of c is_c.content) true is_c.counted
+          no_both (field_of c is_c.content) true is_c.counted
           (later (field_of c is_c.content) (can_of is_c.counted) (inl before) (omega (arith, before), over))
 
       by : Counts elf tabled (field_of d is_d.content) true → c.addr + c.width ≤ d.addr

@@ -11,15 +11,17 @@ use Rattle.addr_map.specs.declared.span.Span.{Span}
 use Rattle.addr_map.specs.Spans.{IsStretch}
 use Rattle.cfi_rows.specs.Entries.{frames}
 use Rattle.frame_rewrite.specs.Index.{has_frames, has_index}
-use Rattle.bolt_core.specs.declared.tables.Carried.{Carried}
-use Rattle.bolt_core.specs.declared.tables.Tables.{Tables}
-use Rattle.bolt_core.specs.internal.CarriedTables.{AreCarried, ComeFrom, HasRoomBehind}
+use Rattle.table_set.specs.AllTables.{AllComeFrom}
+use Rattle.table_set.specs.CarriedTables.{AreCarried}
+use Rattle.table_set.specs.declared.all.AllTables.{AllTables}
+use Rattle.table_set.specs.declared.all.AllWritten.{AllWritten}
+use Rattle.bolt_core.specs.internal.CarriedTables.{HasRoomBehind}
 use Rattle.bolt_core.specs.internal.GivenIndex.{CanIndex, frames_at}
 use Rattle.bolt_core.proofs.TableRoom.{index_within, starts_low}
 
-pub can_index : (elf : Elf) (t : Tables) → ComeFrom t elf → (spans : List Span) (start code : ℕ) →
+pub can_index : (elf : Elf) (t : AllTables) → AllComeFrom t elf → (spans : List Span) (start code : ℕ) →
     IsStretch spans start (start + code) → start + code ≤ address_end → HasRoomBehind t.eh spans (start + code) →
-    (w : Carried) → AreCarried t spans w → IsTrue (has_index elf) → CanIndex start code w.eh.bytes.items
+    (w : AllWritten) → AreCarried elf spans t w → IsTrue (has_index elf) → CanIndex start code w.eh.bytes.items
 can_index elf t comes spans start code stretch low room w carried indexed =
     let loads : has_frames elf ≡ true =
     (and_parts (has_frames elf) (list_any (λ p. p.kind == PT_GNU_EH_FRAME) elf.segments.items) indexed).0 in

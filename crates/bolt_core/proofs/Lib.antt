@@ -15,7 +15,6 @@ mod PassedLimits
 mod Ranges
 mod Rewrites
 mod RunCounts
-mod RunStarts
 mod ShortReach
 mod SomeCode
 mod SoundCode
@@ -24,5 +23,4 @@ mod TableRefusals
 mod TableRoom
 mod TableSections
 mod TablesCarried
-mod WholeMoves
 mod WrittenOutput

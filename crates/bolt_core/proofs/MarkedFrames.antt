@@ -1,6 +1,6 @@
 -- A map under which whole functions move as one piece allows that frame tables are written anew: the range of a marked
 -- entry has instructions of one function, which is whole and begins where the range does.
-use Rattle.std.proofs.Common.{◌≡◌, ℕ, ◌+◌, ◌<◌, ◌≤◌, List, [], ◌∷◌, map, Option, Some, None, Bool, true, false}
+use Rattle.std.proofs.Common.{◌≡◌, ℕ, ◌+◌, ◌<◌, ◌≤◌, List, [], ◌∷◌, Option, Some, None, Bool, true, false}
 use Rattle.std.proofs.Common.{refl, sym, ap, ◌∙◌, subst, arith, inl, inr}
 use Rattle.std.specs.Prelude.{◌==◌, ◌&&◌, not, Contains, IsTrue, All, AllPairs, Any, filter, is_some, nat_le, nat_lt}
 use Rattle.std.specs.Prelude.{option_map, unwrap_or, ◌≢◌, slice_index_or}
@@ -33,7 +33,7 @@ use Rattle.cfi_rows.specs.Frames.{eh_frames, tabled}
 use Rattle.frame_rewrite.specs.FrameAnswers.{cuts_of, is_marked_by}
 use Rattle.frame_rewrite.specs.Tables.{AllowsFrames, MovesWhole}
 use Rattle.func_find.proofs.Judged.{IsCodePart-function}
-use Rattle.bolt_core.specs.internal.WholeMoves.{MoveAsOne, KeepWhole}
+use Rattle.branch_fixup.specs.WholeMoves.{MoveAsOne, KeepWhole}
 use Rattle.bolt_core.proofs.Direct.{lies_in, starts_in}
 
 module _ (spans : List Span) (once : AllPairs (λ s t. s.input ≢ t.input) spans) (disjoint : AllPairs ShareNoByte spans) where

@@ -41,9 +41,11 @@ use Rattle.program.specs.Program.{Program, program_of}
 use Rattle.program.specs.Room.{is_tight_program, new_start}
 use Rattle.bolt_core.specs.CarriedAnswers.{CarriesTables}
 use Rattle.bolt_core.specs.GivenTables.{ReadTable}
-use Rattle.bolt_core.specs.declared.tables.Tables.{Tables}
-use Rattle.bolt_core.specs.internal.CarriedTables.{AreNewTables, ComeFrom, EhRunsFit, HasRoomBehind}
-use Rattle.bolt_core.specs.Limits.{IsTooHeavy, IsTooLarge}
+use Rattle.table_set.specs.AllTables.{AllComeFrom}
+use Rattle.table_set.specs.declared.all.AllTables.{AllTables}
+use Rattle.bolt_core.specs.internal.CarriedTables.{AreNewTables, EhRunsFit, HasRoomBehind}
+use Rattle.table_set.specs.TableLimits.{IsTooHeavy}
+use Rattle.bolt_core.specs.Limits.{IsTooLarge}
 use Rattle.bolt_core.specs.NewCode.{IsLaidOutBy}
 use Rattle.bolt_core.specs.ProfileOrder.{IsProfileOrder, cold_starts, hot_count}
 use Rattle.bolt_core.specs.Refusals.{CanStand, IsInput}
@@ -154,7 +156,7 @@ module _ {file profile : List ℕ} (elf : Elf) (funcs : List Func) (refs : Refs)
 
       -- The tables that are carried.
 
-      module _ (order_all : HasAllBlocks blocks order) (t : Tables) (comes : ComeFrom t elf) where
+      module _ (order_all : HasAllBlocks blocks order) (t : AllTables) (comes : AllComeFrom t elf) where
         all_low : start + (code_need funcs blocks + frame_need elf funcs blocks) ≤ address_end
         all_low =
             subst (λ (s : ℕ). s + (code_need funcs blocks + frame_need elf funcs blocks) ≤ address_end) (sym start_is)
@@ -191,7 +193,7 @@ module _ {file profile : List ℕ} (elf : Elf) (funcs : List Func) (refs : Refs)
             frame_room elf x.code blocks (laid elf x.code sound_code) (input.program).blocks_are order order_all start spans emitted
             made t.eh comes.eh
 
-      module _ (given : List ReadTable) (t : Tables) (comes : ComeFrom t elf) (order_all : HasAllBlocks blocks order)
+      module _ (given : List ReadTable) (t : AllTables) (comes : AllComeFrom t elf) (order_all : HasAllBlocks blocks order)
           (new : AreNewTables elf t spans start (length emitted.code.items) given)
           (cold w : List ℕ) (w_bytes : All (λ b. b < 256) w)
           (written : (t : Bool) → HasPlace (source_of elf emitted spans given) t → IsWritten (source_of elf emitted spans given) t w)

@@ -9,8 +9,8 @@ use Rattle.addr_map.specs.Spans.{ShareNoByte}
 use Rattle.table_core.specs.declared.run.Run.{Run}
 use Rattle.table_core.specs.AnswerRuns.{AreRunsOf, carried}
 use Rattle.branch_fixup.proofs.BlockSpans.{IsFirstFrom, Follows, Heads, IsLaidByBlocks}
-use Rattle.cfi_rows.proofs.Pigeonhole.{HasPlace, weighed, all_owned, owned_has, all_weights}
-use Rattle.bolt_core.proofs.RunStarts.{RunStart, run_start, starts_rise}
+use Rattle.table_core.proofs.Pigeonhole.{HasPlace, weighed, all_owned, owned_has, all_weights}
+use Rattle.table_core.proofs.RunStarts.{RunStart, run_start, starts_rise}
 
 once_head : (u t : Span) (us : List Span) → AllPairs (λ (s t : Span). s.input ≢ t.input) (u ∷ us) → Contains us t → u.input ≢ t.input
 once_head u t us once (k, within, is) =

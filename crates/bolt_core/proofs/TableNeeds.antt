@@ -28,11 +28,11 @@ use Rattle.frame_rewrite.specs.FrameAnswers.{FrameAnswer, cuts_of, is_marked_by}
 use Rattle.frame_rewrite.specs.Tables.{AllowsFrames, EhAllows, EhComesFrom, eh_says, run_size}
 use Rattle.bolt_core.specs.internal.CarriedTables.{EhRunsFit, HasRoomBehind}
 use Rattle.bolt_core.specs.internal.MovedCode.{IsMovedCode}
-use Rattle.bolt_core.specs.internal.WholeMoves.{KeepWhole}
+use Rattle.branch_fixup.specs.WholeMoves.{KeepWhole}
 use Rattle.bolt_core.proofs.FrameNeeds.{frame_need_fits}
 use Rattle.frame_rewrite.proofs.FramesCarried.{read_is, says_is}
 use Rattle.bolt_core.proofs.MarkedFrames.{allows_frames}
-use Rattle.bolt_core.proofs.WholeMoves.{keep_whole}
+use Rattle.branch_fixup.proofs.WholeMoves.{keep_whole}
 
 module _ (elf : Elf) (code : ProgramCode) (blocks : List Block) (laid : AreLaidOut code.funcs) (are : AreBlocks code blocks)
     (order : List ℕ) (perm : HasAllBlocks blocks order) (base : ℕ) (spans : List Span) (emitted : Emitted)

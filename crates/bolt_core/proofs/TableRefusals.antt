@@ -1,35 +1,52 @@
--- A file that has no fault of frame tables is refused for that of its line table.
-use Rattle.std.proofs.Common.{◌≡◌, ◌∙◌, sym, subst, refl, inl, inr, ℕ, None, Some}
+-- A file whose program doesn't tell of its unwind table itself is refused for the faults of its tables.
+use Rattle.std.proofs.Common.{ℕ, ◌<◌, ◌≤◌, List, arith}
 use Rattle.elf_image.specs.declared.elf.Elf.{Elf}
-use Rattle.rb_bytes.specs.FirstFault.{IsRefusalBy}
+use Rattle.rb_bytes.specs.FirstFault.{IsFree, IsRefusalBy}
 use Rattle.rb_bytes.specs.declared.fault.FaultKind.{FaultKind}
 use Rattle.rb_bytes.specs.declared.fault.FaultKind.TheVariants as fault
 use Rattle.rb_bytes.specs.declared.fault.Refusal.{Refusal}
 use Rattle.rb_bytes.specs.declared.fault.Refusal.TheVariants as refusal
-use Rattle.frame_rewrite.specs.Faults.{IsRegisteredFrames, malformed_entry}
-use Rattle.line_rewrite.specs.Tables.{HasLineFault, line_sections}
+use Rattle.frame_rewrite.specs.Faults.{IsRegisteredFrames}
+use Rattle.addr_map.specs.declared.span.Span.{Span}
+use Rattle.table_core.specs.Weights.{weight_limit}
+use Rattle.dw_unit.specs.AbbrevWeight.{abbrev_weight}
+use Rattle.dw_unit.specs.Faults.{HasDwarfFault, unit_fault_places}
+use Rattle.dw_unit.specs.Tables.{sections_of}
+use Rattle.table_set.specs.TableFaults as tables
+use Rattle.table_set.specs.TableLimits.{IsTooHeavy, abbreviations}
+use Rattle.table_set.proofs.SoundUnits.{units_sound}
 use Rattle.bolt_core.specs.TableFaults.{HasTableFault}
 
-module _ (elf : Elf) (unregistered : (place : ℕ) → IsRegisteredFrames elf place → ⊥) (sound : malformed_entry elf ≡ None) where
-  no_frame : (place : ℕ) → malformed_entry elf ≡ Some place → ⊥
-  no_frame place e = let c : None ≡ Some place = sym sound ∙ e in absurd (cc)
+module _ (elf : Elf) where
+  -- no fault of tables is that of a registration
+  from_tables : (kind : FaultKind) (place : ℕ) → tables.HasTableFault elf kind place → HasTableFault elf kind place
+  from_tables fault.RegisteredFrames place has = absurd (cc)
+  from_tables kind place has = has
 
-  to_line : (kind : FaultKind) (place : ℕ) → HasTableFault elf kind place → HasLineFault (line_sections elf) kind place
-  to_line fault.RegisteredFrames place has = absurd (unregistered place has)
-  to_line fault.FrameFault place has = absurd (no_frame place has)
-  to_line fault.DwarfVersion place has = inl (refl, has)
-  to_line fault.LineFault place has = inr (refl, has)
-  to_line _ place has = absurd has
+  module _ (unregistered : (place : ℕ) → IsRegisteredFrames elf place → ⊥) where
+    to_tables : (kind : FaultKind) (place : ℕ) → HasTableFault elf kind place → tables.HasTableFault elf kind place
+    to_tables fault.RegisteredFrames place has = absurd (unregistered place has)
+    to_tables kind place has = has
 
-  from_line : (kind : FaultKind) (place : ℕ) → HasLineFault (line_sections elf) kind place → HasTableFault elf kind place
-  from_line kind place (inl has) = subst (λ (k : FaultKind). HasTableFault elf k place) (sym has.0) has.1
-  from_line kind place (inr has) = subst (λ (k : FaultKind). HasTableFault elf k place) (sym has.0) has.1
+    pub tables_free : IsFree (tables.HasTableFault elf) → IsFree (HasTableFault elf)
+    tables_free free kind place has = free kind place (to_tables kind place has)
 
-  pub lines_refused : (r : Refusal) → IsRefusalBy (HasLineFault (line_sections elf)) r → IsRefusalBy (HasTableFault elf) r
-  lines_refused (refusal.Fault f) is = record {
-    present = from_line f.kind f.place is.present;
-    first = λ kind lower place has. is.first kind lower place (to_line kind place has);
-    lowest = λ kind place same has. is.lowest kind place same (to_line kind place has);
-    alone = is.alone;
-  }
-  lines_refused refusal.Memory is = tt
+    pub tables_refused : (r : Refusal) → IsRefusalBy (tables.HasTableFault elf) r → IsRefusalBy (HasTableFault elf) r
+    tables_refused (refusal.Fault f) is = record {
+      present = from_tables f.kind f.place is.present;
+      first = λ kind lower place has. is.first kind lower place (to_tables kind place has);
+      lowest = λ kind place same has. is.lowest kind place same (to_tables kind place has);
+      alone = is.alone;
+    }
+    tables_refused refusal.Memory is = tt
+
+  -- its units can be read
+  pub sound_units : IsFree (HasTableFault elf) → IsFree (HasDwarfFault (unit_fault_places (sections_of elf)))
+  sound_units free = units_sound elf (λ kind place has. free kind place (from_tables kind place has))
+
+-- the declarations of units don't weigh too much
+pub light_declarations : (elf : Elf) (spans : List Span) → (IsTooHeavy elf spans → ⊥) → abbrev_weight (sections_of elf) ≤ weight_limit
+light_declarations elf spans light = by (abbrev_weight (sections_of elf)) (λ over. light (abbreviations over))
+  where
+    by : (n : ℕ) → (weight_limit < n → ⊥) → n ≤ weight_limit
+    by n none = omega (arith, none)

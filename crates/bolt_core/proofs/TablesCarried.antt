@@ -1,10 +1,10 @@
--- A written file in which the new tables of frames stand answers as its input did.
-use Rattle.std.proofs.Common.{◌≡◌, ◌∙◌, ap, refl, sym, subst, ℕ, ◌+◌, ◌*◌, ◌≤◌, List, [], Option, Some, None, Bool}
-use Rattle.std.proofs.Common.{true, false, length, arith}
-use Rattle.std.specs.Prelude.{◌==◌, ◌&&◌, ◌||◌, IfSome, IsSomeAnd, IsTrue, codes, if◌then◌else◌, is_none, is_some, option_map, sum_by}
+-- A written file in which the new tables stand answers as its input did.
+use Rattle.std.proofs.Common.{◌≡◌, ◌∙◌, ap, refl, sym, subst, ℕ, ◌+◌, ◌*◌, ◌≤◌, List, [], ◌∷◌, Option, Some, None, Bool}
+use Rattle.std.proofs.Common.{suc, true, false, length, arith}
+use Rattle.std.proofs.lemmas.Bool.Decides.{nat_tests}
+use Rattle.std.specs.Prelude.{◌==◌, ◌&&◌, ◌||◌, IfSome, IsSomeAnd, IsTrue, codes, if◌then◌else◌, is_none, is_some, not, option_map, sum_by}
 use Rattle.std.specs.Prelude.{unwrap_or}
 use Rattle.std.specs.List.{list_any}
-use Rattle.std.specs.Option.{option_or}
 use Rattle.std.specs.Str.{bytes_eq}
 use Rattle.std.proofs.lemmas.Bool.{and_parts}
 use Rattle.elf_image.specs.declared.elf.Elf.{Elf}
@@ -24,20 +24,29 @@ use Rattle.table_core.specs.declared.run.Run.{Run}
 use Rattle.table_core.specs.AnswerRuns.{AreRunsOf, carried}
 use Rattle.table_core.specs.Sections.{Held, bytes_of, held, held_by}
 use Rattle.cfi_rows.specs.Entries.{frames}
-use Rattle.cfi_rows.specs.Frames.{debug_frames, eh_frames, frames_of}
+use Rattle.cfi_rows.specs.Frames.{frames_of}
 use Rattle.cfi_rows.specs.ReadFrames.{read_as}
 use Rattle.frame_rewrite.specs.FrameAnswers.{FrameAnswer}
 use Rattle.frame_rewrite.specs.Index.{IsIndexOf, StandsIndex, has_frames, has_index}
-use Rattle.frame_rewrite.specs.Tables.{EndsWithMark, StandsAs, debug_name, eh_name, eh_says, run_size}
-use Rattle.line_rewrite.specs.Tables.{LineSections, StandsLines}
-use Rattle.bolt_core.specs.CarriedAnswers.{CarriesTables, changes_table}
-use Rattle.bolt_core.specs.GivenTables.{AreGivenFor, DebugContents, ReadTable}
-use Rattle.bolt_core.specs.internal.CarriedTables.{AreNewTables, ComeFrom, debug_contents}
+use Rattle.frame_rewrite.specs.Tables.{EndsWithMark, StandsAs, eh_name, eh_says, run_size}
+use Rattle.line_rewrite.specs.Tables.{LineSections}
+use Rattle.bolt_core.specs.CarriedAnswers.{CarriesTables}
+use Rattle.bolt_core.specs.GivenTables.{AreGivenFor, DebugContents, ReadTable, debug_listed, ranges_given}
+use Rattle.bolt_core.specs.internal.CarriedTables.{AreNewTables, debug_contents}
 use Rattle.bolt_core.specs.internal.GivenIndex.{IsIndexFor, frames_at, index_at}
-use Rattle.bolt_core.specs.declared.tables.Tables.{Tables}
-use Rattle.frame_rewrite.proofs.FramesCarried.{df_carried, eh_carried, no_bad}
-use Rattle.line_rewrite.proofs.LinesCarried.{line_carried, nothing_read}
+use Rattle.table_set.specs.AllAnswers.{HoldAll}
+use Rattle.table_set.specs.AllTables.{AllComeFrom}
+use Rattle.table_set.specs.CarriedTables.{all_lists}
+use Rattle.table_set.specs.KeptData.{dropped_names, is_one_of, written_names}
+use Rattle.table_set.specs.declared.all.AllTables.{AllTables}
+use Rattle.dw_unit.specs.Tables.{sections_of}
+use Rattle.range_loc_rewrite.specs.Faults.{ListSections}
+use Rattle.table_set.proofs.EmptySections.{no_abbrevs, no_addr, no_info}
+use Rattle.table_set.proofs.NoFaults.{no_fault}
+use Rattle.table_set.proofs.Standing.{all_carried, all_sound, units_kept}
+use Rattle.line_rewrite.proofs.LinesCarried.{nothing_read}
 use Rattle.bolt_core.proofs.ListedTables.{debug_bytes, debug_given, frames_bytes, frames_size, index_bytes, index_size, not_given}
+use Rattle.bolt_core.proofs.ListedTables.{ranges_bytes, ranges_given_is, seen}
 use Rattle.bolt_core.proofs.TableRoom.{SizesFit}
 
 -- What a file holds, in the terms of tables.
@@ -72,22 +81,29 @@ none_of : (o : Option (List ℕ)) → is_some o ≡ false → o ≡ None
 none_of None h = refl
 none_of (Some xs) h = absurd (cc)
 
-no_other : (a b c : Bool) → (a || (b || c)) ≡ false → (a ≡ false) × (b ≡ false) × (c ≡ false)
-no_other false false false h = (refl, refl, refl)
-no_other true b c h = absurd (cc)
-no_other false true c h = absurd (cc)
-no_other false false true h = absurd (cc)
+not_zero : (n : ℕ) → (suc n == 0) ≡ false
+not_zero n = grind (arith, nat_tests)
 
-module _ (elf : Elf) (t : Tables) (comes : ComeFrom t elf) (spans : List Span) (start : ℕ) (code : List ℕ)
+-- the only name of a list
+alone : (b : Bool) → (b || false) ≡ false → b ≡ false
+alone false h = refl
+alone true h = absurd (cc)
+
+-- the table of ranges is one that is written anew
+not_ranges : (name : List ℕ) → name ≡ codes ".debug_rnglists" → is_one_of written_names name ≡ false → ⊥
+not_ranges name same other =
+    clash (is_one_of written_names name) (ap (is_one_of written_names) same) other
+
+module _ (elf : Elf) (t : AllTables) (comes : AllComeFrom t elf) (spans : List Span) (start : ℕ) (code : List ℕ)
     (given : List ReadTable) (made : AreNewTables elf t spans start (length code) given) where
   abbrev eh : List ℕ
-  eh = made.carried.eh.bytes.items
+  eh = made.written.eh.bytes.items
 
-  abbrev df : List ℕ
-  df = made.carried.df.bytes.items
+  abbrev ranges : Option (List ℕ)
+  ranges = ranges_given elf made.written.ranges.bytes.items
 
   abbrev debug : DebugContents
-  debug = debug_contents made.carried
+  debug = debug_contents made.written
 
   abbrev listed_frames : Option (List ℕ)
   listed_frames = if has_frames elf then Some eh else None
@@ -105,6 +121,7 @@ module _ (elf : Elf) (t : Tables) (comes : ComeFrom t elf) (spans : List Span) (
   are_given = record {
     frames = listed_frames;
     index = made.are_listed.index;
+    ranges = made.written.ranges.bytes.items;
     debug = debug;
     are = made.are_listed.are;
     frames_there = is_there (has_frames elf) eh;
@@ -112,10 +129,10 @@ module _ (elf : Elf) (t : Tables) (comes : ComeFrom t elf) (spans : List Span) (
   }
 
   size_eh : table_size given (codes ".eh_frame") ≡ option_map length listed_frames
-  size_eh = frames_size given listed_frames made.are_listed.index debug made.are_listed.are
+  size_eh = frames_size given listed_frames made.are_listed.index ranges debug made.are_listed.are
 
   size_index : table_size given (codes ".eh_frame_hdr") ≡ option_map length made.are_listed.index
-  size_index = index_size given listed_frames made.are_listed.index debug made.are_listed.are
+  size_index = index_size given listed_frames made.are_listed.index ranges debug made.are_listed.are
 
   -- How large they are.
 
@@ -165,7 +182,7 @@ module _ (elf : Elf) (t : Tables) (comes : ComeFrom t elf) (spans : List Span) (
     frames_held e =
         let size : table_size given (codes ".eh_frame") ≡ Some (length eh) = size_eh ∙ ap (option_map length) (loaded e) in
         let bytes : bytes_called given (codes ".eh_frame") ≡ eh =
-        frames_bytes given listed_frames made.are_listed.index debug made.are_listed.are
+        frames_bytes given listed_frames made.are_listed.index ranges debug made.are_listed.are
         ∙ ap (λ (o : Option (List ℕ)). unwrap_or o []) (loaded e) in
         let holds : HoldsAt new (codes ".eh_frame") (frames_at base (length code)) (bytes_called given (codes ".eh_frame")) =
         subst (λ (o : Option ℕ). IfSome (table_start 8 (base + length code) o)
@@ -180,7 +197,7 @@ module _ (elf : Elf) (t : Tables) (comes : ComeFrom t elf) (spans : List Span) (
         let size : table_size given (codes ".eh_frame") ≡ Some (length eh) = size_eh ∙ ap (option_map length) (loaded e) in
         let long : table_size given (codes ".eh_frame_hdr") ≡ Some (length x) = size_index ∙ ap (option_map length) is in
         let bytes : bytes_called given (codes ".eh_frame_hdr") ≡ x =
-        index_bytes given listed_frames made.are_listed.index debug made.are_listed.are
+        index_bytes given listed_frames made.are_listed.index ranges debug made.are_listed.are
         ∙ ap (λ (o : Option (List ℕ)). unwrap_or o []) is in
         let holds : HoldsAt new (codes ".eh_frame_hdr") (index_at base (length code) eh) (bytes_called given (codes ".eh_frame_hdr")) =
         subst (λ (o : Option ℕ). IfSome (table_start 4 (table_end 8 (base + length code) (Some (length eh))) o)
@@ -192,7 +209,7 @@ module _ (elf : Elf) (t : Tables) (comes : ComeFrom t elf) (spans : List Span) (
         (subst (λ (n : ℕ). HoldsAt new (codes ".eh_frame_hdr") (index_at n (length code) eh) x) (sym start_is)
         (subst (λ (xs : List ℕ). HoldsAt new (codes ".eh_frame_hdr") (index_at base (length code) eh) xs) bytes holds))
 
-    eh_stands : StandsAs eh_name made.carried.eh new
+    eh_stands : StandsAs eh_name made.written.eh new
     eh_stands = by (has_frames elf) refl
       where
         by : (b : Bool) → has_frames elf ≡ b → bytes_of new (codes ".eh_frame") ≡ eh
@@ -203,39 +220,35 @@ module _ (elf : Elf) (t : Tables) (comes : ComeFrom t elf) (spans : List Span) (
             ap (table_start 8 (base + length code)) size in
             none_held new (codes ".eh_frame") (stand.no_frames none) ∙ sym (made.are_carried.eh_made.nothing (there ∙ e))
 
-    -- No table of ranges is given.
-    none_added : IsTrue (adds_ranges elf.sections.items given) → ⊥
-    none_added adds =
-        clash (is_given given (codes ".debug_rnglists"))
-        ((and_parts (is_given given (codes ".debug_rnglists")) (is_none (section_called elf.sections.items (codes ".debug_rnglists"))) adds).0)
-        (not_given given listed_frames made.are_listed.index debug made.are_listed.are (codes ".debug_rnglists") refl refl refl)
-
     -- A section of debug data holds what is given for it; one that the input hasn't holds nothing.
-    debug_stands : (name bytes : List ℕ) → IsTrue (names_debug name) →
-        is_given given name ≡ true → bytes_called given name ≡ bytes →
+    debug_stands : (name bytes : List ℕ) → names_debug name ≡ true → bytes_eq name (codes ".debug_rnglists") ≡ false →
+        seen name (debug_listed debug) ≡ Some (name, bytes) →
         (section_called elf.sections.items name ≡ None → bytes ≡ []) → bytes_of new name ≡ bytes
-    debug_stands name bytes is_debug is_in given_is empty = by (section_called elf.sections.items name) refl
+    debug_stands name bytes is_debug other listed_is empty = by (section_called elf.sections.items name) refl
       where
+        differs : name ≡ codes ".debug_rnglists" → ⊥
+        differs same =
+            clash (bytes_eq name (codes ".debug_rnglists")) (ap (λ (n : List ℕ). bytes_eq n (codes ".debug_rnglists")) same) other
+
         by : (o : Option Section) → section_called elf.sections.items name ≡ o → bytes_of new name ≡ bytes
         by (Some s) e =
-            bytes_from new name (bytes_called given name) (stand.debug name is_debug is_in (ap is_some e)) ∙ given_is
-        by None e = none_held new name (stand.absent name is_debug e (λ adds. absurd (none_added adds))) ∙ sym (empty e)
+            bytes_from new name (bytes_called given name)
+            (stand.debug name is_debug
+            (debug_given given listed_frames made.are_listed.index ranges debug made.are_listed.are name is_debug (name, bytes) listed_is)
+            (ap is_some e))
+            ∙ debug_bytes given listed_frames made.are_listed.index ranges debug made.are_listed.are name is_debug (name, bytes) listed_is
+        by None e = none_held new name (stand.absent name is_debug e (λ adds same. differs same)) ∙ sym (empty e)
 
     -- Any other holds what it held.
-    others_stand : (name : List ℕ) → IsTrue (names_debug name) → changes_table name ≡ false → bytes_of new name ≡ bytes_of elf name
-    others_stand name is_debug other = by (section_called elf.sections.items name) refl
+    others_stand : (name : List ℕ) → IsTrue (names_debug name) → is_one_of written_names name ≡ false →
+        is_one_of dropped_names name ≡ false → bytes_of new name ≡ bytes_of elf name
+    others_stand name is_debug other kept_name = by (section_called elf.sections.items name) refl
       where
-        differs : (bytes_eq name (codes ".debug_frame") ≡ false) × (bytes_eq name (codes ".debug_line") ≡ false)
-            × (bytes_eq name (codes ".debug_macro") ≡ false)
-        differs =
-            no_other (bytes_eq name (codes ".debug_frame")) (bytes_eq name (codes ".debug_line"))
-            (bytes_eq name (codes ".debug_macro")) other
-
         kept : IfSome (section_called elf.sections.items name) (λ s. Holds new name (section_bytes elf.file.now s))
         kept =
             stand.others name is_debug
-            (not_given given listed_frames made.are_listed.index debug made.are_listed.are name is_debug differs.0 differs.1)
-            differs.2
+            (not_given given listed_frames made.are_listed.index ranges debug made.are_listed.are name is_debug other)
+            (alone (bytes_eq name (codes ".debug_macro")) kept_name)
 
         by : (o : Option Section) → section_called elf.sections.items name ≡ o → bytes_of new name ≡ bytes_of elf name
         by (Some s) e =
@@ -243,27 +256,82 @@ module _ (elf : Elf) (t : Tables) (comes : ComeFrom t elf) (spans : List Span) (
             (subst (λ (o : Option Section). IfSome o (λ s. Holds new name (section_bytes elf.file.now s))) e kept)
             ∙ sym (ap (λ (o : Option Section). (held_by elf.file.now o).bytes) e)
         by None e =
-            none_held new name (stand.absent name is_debug e (λ adds. absurd (none_added adds))) ∙ sym (none_held elf name e)
+            none_held new name (stand.absent name is_debug e (λ adds same. not_ranges name same other)) ∙ sym (none_held elf name e)
 
-    df_stands : StandsAs debug_name made.carried.df new
-    df_stands =
-        debug_stands (codes ".debug_frame") df refl
-        (debug_given given listed_frames made.are_listed.index debug made.are_listed.are (codes ".debug_frame") refl)
-        (debug_bytes given listed_frames made.are_listed.index debug made.are_listed.are (codes ".debug_frame") refl)
-        (λ e. made.are_carried.df_made.nothing (ap (λ (h : Held). h.bytes) comes.df.section ∙ none_held elf (codes ".debug_frame") e))
+    -- That of ranges is added where ranges are written.
+    ranges_stand : bytes_of new (codes ".debug_rnglists") ≡ made.written.ranges.bytes.items
+    ranges_stand = by (section_called elf.sections.items (codes ".debug_rnglists")) refl made.written.ranges.bytes.items refl
+      where
+        given_is : bytes_called given (codes ".debug_rnglists") ≡ unwrap_or ranges []
+        given_is = ranges_bytes given listed_frames made.are_listed.index ranges debug made.are_listed.are
 
-    lines_stand : StandsLines elf made.carried.lines new
-    lines_stand = record {
-      table =
-          debug_stands (codes ".debug_line") made.carried.lines.bytes.items refl
-          (debug_given given listed_frames made.are_listed.index debug made.are_listed.are (codes ".debug_line") refl)
-          (debug_bytes given listed_frames made.are_listed.index debug made.are_listed.are (codes ".debug_line") refl)
-          (λ e. nothing_read t.lines made.carried.lines made.are_carried.lines_made
+        is_in : is_given given (codes ".debug_rnglists") ≡ is_some ranges
+        is_in = ranges_given_is given listed_frames made.are_listed.index ranges debug made.are_listed.are
+
+        not_added : is_given given (codes ".debug_rnglists") ≡ false → IsTrue (adds_ranges elf.sections.items given) → ⊥
+        not_added absent adds =
+            clash (is_given given (codes ".debug_rnglists"))
+            ((and_parts (is_given given (codes ".debug_rnglists"))
+            (is_none (section_called elf.sections.items (codes ".debug_rnglists"))) adds).0)
+            absent
+
+        is_added : is_given given (codes ".debug_rnglists") ≡ true →
+            section_called elf.sections.items (codes ".debug_rnglists") ≡ None → IsTrue (adds_ranges elf.sections.items given)
+        is_added given_so none = rw (given_so, none) refl
+
+        by : (o : Option Section) → section_called elf.sections.items (codes ".debug_rnglists") ≡ o → (bytes : List ℕ) →
+            made.written.ranges.bytes.items ≡ bytes → bytes_of new (codes ".debug_rnglists") ≡ made.written.ranges.bytes.items
+        by (Some s) e bytes is =
+            let some : ranges ≡ Some made.written.ranges.bytes.items =
+            ap (λ (o : Option Section). if is_some o || not (length made.written.ranges.bytes.items == 0)
+            then Some made.written.ranges.bytes.items else None) e in
+            bytes_from new (codes ".debug_rnglists") (bytes_called given (codes ".debug_rnglists"))
+            (stand.debug (codes ".debug_rnglists") refl (is_in ∙ ap is_some some) (ap is_some e))
+            ∙ given_is ∙ ap (λ (o : Option (List ℕ)). unwrap_or o []) some
+        by None e [] is =
+            let none : ranges ≡ None =
+            ap (λ (o : Option Section). if is_some o || not (length made.written.ranges.bytes.items == 0)
+            then Some made.written.ranges.bytes.items else None) e
+            ∙ ap (λ (xs : List ℕ). if not (length xs == 0) then Some xs else None) is in
+            none_held new (codes ".debug_rnglists")
+            (stand.absent (codes ".debug_rnglists") refl e (λ adds same. not_added (is_in ∙ ap is_some none) adds)) ∙ sym is
+        by None e (b ∷ bytes) is =
+            let some : ranges ≡ Some made.written.ranges.bytes.items =
+            ap (λ (o : Option Section). if is_some o || not (length made.written.ranges.bytes.items == 0)
+            then Some made.written.ranges.bytes.items else None) e
+            ∙ ap (λ (xs : List ℕ). if not (length xs == 0) then Some made.written.ranges.bytes.items else None) is
+            ∙ ap (λ (z : Bool). if not z then Some made.written.ranges.bytes.items else None) (not_zero (length bytes)) in
+            bytes_from new (codes ".debug_rnglists") (bytes_called given (codes ".debug_rnglists"))
+            (stand.ranges (is_added (is_in ∙ ap is_some some) e))
+            ∙ given_is ∙ ap (λ (o : Option (List ℕ)). unwrap_or o []) some
+
+    hold_all : HoldAll elf new made.written
+    hold_all = record {
+      eh = eh_stands;
+      df = debug_stands (codes ".debug_frame") made.written.df.bytes.items refl refl refl
+          (λ e. made.are_carried.df_made.nothing
+          (ap (λ (h : Held). h.bytes) comes.df.section ∙ none_held elf (codes ".debug_frame") e));
+      lines = debug_stands (codes ".debug_line") made.written.lines.bytes.items refl refl refl
+          (λ e. nothing_read t.lines made.written.lines made.are_carried.lines_made
           (ap (λ (s : LineSections). s.line) comes.lines ∙ none_held elf (codes ".debug_line") e));
       strings = λ i. record {
-        str = others_stand (codes ".debug_str") refl refl i;
-        line_str = others_stand (codes ".debug_line_str") refl refl i;
+        str = others_stand (codes ".debug_str") refl refl refl i;
+        line_str = others_stand (codes ".debug_line_str") refl refl refl i;
       };
+      ranges = ranges_stand;
+      places = debug_stands (codes ".debug_loclists") made.written.places.bytes.items refl refl refl
+          (λ e. made.are_carried.places_made.nothing
+          (ap (λ (s : ListSections). s.locations) comes.places ∙ none_held elf (codes ".debug_loclists") e));
+      aranges = debug_stands (codes ".debug_aranges") made.written.aranges.bytes.items refl refl refl
+          (λ e. made.are_carried.aranges_made.nothing (comes.aranges ∙ none_held elf (codes ".debug_aranges") e));
+      info = debug_stands (codes ".debug_info") made.written.info.items refl refl refl
+          (λ e. made.are_carried.units.info_is
+          ∙ no_info (sections_of elf) made.are_carried.units.moves (none_held elf (codes ".debug_info") e));
+      abbrevs = debug_stands (codes ".debug_abbrev") made.written.abbrevs.items refl refl refl
+          (λ e. made.are_carried.units.abbrevs_are ∙ no_abbrevs (sections_of elf) (none_held elf (codes ".debug_abbrev") e));
+      addr = debug_stands (codes ".debug_addr") made.written.addr.items refl refl refl
+          (λ e. made.are_carried.addr made.are_carried.units.moves made.are_carried.units.are_moves.spans_are
+          ∙ no_addr made.are_carried.units.moves (sections_of elf).addr (none_held elf (codes ".debug_addr") e));
     }
 
     index_stands : has_index elf ≡ true → StandsIndex new
@@ -279,23 +347,14 @@ module _ (elf : Elf) (t : Tables) (comes : ComeFrom t elf) (spans : List Span) (
         h.bytes) (sym (index_held loads x is)) index.is)
 
     pub carries_tables : CarriesTables spans elf new
-    carries_tables =
-        let of_eh = made.are_carried.eh elf new comes.eh eh_stands in
-        let of_df = made.are_carried.df elf new comes.df df_stands in
-        let of_lines = made.are_carried.lines elf new comes.lines lines_stand in
-        record {
-          answers = λ p o owned. record {
-            line_is = line_carried spans t.lines elf new comes.lines of_lines.0 p o owned;
-            eh_is = eh_carried spans t.eh elf new comes.eh of_eh.0 p o owned;
-            df_is = df_carried spans t.df elf new comes.df of_df.0 p o owned;
-          };
-          sound = ap (λ (o : Option ℕ). option_or o (debug_frames new).bad) (no_bad (eh_frames new) of_eh.1)
-              ∙ no_bad (debug_frames new) of_df.1;
-          lines_sound = of_lines.1;
-          line_units = of_lines.2;
-          others = others_stand;
-          ends = λ e.
-              let ended = made.are_carried.eh_made.ends (there ∙ e) in
-              subst EndsWithMark (sym eh_stands) ended;
-          index = index_stands;
-        }
+    carries_tables = record {
+      answers = all_carried elf spans t made.written comes made.are_carried new hold_all;
+      sound = no_fault new (all_sound elf spans t made.written comes made.are_carried new hold_all);
+      ends = λ e. subst EndsWithMark (sym eh_stands) (made.are_carried.eh_made.ends (there ∙ e));
+      index = index_stands;
+      lists = all_lists made.written;
+      kept = record {
+        units = units_kept elf spans t made.written comes made.are_carried new hold_all;
+        others = others_stand;
+      };
+    }

@@ -1,8 +1,9 @@
 -- The tables that are written anew, by the names of their sections.
-use Rattle.std.specs.Prelude.{◌≡◌, ◌++◌, ℕ, List, [], ◌∷◌, Option, Some, None, is_some, String, Vec, string_bytes}
-use Rattle.std.specs.Prelude.{codes, map}
+use Rattle.std.specs.Prelude.{◌≡◌, ◌==◌, ◌++◌, ◌||◌, ℕ, not, List, [], ◌∷◌, Option, Some, None, is_some, String, Vec, string_bytes}
+use Rattle.std.specs.Prelude.{codes, if◌then◌else◌, length, map}
 use Rattle.std.specs.declared.alloc.Global.{Global}
 use Rattle.elf_image.specs.declared.elf.Elf.{Elf}
+use Rattle.elf_image.specs.file.SectionNames.{section_called}
 use Rattle.frame_rewrite.specs.Index.{has_frames, has_index}
 
 -- a table as the code keeps it
@@ -17,23 +18,38 @@ abbrev pub table_if : List ℕ → Option (List ℕ) → List (List ℕ × List 
 table_if name None = []
 table_if name (Some bytes) = (name, bytes) ∷ []
 
--- the contents of debug tables: those of frames and of lines
+-- the contents of debug tables, but for that of ranges
 pub record DebugContents : Type 0 where
-  pub frames : List ℕ
+  pub info : List ℕ
+  pub abbrevs : List ℕ
+  pub addr : List ℕ
   pub lines : List ℕ
+  pub locations : List ℕ
+  pub aranges : List ℕ
+  pub frames : List ℕ
 
 abbrev pub debug_listed : DebugContents → List (List ℕ × List ℕ)
-debug_listed d = (codes ".debug_frame", d.frames) ∷ (codes ".debug_line", d.lines) ∷ []
+debug_listed d =
+    (codes ".debug_info", d.info) ∷ (codes ".debug_abbrev", d.abbrevs) ∷ (codes ".debug_addr", d.addr)
+    ∷ (codes ".debug_line", d.lines) ∷ (codes ".debug_loclists", d.locations) ∷ (codes ".debug_aranges", d.aranges)
+    ∷ (codes ".debug_frame", d.frames) ∷ []
+
+-- The table of ranges, where the file has one or ranges are written: entries with a low and a high address get some.
+abbrev pub ranges_given : Elf → List ℕ → Option (List ℕ)
+ranges_given elf bytes =
+    if is_some (section_called elf.sections.items (codes ".debug_rnglists")) || not (length bytes == 0) then Some bytes else None
 
 -- Debug tables are always among them: without a section of its name one is empty, and isn't written.
-abbrev pub listed : Option (List ℕ) → Option (List ℕ) → DebugContents → List (List ℕ × List ℕ)
-listed frames index debug =
-    (table_if (codes ".eh_frame") frames ++ table_if (codes ".eh_frame_hdr") index) ++ debug_listed debug
+abbrev pub listed : Option (List ℕ) → Option (List ℕ) → Option (List ℕ) → DebugContents → List (List ℕ × List ℕ)
+listed frames index ranges debug =
+    (table_if (codes ".eh_frame") frames ++ table_if (codes ".eh_frame_hdr") index)
+    ++ (debug_listed debug ++ table_if (codes ".debug_rnglists") ranges)
 
 pub record AreGivenFor (elf : Elf) (tables : List ReadTable) : Type 0 where
   pub frames : Option (List ℕ)
   pub index : Option (List ℕ)
+  pub ranges : List ℕ
   pub debug : DebugContents
-  pub are : map table_seen tables ≡ listed frames index debug
+  pub are : map table_seen tables ≡ listed frames index (ranges_given elf ranges) debug
   pub frames_there : is_some frames ≡ has_frames elf
   pub index_there : is_some index ≡ has_index elf

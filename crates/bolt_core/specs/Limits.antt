@@ -3,10 +3,7 @@ use Rattle.std.specs.Prelude.{◌≡◌, ◌<◌, ℕ, List}
 use Rattle.rv_code.specs.declared.placed.Func.{Func}
 use Rattle.elf_image.specs.declared.elf.Elf.{Elf}
 use Rattle.elf_image.specs.file.Header.{e_phnum, e_shnum}
-use Rattle.addr_map.specs.declared.span.Span.{Span}
-use Rattle.table_core.specs.Weights.{weight_limit}
 use Rattle.elf_write.specs.NameWeight.{name_weight}
-use Rattle.line_rewrite.specs.Tables.{IsLineWeight, line_sections}
 use Rattle.program.specs.Limits.{IsCodeTooLarge}
 
 -- of section headers, and of program headers
@@ -24,7 +21,3 @@ pub data IsTooLarge (elf : Elf) (funcs : List Func) (cold : List ℕ) (place : �
   many_sections : place ≡ 5 → header_limit < e_shnum elf.file.now → IsTooLarge elf funcs cold place
   many_segments : place ≡ 5 → header_limit < e_phnum elf.file.now → IsTooLarge elf funcs cold place
   long_names : place ≡ 6 → name_limit < name_weight elf funcs cold → IsTooLarge elf funcs cold place
-
--- The weight of a table that would be written passes the limit, under the map by which code moves; tables of frames have none.
-pub data IsTooHeavy (elf : Elf) (spans : List Span) : Type 0 where
-  lines : (n : ℕ) → IsLineWeight (line_sections elf) spans n → weight_limit < n → IsTooHeavy elf spans

@@ -14,8 +14,8 @@ use Rattle.program.specs.Limits.{IsLimitFault, file_limit}
 use Rattle.program.specs.Program.{IsProgramOf, Program}
 use Rattle.program.specs.Refusals.{IsRefusalFor, IsUnreadable}
 use Rattle.program.specs.Room.{no_program_room}
-use Rattle.program.specs.declared.unbuilt.Unbuilt.TheVariants.{Debug}
-use Rattle.bolt_core.specs.Limits.{IsTooHeavy, IsTooLarge}
+use Rattle.table_set.specs.TableLimits.{IsTooHeavy}
+use Rattle.bolt_core.specs.Limits.{IsTooLarge}
 use Rattle.bolt_core.specs.NewCode.{IsLaidOutBy}
 use Rattle.bolt_core.specs.ProfileOrder.{ArePartsBy, IsProfileOrder, cold_starts}
 use Rattle.bolt_core.specs.TableFaults.{HasTableFault}
@@ -27,7 +27,7 @@ pub record Fit (file profile : List ℕ) : Type 0 where
 
 -- a file that is read as a program, and a profile that isn't too long
 pub record IsInput (file profile : List ℕ) (x : Program) : Type 0 where
-  pub program : IsProgramOf Debug file x
+  pub program : IsProgramOf file x
   pub profile_fits : length profile ≤ file_limit
 
 -- nothing keeps a program's code from being placed, and its tables from being carried
@@ -41,12 +41,13 @@ pub record CanStand (x : Program) : Type 0 where
   pub room : no_program_room x ≡ None
 
 -- Length comes first, of the file and then of the profile; then why the file isn't read as a program; what keeps its code
--- from being placed; what keeps its tables from being carried; want of room; and then the other limits, the last of them the weights of tables.
+-- from being placed; what keeps its tables from being carried; want of room; and then the other limits, of which the
+-- weights of tables are the last.
 pub data IsRefused (file profile : List ℕ) (fault : Fault) : Type 0 where
   long_file : file_limit < length file → fault ≡ fault_at TooLarge 0 → IsRefused file profile fault
   long_profile : length file ≤ file_limit → file_limit < length profile → fault ≡ fault_at TooLarge 1 →
       IsRefused file profile fault
-  unreadable : Fit file profile → IsUnreadable Debug file fault → IsRefused file profile fault
+  unreadable : Fit file profile → IsUnreadable file fault → IsRefused file profile fault
   misplaced : (x : Program) → IsInput file profile x → IsAnswered (HasPlacementFault x.code.funcs x.blocks) fault →
       IsRefused file profile fault
   not_carried : (x : Program) → IsInput file profile x → IsFree (HasPlacementFault x.code.funcs x.blocks) →

@@ -20,11 +20,12 @@ use Rattle.elf_write.specs.CarriedBytes.{HoldsBytes}
 use Rattle.elf_write.specs.FrontBytes.{KeepsFront}
 use Rattle.elf_write.specs.NewSegments.{AreNewHeaders}
 use Rattle.elf_write.specs.NewTables.{HasNewTables, area_for}
+use Rattle.table_set.specs.TableLimits.{IsTooHeavy}
 use Rattle.program.specs.Program.{Program}
 use Rattle.program.specs.Room.{is_tight_program, needed_bytes, new_start}
 use Rattle.bolt_core.specs.CarriedAnswers.{CarriesTables}
 use Rattle.bolt_core.specs.GivenTables.{AreGivenFor, ReadTable}
-use Rattle.bolt_core.specs.Limits.{IsTooHeavy, IsTooLarge}
+use Rattle.bolt_core.specs.Limits.{IsTooLarge}
 use Rattle.bolt_core.specs.NewCode.{IsLaidOutBy}
 use Rattle.bolt_core.specs.ProfileOrder.{IsProfileOrder, cold_starts, hot_count}
 use Rattle.bolt_core.specs.Refusals.{CanStand, IsInput}

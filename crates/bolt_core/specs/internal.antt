@@ -2,4 +2,3 @@ pub mod CarriedTables
 pub mod GivenIndex
 pub mod MovedCode
 pub mod TableLimits
-pub mod WholeMoves

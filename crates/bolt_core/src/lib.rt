@@ -8,6 +8,5 @@ mod limits;
 mod reading;
 pub mod rewriting;
 mod table_list;
-mod tables;
 
 pub use rewriting::{Rewritten, rewrite};

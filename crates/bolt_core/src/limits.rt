@@ -1,34 +1,35 @@
 // Limits on what is rewritten.
 ghost use Rattle.std.specs.Prelude.{ℕ, ◌≤◌, AllPairs, IfErr, OnOk, length};
+ghost use Rattle.rb_bytes.specs.FirstFault.{IsFree};
 ghost use Rattle.rv_code.specs.layout.FunctionLists.{AreLaidOut};
 ghost use Rattle.elf_image.specs.file.ParsedFile.{IsElfOf};
 ghost use Rattle.addr_map.specs.MapText.{IsLineBefore};
 ghost use Rattle.addr_map.specs.Spans.{ShareNoByte};
 ghost use Rattle.table_core.specs.AnswerRuns.{AreLow};
+ghost use Rattle.dw_unit.specs.Faults.{HasDwarfFault, unit_fault_places};
+ghost use Rattle.dw_unit.specs.Tables.{sections_of};
+ghost use Rattle.table_set.specs.AllTables.{AllComeFrom};
+ghost use Rattle.table_set.specs.TableLimits.{IsTooHeavy};
 ghost use Rattle.program.specs.Limits.{IsLimitFault};
 ghost use Rattle.program.specs.Refusals.{IsRefusalFor};
 ghost use Rattle.bolt_core.specs.Limits.{IsTooLarge};
-ghost use Rattle.bolt_core.specs.internal.TableLimits.{IsHeavy, IsLight};
+ghost use Rattle.bolt_core.specs.internal.TableLimits.{IsHeavy};
 ghost use Rattle.bolt_core.specs.Refusals.{Fit, IsRefusal};
 
 use addr_map::AddrMap;
 use elf_image::Elf;
 use elf_write::name_weight;
-use line_rewrite::Lines;
 use program::{FILE_LIMIT, check_code};
 use rb_bytes::fault::{Fault, FaultKind, Refusal};
 use rv_code::Func;
 use std::alloc::Global;
-use table_core::AddrTable;
+use table_set::{AllTables, is_too_heavy};
 
 // The most headers of sections, and of segments.
 const HEADER_LIMIT: usize = 65_000;
 
 // The most bytes of names that are written.
 const NAME_LIMIT: u64 = 4_000_000_000;
-
-// The greatest weight of a table that is written.
-const WEIGHT_LIMIT: u64 = 4_000_000_000;
 
 /// Refuses a file that is too long, at 0, and then a profile, at 1.
 pub fn check_lengths(file: &[u8], profile: &[u8]) -> Result<(), Refusal>
@@ -71,16 +72,22 @@ pub fn check_sizes(
     Ok(())
 }
 
-/// Refuses a program whose line table would weigh too much when it is written for the map, at 6.
-pub fn check_weight(alloc: Global, lines: &Lines, map: &AddrMap) -> Result<(), Refusal>
+/// Refuses a program one of whose tables would weigh too much when it is written for the map, at 6.
+pub fn check_weight(
+    alloc: Global,
+    elf: &Elf<'_>,
+    tables: &AllTables,
+    map: &AddrMap,
+) -> Result<(), Refusal>
+    requires comes { AllComeFrom tables.now elf.now }
     requires ordered { AllPairs IsLineBefore map.now }
     requires disjoint { AllPairs ShareNoByte map.now }
     requires low { AreLow map.now }
-    ensures light { OnOk result (IsLight lines.now map.now) }
-    ensures refused { IfErr result (IsRefusalFor (IsHeavy lines.now map.now)) }
+    requires sound { IsFree (HasDwarfFault (unit_fault_places (sections_of elf.now))) }
+    ensures light { OnOk result (IsTooHeavy elf.now map.now → ⊥) }
+    ensures refused { IfErr result (IsRefusalFor (IsHeavy elf.now map.now)) }
 {
-    let weight = lines.weight(alloc, map)?;
-    if weight > WEIGHT_LIMIT {
+    if is_too_heavy(alloc, elf, tables, map)? {
         return Err(Refusal::Fault(Fault::at(FaultKind::TooLarge, 6)));
     }
     Ok(())

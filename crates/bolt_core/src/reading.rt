@@ -1,20 +1,18 @@
 // Tables are read.
 ghost use Rattle.std.specs.Prelude.{IfErr, IfOk, OnOk};
 ghost use Rattle.rb_bytes.specs.FirstFault.{IsFree, IsRefusalBy};
+ghost use Rattle.table_set.specs.AllTables.{AllComeFrom};
 ghost use Rattle.bolt_core.specs.TableFaults.{HasTableFault};
-ghost use Rattle.bolt_core.specs.internal.CarriedTables.{ComeFrom};
 
-use crate::tables::Tables;
 use elf_image::Elf;
-use frame_rewrite::{DebugFrames, EhFrames, registered_frames};
-use line_rewrite::Lines;
+use frame_rewrite::registered_frames;
 use rb_bytes::fault::{Fault, FaultKind, Refusal};
 use std::alloc::Global;
-use table_core::AddrTable;
+use table_set::{AllTables, read_all};
 
 /// Reads the tables that are carried to moved code, or says what keeps them from that.
-pub fn read_tables(alloc: Global, elf: &Elf<'_>) -> Result<Tables, Refusal>
-    ensures come { IfOk result (λ tables. ComeFrom tables elf.now) }
+pub fn read_tables(alloc: Global, elf: &Elf<'_>) -> Result<AllTables, Refusal>
+    ensures come { IfOk result (λ tables. AllComeFrom tables elf.now) }
     ensures free { OnOk result (IsFree (HasTableFault elf.now)) }
     ensures fault { IfErr result (IsRefusalBy (HasTableFault elf.now)) }
 {
@@ -22,8 +20,6 @@ pub fn read_tables(alloc: Global, elf: &Elf<'_>) -> Result<Tables, Refusal>
         Some(place) => return Err(Refusal::Fault(Fault::at(FaultKind::RegisteredFrames, place))),
         None => {}
     }
-    let eh = EhFrames::read(alloc, elf)?;
-    let df = DebugFrames::read(alloc, elf)?;
-    let lines = Lines::read(alloc, elf)?;
-    Ok(Tables { eh, df, lines })
+    let tables = read_all(alloc, elf)?;
+    Ok(tables)
 }

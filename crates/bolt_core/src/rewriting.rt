@@ -23,7 +23,6 @@ use crate::reading::read_tables;
 use addr_map::AddrMap;
 use edge_profile::Profile;
 use edge_profile::weights::block_weights;
-use program::Unbuilt;
 use rb_bytes::fault::{NoMemory, Refusal};
 use rv_code::{Block, Chains, Emitted, Func, Plan};
 use rv_reloc::Refs;
@@ -58,7 +57,7 @@ pub fn rewrite(alloc: Global, file: &[u8], profile: &[u8]) -> Result<Rewritten, 
     ensures refused { IfErr result (IsRefusal file.now profile.now) }
 {
     check_lengths(file, profile)?;
-    let program = program::read_program(alloc, file, Unbuilt::Debug)?;
+    let program = program::read_program(alloc, file)?;
     let funcs = program.funcs.as_slice();
     let blocks = program.blocks.as_slice();
     let counts = edge_profile::read(alloc, profile, &program.elf, funcs)?;
@@ -71,7 +70,7 @@ pub fn rewrite(alloc: Global, file: &[u8], profile: &[u8]) -> Result<Rewritten, 
     let cold = cold_starts(alloc, funcs, blocks, &parts)?;
     check_sizes(alloc, &program.elf, funcs, &cold)?;
     let (map, emitted) = moved_code(alloc, funcs, &program.refs, blocks, &plan, start)?;
-    check_weight(alloc, &tables.lines, &map)?;
+    check_weight(alloc, &program.elf, &tables, &map)?;
     let code = emitted.code.len();
     let given = new_tables(alloc, &program.elf, &tables, &map, start, code)?;
     let written = elf_write::write(alloc, &program.elf, funcs, &cold, &emitted, &map, &given)?;

@@ -1,17 +1,19 @@
 // The tables that are given to be written.
 ghost use Rattle.std.specs.Prelude.{◌≡◌, ◌++◌, IfOk, IfSome, IsTrue, OnOk, Option, Some, None, if◌then◌else◌, is_some, map, option_map};
 ghost use Rattle.frame_rewrite.specs.Index.{has_frames, has_index};
-ghost use Rattle.bolt_core.specs.GivenTables.{table_if, table_seen};
-ghost use Rattle.bolt_core.specs.internal.CarriedTables.{debug_contents};
-ghost use Rattle.bolt_core.specs.internal.GivenIndex.{AreListed, CanIndex, IsIndexFor};
+ghost use Rattle.bolt_core.specs.GivenTables.{ranges_given, table_if, table_seen};
+ghost use Rattle.bolt_core.specs.internal.CarriedTables.{AreListedOf};
+ghost use Rattle.bolt_core.specs.internal.GivenIndex.{CanIndex, IsIndexFor};
 
-use crate::tables::Carried;
 use elf_image::Elf;
 use elf_image::named::EH_FRAME;
 use elf_write::{Table, table_places};
 use frame_rewrite::{has_index_header, header};
 use rb_bytes::fault::NoMemory;
 use std::alloc::Global;
+use table_set::AllWritten;
+
+const DEBUG_RNGLISTS: &[u8] = b".debug_rnglists";
 
 // Whether a file has an unwind table that it loads.
 fn has_frames(elf: &Elf) -> bool
@@ -73,6 +75,17 @@ fn loaded(elf: &Elf, frames: Vec<u8>) -> Option<Vec<u8>>
     if has_frames(elf) { Some(frames) } else { None }
 }
 
+// A table of ranges, where the file has one or ranges were written.
+fn ranges_if(elf: &Elf, ranges: Vec<u8>) -> Option<Vec<u8>>
+    ensures { option_map (λ bytes. bytes.items) result ≡ ranges_given elf.now ranges.items }
+{
+    if elf.section_called(DEBUG_RNGLISTS).is_some() || !ranges.is_empty() {
+        Some(ranges)
+    } else {
+        None
+    }
+}
+
 /// The tables of a file in their new contents, and the index of its unwind table, by the names of their sections. The new code
 /// has so many bytes from a start on.
 pub fn listed(
@@ -80,18 +93,38 @@ pub fn listed(
     elf: &Elf,
     start: u64,
     code: usize,
-    carried: Carried,
+    written: AllWritten,
 ) -> Result<Vec<Table>, NoMemory>
-    requires { IsTrue (has_index elf.now) → CanIndex start code carried.eh.bytes.items }
-    ensures { IfOk result (λ tables.
-        AreListed elf.now start code carried.eh.bytes.items (debug_contents carried) tables.items) }
+    requires { IsTrue (has_index elf.now) → CanIndex start code written.eh.bytes.items }
+    ensures { IfOk result (λ tables. AreListedOf elf.now start code written tables.items) }
 {
-    let Carried { eh, df, lines } = carried;
+    let AllWritten {
+        eh,
+        df,
+        lines,
+        ranges,
+        places,
+        aranges,
+        info,
+        abbrevs,
+        addr,
+    } = written;
     let index = new_index(alloc, elf, start, code, &eh.bytes)?;
     let mut tables = Vec::new(alloc);
     add_table(alloc, &mut tables, ".eh_frame", loaded(elf, eh.bytes))?;
     add_table(alloc, &mut tables, ".eh_frame_hdr", index)?;
-    add_table(alloc, &mut tables, ".debug_frame", Some(df.bytes))?;
+    add_table(alloc, &mut tables, ".debug_info", Some(info))?;
+    add_table(alloc, &mut tables, ".debug_abbrev", Some(abbrevs))?;
+    add_table(alloc, &mut tables, ".debug_addr", Some(addr))?;
     add_table(alloc, &mut tables, ".debug_line", Some(lines.bytes))?;
+    add_table(alloc, &mut tables, ".debug_loclists", Some(places.bytes))?;
+    add_table(alloc, &mut tables, ".debug_aranges", Some(aranges.bytes))?;
+    add_table(alloc, &mut tables, ".debug_frame", Some(df.bytes))?;
+    add_table(
+        alloc,
+        &mut tables,
+        ".debug_rnglists",
+        ranges_if(elf, ranges.bytes),
+    )?;
     Ok(tables)
 }

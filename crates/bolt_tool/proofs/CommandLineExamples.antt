@@ -1,6 +1,6 @@
 -- Arguments that are commands, and arguments that are none.
 use Rattle.std.proofs.Common.{◌≡◌, ℕ, List, [], ◌∷◌, Option, Some, None, codes, refl}
-use Rattle.bolt_tool.specs.CommandLine.{Command, Lookup, Record, Repair, Run, Sample, Verify, command_of}
+use Rattle.bolt_tool.specs.CommandLine.{Command, Frames, Lookup, Record, Repair, Run, Sample, Verify, command_of}
 
 run : List ℕ
 run = codes "run"
@@ -82,6 +82,9 @@ repaired_over = refl
 address_prefixed : command_of (codes "lookup" ∷ codes "f" ∷ codes "0x1Fa" ∷ []) ≡
     Some (Lookup (record { file = codes "f"; address = 0x1fa }))
 address_prefixed = refl
+
+frames_at : command_of (codes "frames" ∷ codes "f" ∷ codes "10" ∷ []) ≡ Some (Frames (record { file = codes "f"; address = 0x10 }))
+frames_at = refl
 
 no_digits : command_of (codes "lookup" ∷ codes "f" ∷ codes "0x" ∷ []) ≡ None
 no_digits = refl

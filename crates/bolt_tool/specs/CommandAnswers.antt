@@ -7,7 +7,7 @@ use Rattle.cli_base.specs.declared.status.Status.TheVariants as status
 use Rattle.cli_base.specs.Status.{exit_number}
 use Rattle.cli_base.specs.Served.{IsInputKept, IsServed}
 use Rattle.cli_base.specs.World.{World}
-use Rattle.bolt_tool.specs.CommandLine.{Command, Rewrite, Map, Run, RunSymbols, Record, Repair, Lookup, Sample, Verify}
+use Rattle.bolt_tool.specs.CommandLine.{Command, Rewrite, Map, Run, RunSymbols, Record, Repair, Lookup, Sample, Verify, Frames}
 use Rattle.bolt_tool.specs.Lines.{usage_line}
 use Rattle.cli_base.specs.PrintedLines.{PrintsOnly, FailsAtLine}
 use Rattle.cli_run.specs.recording.RecordAnswers.{RecordAnswers, RecordCompletes}
@@ -17,6 +17,7 @@ use Rattle.cli_check.specs.RepairAnswers.{RepairAnswers, RepairCompletes}
 use Rattle.cli_check.specs.VerifyAnswers.{VerifyAnswers, VerifyCompletes}
 use Rattle.cli_look.specs.LookAnswers.{LookAnswers, LookCompletes}
 use Rattle.cli_look.specs.LookingUp.{looking_up}
+use Rattle.cli_look.specs.declared.question.Question.TheVariants as question
 use Rattle.cli_look.specs.SampleAnswers.{SampleAnswers, SampleCompletes}
 use Rattle.bolt_tool.specs.rewrite.MapAnswers.{MapAnswers}
 use Rattle.bolt_tool.specs.rewrite.RewriteAnswers.{NoneRoseWriting, RewriteAnswers}
@@ -37,9 +38,10 @@ CommandAnswers (Some (Run args)) answer old new = RunAnswers byte_mode args old 
 CommandAnswers (Some (RunSymbols args)) answer old new = RunAnswers symbol_mode args old new answer
 CommandAnswers (Some (Record args)) answer old new = RecordAnswers args old new answer
 CommandAnswers (Some (Repair names)) answer old new = RepairAnswers names old new answer
-CommandAnswers (Some (Lookup args)) answer old new = LookAnswers (looking_up args.address) args.file old new answer
+CommandAnswers (Some (Lookup args)) answer old new = LookAnswers (looking_up question.Report args.address) args.file old new answer
 CommandAnswers (Some (Sample args)) answer old new = SampleAnswers args old new answer
 CommandAnswers (Some (Verify names)) answer old new = VerifyAnswers names old new answer
+CommandAnswers (Some (Frames args)) answer old new = LookAnswers (looking_up question.Frames args.address) args.file old new answer
 CommandAnswers None answer old new = UsageAnswers answer old new
 
 -- A rewrite is done, a map is printed, a profile is repaired, an address is looked up, a sample is made and an output is judged,
@@ -53,9 +55,10 @@ Completes (Some (Run args)) answer old new = CompletesRun byte_mode args answer 
 Completes (Some (RunSymbols args)) answer old new = CompletesRun symbol_mode args answer old new
 Completes (Some (Record args)) answer old new = RecordCompletes args answer old new
 Completes (Some (Repair names)) answer old new = RepairCompletes names answer old new
-Completes (Some (Lookup args)) answer old new = LookCompletes (looking_up args.address) args.file answer old new
+Completes (Some (Lookup args)) answer old new = LookCompletes (looking_up question.Report args.address) args.file answer old new
 Completes (Some (Sample args)) answer old new = SampleCompletes args answer old new
 Completes (Some (Verify names)) answer old new = VerifyCompletes names answer old new
+Completes (Some (Frames args)) answer old new = LookCompletes (looking_up question.Frames args.address) args.file answer old new
 Completes None answer old new = Unit {0}
 
 -- the command doesn't touch standard input

@@ -107,7 +107,7 @@ repair_of (Positional file ∷ Positional profile ∷ Positional out ∷ []) =
     else Some (record { inputs = record { file = file; profile = profile }; out = out })
 repair_of _ = None
 
--- `FILE ADDR`
+-- `FILE ADDR`, of `lookup` and of `frames`
 abbrev pub lookup_of : List Token → Option LookupArgs
 lookup_of (Positional file ∷ Positional word ∷ []) =
     option_map (λ address. record { file = file; address = address }) (address_of word)
@@ -193,6 +193,7 @@ pub data Command : Type 0 where
   Lookup : LookupArgs → Command
   Sample : SampleArgs → Command
   Verify : VerifyNames → Command
+  Frames : LookupArgs → Command
 
 abbrev pub run_command : Bool → RunArgs → Command
 run_command false args = Run args
@@ -229,4 +230,6 @@ command_of (name ∷ args) =
     then option_map Sample (sample_of (tokens AnyToken args))
     else if bytes_eq name (codes "verify")
     then option_map Verify (verify_of (tokens AnyToken args))
+    else if bytes_eq name (codes "frames")
+    then option_map Frames (lookup_of (tokens AnyToken args))
     else None

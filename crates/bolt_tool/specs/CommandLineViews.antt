@@ -10,7 +10,7 @@ use Rattle.cli_check.specs.VerifyNames.{verify_given}
 use Rattle.cli_look.specs.LookupArgs.{lookup_given}
 use Rattle.cli_look.specs.SampleArgs.{IsSampleNumber, sample_given}
 use Rattle.cli_run.specs.RunArgs.{RunArgs, RecordArgs}
-use Rattle.bolt_tool.specs.CommandLine.{Command, Rewrite, Map, Run, RunSymbols, Record, Repair, Lookup, Sample, Verify}
+use Rattle.bolt_tool.specs.CommandLine.{Command, Rewrite, Map, Run, RunSymbols, Record, Repair, Lookup, Sample, Verify, Frames}
 use Rattle.cli_run.specs.declared.running.RunMode.{RunMode}
 use Rattle.cli_run.specs.declared.running.RunMode.TheVariants as mode
 use Rattle.bolt_tool.specs.declared.command_line.Token.{Token as TokenRead}
@@ -63,6 +63,7 @@ command_read (read.Repair a) = Repair (repair_given a)
 command_read (read.Lookup a) = Lookup (lookup_given a)
 command_read (read.Sample a) = Sample (sample_given a)
 command_read (read.Verify a) = Verify (verify_given a)
+command_read (read.Frames a) = Frames (lookup_given a)
 
 -- the output and the map of a rewrite have different names, and so have the two files of a sample
 abbrev pub NamesDiffer : CommandRead → Type 0
@@ -75,6 +76,7 @@ NamesDiffer (read.Repair a) = Unit {0}
 NamesDiffer (read.Lookup a) = Unit {0}
 NamesDiffer (read.Sample a) = a.file.now ≢ a.profile.now
 NamesDiffer (read.Verify a) = Unit {0}
+NamesDiffer (read.Frames a) = Unit {0}
 
 -- the arguments of a run may be given to a program, and there is such a sample
 abbrev pub ArgsFit : CommandRead → Type 0
@@ -87,3 +89,4 @@ ArgsFit (read.Repair a) = Unit {0}
 ArgsFit (read.Lookup a) = Unit {0}
 ArgsFit (read.Sample a) = IsSampleNumber a.number
 ArgsFit (read.Verify a) = Unit {0}
+ArgsFit (read.Frames a) = Unit {0}

@@ -6,7 +6,7 @@ abbrev pub usage_line : List ℕ
 usage_line =
     codes "usage: rewrite IN PROFILE OUT MAP, map IN PROFILE, run [--symbols] [--steps N] FILE [WORDS], "
     ++ codes "lookup FILE ADDR, sample N OUT PROFILE, record [--steps N] FILE OUT [WORDS], "
-    ++ codes "repair IN PROFILE OUT, verify IN OUT MAP\n"
+    ++ codes "repair IN PROFILE OUT, verify IN OUT MAP, frames FILE ADDR\n"
 
 -- what was moved
 abbrev pub summary_line : RewriteCounts → List ℕ

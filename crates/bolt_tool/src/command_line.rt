@@ -69,6 +69,7 @@ pub enum Command<'a> {
     Lookup(LookupArgs<'a>),
     Sample(SampleArgs<'a>),
     Verify(VerifyArgs<'a>),
+    Frames(LookupArgs<'a>),
 }
 
 /// A token of a command: an argument that is no option, or an option with its value, where it has one.
@@ -214,7 +215,7 @@ fn repair_args(mut tokens: Tokens<'_>) -> Option<RepairArgs<'_>>
     })
 }
 
-// The arguments of `lookup`.
+// The arguments of `lookup`, and of `frames`.
 fn lookup_args(mut tokens: Tokens<'_>) -> Option<LookupArgs<'_>>
     ensures { option_map lookup_given result ≡ lookup_of (tokens_of tokens.entry) }
 {
@@ -466,6 +467,9 @@ pub fn parse(args: &[String]) -> Option<Command<'_>>
     }
     if name.as_str() == "verify" {
         return verify_args(tokens).map(Command::Verify);
+    }
+    if name.as_str() == "frames" {
+        return lookup_args(tokens).map(Command::Frames);
     }
     None
 }

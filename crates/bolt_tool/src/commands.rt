@@ -13,7 +13,7 @@ use crate::rewrite::rewrite;
 use crate::running::{record_tokens, run_tokens};
 use cli_base::Status;
 use cli_check::{repair, verify};
-use cli_look::{lookup, sample};
+use cli_look::{Question, look_up, sample};
 use cli_run::RunMode;
 use rb_io::{Files, Put, Sink, Source, print_all};
 use std::alloc::Global;
@@ -51,9 +51,10 @@ fn perform<F: Files, I: Source, O: Sink>(
         Command::RunSymbols(args) => run_tokens(alloc, args, RunMode::Symbols, files, input, out),
         Command::Record(args) => record_tokens(alloc, args, files, input, out),
         Command::Repair(args) => repair(alloc, args, files, out),
-        Command::Lookup(args) => lookup(alloc, args, files, out),
+        Command::Lookup(args) => look_up(alloc, args, Question::Report, files, out),
         Command::Sample(args) => sample(alloc, args, files, out),
         Command::Verify(args) => verify(alloc, args, files, out),
+        Command::Frames(args) => look_up(alloc, args, Question::Frames, files, out),
     }
 }
 

@@ -14,7 +14,7 @@ pub fn usage() -> &'static [u8]
 {
     b"usage: rewrite IN PROFILE OUT MAP, map IN PROFILE, run [--symbols] [--steps N] FILE [WORDS], \
       lookup FILE ADDR, sample N OUT PROFILE, record [--steps N] FILE OUT [WORDS], \
-      repair IN PROFILE OUT, verify IN OUT MAP\n"
+      repair IN PROFILE OUT, verify IN OUT MAP, frames FILE ADDR\n"
 }
 
 /// The line for a file that was rewritten.

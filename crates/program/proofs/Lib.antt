@@ -1,7 +1,5 @@
 mod CodeFaultOrder
 mod CodeLimits
 mod CodeSizes
-mod FilledSections
 pub mod Programs
 mod ReadPrograms
-mod Tests

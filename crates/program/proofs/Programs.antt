@@ -7,9 +7,8 @@ use Rattle.elf_code.specs.Functions.{AreFunctions}
 use Rattle.cfg_build.proofs.layout.AcceptedCode.{AreLaidOut-functions}
 use Rattle.cfi_rows.specs.Frames.{tabled}
 use Rattle.program.specs.Program.{IsFaultless}
-use Rattle.program.specs.declared.unbuilt.Unbuilt.{Unbuilt}
 
-module _ (unbuilt : Unbuilt) (file : List ℕ) (elf : Elf) (is : IsFaultless unbuilt file elf) where
+module _ (file : List ℕ) (elf : Elf) (is : IsFaultless file elf) where
   -- functions of the file lie apart
   pub laid_out : (funcs : List Func) → AreFunctions elf (tabled elf) funcs → AreLaidOut funcs
   laid_out funcs are =

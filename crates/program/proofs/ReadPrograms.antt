@@ -1,6 +1,5 @@
 -- What was read of a file is a program, or a reason for which none is read.
-use Rattle.std.proofs.Common.{◌≡◌, ◌∙◌, refl, sym, subst, ℕ, ◌≤◌, List, Bool, true, false, length}
-use Rattle.std.specs.Prelude.{IsTrue}
+use Rattle.std.proofs.Common.{◌≡◌, refl, subst, ℕ, ◌≤◌, List, length}
 use Rattle.rb_bytes.specs.FirstFault.{IsAnswered, IsFree, IsRefusalBy}
 use Rattle.rb_bytes.specs.declared.fault.Refusal.{Refusal}
 use Rattle.rb_bytes.specs.declared.fault.Refusal.TheVariants as refusal
@@ -22,40 +21,32 @@ use Rattle.program.specs.Limits.{file_limit}
 use Rattle.cfi_rows.specs.Frames.{tabled}
 use Rattle.program.specs.Program.{IsPlain, IsProgramOf, program_of}
 use Rattle.program.specs.Refusals.{IsRefusalFor, IsUnreadable, bad_code}
-use Rattle.program.specs.Tables.{HasUnbuilt}
-use Rattle.program.specs.declared.unbuilt.Unbuilt.{Unbuilt}
 use Rattle.program.proofs.CodeFaultOrder.{free_of_both, refused_function, refused_reference}
 
-module _ (unbuilt : Unbuilt) (file : List ℕ) (elf : Elf) (read : IsElfOf file elf) (fits : length file ≤ file_limit)
-    (sound : IsSound file) (answer : Bool) (tells : HasUnbuilt unbuilt elf.file.now → IsTrue answer) (none : answer ≡ false) where
-  no_tables : HasUnbuilt unbuilt file → ⊥
-  no_tables tables =
-      let some : answer ≡ true = tells (subst (HasUnbuilt unbuilt) (sym read.file_is) tables) in
-      absurd (let both : true ≡ false = sym some ∙ none in cc)
-
-  is_plain : IsPlain unbuilt file
-  is_plain = record { fits = fits; sound = sound; no_tables = no_tables }
+module _ (file : List ℕ) (elf : Elf) (read : IsElfOf file elf) (fits : length file ≤ file_limit) (sound : IsSound file) where
+  is_plain : IsPlain file
+  is_plain = record { fits = fits; sound = sound }
 
   -- `whole` are the ranges as a slice
   module _ (whole : List (ℕ × ℕ)) (whole_is : whole ≡ tabled elf) where
-    code_refused : (r : Refusal) → IsRefusalBy (HasCodeFault elf whole) r → IsRefusalFor (IsUnreadable unbuilt file) r
+    code_refused : (r : Refusal) → IsRefusalBy (HasCodeFault elf whole) r → IsRefusalFor (IsUnreadable file) r
     code_refused (refusal.Fault fault) has =
         bad_code is_plain elf read (subst (λ (ranges : List (ℕ × ℕ)). IsAnswered (HasCodeFault elf ranges) fault) whole_is has)
     code_refused refusal.Memory has = tt
 
     pub references_refused : (r : Refusal) → IsRefusalBy (HasReferenceFault elf whole) r →
-        IsRefusalFor (IsUnreadable unbuilt file) r
+        IsRefusalFor (IsUnreadable file) r
     references_refused r has = code_refused r (refused_reference elf whole r has)
 
     module _ (references_free : IsFree (HasReferenceFault elf whole)) where
       pub functions_refused : (r : Refusal) → IsRefusalBy (HasFunctionFault elf whole) r →
-          IsRefusalFor (IsUnreadable unbuilt file) r
+          IsRefusalFor (IsUnreadable file) r
       functions_refused r has = code_refused r (refused_function elf whole r references_free has)
 
       -- `given` are the functions as a slice of those that were read
       pub program_read : (funcs given : List Func) (refs : Refs) (blocks : List Block) → given ≡ funcs →
           AreRefs elf whole refs → AreFunctions elf whole funcs → IsFree (HasFunctionFault elf whole) →
-          AreBlocks (code_of given refs elf.entry) blocks → IsProgramOf unbuilt file (program_of elf funcs refs blocks)
+          AreBlocks (code_of given refs elf.entry) blocks → IsProgramOf file (program_of elf funcs refs blocks)
       program_read funcs given refs blocks same are_refs are functions_free are_blocks = record {
         faultless = record {
           plain = is_plain;

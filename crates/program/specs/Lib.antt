@@ -2,5 +2,4 @@ pub mod Limits
 pub mod Program
 pub mod Refusals
 pub mod Room
-pub mod Tables
 pub mod internal

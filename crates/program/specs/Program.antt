@@ -14,9 +14,7 @@ use Rattle.cfi_rows.specs.Frames.{tabled}
 use Rattle.rv_reloc.specs.declared.refs.Refs.{Refs}
 use Rattle.cfg_build.specs.NamedAddresses.{code_of}
 use Rattle.program.specs.Limits.{file_limit}
-use Rattle.program.specs.Tables.{HasUnbuilt}
 use Rattle.program.specs.declared.program.Program.{Program as ReadProgram}
-use Rattle.program.specs.declared.unbuilt.Unbuilt.{Unbuilt}
 
 pub record Program : Type 0 where
   -- the file as its reader keeps it
@@ -31,20 +29,19 @@ program_of elf funcs refs blocks = record { elf = elf; code = code_of funcs refs
 abbrev pub program_seen : ReadProgram → Program
 program_seen read = program_of read.elf read.funcs.items read.refs read.blocks.items
 
--- a file within the limit in which the reader finds nothing wrong, without tables with which a command can't deal
-pub record IsPlain (unbuilt : Unbuilt) (file : List ℕ) : Type 0 where
+-- a file within the limit in which the reader finds nothing wrong
+pub record IsPlain (file : List ℕ) : Type 0 where
   pub fits : length file ≤ file_limit
   pub sound : IsSound file
-  pub no_tables : HasUnbuilt unbuilt file → ⊥
 
 -- such a file as its reader keeps it, in whose code no fault is present
-pub record IsFaultless (unbuilt : Unbuilt) (file : List ℕ) (elf : Elf) : Type 0 where
-  pub plain : IsPlain unbuilt file
+pub record IsFaultless (file : List ℕ) (elf : Elf) : Type 0 where
+  pub plain : IsPlain file
   pub read : IsElfOf file elf
   pub no_fault : IsFree (HasCodeFault elf (tabled elf))
 
 -- the program of such a file
-pub record IsProgramOf (unbuilt : Unbuilt) (file : List ℕ) (x : Program) : Type 0 where
-  pub faultless : IsFaultless unbuilt file x.elf
+pub record IsProgramOf (file : List ℕ) (x : Program) : Type 0 where
+  pub faultless : IsFaultless file x.elf
   pub code_is : IsCodeOf x.elf (tabled x.elf) x.code
   pub blocks_are : AreBlocks x.code x.blocks

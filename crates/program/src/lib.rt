@@ -5,11 +5,8 @@ mod limits;
 pub mod program;
 mod reading;
 mod room;
-mod tables;
-pub mod unbuilt;
 
 pub use limits::{FILE_LIMIT, check_code, has_too_much_code};
 pub use program::Program;
 pub use reading::read_program;
 pub use room::{is_tight, new_start};
-pub use unbuilt::Unbuilt;

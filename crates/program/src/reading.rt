@@ -5,27 +5,18 @@ ghost use Rattle.program.specs.Program.{IsProgramOf, program_seen};
 ghost use Rattle.program.specs.Refusals.{IsRefusalFor, IsUnreadable};
 
 use crate::program::Program;
-use crate::tables::has_unbuilt;
-use crate::unbuilt::Unbuilt;
 use cfi_rows::tabled;
-use rb_bytes::fault::{Fault, FaultKind, Refusal};
+use rb_bytes::fault::Refusal;
 use std::alloc::Global;
 
 /// Reads a file with its code, or says which of the faults 1 to 17 is present, the one with the lowest number at its lowest
-/// place; or `NotBuilt`.
-pub fn read_program<'file>(
-    alloc: Global,
-    file: &'file [u8],
-    unbuilt: Unbuilt,
-) -> Result<Program<'file>, Refusal>
+/// place.
+pub fn read_program<'file>(alloc: Global, file: &'file [u8]) -> Result<Program<'file>, Refusal>
     requires { length file.now ≤ file_limit }
-    ensures program { IfOk result (λ program. IsProgramOf unbuilt file.now (program_seen program)) }
-    ensures fault { IfErr result (IsRefusalFor (IsUnreadable unbuilt file.now)) }
+    ensures program { IfOk result (λ program. IsProgramOf file.now (program_seen program)) }
+    ensures fault { IfErr result (IsRefusalFor (IsUnreadable file.now)) }
 {
     let elf = elf_image::read(alloc, file)?;
-    if has_unbuilt(&elf, unbuilt) {
-        return Err(Refusal::Fault(Fault::at(FaultKind::NotBuilt, 0)));
-    }
     let ranges = tabled(alloc, &elf)?;
     let whole = ranges.as_slice();
     let starts = rv_reloc::starts(alloc, &elf)?;

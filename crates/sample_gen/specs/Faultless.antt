@@ -7,13 +7,12 @@ use Rattle.func_place.specs.Faults.{HasPlacementFault}
 use Rattle.program.specs.Limits.{IsCodeTooLarge, file_limit}
 use Rattle.program.specs.Program.{IsProgramOf, Program}
 use Rattle.program.specs.Room.{no_program_room}
-use Rattle.program.specs.declared.unbuilt.Unbuilt.TheVariants.{Nothing}
 use Rattle.table_set.specs.TableFaults.{HasTableFault}
 
 -- No fault is present for which a rewrite looks, but that a table weighs too much once it is written, of which nothing is said.
 pub record IsFaultless (file profile : List ℕ) (x : Program) : Type 0 where
   -- the file can be read, and its code
-  pub read : IsProgramOf Nothing file x
+  pub read : IsProgramOf file x
   pub profile_fits : length profile ≤ file_limit
   -- its code can be placed, and its tables carried
   pub placed : IsFree (HasPlacementFault x.code.funcs x.blocks)

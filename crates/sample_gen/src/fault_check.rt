@@ -6,7 +6,6 @@ ghost use Rattle.frame_rewrite.specs.Faults.{IsRegisteredFrames};
 ghost use Rattle.func_place.specs.Faults.{HasPlacementFault};
 ghost use Rattle.program.specs.Limits.{file_limit};
 ghost use Rattle.program.specs.Program.{IsProgramOf, program_seen};
-ghost use Rattle.program.specs.declared.unbuilt.Unbuilt.TheVariants.{Nothing};
 ghost use Rattle.table_set.specs.TableFaults.{HasTableFault};
 ghost use Rattle.sample_gen.specs.Faultless.{IsFaultless};
 
@@ -78,7 +77,7 @@ fn have_sound_tables(alloc: Global, elf: &Elf<'_>) -> Result<bool, Refusal>
 
 /// Whether nothing keeps the program of a file from being rewritten by a profile; or a fault that does.
 pub fn is_faultless(alloc: Global, program: &Program<'_>, profile: &[u8]) -> Result<bool, Refusal>
-    requires { IsProgramOf Nothing program.now.elf.file.now (program_seen program.now) }
+    requires { IsProgramOf program.now.elf.file.now (program_seen program.now) }
     ensures { IfOk result (λ b. IsTrue b → IsFaultless program.now.elf.file.now profile.now (program_seen program.now)) }
 {
     let elf = &program.elf;

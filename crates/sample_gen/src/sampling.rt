@@ -7,7 +7,7 @@ use crate::code_check::has_sample_code;
 use crate::fault_check::is_faultless;
 use crate::file::file;
 use crate::profile::profile;
-use program::{FILE_LIMIT, Unbuilt, read_program};
+use program::{FILE_LIMIT, read_program};
 use rb_bytes::fault::{NoMemory, Refusal};
 use std::alloc::Global;
 
@@ -20,7 +20,7 @@ fn is_sample(alloc: Global, file: &[u8], profile: &[u8], n: u64) -> Result<bool,
     if file.len() > FILE_LIMIT {
         return Ok(false);
     }
-    let program = read_program(alloc, file, Unbuilt::Nothing)?;
+    let program = read_program(alloc, file)?;
     if !has_sample_code(alloc, &program.elf, &program.funcs, &program.refs.cells, n)? {
         return Ok(false);
     }

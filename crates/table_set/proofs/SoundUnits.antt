@@ -2,12 +2,13 @@
 use Rattle.std.proofs.Common.{◌≡◌, ℕ, Option, Some, None, refl}
 use Rattle.std.specs.Option.{option_or}
 use Rattle.rb_bytes.specs.FirstFault.{IsFree}
+use Rattle.rb_bytes.proofs.Options.{both_none}
 use Rattle.rb_bytes.specs.declared.fault.FaultKind.TheVariants as fault
 use Rattle.elf_image.specs.declared.elf.Elf.{Elf}
 use Rattle.table_core.specs.DebugUnits.{other_version}
 use Rattle.dw_unit.specs.Faults.{HasDwarfFault, unit_fault_places}
 use Rattle.dw_unit.specs.Tables.{sections_of}
-use Rattle.dw_unit.proofs.NoFaults.{both_none, free_of}
+use Rattle.dw_unit.proofs.NoFaults.{free_of}
 use Rattle.line_rewrite.specs.Tables.{line_sections, line_version}
 use Rattle.range_loc_rewrite.specs.Faults.{location_places}
 use Rattle.range_loc_rewrite.specs.Tables.{list_sections}

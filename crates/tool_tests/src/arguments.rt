@@ -3,7 +3,7 @@ use crate::sessions::{commands_refuse, play_rows};
 use std::test::Fail;
 
 /// Each of these names a file that is there.
-const NO_COMMANDS: [&str; 59] = [
+const NO_COMMANDS: [&str; 62] = [
     "$",
     "$ rewrite",
     "$ rewrite in profile out",
@@ -63,6 +63,9 @@ const NO_COMMANDS: [&str; 59] = [
     "$ verify in out",
     "$ verify in out map more",
     "$ verify --steps=3 in out map",
+    "$ frames in",
+    "$ frames in 0x",
+    "$ frames in 10078 more",
 ];
 
 const USAGE: &str = "\
@@ -70,7 +73,7 @@ const USAGE: &str = "\
 like exit7
 - => 220 Usage usage: rewrite IN PROFILE OUT MAP, map IN PROFILE, run [--symbols] [--steps N] FILE [WORDS], \
 lookup FILE ADDR, sample N OUT PROFILE, record [--steps N] FILE OUT [WORDS], repair IN PROFILE OUT, \
-verify IN OUT MAP/";
+verify IN OUT MAP, frames FILE ADDR/";
 
 #[test]
 fn arguments_that_are_no_command(rt: HostRuntime) -> Result<(), Fail> {

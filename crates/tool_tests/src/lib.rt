@@ -5,9 +5,13 @@
 #[cfg(test)]
 mod arguments;
 #[cfg(test)]
+mod framed;
+#[cfg(test)]
 mod limits;
 #[cfg(test)]
 mod looked_up;
+#[cfg(test)]
+mod moved_tables;
 #[cfg(test)]
 mod reach;
 #[cfg(test)]

@@ -64,16 +64,14 @@ fn returning(
 #[test]
 fn too_much_code(rt: HostRuntime) -> Result<(), Fail> {
     let alloc = rt.alloc();
+    let mut files = returning(alloc, 42, LONG, 42, 400_000)?;
+    let exit7 = file_in_words(alloc, "code .text 10078 lui a0,0; addi a0,a0,7; exit")?;
+    files.put(String::from_str(alloc, "small")?, exit7)?;
     let session = "\
 $ run in | 221 TooLarge 2 0 0 refused 28 TooLarge at 2/ \
+| $ verify small in profile | 221 TooLarge 2 0 0 refused 28 TooLarge at 2 in OUT/ \
 | $ rewrite in profile out map | 221 TooLarge 2 0 0 refused 28 TooLarge at 2/ | none out | none map";
-    play(
-        &rt,
-        alloc,
-        &mut returning(alloc, 42, LONG, 42, 400_000)?,
-        "much code",
-        session,
-    )
+    play(&rt, alloc, &mut files, "much code", session)
 }
 
 #[test]

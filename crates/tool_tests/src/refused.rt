@@ -112,10 +112,10 @@ like countdown
   loaded .eh_frame 10090 1400000000000000027a5200017801011b0c020000000000100000001c000000c8ffffff1800000000480e1000000000
   => 221 FrameFault 0 0 0 refused 21 FrameFault at 0/
 
-# Debug tables, of a program with a fault in its code.
-code .text 10078 auipc a0,0; addi a0,a0,7; exit
-- unloaded .debug_info 0 00000000 => 221 NotBuilt 0 0 0 refused 29 NotBuilt at 0/
-- unloaded .debug_info 0 00000000 | flags 5 => 221 Flags 30 0 0 refused 3 Flags at 30/";
+# A table of units with a unit of no bytes, which comes behind a fault of the code.
+like exit7
+- unloaded .debug_info 0 00000000 => 221 DwarfFault 0 0 0 refused 25 DwarfFault at 0/
+- unloaded .debug_info 0 00000000 | patch 78 17 => 221 BareAuipc 10078 0 0 refused 16 BareAuipc at 10078/";
 
 #[test]
 fn unwind_tables_that_are_not_carried(rt: HostRuntime) -> Result<(), Fail> {

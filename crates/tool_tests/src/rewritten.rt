@@ -30,6 +30,7 @@ loaded .eh_frame 10090 1400000000000000017a5200017801011b0c020000000000100000001
   => $ rewrite in profile out map
      | 0 Ok moved 1 functions, 6 instructions, 24 bytes; 3 hot blocks; 0 profile lines ignored/
      | text map 100c0 8 10078/100c8 4 10080/100cc 0 10084/100cc 4 1007c/100d0 4 10088/100d4 4 1008c/
+     | $ verify in out map | 0 Ok faithful/
      | $ run --symbols in | 0 Ended(0) [ended 0 after 13 steps]/ | $ run out | 0 Ended(0) [ended 0 after 11 steps]/
 
 # The loop with a line table of three lines for two instructions each: line 1 for the first two and where the last of them
@@ -53,6 +54,7 @@ loaded .eh_frame 10090 1400000000000000017a4c520001780102031b0c02000000140000001
   => $ rewrite in profile out map
      | 0 Ok moved 1 functions, 6 instructions, 24 bytes; 1 hot blocks; 0 profile lines ignored/
      | text map 100d0 4 10078/100d4 4 1007c/100d8 4 10080/100dc 4 10084/100e0 4 10088/100e4 4 1008c/
+     | $ verify in out map | 0 Ok faithful/
      | $ run --symbols in | 0 Ended(0) [ended 0 after 13 steps]/ | $ run out | 0 Ended(0) [ended 0 after 13 steps]/
 
 # The same with two lines that say nothing, which are counted, and one twice: counts are added up above 2^64.
@@ -80,7 +82,7 @@ like switch-by-distances
 - => $ rewrite in profile out map
      | 0 Ok moved 1 functions, 8 instructions, 32 bytes; 0 hot blocks; 0 profile lines ignored/
      | starts map 100a0 4 10078/ | ends map /100bc 4 10094/
-     | bytes out 98 1c00000020000000 | bytes out a0 97070000938787ff
+     | bytes out 98 1c00000020000000 | bytes out a0 97070000938787ff | $ verify in out map | 0 Ok faithful/
      | $ run in | 0 Ended(0) [ended 0 after 7 steps]/ | $ run out | 0 Ended(0) [ended 0 after 7 steps]/
 
 # A switch by addresses: the table, and LUI a5,10; LW a4,148(a5).
@@ -88,7 +90,7 @@ like switch-by-addresses
 - => $ rewrite in profile out map
      | 0 Ok moved 1 functions, 6 instructions, 24 bytes; 0 hot blocks; 0 profile lines ignored/
      | starts map 100a0 4 10078/ | ends map /100b4 4 1008c/
-     | bytes out 90 ac000100b0000100 | bytes out a0 b707010003a74709
+     | bytes out 90 ac000100b0000100 | bytes out a0 b707010003a74709 | $ verify in out map | 0 Ok faithful/
      | $ run in | 0 Ended(0) [ended 0 after 5 steps]/ | $ run out | 0 Ended(0) [ended 0 after 5 steps]/
 
 # Two functions of which the second is hot: AUIPC ra,0; JALR ra,-8(ra).
@@ -97,6 +99,7 @@ like call
   => $ rewrite in profile out map
      | 0 Ok moved 2 functions, 4 instructions, 16 bytes; 1 hot blocks; 0 profile lines ignored/
      | text map 10090 4 10080/10094 4 10084/10098 4 10078/1009c 4 1007c/ | bytes out 98 97000000e78080ff
+     | $ verify in out map | 0 Ok faithful/
      | $ run in | 0 Ended(0) [ended 0 after 4 steps]/ | $ run out | 0 Ended(0) [ended 0 after 4 steps]/
 
 # A call of an undefined symbol: AUIPC ra,0; JALR ra,0(x0).
@@ -185,6 +188,7 @@ like exit7-at-10fd0
 - => $ rewrite in profile out map
      | 0 Ok moved 1 functions, 4 instructions, 16 bytes; 0 hot blocks; 0 profile lines ignored/
      | text map 10fe0 4 10fd0/10fe4 4 10fd4/10fe8 4 10fd8/10fec 4 10fdc/
+     | $ verify in out map | 0 Ok faithful/
      | $ run in | 7 Ended(7) [ended 7 after 4 steps]/ | $ run out | 7 Ended(7) [ended 7 after 4 steps]/
      | $ rewrite out profile again map | 221 AlreadyMoved 1 0 0 refused 14 AlreadyMoved at 1/
 
@@ -196,7 +200,7 @@ like exit7-at-10fe0
      | text map 120b0 4 10fe0/120b4 4 10fe4/120b8 4 10fe8/120bc 4 10fec/
      | bytes out 20 0020000000000000 | bytes out 38 0300
      | bytes out 2070 0100000005000000002000000000000000200100000000000020010000000000
-     | bytes out 2090 c000000000000000c0000000000000000010000000000000
+     | bytes out 2090 c000000000000000c0000000000000000010000000000000 | $ verify in out map | 0 Ok faithful/
      | $ run in | 7 Ended(7) [ended 7 after 4 steps]/ | $ run out | 7 Ended(7) [ended 7 after 4 steps]/
      | $ rewrite out profile again map | 221 AlreadyMoved 1 0 0 refused 14 AlreadyMoved at 1/
 
@@ -205,6 +209,7 @@ like exit7-below-data
 - => $ rewrite in profile out map
      | 0 Ok moved 1 functions, 4 instructions, 16 bytes; 0 hot blocks; 0 profile lines ignored/
      | text map 40120b0 4 10fe0/40120b4 4 10fe4/40120b8 4 10fe8/40120bc 4 10fec/
+     | $ verify in out map | 0 Ok faithful/
      | $ run in | 7 Ended(7) [ended 7 after 4 steps]/ | $ run out | 7 Ended(7) [ended 7 after 4 steps]/
 
 # No room above: a segment on the last page, above which new code would stand behind a table of four program headers.

@@ -88,6 +88,7 @@ fn three_functions_are_split(rt: HostRuntime) -> Result<(), Fail> {
     let session = "\
 $ rewrite in profile out map \
 | 0 Ok moved 4 functions, 41 instructions, 164 bytes; 10 hot blocks; 0 profile lines ignored/ \
+| $ verify in out map | 0 Ok faithful/ \
 | $ run in | 13 Ended(13) [ended 13 after 36 steps]/ \
 | $ run --symbols in | 13 Ended(13) [ended 13 after 36 steps]/ \
 | $ run out | 13 Ended(13) [ended 13 after 35 steps]/";
@@ -103,6 +104,7 @@ $ rewrite in profile out map \
 | 0 Ok moved 101 functions, 1205 instructions, 4820 bytes; 301 hot blocks; 0 profile lines ignored/ \
 | starts map 132a0 4 122c0/132a4 4 122c4/132a8 4 122c8/132ac 4 122cc/132b0 4 122d0/132b4 4 11000/ \
 | ends map /1455c 8 12248/14564 4 12270/14568 4 12274/1456c 8 122a8/ \
+| $ verify in out map | 0 Ok faithful/ \
 | $ run in | 144 Ended(144) [ended 144 after 1055 steps]/ \
 | $ run out | 144 Ended(144) [ended 144 after 1005 steps]/";
     play_sample(&rt, rt.alloc(), &HUNDRED_FUNCTIONS, session)?;

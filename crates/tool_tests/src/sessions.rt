@@ -31,7 +31,7 @@ fn profile(alloc: Global, words: &str) -> Result<Vec<u8>, Fail> {
     Ok(bytes)
 }
 
-/// Files with an input, the profile of these words, and room for the output and for the map: `room files SIZE`. A call of the
+/// Files with an input, the profile of these words, and room for outputs and for maps: `room files SIZE`. A call of the
 /// files may fail: `fail files NUMBER`.
 pub fn files_with(alloc: Global, words: &str, input: Vec<u8>) -> Result<MemFiles, Fail> {
     let fail = number_said(words, "fail files ", 0)?;
@@ -40,7 +40,7 @@ pub fn files_with(alloc: Global, words: &str, input: Vec<u8>) -> Result<MemFiles
     files.put(text(alloc, "in")?, input)?;
     files.put(text(alloc, "profile")?, profile(alloc, words)?)?;
     files.put(text(alloc, "-")?, Vec::new(alloc))?;
-    for name in ["out", "map", "-o"] {
+    for name in ["out", "map", "moved", "spans", "-o"] {
         files.prepare(text(alloc, name)?, room)?;
     }
     Ok(files)

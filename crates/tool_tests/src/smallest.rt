@@ -119,11 +119,6 @@ profile 1 @10078 4 1 @10078 10 0 1
 - => $ map in profile | none out
      | 0 Ok 10090 8 10078/10098 4 10080/1009c 0 10084/1009c 4 1007c/100a0 4 10088/100a4 4 1008c/
 
-# Tables that aren't built, where the file is rewritten.
-like exit7
-- unloaded .debug_info 0 00000000 => $ run in | 7 Ended(7) [ended 7 after 4 steps]/
-     | $ rewrite in profile out map | 221 NotBuilt 0 0 0 refused 29 NotBuilt at 0/ | none out | none map
-
 # The names of sections would stand at a multiple of 2^40.
 like exit7
 - patch 150 0000000000010000 => $ rewrite in profile out map | 224 NoMemory | none out";

@@ -6,7 +6,7 @@ use Rattle.elf_image.specs.declared.elf.Elf.{Elf}
 use Rattle.elf_image.specs.memory.Break.{rounded_up}
 use Rattle.cfi_rows.specs.Entries.{frames}
 use Rattle.frame_rewrite.specs.Index.{IsIndexOf, has_frames, has_index}
-use Rattle.bolt_core.specs.GivenTables.{DebugContents, ReadTable, listed, table_seen}
+use Rattle.bolt_core.specs.GivenTables.{DebugContents, ReadTable, listed, ranges_given, table_seen}
 
 -- where the table and its index stand, in an area that starts with so many bytes of code
 abbrev pub frames_at : ℕ → ℕ → ℕ
@@ -25,9 +25,11 @@ pub record IsIndexFor (start code : ℕ) (eh index : List ℕ) : Type 0 where
   pub is : IsIndexOf (frames_at start code) (index_at start code eh) (frames false (frames_at start code) eh).list index
   pub size : length index ≡ 12 + 8 * length (frames false (frames_at start code) eh).list
 
--- the tables that are given for a file, by the new contents of the unwind table, and those of debug tables
-pub record AreListed (elf : Elf) (start code : ℕ) (eh : List ℕ) (debug : DebugContents) (tables : List ReadTable) : Type 0 where
+-- the tables that are given for a file, by the new contents of the unwind table, of that of ranges, and of other debug tables
+pub record AreListed (elf : Elf) (start code : ℕ) (eh ranges : List ℕ) (debug : DebugContents) (tables : List ReadTable) :
+    Type 0 where
   pub index : Option (List ℕ)
-  pub are : map table_seen tables ≡ listed (if has_frames elf then Some eh else None) index debug
+  pub are : map table_seen tables
+      ≡ listed (if has_frames elf then Some eh else None) index (ranges_given elf ranges) debug
   pub there : is_some index ≡ has_index elf
   pub index_is : IfSome index (IsIndexFor start code eh)

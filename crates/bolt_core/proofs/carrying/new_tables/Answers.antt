@@ -4,11 +4,11 @@ use Rattle.bolt_core.proofs.carrying.new_tables.Goals as goal
 pub listed-requires : goal.listed-requires
 listed-requires c = λ indexed.
     can_index c.args.elf.now c.args.tables.now c.requires.come c.args.map.now c.args.start c.args.code c.requires.stretch
-    c.requires.low c.requires.room c.in_ok-carried.carried c.in_ok-carried.ensures indexed
+    c.requires.low c.requires.room c.in_ok-written.written c.in_ok-written.ensures indexed
 
 pub returns : goal.returns
 returns c = record {
-  carried = c.in_ok-carried.carried;
-  are_carried = c.in_ok-carried.ensures;
+  written = c.in_ok-written.written;
+  are_carried = c.in_ok-written.ensures;
   are_listed = c.in_ok-given.ensures;
 }

@@ -6,7 +6,6 @@ use Rattle.edge_profile.specs.Profile.{profile_counts, pairs_of}
 use Rattle.edge_profile.specs.Weights.{block_weight}
 use Rattle.func_place.specs.Placement.{IsPlacement}
 use Rattle.program.specs.Program.{program_of, program_seen}
-use Rattle.program.specs.declared.unbuilt.Unbuilt.TheVariants.{Debug}
 use Rattle.program.proofs.Programs.{laid_out}
 use Rattle.rv_code.specs.layout.FunctionLists.{address_end}
 use Rattle.addr_map.specs.Spans.{IsStretch}
@@ -18,7 +17,10 @@ use Rattle.bolt_core.proofs.Accepted.{not_carried_refusal, too_heavy_refusal}
 use Rattle.bolt_core.proofs.Accepted.{no_room_by, parts_by, read_again, readable_again, stands_by, start_by, stretches, too_large_refusal}
 use Rattle.bolt_core.proofs.Accepted.{unreadable_refusal}
 use Rattle.bolt_core.proofs.Rewrites.{allowed, behind, eh_fits, laid_out_by, low, spans_low}
-use Rattle.bolt_core.proofs.TableSections.{df_fits, file_fits, lines_fit, not_heavy}
+use Rattle.table_set.specs.TableLimits.{IsTooHeavy}
+use Rattle.table_set.proofs.Fitting.{aranges_fit, df_fits, lines_fit, places_fit, ranges_fit}
+use Rattle.bolt_core.proofs.TableRefusals.{light_declarations, sound_units}
+use Rattle.bolt_core.proofs.TableSections.{file_fits}
 use Rattle.bolt_core.proofs.Rewrites.{all_bytes, cells_apart, cells_held, even, hot_counted, near, rewritten, room, sound_code}
 use Rattle.bolt_core.proofs.SoundCode.{cells, direct, insts}
 use Rattle.bolt_core.proofs.rewriting.rewrite.Goals as goal
@@ -124,7 +126,7 @@ returns-in_err-tables-clause-refused c =
 pub new_start-requires-clause-laid : goal.new_start-requires-clause-laid
 new_start-requires-clause-laid c =
     let is = c.in_ok-program.ensures.program in
-    laid_out Debug c.args.file.now c.in_ok-program.program.elf is.faultless c.in_ok-program.program.funcs.items is.code_is.funcs
+    laid_out c.args.file.now c.in_ok-program.program.elf is.faultless c.in_ok-program.program.funcs.items is.code_is.funcs
 
 pub new_start-requires-clause-blocks : goal.new_start-requires-clause-blocks
 new_start-requires-clause-blocks c =
@@ -231,6 +233,12 @@ moved_code-requires-clause-room c =
     room c.in_ok-program.program.elf c.as_slice-funcs.result.now c.in_ok-program.program.refs
     c.as_slice-blocks.result.now input bytes stands c.in_ok-start.start start_is
 
+pub check_weight-requires-clause-comes : goal.check_weight-requires-clause-comes
+check_weight-requires-clause-comes c = c.in_ok-tables.ensures.come
+
+pub check_weight-requires-clause-sound : goal.check_weight-requires-clause-sound
+check_weight-requires-clause-sound c = sound_units c.in_ok-program.program.elf c.in_ok-tables.ensures.free
+
 pub check_weight-requires-clause-ordered : goal.check_weight-requires-clause-ordered
 check_weight-requires-clause-ordered c = c.in_ok-map.ensures.mapped.map_is.ordered
 
@@ -245,8 +253,10 @@ check_weight-requires-clause-low c =
     let input = input_of c.in_ok-program.program c.as_slice-funcs.ensures.value c.as_slice-blocks.ensures.value
     c.in_ok-program.ensures.program c.in_ok-check_lengths.ensures.fit in
     let bytes = all_bytes c.args.file.now c.type_inv.file in
-    let stands = stands_by c.in_ok-program.program c.as_slice-funcs.ensures.value c.as_slice-blocks.ensures.value c.in_ok-plan.ensures.free c.in_ok-tables.ensures.free c.in_ok-start.ensures.room in
-    let start_is = start_by c.in_ok-program.program c.as_slice-funcs.ensures.value c.as_slice-blocks.ensures.value c.in_ok-start.start c.in_ok-start.ensures.start in
+    let stands = stands_by c.in_ok-program.program c.as_slice-funcs.ensures.value c.as_slice-blocks.ensures.value c.in_ok-plan.ensures.free
+    c.in_ok-tables.ensures.free c.in_ok-start.ensures.room in
+    let start_is = start_by c.in_ok-program.program c.as_slice-funcs.ensures.value c.as_slice-blocks.ensures.value c.in_ok-start.start
+    c.in_ok-start.ensures.start in
     spans_low c.in_ok-program.program.elf c.as_slice-funcs.result.now c.in_ok-program.program.refs
     c.as_slice-blocks.result.now input bytes stands c.in_ok-start.start start_is c.in_ok-plan.plan.order.items
     c.in_ok-map.map c.in_ok-map.emitted c.in_ok-map.ensures (c.in_ok-plan.ensures.all c.in_ok-parts.ensures.all)
@@ -257,14 +267,18 @@ returns-in_err-check_weight-clause-refused c =
     let input = input_of c.in_ok-program.program c.as_slice-funcs.ensures.value c.as_slice-blocks.ensures.value
     c.in_ok-program.ensures.program c.in_ok-check_lengths.ensures.fit in
     let bytes = all_bytes c.args.file.now c.type_inv.file in
-    let stands = stands_by c.in_ok-program.program c.as_slice-funcs.ensures.value c.as_slice-blocks.ensures.value c.in_ok-plan.ensures.free c.in_ok-tables.ensures.free c.in_ok-start.ensures.room in
-    let start_is = start_by c.in_ok-program.program c.as_slice-funcs.ensures.value c.as_slice-blocks.ensures.value c.in_ok-start.start c.in_ok-start.ensures.start in
+    let stands = stands_by c.in_ok-program.program c.as_slice-funcs.ensures.value c.as_slice-blocks.ensures.value c.in_ok-plan.ensures.free
+    c.in_ok-tables.ensures.free c.in_ok-start.ensures.room in
+    let start_is = start_by c.in_ok-program.program c.as_slice-funcs.ensures.value c.as_slice-blocks.ensures.value c.in_ok-start.start
+    c.in_ok-start.ensures.start in
     let parts_are = parts_by input (profile_counts c.in_ok-counts.counts) (pairs_of c.in_ok-counts.counts) c.in_ok-parts.parts
     c.in_ok-parts.ensures.parts c.in_ok-counts.ensures.counts in
-    let ordered : IsProfileOrder (program_of c.in_ok-program.program.elf c.as_slice-funcs.result.now c.in_ok-program.program.refs c.as_slice-blocks.result.now) c.args.profile.now (pairs_of c.in_ok-counts.counts) c.in_ok-parts.parts
+    let ordered : IsProfileOrder (program_of c.in_ok-program.program.elf c.as_slice-funcs.result.now c.in_ok-program.program.refs
+    c.as_slice-blocks.result.now) c.args.profile.now (pairs_of c.in_ok-counts.counts) c.in_ok-parts.parts
     c.in_ok-plan.plan.order.items = record {
       parts_are = parts_are;
-      placed = subst (λ (ps : List Counted). IsPlacement c.as_slice-funcs.result.now c.as_slice-blocks.result.now c.in_ok-parts.parts ps (block_weight ps c.as_slice-funcs.result.now)
+      placed = subst (λ (ps : List Counted). IsPlacement c.as_slice-funcs.result.now c.as_slice-blocks.result.now c.in_ok-parts.parts ps
+          (block_weight ps c.as_slice-funcs.result.now)
           c.in_ok-plan.plan.order.items) c.pairs-pairs.ensures.value c.in_ok-plan.ensures.order;
     } in
     let p = err_from_is_err_and c.from_residual-in_err-check_weight.result c.from_residual-in_err-check_weight.ensures.1 in
@@ -274,8 +288,7 @@ returns-in_err-check_weight-clause-refused c =
     (laid_out_by c.in_ok-program.program.elf c.as_slice-funcs.result.now c.in_ok-program.program.refs
     c.as_slice-blocks.result.now input bytes stands c.in_ok-start.start start_is c.in_ok-plan.plan.order.items
     c.in_ok-map.map c.in_ok-map.emitted c.in_ok-map.ensures)
-    c.in_ok-tables.tables.lines c.in_ok-tables.ensures.come.lines c.in_err-check_weight.field-0.0
-    c.in_err-check_weight.ensures.refused)
+    c.in_err-check_weight.field-0.0 c.in_err-check_weight.ensures.refused)
 
 pub new_tables-requires-clause-come : goal.new_tables-requires-clause-come
 new_tables-requires-clause-come c = c.in_ok-tables.ensures.come
@@ -303,8 +316,8 @@ new_tables-requires-clause-allowed c =
     c.in_ok-map.map c.in_ok-map.emitted c.in_ok-map.ensures (c.in_ok-plan.ensures.all c.in_ok-parts.ensures.all)
     c.in_ok-tables.tables c.in_ok-tables.ensures.come
 
-pub new_tables-requires-clause-eh_fits : goal.new_tables-requires-clause-eh_fits
-new_tables-requires-clause-eh_fits c =
+pub new_tables-requires-clause-fit : goal.new_tables-requires-clause-fit
+new_tables-requires-clause-fit c =
     let input = input_of c.in_ok-program.program c.as_slice-funcs.ensures.value c.as_slice-blocks.ensures.value
     c.in_ok-program.ensures.program c.in_ok-check_lengths.ensures.fit in
     let bytes = all_bytes c.args.file.now c.type_inv.file in
@@ -312,20 +325,29 @@ new_tables-requires-clause-eh_fits c =
     c.in_ok-plan.ensures.free c.in_ok-tables.ensures.free c.in_ok-start.ensures.room in
     let start_is = start_by c.in_ok-program.program c.as_slice-funcs.ensures.value c.as_slice-blocks.ensures.value c.in_ok-start.start
     c.in_ok-start.ensures.start in
-    eh_fits c.in_ok-program.program.elf c.as_slice-funcs.result.now c.in_ok-program.program.refs
-    c.as_slice-blocks.result.now input bytes stands c.in_ok-start.start start_is c.in_ok-plan.plan.order.items
-    c.in_ok-map.map c.in_ok-map.emitted c.in_ok-map.ensures (c.in_ok-plan.ensures.all c.in_ok-parts.ensures.all)
-    c.in_ok-tables.tables c.in_ok-tables.ensures.come
+    let light : IsTooHeavy c.in_ok-program.program.elf c.in_ok-map.map → ⊥ = c.in_ok-check_weight.ensures.light in
+    record {
+      eh = eh_fits c.in_ok-program.program.elf c.as_slice-funcs.result.now c.in_ok-program.program.refs
+          c.as_slice-blocks.result.now input bytes stands c.in_ok-start.start start_is c.in_ok-plan.plan.order.items
+          c.in_ok-map.map c.in_ok-map.emitted c.in_ok-map.ensures (c.in_ok-plan.ensures.all c.in_ok-parts.ensures.all)
+          c.in_ok-tables.tables c.in_ok-tables.ensures.come;
+      df = λ runs are. df_fits c.in_ok-program.program.elf c.in_ok-tables.tables.df c.in_ok-tables.ensures.come.df
+          (file_fits c.in_ok-program.ensures.program);
+      lines = lines_fit c.in_ok-program.program.elf c.in_ok-tables.tables c.in_ok-tables.ensures.come
+          (file_fits c.in_ok-program.ensures.program) c.in_ok-map.map light;
+      ranges = ranges_fit c.in_ok-program.program.elf c.in_ok-tables.tables c.in_ok-tables.ensures.come
+          (file_fits c.in_ok-program.ensures.program) c.in_ok-map.map light;
+      places = places_fit c.in_ok-program.program.elf c.in_ok-tables.tables c.in_ok-tables.ensures.come
+          (file_fits c.in_ok-program.ensures.program) c.in_ok-map.map light;
+      aranges = aranges_fit c.in_ok-program.program.elf c.in_ok-tables.tables c.in_ok-tables.ensures.come
+          (file_fits c.in_ok-program.ensures.program) c.in_ok-map.map light;
+    }
 
-pub new_tables-requires-clause-df_fits : goal.new_tables-requires-clause-df_fits
-new_tables-requires-clause-df_fits c = λ runs are.
-    df_fits c.in_ok-program.program.elf c.in_ok-tables.tables c.in_ok-tables.ensures.come
-    (file_fits c.in_ok-program.ensures.program)
+pub new_tables-requires-clause-sound : goal.new_tables-requires-clause-sound
+new_tables-requires-clause-sound c = sound_units c.in_ok-program.program.elf c.in_ok-tables.ensures.free
 
-pub new_tables-requires-clause-lines_fit : goal.new_tables-requires-clause-lines_fit
-new_tables-requires-clause-lines_fit c =
-    lines_fit c.in_ok-program.program.elf c.in_ok-tables.tables.lines c.in_ok-tables.ensures.come.lines
-    (file_fits c.in_ok-program.ensures.program) c.in_ok-map.map c.in_ok-check_weight.ensures.light
+pub new_tables-requires-clause-light : goal.new_tables-requires-clause-light
+new_tables-requires-clause-light c = light_declarations c.in_ok-program.program.elf c.in_ok-map.map c.in_ok-check_weight.ensures.light
 
 pub new_tables-requires-clause-stretch : goal.new_tables-requires-clause-stretch
 new_tables-requires-clause-stretch c =
@@ -452,8 +474,7 @@ returns-clause-rewritten c =
     (subst (λ (cs : List ℕ). (place : ℕ) → IsTooLarge c.in_ok-program.program.elf c.as_slice-funcs.result.now cs place → ⊥)
     (c.deref-3.ensures.value ∙ sym c.deref-4.ensures.value)
     c.in_ok-check_sizes.ensures.within)
-    (not_heavy c.in_ok-program.program.elf c.in_ok-tables.tables.lines c.in_ok-tables.ensures.come.lines c.in_ok-map.map
-    c.in_ok-check_weight.ensures.light)
+    c.in_ok-check_weight.ensures.light
     c.in_ok-instructions.instructions c.len-code.result c.count_hot.result c.ignored.result
     c.in_ok-instructions.ensures (c.len-code.ensures ∙ c.in_ok-map.emitted.code.ok.0)
     (hot_counted (pairs_of c.in_ok-counts.counts) c.as_slice-funcs.result.now c.as_slice-blocks.result.now c.deref-7.result.now

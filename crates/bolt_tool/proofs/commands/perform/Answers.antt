@@ -33,9 +33,9 @@ pub returns-in-Lookup-clause-serves : goal.returns-in-Lookup-clause-serves
 returns-in-Lookup-clause-serves g c =
     let old : World = world (g.F.Files.seen c.args.files.now) (g.I.Source.seen c.args.input.now) (g.O.Sink.seen c.args.out.now) in
     let new : World =
-    world (g.F.Files.seen c.lookup.new.files) (g.I.Source.seen c.args.input.now) (g.O.Sink.seen c.lookup.new.out) in
-    subst (λ (command : Command). Serves (Some (command_read command)) c.lookup.result old new) (sym c.in-Lookup.is)
-    (c.lookup.ensures (g.I.Source.seen c.args.input.now))
+    world (g.F.Files.seen c.look_up.new.files) (g.I.Source.seen c.args.input.now) (g.O.Sink.seen c.look_up.new.out) in
+    subst (λ (command : Command). Serves (Some (command_read command)) c.look_up.result old new) (sym c.in-Lookup.is)
+    (c.look_up.ensures (g.I.Source.seen c.args.input.now))
 
 pub returns-in-Sample-clause-serves : goal.returns-in-Sample-clause-serves
 returns-in-Sample-clause-serves g c =
@@ -52,3 +52,11 @@ returns-in-Verify-clause-serves g c =
     world (g.F.Files.seen c.verify.new.files) (g.I.Source.seen c.args.input.now) (g.O.Sink.seen c.verify.new.out) in
     subst (λ (command : Command). Serves (Some (command_read command)) c.verify.result old new) (sym c.in-Verify.is)
     (c.verify.ensures (g.I.Source.seen c.args.input.now))
+
+pub returns-in-Frames-clause-serves : goal.returns-in-Frames-clause-serves
+returns-in-Frames-clause-serves g c =
+    let old : World = world (g.F.Files.seen c.args.files.now) (g.I.Source.seen c.args.input.now) (g.O.Sink.seen c.args.out.now) in
+    let new : World =
+    world (g.F.Files.seen c.look_up-in-Frames.new.files) (g.I.Source.seen c.args.input.now) (g.O.Sink.seen c.look_up-in-Frames.new.out) in
+    subst (λ (command : Command). Serves (Some (command_read command)) c.look_up-in-Frames.result old new) (sym c.in-Frames.is)
+    (c.look_up-in-Frames.ensures (g.I.Source.seen c.args.input.now))

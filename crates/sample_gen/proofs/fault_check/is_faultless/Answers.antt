@@ -7,14 +7,13 @@ use Rattle.elf_image.proofs.ReadLists.{length-segments_of}
 use Rattle.func_place.specs.Faults.{HasPlacementFault}
 use Rattle.program.specs.Limits.{IsCodeTooLarge}
 use Rattle.program.specs.Program.{program_seen}
-use Rattle.program.specs.declared.unbuilt.Unbuilt.TheVariants.{Nothing}
 use Rattle.program.proofs.Programs.{laid_out}
 use Rattle.sample_gen.proofs.fault_check.is_faultless.Goals as goal
 
 pub new_start-requires-clause-laid : goal.new_start-requires-clause-laid
 new_start-requires-clause-laid c =
     let is = c.requires in
-    laid_out Nothing c.args.program.now.elf.file.now c.args.program.now.elf is.faultless c.args.program.now.funcs.items is.code_is.funcs
+    laid_out c.args.program.now.elf.file.now c.args.program.now.elf is.faultless c.args.program.now.funcs.items is.code_is.funcs
 
 pub new_start-requires-clause-blocks : goal.new_start-requires-clause-blocks
 new_start-requires-clause-blocks c = ((program_seen c.args.program.now).code, refl, c.requires.blocks_are)

@@ -2,14 +2,13 @@ use Rattle.std.proofs.Common.{sym, subst, ℕ, List}
 use Rattle.rv_code.specs.declared.cell.CodeCell.{CodeCell}
 use Rattle.rv_code.specs.declared.placed.Func.{Func}
 use Rattle.program.specs.Program.{IsProgramOf, program_seen}
-use Rattle.program.specs.declared.unbuilt.Unbuilt.TheVariants.{Nothing}
 use Rattle.sample_gen.specs.Faultless.{IsFaultless}
 use Rattle.sample_gen.specs.FoundCode.{HasSampleCode}
 use Rattle.sample_gen.proofs.sampling.is_sample.Goals as goal
 
 pub is_faultless-requires : goal.is_faultless-requires
 is_faultless-requires c =
-    subst (λ (file : List ℕ). IsProgramOf Nothing file (program_seen c.in_ok-program.program))
+    subst (λ (file : List ℕ). IsProgramOf file (program_seen c.in_ok-program.program))
     (sym c.in_ok-program.ensures.program.faultless.read.file_is) c.in_ok-program.ensures.program
 
 pub returns : goal.returns
