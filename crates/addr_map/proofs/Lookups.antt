@@ -4,16 +4,9 @@ use Rattle.std.proofs.Common.{cond, map, length, get_or, slice_index_or, arith, 
 use Rattle.std.specs.Prelude.{◌==◌, find, option_map}
 use Rattle.std.proofs.lemmas.Bool.{cases_lt}
 use Rattle.std.proofs.lemmas.Grind.{common_steps}
-use Rattle.addr_map.specs.internal.Columns.{IsAscending}
 use Rattle.addr_map.specs.internal.Orders.{IsRising, moved_in}
 use Rattle.addr_map.specs.Spans.{moved, is_of}
 use Rattle.addr_map.specs.declared.span.Span.{Span}
-
-pub rising_ascends : (xs : List ℕ) → IsRising xs → IsAscending xs
-rising_ascends xs up i j le lt = ⊎_elim
-    (λ (below : i < j). let less : get_or xs i 0 < get_or xs j 0 = up i j below lt in omega arith)
-    (λ (above : j ≤ i). let same : i ≡ j = omega arith in rw same (omega arith))
-    (cases_lt i j)
 
 moved_none : (inputs outs : List ℕ) (a : ℕ) → ((i : ℕ) → i < length inputs → get_or inputs i 0 ≢ a)
     → moved_in inputs outs a ≡ None

@@ -1,6 +1,6 @@
 -- Which instruction owns a byte, by columns in the order of the new addresses.
 use Rattle.std.proofs.Common.{◌≡◌, ◌+◌, ◌-◌, ◌*◌, ◌^◌, ◌<◌, ◌≤◌, ◌∙◌, ◌⊎◌, ℕ, zero, suc, Bool, true, false, List, [], ◌∷◌}
-use Rattle.std.proofs.Common.{Some, None, inl, inr, map, length, get_or, arith, refl, ap, ⊎_elim}
+use Rattle.std.proofs.Common.{Some, None, inl, map, length, get_or, arith, refl, ap, ⊎_elim}
 use Rattle.std.specs.Prelude.{AllPairs, slice_get}
 use Rattle.std.proofs.lemmas.Bool.{cases_lt}
 use Rattle.std.proofs.lemmas.Grind.{common_steps, get_or_default_zero}
@@ -78,7 +78,7 @@ by_new_parts spans outs lens inputs holders o l n few up disjoint count held =
 pub has : (p : ℕ) (s : Span) → s.out ≤ p → p < s.out + s.len → has_byte p s ≡ true
 has p s le lt = grind (arith, common_steps)
 
-has_bounds : (p : ℕ) (s : Span) → has_byte p s ≡ true → (s.out ≤ p) × (p < s.out + s.len)
+pub has_bounds : (p : ℕ) (s : Span) → has_byte p s ≡ true → (s.out ≤ p) × (p < s.out + s.len)
 has_bounds p s e = grind (arith, common_steps)
 
 has_not : (p : ℕ) (s : Span) → (s.out ≤ p → p < s.out + s.len → ⊥) → has_byte p s ≡ false
@@ -135,9 +135,6 @@ pub record IsHolderBefore (lens : List ℕ) (i holder : ℕ) : Type 0 where
   pub within : holder ≤ i
   pub last : (j : ℕ) → holder < j → j < i → get_or lens j 0 ≡ 0
   pub has : (0 < get_or lens holder 0) ⊎ (holder ≡ 0)
-
-pub holder_first : (lens : List ℕ) → IsHolderBefore lens 0 0
-holder_first lens = record { within = omega arith; last = λ j lt below. absurd (omega arith); has = inr refl }
 
 pub holder_here : (lens : List ℕ) (i : ℕ) → 0 < get_or lens i 0 → IsHolder lens i i
 holder_here lens i some = record { within = omega arith; last = λ j lt le. absurd (omega arith); has = inl some }

@@ -1,10 +1,13 @@
 -- Tables that are walked to lie one behind another.
-use Rattle.std.proofs.Common.{◌≡◌, ◌<◌, ◌≤◌, ◌+◌, ◌-◌, ◌∙◌, ℕ, zero, suc, Bool, true, false, List, [], ◌∷◌, Option, Some, None, refl, sym, ap, arith, length, drop, take, get_or, nat_le, drop-cons, add-one}
+use Rattle.std.proofs.Common.{◌≡◌, ◌≤◌, ◌+◌, ℕ, zero, suc, Bool, true, false, List, [], ◌∷◌, Option, Some, None, refl, arith}
+use Rattle.std.proofs.Common.{length, drop, take, nat_le}
 use Rattle.std.specs.Prelude.{◌&&◌, if◌then◌else◌}
 use Rattle.std.specs.Option.{option_map_or}
+use Rattle.rb_bytes.proofs.ListLemmas.{taken_less}
 use Rattle.table_core.specs.DebugUnits.{Walked, is_whole_unit, unit_length, units_from, walked}
-use Rattle.dw_unit.proofs.UnitEnds.{rest_size, taken_less, whole_size}
-use Rattle.addr_rewrite.specs.TableOrder.{AreInOrder, bytes_end}
+use Rattle.table_core.proofs.UnitsWalk.{whole_fits}
+use Rattle.dw_unit.proofs.UnitEnds.{rest_size}
+use Rattle.addr_rewrite.specs.TableOrder.{AreInOrder}
 
 pub order_less : (from less to : ℕ) (ws : List Walked) → less ≤ from → AreInOrder from to ws → AreInOrder less to ws
 order_less from less to [] h o = omega arith
@@ -16,9 +19,6 @@ order_within from to (w ∷ ws) o = by_bytes w.bytes o.1 where
   by_bytes : (b : Option (List ℕ)) → option_map_or (λ (bytes : List ℕ). w.place + 4 + length bytes) b w.place ≤ to → from ≤ to
   by_bytes None h = let g = o.0 in omega arith
   by_bytes (Some bytes) h = let g = o.0 in omega arith
-
-pub drop_step : (ws : List Walked) (i : ℕ) (d : Walked) → i < length ws → drop i ws ≡ get_or ws i d ∷ drop (i + 1) ws
-drop_step ws i d h = drop-cons ws i d h ∙ ap (λ (k : ℕ). get_or ws i d ∷ drop k ws) (sym (add-one i))
 
 -- of one table: no bytes, or those of a whole one
 end_by : (n place : ℕ) (left : List ℕ) (b : Bool) →
@@ -40,7 +40,7 @@ in_order (suc n) version place size (b ∷ rest) h =
           (if whole && nat_le 2 (unit_length (b ∷ rest)) then Some (take (unit_length (b ∷ rest)) (drop 4 (b ∷ rest))) else None) place) size
           (if whole then units_from n version (place + (unit_length (b ∷ rest) + 4)) (drop (unit_length (b ∷ rest) + 4) (b ∷ rest)) else [])
       by_whole true e ih =
-          let w = whole_size (b ∷ rest) e in
+          let w = whole_fits (b ∷ rest) e in
           let more = end_by (unit_length (b ∷ rest)) place (drop 4 (b ∷ rest)) (nat_le 2 (unit_length (b ∷ rest))) in (
             omega arith,
             omega arith,

@@ -1,6 +1,6 @@
 -- Blocks as stretches of instructions that lie one behind another.
 use Rattle.std.proofs.Common.{◌≡◌, ◌⊎◌, ℕ, ◌+◌, ◌-◌, ◌<◌, ◌≤◌, ◌∙◌, Bool, true, false, List, [], ◌∷◌, length, get_or, take, drop, map, filter}
-use Rattle.std.proofs.Common.{All, AllPairs, Option, Some, None, arith, inl, inr, refl, sym, ap, subst, ⊎_elim}
+use Rattle.std.proofs.Common.{All, AllPairs, Option, Some, None, arith, inl, inr, refl, sym, ap, subst}
 use Rattle.std.specs.Prelude.{◌&&◌, nat_lt, nat_le, slice_get, IsSomeAnd}
 use Rattle.std.specs.Option.{option_map_or}
 use Rattle.std.specs.List.{list_any}
@@ -19,11 +19,11 @@ use Rattle.rv_code.specs.layout.Blocks.{AreBlocks, IsBefore, IsBlock, IsBlockOf,
 use Rattle.rv_code.specs.layout.FunctionLists.{AreLaidOut, IsLaidOut}
 use Rattle.rv_code.specs.layout.ProgramCode.{ProgramCode}
 use Rattle.rv_code.specs.layout.FunctionMembers.{IsOfFunction}
-use Rattle.rv_code.proofs.lists.Blocks.{blocks_of_functions}
+use Rattle.rv_code.proofs.lists.Blocks.{blocks_of_functions, no_overlap}
 use Rattle.rv_code.proofs.lists.Follows.{funcs_apart, inst_bounds, insts_rise, laid_func}
 use Rattle.area_room.specs.EntryNeeds.{has_inst_in}
 use Rattle.area_room.specs.Need.{AreBlocksOf}
-use Rattle.area_room.proofs.RangeCounts.{AreStretches, IsCounted, below, below_up, count, count-length, count-map, counted, one}
+use Rattle.rb_bytes.proofs.RangeCounts.{AreStretches, IsCounted, below, below_up, count, count-length, count-map, counted, one}
 
 -- a block's instructions in its function
 pub record IsPart (funcs : List Func) (b : Block) : Type 0 where
@@ -142,16 +142,6 @@ part_of code b laid is = by (func_of code.funcs b) refl is where
     some = block.some;
     inside = block.inside;
   }
-
--- a later block of a function begins behind an earlier one
-no_overlap : (code : ProgramCode) (b c : Block) (found : Option Func) → b.first < c.first →
-    IsSomeAnd found (λ func. IsBlockOf code func b.first b.last) → IsSomeAnd found (λ func. IsBlockOf code func c.first c.last) →
-    b.last < c.first
-no_overlap code b c None less is other = absurd is
-no_overlap code b c (Some func) less is other = ⊎_elim
-    (λ (apart : b.last < c.first). apart)
-    (λ (inside : c.first ≤ b.last). absurd (is.no_other c.first less inside other.begins))
-    (cases_lt b.last c.first)
 
 -- each instruction of an earlier block stands before the start of a later one
 ends_before : (code : ProgramCode) (b c : Block) → AreLaidOut code.funcs → (is : IsPart code.funcs b) (other : IsPart code.funcs c) →

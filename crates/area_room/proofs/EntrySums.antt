@@ -6,7 +6,7 @@ use Rattle.rv_code.specs.declared.placed.Block.{Block}
 use Rattle.rv_code.specs.declared.placed.Func.{Func}
 use Rattle.cfi_rows.specs.declared.frame_table.Fde.{Fde}
 use Rattle.area_room.specs.EntryNeeds.{entries_need, has_inst_in, is_strictly_between, pieces_of, size_of}
-use Rattle.area_room.proofs.RangeCounts.{count, count-cons, count-permutation}
+use Rattle.rb_bytes.proofs.RangeCounts.{count, count-cons, count-permutation}
 
 -- The order of bounds doesn't matter.
 pub entries_need-permutation : (funcs : List Func) (blocks : List Block) (xs ys : List ℕ) (entries : List Fde) →

@@ -1,35 +1,27 @@
 -- What an unwind table needs, by its entries as the code keeps them.
-use Rattle.std.proofs.Common.{◌≡◌, ℕ, ◌+◌, ◌*◌, ◌∙◌, Bool, true, false, Option, Some, None, List, [], ◌∷◌, length, map, ap, arith, refl, sym}
+use Rattle.std.proofs.Common.{◌≡◌, ℕ, ◌+◌, ◌*◌, ◌∙◌, Bool, true, Option, Some, None, List, [], ◌∷◌, length, map, ap, arith}
+use Rattle.std.proofs.Common.{sym}
 use Rattle.std.proofs.Common.{Bor, codes}
 use Rattle.std.specs.Prelude.{flat_map, sum_by, is_some, if◌then◌else◌}
 use Rattle.std.specs.Option.{option_copied}
-use Rattle.std.proofs.lemmas.List.Sums.{sum_by-cons}
 use Rattle.std.proofs.lemmas.List.Folds.{flat_map-map}
 use Rattle.rv_code.specs.declared.placed.Block.{Block}
 use Rattle.rv_code.specs.declared.placed.Func.{Func}
 use Rattle.elf_image.specs.declared.elf.Elf.{Elf}
 use Rattle.elf_image.specs.declared.section.Section.{Section}
 use Rattle.elf_image.specs.file.SectionNames.{section_called}
-use Rattle.table_core.specs.Sections.{Held}
 use Rattle.cfi_rows.specs.declared.frame_table.Fde.{Fde as ReadFde}
-use Rattle.cfi_rows.specs.declared.frame_table.Frames.{Frames as ReadFrames}
+use Rattle.cfi_rows.specs.declared.listed.Listed.{Listed}
 use Rattle.cfi_rows.specs.Entries.{Fde, Frames}
 use Rattle.cfi_rows.specs.FrameNeed.{bound_count, frame_need, is_block_in, need_of, piece_count, piece_size}
-use Rattle.cfi_rows.specs.Frames.{eh_frames, frames_in, frames_of}
+use Rattle.cfi_rows.specs.Frames.{eh_frames}
 use Rattle.cfi_rows.specs.ReadEntries.{fde_of}
-use Rattle.cfi_rows.specs.ReadFrames.{read_as, section_held}
+use Rattle.cfi_rows.specs.KeptTables.{SaidFrames, said, said_of}
 use Rattle.area_room.specs.EntryNeeds.{bounds_of, entries_need, is_strictly_between, pieces_of, size_of}
 use Rattle.file_room.specs.Numbers.{capped}
-use Rattle.area_room.proofs.RangeCounts.{count}
+use Rattle.rb_bytes.proofs.RangeCounts.{count}
+use Rattle.rb_bytes.proofs.ListLemmas.{sum_by-map}
 use Rattle.area_room.proofs.EntrySums.{count_bounds}
-
-sum_by-map : {X Y : Type 0} (f : Y → ℕ) (g : X → Y) (xs : List X) → sum_by f (map g xs) ≡ sum_by (λ x. f (g x)) xs
-sum_by-map f g [] = refl
-sum_by-map f g (x ∷ xs) =
-    let a = sum_by-cons f (g x) (map g xs) in
-    let b = sum_by-cons (λ x. f (g x)) x xs in
-    let c = sum_by-map f g xs in
-    omega (arith, a, b, c)
 
 module _ (funcs : List Func) (blocks : List Block) (list : List Fde) where
   bounds_are : bounds_of (map fde_of list) ≡ flat_map (λ (f : Fde). f.start ∷ f.end ∷ []) list
@@ -71,15 +63,10 @@ some_copied : (o : Option (Bor Section)) (s : Option Section) → option_copied 
 some_copied None s e f = absurd (cc)
 some_copied (Some x) s e f = ap (λ (p : Option Section). is_some p) (sym e)
 
-read_is : (elf : Elf) (t : ReadFrames) → t.debug ≡ false → section_held t ≡ frames_in false elf → read_as t ≡ eh_frames elf
-read_is elf t kind section =
-    ap (λ (b : Bool). frames_of b (section_held t)) kind ∙ ap (λ (h : Held). frames_of false h) section
-
 -- the need of a file that has the section
-module _ (elf : Elf) (funcs : List Func) (blocks : List Block) (found : Option (Bor Section)) (t : ReadFrames) (entries : ℕ)
+module _ (elf : Elf) (funcs : List Func) (blocks : List Block) (found : Option (Bor Section)) (t : Listed) (entries : ℕ)
     (called : option_copied found ≡ section_called elf.sections.items (codes ".eh_frame")) (there : is_some found ≡ true)
-    (kind : t.debug ≡ false) (section : section_held t ≡ frames_in false elf)
-    (list : t.list.items ≡ map fde_of (read_as t).list) (cies : t.cies ≡ (read_as t).cies)
+    (read : said (eh_frames elf) ≡ said_of t)
     (entries_is : entries ≡ capped (entries_need funcs blocks (bounds_of t.list.items) t.list.items)) where
   all : frame_need elf funcs blocks ≡ need_of funcs blocks (eh_frames elf)
   all =
@@ -90,5 +77,6 @@ module _ (elf : Elf) (funcs : List Func) (blocks : List Block) (found : Option (
       sum ≡ capped (with_ends + entries) → sum ≡ capped (frame_need elf funcs blocks)
   frame_need_is of_cies with_ends sum a b c =
       c ∙ ap (λ (n : ℕ). capped (n + entries)) b ∙ ap (λ (n : ℕ). capped (capped (n + 64) + entries)) a
-      ∙ table_need funcs blocks (read_as t) t.list.items t.cies entries list cies entries_is
-      ∙ ap (λ (f : Frames). capped (need_of funcs blocks f)) (read_is elf t kind section) ∙ ap capped (sym all)
+      ∙ table_need funcs blocks (eh_frames elf) t.list.items t.cies entries (sym (ap (λ (s : SaidFrames). s.list) read))
+      (sym (ap (λ (s : SaidFrames). s.cies) read)) entries_is
+      ∙ ap capped (sym all)

@@ -1,4 +1,3 @@
 pub mod BlockStretches
 pub mod EntrySums
 pub mod FrameNeeds
-pub mod RangeCounts

@@ -11,12 +11,14 @@ ghost use Rattle.file_room.specs.Numbers.{capped};
 use crate::block_counts::count_blocks_in;
 use crate::bounds::{ascending_bounds, count_between};
 use cfi_rows::frame_table::Fde;
+use cfi_rows::read_entries;
 use elf_image::Elf;
 use elf_image::named::EH_FRAME;
 use rb_bytes::fault::NoMemory;
 use rv_code::functions::block_starts;
 use rv_code::{Block, Func};
 use std::alloc::Global;
+use table_core::section::held_by;
 
 /// For the end of a table, the head of its index, and the alignment of both.
 const TABLE_NEED: u64 = 64;
@@ -43,7 +45,8 @@ pub(crate) fn frame_need(
     if elf.section_called(EH_FRAME).is_none() {
         return Ok(0);
     }
-    let table = cfi_rows::frames(alloc, elf, false)?;
+    let held = held_by(elf, EH_FRAME);
+    let table = read_entries(alloc, false, held.address, held.bytes)?;
     let entries = entries_need(alloc, funcs, blocks, &table.list)?;
     let cies = table.cies.saturating_mul(CIE_NEED);
     Ok(cies.saturating_add(TABLE_NEED).saturating_add(entries))

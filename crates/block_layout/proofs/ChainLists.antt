@@ -17,7 +17,6 @@ use Rattle.block_layout.specs.Walks.{AreBetween, IsHotBetween, AreHotBetween, Is
 use Rattle.block_layout.specs.declared.hot_chains.HotChain.{HotChain}
 use Rattle.block_layout.proofs.Paths.{IsWithin, as_path, inside_path}
 use Rattle.rb_bytes.proofs.Permuted.{AllPairs-permutation}
-use Rattle.rb_bytes.proofs.Members.{Contains-nil}
 
 module _ {p : Links} {h : ℕ} {xs ys : List ℕ} (one : IsChain p h xs) (other : IsChain p h ys) where
   same_at : (k : ℕ) → k < length xs → k < length ys → get_or xs k 0 ≡ get_or ys k 0
@@ -65,14 +64,6 @@ pub record AreHotTo (p : Links) (weight : ℕ → ℕ) (start end : ℕ) (chains
   pub each : (h : ℕ) (xs : List ℕ) → start < h → h < end → IsChain p h xs → 0 < greatest weight xs →
       Contains (chain_heads chains) h
   pub rise : AllPairs (λ c d. c.head < d.head) chains
-
-pub hot_none : (p : Links) (weight : ℕ → ℕ) (start : ℕ) (chains : List HotChain) → chains ≡ [] →
-    AreHotTo p weight start (start + 1) chains
-hot_none p weight start chains none = subst (λ (cs : List HotChain). AreHotTo p weight start (start + 1) cs) (sym none) (record {
-  only = λ c is. absurd (Contains-nil c is);
-  each = λ h xs after before is hot. absurd (omega arith);
-  rise = λ i j d less within. absurd (omega arith);
-})
 
 module _ {p : Links} {weight : ℕ → ℕ} {start h : ℕ} {chains : List HotChain} (was : AreHotTo p weight start h chains) where
   still : (c : HotChain) → IsHotBetween p weight start h c → IsHotBetween p weight start (h + 1) c

@@ -17,7 +17,6 @@ use Rattle.block_layout.specs.EdgeCounts.{edge_count}
 use Rattle.block_layout.specs.EdgeLists.{AreCounted, HaveOtherEnds}
 use Rattle.block_layout.specs.declared.edge_counts.Edge.{Edge}
 use Rattle.rb_bytes.proofs.Permuted.{AllPairs-permutation}
-use Rattle.rb_bytes.proofs.Members.{Contains-nil}
 
 abbrev pub ends : Edge → ℕ × ℕ
 ends e = (e.from, e.to)
@@ -26,12 +25,6 @@ ends e = (e.from, e.to)
 pub record IsCountedTo (count : ℕ × ℕ → ℕ) (edges : List (ℕ × ℕ)) (i : ℕ) (taken : List Edge) : Type 0 where
   pub counted : AreCounted count (take i edges) taken
   pub ordered : AllPairs (λ e f. IsPairBefore (ends e) (ends f)) taken
-
-pub counted_none : (count : ℕ × ℕ → ℕ) (edges : List (ℕ × ℕ)) (taken : List Edge) → taken ≡ [] → IsCountedTo count edges 0 taken
-counted_none count edges taken none = subst (λ (es : List Edge). IsCountedTo count edges 0 es) (sym none) (record {
-  counted = record { only = λ e is. absurd (Contains-nil e is); each = λ s t is positive. absurd (Contains-nil (s, t) is) };
-  ordered = λ i j d less within. absurd (omega arith);
-})
 
 module _ (count : ℕ × ℕ → ℕ) (edges : List (ℕ × ℕ)) (i : ℕ) (d : ℕ × ℕ) (within : i < length edges) (taken : List Edge)
     (was : IsCountedTo count edges i taken) where

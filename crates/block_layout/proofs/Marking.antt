@@ -13,16 +13,6 @@ pub record AreMarked (hot : List ℕ) (i start n : ℕ) (marks : List Bool) : Ty
   pub long : length marks ≡ n
   pub marked : (k : ℕ) → k < n → IsTrue (get_or marks k false) ↔ Contains (take i hot) (start + k)
 
-none_in : (x : ℕ) → Contains [] x → ⊥
-none_in x (k, within, is) = omega arith
-
-pub marked_none : (hot : List ℕ) (start n : ℕ) (marks : List Bool) → length marks ≡ n →
-    ((k : ℕ) → k < n → get_or marks k false ≡ false) → AreMarked hot 0 start n marks
-marked_none hot start n marks long none = record {
-  long = long;
-  marked = λ k within. ((λ is. let f = none k within in absurd (cc)), (λ listed. absurd (none_in (start + k) listed)));
-}
-
 pub marked_more : (hot : List ℕ) (i d start n : ℕ) (marks : List Bool) → i < length hot → start ≤ get_or hot i d
     → get_or hot i d - start < n
     → AreMarked hot i start n marks → AreMarked hot (i + 1) start n (set marks (get_or hot i d - start) true)
@@ -72,13 +62,6 @@ marked_more hot i d start n marks within from to was = record {
 -- the numbers from one to before another that aren't in a list
 abbrev pub IsLeft : List ℕ → ℕ → ℕ → ℕ → Type 0
 IsLeft hot start end k = ((start ≤ k) × (k < end)) × (Contains hot k → ⊥)
-
-pub left_none : (hot : List ℕ) (start : ℕ) (part : List ℕ) → part ≡ [] → ListsNumbers (IsLeft hot start start) part
-left_none hot start part none = subst (λ (ks : List ℕ). ListsNumbers (IsLeft hot start start) ks) (sym none) (record {
-  only = λ k listed. absurd (none_in k listed);
-  each = λ k is. let low = is.0.0 in let high = is.0.1 in absurd (omega arith);
-  ordered = λ i j d less within. absurd (omega arith);
-})
 
 module _ (hot : List ℕ) (start n : ℕ) (part : List ℕ) (was : ListsNumbers (IsLeft hot start n) part) where
   pub left_skip : Contains hot n → ListsNumbers (IsLeft hot start (n + 1)) part

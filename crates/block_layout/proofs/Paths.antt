@@ -1,7 +1,7 @@
 -- Paths along links, which end.
 use Rattle.std.proofs.Common.{ℕ, zero, suc, ◌≡◌, ◌≢◌, ◌<◌, ◌≤◌, ◌+◌, ◌-◌, List, [], ◌∷◌, ◌++◌, Some, None, length, get_or, arith}
-use Rattle.std.proofs.Common.{refl, sym, ◌∙◌, ap, ⊎_elim, eqb, true, false, add-one}
-use Rattle.std.proofs.lemmas.Bool.{cases_lt}
+use Rattle.std.proofs.Common.{refl, sym, ◌∙◌, ap, ⊎_elim, eqb, false, add-one}
+use Rattle.std.proofs.lemmas.Bool.{cases_lt, eqb-true}
 use Rattle.std.proofs.lemmas.Grind.{common_steps}
 use Rattle.std.proofs.lemmas.Map.Steps.{length-le_from_distinct_below}
 use Rattle.std.proofs.lemmas.Map.Keys.{IsDistinct-from_apart}
@@ -60,9 +60,6 @@ inside_path {n} {p} {h} {xs} w below a zero lt = rw a.begins below
 inside_path {n} {p} {h} {xs} w below a (suc k) lt =
     w.inside (get_or xs k 0) (get_or xs (suc k) 0) (rw (← add-one) (a.follows k (omega arith)))
 
-eqb_same : (x y : ℕ) → eqb x y ≡ true → x ≡ y
-eqb_same x y e = grind (arith, common_steps)
-
 -- a path from a first block has at most n blocks
 pub path_short : {n : ℕ} {p : Links} {h : ℕ} {xs : List ℕ} → IsWithin n p → p.prev h ≡ None → h < n →
     IsPath p h xs → length xs ≤ n
@@ -71,7 +68,7 @@ path_short {n} {p} {h} {xs} w none below a = length-le_from_distinct_below xs n
     let ix : i < length xs = omega arith in
     rw (get_or_default_zero xs i d ix, get_or_default_zero xs j d jx) (eqb_apart _ _ (once w none a i j lt jx))))
     (λ q m.
-    let at : Contains xs q = Contains-from_any eqb_same q xs m in
+    let at : Contains xs q = Contains-from_any eqb-true q xs m in
     let e : get_or xs at.0 q ≡ get_or xs at.0 0 = get_or_default_zero xs at.0 q at.1 in
     let f : get_or xs at.0 q ≡ q = at.2 in
     let g : get_or xs at.0 0 < n = inside_path w below a at.0 at.1 in

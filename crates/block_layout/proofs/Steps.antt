@@ -1,8 +1,9 @@
 -- One edge after another is taken: it links two blocks, or is left out.
-use Rattle.std.proofs.Common.{ℕ, ◌≡◌, ◌≢◌, ◌<◌, ◌≤◌, ◌+◌, ◌⊎◌, inl, inr, List, Option, Some, None, length, arith, refl, sym, ◌∙◌}
+use Rattle.std.proofs.Common.{ℕ, ◌≡◌, ◌≢◌, ◌<◌, ◌≤◌, ◌+◌, ◌⊎◌, inl, inr, List, Some, None, length, arith, sym, ◌∙◌}
 use Rattle.std.proofs.Common.{ap, ⊎_elim, subst, Bool, true}
 use Rattle.std.proofs.lemmas.Bool.{cases_eq}
 use Rattle.std.proofs.Common.{get_or, set, length-set, get_or-set_same, get_or-set_other}
+use Rattle.rb_bytes.proofs.Options.{option_cases}
 use Rattle.block_layout.specs.FirstLinks.{Taken, Refused, IsLinked, KnowsEnds, told, LinksLead, IsEdgeNumber, ends_of_edge}
 use Rattle.block_layout.specs.Links.{Links}
 use Rattle.block_layout.specs.declared.edge_counts.Edge.{Edge}
@@ -270,10 +271,6 @@ join_step {es} {n} {IsFirst} {k} {s} {t} {a} {b} at r j f =
       head_len = rw j.head (rw length-set r.head_len);
       tail_len = rw j.tail (rw length-set r.tail_len);
     }
-
-option_cases : (o : Option ℕ) → (o ≡ None) ⊎ ((u : ℕ) × (o ≡ Some u))
-option_cases None = inl refl
-option_cases (Some u) = inr (u, refl)
 
 pub skip_step : {es : List Edge} {n : ℕ} {IsFirst : ℕ → Type 0} {k s t : ℕ} {a : ChainLinks} → IsEdgeNumber es k s t → s < n →
     t < n

@@ -6,6 +6,7 @@ use Rattle.std.proofs.lemmas.Bool.{and_parts, cases_lt}
 use Rattle.std.proofs.lemmas.List.{get_or_append_left, get_or-append_right, length-append}
 use Rattle.std.proofs.lemmas.List.Elements.{All-contains}
 use Rattle.std.proofs.lemmas.Option.{slice_get_within, get_or_from_slice_get}
+use Rattle.rb_bytes.proofs.ListLemmas.{contains_at}
 use Rattle.rv_code.specs.declared.layout.Form.{Form}
 use Rattle.rv_code.specs.declared.layout.Form.TheVariants as form
 use Rattle.rv_code.specs.declared.placed.Placed.{Placed}
@@ -26,7 +27,7 @@ use Rattle.branch_fixup.specs.Lookup.{ArePlaces, Finds, IsHolder}
 use Rattle.branch_fixup.specs.Strips.{Strip, strips_of, insts_in, first_in}
 use Rattle.branch_fixup.proofs.Falls.{code_there}
 use Rattle.branch_fixup.proofs.Holders.{first_there, last_there, held, Held, holds, start_is}
-use Rattle.branch_fixup.proofs.Lists.{contains_at, flat_at}
+use Rattle.branch_fixup.proofs.Lists.{flat_at}
 use Rattle.branch_fixup.proofs.Planned.{StripOf, in_block, planned, strip_follows}
 
 -- A strip's instructions are code.

@@ -4,7 +4,7 @@ use Rattle.std.proofs.Common.{false, refl, sym, ap, ◌∙◌, subst, arith, get
 use Rattle.std.specs.Prelude.{map, IfSome, slice_set, ◌==◌, if◌then◌else◌, nat_lt, nat_le}
 use Rattle.std.specs.List.{list_all}
 use Rattle.std.specs.Option.{option_map_or}
-use Rattle.std.proofs.lemmas.Bool.{and_parts, leb-true, ltb-true, false_from_ne_true}
+use Rattle.std.proofs.lemmas.Bool.{and_parts, leb-true, ltb-true, false_from_ne_true, both_ways}
 use Rattle.rv_code.specs.declared.layout.Form.{Form}
 use Rattle.rv_code.specs.declared.layout.Form.TheVariants as form
 use Rattle.rv_code.specs.declared.layout.Size.TheVariants.{Half, Full, Long}
@@ -19,7 +19,7 @@ use Rattle.branch_fixup.specs.Growth.{end_at, form_at, from_at, to_at, form_reac
 use Rattle.branch_fixup.specs.Strips.{Strip, first_in, pieces_of, pieces_of_strip, spans_of}
 use Rattle.rv_code.proofs.lists.Follows.{before_of}
 use Rattle.branch_fixup.proofs.Laid.{AreOnce, placed_from}
-use Rattle.branch_fixup.proofs.Grown.{no, reach_if}
+use Rattle.branch_fixup.proofs.Grown.{reach_if}
 
 pub split_placed : (f : ℕ → ℕ) (a : ℕ) (xs ys : List Piece) → PlacedFrom f a (xs ++ ys) →
     PlacedFrom f a xs × PlacedFrom f (end_from a xs) ys
@@ -108,7 +108,7 @@ shifted_short reach b f t h = false_from_ne_true (reaches reach (b + f) (b + t))
     let p = and_parts (nat_lt (b + t) (b + f + reach)) (nat_le (b + f) (b + t + reach)) k in
     let x = ltb-true (b + t) (b + f + reach) p.0 in
     let y = leb-true (b + f) (b + t + reach) p.1 in
-    no (reaches reach f t) h (reach_if reach f t (omega (arith, x)) (omega (arith, y))))
+    both_ways (reaches reach f t) h (reach_if reach f t (omega (arith, x)) (omega (arith, y))))
 
 -- where the branch or jump of a form leads
 abbrev pub leads_to : (ℕ → ℕ) → Placed → Form → ℕ

@@ -4,11 +4,12 @@ use Rattle.std.proofs.Common.{sym, ap, ◌∙◌, subst, arith, inl, inr, ◌⊎
 use Rattle.std.specs.Prelude.{slice_get, slice_index_or, IsSomeAnd, ◌==◌, ◌&&◌, nat_le}
 use Rattle.std.proofs.lemmas.Bool.{cases_lt, eq-eqb, eqb-true, and_parts, and_from, leb-true, le-leb}
 use Rattle.std.proofs.lemmas.Option.{slice_get_within, get_or_from_slice_get, same_Some}
+use Rattle.rb_bytes.proofs.ListLemmas.{contains_at}
 use Rattle.rv_code.specs.declared.placed.Func.{Func}
 use Rattle.rv_code.specs.declared.placed.Block.{Block}
 use Rattle.rv_code.specs.layout.ProgramCode.{ProgramCode}
 use Rattle.rv_code.specs.layout.Blocks.{Begins, at_start, IsBlockOf, IsBlock, IsBefore, AreBlocks}
-use Rattle.branch_fixup.proofs.Lists.{contains_at, look}
+use Rattle.branch_fixup.proofs.Lists.{look}
 use Rattle.rv_code.proofs.lists.Follows.{at_contains}
 
 -- a block of a list, with its function

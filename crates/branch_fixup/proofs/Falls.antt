@@ -1,7 +1,7 @@
 -- Into which address an instruction falls.
 use Rattle.std.proofs.Common.{◌≡◌, ℕ, suc, ◌+◌, ◌<◌, ◌≤◌, List, [], ◌∷◌, length, Option, Some, None, Bool, true, false, refl, sym}
 use Rattle.std.proofs.Common.{ap, ◌∙◌, subst, arith, inl, inr}
-use Rattle.std.specs.Prelude.{slice_get, ◌==◌, not, if◌then◌else◌}
+use Rattle.std.specs.Prelude.{slice_get, ◌==◌, if◌then◌else◌}
 use Rattle.std.specs.Option.{option_map_or}
 use Rattle.std.proofs.lemmas.Bool.{cases_order, eqb-true, eq-eqb}
 use Rattle.std.proofs.lemmas.List.Elements.{All-contains}
@@ -15,9 +15,9 @@ use Rattle.branch_fixup.specs.BlockInsts.{func_starts_at}
 use Rattle.branch_fixup.specs.Endings.{fall_of}
 use Rattle.rv_code.proofs.lists.Follows.{follow_at, follow_next, follow_last, laid_func, inst_length, some_length}
 use Rattle.rv_code.proofs.lists.Follows.{funcs_apart, at_contains}
-use Rattle.branch_fixup.proofs.Lists.{contains_at, at_flat, flat_at, find_found, found_find}
+use Rattle.branch_fixup.proofs.Lists.{at_flat, flat_at, find_found, found_find}
 use Rattle.rb_bytes.proofs.Tests.{bool_same}
-use Rattle.rb_bytes.proofs.ListLemmas.{slice_get_found}
+use Rattle.rb_bytes.proofs.ListLemmas.{slice_get_found, contains_at}
 
 -- An instruction of a function, by its places.
 pub record CodeAt (funcs : List Func) (a : ℕ) : Type 0 where
@@ -158,11 +158,3 @@ below_limit funcs f i func p laid at_f at_i =
     (at_contains funcs f func at_f) in
     let at = (follow_at func.start func.insts.items func.end i p (laid_func funcs f func laid at_f).follow at_i).1 in
     omega (arith, low, at)
-
-pub not_false : (b : Bool) → not b ≡ false → b ≡ true
-not_false true h = refl
-not_false false h = absurd (cc)
-
-pub not_true : (b : Bool) → not b ≡ true → b ≡ false
-not_true true h = absurd (cc)
-not_true false h = refl

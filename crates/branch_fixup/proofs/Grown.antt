@@ -1,17 +1,14 @@
 -- What isn't enough stays so while forms grow.
-use Rattle.std.proofs.Common.{◌≡◌, ℕ, zero, suc, ◌+◌, ◌-◌, ◌<◌, ◌≤◌, List, length, Option, Some, None, Bool, true, false, refl}
-use Rattle.std.proofs.Common.{sym, ◌∙◌, subst, arith, inl, inr}
+use Rattle.std.proofs.Common.{◌≡◌, ℕ, zero, suc, ◌+◌, ◌-◌, ◌<◌, ◌≤◌, List, length, Option, Some, None, true, false, refl}
+use Rattle.std.proofs.Common.{subst, arith, inl, inr}
 use Rattle.std.specs.Prelude.{nat_lt, nat_le}
 use Rattle.std.specs.Option.{option_map_or}
 use Rattle.std.proofs.lemmas.Bool.{and_parts, and_from, leb-true, ltb-true, le-leb, lt-ltb, cases_lt, cases_order}
-use Rattle.std.proofs.lemmas.Bool.{false_from_ne_true}
+use Rattle.std.proofs.lemmas.Bool.{false_from_ne_true, both_ways}
 use Rattle.rv_code.specs.declared.layout.Form.{Form}
 use Rattle.branch_fixup.specs.declared.growth.BlockEnd.{BlockEnd}
 use Rattle.branch_fixup.specs.Distances.{reaches}
 use Rattle.branch_fixup.specs.Growth.{end_at, block_length, from_at, to_at, form_reach, is_enough, AreBlockEnds, block_offset}
-
-pub no : (b : Bool) → b ≡ false → b ≡ true → ⊥
-no b h k = let e : false ≡ true = sym h ∙ k in cc
 
 pub reach_if : (reach f t : ℕ) → t < f + reach → f ≤ t + reach → reaches reach f t ≡ true
 reach_if reach f t h k = and_from (nat_lt t (f + reach)) (nat_le f (t + reach)) (lt-ltb t (f + reach) h) (le-leb f (t + reach) k)
@@ -26,13 +23,13 @@ short_more reach f t g u (ahead a b c) h =
     false_from_ne_true (reaches reach g u) (λ k.
     let p = and_parts (nat_lt u (g + reach)) (nat_le g (u + reach)) k in
     let x = ltb-true u (g + reach) p.0 in
-    no (reaches reach f t) h (reach_if reach f t (omega (arith, a, b, c, x)) (omega (arith, a))))
+    both_ways (reaches reach f t) h (reach_if reach f t (omega (arith, a, b, c, x)) (omega (arith, a))))
 short_more reach f t g u (back a b c) h =
     false_from_ne_true (reaches reach g u) (λ k.
     let p = and_parts (nat_lt u (g + reach)) (nat_le g (u + reach)) k in
     let x = leb-true g (u + reach) p.1 in
     let y = ltb-true u (g + reach) p.0 in
-    no (reaches reach f t) h (reach_if reach f t (omega (arith, a, b, c, x, y)) (omega (arith, a, b, c, x))))
+    both_ways (reaches reach f t) h (reach_if reach f t (omega (arith, a, b, c, x, y)) (omega (arith, a, b, c, x))))
 
 -- forms that are no shorter
 pub record IsBelow (ts : List BlockEnd) (xs ys : List Form) : Type 0 where

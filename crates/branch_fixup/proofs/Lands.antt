@@ -7,6 +7,7 @@ use Rattle.std.specs.List.{list_all}
 use Rattle.std.proofs.lemmas.Bool.{cases_order, eqb-true, ne_eqb}
 use Rattle.std.proofs.lemmas.List.Elements.{All-contains, Contains-append_left}
 use Rattle.std.proofs.lemmas.Option.{slice_get_within, get_or_from_slice_get}
+use Rattle.std.proofs.lemmas.List.{drop_all}
 use Rattle.rv_code.specs.declared.action.Action.{Action}
 use Rattle.rv_code.specs.declared.action.Action.TheVariants.{Compute, Branch, Jump, JumpTo, Upper, UpperPc, Load, Store}
 use Rattle.rv_code.specs.declared.action.Action.TheVariants.{SystemCall, Breakpoint}
@@ -122,16 +123,10 @@ kept_goes_on alone action.Fence fall t next j h a to is = absurd (cc)
 kept_goes_on alone SystemCall fall t next j h a to is = absurd (cc)
 kept_goes_on alone Breakpoint fall t next j h a to is = absurd (cc)
 
-whole_first : (code : ProgramCode) (func : Func) (i : ℕ) → func.whole ≡ true → Begins code func i → i ≡ 0
+pub whole_first : (code : ProgramCode) (func : Func) (i : ℕ) → func.whole ≡ true → Begins code func i → i ≡ 0
 whole_first code func i whole (at_start e) = e
 whole_first code func i whole (named other h) = absurd (let c : true ≡ false = sym whole ∙ other in cc)
 whole_first code func i whole (after_end other j e h) = absurd (let c : true ≡ false = sym whole ∙ other in cc)
-
-drop_none : (j : ℕ) (xs : List Strip) → length xs ≤ j → drop j xs ≡ []
-drop_none zero [] h = refl
-drop_none zero (x ∷ xs) h = absurd (omega (arith, h))
-drop_none (suc j) [] h = refl
-drop_none (suc j) (x ∷ xs) h = drop_none j xs (omega (arith, h))
 
 one_lands : (l : Leap) → lands l ≡ true → list_all lands (l ∷ []) ≡ true
 one_lands l h = rw h refl
@@ -521,7 +516,7 @@ module _ (code : ProgramCode) (blocks : List Block) (order : List ℕ) (laid : A
       (pieces_of (drop k ss) (drop k fs)) ≡ base + block_offset ts fs (length ss))
   lands_from zero k sum =
       let e : k ≡ length ss = omega (arith, sum) in
-      rw (drop_none k ss (omega (arith, e))) (tt, ap (λ (j : ℕ). base + block_offset ts fs j) e)
+      rw (drop_all k ss (omega (arith, e))) (tt, ap (λ (j : ℕ). base + block_offset ts fs j) e)
   lands_from (suc n) k sum =
       let (s, at) = slice_get_found ss k (omega (arith, sum)) in
       let rest = lands_from n (suc k) (omega (arith, sum)) in

@@ -15,13 +15,12 @@ mod Lands
 mod Mapped
 pub mod Map
 mod Made
-mod Nearness
 mod Examples
 pub mod Covered
-mod Starts
 pub mod Falls
 pub mod Orders
 pub mod Planned
 pub mod Laid
 pub mod BlockSpans
 pub mod LaidBlocks
+pub mod WholeMoves

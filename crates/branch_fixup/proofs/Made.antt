@@ -5,6 +5,7 @@ use Rattle.std.specs.Prelude.{slice_get, IsTrue, sum_by}
 use Rattle.std.specs.Option.{option_map_or}
 use Rattle.std.proofs.Math.ListN.{get_or-map}
 use Rattle.std.proofs.lemmas.Option.{slice_get_within, get_or_from_slice_get}
+use Rattle.std.proofs.lemmas.List.{take_at}
 use Rattle.rv_code.specs.declared.layout.Form.{Form}
 use Rattle.rv_code.specs.declared.layout.Form.TheVariants as form
 use Rattle.rv_code.specs.declared.placed.Func.{Func}
@@ -57,9 +58,6 @@ module _ (funcs : List Func) (blocks : List Block) (order : List ℕ) (laid : Ar
 
   ends : AreEnds ss (length ss) ts zs
   ends = subst (λ (n : ℕ). AreEnds ss n ts zs) (sym strips_length) made
-
-  pub forms_length : length zs ≡ length order
-  forms_length = made.forms
 
   abbrev size : ℕ → ℕ
   size k = option_map_or (input_bytes funcs) (slice_get blocks k) 0
@@ -212,16 +210,19 @@ is_made funcs blocks order base g slice ts now zs forms_now fs e d h made grown 
       short = are_short funcs blocks order g.laid g.blocks_of g.perm base ts zs made_2 fs grown_2 same_2;
     }
 
--- what a slice of a vector leaves in it
-seam : {X : Type 0} (n : ℕ) (xs ys : List X) → length xs ≡ n → take n (xs ++ ys) ≡ xs
-seam zero [] ys e = refl
-seam zero (x ∷ xs) ys e = absurd (omega (arith, e))
-seam (suc n) [] ys e = absurd (omega (arith, e))
-seam (suc n) (x ∷ xs) ys e = ap (λ (l : List _). x ∷ l) (seam n xs ys (omega (arith, e)))
+-- the forms that were found, and the vector in which they then stand
+pub record AreFound (funcs : List Func) (blocks : List Block) (order : List ℕ) (base : ℕ) (fs kept : List Form) : Type 0 where
+  pub made : IsMade funcs blocks order base fs
+  pub same : kept ≡ fs
 
--- as many forms as there were stand in their vector alone
-pub kept_forms : (order slice : List ℕ) (fs rest : List Form) (len : ℕ) → length fs ≡ length order → len ≡ length slice →
-    slice ≡ order → take len (fs ++ rest) ≡ fs
-kept_forms order slice fs rest len count old same =
-    let as_many = ap length same in
-    seam len fs rest (omega (arith, count, old, as_many))
+pub are_found : (funcs : List Func) (blocks : List Block) (order : List ℕ) (base : ℕ) → IsGiven funcs blocks order base →
+    (slice : List ℕ) (ts now : List BlockEnd) (zs forms_now fs : List Form) (len : ℕ) → slice ≡ order → now ≡ ts → forms_now ≡ zs →
+    AreEnds (strips_of funcs blocks slice) (length slice) ts zs → AreGrown now fs →
+    map end_of_form fs ≡ map end_of_form forms_now → AreEnough now fs → len ≡ length slice →
+    AreFound funcs blocks order base fs (take len (fs ++ drop (length fs) zs))
+are_found funcs blocks order base g slice ts now zs forms_now fs len e d h ends grown same enough old =
+    let m : IsMade funcs blocks order base fs =
+    is_made funcs blocks order base g slice ts now zs forms_now fs e d h ends grown same enough in
+    let count = m.count in
+    let as_many = ap length e in
+    record { made = m; same = take_at fs (drop (length fs) zs) len (omega (arith, count, old, as_many)) }

@@ -1,22 +1,19 @@
 -- A plan's order: all places of a list, each once.
-use Rattle.std.proofs.Common.{◌≡◌, ◌≢◌, ℕ, zero, suc, ◌+◌, ◌<◌, List, [], ◌∷◌, ◌++◌, length, Some, sym, ap, ◌∙◌, subst, arith}
+use Rattle.std.proofs.Common.{◌≡◌, ◌≢◌, ℕ, zero, suc, ◌+◌, ◌<◌, List, [], ◌∷◌, ◌++◌, length, Some, sym, ap, ◌∙◌, arith}
 use Rattle.std.proofs.Common.{inl, inr, All, zero-add}
-use Rattle.std.specs.Prelude.{slice_get, Contains, AllPairs}
-use Rattle.std.specs.List.{range_with_len, remove}
-use Rattle.std.specs.List.Sorted.{IsPermutation}
+use Rattle.std.specs.Prelude.{slice_get, AllPairs}
+use Rattle.std.specs.List.{range_with_len}
 use Rattle.std.proofs.lemmas.Bool.{cases_order}
 use Rattle.std.proofs.lemmas.List.FromFn.{length-range_with_len, get_or-range_with_len}
 use Rattle.std.proofs.lemmas.List.Elements.{All-contains}
-use Rattle.std.proofs.lemmas.List.Sorted.{All-permutation, Contains-permutation, IsPermutation-cons, IsPermutation-refl}
-use Rattle.std.proofs.lemmas.List.Sorted.{IsPermutation-remove, IsPermutation-sym, IsPermutation-to_front, IsPermutation-trans}
+use Rattle.std.proofs.lemmas.List.Sorted.{All-permutation, Contains-permutation}
 use Rattle.std.proofs.lemmas.List.Sorted.{length_permutation}
 use Rattle.std.proofs.lemmas.Option.{slice_get_within, get_or_from_slice_get}
 use Rattle.rb_bytes.proofs.Permuted.{AllPairs-permutation}
+use Rattle.rb_bytes.proofs.ListLemmas.{contains_at}
 use Rattle.rv_code.specs.declared.placed.Block.{Block}
 use Rattle.rv_code.specs.layout.BlockOrders.{HasAllBlocks}
-use Rattle.branch_fixup.proofs.Lists.{contains_at}
 use Rattle.rv_code.proofs.lists.Follows.{at_contains}
-use Rattle.rb_bytes.proofs.Members.{Contains-cons_cases}
 
 range_below : (n : ℕ) → All (λ x. x < n) (range_with_len 0 n)
 range_below n = λ k d within. let l = length-range_with_len 0 n in let e =
@@ -75,31 +72,3 @@ range_more a zero = ap (λ (x : ℕ). x ∷ []) (let e : a ≡ a + 0 = omega ari
 range_more a (suc n) =
     ap (λ (l : List ℕ). a ∷ l) (range_more (a + 1) n)
     ∙ ap (λ (x : ℕ). a ∷ (range_with_len (a + 1) n ++ x ∷ [])) (let e : a + 1 + n ≡ a + suc n = omega arith in e)
-
-pub order_by_once : (n : ℕ) (order : List ℕ) → All (λ m. m < n) order → ((m : ℕ) → m < n → Contains order m) →
-    AllPairs (λ x y. x ≢ y) order → IsPermutation (range_with_len 0 n) order
-order_by_once zero [] below has differ = IsPermutation-refl []
-order_by_once zero (x ∷ xs) below has differ = absurd (let h = below 0 0 (omega arith) in omega (arith, h))
-order_by_once (suc n) order below has differ =
-    let (i, within, is) = has n (omega arith) in
-    let rest : List ℕ = remove order i in
-    let moved : IsPermutation order (n ∷ rest) = IsPermutation-remove order i n within (sym is) in
-    let below_2 = All-permutation (λ m. m < suc n) order (n ∷ rest) moved below in
-    let differ_2 = AllPairs-permutation (λ (x y : ℕ). x ≢ y) (λ x y ne e. ne (sym e)) order (n ∷ rest) moved differ in
-    let low : All (λ m. m < n) rest = λ k d inside. (let b = below_2 (suc k) d (omega (arith, inside)) in let ne =
-    differ_2 0 (suc k) d (omega arith) (omega (arith, inside)) in omega (arith, b, ne)) in
-    let here : (m : ℕ) → m < n → Contains rest m = λ m less. elim (Contains-cons_cases n rest m
-    (Contains-permutation order (n ∷ rest) m moved (has m (omega (arith, less))))) [
-      | inl same ↦ absurd (omega (arith, same, less))
-      | inr later ↦ later
-    ] in
-    let apart : AllPairs (λ x y. x ≢ y) rest = λ j k d less inside. differ_2 (suc j) (suc k) d (omega (arith, less))
-    (omega (arith, inside)) in
-    let before = order_by_once n rest low here apart in
-    let all : range_with_len 0 (suc n) ≡ range_with_len 0 n ++ n ∷ [] = range_more 0 n
-    ∙ ap (λ (x : ℕ). range_with_len 0 n ++ x ∷ []) (zero-add n) in
-    subst (λ (l : List ℕ). IsPermutation l order) (sym all)
-    (IsPermutation-trans (range_with_len 0 n ++ n ∷ []) (n ∷ range_with_len 0 n) order
-    (IsPermutation-to_front (range_with_len 0 n) n)
-    (IsPermutation-trans (n ∷ range_with_len 0 n) (n ∷ rest) order (IsPermutation-cons n
-    (range_with_len 0 n) rest before) (IsPermutation-sym order (n ∷ rest) moved)))

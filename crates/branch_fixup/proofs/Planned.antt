@@ -16,9 +16,9 @@ use Rattle.branch_fixup.specs.Endings.{fall_of}
 use Rattle.branch_fixup.specs.Strips.{Strip, strip_of, strips_of, insts_in, first_in}
 use Rattle.branch_fixup.proofs.Covered.{BlockOf, block_of}
 use Rattle.rv_code.proofs.lists.Follows.{before_of, follow_drop, follow_take, laid_func, inst_length, at_contains}
-use Rattle.branch_fixup.proofs.Lists.{contains_at, at_drop, at_take, take_in, take_one_more}
+use Rattle.branch_fixup.proofs.Lists.{at_drop, at_take, take_in, take_one_more}
 use Rattle.branch_fixup.proofs.Orders.{order_within}
-use Rattle.rb_bytes.proofs.ListLemmas.{slice_get_found}
+use Rattle.rb_bytes.proofs.ListLemmas.{slice_get_found, contains_at}
 
 -- The strip of a block.
 

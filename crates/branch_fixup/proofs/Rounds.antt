@@ -4,7 +4,7 @@ use Rattle.std.proofs.Common.{Bool, true, false, refl, sym, ap, ◌∙◌, subst
 use borrow.Author.Count.{below_more}
 use Rattle.std.specs.Prelude.{slice_set, IfSome, map, sum_by, MatchBool}
 use Rattle.std.proofs.lemmas.Bool.{cases_lt, cases_eq, eq-eqb}
-use Rattle.std.proofs.lemmas.List.Sums.{sum_by-set, sum_by_more, sum_by_more_le, sum_by-take-le}
+use Rattle.std.proofs.lemmas.List.Sums.{sum_by-set, sum_by_more, sum_by-take-le}
 use Rattle.std.proofs.lemmas.List.{get_or_append_left, get_or-append_right, get_or-set_same, get_or-set_other, set-get_or}
 use Rattle.std.proofs.lemmas.List.{set-set, length-set}
 use Rattle.rv_code.specs.declared.layout.Form.{Form}
@@ -54,12 +54,6 @@ place_low ts fs block_ends i within =
     let part = sum_by-take-le most_of ts i in
     let low = block_ends.low in
     omega (arith, most, part, low)
-
-pub before_low : (ts : List BlockEnd) → AreBlockEnds ts → (i : ℕ) → i < length ts → (end_at ts i).before < 2 ^ 62
-before_low ts block_ends i within =
-    let part = sum_by_more_le most_of ts i (record { before = 0; len = 0; to = 0; offset = 0 }) within in
-    let low = block_ends.low in
-    omega (arith, part, low)
 
 pub pushed : (ts : List BlockEnd) (fs : List Form) (v w : List ℕ) (k at : ℕ) → length v ≡ k + 1 →
     ((i : ℕ) → i ≤ k → get_or v i 0 ≡ block_offset ts fs i) → at ≡ block_offset ts fs (k + 1) → w ≡ v ++ at ∷ [] → (i : ℕ) →

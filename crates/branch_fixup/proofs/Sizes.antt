@@ -5,7 +5,7 @@ use Rattle.std.specs.Prelude.{slice_get, Contains, sum_by, is_some, ◌&&◌, no
 use Rattle.std.specs.Option.{option_map_or}
 use Rattle.std.specs.List.{range_with_len}
 use Rattle.std.proofs.lemmas.List.Elements.{Contains-append_left}
-use Rattle.std.proofs.lemmas.List.Sums.{sum_by-append, sum_by-cons, sum_by-take-le, sum_by-take-drop}
+use Rattle.std.proofs.lemmas.List.Sums.{sum_by-append, sum_by-cons}
 use Rattle.std.proofs.lemmas.List.Sorted.{sum_by-IsPermutation}
 use Rattle.rv_code.specs.declared.action.Action.{Action}
 use Rattle.rv_code.specs.declared.action.Action.TheVariants.{Compute, Branch, Jump, JumpTo, Upper, UpperPc, Load, Store}
@@ -23,10 +23,10 @@ use Rattle.rv_code.specs.layout.FunctionLists.{HasLength, AreLaidOut}
 use Rattle.rv_code.specs.layout.Flow.{action_at, target_of, falls_at, is_branch}
 use Rattle.rv_code.specs.layout.WorstSizes.{added_jump, worst_length, worst_size_of_block}
 use Rattle.rv_code.specs.layout.BlockOrders.{HasAllBlocks}
-use Rattle.branch_fixup.specs.Endings.{End, Kept, Goes, LeftOut, begins_at, ending, fall_of}
+use Rattle.branch_fixup.specs.Endings.{Kept, Goes, LeftOut, begins_at, ending, fall_of}
 use Rattle.branch_fixup.specs.declared.growth.BlockEnd.{BlockEnd}
 use Rattle.branch_fixup.specs.Growth.{most_of, end_at}
-use Rattle.branch_fixup.specs.Inputs.{worst_between, worst_total}
+use Rattle.branch_fixup.specs.Inputs.{worst_total}
 use Rattle.branch_fixup.specs.Pieces.{piece_length}
 use Rattle.branch_fixup.specs.Strips.{Strip, first_in, insts_in, is_alone}
 use Rattle.rv_code.proofs.lists.Follows.{before_of, follow_at, laid_func, some_length}
@@ -119,10 +119,6 @@ kept_falls false alone (Store n rs1 rs2 imm) None t next h = absurd (cc)
 kept_falls false alone action.Fence None t next h = absurd (cc)
 kept_falls false alone SystemCall None t next h = absurd (cc)
 kept_falls false alone Breakpoint None t next h = absurd (cc)
-
-whole_kept : (alone : Bool) (x : Action) (fall t next : Option ℕ) (e : End) → e ≡ ending true alone x fall t next →
-    (j : Bool) × (e ≡ Kept j)
-whole_kept alone x fall t next e h = (_, h)
 
 -- the last instruction, with what is added after it
 last_within : (s : Strip) (next : Option ℕ) (g : Form) → s.last.len ≤ 4 → IsOfTable s next g →
@@ -314,14 +310,6 @@ order_sum w blocks order perm =
 pub total_is : (funcs : List Func) (blocks : List Block) (order : List ℕ) → HasAllBlocks blocks order →
     worst_total funcs blocks order ≡ sum_by (worst_size_of_block funcs) blocks
 total_is funcs blocks order perm = order_sum (worst_size_of_block funcs) blocks order perm
-
-pub between_total : (funcs : List Func) (blocks : List Block) (order : List ℕ) (i j : ℕ) →
-    worst_between funcs blocks order i j ≤ worst_total funcs blocks order
-between_total funcs blocks order i j =
-    let w : ℕ → ℕ = λ k. option_map_or (worst_size_of_block funcs) (slice_get blocks k) 0 in
-    let a = sum_by-take-le w (drop i order) (j + 1 - i) in
-    let b = sum_by-take-drop w order i in
-    omega (arith, a, b)
 
 -- the sum of what block ends need at most
 pub block_ends_sum : (w : ℕ → ℕ) (ts : List BlockEnd) (order : List ℕ) → length ts ≡ length order →

@@ -7,7 +7,6 @@ use Rattle.std.proofs.lemmas.Bool.{and_parts, leb-true, ltb-true, ltb-false, cas
 use Rattle.std.proofs.lemmas.List.{get_or-set_same, get_or-set_other}
 use Rattle.rv_code.specs.declared.layout.Form.{Form}
 use Rattle.branch_fixup.specs.declared.growth.BlockEnd.{BlockEnd}
-use Rattle.branch_fixup.specs.Forms.{FitsLength}
 use Rattle.branch_fixup.specs.Pieces.{piece_length}
 use Rattle.branch_fixup.specs.Growth.{end_at, form_at, block_length, longer, is_enough, from_at, to_at, form_reach, left_of}
 use Rattle.branch_fixup.specs.Growth.{block_offset}
@@ -15,7 +14,7 @@ use Rattle.branch_fixup.specs.Growth.{AreBlockEnds, AreGrown}
 use Rattle.branch_fixup.specs.Distances.{reaches}
 use Rattle.branch_fixup.specs.Ways.{crosses, is_enough_by, AreStarts, IsLonger, AreLonger, AreLongerOver}
 use Rattle.branch_fixup.proofs.Grown.{IsBelow, ahead, back, gap, rises, short_more}
-use Rattle.branch_fixup.proofs.Rounds.{at_other, at_same, below_grow, grow_step, grows, left-grow, longer_length, place_low}
+use Rattle.branch_fixup.proofs.Rounds.{at_other, at_same, below_grow, grow_step, place_low}
 use Rattle.rb_bytes.proofs.ListLemmas.{zeros}
 
 -- The places of forms are starts.
@@ -245,12 +244,6 @@ later_over ts places fs mores p bytes k more j le j_in over = more j (omega (ari
 
 -- What growths leave to grow.
 
-pub fewer_left : (ts : List BlockEnd) (fs : List Form) (k : ℕ) → k < length fs → FitsLength (end_at ts k).len (form_at fs k) →
-    is_enough ts fs k (form_at fs k) ≡ false → sum_by left_of (slice_set fs k (longer (form_at fs k))) < sum_by left_of fs
-fewer_left ts fs k k_in fits short =
-    let e = left-grow ts fs fs k k_in (grows ts fs k (end_at ts k).len (form_at fs k) fits short) in
-    omega (arith, e)
-
 pub fewer_yes : (grew : Bool) (olds fs news : List Form) →
     MatchBool grew (sum_by left_of fs < sum_by left_of olds) (fs ≡ olds) → sum_by left_of news < sum_by left_of fs →
     sum_by left_of news < sum_by left_of olds
@@ -262,11 +255,6 @@ pub fewer_no : (grew : Bool) (olds fs news : List Form) → news ≡ fs →
     MatchBool grew (sum_by left_of news < sum_by left_of olds) (news ≡ olds)
 fewer_no grew olds fs news e h =
     subst (λ (l : List Form). MatchBool grew (sum_by left_of l < sum_by left_of olds) (l ≡ olds)) (sym e) h
-
--- the bytes by which a form gets longer
-pub more_bytes : (len : ℕ) (f : Form) → piece_length len (longer f) - piece_length len f + piece_length len f
-    ≡ piece_length len (longer f)
-more_bytes len f = let h = longer_length len f in omega (arith, h)
 
 -- No way is known to be longer at the start.
 pub none_longer : (ts : List BlockEnd) (places : List ℕ) (fs : List Form) (mores : List ℕ) → AreBlockEnds ts →

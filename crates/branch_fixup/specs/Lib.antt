@@ -9,3 +9,4 @@ pub mod BlockInsts
 pub mod Lookup
 pub mod Ends
 pub mod Ways
+pub mod WholeMoves

@@ -172,13 +172,6 @@ AreEdgesBefore funcs targets blocks starts n edges =
     ListsPairs (λ e. IsEdgeBy funcs targets blocks starts e × (e.0 < n)) edges
 
 module _ (funcs : List Func) (targets : List (ℕ × ℕ)) (blocks : List Block) (starts : List ℕ) where
-  pub no_edges : AreEdgesBefore funcs targets blocks starts 0 []
-  no_edges = record {
-    only = λ e (k, within, is). absurd (omega arith);
-    each = λ e (is, less). absurd (omega arith);
-    ordered = λ i j d less within. absurd (omega arith);
-  }
-
   pub edges_below : (n : ℕ) (edges : List (ℕ × ℕ)) → AreEdgesBefore funcs targets blocks starts n edges →
       All (λ e. e.0 < n) edges
   edges_below n edges are = λ k d within. (are.only (slice_index_or edges k d) (Contains-get_or edges k d within)).1

@@ -18,7 +18,7 @@ use Rattle.rb_bytes.proofs.ListLemmas.{pairs_in, pairs_map, slice_get_found}
 use Rattle.rv_code.proofs.lists.Follows.{funcs_apart}
 use Rattle.cfg_build.specs.EdgeLists.{AreStretches}
 use Rattle.cfg_build.proofs.EdgeRows.{IsEdgeBy, AreEdgesBefore}
-use Rattle.cfg_build.proofs.Options.{of_some, some_and, the_some}
+use Rattle.rb_bytes.proofs.Options.{of_some, some_and, the_some}
 use Rattle.cfg_build.proofs.layout.FunctionInsts.{earlier_below, inst_lies_at}
 use Rattle.cfg_build.proofs.layout.InstAddresses.{contains_func, laid_out}
 

@@ -11,7 +11,7 @@ use Rattle.rv_code.specs.layout.Flow.{fall_target, falls_at, target_of}
 use Rattle.rb_bytes.specs.Lists.{Gains}
 use Rattle.rb_bytes.proofs.Gains.{gains_both, gains_same}
 use Rattle.cfg_build.specs.EdgeLists.{LeadsFrom}
-use Rattle.cfg_build.proofs.Options.{some_and, of_some}
+use Rattle.rb_bytes.proofs.Options.{some_and, of_some}
 
 abbrev JumpsTo : Placed → ℕ → Type 0
 JumpsTo p a = EndsBlock p × (target_of p ≡ Some a)

@@ -4,5 +4,4 @@ pub mod layout
 mod EdgeSets
 mod Leads
 mod Lookups
-mod Options
 mod PushedBlocks

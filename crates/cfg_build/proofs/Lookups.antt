@@ -10,7 +10,7 @@ use Rattle.std.proofs.lemmas.Option.{get_or_from_slice_get, same_Some, slice_get
 use Rattle.rv_code.specs.declared.placed.Block.{Block}
 use Rattle.rv_code.specs.layout.Lists.{IsPairBefore}
 use Rattle.cfg_build.specs.EdgeLists.{IsBlockAt}
-use Rattle.cfg_build.proofs.Options.{of_some, some_and}
+use Rattle.rb_bytes.proofs.Options.{of_some, some_and}
 
 -- an element by its index, as a Vec gives it
 pub at_index : {A : Type 0} (xs : List A) (i : ℕ) (x : A) → i < length xs → x ≡ slice_index_or xs i x → slice_get xs i ≡ Some x

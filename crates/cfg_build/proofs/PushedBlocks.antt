@@ -14,7 +14,7 @@ use Rattle.rv_code.specs.layout.Blocks.{IsBefore, AreBlocks}
 use Rattle.rv_code.specs.layout.ProgramCode.{ProgramCode, IsTarget, IsHeld}
 use Rattle.cfg_build.specs.NamedAddresses.{AreEntered}
 use Rattle.cfg_build.specs.BlockLists.{EndsAt, EndsBefore, AreBlocksBefore}
-use Rattle.cfg_build.proofs.Options.{some_and, of_some}
+use Rattle.rb_bytes.proofs.Options.{some_and, of_some}
 
 abbrev pub block_of : ℕ → ℕ → ℕ → Block
 block_of place first last = record { func = place; first = first; last = last }
@@ -25,18 +25,6 @@ Enters code p = IsTarget code.funcs p.addr ⊎ IsHeld code p.addr
 -- Whether a block ends with an instruction.
 
 module _ (code : ProgramCode) (func : Func) (i : ℕ) where
-  pub ends_last : i + 1 ≡ length func.insts.items → IsTrue true ↔ EndsAt code func i
-  ends_last is = ((λ t. inl is), (λ e. refl))
-
-  -- a whole function has one block
-  pub ends_whole : (i + 1 ≡ length func.insts.items → ⊥) → func.whole ≡ true → IsTrue false ↔ EndsAt code func i
-  ends_whole inner whole = ((λ t. absurd (cc)), ⊎_elim (λ is. absurd (inner is)) by)
-    where
-      by : Begins code func (i + 1) → false ≡ true
-      by (at_start is) = absurd (omega arith)
-      by (named not_whole some) = sym not_whole ∙ whole
-      by (after_end not_whole j is some) = sym not_whole ∙ whole
-
   pub ends_after : (p : Placed) → func.whole ≡ false → inst_at func i ≡ Some p → EndsBlock p → IsTrue true ↔ EndsAt code func i
   ends_after p not_whole at ends =
       ((λ t. inr (after_end not_whole i refl (some_and EndsBlock (inst_at func i) p at ends))), (λ e. refl))
@@ -208,13 +196,6 @@ module _ (code : ProgramCode) (func : Func) (place : ℕ) (found : slice_get cod
   }
 
 -- All functions.
-
-pub no_blocks : (code : ProgramCode) → AreBlocksBefore code 0 0 []
-no_blocks code = record {
-  only = λ b (k, within, is). absurd (omega arith);
-  each = λ b (is, before). absurd (⊎_elim (λ (lower : b.func < 0). omega arith) (λ (same, less). omega arith) before);
-  ordered = λ i j d less within. absurd (omega arith);
-}
 
 pub all_blocks : (code : ProgramCode) (n : ℕ) (blocks : List Block) → n ≡ length code.funcs → AreBlocksBefore code n 0 blocks →
     AreBlocks code blocks

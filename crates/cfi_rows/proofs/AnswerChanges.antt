@@ -8,7 +8,8 @@ use Rattle.std.proofs.lemmas.Grind.{common_steps}
 use Rattle.rb_bytes.proofs.Members.{Contains-there}
 use Rattle.rb_bytes.proofs.Searches.{find-found}
 use Rattle.cfi_rows.specs.declared.instruction.Instruction.{Instruction}
-use Rattle.cfi_rows.specs.FrameRows.{PlacedRow, RowValue, Rules, State, row_at, rows, row_of, prepended, and_rows, then_rows, step, ends_row}
+use Rattle.cfi_rows.specs.FrameRows.{PlacedRow, RowValue, Rules, State, row_at, rows, row_of, prepended, and_rows, then_rows, step}
+use Rattle.cfi_rows.specs.FrameRows.{ends_row}
 use Rattle.cfi_rows.specs.Entries.{Fde, is_in_range, is_strictly_in}
 use Rattle.cfi_rows.proofs.RowLists.{stays}
 

@@ -1,12 +1,16 @@
 -- The rules of registers ascend by register, in each state and each row.
-use Rattle.std.proofs.Common.{ℕ, ◌+◌, ◌≤◌, ◌<◌, ◌≡◌, ◌==◌, List, [], ◌∷◌, Option, Some, None, option_map, cond, ltb, Bool, true, false, refl, arith}
+use Rattle.std.proofs.Common.{ℕ, ◌+◌, ◌≤◌, ◌<◌, ◌≡◌, ◌==◌, List, [], ◌∷◌, Option, Some, None, option_map, cond, ltb, Bool, true, false}
+use Rattle.std.proofs.Common.{refl, arith}
 use Rattle.std.proofs.lemmas.Bool.Decides.{nat_tests}
 use Rattle.cfi_rows.specs.declared.row.Cfa.{Cfa}
 use Rattle.cfi_rows.specs.declared.row.Rule.{Rule}
 use Rattle.cfi_rows.specs.declared.instruction.Instruction.{Instruction}
-use Rattle.cfi_rows.specs.declared.instruction.Instruction.TheVariants.{Advance, SetLoc, DefCfa, DefCfaRegister, DefCfaOffset, SetRule, Restore, RememberState, RestoreState, Nop}
+use Rattle.cfi_rows.specs.declared.instruction.Instruction.TheVariants.{Advance, SetLoc, DefCfa, DefCfaRegister, DefCfaOffset, SetRule}
+use Rattle.cfi_rows.specs.declared.instruction.Instruction.TheVariants.{Restore, RememberState, RestoreState, Nop}
 use Rattle.cfi_rows.specs.RuleEntries.{Ascend}
-use Rattle.cfi_rows.specs.FrameRows.{Rules, with_rule, without_rule, rule_of, restored, Known, State, moved_to, with_cfa, with_register, with_offset, take_back, step, row_from, prepended, and_rows, then_rows, ends_row, rows, known_after, PlacedRow}
+use Rattle.cfi_rows.specs.FrameRows.{Rules, with_rule, without_rule, rule_of, restored, Known, State, moved_to, with_cfa, with_register}
+use Rattle.cfi_rows.specs.FrameRows.{with_offset, take_back, step, row_from, prepended, and_rows, then_rows, ends_row, rows, known_after}
+use Rattle.cfi_rows.specs.FrameRows.{PlacedRow}
 
 weaker : (lo n : ℕ) (xs : Rules) → lo ≤ n → Ascend n xs → Ascend lo xs
 weaker lo n [] h a = tt

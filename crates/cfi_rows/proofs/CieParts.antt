@@ -1,6 +1,7 @@
 -- A CIE by its parts.
-use Rattle.std.proofs.Common.{◌≡◌, ◌∙◌, ℕ, List, Result, Ok, Err, Some, None, refl, sym, ap, subst}
+use Rattle.std.proofs.Common.{◌≡◌, ◌∙◌, ℕ, List, Ok, Err, Some, None, refl, ap}
 use Rattle.std.specs.Prelude.{IsOkAnd, flat_map, sum_by, length}
+use Rattle.rb_bytes.proofs.Results.{ok_when}
 use Rattle.table_core.specs.ReadSteps.{and_so}
 use Rattle.table_core.specs.Weights.{distinct}
 use Rattle.cfi_rows.specs.declared.cie.Cie.{Cie as Kept}
@@ -18,19 +19,9 @@ use Rattle.cfi_rows.proofs.Outlining.{KnownFrame, known-frame, unknown}
 abbrev head_kept : Kept → Head
 head_kept k = head_of k.head
 
-ok-when : {X E : Type 0} (P : X → Type 0) (r : Result X E) (x : X) → r ≡ Ok x → P x → IsOkAnd r P
-ok-when {X} {E} P r x e p = subst (λ (r : Result X E). IsOkAnd r P) (sym e) p
-
 head-only : (end : ℕ) (body rest : List ℕ) (h : Head) → head_at end body ≡ Ok (h, rest) →
     cie_at end body ≡ and_so (instructions_at (head_context end h) rest) (cie_after h)
 head-only end body rest h e = ap (λ r. and_so r (cie_by end)) e
-
-pub no-head : (end : ℕ) (body : List ℕ) → head_at end body ≡ Err Entry → cie_at end body ≡ Err Entry
-no-head end body e = ap (λ r. and_so r (cie_by end)) e
-
-pub no-instructions : (end : ℕ) (body rest : List ℕ) (h : Head) → head_at end body ≡ Ok (h, rest) →
-    instructions_at (head_context end h) rest ≡ Err Entry → cie_at end body ≡ Err Entry
-no-instructions end body rest h e f = head-only end body rest h e ∙ ap (λ r. and_so r (cie_after h)) f
 
 pub with-list : (end : ℕ) (body rest : List ℕ) (h : Head) (is : List Instruction) → head_at end body ≡ Ok (h, rest) →
     instructions_at (head_context end h) rest ≡ Ok is → cie_at end body ≡ cie_after h is
@@ -45,7 +36,7 @@ by-known : (end : ℕ) (body rest : List ℕ) (k : Kept) (is : List Instruction)
     AreIn (flat_map registers_set is) k.registers.set → length (distinct (flat_map registers_set is)) ≡ k.registers.count →
     sum_by bytes_in is ≡ k.bytes → IsOkAnd (cie_at end body) (IsKeptCie k)
 by-known end body rest k is e f n r c b =
-    ok-when (IsKeptCie k) (cie_at end body) (cie_of k is n.known)
+    ok_when (IsKeptCie k) (cie_at end body) (cie_of k is n.known)
     (with-list end body rest (head_kept k) is e f ∙ ap (λ o. and_so (sound_if o) (cie_made (head_kept k) is)) n.known_is)
     (record { same = refl; kept = record { frame = n.kind; registers = r; count = c; bytes = b } })
 

@@ -1,8 +1,10 @@
 -- Steps in which rows are kept by the changes of rules.
-use Rattle.std.proofs.Common.{◌≡◌, ◌∙◌, ◌+◌, ◌-◌, ◌<◌, ◌≤◌, ◌++◌, ℕ, zero, suc, List, [], ◌∷◌, map, length, take, drop, reverse, get_or, Option, Some, None, option_map, refl, sym, ap, subst, arith, length-append}
+use Rattle.std.proofs.Common.{◌≡◌, ◌∙◌, ◌+◌, ◌-◌, ◌<◌, ◌≤◌, ◌++◌, ℕ, zero, suc, List, [], ◌∷◌, map, length, take, drop, reverse, get_or}
+use Rattle.std.proofs.Common.{Option, Some, None, option_map, refl, sym, ap, subst, arith, length-append}
 use Rattle.std.specs.Prelude.{All, Result, Ok, Err, OnOk, slice_get, slice_index_or}
 use Rattle.std.specs.Rc.{rc_value}
 use Rattle.std.proofs.lemmas.List.{append-nil, take-append-le, take-append-drop, get_or-reverse, length-reverse, length-map}
+use Rattle.std.proofs.lemmas.List.{drop_more}
 use Rattle.std.proofs.lemmas.Option.{slice_get-map, slice_get-get_or}
 use Rattle.std.proofs.lemmas.Simd.{map-map}
 use Rattle.std.proofs.lemmas.List.Elements.{All-head, All-tail, All-weaker}
@@ -17,13 +19,13 @@ use Rattle.cfi_rows.specs.declared.instruction.Instruction.TheVariants.{RestoreS
 use Rattle.cfi_rows.specs.declared.row_history.KeptRow.{KeptRow}
 use Rattle.cfi_rows.specs.declared.row_history.KeptRules.{KeptRules}
 use Rattle.cfi_rows.specs.declared.row_history.RowHistory.{RowHistory}
-use Rattle.cfi_rows.specs.FrameRows.{Rules, restored, Known, State, RowValue, begins, step, take_back, PlacedRow, prepended, row_of, rows, row_at}
+use Rattle.cfi_rows.specs.FrameRows.{Rules, restored, Known, State, RowValue, begins, step, take_back, PlacedRow, prepended, row_of, rows}
+use Rattle.cfi_rows.specs.FrameRows.{row_at}
 use Rattle.cfi_rows.specs.FramePrograms.{rows_of}
 use Rattle.cfi_rows.specs.RuleEntries.{Ascend}
 use Rattle.cfi_rows.specs.RowMachines.{known_of, remembered, state_of}
 use Rattle.cfi_rows.specs.RuleChanges.{after_changes, over}
 use Rattle.cfi_rows.specs.RowHistories.{rules_after, told_row, told, before, IsRight, Keeps, Goes, row_over}
-use Rattle.cfi_rows.proofs.OutlineLoops.{next-is}
 use Rattle.cfi_rows.proofs.OverRules.{rows-over}
 use Rattle.cfi_rows.proofs.RowLists as lists
 
@@ -46,7 +48,8 @@ rows-stay : (xs ys : List Change) (rs : List KeptRow) → All (λ (r : KeptRow).
     → map (told_row (xs ++ ys)) rs ≡ map (told_row xs) rs
 rows-stay xs ys [] a = refl
 rows-stay xs ys (r ∷ rs) a =
-    ap (λ (rules : Rules). record { start = r.start; row = record { cfa = rc_value r.cfa; rules = rules } } ∷ map (told_row (xs ++ ys)) rs)
+    ap (λ (rules : Rules). record { start = r.start; row = record { cfa = rc_value r.cfa; rules = rules } }
+    ∷ map (told_row (xs ++ ys)) rs)
     (rules-stay xs ys r.changes (All-head (λ (r : KeptRow). r.changes ≤ length xs) r rs a))
     ∙ ap (λ more. told_row xs r ∷ more) (rows-stay xs ys rs (All-tail (λ (r : KeptRow). r.changes ≤ length xs) r rs a))
 
@@ -126,7 +129,7 @@ one-undone start old new rules cs k c rule l g e far goes =
     let now = step.keeps.now in
     let n = length-reverse cs in
     let m : k < length (reverse cs) = omega (arith, n, l) in
-    let first = next-is (reverse cs) k c m ∙ ap (λ (x : Change). x ∷ drop (k + 1) (reverse cs)) (get_or-reverse cs k c l ∙ g) in (
+    let first = drop_more (reverse cs) k c m ∙ ap (λ (x : Change). x ∷ drop (k + 1) (reverse cs)) (get_or-reverse cs k c l ∙ g) in (
       goes-to start new _ _ (sym now) (goes-both start old new (after_changes [] old.changes.items) _ far.0 (λ kept. step)),
       ap (λ (r : Rules). after_changes r (drop (k + 1) (reverse cs)))
           (now ∙ ap (λ (o : Option Rule). restored c.register o (after_changes [] old.changes.items)) e)

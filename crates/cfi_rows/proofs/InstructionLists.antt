@@ -1,8 +1,9 @@
 -- Instructions that are read one after another.
 use Rattle.std.proofs.Common.{◌≡◌, ◌∙◌, ◌+◌, ◌-◌, ◌<◌, ◌≤◌, ◌++◌, ℕ, suc, List, [], ◌∷◌, Result, Ok, Err, refl, sym, ap, arith, length}
 use Rattle.std.proofs.Common.{append_assoc}
-use Rattle.std.proofs.lemmas.Grind.{common_steps}
+use Rattle.std.proofs.lemmas.List.{append-nil}
 use Rattle.rb_bytes.specs.Readers.{and_then}
+use Rattle.rb_bytes.proofs.Tests.{less_one}
 use Rattle.table_core.specs.ReadSteps.{with_head}
 use Rattle.cfi_rows.specs.declared.instruction.Malformed.{Malformed}
 use Rattle.cfi_rows.specs.declared.instruction.Malformed.TheVariants.{Entry}
@@ -14,19 +15,9 @@ abbrev pub after : {X E : Type 0} → List X → Result (List X) E → Result (L
 after xs (Ok ys) = Ok (xs ++ ys)
 after xs (Err e) = Err e
 
-pub after-nil : {X E : Type 0} (r : Result (List X) E) → r ≡ after [] r
-after-nil (Ok ys) = refl
-after-nil (Err e) = refl
-
-append-nil : {X : Type 0} (xs : List X) → xs ++ [] ≡ xs
-append-nil xs = grind (arith, common_steps)
-
 after-head : {X E : Type 0} (xs : List X) (x : X) (r : Result (List X) E) → after xs (with_head x r) ≡ after (xs ++ x ∷ []) r
 after-head xs x (Ok ys) = ap (λ zs. Ok zs) (sym (append_assoc xs (x ∷ []) ys))
 after-head xs x (Err e) = refl
-
-less-one : (n count : ℕ) → count < n → n - count ≡ suc (n - (count + 1))
-less-one n count h = omega arith
 
 -- the first of some bytes that aren't empty
 in-step : (c : Context) (n : ℕ) (left : List ℕ) → 0 < length left → instructions_in c (suc n) left ≡
@@ -35,19 +26,22 @@ unfolding instructions_in
 in-step c n [] h = absurd (omega arith)
 in-step c n (b ∷ bs) h = refl
 
-pub next : (c : Context) (n count : ℕ) (left : List ℕ) (xs : List Instruction) (i : Instruction) (rest : List ℕ) → count < n → 0 < length left →
+pub next : (c : Context) (n count : ℕ) (left : List ℕ) (xs : List Instruction) (i : Instruction) (rest : List ℕ) → count < n →
+    0 < length left →
     instruction_at c left ≡ Ok (i, rest) →
     after xs (instructions_in c (n - count) left) ≡ after (xs ++ i ∷ []) (instructions_in c (n - (count + 1)) rest)
 next c n count left xs i rest h l e =
-    ap (λ m. after xs (instructions_in c m left)) (less-one n count h)
-    ∙ ap (after xs) (in-step c (n - (count + 1)) left l ∙ ap (λ r. and_then r (λ i rest. with_head i (instructions_in c (n - (count + 1)) rest))) e)
+    ap (λ m. after xs (instructions_in c m left)) (less_one n count h)
+    ∙ ap (after xs) (in-step c (n - (count + 1)) left l ∙ ap (λ r. and_then r
+    (λ i rest. with_head i (instructions_in c (n - (count + 1)) rest))) e)
     ∙ after-head xs i (instructions_in c (n - (count + 1)) rest)
 
 pub fails : (c : Context) (n count : ℕ) (left : List ℕ) (xs : List Instruction) (m : Malformed) → count < n → 0 < length left →
     instruction_at c left ≡ Err m → after xs (instructions_in c (n - count) left) ≡ Err m
 fails c n count left xs m h l e =
-    ap (λ m. after xs (instructions_in c m left)) (less-one n count h)
-    ∙ ap (after xs) (in-step c (n - (count + 1)) left l ∙ ap (λ r. and_then r (λ i rest. with_head i (instructions_in c (n - (count + 1)) rest))) e)
+    ap (λ m. after xs (instructions_in c m left)) (less_one n count h)
+    ∙ ap (after xs) (in-step c (n - (count + 1)) left l ∙ ap (λ r. and_then r
+    (λ i rest. with_head i (instructions_in c (n - (count + 1)) rest))) e)
 
 in-end : (c : Context) (n : ℕ) (left : List ℕ) → length left ≡ 0 → instructions_in c n left ≡ Ok []
 unfolding instructions_in

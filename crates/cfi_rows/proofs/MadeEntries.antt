@@ -92,10 +92,12 @@ fde_is cie end e f known eq =
     by start size left true h =
         let a = from_then (table_at cie.augmentation end left) (fde_by cie end e.place start size) f h in
         let b = from_so (instructions_at (fde_context cie end) a.rest) (fde_after cie e.place start size a.of) f a.then_is in
-        let c = from_so (sound_if (rows cie.known.rules b.of (begins start cie.known))) (fde_made cie e.place start size a.of b.of) f b.then_is in
+        let c = from_so (sound_if (rows cie.known.rules b.of (begins start cie.known))) (fde_made cie e.place start size a.of b.of) f
+        b.then_is in
         made start size a.of b.of c.of (from_sound (rows cie.known.rules b.of (begins start cie.known)) c.of c.is) c.then_is
 
-cie_found : (debug : Bool) (address : ℕ) (entries : List RawEntry) (place : Option ℕ) (cie : Cie) → cie_in debug address entries place ≡ Ok cie →
+cie_found : (debug : Bool) (address : ℕ) (entries : List RawEntry) (place : Option ℕ) (cie : Cie) →
+    cie_in debug address entries place ≡ Ok cie →
     IsKnownCie cie
 cie_found debug address entries place cie e =
     let a = from_so (sound_if (entry_named debug entries place)) (λ e. cie_at (end_of address e) e.body) cie e in
@@ -132,4 +134,5 @@ made_from debug address all broken (e ∷ es) f c = by (made_from debug address 
 
 pub are_made : (debug : Bool) (address : ℕ) (table : List ℕ) (f : Fde) → Contains (frames debug address table).list f → IsMade f
 are_made debug address table f c =
-    made_from debug address (walked_entries debug table).entries (walked_entries debug table).broken (walked_entries debug table).entries f c
+    made_from debug address (walked_entries debug table).entries (walked_entries debug table).broken (walked_entries debug table).entries
+    f c

@@ -1,5 +1,6 @@
 -- An outline goes as its state does.
-use Rattle.std.proofs.Common.{◌≡◌, ◌∙◌, ◌+◌, ◌^◌, ℕ, suc, ℤ, Bool, true, false, cond, List, [], ◌∷◌, Option, Some, None, option_map, refl, ap, arith, length, map}
+use Rattle.std.proofs.Common.{◌≡◌, ◌∙◌, ◌+◌, ◌^◌, ℕ, suc, ℤ, Bool, true, false, cond, List, [], ◌∷◌, Option, Some, None, option_map, refl}
+use Rattle.std.proofs.Common.{ap, arith, length, map}
 use Rattle.std.specs.Prelude.{option_and_then, nat_lt, nat_le}
 use Rattle.std.proofs.lemmas.Option.{same_Some}
 use Rattle.cfi_rows.specs.declared.outline.FrameKind.{FrameKind}
@@ -8,9 +9,11 @@ use Rattle.cfi_rows.specs.declared.row.Cfa.TheVariants.{Reg, Expr}
 use Rattle.cfi_rows.specs.declared.instruction.Instruction.{Instruction}
 use Rattle.cfi_rows.specs.declared.instruction.Instruction.TheVariants.{Advance, SetLoc, DefCfa, DefCfaRegister, DefCfaOffset}
 use Rattle.cfi_rows.specs.declared.instruction.Instruction.TheVariants.{SetRule, Restore, RememberState, RestoreState, Nop}
-use Rattle.cfi_rows.specs.FrameRows.{Rules, Known, nothing_known, State, begins, step, moved_to, with_register, with_offset, with_cfa, take_back, ends_row}
+use Rattle.cfi_rows.specs.FrameRows.{Rules, Known, nothing_known, State, begins, step, moved_to, with_register, with_offset, with_cfa}
+use Rattle.cfi_rows.specs.FrameRows.{take_back, ends_row}
 use Rattle.cfi_rows.specs.FrameRows.{PlacedRow, rows, row_from, prepended, and_rows, then_rows, known_after}
-use Rattle.cfi_rows.specs.Outlines.{Outline, kind_of, outline_of, moved_outline, went_to, if_register, taken_back, outline_step, outline_after}
+use Rattle.cfi_rows.specs.Outlines.{Outline, kind_of, outline_of, moved_outline, went_to, if_register, taken_back, outline_step}
+use Rattle.cfi_rows.specs.Outlines.{outline_after}
 use Rattle.cfi_rows.specs.Outlines.{outline_rows, counted, has_rule, frame_after}
 
 -- Steps
@@ -43,7 +46,8 @@ offset n location None rules saved = refl
 offset n location (Some (Reg q m)) rules saved = refl
 offset n location (Some (Expr b)) rules saved = refl
 
-took : (s : State) (ks : List Known) → option_map outline_of (take_back s ks) ≡ taken_back (outline_of s) (map (λ (k : Known). kind_of k.cfa) ks)
+took : (s : State) (ks : List Known) → option_map outline_of (take_back s ks) ≡ taken_back (outline_of s)
+    (map (λ (k : Known). kind_of k.cfa) ks)
 took s [] = refl
 took s (k ∷ ks) = refl
 
@@ -79,7 +83,8 @@ pub record KnownFrame (is : List Instruction) (k : FrameKind) : Type 0 where
   pub known_is : known_after is (Some (begins 0 nothing_known)) ≡ Some known
   pub kind : kind_of known.cfa ≡ k
 
-kinds : (is : List Instruction) → option_map (λ (k : Known). kind_of k.cfa) (known_after is (Some (begins 0 nothing_known))) ≡ frame_after is
+kinds : (is : List Instruction) → option_map (λ (k : Known). kind_of k.cfa) (known_after is (Some (begins 0 nothing_known))) ≡ frame_after
+    is
 unfolding frame_of
 kinds is = known-kinds is (Some (begins 0 nothing_known))
 
@@ -125,7 +130,8 @@ then-count : (initial : Rules) (is : List Instruction) (r : Option State) →
 then-count initial is None h = refl
 then-count initial is (Some s) h = h s
 
-rows-count : (initial : Rules) (is : List Instruction) (s : State) → option_map length (rows initial is s) ≡ outline_rows is (outline_of s)
+rows-count : (initial : Rules) (is : List Instruction) (s : State) →
+    option_map length (rows initial is s) ≡ outline_rows is (outline_of s)
 rows-count initial [] s = one-row s.location s.known.cfa s.known.rules
 rows-count initial (i ∷ is) s =
     with-row (ends_row i) s (then_rows (step initial i s) (rows initial is))
@@ -142,7 +148,8 @@ rows-some : (initial : Rules) (is : List Instruction) (s : State) (n : ℕ) (o :
 rows-some initial is s n None e f = absurd (cc)
 rows-some initial is s n (Some rs) e f = record { list = rs; rows_are = e; count = same_Some _ _ f }
 
-pub counted-rows : (initial : Rules) (is : List Instruction) (s : State) (n : ℕ) → outline_rows is (outline_of s) ≡ Some n → CountedRows initial is s n
+pub counted-rows : (initial : Rules) (is : List Instruction) (s : State) (n : ℕ) → outline_rows is (outline_of s) ≡ Some n →
+    CountedRows initial is s n
 counted-rows initial is s n e = rows-some initial is s n (rows initial is s) refl (rows-count initial is s ∙ e)
 
 rows-none : (o : Option (List PlacedRow)) → option_map length o ≡ None → o ≡ None

@@ -1,5 +1,6 @@
 -- The rows of an FDE are those of its instructions alone, over the rules of its CIE.
-use Rattle.std.proofs.Common.{ℕ, ◌+◌, ◌<◌, ◌≡◌, ◌∙◌, ◌==◌, List, [], ◌∷◌, map, Option, Some, None, option_map, cond, ltb, Bool, true, false, refl, sym, ap, arith}
+use Rattle.std.proofs.Common.{ℕ, ◌+◌, ◌<◌, ◌≡◌, ◌∙◌, ◌==◌, List, [], ◌∷◌, map, Option, Some, None, option_map, cond, ltb, Bool, true}
+use Rattle.std.proofs.Common.{false, refl, sym, ap, arith}
 use Rattle.std.specs.Prelude.{nat_lt, nat_le, ◌^◌}
 use Rattle.std.specs.Option.{option_or}
 use Rattle.std.proofs.lemmas.Bool.Decides.{nat_tests}
@@ -7,11 +8,13 @@ use Rattle.std.proofs.lemmas.Option.{none-some, same_Some}
 use Rattle.cfi_rows.specs.declared.row.Cfa.{Cfa}
 use Rattle.cfi_rows.specs.declared.row.Rule.{Rule}
 use Rattle.cfi_rows.specs.declared.instruction.Instruction.{Instruction}
-use Rattle.cfi_rows.specs.declared.instruction.Instruction.TheVariants.{Advance, SetLoc, DefCfa, DefCfaRegister, DefCfaOffset, SetRule, Restore, RememberState, RestoreState, Nop}
+use Rattle.cfi_rows.specs.declared.instruction.Instruction.TheVariants.{Advance, SetLoc, DefCfa, DefCfaRegister, DefCfaOffset, SetRule}
+use Rattle.cfi_rows.specs.declared.instruction.Instruction.TheVariants.{Restore, RememberState, RestoreState, Nop}
 use Rattle.cfi_rows.specs.RuleEntries.{Ascend}
 use Rattle.cfi_rows.specs.RuleChanges.{over}
 use Rattle.cfi_rows.specs.RowHistories.{row_over}
-use Rattle.cfi_rows.specs.FrameRows.{Rules, with_rule, without_rule, rule_of, restored, Known, State, moved_to, with_cfa, with_register, with_offset, take_back, step, row_from, PlacedRow, ends_row, prepended, and_rows, then_rows, rows}
+use Rattle.cfi_rows.specs.FrameRows.{Rules, with_rule, without_rule, rule_of, restored, Known, State, moved_to, with_cfa, with_register}
+use Rattle.cfi_rows.specs.FrameRows.{with_offset, take_back, step, row_from, PlacedRow, ends_row, prepended, and_rows, then_rows, rows}
 use Rattle.cfi_rows.proofs.AscendingRules.{restored-ascend, with-ascend, without-ascend, IsAscending, AfterStep, step-ascend}
 use Rattle.cfi_rows.proofs.RuleLists.{absent, same-number}
 
@@ -143,7 +146,8 @@ over-without initial xs k a c =
     (λ q. rule-back k q (rule_of k initial) (over initial xs) (over-ascend initial xs a) ∙ by q (k == q) refl
     ∙ sym (rule-over q 0 initial (without_rule k xs) d)) where
       by : (q : ℕ) (b : Bool) → (k == q) ≡ b
-          → cond (k == q) (rule_of k initial) (rule_of q (over initial xs)) ≡ option_or (rule_of q (without_rule k xs)) (rule_of q initial)
+          → cond (k == q) (rule_of k initial) (rule_of q (over initial xs)) ≡ option_or (rule_of q (without_rule k xs))
+          (rule_of q initial)
       by q true e =
           let same : k ≡ q = grind (arith, nat_tests) in
           ap (λ (t : Bool). cond t (rule_of k initial) (rule_of q (over initial xs))) e ∙ ap (λ n. rule_of n initial) same

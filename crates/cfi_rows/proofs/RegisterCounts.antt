@@ -1,8 +1,8 @@
 -- How many different numbers a list has, with one more.
-use Rattle.std.proofs.Common.{◌≡◌, ◌∙◌, ◌+◌, ◌++◌, ◌==◌, ◌||◌, ◌<◌, ℕ, Bool, true, false, cond, List, [], ◌∷◌, refl, sym, ap, arith, length}
+use Rattle.std.proofs.Common.{◌≡◌, ◌∙◌, ◌+◌, ◌++◌, ◌==◌, ◌||◌, ◌<◌, ℕ, Bool, true, false, cond, List, [], ◌∷◌, refl, sym, ap, arith}
+use Rattle.std.proofs.Common.{length}
 use Rattle.std.proofs.Common.{append_assoc, take, get_or}
-use Rattle.std.proofs.lemmas.Grind.{common_steps}
-use Rattle.std.proofs.lemmas.List.{take_more}
+use Rattle.std.proofs.lemmas.List.{take_more, append-nil}
 use Rattle.std.proofs.lemmas.List.Concat.{flat_map-append}
 use Rattle.std.specs.Prelude.{flat_map}
 use Rattle.cfi_rows.specs.declared.instruction.Instruction.{Instruction}
@@ -83,7 +83,8 @@ added xs ys known old new y a k o n c = record {
       let s = count-snoc (xs ++ ys) y in
       let i : has y (xs ++ ys) ≡ false = sym (a.members y) ∙ ap (λ b. b || contains nat_cmp old.set y) k ∙ o in
       let t : one (has y (xs ++ ys)) ≡ 1 = ap one i in
-      let u : length (distinct (xs ++ (ys ++ y ∷ []))) ≡ length (distinct ((xs ++ ys) ++ y ∷ [])) = ap (λ zs. length (distinct zs)) (sym (append_assoc xs ys (y ∷ []))) in
+      let u : length (distinct (xs ++ (ys ++ y ∷ []))) ≡ length (distinct ((xs ++ ys) ++ y ∷ [])) = ap (λ zs. length (distinct zs))
+      (sym (append_assoc xs ys (y ∷ []))) in
       let v = a.count in
       omega arith;
   members = λ q.
@@ -104,7 +105,8 @@ kept xs ys known old new y a k n c = record {
   count =
       let s = count-snoc (xs ++ ys) y in
       let t : one (has y (xs ++ ys)) ≡ 0 = ap one (sym (a.members y) ∙ k) in
-      let u : length (distinct (xs ++ (ys ++ y ∷ []))) ≡ length (distinct ((xs ++ ys) ++ y ∷ [])) = ap (λ zs. length (distinct zs)) (sym (append_assoc xs ys (y ∷ []))) in
+      let u : length (distinct (xs ++ (ys ++ y ∷ []))) ≡ length (distinct ((xs ++ ys) ++ y ∷ [])) = ap (λ zs. length (distinct zs))
+      (sym (append_assoc xs ys (y ∷ []))) in
       let v = a.count in
       omega arith;
   members = λ q.
@@ -130,17 +132,6 @@ pub adds : (old new : BTreeSet ℕ) (y : ℕ) → Updates nat_cmp old new y true
 adds old new y u = λ q. u.0 q ∙ ap (λ b. cond b true (contains nat_cmp old q)) (at-number (nat_lt y q) (y == q) y q refl refl)
     ∙ or-last (y == q) (contains nat_cmp old q)
 
-pub or-left : (b c : Bool) → b ≡ true → (b || c) ≡ true
-or-left true c e = refl
-or-left false c e = absurd (cc)
-
-pub or-right : (b c : Bool) → c ≡ true → (b || c) ≡ true
-or-right true c e = refl
-or-right false c e = e
-
-append-nil : {X : Type 0} (xs : List X) → xs ++ [] ≡ xs
-append-nil xs = grind (arith, common_steps)
-
 pub set-more : (xs : List Instruction) (k : ℕ) (d : Instruction) → k < length xs →
     flat_map registers_set (take (k + 1) xs) ≡ flat_map registers_set (take k xs) ++ registers_set (get_or xs k d)
 set-more xs k d h =
@@ -151,7 +142,8 @@ pub nothing : (set : BTreeSet ℕ) → set.keys ≡ [] → AreIn [] set
 nothing set e = λ q. ap (λ (ks : List ℕ). list_any (λ k. is_eq (nat_cmp q k)) ks) e
 
 -- where no register is known
-pub alone : (none : BTreeSet ℕ) (r : Registers) (ys zs : List ℕ) → none.keys ≡ [] → ((xs : List ℕ) → AreIn xs none → AreCounted xs ys none r) → ys ≡ zs →
+pub alone : (none : BTreeSet ℕ) (r : Registers) (ys zs : List ℕ) → none.keys ≡ [] →
+    ((xs : List ℕ) → AreIn xs none → AreCounted xs ys none r) → ys ≡ zs →
     AreIn zs r.set × (length (distinct zs) ≡ r.count)
 alone none r ys zs e h s =
     let counted = h [] (nothing none e) in

@@ -1,13 +1,16 @@
 -- Where the rows of a program begin, and the last of them that begins at or before an address.
-use Rattle.std.proofs.Common.{◌≡◌, ◌∙◌, ◌+◌, ◌<◌, ◌≤◌, ℕ, zero, suc, Bool, true, false, cond, List, [], ◌∷◌, map, Option, Some, None, option_map, refl, sym, ap, subst, arith, drop, length}
+use Rattle.std.proofs.Common.{◌≡◌, ◌∙◌, ◌+◌, ◌<◌, ◌≤◌, ℕ, zero, suc, Bool, true, false, cond, List, [], ◌∷◌, map, Option, Some, None}
+use Rattle.std.proofs.Common.{option_map, refl, sym, ap, subst, arith, drop, length}
 use Rattle.std.proofs.lemmas.Bool.Decides.{nat_tests}
 use Rattle.std.proofs.lemmas.List.{drop_all}
 use Rattle.std.specs.Prelude.{nat_le, nat_lt, ◌^◌, slice_get, slice_index_or}
 use Rattle.std.specs.List.Sorted.{IsNonDecreasingBy}
 use Rattle.cfi_rows.specs.declared.row.Cfa.{Cfa}
 use Rattle.cfi_rows.specs.declared.instruction.Instruction.{Instruction}
-use Rattle.cfi_rows.specs.declared.instruction.Instruction.TheVariants.{Advance, SetLoc, DefCfa, DefCfaRegister, DefCfaOffset, SetRule, Restore, RememberState, RestoreState, Nop}
-use Rattle.cfi_rows.specs.FrameRows.{Rules, Known, State, moved_to, with_cfa, with_register, with_offset, take_back, step, row_of, RowValue, PlacedRow, ends_row, prepended, and_rows, then_rows, rows, row_at}
+use Rattle.cfi_rows.specs.declared.instruction.Instruction.TheVariants.{Advance, SetLoc, DefCfa, DefCfaRegister, DefCfaOffset, SetRule}
+use Rattle.cfi_rows.specs.declared.instruction.Instruction.TheVariants.{Restore, RememberState, RestoreState, Nop}
+use Rattle.cfi_rows.specs.FrameRows.{Rules, Known, State, moved_to, with_cfa, with_register, with_offset, take_back, step, row_of}
+use Rattle.cfi_rows.specs.FrameRows.{RowValue, PlacedRow, ends_row, prepended, and_rows, then_rows, rows, row_at}
 
 pub rows-end : (xs : List Instruction) (k : ℕ) (s : State) → length xs ≤ k
     → rows [] (drop k xs) s ≡ prepended s.location (row_of s.known) (Some [])

@@ -15,10 +15,12 @@ use Rattle.cfi_rows.specs.declared.instruction.Instruction.TheVariants.{SetRule,
 use Rattle.cfi_rows.specs.declared.row.Cfa.{Cfa}
 use Rattle.cfi_rows.specs.declared.row.Cfa.TheVariants.{Reg, Expr}
 use Rattle.cfi_rows.specs.declared.row.Rule.{Rule}
-use Rattle.cfi_rows.specs.FrameRows.{PlacedRow, RowValue, Rules, Known, State, rows, row_of, row_from, prepended, and_rows, then_rows, step, ends_row}
-use Rattle.cfi_rows.specs.FrameRows.{with_cfa, with_register, with_offset, take_back, with_rule, without_rule, rule_of, restored, moved_to, known_after}
+use Rattle.cfi_rows.specs.FrameRows.{PlacedRow, RowValue, Rules, Known, State, rows, row_of, row_from, prepended, and_rows, then_rows}
+use Rattle.cfi_rows.specs.FrameRows.{step, ends_row}
+use Rattle.cfi_rows.specs.FrameRows.{with_cfa, with_register, with_offset, take_back, with_rule, without_rule, rule_of, restored}
+use Rattle.cfi_rows.specs.FrameRows.{moved_to, known_after}
 use Rattle.cfi_rows.specs.EntryCounts.{registers_set, cfa_bytes, rule_bytes, bytes_in}
-use Rattle.cfi_rows.proofs.Pigeonhole.{weighed}
+use Rattle.table_core.proofs.Pigeonhole.{weighed}
 
 abbrev pub cfa_part : Instruction → ℕ
 cfa_part (DefCfa c) = cfa_bytes c
@@ -249,13 +251,23 @@ module _ (all : List Instruction) where
     by (Some (Expr b)) f = absurd (cc)
     by (Some (Reg q o)) f = set_cfa s t (Reg q n) h (omega arith) (let k : with_cfa s (Reg q n) ≡ t = cc in k)
   step_good initial g (SetRule r rule) c s t h e =
-      let same : record { location = s.location; known = record { cfa = s.known.cfa; rules = with_rule r rule s.known.rules }; saved = s.saved } ≡ t = cc in
+      let same : record {
+        location = s.location;
+        known = record { cfa = s.known.cfa; rules = with_rule r rule s.known.rules };
+        saved =
+            s.saved;
+      } ≡ t = cc in
       subst (λ (u : State). IsState u) same (record {
         known = record { cfa = h.known.cfa; rules = set_good 0 r rule s.known.rules (omega arith) c h.known.rules };
         saved = h.saved;
       })
   step_good initial g (Restore r) c s t h e =
-      let same : record { location = s.location; known = record { cfa = s.known.cfa; rules = restored r (rule_of r initial) s.known.rules }; saved = s.saved } ≡ t = cc in
+      let same : record {
+        location = s.location;
+        known = record
+            { cfa = s.known.cfa; rules = restored r (rule_of r initial) s.known.rules };
+        saved = s.saved;
+      } ≡ t = cc in
       subst (λ (u : State). IsState u) same (record {
         known = record { cfa = h.known.cfa; rules = restored_good initial s.known.rules r g h.known.rules };
         saved = h.saved;
@@ -272,7 +284,8 @@ module _ (all : List Instruction) where
   step_good initial g Nop c s t h e = let same : s ≡ t = cc in subst (λ (u : State). IsState u) same h
 
   -- what is known after instructions
-  pub known_good : (is : List Instruction) → ((i : Instruction) → Contains is i → Contains all i) → (s : State) → IsState s → (k : Known) →
+  pub known_good : (is : List Instruction) → ((i : Instruction) → Contains is i → Contains all i) → (s : State) → IsState s →
+      (k : Known) →
       known_after is (Some s) ≡ Some k → IsKnown k
   known_good [] sub s h k e = let same : s.known ≡ k = cc in subst (λ (u : Known). IsKnown u) same h.known
   known_good (i ∷ is) sub s h k e =

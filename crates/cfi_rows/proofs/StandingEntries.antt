@@ -1,5 +1,6 @@
 -- An entry that a walk of a table found stands at its place, and is found there again.
-use Rattle.std.proofs.Common.{◌≡◌, ◌∙◌, ◌+◌, ◌-◌, ◌==◌, ◌&&◌, ◌^◌, ℕ, zero, suc, Bool, true, false, cond, not, List, [], ◌∷◌, Result, Ok, Err, Option, Some, None, refl, sym, ap, subst, arith, take, drop, length, map, get_or, option_map}
+use Rattle.std.proofs.Common.{◌≡◌, ◌∙◌, ◌+◌, ◌-◌, ◌==◌, ◌&&◌, ◌^◌, ℕ, zero, suc, Bool, true, false, cond, not, List, [], ◌∷◌, Result, Ok}
+use Rattle.std.proofs.Common.{Err, Option, Some, None, refl, sym, ap, subst, arith, take, drop, length, map, get_or, option_map}
 use Rattle.std.proofs.lemmas.Bool.Decides.{nat_tests}
 use Rattle.std.proofs.lemmas.Grind.{common_steps}
 use Rattle.std.proofs.lemmas.List.{drop-drop}
@@ -14,8 +15,11 @@ use Rattle.cfi_rows.specs.declared.instruction.Malformed.{Malformed}
 use Rattle.cfi_rows.specs.declared.instruction.Malformed.TheVariants.{Entry}
 use Rattle.cfi_rows.specs.FrameInstructions.{Read, instructions_at, pointer_at, stored_at}
 use Rattle.cfi_rows.specs.FrameRows.{rows, begins}
-use Rattle.cfi_rows.specs.Entries.{Cie, Fde, Frames, RawEntry, Front, Ends, Breaks, Stands, front_of, entry_of, walk, onward, walked_entries}
-use Rattle.cfi_rows.specs.Entries.{cie_at, cie_in, cie_place, end_of, entry_named, is_named, is_cie, sound_if, fde_at, fde_sized, fde_from, fde_by, fde_after, fde_made, fde_context, size_encoding, table_at, one_cie, one_fde, frames_from, frames}
+use Rattle.cfi_rows.specs.Entries.{Cie, Fde, Frames, RawEntry, Front, Ends, Breaks, Stands, front_of, entry_of, walk, onward}
+use Rattle.cfi_rows.specs.Entries.{walked_entries}
+use Rattle.cfi_rows.specs.Entries.{cie_at, cie_in, cie_place, end_of, entry_named, is_named, is_cie, sound_if, fde_at, fde_sized}
+use Rattle.cfi_rows.specs.Entries.{fde_from, fde_by, fde_after, fde_made, fde_context, size_encoding, table_at, one_cie, one_fde}
+use Rattle.cfi_rows.specs.Entries.{frames_from, frames}
 use Rattle.cfi_rows.specs.declared.frame_table.Fde.{Fde as ReadFde}
 use Rattle.cfi_rows.specs.ReadEntries.{fde_of}
 use Rattle.cfi_rows.specs.FramePrograms.{entry_in, entry_standing, cie_standing, fde_standing}
@@ -151,9 +155,11 @@ fde-at-place : (cie : Cie) (end : ℕ) (e : RawEntry) → IsAt e.place (fde_at c
 fde-at-place cie end e =
     at-then e.place (pointer_at cie.augmentation.encoding end e.body) (fde_sized cie end e.place) (λ start l1.
     at-then e.place (stored_at (size_encoding cie.augmentation.encoding) l1) (fde_from cie end e.place start) (λ size l2.
-    at-cond e.place (nat_lt (start + size) (2 ^ 64)) _ (at-then e.place (table_at cie.augmentation end l2) (fde_by cie end e.place start size) (λ table l3.
+    at-cond e.place (nat_lt (start + size) (2 ^ 64)) _ (at-then e.place (table_at cie.augmentation end l2)
+    (fde_by cie end e.place start size) (λ table l3.
     at-so e.place (instructions_at (fde_context cie end) l3) (fde_after cie e.place start size table) (λ is.
-    at-so e.place (sound_if (rows cie.known.rules is (begins start cie.known))) (fde_made cie e.place start size table is) (λ rs. refl))))))
+    at-so e.place (sound_if (rows cie.known.rules is (begins start cie.known))) (fde_made cie e.place start size table is)
+    (λ rs. refl))))))
 
 place-of : (place : ℕ) (f : Fde) (r : Result Fde Malformed) → r ≡ Ok f → IsAt place r → f.place ≡ place
 place-of place f r e h = subst (IsAt place) e h
@@ -212,7 +218,8 @@ list-found debug t all broken (e ∷ es) h g =
 -- each entry of the list of a table
 pub entry-found : (debug : Bool) (t : Held) (i : ℕ) (f : Fde) → slice_get (frames debug t.address t.bytes).list i ≡ Some f →
     fde_standing debug t f.place ≡ Ok f
-entry-found debug t = list-found debug t (walked_entries debug t.bytes).entries (walked_entries debug t.bytes).broken (walked_entries debug t.bytes).entries
+entry-found debug t = list-found debug t (walked_entries debug t.bytes).entries (walked_entries debug t.bytes).broken
+    (walked_entries debug t.bytes).entries
     (all-stand debug t.bytes) (all-stand debug t.bytes)
 
 -- the place of an entry, as it is kept

@@ -20,9 +20,10 @@ use Rattle.elf_code.specs.Functions.{IsNopAt}
 use Rattle.elf_code.specs.Parts.{IsInstAt, IsStart, halfword_at}
 use Rattle.elf_code.specs.Roles.{Claims, HasRole, RoleIs}
 use Rattle.elf_code.specs.Roles as claims
+use Rattle.elf_code.proofs.Counts.{can_of}
 use Rattle.move_law.specs.Laws.{IsAcceptedCode}
 use Rattle.rb_bytes.proofs.ListLemmas.{all_of}
-use Rattle.move_law.proofs.code.CellWidths.{can_of, field_width, same_address}
+use Rattle.move_law.proofs.code.CellWidths.{field_width, same_address}
 use Rattle.move_law.proofs.code.FittingRoles.{RoleFits, Target, has_code_facts}
 use Rattle.move_law.proofs.code.Immediates as immediates
 use Rattle.move_law.proofs.code.InstLists.{code_at, function_code, inst_at, length_of, start_code}

@@ -1,5 +1,5 @@
 -- The blocks of a plan, one after another.
-use Rattle.std.proofs.Common.{◌≡◌, ℕ, ◌+◌, ◌^◌, ◌<◌, ◌≤◌, List, [], length, Some, refl, sym, ap, ◌∙◌, subst, arith, get_or, take}
+use Rattle.std.proofs.Common.{◌≡◌, ℕ, ◌+◌, ◌<◌, ◌≤◌, List, [], length, Some, refl, sym, ap, ◌∙◌, subst, arith, get_or, take}
 use Rattle.std.specs.Prelude.{All, slice_get}
 use Rattle.std.specs.Option.{option_map_or}
 use Rattle.rv_code.specs.declared.layout.Form.{Form}
@@ -17,10 +17,10 @@ use Rattle.branch_fixup.specs.Inputs.{AreBlocksOf, AreDirect}
 use Rattle.branch_fixup.specs.Pieces.{Piece, PlacedFrom, end_from}
 use Rattle.branch_fixup.specs.Strips.{Strip, insts_in, pieces_of, pieces_of_strip, spans_of, strips_of}
 use Rattle.branch_fixup.proofs.Appended.{end_append, pieces_all, pieces_more, pieces_part}
-use Rattle.branch_fixup.proofs.Lists.{contains_at, flat_at}
+use Rattle.branch_fixup.proofs.Lists.{flat_at}
 use Rattle.rv_code.proofs.lists.Follows.{at_contains}
 use Rattle.branch_fixup.proofs.Planned.{planned, planned_length}
-use Rattle.rb_bytes.proofs.ListLemmas.{all_of}
+use Rattle.rb_bytes.proofs.ListLemmas.{all_of, contains_at}
 use Rattle.move_law.specs.Rewrite.{Goes, Rewrite}
 use Rattle.move_law.specs.FaithfulRewrite.{GoesOn, KeepsInst}
 use Rattle.code_emit.specs.Bytes.{Adds, AllCanBeEncoded, CanBePut}

@@ -26,8 +26,9 @@ use Rattle.branch_fixup.specs.Strips.{Strip, pieces_of, spans_of, strips_of}
 use Rattle.branch_fixup.proofs.Falls.{below_limit, code_at}
 use Rattle.rv_code.proofs.lists.Follows.{laid_func, at_contains}
 use Rattle.branch_fixup.proofs.Laid.{AreOnce, inside, once_each, placed_from, even_sum}
-use Rattle.branch_fixup.proofs.Lists.{at_flat, contains_at, flat_at}
+use Rattle.branch_fixup.proofs.Lists.{at_flat, flat_at}
 use Rattle.rb_bytes.proofs.Members.{Contains-cons_cases, Contains-there}
+use Rattle.rb_bytes.proofs.ListLemmas.{contains_at}
 use Rattle.branch_fixup.proofs.Placed.{are_strips, strips_once}
 use Rattle.branch_fixup.proofs.Map.{form_even, length_even}
 use Rattle.code_emit.specs.Bytes.{AllCanBeEncoded}

@@ -55,9 +55,6 @@ lead a t h k = omega (arith, ints, h, k)
 not_zero : (n : ℕ) → (suc n == 0) ≡ false
 not_zero n = ne_eqb (suc n) 0 (λ h. absurd (omega (arith, h)))
 
-plus_small : (a n : ℕ) → plus a n < 2 ^ 64
-plus_small a n = omega arith
-
 -- an added jump leads where it is to lead
 leads : (r : Rewrite) (a t n : ℕ) → HasMade r.output a (Jal 0 (distance t a)) n → a < 2 ^ 63 → t < 2 ^ 63 → Goes r.output a t
 leads r a t n has h k = jumps (distance t a) (has_at r.output a (Jal 0 (distance t a)) n has) (lead a t h k)

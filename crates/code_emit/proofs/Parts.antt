@@ -2,7 +2,7 @@
 use Rattle.std.proofs.Common.{◌≡◌, ℕ, zero, suc, ◌+◌, ◌<◌, List, [], ◌∷◌, ◌++◌, length, refl, sym, ap, ◌∙◌, subst, arith, get_or}
 use Rattle.std.proofs.Common.{take, true, false}
 use Rattle.std.specs.Prelude.{All, map}
-use Rattle.std.proofs.lemmas.List.{append_assoc}
+use Rattle.std.proofs.lemmas.List.{append_assoc, append-nil}
 use Rattle.std.proofs.lemmas.List.Elements.{All-contains, Contains-append_left}
 use Rattle.rb_bytes.proofs.ListLemmas.{all_of}
 use Rattle.code_emit.specs.Inputs.{HasLowTargets}
@@ -78,17 +78,13 @@ inner_can f a (p ∷ ps) (suc i) d h can =
     inner_can f (a + p.len) ps i d (omega (arith, h))
     (all_can_back (made f a p form.Plain) (made_from f (a + p.len) (map as_it_is ps)) can)
 
-none_after : (ms : List Made) → ms ++ [] ≡ ms
-none_after [] = refl
-none_after (m ∷ ms) = ap (λ (l : List Made). m ∷ l) (none_after ms)
-
 -- one more piece
 pub one_more : (f : ℕ → ℕ) (a at : ℕ) (x y z : List ℕ) (ps : List Piece) (q : Piece) → at ≡ end_from a ps →
     Adds x y (made_from f a ps) → Adds y z (made f at q.placed q.form) → Adds x z (made_from f a (ps ++ q ∷ []))
 one_more f a at x y z ps q here g h =
     let m : List Made = made f (end_from a ps) q.placed q.form in
     let h2 : Adds y z (m ++ []) =
-    subst (Adds y z) (sym (none_after m)) (subst (λ (n : ℕ). Adds y z (made f n q.placed q.form)) here h) in
+    subst (Adds y z) (sym (append-nil m)) (subst (λ (n : ℕ). Adds y z (made f n q.placed q.form)) here h) in
     subst (Adds x z) (sym (made_from-append f a ps (q ∷ []))) (adds_both x y z (made_from f a ps) (m ++ []) g h2)
 
 pub inner_more : (f : ℕ → ℕ) (a at : ℕ) (x y z : List ℕ) (ps : List Placed) (i : ℕ) (d : Placed) → i < length ps →
@@ -104,7 +100,7 @@ pub last_can : (f : ℕ → ℕ) (a : ℕ) (s : Strip) (x : Form) → AllCanBeEn
 last_can f a s x can =
     let e : ℕ = end_from a (map as_it_is s.inner) in
     let q : Piece = record { placed = s.last; form = x } in
-    subst AllCanBeEncoded (none_after (made f e s.last x)) (can_parts f a (map as_it_is s.inner) (q ∷ []) can).1
+    subst AllCanBeEncoded (append-nil (made f e s.last x)) (can_parts f a (map as_it_is s.inner) (q ∷ []) can).1
 
 pub front_can : (f : ℕ → ℕ) (a : ℕ) (s : Strip) (x : Form) → AllCanBeEncoded (made_from f a (pieces_of_strip s x)) →
     AllCanBeEncoded (made_from f a (map as_it_is s.inner))

@@ -24,9 +24,10 @@ use Rattle.branch_fixup.specs.Strips.{Strip, first_in, first_of, insts_in, is_al
 use Rattle.branch_fixup.proofs.Appended.{end_append}
 use Rattle.branch_fixup.proofs.Bridge.{split_placed}
 use Rattle.branch_fixup.proofs.Covered.{Covers, covers}
-use Rattle.branch_fixup.proofs.Lists.{at_flat, contains_at}
+use Rattle.branch_fixup.proofs.Lists.{at_flat}
 use Rattle.rv_code.proofs.lists.Follows.{at_contains}
 use Rattle.rb_bytes.proofs.Members.{Contains-cons_cases, Contains-nil}
+use Rattle.rb_bytes.proofs.ListLemmas.{contains_at}
 use Rattle.branch_fixup.proofs.Lists.{flat_at}
 use Rattle.branch_fixup.proofs.Orders.{order_has}
 use Rattle.branch_fixup.proofs.Placed.{piece_inst}

@@ -11,13 +11,6 @@ use Rattle.rv_code.specs.layout.Lists.{ListsAll}
 abbrev pub ChosenOf : {A : Type 0} → (A → Type 0) → (A → A → Type 0) → List A → ℕ → List A → Type 0
 ChosenOf P R xs n chosen = ListsAll (λ x. Contains (take n xs) x × P x) R chosen
 
-pub chosen_begin : {A : Type 0} (P : A → Type 0) (R : A → A → Type 0) (xs : List A) → ChosenOf P R xs 0 []
-chosen_begin P R xs = record {
-  only = λ x (k, within, is). absurd (omega arith);
-  each = λ x (is_in, is). absurd (let within = is_in.1 in omega arith);
-  ordered = λ i j d less within. absurd (omega arith);
-}
-
 -- one of the first n items stands before the n-th
 before : {A : Type 0} (R : A → A → Type 0) (xs : List A) (n : ℕ) (y x d : A) → AllPairs R xs → n < length xs →
     x ≡ slice_index_or xs n d → Contains (take n xs) y → R y x

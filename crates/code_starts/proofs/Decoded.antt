@@ -1,9 +1,7 @@
 -- What is decoded from the bytes at an address is the only instruction there.
-use Rattle.std.proofs.Common.{◌≡◌, ◌≢◌, sym, subst, ℕ, ◌⊎◌, inl, inr, ⊎_elim, Option, Some, None, IfSome, IfNone}
+use Rattle.std.proofs.Common.{◌≡◌, ◌≢◌, sym, subst, ℕ, ◌⊎◌, inl, ⊎_elim, Option, Some, None, IfSome, IfNone}
 use Rattle.rv_code.specs.declared.inst.Inst.{Inst}
 use Rattle.rv_code.specs.isa.InstBytes.{Decodes, DecodesHalf, DecodesFull}
-use Rattle.elf_image.specs.declared.elf.Elf.{Elf}
-use Rattle.elf_code.specs.Parts.{IsInstAt}
 
 -- a form of two bytes doesn't look at the next halfword
 pub Decodes-two : (half : ℕ) (next next' : Option ℕ) (inst : Inst) (bytes : ℕ) → bytes ≢ 4 → Decodes half next inst bytes →
@@ -12,19 +10,10 @@ Decodes-two half next next' inst bytes short =
     ⊎_elim (λ (two : DecodesHalf half inst bytes). inl two)
     (λ (full : DecodesFull half next inst bytes). absurd (short full.four_bytes))
 
-pub Decodes-none_four : (half : ℕ) (inst : Inst) (bytes : ℕ) → Decodes half None inst bytes → bytes ≡ 2
-Decodes-none_four half inst bytes =
-    ⊎_elim (λ (two : DecodesHalf half inst bytes). two.two_bytes) (λ (full : DecodesFull half None inst bytes). absurd full.row)
-
 pub Decodes-same : (h h' n n' : ℕ) (inst : Inst) (bytes : ℕ) → h ≡ h' → n ≡ n' → Decodes h' (Some n') inst bytes →
     Decodes h (Some n) inst bytes
 Decodes-same h h' n n' inst bytes same next is =
     subst (λ (x : ℕ). Decodes x (Some n) inst bytes) (sym same) (subst (λ (x : ℕ). Decodes h' (Some x) inst bytes) (sym next) is)
-
--- how many bytes it takes
-pub IsInstAt-bytes : (elf : Elf) (a : ℕ) (inst : Inst) (bytes : ℕ) → IsInstAt elf a inst bytes → (bytes ≡ 2) ⊎ (bytes ≡ 4)
-IsInstAt-bytes elf a inst bytes =
-    ⊎_elim (λ (two : DecodesHalf _ inst bytes). inl two.two_bytes) (λ (full : DecodesFull _ _ inst bytes). inr full.four_bytes)
 
 -- a decoder's answer
 pub decoded : (half : ℕ) (next : Option ℕ) (o : Option (Inst × ℕ)) →

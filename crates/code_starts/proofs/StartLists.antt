@@ -5,12 +5,12 @@ use Rattle.std.specs.List.{Contains, AllPairs}
 use Rattle.std.proofs.lemmas.Bool.{cases_lt, lt-ltb, le-ltb}
 use Rattle.std.proofs.lemmas.List.{get_or_default}
 use Rattle.std.proofs.lemmas.List.Kept.{AllPairs-cons}
-use Rattle.std.proofs.lemmas.List.Elements.{All-append}
 use Rattle.std.proofs.lemmas.List.Elements.{Contains-append_left, Contains-append_right, Contains-append_cases}
 use Rattle.rv_code.specs.layout.Lists.{ListsNumbers}
 use Rattle.elf_image.specs.declared.elf.Elf.{Elf}
 use Rattle.elf_code.specs.Parts.{StartsIn, at_start, after, length_at, halfword_at, IsStart}
 use Rattle.rb_bytes.proofs.Members.{Contains-cons_cases}
+use Rattle.rb_bytes.proofs.ListLemmas.{pairs_append}
 use Rattle.code_starts.specs.declared.parts.Part.{Part}
 use Rattle.code_starts.specs.Parts.{AreCodeParts, Precedes}
 use Rattle.code_starts.specs.Starts.{starts_within, starts_from, starts_of}
@@ -118,25 +118,13 @@ lists_same : {P Q : ℕ → Type 0} (xs : List ℕ) → ((a : ℕ) → P a → Q
 lists_same xs to from lists =
     record { only = λ a is_in. to a (lists.only a is_in); each = λ a is. lists.each a (from a is); ordered = lists.ordered }
 
-AllPairs-append : {A : Type 0} (R : A → A → Type 0) (xs ys : List A) → AllPairs R xs → AllPairs R ys →
-    ((a b : A) → Contains xs a → Contains ys b → R a b) → AllPairs R (xs ++ ys)
-AllPairs-append R [] ys left right across = right
-AllPairs-append R (x ∷ xs) ys left right across =
-    AllPairs-cons R x (xs ++ ys)
-    (All-append (R x) xs ys
-    (λ k d within. left 0 (suc k) d (omega arith) (omega arith))
-    (λ k d within. across x (slice_index_or ys k d) (0, omega arith, refl)
-    (k, within, get_or_default ys k (slice_index_or ys k d) d within)))
-    (AllPairs-append R xs ys (λ i j d less within. left (suc i) (suc j) d (omega arith) (omega arith)) right
-    (λ a b (k, within, is) is_b. across a b (suc k, omega arith, is) is_b))
-
 pub lists_append : (P Q : ℕ → Type 0) (xs ys : List ℕ) → ListsNumbers P xs → ListsNumbers Q ys → ((a b : ℕ) → P a → Q b → a < b) →
     ListsNumbers (λ a. P a ⊎ Q a) (xs ++ ys)
 lists_append P Q xs ys left right less = record {
   only = λ a is_in. ⊎_elim (λ l. inl (left.only a l)) (λ r. inr (right.only a r)) (Contains-append_cases xs ys a is_in);
   each = λ a. ⊎_elim (λ l. Contains-append_left xs ys a (left.each a l)) (λ r. Contains-append_right xs ys a (right.each a r));
   ordered =
-      AllPairs-append (λ a b. a < b) xs ys left.ordered right.ordered (λ a b l r. less a b (left.only a l) (right.only b r));
+      pairs_append (λ a b. a < b) xs ys left.ordered right.ordered (λ a b l r. less a b (left.only a l) (right.only b r));
 }
 
 -- those of one part

@@ -1,5 +1,7 @@
 -- What is spelled of a table of abbreviations is at most three times what it was read from.
-use Rattle.std.proofs.Common.{◌≡◌, ◌<◌, ◌≤◌, ◌+◌, ◌-◌, ◌*◌, ◌^◌, ◌++◌, ◌∙◌, ℕ, ℤ, zero, suc, pos, negsuc, List, [], ◌∷◌, Bool, true, false, cond, Option, Some, None, Ok, Err, Result, refl, ap, sym, subst, arith, length, drop, map, take, nat_lt, not, length-append, length-drop, ⊎_elim, inl, inr}
+use Rattle.std.proofs.Common.{◌≡◌, ◌<◌, ◌≤◌, ◌+◌, ◌-◌, ◌*◌, ◌^◌, ◌++◌, ◌∙◌, ℕ, ℤ, zero, suc, pos, negsuc, List, [], ◌∷◌, Bool, true}
+use Rattle.std.proofs.Common.{false, cond, Option, Some, None, Ok, Err, Result, refl, ap, sym, subst, arith, length, drop, map, take}
+use Rattle.std.proofs.Common.{nat_lt, not, length-append, length-drop, ⊎_elim, inl, inr}
 use Rattle.std.specs.Prelude.{◌==◌, ◌&&◌, ◌||◌, ◌⊎◌, if◌then◌else◌, filter, flat_map, sum_by, unwrap_or, FitsSigned}
 use Rattle.std.specs.List.{list_any, range_with_len}
 use Rattle.std.specs.Int.{w64, cast_signed, cast_unsigned}
@@ -8,6 +10,7 @@ use Rattle.std.proofs.lemmas.Bool.{eqb-true}
 use Rattle.std.proofs.lemmas.Bool.Decides.{nat_tests}
 use Rattle.std.proofs.lemmas.Grind.{flat_map-append}
 use Rattle.std.proofs.lemmas.List.Sums.{sum_by-cons}
+use Rattle.std.proofs.lemmas.Option.{same_Some}
 use Rattle.rb_bytes.specs.declared.gap.Gap.{Gap}
 use Rattle.rb_bytes.specs.declared.gap.Gap.TheVariants.{Short, Wide}
 use Rattle.rb_bytes.specs.Readers.{and_then, number_read}
@@ -25,13 +28,16 @@ use Rattle.dw_unit.specs.declared.declaration.Spec.{Spec}
 use Rattle.dw_unit.specs.AbbrevWeight.{abbrev_weight, table_weight}
 use Rattle.dw_unit.specs.Trouble.{Read, whole}
 use Rattle.dw_unit.specs.CompUnits.{Sections, Unit, unit_of, units}
-use Rattle.dw_unit.specs.Declarations.{Declaration, Table, implicit_at, spec_at, specs_at, specs_within, add_spec, declaration_at, declaration_or_end, next_declaration, table_within, table_at, table_behind, has_spec}
-use Rattle.dw_unit.specs.Changes.{changed_abbrevs, changed_spec, declaration_bytes, flag, is_own, keeps_low, new_name, ranges_specs, spec_bytes, table_bytes, table_offsets}
+use Rattle.dw_unit.specs.Declarations.{Declaration, implicit_at, spec_at, specs_at, specs_within, add_spec, declaration_at}
+use Rattle.dw_unit.specs.Declarations.{declaration_or_end, next_declaration, table_within, table_at, table_behind, has_spec}
+use Rattle.dw_unit.specs.Changes.{changed_abbrevs, changed_spec, declaration_bytes, flag, is_own, keeps_low, new_name}
+use Rattle.dw_unit.specs.Changes.{ranges_specs, spec_bytes, table_bytes}
 use Rattle.dw_unit.proofs.Forms.{uleb_forward}
 use Rattle.dw_unit.proofs.NamedOffsets.{ends_inside}
 use Rattle.dw_unit.proofs.Readers.{spec_behind}
 use Rattle.dw_unit.proofs.SpellableTables.{made_spec, uleb_small}
-use Rattle.dw_unit.proofs.Spelled.{behind_form, behind_implicit, bytes_of_table, implicit_bytes, of_tag, of_children, of_specs, some_declaration}
+use Rattle.dw_unit.proofs.Spelled.{behind_form, behind_implicit, bytes_of_table, implicit_bytes, of_tag, of_children, of_specs}
+use Rattle.dw_unit.proofs.Spelled.{some_declaration}
 use Rattle.dw_unit.proofs.UnitsRead.{IsRead, unit_read}
 
 -- Numbers in LEB128
@@ -50,17 +56,20 @@ fits_is (pos n) f = let g : n < 2 ^ 63 = grind (arith, nat_tests) in omega (arit
 fits_is (negsuc n) f = let g : n < 2 ^ 63 = grind (arith, nat_tests) in omega (arith, ints)
 
 sleb_fits_by : (short fits : Bool) (v z : ℤ) (n : ℕ) (bytes rest : List ℕ) → fits_i64 v ≡ fits →
-    ◌≡◌ {A = Result (ℤ × List ℕ) Gap} (cond short (Err Short) (cond fits (Ok (v, drop n bytes)) (Err Wide))) (Ok (z, rest)) → FitsSigned w64 z
+    ◌≡◌ {A = Result (ℤ × List ℕ) Gap} (cond short (Err Short) (cond fits (Ok (v, drop n bytes)) (Err Wide))) (Ok (z, rest)) →
+    FitsSigned w64 z
 sleb_fits_by true fits v z n bytes rest f e = absurd (cc)
 sleb_fits_by false false v z n bytes rest f e = absurd (cc)
 sleb_fits_by false true v z n bytes rest f e = let g : v ≡ z = same_value _ _ _ _ e in subst (λ (k : ℤ). FitsSigned w64 k) g (fits_is v f)
 
 sleb_fits : (z : ℤ) (bytes rest : List ℕ) → sleb_at bytes ≡ Ok (z, rest) → FitsSigned w64 z
 sleb_fits z bytes rest e =
-    sleb_fits_by (nat_lt (length bytes) (leb_length bytes)) (fits_i64 (sleb_value (take (leb_length bytes) bytes))) (sleb_value (take (leb_length bytes) bytes)) z
+    sleb_fits_by (nat_lt (length bytes) (leb_length bytes)) (fits_i64 (sleb_value (take (leb_length bytes) bytes)))
+    (sleb_value (take (leb_length bytes) bytes)) z
     (leb_length bytes) bytes rest refl e
 
-signed_size : (x : ℕ) (bytes rest : List ℕ) → value_at Unsound 0 SignedLeb bytes ≡ Ok (x, rest) → length (sleb (cast_signed w64 x)) + length rest ≤ length bytes
+signed_size : (x : ℕ) (bytes rest : List ℕ) → value_at Unsound 0 SignedLeb bytes ≡ Ok (x, rest) →
+    length (sleb (cast_signed w64 x)) + length rest ≤ length bytes
 signed_size x bytes rest e = step (sleb_at bytes) refl e where
   step : (found : Result (ℤ × List ℕ) Gap) → sleb_at bytes ≡ found →
       ◌≡◌ {A = Read ℕ} (or_trouble Unsound (and_then found (λ z rest. Ok (cast_unsigned w64 z, rest)))) (Ok (x, rest)) →
@@ -93,7 +102,8 @@ implicit_size : (name form implicit : ℕ) (b : Bool) (left rest : List ℕ) →
 implicit_size name form implicit true left rest is e = signed_size implicit left rest e
 implicit_size name form implicit false left rest is e = let n = ap length (same_left _ _ _ _ e) in omega arith
 
-module _ (left left1 left2 rest : List ℕ) (name form : ℕ) (s : Spec) (named : uleb_at left ≡ Ok (name, left1)) (formed : uleb_at left1 ≡ Ok (form, left2)) where
+module _ (left left1 left2 rest : List ℕ) (name form : ℕ) (s : Spec) (named : uleb_at left ≡ Ok (name, left1))
+    (formed : uleb_at left1 ≡ Ok (form, left2)) where
   by_read : (r : Read ℕ) → implicit_at form left2 ≡ r → behind_implicit name form r ≡ Ok (Some s, rest) → IsSized s left rest
   by_read (Err t) is e = absurd (cc)
   by_read (Ok read) is e =
@@ -104,26 +114,31 @@ module _ (left left1 left2 rest : List ℕ) (name form : ℕ) (s : Spec) (named 
       let b = uleb_forward left1 left2 form formed in
       let i = implicit_size name form read.0 (form == 33) left2 read.1 refl is in
       subst (λ (l : List ℕ). IsSized s left l) rest_is
-      (subst (λ (x : Spec). IsSized x left read.1) (made_spec name form read.0 read.1 rest s e) (record { size = omega arith; less = omega arith; two = omega arith }))
+      (subst (λ (x : Spec). IsSized x left read.1) (made_spec name form read.0 read.1 rest s e)
+      (record { size = omega arith; less = omega arith; two = omega arith }))
 
   by_zeros : (b : Bool) →
-      ◌≡◌ {A = Read (Option Spec)} (if b then Ok (None, left2) else behind_implicit name form (implicit_at form left2)) (Ok (Some s, rest)) → IsSized s left rest
+      ◌≡◌ {A = Read (Option Spec)} (if b then Ok (None, left2) else behind_implicit name form (implicit_at form left2))
+      (Ok (Some s, rest)) → IsSized s left rest
   by_zeros true e = let g : None ≡ Some s = same_value _ _ _ _ e in absurd (cc)
   by_zeros false e = by_read (implicit_at form left2) refl e
 
-by_form : (name : ℕ) (left left1 rest : List ℕ) (s : Spec) (found : Result (ℕ × List ℕ) Gap) → uleb_at left ≡ Ok (name, left1) → uleb_at left1 ≡ found →
+by_form : (name : ℕ) (left left1 rest : List ℕ) (s : Spec) (found : Result (ℕ × List ℕ) Gap) → uleb_at left ≡ Ok (name, left1) →
+    uleb_at left1 ≡ found →
     behind_form name (whole found) ≡ Ok (Some s, rest) → IsSized s left rest
 by_form name left left1 rest s (Err gap) named is e = absurd (cc)
 by_form name left left1 rest s (Ok read) named is e = by_zeros left left1 read.1 rest name read.0 s named is (name == 0 && read.0 == 0) e
 
 spec_sized : (left rest : List ℕ) (s : Spec) → spec_at left ≡ Ok (Some s, rest) → IsSized s left rest
 spec_sized left rest s e = by_name (uleb_at left) refl e where
-  by_name : (found : Result (ℕ × List ℕ) Gap) → uleb_at left ≡ found → and_then (whole found) spec_behind ≡ Ok (Some s, rest) → IsSized s left rest
+  by_name : (found : Result (ℕ × List ℕ) Gap) → uleb_at left ≡ found → and_then (whole found) spec_behind ≡ Ok (Some s, rest) →
+      IsSized s left rest
   by_name (Err gap) is e = absurd (cc)
   by_name (Ok read) is e = by_form read.0 left read.1 rest s (uleb_at read.1) is refl e
 
 -- the two zeros
-zeros_behind : (name : ℕ) (left left1 rest : List ℕ) (found : Result (ℕ × List ℕ) Gap) → length left1 < length left → uleb_at left1 ≡ found →
+zeros_behind : (name : ℕ) (left left1 rest : List ℕ) (found : Result (ℕ × List ℕ) Gap) → length left1 < length left →
+    uleb_at left1 ≡ found →
     behind_form name (whole found) ≡ Ok (None, rest) → 2 + length rest ≤ length left
 zeros_behind name left left1 rest (Err gap) h is e = absurd (cc)
 zeros_behind name left left1 rest (Ok read) h is e = by_zeros_of (name == 0 && read.0 == 0) e where
@@ -131,7 +146,8 @@ zeros_behind name left left1 rest (Ok read) h is e = by_zeros_of (name == 0 && r
   by_implicit (Err t) f = absurd (cc)
   by_implicit (Ok got) f = let g : Some (spec name read.0 got.0) ≡ None = same_value _ _ _ _ f in absurd (cc)
 
-  by_zeros_of : (b : Bool) → ◌≡◌ {A = Read (Option Spec)} (if b then Ok (None, read.1) else behind_implicit name read.0 (implicit_at read.0 read.1)) (Ok (None, rest)) →
+  by_zeros_of : (b : Bool) → ◌≡◌ {A = Read (Option Spec)} (if b then Ok (None, read.1) else behind_implicit name read.0
+      (implicit_at read.0 read.1)) (Ok (None, rest)) →
       2 + length rest ≤ length left
   by_zeros_of true f =
       let g = ap length (same_left _ _ _ _ f) in
@@ -141,14 +157,16 @@ zeros_behind name left left1 rest (Ok read) h is e = by_zeros_of (name == 0 && r
 
 zeros_sized : (left rest : List ℕ) → spec_at left ≡ Ok (None, rest) → 2 + length rest ≤ length left
 zeros_sized left rest e = by_name (uleb_at left) refl e where
-  by_name : (found : Result (ℕ × List ℕ) Gap) → uleb_at left ≡ found → and_then (whole found) spec_behind ≡ Ok (None, rest) → 2 + length rest ≤ length left
+  by_name : (found : Result (ℕ × List ℕ) Gap) → uleb_at left ≡ found → and_then (whole found) spec_behind ≡ Ok (None, rest) →
+      2 + length rest ≤ length left
   by_name (Err gap) is e = absurd (cc)
   by_name (Ok read) is e = zeros_behind read.0 left read.1 rest (uleb_at read.1) (uleb_forward left read.1 read.0 is) refl e
 
 -- with their changes
 
 module _ (own : Bool) (d : Declaration) where
-  spec_size : (name form implicit : ℕ) → length (spec_bytes (spec name form implicit)) ≡ length (uleb name) + length (uleb form) + length (implicit_bytes (form == 33) (spec name form implicit))
+  spec_size : (name form implicit : ℕ) → length (spec_bytes (spec name form implicit)) ≡ length (uleb name) + length (uleb form) + length
+      (implicit_bytes (form == 33) (spec name form implicit))
   spec_size name form implicit =
       length-append (uleb name ++ uleb form) (implicit_bytes (form == 33) (spec name form implicit))
       ∙ ap (λ (n : ℕ). n + length (implicit_bytes (form == 33) (spec name form implicit))) (length-append (uleb name) (uleb form))
@@ -194,7 +212,8 @@ module _ (own : Bool) (d : Declaration) where
       omega arith
 
   changed_by : (s : Spec) (left rest : List ℕ) (b : Bool) → IsSized s left rest →
-      length (flat_map spec_bytes (if b then ranges_specs s.form else spec (new_name own d s.name) s.form s.implicit ∷ [])) + 3 * length rest ≤ 3 * length left
+      length (flat_map spec_bytes (if b then ranges_specs s.form else spec (new_name own d s.name) s.form s.implicit ∷ [])) + 3 * length
+      rest ≤ 3 * length left
   changed_by s left rest true i = let n = ranges_size (s.form == 6) in let m = i.two in omega arith
   changed_by s left rest false i =
       renamed_size s left rest (new_name own d s.name) i
@@ -203,7 +222,8 @@ module _ (own : Bool) (d : Declaration) where
   abbrev changed_bytes : List Spec → List ℕ
   changed_bytes specs = flat_map spec_bytes (flat_map (changed_spec own d) specs)
 
-  more_size : (s : Spec) (specs : List Spec) → length (changed_bytes (s ∷ specs)) ≡ length (flat_map spec_bytes (changed_spec own d s)) + length (changed_bytes specs)
+  more_size : (s : Spec) (specs : List Spec) → length (changed_bytes (s ∷ specs)) ≡ length (flat_map spec_bytes (changed_spec own d s)) +
+      length (changed_bytes specs)
   more_size s specs =
       ap length (flat_map-append spec_bytes (changed_spec own d s) (flat_map (changed_spec own d) specs))
       ∙ length-append (flat_map spec_bytes (changed_spec own d s)) (changed_bytes specs)
@@ -235,14 +255,16 @@ none_sized own d specs left left1 rest is e =
     (subst (λ (xs : List Spec). AreSized own d xs left left1) (same_value _ _ _ _ e) whole)
 
 by_spec : (own : Bool) (d : Declaration) (n : ℕ) (left rest : List ℕ) (specs : List Spec) (r : Read (Option Spec)) →
-    ((left rest : List ℕ) (specs : List Spec) → specs_within n left ≡ Ok (specs, rest) → AreSized own d specs left rest) → spec_at left ≡ r →
+    ((left rest : List ℕ) (specs : List Spec) → specs_within n left ≡ Ok (specs, rest) → AreSized own d specs left rest) →
+    spec_at left ≡ r →
     and_then r (add_spec (specs_within n)) ≡ Ok (specs, rest) → AreSized own d specs left rest
 by_spec own d n left rest specs (Err t) ih is e = absurd (cc)
 by_spec own d n left rest specs (Ok (None, left1)) ih is e = none_sized own d specs left left1 rest is e
 by_spec own d n left rest specs (Ok (Some s, left1)) ih is e =
     by_rest own d s specs left left1 rest (specs_within n left1) (λ specs rest f. ih left1 rest specs f) (spec_sized left left1 s is) e
 
-specs_sized : (own : Bool) (d : Declaration) (n : ℕ) (left rest : List ℕ) (specs : List Spec) → specs_within n left ≡ Ok (specs, rest) → AreSized own d specs left rest
+specs_sized : (own : Bool) (d : Declaration) (n : ℕ) (left rest : List ℕ) (specs : List Spec) → specs_within n left ≡ Ok (specs, rest) →
+    AreSized own d specs left rest
 unfolding specs_within
 specs_sized own d zero left rest specs e = absurd (cc)
 specs_sized own d (suc n) left rest specs e =
@@ -274,8 +296,15 @@ abbrev IsSmall : Bool → Declaration → List ℕ → List ℕ → Type 0
 IsSmall own d left rest = length (declaration_bytes own d) + 3 * length rest ≤ 3 * length left
 
 module _ (place code : ℕ) (own : Bool) (d : Declaration) (left left1 rest : List ℕ) (coded : uleb_at left ≡ Ok (code, left1)) where
-  made_small : (tag : ℕ) (children : Bool) (left2 left3 more : List ℕ) (specs : List Spec) → uleb_at left1 ≡ Ok (tag, left2) → 1 + length left3 ≤ length left2 →
-      specs_at left3 ≡ Ok (specs, more) → IsSmall own (record { place = place; code = code; tag = tag; children = children; specs = specs }) left more
+  made_small : (tag : ℕ) (children : Bool) (left2 left3 more : List ℕ) (specs : List Spec) → uleb_at left1 ≡ Ok (tag, left2) →
+      1 + length left3 ≤ length left2 →
+      specs_at left3 ≡ Ok (specs, more) → IsSmall own (record {
+        place = place;
+        code = code;
+        tag = tag;
+        children = children;
+        specs = specs;
+      }) left more
   made_small tag children left2 left3 more specs tagged byte is =
       let x : Declaration = record { place = place; code = code; tag = tag; children = children; specs = specs } in
       let s = specs_sized own x (length left3) left3 more specs is in
@@ -284,12 +313,14 @@ module _ (place code : ℕ) (own : Bool) (d : Declaration) (left left1 rest : Li
       let z = declaration_size own x in
       omega arith
 
-  by_specs : (tag : ℕ) (children : Bool) (left2 left3 : List ℕ) (r : Read (List Spec)) → uleb_at left1 ≡ Ok (tag, left2) → 1 + length left3 ≤ length left2 →
+  by_specs : (tag : ℕ) (children : Bool) (left2 left3 : List ℕ) (r : Read (List Spec)) → uleb_at left1 ≡ Ok (tag, left2) →
+      1 + length left3 ≤ length left2 →
       specs_at left3 ≡ r → of_specs place code tag children r ≡ Ok (d, rest) → IsSmall own d left rest
   by_specs tag children left2 left3 (Err t) tagged byte is e = absurd (cc)
   by_specs tag children left2 left3 (Ok read) tagged byte is e =
       subst (λ (l : List ℕ). IsSmall own d left l) (same_left _ _ _ _ e)
-      (subst (λ (x : Declaration). IsSmall own x left read.1) (same_value _ _ _ _ e) (made_small tag children left2 left3 read.1 read.0 tagged byte is))
+      (subst (λ (x : Declaration). IsSmall own x left read.1) (same_value _ _ _ _ e)
+      (made_small tag children left2 left3 read.1 read.0 tagged byte is))
 
   by_children : (tag : ℕ) (left2 : List ℕ) (r : Result (ℕ × List ℕ) Gap) → uleb_at left1 ≡ Ok (tag, left2) → number_read 1 left2 ≡ r →
       of_children place code tag (whole r) ≡ Ok (d, rest) → IsSmall own d left rest
@@ -308,21 +339,25 @@ module _ (place code : ℕ) (own : Bool) (d : Declaration) (left left1 rest : Li
     or_declaration (Some x) = x
     or_declaration None = d
 
-  by_some : (r : Read Declaration) → declaration_at place code left1 ≡ r → some_declaration r ≡ Ok (Some d, rest) → IsSmall own d left rest
+  by_some : (r : Read Declaration) → declaration_at place code left1 ≡ r → some_declaration r ≡ Ok (Some d, rest) →
+      IsSmall own d left rest
   by_some (Err t) is e = absurd (cc)
   by_some (Ok read) is e =
       subst (λ (l : List ℕ). IsSmall own d left l) (same_left _ _ _ _ e)
       (subst (λ (x : Declaration). IsSmall own x left read.1) (some_of read.0 (same_value _ _ _ _ e))
       (by_tag place code own read.0 left left1 read.1 coded (uleb_at left1) refl is))
 
-  by_end : (b : Bool) → ◌≡◌ {A = Read (Option Declaration)} (if b then Ok (None, left1) else some_declaration (declaration_at place code left1)) (Ok (Some d, rest)) →
+  by_end : (b : Bool) → ◌≡◌ {A = Read (Option Declaration)} (if b then Ok (None, left1) else some_declaration
+      (declaration_at place code left1)) (Ok (Some d, rest)) →
       IsSmall own d left rest
   by_end true e = let g : None ≡ Some d = same_value _ _ _ _ e in absurd (cc)
   by_end false e = by_some (declaration_at place code left1) refl e
 
-declaration_small : (place : ℕ) (own : Bool) (left rest : List ℕ) (d : Declaration) → next_declaration place left ≡ Ok (Some d, rest) → IsSmall own d left rest
+declaration_small : (place : ℕ) (own : Bool) (left rest : List ℕ) (d : Declaration) → next_declaration place left ≡ Ok (Some d, rest) →
+    IsSmall own d left rest
 declaration_small place own left rest d e = by_code (uleb_at left) refl e where
-  by_code : (found : Result (ℕ × List ℕ) Gap) → uleb_at left ≡ found → and_then (whole found) (declaration_or_end place) ≡ Ok (Some d, rest) → IsSmall own d left rest
+  by_code : (found : Result (ℕ × List ℕ) Gap) → uleb_at left ≡ found →
+      and_then (whole found) (declaration_or_end place) ≡ Ok (Some d, rest) → IsSmall own d left rest
   by_code (Err gap) is e = absurd (cc)
   by_code (Ok read) is e = by_end place read.0 own d left read.1 rest is (read.0 == 0) e
 
@@ -333,23 +368,23 @@ end_size place left rest e = by_code (uleb_at left) refl e where
   by_some (Ok read) f = let g : Some read.0 ≡ None = same_value _ _ _ _ f in absurd (cc)
 
   by_zero : (code : ℕ) (left1 : List ℕ) (b : Bool) → uleb_at left ≡ Ok (code, left1) →
-      ◌≡◌ {A = Read (Option Declaration)} (if b then Ok (None, left1) else some_declaration (declaration_at place code left1)) (Ok (None, rest)) → 1 + length rest ≤ length left
+      ◌≡◌ {A = Read (Option Declaration)} (if b then Ok (None, left1) else some_declaration (declaration_at place code left1))
+      (Ok (None, rest)) → 1 + length rest ≤ length left
   by_zero code left1 true is f =
       let g = ap length (same_left _ _ _ _ f) in
       let h = uleb_forward left left1 code is in
       omega arith
   by_zero code left1 false is f = by_some (declaration_at place code left1) f
 
-  by_code : (found : Result (ℕ × List ℕ) Gap) → uleb_at left ≡ found → and_then (whole found) (declaration_or_end place) ≡ Ok (None, rest) → 1 + length rest ≤ length left
+  by_code : (found : Result (ℕ × List ℕ) Gap) → uleb_at left ≡ found →
+      and_then (whole found) (declaration_or_end place) ≡ Ok (None, rest) → 1 + length rest ≤ length left
   by_code (Err gap) is f = absurd (cc)
   by_code (Ok read) is f = by_zero read.0 read.1 (read.0 == 0) is f
 
 -- Tables
 
-some_is : (x y : ℕ) → Some x ≡ Some y → x ≡ y
-some_is x y e = cc
-
-table_size : (own : Declaration → Bool) (n size : ℕ) (left : List ℕ) (end : ℕ) → length left ≤ size → (table_within n size left).end ≡ Some end →
+table_size : (own : Declaration → Bool) (n size : ℕ) (left : List ℕ) (end : ℕ) → length left ≤ size →
+    (table_within n size left).end ≡ Some end →
     length (bytes_of_table own (table_within n size left).list) + 1 + 3 * size ≤ 3 * length left + 3 * end
 unfolding table_within
 table_size own zero size left end h e = absurd (cc)
@@ -362,7 +397,7 @@ table_size own (suc n) size left end h e =
           length (bytes_of_table own (table_behind (table_within n size) size r).list) + 1 + 3 * size ≤ 3 * length left + 3 * end
       step (Err t) is ih f = absurd (cc)
       step (Ok (None, rest)) is ih f =
-          let g : size - length rest ≡ end = some_is (size - length rest) end f in
+          let g : size - length rest ≡ end = same_Some (size - length rest) end f in
           let k = end_size (size - length left) left rest is in
           omega arith
       step (Ok (Some d, rest)) is ih f =
@@ -371,7 +406,8 @@ table_size own (suc n) size left end h e =
           let a = length-append (declaration_bytes (own d) d) (bytes_of_table own (table_within n size rest).list) in
           omega arith
 
-table_bytes_size : (s : Sections) (offset end : ℕ) → (table_at s.abbrevs offset).end ≡ Some end → length (table_bytes s offset) ≤ table_weight s offset
+table_bytes_size : (s : Sections) (offset end : ℕ) → (table_at s.abbrevs offset).end ≡ Some end →
+    length (table_bytes s offset) ≤ table_weight s offset
 table_bytes_size s offset end e =
     let inside = ends_inside s.abbrevs offset end e in
     let l = length-drop offset s.abbrevs in
@@ -381,21 +417,25 @@ table_bytes_size s offset end e =
     omega arith
 
 -- a table that a unit has ends
-named_ends : (abbrevs : List ℕ) (o : ℕ) (ws : List Walked) → list_any (λ (u : Unit). u.abbrev_offset == o) (oks (map (unit_of abbrevs) ws)) ≡ true →
+named_ends : (abbrevs : List ℕ) (o : ℕ) (ws : List Walked) → list_any (λ (u : Unit). u.abbrev_offset == o)
+    (oks (map (unit_of abbrevs) ws)) ≡ true →
     (end : ℕ) × ((table_at abbrevs o).end ≡ Some end)
 named_ends abbrevs o [] e = absurd (cc)
 named_ends abbrevs o (w ∷ ws) e = by_unit (unit_of abbrevs w) refl e (named_ends abbrevs o ws) where
   by_test : (u : Unit) (b : Bool) → unit_of abbrevs w ≡ Ok u → (u.abbrev_offset == o) ≡ b →
       (b || list_any (λ (u : Unit). u.abbrev_offset == o) (oks (map (unit_of abbrevs) ws))) ≡ true →
-      (list_any (λ (u : Unit). u.abbrev_offset == o) (oks (map (unit_of abbrevs) ws)) ≡ true → (end : ℕ) × ((table_at abbrevs o).end ≡ Some end)) →
+      (list_any (λ (u : Unit). u.abbrev_offset == o) (oks (map (unit_of abbrevs) ws)) ≡ true →
+      (end : ℕ) × ((table_at abbrevs o).end ≡ Some end)) →
       (end : ℕ) × ((table_at abbrevs o).end ≡ Some end)
   by_test u true is f e ih =
       let r : IsRead abbrevs w u = unit_read abbrevs w u is in
       subst (λ (x : ℕ). (end : ℕ) × ((table_at abbrevs x).end ≡ Some end)) (eqb-true u.abbrev_offset o f) (r.end, r.ends)
   by_test u false is f e ih = ih e
 
-  by_unit : (r : Result Unit Trouble) → unit_of abbrevs w ≡ r → list_any (λ (u : Unit). u.abbrev_offset == o) (oks (r ∷ map (unit_of abbrevs) ws)) ≡ true →
-      (list_any (λ (u : Unit). u.abbrev_offset == o) (oks (map (unit_of abbrevs) ws)) ≡ true → (end : ℕ) × ((table_at abbrevs o).end ≡ Some end)) →
+  by_unit : (r : Result Unit Trouble) → unit_of abbrevs w ≡ r →
+      list_any (λ (u : Unit). u.abbrev_offset == o) (oks (r ∷ map (unit_of abbrevs) ws)) ≡ true →
+      (list_any (λ (u : Unit). u.abbrev_offset == o) (oks (map (unit_of abbrevs) ws)) ≡ true →
+      (end : ℕ) × ((table_at abbrevs o).end ≡ Some end)) →
       (end : ℕ) × ((table_at abbrevs o).end ≡ Some end)
   by_unit (Err t) is e ih = ih e
   by_unit (Ok u) is e ih = by_test u (u.abbrev_offset == o) is refl e ih
@@ -416,5 +456,6 @@ sum_size f w p (o ∷ os) each = by_test (p o) refl (sum_size f w p os each) whe
 -- the weight of the written `.debug_abbrev` bounds its size
 pub abbrevs_size : (s : Sections) → length (changed_abbrevs s) ≤ abbrev_weight s
 abbrevs_size s =
-    sum_size (table_bytes s) (table_weight s) (λ o. list_any (λ (u : Unit). u.abbrev_offset == o) (units s)) (range_with_len 0 (length s.abbrevs))
+    sum_size (table_bytes s) (table_weight s) (λ o. list_any (λ (u : Unit). u.abbrev_offset == o) (units s))
+    (range_with_len 0 (length s.abbrevs))
     (λ o t. let n = named_ends s.abbrevs o (walked 5 s.info) t in table_bytes_size s o n.0 n.1)

@@ -1,5 +1,6 @@
 -- An attribute's bytes: those of its form, where it stands before the value, and those of its value.
-use Rattle.std.proofs.Common.{◌≡◌, ◌+◌, ◌-◌, ◌++◌, ℕ, zero, suc, List, Bool, true, false, Option, Some, None, Ok, Err, Result, refl, ap, sym, ◌∙◌, arith, length, length-append}
+use Rattle.std.proofs.Common.{◌≡◌, ◌+◌, ◌-◌, ◌++◌, ℕ, zero, suc, List, Bool, true, false, Option, Some, None, Ok, Err, Result, refl, ap}
+use Rattle.std.proofs.Common.{sym, ◌∙◌, arith, length, length-append}
 use Rattle.std.specs.Prelude.{◌==◌, if◌then◌else◌}
 use Rattle.rb_bytes.specs.declared.gap.Gap.{Gap}
 use Rattle.rb_bytes.specs.Readers.{and_then}
@@ -30,7 +31,8 @@ form_within-any : (n d c : ℕ) (left : List ℕ) (r : ℕ × List ℕ) → form
 unfolding form_within
 form_within-any zero d c left r e = absurd (cc)
 form_within-any (suc n) d c left r e = behind (uleb_at left) (λ more. form_within-any n d c more r) e where
-  last : (b : Bool) (x : ℕ) (rest : List ℕ) → ◌≡◌ {A = Read ℕ} (if b then Ok (x, rest) else Err (NoForm d)) (Ok r) → ◌≡◌ {A = Read ℕ} (if b then Ok (x, rest) else Err (NoForm c)) (Ok r)
+  last : (b : Bool) (x : ℕ) (rest : List ℕ) → ◌≡◌ {A = Read ℕ} (if b then Ok (x, rest) else Err (NoForm d)) (Ok r) →
+      ◌≡◌ {A = Read ℕ} (if b then Ok (x, rest) else Err (NoForm c)) (Ok r)
   last true x rest e = e
   last false x rest e = absurd (cc)
 
@@ -59,7 +61,8 @@ form_step_any : (b : Bool) (d c form : ℕ) (left : List ℕ) (r : ℕ × List �
     ◌≡◌ {A = Read ℕ} (if b then form_within (length left) c left else (if is_form form then Ok (form, left) else Err (NoForm c))) (Ok r)
 form_step_any true d c form left r e = form_within-any (length left) d c left r e
 form_step_any false d c form left r e = last (is_form form) e where
-  last : (b : Bool) → ◌≡◌ {A = Read ℕ} (if b then Ok (form, left) else Err (NoForm d)) (Ok r) → ◌≡◌ {A = Read ℕ} (if b then Ok (form, left) else Err (NoForm c)) (Ok r)
+  last : (b : Bool) → ◌≡◌ {A = Read ℕ} (if b then Ok (form, left) else Err (NoForm d)) (Ok r) →
+      ◌≡◌ {A = Read ℕ} (if b then Ok (form, left) else Err (NoForm c)) (Ok r)
   last true e = e
   last false e = absurd (cc)
 
@@ -69,7 +72,8 @@ form_any d c form left r e = form_step_any (form == 22) d c form left r e
 -- at just so many bytes
 form_local : (d form : ℕ) → Local (form_at d form)
 form_local d form x left rest e = step (form == 22) refl e where
-  step : (b : Bool) → (form == 22) ≡ b → ◌≡◌ {A = Read ℕ} (if b then form_within (length left) d left else (if is_form form then Ok (form, left) else Err (NoForm d))) (Ok (x, rest)) →
+  step : (b : Bool) → (form == 22) ≡ b → ◌≡◌ {A = Read ℕ} (if b then form_within (length left) d left else
+      (if is_form form then Ok (form, left) else Err (NoForm d))) (Ok (x, rest)) →
       Takes (form_at d form) x left rest
   step true is e =
       let a : Takes (form_within (length left) d) x left rest = form_within-local (length left) d x left rest e in

@@ -1,35 +1,23 @@
 -- The ends of calls, with one span more.
-use Rattle.std.proofs.Common.{◌≡◌, ◌≢◌, ◌<◌, ◌+◌, ◌%◌, ◌^◌, ◌++◌, ◌∙◌, ⊎_elim, ℕ, List, [], ◌∷◌, Bool, cond, Option, Some, None, BTreeMap, true, false, inl, inr, nat_cmp, ap, sym, subst, arith}
+use Rattle.std.proofs.Common.{◌≡◌, ◌≢◌, ◌<◌, ◌+◌, ◌%◌, ◌^◌, ◌++◌, ◌∙◌, ⊎_elim, ℕ, List, [], ◌∷◌, Bool, cond, Option, Some, None}
+use Rattle.std.proofs.Common.{BTreeMap, true, inl, inr, nat_cmp, ap, sym, subst, arith}
 use Rattle.std.specs.Prelude.{Contains, ◌⊎◌}
 use Rattle.std.specs.BTreeMap.{get, is_at}
 use Rattle.std.proofs.lemmas.Bool.{cases_eq}
 use Rattle.std.proofs.lemmas.Grind.{common_steps}
 use Rattle.std.proofs.lemmas.List.Elements.{Contains-push, Contains-append_left, Contains-push_cases}
-use Rattle.rb_bytes.proofs.Members.{Contains-nil}
+use Rattle.rb_bytes.proofs.Tests.{at_key}
 use Rattle.elf_image.specs.declared.elf.Elf.{Elf}
 use Rattle.addr_map.specs.declared.span.Span.{Span}
 use Rattle.dw_unit.specs.CallEnds.{AreCallEnds, HasCall}
 use Rattle.dw_unit.specs.Tables.{IsCallEnd}
 use Rattle.dw_unit.proofs.SpelledSteps.{keys_more}
 
-at_key : (k q : ℕ) → k ≢ q → is_at (nat_cmp k) q ≡ false
-at_key k q ne = grind (arith, common_steps)
-
 at_same : (k : ℕ) → is_at (nat_cmp k) k ≡ true
 at_same k = grind (arith, common_steps)
 
-some_is : (x y : ℕ) → Some x ≡ Some y → x ≡ y
-some_is x y e = cc
-
 some_none : (x : ℕ) (o : Option ℕ) → o ≡ Some x → o ≡ None → ⊥
 some_none x o e f = let g : Some x ≡ None = sym e ∙ f in absurd (cc)
-
-pub no_ends : (elf : Elf) (ends : BTreeMap ℕ ℕ) → ((q : ℕ) → get nat_cmp ends q ≡ None) → AreCallEnds elf [] ends
-no_ends elf ends empty = record {
-  is = λ from to e. absurd (some_none to (get nat_cmp ends from) e (empty from));
-  none = λ from to e c. Contains-nil c.span c.listed;
-  below = λ from to e. absurd (some_none to (get nat_cmp ends from) e (empty from));
-}
 
 module _ (elf : Elf) (spans : List Span) (x : Span) (ends : BTreeMap ℕ ℕ) (are : AreCallEnds elf spans ends) where
   longer : (from to : ℕ) → IsCallEnd elf spans from to → IsCallEnd elf (spans ++ x ∷ []) from to
@@ -65,7 +53,8 @@ module _ (elf : Elf) (spans : List Span) (x : Span) (ends : BTreeMap ℕ ℕ) (a
     is = λ from to e. longer from to (are.is from to e);
     none = λ from to e c. ⊎_elim
         (λ (before : IsCallEnd elf spans from to). are.none from to e before)
-        (λ (same : x ≡ c.span). no_call c.bytes (subst (λ (s : Span). HasCall elf s.input c.bytes) (sym same) (record { inst = c.inst; there = c.there; calls = c.calls })))
+        (λ (same : x ≡ c.span). no_call c.bytes (subst (λ (s : Span). HasCall elf s.input c.bytes) (sym same)
+        (record { inst = c.inst; there = c.there; calls = c.calls })))
         (shorter from to c);
     below = are.below;
   }
@@ -85,7 +74,8 @@ module _ (elf : Elf) (spans : List Span) (x : Span) (ends : BTreeMap ℕ ℕ) (a
 
     pub ends_more : AreCallEnds elf (spans ++ x ∷ []) new
     ends_more = record {
-      is = keys_more (λ (from to : ℕ). IsCallEnd elf (spans ++ x ∷ []) from to) ends new k v (λ from to e. longer from to (are.is from to e))
+      is = keys_more (λ (from to : ℕ). IsCallEnd elf (spans ++ x ∷ []) from to) ends new k v
+          (λ from to e. longer from to (are.is from to e))
           (record {
             span = x;
             listed = Contains-push spans x;
@@ -99,9 +89,11 @@ module _ (elf : Elf) (spans : List Span) (x : Span) (ends : BTreeMap ℕ ℕ) (a
       none = λ from to e c. ⊎_elim
           (λ (before : IsCallEnd elf spans from to). are.none from to (absent from e) before)
           (λ (same : x ≡ c.span).
-          let there : HasCall elf x.input c.bytes = subst (λ (s : Span). HasCall elf s.input c.bytes) (sym same) (record { inst = c.inst; there = c.there; calls = c.calls }) in
+          let there : HasCall elf x.input c.bytes = subst (λ (s : Span). HasCall elf s.input c.bytes) (sym same)
+          (record { inst = c.inst; there = c.there; calls = c.calls }) in
           let size : bytes ≡ c.bytes = only c.bytes there in
-          let from_is : from ≡ k = c.from_is ∙ ap (λ (s : Span). s.input + c.bytes) (sym same) ∙ ap (λ (n : ℕ). x.input + n) (sym size) ∙ sym k_is in
+          let from_is : from ≡ k = c.from_is ∙ ap (λ (s : Span). s.input + c.bytes) (sym same) ∙ ap (λ (n : ℕ). x.input + n) (sym size)
+          ∙ sym k_is in
           some_none v (get nat_cmp new k) at_k (ap (get nat_cmp new) (sym from_is) ∙ e))
           (shorter from to c);
       below = keys_more (λ (from to : ℕ). to < 2 ^ 64) ends new k v are.below small updates;

@@ -1,9 +1,11 @@
 -- The declaration that a code means, by its first place.
-use Rattle.std.proofs.Common.{◌≡◌, ◌+◌, ◌∙◌, sym, refl, ap, ℕ, zero, suc, Bool, true, false, Option, Some, None, List, [], ◌∷◌, map, drop, add-one, option_map, arith, Err, Result}
+use Rattle.std.proofs.Common.{◌≡◌, ◌+◌, ◌∙◌, sym, refl, ap, ℕ, zero, suc, Bool, true, false, Option, Some, None, List, [], ◌∷◌, map, drop}
+use Rattle.std.proofs.Common.{add-one, option_map, arith, Err, Result}
 use Rattle.std.specs.Prelude.{◌==◌, if◌then◌else◌, option_and_then, slice_get}
 use Rattle.std.specs.List.{find}
 use Rattle.dw_unit.specs.Codes.{first_place, first_from}
 use Rattle.std.proofs.lemmas.Option.{slice_get-map, same_Some}
+use Rattle.std.proofs.lemmas.List.{drop-map}
 use Rattle.table_core.specs.ReadSteps.{and_so}
 use Rattle.dw_unit.specs.declared.declaration as code
 use Rattle.dw_unit.specs.declared.trouble.Trouble.{Trouble}
@@ -19,7 +21,8 @@ declared_there : (q : ℕ) (ds : List Declaration) →
 declared_there q [] = refl
 declared_there q (d ∷ ds) = step (d.code == q) (first_place q (map (λ (d : Declaration). d.code) ds)) (declared_there q ds) where
   step : (b : Bool) (o : Option ℕ) → option_and_then (slice_get ds) o ≡ find (λ d. d.code == q) ds →
-      option_and_then (slice_get (d ∷ ds)) (if b then Some 0 else option_map (λ (n : ℕ). n + 1) o) ≡ (if b then Some d else find (λ d. d.code == q) ds)
+      option_and_then (slice_get (d ∷ ds)) (if b then Some 0 else option_map (λ (n : ℕ). n + 1) o) ≡
+      (if b then Some d else find (λ d. d.code == q) ds)
   step true o e = refl
   step false None e = e
   step false (Some n) e = ap (λ (k : ℕ). slice_get (d ∷ ds) k) (add-one n) ∙ e
@@ -29,16 +32,12 @@ get-drop xs zero n = let e : n ≡ 0 + n = omega arith in ap (slice_get xs) e
 get-drop [] (suc i) n = refl
 get-drop (x ∷ xs) (suc i) n = get-drop xs i n ∙ (let e : suc (i + n) ≡ suc i + n = omega arith in ap (slice_get (x ∷ xs)) e)
 
-map-drops : {X Y : Type 0} (f : X → Y) (i : ℕ) (xs : List X) → drop i (map f xs) ≡ map f (drop i xs)
-map-drops f zero xs = refl
-map-drops f (suc i) [] = refl
-map-drops f (suc i) (x ∷ xs) = map-drops f i xs
-
 -- from a place on, at the first place of its code
 pub declared_from : (ds : List Declaration) (q i : ℕ) →
     option_and_then (slice_get ds) (first_from (map (λ (d : Declaration). d.code) ds) q i) ≡ find (λ d. d.code == q) (drop i ds)
 declared_from ds q i =
-    ap (λ (cs : List ℕ). option_and_then (slice_get ds) (option_map (λ (n : ℕ). i + n) (first_place q cs))) (map-drops (λ (d : Declaration). d.code) i ds)
+    ap (λ (cs : List ℕ). option_and_then (slice_get ds) (option_map (λ (n : ℕ). i + n) (first_place q cs)))
+    (drop-map (λ (d : Declaration). d.code) i ds)
     ∙ step (first_place q (map (λ (d : Declaration). d.code) (drop i ds))) ∙ declared_there q (drop i ds) where
       step : (o : Option ℕ) → option_and_then (slice_get ds) (option_map (λ (n : ℕ). i + n) o) ≡ option_and_then (slice_get (drop i ds)) o
       step None = refl
@@ -57,7 +56,8 @@ module _ (xs : List code.Declaration.Declaration) (end : Option ℕ) (q i : ℕ)
   abbrev pub from_here : Table
   from_here = record { list = drop i (map told_declaration xs); end = end }
 
-  by_place : (o : Option ℕ) → o ≡ first_from (codes_of xs) q i → declaration_of from_here q ≡ usable (option_and_then (slice_get (map told_declaration xs)) o)
+  by_place : (o : Option ℕ) → o ≡ first_from (codes_of xs) q i →
+      declaration_of from_here q ≡ usable (option_and_then (slice_get (map told_declaration xs)) o)
   by_place o e =
       ap usable (sym (declared_from (map told_declaration xs) q i))
       ∙ ap (λ (cs : List ℕ). usable (option_and_then (slice_get (map told_declaration xs)) (first_from cs q i))) (codes_told xs)
@@ -66,12 +66,14 @@ module _ (xs : List code.Declaration.Declaration) (end : Option ℕ) (q i : ℕ)
   pub no_place : None ≡ first_from (codes_of xs) q i → declaration_of from_here q ≡ Err Unsound
   no_place e = by_place None e
 
-  pub no_item : (index : ℕ) → Some index ≡ first_from (codes_of xs) q i → slice_get xs index ≡ None → declaration_of from_here q ≡ Err Unsound
+  pub no_item : (index : ℕ) → Some index ≡ first_from (codes_of xs) q i → slice_get xs index ≡ None →
+      declaration_of from_here q ≡ Err Unsound
   no_item index e none =
       by_place (Some index) e
       ∙ ap usable (slice_get-map told_declaration xs index ∙ ap (option_map told_declaration) none)
 
-  pub one_item : (index : ℕ) (x : code.Declaration.Declaration) (b : Bool) → Some index ≡ first_from (codes_of xs) q i → slice_get xs index ≡ Some x →
+  pub one_item : (index : ℕ) (x : code.Declaration.Declaration) (b : Bool) → Some index ≡ first_from (codes_of xs) q i →
+      slice_get xs index ≡ Some x →
       slice_get (told_once xs) index ≡ Some b → declaration_of from_here q ≡ when b (told_declaration x)
   one_item index x b e there once =
       let once_is : are_named_once x.specs.items ≡ b = same_Some (are_named_once x.specs.items) b

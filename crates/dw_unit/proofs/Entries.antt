@@ -1,5 +1,6 @@
 -- Entries one at a time.
-use Rattle.std.proofs.Common.{◌≡◌, ◌≢◌, ◌<◌, ◌≤◌, ◌-◌, ℕ, zero, suc, List, [], ◌∷◌, Bool, true, false, Ok, Err, Result, refl, ap, ◌∙◌, arith, length}
+use Rattle.std.proofs.Common.{◌≡◌, ◌≢◌, ◌<◌, ◌≤◌, ◌-◌, ℕ, zero, suc, List, [], ◌∷◌, Bool, true, false, Ok, Err, Result, refl, ap, ◌∙◌}
+use Rattle.std.proofs.Common.{arith, length}
 use Rattle.std.specs.Prelude.{◌==◌, if◌then◌else◌}
 use Rattle.std.proofs.lemmas.Bool.Decides.{nat_tests}
 use Rattle.rb_bytes.specs.declared.gap.Gap.{Gap}
@@ -31,16 +32,19 @@ attrs_less_by end d specs l1 l2 attrs a (Ok got) is e ih =
     let less : length got.1 ≤ length l1 = ih got.0 got.1 is in
     omega arith
 
-attrs_less_from : (end d : ℕ) (s : Spec) (specs : List Spec) (l1 l2 : List ℕ) (attrs : List Attr) (found : Read Attr) → attr_at end d s l1 ≡ found →
+attrs_less_from : (end d : ℕ) (s : Spec) (specs : List Spec) (l1 l2 : List ℕ) (attrs : List Attr) (found : Read Attr) →
+    attr_at end d s l1 ≡ found →
     attrs_of_attr end d specs found ≡ Ok (attrs, l2) →
     ((l : List ℕ) (got : List Attr) (m : List ℕ) → attrs_at end d specs l ≡ Ok (got, m) → length m ≤ length l) → length l2 ≤ length l1
 attrs_less_from end d s specs l1 l2 attrs (Err t) is e ih = absurd (cc)
 attrs_less_from end d s specs l1 l2 attrs (Ok read) is e ih =
     let first : length read.1 ≤ length l1 = attr_less end d s l1 read.1 read.0 is in
-    let behind : length l2 ≤ length read.1 = attrs_less_by end d specs read.1 l2 attrs read.0 (attrs_at end d specs read.1) refl e (ih read.1) in
+    let behind : length l2 ≤ length read.1 = attrs_less_by end d specs read.1 l2 attrs read.0 (attrs_at end d specs read.1) refl e
+    (ih read.1) in
     omega arith
 
-pub attrs_less : (end d : ℕ) (specs : List Spec) (l1 l2 : List ℕ) (attrs : List Attr) → attrs_at end d specs l1 ≡ Ok (attrs, l2) → length l2 ≤ length l1
+pub attrs_less : (end d : ℕ) (specs : List Spec) (l1 l2 : List ℕ) (attrs : List Attr) → attrs_at end d specs l1 ≡ Ok (attrs, l2) →
+    length l2 ≤ length l1
 attrs_less end d [] l1 l2 attrs e = let same : length l1 ≡ length l2 = ap length (same_left _ _ _ _ e) in omega arith
 attrs_less end d (s ∷ specs) l1 l2 attrs e =
     attrs_less_from end d s specs l1 l2 attrs (attr_at end d s l1) refl e (λ l got m. attrs_less end d specs l m got)
@@ -51,7 +55,8 @@ abbrev pub More : Type 0
 More = ℕ → List ℕ → Result (List Entry) Trouble
 
 abbrev pub behind_attrs : UnitBounds → More → ℕ → ℕ → Declaration → Read (List Attr) → Result (List Entry) Trouble
-behind_attrs u more place depth d r = and_then r (λ attrs rest. with_head (walked_entry u place depth d attrs) (more (depth_behind depth d) rest))
+behind_attrs u more place depth d r = and_then r (λ attrs rest. with_head (walked_entry u place depth d attrs)
+    (more (depth_behind depth d) rest))
 
 abbrev pub behind_declaration : UnitBounds → More → ℕ → ℕ → List ℕ → Result Declaration Trouble → Result (List Entry) Trouble
 behind_declaration u more place depth left r = and_so r (λ d. behind_attrs u more place depth d (attrs_at u.end d.place d.specs left))
@@ -73,8 +78,10 @@ module _ (u : UnitBounds) (more most : More) (place depth : ℕ) where
   same_declaration left (Err t) same = refl
   same_declaration left (Ok d) same = same_attrs d left (attrs_at u.end d.place d.specs left) refl same
 
-  same_entry : (b : Bool) (code : ℕ) (left : List ℕ) → ((depth : ℕ) (rest : List ℕ) → length rest ≤ length left → more depth rest ≡ most depth rest) →
-      ◌≡◌ {A = Result (List Entry) Trouble} (if b then more (depth - 1) left else behind_declaration u more place depth left (declaration_of u.table code))
+  same_entry : (b : Bool) (code : ℕ) (left : List ℕ) → ((depth : ℕ) (rest : List ℕ) → length rest ≤ length left →
+      more depth rest ≡ most depth rest) →
+      ◌≡◌ {A = Result (List Entry) Trouble} (if b then more (depth - 1) left else behind_declaration u more place depth left
+      (declaration_of u.table code))
       (if b then most (depth - 1) left else behind_declaration u most place depth left (declaration_of u.table code))
   same_entry true code left same = same (depth - 1) left (omega arith)
   same_entry false code left same = same_declaration left (declaration_of u.table code) same
@@ -123,25 +130,30 @@ pub end_code : (u : UnitBounds) (depth : ℕ) (left rest : List ℕ) → 0 < len
     entries_at u depth left ≡ entries_at u (depth - 1) rest
 end_code u depth left rest h e = entries_step u depth left h ∙ ap (behind_code u (entries_at u) (u.end - length left) depth) e
 
-pub code_step : (u : UnitBounds) (depth code : ℕ) (left rest : List ℕ) → 0 < length left → whole (uleb_at left) ≡ Ok (code, rest) → code ≢ 0 →
+pub code_step : (u : UnitBounds) (depth code : ℕ) (left rest : List ℕ) → 0 < length left → whole (uleb_at left) ≡ Ok (code, rest) →
+    code ≢ 0 →
     entries_at u depth left ≡ behind_declaration u (entries_at u) (u.end - length left) depth rest (declaration_of u.table code)
 code_step u depth code left rest h e f =
     let test : (code == 0) ≡ false = grind (arith, nat_tests) in
     entries_step u depth left h ∙ ap (behind_code u (entries_at u) (u.end - length left) depth) e
-    ∙ ap (λ (b : Bool). if b then entries_at u (depth - 1) rest else behind_declaration u (entries_at u) (u.end - length left) depth rest (declaration_of u.table code)) test
+    ∙ ap (λ (b : Bool). if b then entries_at u (depth - 1) rest else behind_declaration u (entries_at u) (u.end - length left) depth rest
+    (declaration_of u.table code)) test
 
-pub bad_declaration : (u : UnitBounds) (depth code : ℕ) (left rest : List ℕ) (t : Trouble) → 0 < length left → whole (uleb_at left) ≡ Ok (code, rest) → code ≢ 0 →
+pub bad_declaration : (u : UnitBounds) (depth code : ℕ) (left rest : List ℕ) (t : Trouble) → 0 < length left →
+    whole (uleb_at left) ≡ Ok (code, rest) → code ≢ 0 →
     declaration_of u.table code ≡ Err t → entries_at u depth left ≡ Err t
 bad_declaration u depth code left rest t h e f g =
     code_step u depth code left rest h e f ∙ ap (behind_declaration u (entries_at u) (u.end - length left) depth rest) g
 
-pub bad_attrs : (u : UnitBounds) (depth code : ℕ) (left rest : List ℕ) (d : Declaration) (t : Trouble) → 0 < length left → whole (uleb_at left) ≡ Ok (code, rest) → code ≢ 0 →
+pub bad_attrs : (u : UnitBounds) (depth code : ℕ) (left rest : List ℕ) (d : Declaration) (t : Trouble) → 0 < length left →
+    whole (uleb_at left) ≡ Ok (code, rest) → code ≢ 0 →
     declaration_of u.table code ≡ Ok d → attrs_at u.end d.place d.specs rest ≡ Err t → entries_at u depth left ≡ Err t
 bad_attrs u depth code left rest d t h e f g k =
     code_step u depth code left rest h e f ∙ ap (behind_declaration u (entries_at u) (u.end - length left) depth rest) g
     ∙ ap (behind_attrs u (entries_at u) (u.end - length left) depth d) k
 
-pub one_entry : (u : UnitBounds) (depth code : ℕ) (left rest l2 : List ℕ) (d : Declaration) (attrs : List Attr) → 0 < length left → whole (uleb_at left) ≡ Ok (code, rest) → code ≢ 0 →
+pub one_entry : (u : UnitBounds) (depth code : ℕ) (left rest l2 : List ℕ) (d : Declaration) (attrs : List Attr) → 0 < length left →
+    whole (uleb_at left) ≡ Ok (code, rest) → code ≢ 0 →
     declaration_of u.table code ≡ Ok d → attrs_at u.end d.place d.specs rest ≡ Ok (attrs, l2) →
     entries_at u depth left ≡ with_head (walked_entry u (u.end - length left) depth d attrs) (entries_at u (depth_behind depth d) l2)
 one_entry u depth code left rest l2 d attrs h e f g k =

@@ -1,5 +1,6 @@
 -- Entries stand one behind another, over all units of a file.
-use Rattle.std.proofs.Common.{◌≡◌, ◌<◌, ◌≤◌, ◌+◌, ◌-◌, ◌++◌, ◌∙◌, ℕ, zero, suc, List, [], ◌∷◌, Bool, true, false, Ok, Err, Result, refl, ap}
+use Rattle.std.proofs.Common.{◌≡◌, ◌<◌, ◌≤◌, ◌+◌, ◌-◌, ◌++◌, ◌∙◌, ℕ, zero, suc, List, [], ◌∷◌, Bool, true, false, Ok, Err, Result, refl}
+use Rattle.std.proofs.Common.{ap}
 use Rattle.std.proofs.Common.{subst, arith, length, length-append, map}
 use Rattle.std.specs.Prelude.{◌==◌, if◌then◌else◌, flat_map}
 use Rattle.std.specs.List.{AllZip}
@@ -98,7 +99,8 @@ entries_rise u zero depth [] es h e = subst (λ (l : List Entry). Rise (u.end - 
 entries_rise u zero depth (b ∷ left) es h e = absurd (cc)
 entries_rise u (suc n) depth [] es h e = subst (λ (l : List Entry). Rise (u.end - 0) u.end l) (ap or_nil e) (omega arith)
 entries_rise u (suc n) depth (b ∷ left) es h e =
-    by_code u (entries_within u n) (length (b ∷ left)) depth h (λ depth rest es l f. entries_rise u n depth rest es (omega (arith, h, l)) f)
+    by_code u (entries_within u n) (length (b ∷ left)) depth h (λ depth rest es l f. entries_rise u n depth rest es
+    (omega (arith, h, l)) f)
     (b ∷ left) (uleb_at (b ∷ left)) es refl refl e
 
 unit_rises : (abbrevs : List ℕ) (w : Walked) (u : Unit) → IsRead abbrevs w u → Rise w.place (end_of w) u.entries

@@ -1,5 +1,6 @@
 -- Forms that stand before their values.
-use Rattle.std.proofs.Common.{◌≡◌, ◌≢◌, ◌<◌, ◌≤◌, ◌-◌, ℕ, zero, suc, List, [], ◌∷◌, Bool, true, false, cond, Ok, Err, Result, refl, ap, sym, ◌∙◌, arith, length, drop, length-drop}
+use Rattle.std.proofs.Common.{◌≡◌, ◌≢◌, ◌<◌, ◌≤◌, ◌-◌, ℕ, zero, suc, List, [], ◌∷◌, Bool, true, false, cond, Ok, Err, Result, refl, ap}
+use Rattle.std.proofs.Common.{sym, ◌∙◌, arith, length, drop, length-drop}
 use Rattle.std.specs.Prelude.{◌==◌, if◌then◌else◌}
 use Rattle.std.proofs.lemmas.Bool.Decides.{nat_tests}
 use Rattle.rb_bytes.specs.declared.gap.Gap.{Gap}
@@ -60,7 +61,8 @@ form_within-enough (suc n) (suc m) d left h k =
 
 form_read : (d x : ℕ) (rest : List ℕ) → x ≢ 33 → form_of (form_within (length rest) d) d (Ok (x, rest)) ≡ form_at d x rest
 form_read d x rest h = let f : (x == 33) ≡ false = grind (arith, nat_tests) in
-    ap (λ (b : Bool). if x == 22 then form_within (length rest) d rest else (if b then Err Unsound else (if is_form x then Ok (x, rest) else Err (NoForm d)))) f
+    ap (λ (b : Bool). if x == 22 then form_within (length rest) d rest else
+    (if b then Err Unsound else (if is_form x then Ok (x, rest) else Err (NoForm d)))) f
 
 -- one form more
 pub form_step : (d x : ℕ) (left rest : List ℕ) → uleb_at left ≡ Ok (x, rest) → x ≢ 33 → form_at d 22 left ≡ form_at d x rest

@@ -1,5 +1,6 @@
 -- A unit's header, with another offset of abbreviations in it.
-use Rattle.std.proofs.Common.{◌≡◌, ◌+◌, ◌-◌, ◌++◌, ℕ, List, ◌∷◌, Bool, true, false, Ok, Err, Result, refl, ap, sym, ◌∙◌, arith, length, length-append, append_assoc}
+use Rattle.std.proofs.Common.{◌≡◌, ◌+◌, ◌-◌, ◌++◌, ℕ, List, ◌∷◌, Bool, true, false, Ok, Err, Result, refl, ap, sym, ◌∙◌, arith, length}
+use Rattle.std.proofs.Common.{length-append, append_assoc}
 use Rattle.std.specs.Prelude.{◌==◌, ◌&&◌}
 use Rattle.rb_bytes.specs.declared.gap.Gap.{Gap}
 use Rattle.rb_bytes.specs.Readers.{bytes_at, number_read, and_then}
@@ -51,7 +52,8 @@ with_version _ left = and_then (number 1 left) with_type
 
 number_is : (n x : ℕ) (left rest : List ℕ) → number n left ≡ Ok (x, rest) → (t : Takes (number n) x left rest) → length t.front ≡ n
 number_is n x left rest e t = number_size n x t.front rest (plain (number_read n (t.front ++ rest)) refl (t.takes rest refl)) where
-  plain : (r : Result (ℕ × List ℕ) Gap) → number_read n (t.front ++ rest) ≡ r → ◌≡◌ {A = Read ℕ} (or_trouble Unsound r) (Ok (x, rest)) → number_read n (t.front ++ rest) ≡ Ok (x, rest)
+  plain : (r : Result (ℕ × List ℕ) Gap) → number_read n (t.front ++ rest) ≡ r → ◌≡◌ {A = Read ℕ} (or_trouble Unsound r) (Ok (x, rest)) →
+      number_read n (t.front ++ rest) ≡ Ok (x, rest)
   plain (Err gap) is f = absurd (cc)
   plain (Ok read) is f = is ∙ ap (λ (x : ℕ). Ok (x, read.1)) (same_value _ _ _ _ f) ∙ ap (λ (l : List ℕ). Ok (x, l)) (same_left _ _ _ _ f)
 
@@ -72,12 +74,17 @@ known false offset x mid rest e = absurd (cc)
 
 pub header_front : (bytes left : List ℕ) (offset : ℕ) → header_at bytes ≡ Ok (offset, left) → IsHeader bytes left
 header_front bytes left offset e =
-    let a : Split (number 2) with_version offset bytes left = split_then (number 2) with_version (trouble_local Unsound (number_read 2) (number_local 2)) offset bytes left e in
-    let b : Split (number 1) with_type offset a.mid left = split_then (number 1) with_type (trouble_local Unsound (number_read 1) (number_local 1)) offset a.mid left a.then in
-    let c : Split (number 1) (with_size b.x) offset b.mid left = split_then (number 1) (with_size b.x) (trouble_local Unsound (number_read 1) (number_local 1)) offset b.mid left b.then in
-    let o : Split (number 4) (with_offset b.x c.x) offset c.mid left = split_then (number 4) (with_offset b.x c.x) (trouble_local Unsound (number_read 4) (number_local 4)) offset c.mid left c.then in
+    let a : Split (number 2) with_version offset bytes left = split_then (number 2) with_version
+    (trouble_local Unsound (number_read 2) (number_local 2)) offset bytes left e in
+    let b : Split (number 1) with_type offset a.mid left = split_then (number 1) with_type
+    (trouble_local Unsound (number_read 1) (number_local 1)) offset a.mid left a.then in
+    let c : Split (number 1) (with_size b.x) offset b.mid left = split_then (number 1) (with_size b.x)
+    (trouble_local Unsound (number_read 1) (number_local 1)) offset b.mid left b.then in
+    let o : Split (number 4) (with_offset b.x c.x) offset c.mid left = split_then (number 4) (with_offset b.x c.x)
+    (trouble_local Unsound (number_read 4) (number_local 4)) offset c.mid left c.then in
     let t : Split (fields b.x) (with_fields b.x c.x o.x) offset o.mid left =
-    split_then (fields b.x) (with_fields b.x c.x o.x) (trouble_local Unsound (bytes_at (type_fields b.x)) (bytes_local (type_fields b.x))) offset o.mid left o.then in
+    split_then (fields b.x) (with_fields b.x c.x o.x) (trouble_local Unsound (bytes_at (type_fields b.x)) (bytes_local (type_fields b.x)))
+    offset o.mid left o.then in
     let k = known (is_type b.x && c.x == 8) offset o.x t.mid left t.then in
     let fa : List ℕ = a.front.front in
     let fb : List ℕ = b.front.front in
@@ -102,13 +109,17 @@ header_front bytes left offset e =
       lead_size = length-append fa (fb ++ fc) ∙ ap (λ (n : ℕ). length fa + n) (length-append fb fc) ∙ (omega arith);
       old_size = no4;
       reads = λ new offset more w h.
-          let s1 : length (ft ++ more) ≡ length o.mid = length-append ft more ∙ ap (λ (n : ℕ). length ft + n) h ∙ sym (length-append ft left) ∙ sym (ap length lt) in
+          let s1 : length (ft ++ more) ≡ length o.mid = length-append ft more ∙ ap (λ (n : ℕ). length ft + n) h
+          ∙ sym (length-append ft left) ∙ sym (ap length lt) in
           let s2 : length (offset ++ (ft ++ more)) ≡ length c.mid =
-          length-append offset (ft ++ more) ∙ ap (λ (n : ℕ). n + length (ft ++ more)) (w.size ∙ sym no4) ∙ ap (λ (n : ℕ). length fo + n) s1 ∙ sym (length-append fo o.mid) ∙ sym (ap length o.front.is) in
+          length-append offset (ft ++ more) ∙ ap (λ (n : ℕ). n + length (ft ++ more)) (w.size ∙ sym no4)
+          ∙ ap (λ (n : ℕ). length fo + n) s1 ∙ sym (length-append fo o.mid) ∙ sym (ap length o.front.is) in
           let s3 : length (fc ++ (offset ++ (ft ++ more))) ≡ length b.mid =
-          length-append fc (offset ++ (ft ++ more)) ∙ ap (λ (n : ℕ). length fc + n) s2 ∙ sym (length-append fc c.mid) ∙ sym (ap length c.front.is) in
+          length-append fc (offset ++ (ft ++ more)) ∙ ap (λ (n : ℕ). length fc + n) s2 ∙ sym (length-append fc c.mid)
+          ∙ sym (ap length c.front.is) in
           let s4 : length (fb ++ (fc ++ (offset ++ (ft ++ more)))) ≡ length a.mid =
-          length-append fb (fc ++ (offset ++ (ft ++ more))) ∙ ap (λ (n : ℕ). length fb + n) s3 ∙ sym (length-append fb b.mid) ∙ sym (ap length b.front.is) in
+          length-append fb (fc ++ (offset ++ (ft ++ more))) ∙ ap (λ (n : ℕ). length fb + n) s3 ∙ sym (length-append fb b.mid)
+          ∙ sym (ap length b.front.is) in
           let s5 : length more ≡ length t.mid = h ∙ sym (ap length k.1) in
           ap header_at (joined (offset ++ (ft ++ more)))
           ∙ ap (λ (r : Read ℕ). and_then r with_version) (a.front.takes (fb ++ (fc ++ (offset ++ (ft ++ more)))) s4)
@@ -120,10 +131,12 @@ header_front bytes left offset e =
     }
 
 -- A whole unit, behind its length: its patches, and any patches and bytes behind it.
-pub unit_patched : (place end : ℕ) (size bytes left new : List ℕ) (offset : List ℕ) (ps : List Patch) (i : IsHeader bytes left) → length size ≡ 4 →
+pub unit_patched : (place end : ℕ) (size bytes left new : List ℕ) (offset : List ℕ) (ps : List Patch) (i : IsHeader bytes left) →
+    length size ≡ 4 →
     end ≡ place + 4 + length bytes → length offset ≡ 4 →
     ((qs : List Patch) → From end qs → From (end - length left) (ps ++ qs)) →
-    ((after : List ℕ) (qs : List Patch) → From end qs → patched (end - length left) (ps ++ qs) (left ++ after) ≡ new ++ patched end qs after) →
+    ((after : List ℕ) (qs : List Patch) → From end qs → patched (end - length left) (ps ++ qs) (left ++ after) ≡ new
+    ++ patched end qs after) →
     (after : List ℕ) (qs : List Patch) → From end qs →
     patched place ((record { place = place + 8; bytes = offset } ∷ ps) ++ qs) ((size ++ bytes) ++ after)
     ≡ (size ++ (i.lead ++ (offset ++ (i.tail ++ new)))) ++ patched end qs after
@@ -131,7 +144,8 @@ unit_patched place end size bytes left new offset ps i s4 end_is o4 starts are a
     let p : Patch = record { place = place + 8; bytes = offset } in
     let last : List ℕ = patched end qs after in
     let n1 : length bytes ≡ length i.lead + (length i.old + (length i.tail + length left)) =
-    ap length i.is ∙ length-append i.lead (i.old ++ (i.tail ++ left)) ∙ ap (λ (n : ℕ). length i.lead + n) (length-append i.old (i.tail ++ left)
+    ap length i.is ∙ length-append i.lead (i.old ++ (i.tail ++ left))
+    ∙ ap (λ (n : ℕ). length i.lead + n) (length-append i.old (i.tail ++ left)
     ∙ ap (λ (n : ℕ). length i.old + n) (length-append i.tail left)) in
     let n2 : length (size ++ i.lead) ≡ length size + length i.lead = length-append size i.lead in
     let l4 : length i.lead ≡ 4 = i.lead_size in
@@ -140,10 +154,12 @@ unit_patched place end size bytes left new offset ps i s4 end_is o4 starts are a
     ap (λ (l : List ℕ). (size ++ l) ++ after) i.is
     ∙ append_assoc size (i.lead ++ (i.old ++ (i.tail ++ left))) after
     ∙ ap (λ (l : List ℕ). size ++ l) (append_assoc i.lead (i.old ++ (i.tail ++ left)) after
-    ∙ ap (λ (l : List ℕ). i.lead ++ l) (append_assoc i.old (i.tail ++ left) after ∙ ap (λ (l : List ℕ). i.old ++ l) (append_assoc i.tail left after)))
+    ∙ ap (λ (l : List ℕ). i.lead ++ l) (append_assoc i.old (i.tail ++ left) after
+    ∙ ap (λ (l : List ℕ). i.old ++ l) (append_assoc i.tail left after)))
     ∙ sym (append_assoc size i.lead (i.old ++ (i.tail ++ (left ++ after)))) in
     ap (patched place (p ∷ (ps ++ qs))) list_is
-    ∙ patched-over place (place + 12) (size ++ i.lead) i.old (i.tail ++ (left ++ after)) p (ps ++ qs) (omega arith) (omega arith) (omega arith)
+    ∙ patched-over place (place + 12) (size ++ i.lead) i.old (i.tail ++ (left ++ after)) p (ps ++ qs) (omega arith) (omega arith)
+    (omega arith)
     ∙ ap (λ (l : List ℕ). (size ++ i.lead) ++ (offset ++ l))
     (patched-behind (place + 12) (end - length left) i.tail (left ++ after) (ps ++ qs) (omega arith) (starts qs g)
     ∙ ap (λ (l : List ℕ). i.tail ++ l) (are after qs g) ∙ sym (append_assoc i.tail new last))

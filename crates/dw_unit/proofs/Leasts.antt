@@ -31,14 +31,16 @@ least_head test d ds true e = rw e refl
 least_head test d ds false e = rw e refl
 
 pub least_step : (test : Declaration → Bool) (ds : List Declaration) (i : ℕ) (e : Declaration) → i < length ds →
-    least (places_with test (drop i ds)) ≡ lower_if (test (get_or ds i e)) (get_or ds i e).place (least (places_with test (drop (i + 1) ds)))
+    least (places_with test (drop i ds)) ≡ lower_if (test (get_or ds i e)) (get_or ds i e).place
+    (least (places_with test (drop (i + 1) ds)))
 least_step test ds i e h =
     ap (λ (l : List Declaration). least (places_with test l)) (drop-cons ds i e h)
     ∙ least_head test (get_or ds i e) (drop (suc i) ds) (test (get_or ds i e)) refl
     ∙ ap (λ (k : ℕ). lower_if (test (get_or ds i e)) (get_or ds i e).place (least (places_with test (drop k ds)))) (sym (add-one i))
 
 -- the same by the declaration that stands there, and the one behind it
-pub least_with : (test : Declaration → Bool) (ds : List Declaration) (i n : ℕ) (d : Declaration) (o : Option ℕ) → n ≡ i + 1 → slice_get ds i ≡ Some d →
+pub least_with : (test : Declaration → Bool) (ds : List Declaration) (i n : ℕ) (d : Declaration) (o : Option ℕ) → n ≡ i + 1 →
+    slice_get ds i ≡ Some d →
     o ≡ least (places_with test (drop n ds)) → lower_if (test d) d.place o ≡ least (places_with test (drop i ds))
 least_with test ds i n d o next there e =
     let inside = slice_get_within ds i d there in

@@ -1,5 +1,6 @@
 -- Readers take what stands at the front, whatever follows: bytes that are as many as those that followed.
-use Rattle.std.proofs.Common.{◌≡◌, ◌<◌, ◌≤◌, ◌+◌, ◌^◌, ◌++◌, ℕ, zero, suc, List, [], ◌∷◌, Bool, true, false, cond, Ok, Err, Result, refl, ap, sym, ◌∙◌, arith, length, take, drop, nat_lt, length-append, append_assoc}
+use Rattle.std.proofs.Common.{◌≡◌, ◌<◌, ◌≤◌, ◌+◌, ◌^◌, ◌++◌, ℕ, zero, suc, List, [], ◌∷◌, Bool, true, false, cond, Ok, Err, Result, refl}
+use Rattle.std.proofs.Common.{ap, sym, ◌∙◌, arith, length, take, drop, nat_lt, length-append, append_assoc}
 use Rattle.std.specs.Prelude.{◌==◌}
 use Rattle.std.specs.List.{position_or_len}
 use Rattle.std.specs.Int.{w64, cast_unsigned}
@@ -30,7 +31,8 @@ Local {X = X} f = (x : X) (left rest : List ℕ) → f left ≡ Ok (x, rest) →
 pub then_local : {X Y E : Type 0} (f : List ℕ → Result (X × List ℕ) E) (g : X → List ℕ → Result (Y × List ℕ) E) →
     Local f → ((x : X) → Local (g x)) → Local (λ left. and_then (f left) g)
 then_local {X = X} {Y = Y} {E = E} f g l m y left rest e = step (f left) refl e where
-  step : (found : Result (X × List ℕ) E) → f left ≡ found → and_then found g ≡ Ok (y, rest) → Takes (λ left. and_then (f left) g) y left rest
+  step : (found : Result (X × List ℕ) E) → f left ≡ found → and_then found g ≡ Ok (y, rest) →
+      Takes (λ left. and_then (f left) g) y left rest
   step (Err gap) is e = absurd (cc)
   step (Ok read) is e =
       let a : Takes f read.0 left read.1 = l read.0 left read.1 is in
@@ -56,13 +58,15 @@ ok_local {X = X} {E = E} x y left rest e = record {
 pub err_local : {X E : Type 0} (e : E) → Local {X = X} {E = E} (λ left. Err e)
 err_local {X = X} {E = E} gap y left rest e = absurd (cc)
 
-pub cond_local : {X E : Type 0} (b : Bool) (f g : List ℕ → Result (X × List ℕ) E) → Local f → Local g → Local (λ left. cond b (f left) (g left))
+pub cond_local : {X E : Type 0} (b : Bool) (f g : List ℕ → Result (X × List ℕ) E) → Local f → Local g →
+    Local (λ left. cond b (f left) (g left))
 cond_local true f g l m = l
 cond_local false f g l m = m
 
 pub trouble_local : {X E : Type 0} (t : E) (f : List ℕ → Result (X × List ℕ) Gap) → Local f → Local (λ left. or_trouble t (f left))
 trouble_local {X = X} {E = E} t f l x left rest e = step (f left) refl e where
-  step : (found : Result (X × List ℕ) Gap) → f left ≡ found → ◌≡◌ {A = Result (X × List ℕ) E} (or_trouble t found) (Ok (x, rest)) → Takes {X = X} {E = E} (λ left. or_trouble t (f left)) x left rest
+  step : (found : Result (X × List ℕ) Gap) → f left ≡ found → ◌≡◌ {A = Result (X × List ℕ) E} (or_trouble t found) (Ok (x, rest)) →
+      Takes {X = X} {E = E} (λ left. or_trouble t (f left)) x left rest
   step (Err gap) is e = absurd (cc)
   step (Ok read) is e =
       let a : Takes f read.0 left read.1 = l read.0 left read.1 is in
@@ -70,7 +74,8 @@ trouble_local {X = X} {E = E} t f l x left rest e = step (f left) refl e where
       record {
         front = a.front;
         is = a.is ∙ ap (λ (l : List ℕ). a.front ++ l) same;
-        takes = λ more h. ap (or_trouble t) (a.takes more (h ∙ sym (ap length same))) ∙ ap (λ (z : X). Ok (z, more)) (same_value _ _ _ _ e);
+        takes = λ more h. ap (or_trouble t) (a.takes more (h ∙ sym (ap length same)))
+            ∙ ap (λ (z : X). Ok (z, more)) (same_value _ _ _ _ e);
       }
 
 -- what takes n bytes
@@ -85,7 +90,8 @@ not_short n front more e = let g = length-append front more in grind (arith, nat
 counted_local : {X : Type 0} (n : ℕ) (v : List ℕ → X) → ((left more : List ℕ) → n ≤ length left → v (take n left ++ more) ≡ v left) →
     Local (λ left. cond (nat_lt (length left) n) (Err Short) (Ok (v left, drop n left)))
 counted_local {X = X} n v steady x left rest e = step (nat_lt (length left) n) refl e where
-  step : (short : Bool) → nat_lt (length left) n ≡ short → ◌≡◌ {A = Result (X × List ℕ) Gap} (cond short (Err Short) (Ok (v left, drop n left))) (Ok (x, rest)) →
+  step : (short : Bool) → nat_lt (length left) n ≡ short → ◌≡◌ {A = Result (X × List ℕ) Gap}
+      (cond short (Err Short) (Ok (v left, drop n left))) (Ok (x, rest)) →
       Takes (λ left. cond (nat_lt (length left) n) (Err Short) (Ok (v left, drop n left))) x left rest
   step true is e = absurd (cc)
   step false is e =
@@ -113,7 +119,8 @@ number_local n = counted_local n (little_number n) (λ left more h.
 first_here : (p : ℕ → Bool) (b n : ℕ) (left more : List ℕ) (t : Bool) → p b ≡ t → suc n ≡ position_or_len p (b ∷ left) + 1 →
     (n ≡ position_or_len p left + 1 → position_or_len p (take n left ++ more) + 1 ≡ n) →
     position_or_len p (take (suc n) (b ∷ left) ++ more) + 1 ≡ suc n
-first_here p b n left more true is e ih = let f : position_or_len p (b ∷ left) ≡ 0 = grind (arith, common_steps) in grind (arith, common_steps)
+first_here p b n left more true is e ih = let f : position_or_len p (b ∷ left) ≡ 0 = grind (arith, common_steps) in
+    grind (arith, common_steps)
 first_here p b n left more false is e ih =
     let f : position_or_len p (b ∷ left) ≡ position_or_len p left + 1 = grind (arith, common_steps) in
     let g : position_or_len p (take n left ++ more) + 1 ≡ n = ih (omega arith) in
@@ -166,7 +173,8 @@ abbrev pub text_by : ℕ → List ℕ → Result (List ℕ × List ℕ) Gap
 text_by n l = cond (nat_lt n (length l)) (Ok (take n l, drop (n + 1) l)) (Err Short)
 
 text_step : (x : List ℕ) (n : ℕ) (left rest : List ℕ) (whole : Bool) → n ≡ position_or_len (λ b. b == 0) left →
-    nat_lt n (length left) ≡ whole → ◌≡◌ {A = Result (List ℕ × List ℕ) Gap} (cond whole (Ok (take n left, drop (n + 1) left)) (Err Short)) (Ok (x, rest)) →
+    nat_lt n (length left) ≡ whole → ◌≡◌ {A = Result (List ℕ × List ℕ) Gap} (cond whole (Ok (take n left, drop (n + 1) left)) (Err Short))
+    (Ok (x, rest)) →
     Takes text_at x left rest
 text_step x n left rest false m is e = absurd (cc)
 text_step x n left rest true m is e =
@@ -176,9 +184,11 @@ text_step x n left rest true m is e =
       front = take (n + 1) left;
       is = behind (n + 1) left rest (same_left _ _ _ _ e);
       takes = λ more h.
-          let first : position_or_len (λ b. b == 0) (take (n + 1) left ++ more) + 1 ≡ n + 1 = first_again (λ b. b == 0) (n + 1) left more (omega arith) long in
+          let first : position_or_len (λ b. b == 0) (take (n + 1) left ++ more) + 1 ≡ n + 1 = first_again (λ b. b == 0) (n + 1) left more
+          (omega arith) long in
           let again : position_or_len (λ b. b == 0) (take (n + 1) left ++ more) ≡ n = omega arith in
-          let wide : nat_lt n (length (take (n + 1) left ++ more)) ≡ true = let g = length-append (take (n + 1) left) more in grind (arith, nat_tests) in
+          let wide : nat_lt n (length (take (n + 1) left ++ more)) ≡ true = let g = length-append (take (n + 1) left) more in
+          grind (arith, nat_tests) in
           let less : take n (take (n + 1) left ++ more) ≡ take n left = rw add-one (take_less n left more (omega arith)) in
           ap (λ (k : ℕ). text_by k (take (n + 1) left ++ more)) again
           ∙ rw (wide, less, drop_at (take (n + 1) left) more (n + 1) size) (ap (λ (z : List ℕ). Ok (z, more)) (same_value _ _ _ _ e));
@@ -192,10 +202,12 @@ text_local x left rest e = text_step x (position_or_len (λ b. b == 0) left) lef
 pub value_local : (implicit : ℕ) (shape : Shape) → Local (gap_value_at implicit shape)
 value_local implicit (Number n) = number_local n
 value_local implicit Leb = uleb_local
-value_local implicit SignedLeb = then_local sleb_at (λ z rest. Ok (cast_unsigned w64 z, rest)) sleb_local (λ z. ok_local (cast_unsigned w64 z))
+value_local implicit SignedLeb = then_local sleb_at (λ z rest. Ok (cast_unsigned w64 z, rest)) sleb_local
+    (λ z. ok_local (cast_unsigned w64 z))
 value_local implicit (Opaque n) = then_local (bytes_at n) (λ _ rest. Ok (0, rest)) (bytes_local n) (λ _. ok_local 0)
 value_local implicit Text = then_local text_at (λ _ rest. Ok (0, rest)) text_local (λ _. ok_local 0)
-value_local implicit (Block n) = then_local (number_read n) (λ count left1. and_then (bytes_at count left1) (λ _ rest. Ok (0, rest))) (number_local n)
+value_local implicit (Block n) = then_local (number_read n) (λ count left1. and_then (bytes_at count left1) (λ _ rest. Ok (0, rest)))
+    (number_local n)
     (λ count. then_local (bytes_at count) (λ _ rest. Ok (0, rest)) (bytes_local count) (λ _. ok_local 0))
 value_local implicit LebBlock = then_local uleb_at (λ count left1. and_then (bytes_at count left1) (λ _ rest. Ok (0, rest))) uleb_local
     (λ count. then_local (bytes_at count) (λ _ rest. Ok (0, rest)) (bytes_local count) (λ _. ok_local 0))

@@ -1,9 +1,10 @@
 -- Keys that maps have, with one entry more.
-use Rattle.std.proofs.Common.{◌≡◌, ◌∙◌, ◌<◌, ◌+◌, ℕ, zero, suc, Bool, true, false, cond, Option, Some, None, List, [], ◌∷◌, BTreeMap, nat_cmp, refl, sym, ap, subst, arith, length, get_or, is_some}
-use Rattle.std.specs.Prelude.{◌==◌, ◌||◌}
+use Rattle.std.proofs.Common.{◌≡◌, ◌∙◌, ◌<◌, ℕ, zero, suc, true, cond, Some, List, [], ◌∷◌, BTreeMap, nat_cmp, refl}
+use Rattle.std.proofs.Common.{sym, ap, subst, arith, length, get_or, is_some}
+use Rattle.std.specs.Prelude.{◌==◌}
 use Rattle.std.specs.BTreeMap.{get, is_at}
 use Rattle.std.specs.List.{list_any}
-use Rattle.std.proofs.lemmas.Bool.{eq-eqb}
+use Rattle.std.proofs.lemmas.Bool.{eq-eqb, or_left, or_right}
 use Rattle.std.proofs.lemmas.Grind.{get_or_default_zero}
 use Rattle.table_core.specs.DebugUnits.{Walked}
 use Rattle.dw_unit.specs.MapKeys.{HasKey, HasKeys, HasOffset, HasOffsets, KeepsKeys}
@@ -11,37 +12,23 @@ use Rattle.dw_unit.specs.NamedOffsets.{is_named_by, is_of, offset_of}
 use Rattle.dw_unit.proofs.NamedOffsets.{in_among}
 use Rattle.dw_unit.proofs.SpelledSteps.{key_more}
 
-or_true : (b : Bool) → (b || true) ≡ true
-or_true true = refl
-or_true false = refl
-
-left_true : (a b : Bool) → a ≡ true → (a || b) ≡ true
-left_true true b e = refl
-left_true false b e = absurd (cc)
-
-right_true : (a b : Bool) → b ≡ true → (a || b) ≡ true
-right_true true b e = refl
-right_true false b e = e
-
 module _ {X : Type 0} (old new : BTreeMap ℕ X) (k : ℕ) (v : X)
     (is : (q : ℕ) → get nat_cmp new q ≡ cond (is_at (nat_cmp k) q) (Some v) (get nat_cmp old q)) where
   pub keys_kept : KeepsKeys old new
-  keys_kept q h = key_more old new k v is q ∙ left_true (is_some (get nat_cmp old q)) (k == q) h
+  keys_kept q h = key_more old new k v is q ∙ or_left (is_some (get nat_cmp old q)) (k == q) h
 
   pub key_there : HasKey new k
-  key_there = key_more old new k v is k ∙ right_true (is_some (get nat_cmp old k)) (k == k) (eq-eqb k k refl)
-
-pub some_key : {X : Type 0} (m : BTreeMap ℕ X) (q : ℕ) → get nat_cmp m q ≡ None → HasKey m q → ⊥
-some_key m q none has = let f : false ≡ true = sym (ap is_some none) ∙ has in absurd (cc)
+  key_there = key_more old new k v is k ∙ or_right (is_some (get nat_cmp old k)) (k == k) (eq-eqb k k refl)
 
 -- the offset of one of some units
 named_at : (q : ℕ) (ws : List Walked) (i : ℕ) (d : Walked) → i < length ws → offset_of (get_or ws i d) ≡ Some q → is_named_by q ws ≡ true
 named_at q [] i d h e = absurd (omega arith)
 named_at q (w ∷ ws) zero d h e =
-    left_true (is_of q (offset_of w)) (is_named_by q ws) (ap (is_of q) e ∙ eq-eqb q q refl)
-named_at q (w ∷ ws) (suc i) d h e = right_true (is_of q (offset_of w)) (is_named_by q ws) (named_at q ws i d (omega arith) e)
+    or_left (is_of q (offset_of w)) (is_named_by q ws) (ap (is_of q) e ∙ eq-eqb q q refl)
+named_at q (w ∷ ws) (suc i) d h e = or_right (is_of q (offset_of w)) (is_named_by q ws) (named_at q ws i d (omega arith) e)
 
-pub offset_key : {X : Type 0} (m : BTreeMap ℕ X) (ws : List Walked) (i : ℕ) (d w : Walked) → HasOffsets m ws → i < length ws → w ≡ get_or ws i d → HasOffset m w
+pub offset_key : {X : Type 0} (m : BTreeMap ℕ X) (ws : List Walked) (i : ℕ) (d w : Walked) → HasOffsets m ws → i < length ws →
+    w ≡ get_or ws i d → HasOffset m w
 offset_key m ws i d w has h is q e = has q (named_at q ws i d h (ap offset_of (sym is) ∙ e))
 
 -- keys that are the offsets that units name
@@ -51,7 +38,8 @@ offset_keys m ws os has named q e =
     let there = in_among q os (named q ∙ e) in
     subst (λ (x : ℕ). HasKey m x) (sym (get_or_default_zero os there.0 q there.1) ∙ there.2) (has there.0 there.1)
 
-pub named_keys : {X : Type 0} (m : BTreeMap ℕ X) (os items : List ℕ) (ws us units : List Walked) → os ≡ items → ws ≡ units → us ≡ units → HasKeys m os →
+pub named_keys : {X : Type 0} (m : BTreeMap ℕ X) (os items : List ℕ) (ws us units : List Walked) → os ≡ items → ws ≡ units → us ≡ units →
+    HasKeys m os →
     ((q : ℕ) → list_any (λ o. o == q) items ≡ is_named_by q ws) → HasOffsets m us
 named_keys m os items ws us units o w u has named =
     offset_keys m us os has (λ q. ap (λ (l : List ℕ). list_any (λ o. o == q) l) o ∙ named q ∙ ap (is_named_by q) (w ∙ sym u))

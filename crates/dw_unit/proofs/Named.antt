@@ -1,5 +1,6 @@
 -- Names that stand once, one pair after another.
-use Rattle.std.proofs.Common.{◌≡◌, ◌≢◌, ◌<◌, ◌≤◌, ◌+◌, ◌⊎◌, ⊎_elim, inl, inr, cond, nat_cmp, ℕ, zero, suc, List, [], ◌∷◌, Bool, true, false, not, refl, ap, sym, ◌∙◌, arith, length, drop, get_or, drop-cons, add-one}
+use Rattle.std.proofs.Common.{◌≡◌, ◌≢◌, ◌<◌, ◌≤◌, ◌+◌, ◌⊎◌, ⊎_elim, inl, inr, cond, nat_cmp, ℕ, zero, suc, List, [], ◌∷◌, Bool, true}
+use Rattle.std.proofs.Common.{false, not, refl, ap, sym, ◌∙◌, arith, length, drop, get_or, drop-cons, add-one}
 use Rattle.std.specs.Prelude.{◌==◌, ◌&&◌, ◌||◌}
 use Rattle.std.specs.List.{list_any}
 use Rattle.std.specs.BTreeMap.{is_at}
@@ -10,9 +11,11 @@ use Rattle.dw_unit.specs.Declarations.{is_named}
 use Rattle.dw_unit.specs.CompUnits.{may_repeat, are_named_once}
 
 pub named_step : (specs : List Spec) (i : ℕ) (d : Spec) → i < length specs →
-    are_named_once (drop i specs) ≡ ((may_repeat (get_or specs i d).name || not (list_any (is_named (get_or specs i d).name) (drop (i + 1) specs)))
+    are_named_once (drop i specs) ≡ ((may_repeat (get_or specs i d).name
+    || not (list_any (is_named (get_or specs i d).name) (drop (i + 1) specs)))
     && are_named_once (drop (i + 1) specs))
-named_step specs i d h = ap are_named_once (drop-cons specs i d h) ∙ ap (λ (k : ℕ). ((may_repeat (get_or specs i d).name || not (list_any (is_named (get_or specs i d).name) (drop k specs)))
+named_step specs i d h = ap are_named_once (drop-cons specs i d h)
+    ∙ ap (λ (k : ℕ). ((may_repeat (get_or specs i d).name || not (list_any (is_named (get_or specs i d).name) (drop k specs)))
     && are_named_once (drop k specs))) (sym (add-one i))
 
 pub named_end : (specs : List Spec) (i : ℕ) → length specs ≤ i → are_named_once (drop i specs) ≡ true
@@ -54,7 +57,8 @@ at_key : (k q : ℕ) → is_at (nat_cmp k) q ≡ (k == q)
 at_key k q = ⊎_elim (λ (e : k ≡ q). grind (arith, common_steps)) (λ (ne : k ≢ q). grind (arith, common_steps)) (cases_eq k q)
 
 -- a name among those of a set
-pub known_step : (specs : List Spec) (i q : ℕ) (d : Spec) (old new : Bool) → i < length specs → old ≡ list_any (is_named q) (drop (i + 1) specs) →
+pub known_step : (specs : List Spec) (i q : ℕ) (d : Spec) (old new : Bool) → i < length specs →
+    old ≡ list_any (is_named q) (drop (i + 1) specs) →
     new ≡ cond (is_at (nat_cmp (get_or specs i d).name) q) true old → new ≡ list_any (is_named q) (drop i specs)
 known_step specs i q d old new h e f =
     f ∙ ap (λ (b : Bool). cond b true old) (at_key (get_or specs i d).name q) ∙ or_is ((get_or specs i d).name == q) old

@@ -1,5 +1,6 @@
 -- The offsets that headers name are those at which units have their abbreviations.
-use Rattle.std.proofs.Common.{◌≡◌, ◌≢◌, ◌∙◌, ◌<◌, ◌≤◌, ◌+◌, ⊎_elim, ℕ, zero, suc, Bool, true, false, Option, Some, None, Ok, Err, Result, List, [], ◌∷◌, refl, sym, ap, subst, arith, length, drop, map, get_or}
+use Rattle.std.proofs.Common.{◌≡◌, ◌≢◌, ◌∙◌, ◌<◌, ◌≤◌, ◌+◌, ⊎_elim, ℕ, zero, suc, Bool, true, false, Option, Some, None, Ok, Err}
+use Rattle.std.proofs.Common.{Result, List, [], ◌∷◌, refl, sym, ap, subst, arith, length, map, get_or}
 use Rattle.std.specs.Prelude.{slice_index, ⊤, ◌==◌, ◌||◌, if◌then◌else◌, filter, option_map}
 use Rattle.std.specs.List.{find, list_any, range_with_len}
 use Rattle.std.specs.Option.{option_or}
@@ -10,10 +11,12 @@ use Rattle.std.specs.Prelude.{Contains, IsPermutation}
 use Rattle.std.specs.List.{dedup}
 use Rattle.std.proofs.lemmas.List.Kept.{Contains-dedup_nat, Contains-from_dedup}
 use Rattle.std.proofs.lemmas.List.Sorted.{Contains-permutation, IsPermutation-sym}
+use Rattle.std.proofs.lemmas.List.{drop_all}
 use Rattle.rb_bytes.proofs.Members.{Contains-nil, Contains-cons_cases, Contains-there}
 use Rattle.rb_bytes.specs.Readers.{and_then}
 use Rattle.rb_bytes.specs.FirstFault.{IsFree}
 use Rattle.rb_bytes.specs.declared.fault.FaultKind.TheVariants as fault
+use Rattle.rb_bytes.proofs.Tests.{bool_same}
 use Rattle.table_core.specs.ReadSteps.{oks, and_so}
 use Rattle.table_core.specs.DebugUnits.{Walked, walked}
 use Rattle.dw_unit.specs.declared.trouble.Trouble.{Trouble}
@@ -43,11 +46,12 @@ lacks_less a b (x ∷ xs) h up =
     let ne : x ≢ a = let g = up.0 in λ e. absurd (omega arith) in
     let g = up.0 in rw (ne_eqb x a ne) (lacks_less a (x + 1) xs (omega arith) up.1)
 
-later_up : (a b : ℕ) (xs : List ℕ) → b ≤ a → Ascends a xs → Ascends b xs
+pub later_up : (a b : ℕ) (xs : List ℕ) → b ≤ a → Ascends a xs → Ascends b xs
 later_up a b [] h up = tt
 later_up a b (x ∷ xs) h up = (let g = up.0 in omega arith, up.1)
 
-pub range_filter : (p : ℕ → Bool) (n a : ℕ) (xs : List ℕ) → Ascends a xs → AreBelow (a + n) xs → ((q : ℕ) → a ≤ q → q < a + n → among q xs ≡ p q) →
+pub range_filter : (p : ℕ → Bool) (n a : ℕ) (xs : List ℕ) → Ascends a xs → AreBelow (a + n) xs →
+    ((q : ℕ) → a ≤ q → q < a + n → among q xs ≡ p q) →
     filter p (range_with_len a n) ≡ xs
 range_filter p zero a [] up below same = refl
 range_filter p zero a (x ∷ xs) up below same = let g = up.0 in let h = below.0 in absurd (omega arith)
@@ -86,17 +90,12 @@ unfolding table_within
 nothing_there section zero size = refl
 nothing_there section (suc n) size = refl
 
-drop-past : (n : ℕ) (xs : List ℕ) → length xs ≤ n → drop n xs ≡ []
-drop-past zero [] h = refl
-drop-past zero (x ∷ xs) h = absurd (omega arith)
-drop-past (suc n) [] h = refl
-drop-past (suc n) (x ∷ xs) h = drop-past n xs (omega arith)
-
 -- a table that ends begins within the section
 pub ends_inside : (section : List ℕ) (offset end : ℕ) → (table_at section offset).end ≡ Some end → offset < length section
 ends_inside section offset end e = ⊎_elim (λ (h : offset < length section). h)
     (λ (h : length section ≤ offset).
-    let none : None ≡ Some end = sym (ap (λ (t : Table). t.end) (ap (table_within (length section) (length section)) (drop-past offset section h)
+    let none : None ≡ Some end = sym (ap (λ (t : Table). t.end)
+    (ap (table_within (length section) (length section)) (drop_all offset section h)
     ∙ nothing_there section (length section) (length section))) ∙ e in absurd (cc))
     (cases_lt offset (length section))
 
@@ -115,8 +114,10 @@ module _ (abbrevs : List ℕ) (place end : ℕ) where
     or_offset n (Err t) = n
 
   by_end : (offset : ℕ) (left : List ℕ) (o : Option ℕ) (u : Unit) → (table_at abbrevs offset).end ≡ o →
-      and_so (sound_if o) (λ _. and_so (entries_within (record { place = place; end = end; table = table_at abbrevs offset }) (length left) 0 left) (λ entries.
-      Ok (record { place = place; abbrev_offset = offset; entries = entries }))) ≡ Ok u → (u.abbrev_offset ≡ offset) × (offset < length abbrevs)
+      and_so (sound_if o) (λ _. and_so (entries_within (record { place = place; end = end; table = table_at abbrevs offset })
+      (length left) 0 left) (λ entries.
+      Ok (record { place = place; abbrev_offset = offset; entries = entries }))) ≡ Ok u →
+      (u.abbrev_offset ≡ offset) × (offset < length abbrevs)
   by_end offset left None u is e = absurd (cc)
   by_end offset left (Some n) u is e = (
     by_entries offset (entries_within (record { place = place; end = end; table = table_at abbrevs offset }) (length left) 0 left) u e,
@@ -144,7 +145,8 @@ module _ (abbrevs : List ℕ) (test : Unit → Bool) where
     step true f e = absurd (cc)
     step false f e = (f, e)
 
-  read_here : (w : Walked) (r : Result Unit Trouble) → unit_of abbrevs w ≡ r → bad w ≡ false → (u : Unit) × (r ≡ Ok u) × IsNamed abbrevs w u
+  read_here : (w : Walked) (r : Result Unit Trouble) → unit_of abbrevs w ≡ r → bad w ≡ false →
+      (u : Unit) × (r ≡ Ok u) × IsNamed abbrevs w u
   read_here w (Ok u) is f = (u, refl, named_unit abbrevs w u is)
   read_here w (Err t) is f = let g : true ≡ false = sym (ap (fails test) is) ∙ f in absurd (cc)
 
@@ -184,7 +186,11 @@ no_bad s free = step (find (is_bad s) (walked 5 s.info)) refl where
 
 all_below : (n : ℕ) (xs : List ℕ) → ((q : ℕ) → among q xs ≡ true → q < n) → AreBelow n xs
 all_below n [] h = tt
-all_below n (x ∷ xs) h = (h x (ap (λ (b : Bool). b || among x xs) (eq-eqb x x refl)), all_below n xs (λ q e. h q (later_among (x == q) (among q xs) e))) where
+all_below n (x ∷ xs) h = (
+  h x (ap (λ (b : Bool). b || among x xs) (eq-eqb x x refl)),
+  all_below n xs
+      (λ q e. h q (later_among (x == q) (among q xs) e)),
+) where
   later_among : (a b : Bool) → b ≡ true → (a || b) ≡ true
   later_among true b e = refl
   later_among false b e = e
@@ -195,16 +201,13 @@ offsets_are s os free up named =
     let good = no_bad s free in
     let ws : List Walked = walked 5 s.info in
     let whole : length s.abbrevs ≡ 0 + length s.abbrevs = omega arith in
-    range_filter (λ q. list_any (λ (u : Unit). u.abbrev_offset == q) (units s)) (length s.abbrevs) 0 os (ascends_from 0 os up (λ h. omega arith))
-    (subst (λ (n : ℕ). AreBelow n os) whole (all_below (length s.abbrevs) os (λ q e. named_inside s.abbrevs (is_sound_unit s.addr) q ws good (sym (named q) ∙ e))))
+    range_filter (λ q. list_any (λ (u : Unit). u.abbrev_offset == q) (units s)) (length s.abbrevs) 0 os
+    (ascends_from 0 os up (λ h. omega arith))
+    (subst (λ (n : ℕ). AreBelow n os) whole (all_below (length s.abbrevs) os
+    (λ q e. named_inside s.abbrevs (is_sound_unit s.addr) q ws good (sym (named q) ∙ e))))
     (λ q h l. named q ∙ sym (named_units s.abbrevs (is_sound_unit s.addr) q ws good))
 
 -- numbers that were put in order, each once
-
-same_bools : (a b : Bool) → (a ≡ true → b ≡ true) → (b ≡ true → a ≡ true) → a ≡ b
-same_bools true b f g = sym (f refl)
-same_bools false true f g = g refl
-same_bools false false f g = refl
 
 among_in : (q : ℕ) (xs : List ℕ) → Contains xs q → among q xs ≡ true
 among_in q [] c = absurd (Contains-nil q c)
@@ -224,6 +227,7 @@ in_among q (x ∷ xs) e = by_test (x == q) refl e (in_among q xs) where
   by_test false f g ih = Contains-there x xs q (ih g)
 
 pub among_kept : (q : ℕ) (xs ys : List ℕ) → IsPermutation xs ys → among q (dedup eqb ys) ≡ among q xs
-among_kept q xs ys moved = same_bools (among q (dedup eqb ys)) (among q xs)
-    (λ e. among_in q xs (Contains-permutation ys xs q (IsPermutation-sym xs ys moved) (Contains-from_dedup eqb ys q (in_among q (dedup eqb ys) e))))
+among_kept q xs ys moved = bool_same (among q (dedup eqb ys)) (among q xs)
+    (λ e. among_in q xs (Contains-permutation ys xs q (IsPermutation-sym xs ys moved)
+    (Contains-from_dedup eqb ys q (in_among q (dedup eqb ys) e))))
     (λ e. among_in q (dedup eqb ys) (Contains-dedup_nat ys q (Contains-permutation xs ys q moved (in_among q xs e))))

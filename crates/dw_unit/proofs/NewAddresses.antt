@@ -1,13 +1,16 @@
 -- `.debug_addr` with its addresses moved has the tables that it had.
-use Rattle.std.proofs.Common.{◌≡◌, ◌≤◌, ◌+◌, ◌-◌, ◌*◌, ◌/◌, ◌%◌, ◌++◌, ◌∙◌, ℕ, zero, suc, List, [], ◌∷◌, Bool, true, false, Option, Some, None, refl, ap, sym, subst, arith, length, take, drop, length-append, length-drop, append_assoc, unwrap_or}
+use Rattle.std.proofs.Common.{◌≡◌, ◌≤◌, ◌+◌, ◌-◌, ◌*◌, ◌/◌, ◌%◌, ◌++◌, ◌∙◌, ℕ, zero, suc, List, [], ◌∷◌, Bool, true, false, Option, Some}
+use Rattle.std.proofs.Common.{None, refl, ap, sym, subst, arith, length, take, drop, length-append, length-drop, append_assoc, unwrap_or}
 use Rattle.std.specs.Prelude.{⊤, ◌==◌, ◌&&◌, not, nat_le, if◌then◌else◌}
 use Rattle.std.specs.List.{find}
 use Rattle.std.specs.Option.{option_map_or}
 use Rattle.std.proofs.lemmas.Bool.Decides.{nat_tests}
 use Rattle.std.proofs.lemmas.List.{take-append-drop, length-take-le}
+use Rattle.std.proofs.lemmas.Option.{same_Some}
 use Rattle.byteorder.specs.Endian.{little_number, little_bytes}
 use Rattle.byteorder.specs.Numbers.{length-bytes_low_first}
 use Rattle.table_core.specs.DebugUnits.{Walked, walked}
+use Rattle.table_core.proofs.UnitsBack.{same-front}
 use Rattle.dw_unit.specs.CompUnits.{end_of}
 use Rattle.dw_unit.specs.EntryMoves.{Moves, moved_address}
 use Rattle.dw_unit.specs.Changes.{Patch, patched, address_patches, table_patches, changed_addr}
@@ -25,13 +28,18 @@ module _ (m : Moves) where
         patched place (address_patches m n place left ++ qs) (left ++ after) ≡ new ++ patched (place + length left) qs after
 
   abbrev first_patch : ℕ → List ℕ → Patch
-  first_patch place left = record { place = place; bytes = little_bytes 8 (unwrap_or (moved_address m (little_number 8 left)) (little_number 8 left)) }
+  first_patch place left = record {
+    place = place;
+    bytes = little_bytes 8
+        (unwrap_or (moved_address m (little_number 8 left)) (little_number 8 left));
+  }
 
   nil_of : (xs : List ℕ) → length xs ≡ 0 → xs ≡ []
   nil_of [] e = refl
   nil_of (x ∷ xs) e = absurd (omega arith)
 
-  none_moved : (place : ℕ) (left : List ℕ) → length left ≡ 0 → ((left : List ℕ) → address_patches m 0 place left ≡ []) → IsMoved 0 place left
+  none_moved : (place : ℕ) (left : List ℕ) → length left ≡ 0 → ((left : List ℕ) → address_patches m 0 place left ≡ []) →
+      IsMoved 0 place left
   none_moved place left e none =
       let same : place + length left ≡ place = omega arith in
       record {
@@ -44,14 +52,16 @@ module _ (m : Moves) where
             ∙ ap (λ (k : ℕ). patched k qs after) (sym same);
       }
 
-  one_moved : (n place : ℕ) (left : List ℕ) → length left ≡ suc n * 8 → address_patches m (suc n) place left ≡ first_patch place left ∷ address_patches m n (place + 8) (drop 8 left) →
+  one_moved : (n place : ℕ) (left : List ℕ) → length left ≡ suc n * 8 → address_patches m (suc n) place left ≡ first_patch place left
+      ∷ address_patches m n (place + 8) (drop 8 left) →
       IsMoved n (place + 8) (drop 8 left) → IsMoved (suc n) place left
   one_moved n place left e step r =
       let p : Patch = first_patch place left in
       let body : List ℕ = take 8 left in
       let rest : List ℕ = drop 8 left in
       let ps : List Patch = address_patches m n (place + 8) rest in
-      let bytes_is : length p.bytes ≡ 8 = length-bytes_low_first 0 8 (unwrap_or (moved_address m (little_number 8 left)) (little_number 8 left)) in
+      let bytes_is : length p.bytes ≡ 8 = length-bytes_low_first 0 8
+      (unwrap_or (moved_address m (little_number 8 left)) (little_number 8 left)) in
       let body_is : length body ≡ 8 = length-take-le 8 left (omega arith) in
       let rest_is : length rest ≡ length left - 8 = length-drop 8 left in
       let size = r.size in
@@ -64,7 +74,8 @@ module _ (m : Moves) where
         are = λ after qs from.
             let from2 : From (place + 8 + length rest) qs = subst (λ (k : ℕ). From k qs) (sym end_is) from in
             ap (λ (l : List Patch). patched place (l ++ qs) (left ++ after)) step
-            ∙ ap (λ (l : List ℕ). patched place (p ∷ (ps ++ qs)) l) (ap (λ (l : List ℕ). l ++ after) (sym (take-append-drop 8 left)) ∙ append_assoc body rest after)
+            ∙ ap (λ (l : List ℕ). patched place (p ∷ (ps ++ qs)) l) (ap (λ (l : List ℕ). l ++ after) (sym (take-append-drop 8 left))
+            ∙ append_assoc body rest after)
             ∙ patched-over place (place + 8) [] body (rest ++ after) p (ps ++ qs) (omega arith) (omega arith) (omega arith)
             ∙ ap (λ (l : List ℕ). p.bytes ++ l) (r.are after qs from2 ∙ ap (λ (k : ℕ). r.new ++ patched k qs after) end_is)
             ∙ sym (append_assoc p.bytes r.new (patched (place + length left) qs after));
@@ -78,11 +89,6 @@ module _ (m : Moves) where
       one_moved n place left e refl (all_moved n (place + 8) (drop 8 left) (omega arith))
 
 -- a table's header stands in front, as it stood
-two_of : (lead xs ys : List ℕ) → length lead ≡ 4 → little_number 2 (lead ++ xs) ≡ little_number 2 (lead ++ ys)
-two_of [] xs ys e = absurd (omega arith)
-two_of (a ∷ []) xs ys e = absurd (omega arith)
-two_of (a ∷ b ∷ lead) xs ys e = refl
-
 next_two : (lead xs ys : List ℕ) → length lead ≡ 4 → little_number 2 (drop 2 (lead ++ xs)) ≡ little_number 2 (drop 2 (lead ++ ys))
 next_two [] xs ys e = absurd (omega arith)
 next_two (a ∷ []) xs ys e = absurd (omega arith)
@@ -144,20 +150,23 @@ module _ (m : Moves) (w : Walked) (bytes : List ℕ) (is : w.bytes ≡ Some byte
 
   end_is : end_of w ≡ w.place + 8 + length addresses
   end_is =
-      let a : end_of w ≡ w.place + 4 + length bytes = ap (λ (o : Option (List ℕ)). end_of (record { place = w.place; bytes = o; is_other = w.is_other })) is in
+      let a : end_of w ≡ w.place + 4 + length bytes = ap (λ (o : Option (List ℕ)). end_of
+      (record { place = w.place; bytes = o; is_other = w.is_other })) is in
       let b = length-drop 4 bytes in
       let c = enough in
       omega arith
 
   patches_are : table_patches m w ≡ address_patches m count (w.place + 8) addresses
-  patches_are = ap (λ (o : Option (List ℕ)). option_map_or (λ bytes. address_patches m ((length bytes - 4) / 8) (w.place + 8) (drop 4 bytes)) o []) is
+  patches_are = ap (λ (o : Option (List ℕ)). option_map_or (λ bytes. address_patches m ((length bytes - 4) / 8) (w.place + 8)
+      (drop 4 bytes)) o []) is
 
   renewal : IsRenewed w (table_patches m w) bytes new_bytes
   renewal = record {
     size = new_size;
-    version = two_of head moved.new addresses head_size ∙ sym (ap (little_number 2) split);
+    version = same-front head moved.new addresses head_size ∙ sym (ap (little_number 2) split);
     starts = λ qs from. subst (λ (ps : List Patch). From w.place (ps ++ qs)) (sym patches_are)
-        (from_less (w.place + 8) w.place (address_patches m count (w.place + 8) addresses ++ qs) (omega arith) (moved.starts qs (subst (λ (k : ℕ). From k qs) end_is from)));
+        (from_less (w.place + 8) w.place (address_patches m count (w.place + 8) addresses ++ qs) (omega arith)
+        (moved.starts qs (subst (λ (k : ℕ). From k qs) end_is from)));
     are = λ lead after qs four from.
         let ps : List Patch = address_patches m count (w.place + 8) addresses in
         let from2 : From (w.place + 8 + length addresses) qs = subst (λ (k : ℕ). From k qs) end_is from in
@@ -165,7 +174,8 @@ module _ (m : Moves) (w : Walked) (bytes : List ℕ) (is : w.bytes ≡ Some byte
         let h = head_size in
         ap (λ (l : List Patch). patched w.place (l ++ qs) ((lead ++ bytes) ++ after)) patches_are
         ∙ ap (λ (l : List ℕ). patched w.place (ps ++ qs) ((lead ++ l) ++ after)) split
-        ∙ ap (λ (l : List ℕ). patched w.place (ps ++ qs) l) (ap (λ (l : List ℕ). l ++ after) (sym (append_assoc lead head addresses)) ∙ append_assoc (lead ++ head) addresses after)
+        ∙ ap (λ (l : List ℕ). patched w.place (ps ++ qs) l) (ap (λ (l : List ℕ). l ++ after) (sym (append_assoc lead head addresses))
+        ∙ append_assoc (lead ++ head) addresses after)
         ∙ patched-behind w.place (w.place + 8) (lead ++ head) (addresses ++ after) (ps ++ qs) (omega arith) (moved.starts qs from2)
         ∙ ap (λ (l : List ℕ). (lead ++ head) ++ l) (moved.are after qs from2)
         ∙ sym (append_assoc (lead ++ head) moved.new (patched (w.place + 8 + length addresses) qs after))
@@ -180,12 +190,9 @@ module _ (m : Moves) (w : Walked) (bytes : List ℕ) (is : w.bytes ≡ Some byte
       (next_two head moved.new addresses head_size ∙ sym (ap (λ (l : List ℕ). little_number 2 (drop 2 l)) split))
       ∙ table
 
-  some_same : (x y : List ℕ) → Some x ≡ Some y → x ≡ y
-  some_same x y e = cc
-
   table_new : IsNew (table_patches m) IsTable w w new_bytes
   table_new = record {
-    renewal = λ b e. subst (λ (b : List ℕ). IsRenewed w (table_patches m w) b new_bytes) (some_same bytes b (sym is ∙ e)) renewal;
+    renewal = λ b e. subst (λ (b : List ℕ). IsRenewed w (table_patches m w) b new_bytes) (same_Some bytes b (sym is ∙ e)) renewal;
     says = table_again;
   }
 
@@ -206,10 +213,12 @@ tables_good (w ∷ ws) e = by_test (option_map_or is_address_table w.bytes false
 pub good_tables : (ws : List Walked) → AreTables ws → find (λ w. not (option_map_or is_address_table w.bytes false)) ws ≡ None
 good_tables [] t = refl
 good_tables (w ∷ ws) t =
-    ap (λ (b : Bool). if not b then Some w else find (λ w. not (option_map_or is_address_table w.bytes false)) ws) t.0 ∙ good_tables ws t.1
+    ap (λ (b : Bool). if not b then Some w else find (λ w. not (option_map_or is_address_table w.bytes false)) ws) t.0
+    ∙ good_tables ws t.1
 
 module _ (m : Moves) where
-  one_new : (w : Walked) (o : Option (List ℕ)) → w.bytes ≡ o → option_map_or is_address_table o false ≡ true → (new : List ℕ) × IsNew (table_patches m) IsTable w w new
+  one_new : (w : Walked) (o : Option (List ℕ)) → w.bytes ≡ o → option_map_or is_address_table o false ≡ true →
+      (new : List ℕ) × IsNew (table_patches m) IsTable w w new
   one_new w None is e = absurd (cc)
   one_new w (Some bytes) is e = (new_bytes m w bytes is e, table_new m w bytes is e)
 
@@ -237,7 +246,8 @@ module _ (m : Moves) where
       let ws : List Walked = walked 5 addr in
       let whole : AreWhole 0 ws addr = units_whole (length addr) 0 addr (omega arith) good in
       let news = all_new ws tables in
-      let r : IsSection (table_patches m) IsTable 0 ws ws news.0 addr = section_renewed (table_patches m) IsTable 0 ws ws news.0 addr whole news.1 in
+      let r : IsSection (table_patches m) IsTable 0 ws ws news.0 addr = section_renewed (table_patches m) IsTable 0 ws ws news.0 addr
+      whole news.1 in
       let size : length (changed_addr m addr) ≡ length addr = ap length r.are ∙ r.size in
       let again : walked 5 (changed_addr m addr) ≡ all_renewed ws news.0 =
       ap (walked 5) r.are ∙ units_again (length r.new) 0 (all_renewed ws news.0) r.new (omega arith) r.whole in

@@ -1,12 +1,15 @@
 -- A unit of the written file: its bytes, and what is read of them.
-use Rattle.std.proofs.Common.{◌≡◌, ◌≢◌, ◌<◌, ◌≤◌, ◌+◌, ◌-◌, ◌^◌, ◌++◌, ◌∙◌, ℕ, List, [], ◌∷◌, Bool, false, Option, Some, Ok, refl, ap, sym, subst, arith, length, length-append, append_assoc}
+use Rattle.std.proofs.Common.{◌≡◌, ◌≢◌, ◌<◌, ◌≤◌, ◌+◌, ◌-◌, ◌^◌, ◌++◌, ◌∙◌, ℕ, List, [], ◌∷◌, Bool, false, Option, Some, Ok, refl, ap}
+use Rattle.std.proofs.Common.{sym, subst, arith, length, length-append, append_assoc}
 use Rattle.std.specs.Prelude.{◌==◌, flat_map, Contains}
 use Rattle.std.specs.List.{list_any, AllZip}
 use Rattle.std.proofs.lemmas.Bool.Decides.{nat_tests}
+use Rattle.std.proofs.lemmas.Option.{same_Some}
 use Rattle.byteorder.specs.Endian.{little_bytes, little_number}
 use Rattle.byteorder.specs.Numbers.{length-bytes_low_first}
 use Rattle.rb_bytes.proofs.Members.{Contains-there}
 use Rattle.table_core.specs.DebugUnits.{Walked}
+use Rattle.table_core.proofs.UnitsBack.{same-front}
 use Rattle.dw_unit.specs.declared.attribute.TheConstants.{DW_AT_high_pc}
 use Rattle.dw_unit.specs.declared.entry.Attr.{Attr}
 use Rattle.dw_unit.specs.Declarations.{Declaration, Table, table_at, has_bad_high}
@@ -39,17 +42,11 @@ pub record IsNewUnit (s : Sections) (m : Moves) (w : Walked) (u : Unit) (new : L
   pub changed : AreChanged m (is_own s) (is_first_of u) u.entries unit.entries
   pub stay : (e : Entry) (a : Attr) → Contains u.entries e → StaysIn m (is_own s e.declaration) (is_first_of u e) e e.attrs a →
       (bytes : List ℕ) → w.bytes ≡ Some bytes → IsSameAt (w.place + 4) a bytes new
-  pub table : AreChangedDeclarations (is_own s) (table_at s.abbrevs u.abbrev_offset).list (table_at (changed_abbrevs s) unit.abbrev_offset).list
+  pub table : AreChangedDeclarations (is_own s) (table_at s.abbrevs u.abbrev_offset).list
+      (table_at (changed_abbrevs s) unit.abbrev_offset).list
 
-lead_version : (lead xs ys : List ℕ) → length lead ≡ 4 → little_number 2 (lead ++ xs) ≡ little_number 2 (lead ++ ys)
-lead_version [] xs ys e = absurd (omega arith)
-lead_version (a ∷ []) xs ys e = absurd (omega arith)
-lead_version (a ∷ b ∷ lead) xs ys e = refl
-
-some_same : (x y : List ℕ) → Some x ≡ Some y → x ≡ y
-some_same x y e = cc
-
-module _ (s : Sections) (m : Moves) (small : AreSmall m) (w : Walked) (u : Unit) (none : list_any has_bad_high (table_at s.abbrevs u.abbrev_offset).list ≡ false)
+module _ (s : Sections) (m : Moves) (small : AreSmall m) (w : Walked) (u : Unit)
+    (none : list_any has_bad_high (table_at s.abbrevs u.abbrev_offset).list ≡ false)
     (sp : IsSpelledAt s u.abbrev_offset) (low : new_offset s u.abbrev_offset < 2 ^ 32) (read : IsRead s.abbrevs w u) where
   abbrev own : Declaration → Bool
   own = is_own s
@@ -75,7 +72,8 @@ module _ (s : Sections) (m : Moves) (small : AreSmall m) (w : Walked) (u : Unit)
   bytes_size : length read.bytes ≡ length header.lead + (length header.old + (length header.tail + length read.left))
   bytes_size =
       ap length header.is ∙ length-append header.lead (header.old ++ (header.tail ++ read.left))
-      ∙ ap (λ (n : ℕ). length header.lead + n) (length-append header.old (header.tail ++ read.left) ∙ ap (λ (n : ℕ). length header.old + n) (length-append header.tail read.left))
+      ∙ ap (λ (n : ℕ). length header.lead + n) (length-append header.old (header.tail ++ read.left)
+      ∙ ap (λ (n : ℕ). length header.old + n) (length-append header.tail read.left))
 
   end_is : end_of w ≡ w.place + 4 + length read.bytes
   end_is = ap (λ (o : Option (List ℕ)). end_of (record { place = w.place; bytes = o; is_other = w.is_other })) read.is
@@ -87,9 +85,11 @@ module _ (s : Sections) (m : Moves) (small : AreSmall m) (w : Walked) (u : Unit)
   changeable = can_change_all m small own first (unit_bounds w.place (end_of w) table) none u.entries
       (read_entries (unit_bounds w.place (end_of w) table) (length read.left) 0 read.left u.entries read.entries)
 
-  back : AreReadBack m own first w.place (end_of w) table (table_at section (length sp.before)) (λ d s l1 l2 a. attr_less (end_of w) d s l1 l2 a)
+  back : AreReadBack m own first w.place (end_of w) table (table_at section (length sp.before))
+      (λ d s l1 l2 a. attr_less (end_of w) d s l1 l2 a)
       (tables_read own table sp.before sp.rest can apart) (length read.left) 0 u.entries read.left
-  back = unit_read_back m own first w.place (end_of w) table sp.before sp.rest can apart read.left u.entries within read.entries changeable
+  back = unit_read_back m own first w.place (end_of w) table sp.before sp.rest can apart read.left u.entries within read.entries
+      changeable
 
   abbrev offset : ℕ
   offset = new_offset s u.abbrev_offset
@@ -124,16 +124,18 @@ module _ (s : Sections) (m : Moves) (small : AreSmall m) (w : Walked) (u : Unit)
       patched w.place ((record { place = w.place + 8; bytes = number } ∷ entry_list) ++ qs) ((lead ++ read.bytes) ++ after)
       ≡ (lead ++ new_bytes) ++ patched (end_of w) qs after
   are_by lead after qs four from =
-      unit_patched w.place (end_of w) lead read.bytes read.left back.bytes number entry_list header four end_is number_size back.starts back.are after qs from
+      unit_patched w.place (end_of w) lead read.bytes read.left back.bytes number entry_list header four end_is number_size back.starts
+      back.are after qs from
 
   renewal : IsRenewed w (unit_patches s m u) read.bytes new_bytes
   renewal = record {
     size = new_size;
-    version = lead_version header.lead (number ++ (header.tail ++ back.bytes)) (header.old ++ (header.tail ++ read.left)) header.lead_size
+    version = same-front header.lead (number ++ (header.tail ++ back.bytes)) (header.old ++ (header.tail ++ read.left)) header.lead_size
         ∙ sym (ap (little_number 2) header.is);
     starts = λ qs from. let g = read.place in omega arith;
     are = λ lead after qs four from.
-        ap (λ (k : ℕ). patched w.place ((record { place = k + 8; bytes = number } ∷ entry_list) ++ qs) ((lead ++ read.bytes) ++ after)) read.place
+        ap (λ (k : ℕ). patched w.place ((record { place = k + 8; bytes = number } ∷ entry_list) ++ qs) ((lead ++ read.bytes) ++ after))
+        read.place
         ∙ are_by lead after qs four from;
   }
 
@@ -149,9 +151,11 @@ module _ (s : Sections) (m : Moves) (small : AreSmall m) (w : Walked) (u : Unit)
   new_end : end_of (renewed w new_bytes) ≡ end_of w
   new_end = let g = new_size in let h = end_is in omega arith
 
-  entries_read : entries_within (unit_bounds w.place (end_of (renewed w new_bytes)) (table_at (changed_abbrevs s) offset)) (length back.bytes) 0 back.bytes ≡ Ok back.new
+  entries_read : entries_within (unit_bounds w.place (end_of (renewed w new_bytes)) (table_at (changed_abbrevs s) offset))
+      (length back.bytes) 0 back.bytes ≡ Ok back.new
   entries_read =
-      ap (λ (k : ℕ). entries_within (unit_bounds w.place k (table_at (changed_abbrevs s) offset)) (length back.bytes) 0 back.bytes) new_end
+      ap (λ (k : ℕ). entries_within (unit_bounds w.place k (table_at (changed_abbrevs s) offset)) (length back.bytes) 0 back.bytes)
+      new_end
       ∙ ap (λ (t : Table). entries_within (unit_bounds w.place (end_of w) t) (length back.bytes) 0 back.bytes) table_place
       ∙ ap (λ (n : ℕ). entries_within (unit_bounds w.place (end_of w) (table_at section (length sp.before))) n 0 back.bytes) back.size
       ∙ back.reads
@@ -159,7 +163,8 @@ module _ (s : Sections) (m : Moves) (small : AreSmall m) (w : Walked) (u : Unit)
   says : IsNewUnit s m w u new_bytes
   says = record {
     unit = record { place = w.place; abbrev_offset = offset; entries = back.new };
-    reads = unit_again (changed_abbrevs s) (renewed w new_bytes) new_bytes back.bytes offset (length section - length sp.rest) back.new refl
+    reads = unit_again (changed_abbrevs s) (renewed w new_bytes) new_bytes back.bytes offset (length section - length sp.rest) back.new
+        refl
         (header.reads offset number back.bytes number_is back.size) (ap (λ (t : Table). t.end) table_is) entries_read;
     place = sym read.place;
     offset = refl;
@@ -167,7 +172,7 @@ module _ (s : Sections) (m : Moves) (small : AreSmall m) (w : Walked) (u : Unit)
     stay = λ e a there k bytes is.
         let lead : List ℕ = header.lead ++ (header.old ++ header.tail) in
         let new_lead : List ℕ = header.lead ++ (number ++ header.tail) in
-        let same_bytes : read.bytes ≡ bytes = some_same read.bytes bytes (sym read.is ∙ is) in
+        let same_bytes : read.bytes ≡ bytes = same_Some read.bytes bytes (sym read.is ∙ is) in
         let c = length-append header.lead (header.old ++ header.tail) in
         let d = length-append header.old header.tail in
         let f = length-append header.lead (number ++ header.tail) in
@@ -176,10 +181,13 @@ module _ (s : Sections) (m : Moves) (small : AreSmall m) (w : Walked) (u : Unit)
         let i = header.old_size in
         let j = bytes_size in
         let l = end_is in
-        subst (λ (b : List ℕ). IsSameAt (w.place + 4) a b new_bytes) (joined header.lead header.old header.tail read.left ∙ sym header.is ∙ same_bytes)
+        subst (λ (b : List ℕ). IsSameAt (w.place + 4) a b new_bytes) (joined header.lead header.old header.tail read.left ∙ sym header.is
+        ∙ same_bytes)
         (subst (λ (b : List ℕ). IsSameAt (w.place + 4) a (lead ++ read.left) b) (joined header.lead number header.tail back.bytes)
-        (same_behind (w.place + 4) (end_of w - length read.left) a lead new_lead read.left back.bytes (omega arith) (omega arith) (back.stay e a there k)));
-    table = subst (λ (ds : List Declaration). AreChangedDeclarations own table.list ds) (sym (ap (λ (t : Table). t.list) table_is)) spelled.changed;
+        (same_behind (w.place + 4) (end_of w - length read.left) a lead new_lead read.left back.bytes (omega arith) (omega arith)
+        (back.stay e a there k)));
+    table = subst (λ (ds : List Declaration). AreChangedDeclarations own table.list ds) (sym (ap (λ (t : Table). t.list) table_is))
+        spelled.changed;
   } where
     joined : (xs ys zs rest : List ℕ) → (xs ++ (ys ++ zs)) ++ rest ≡ xs ++ (ys ++ (zs ++ rest))
     joined xs ys zs rest = append_assoc xs (ys ++ zs) rest ∙ ap (λ (l : List ℕ). xs ++ l) (append_assoc ys zs rest)
@@ -188,7 +196,8 @@ module _ (s : Sections) (m : Moves) (small : AreSmall m) (w : Walked) (u : Unit)
   new_unit = (
     new_bytes,
     record {
-      renewal = λ bytes is. subst (λ (b : List ℕ). IsRenewed w (unit_patches s m u) b new_bytes) (some_same read.bytes bytes (sym read.is ∙ is)) renewal;
+      renewal = λ bytes is. subst (λ (b : List ℕ). IsRenewed w (unit_patches s m u) b new_bytes)
+          (same_Some read.bytes bytes (sym read.is ∙ is)) renewal;
       says = says;
     },
   )
@@ -200,7 +209,8 @@ not_high n ne = grind (arith, nat_tests)
 
 module _ (s : Sections) (m : Moves) (info : List ℕ) (u : Unit) where
   abbrev StayAll : List Entry → Type 0
-  StayAll es = (e : Entry) (a : Attr) → Contains es e → StaysIn m (is_own s e.declaration) (is_first_of u e) e e.attrs a → IsSameAt 0 a s.info info
+  StayAll es = (e : Entry) (a : Attr) → Contains es e → StaysIn m (is_own s e.declaration) (is_first_of u e) e e.attrs a →
+      IsSameAt 0 a s.info info
 
   changed_entries : (old new : List Entry) → AreChanged m (is_own s) (is_first_of u) old new → StayAll old →
       AllZip (λ x y. IsChangedEntry s info m (is_first_of u x) x y) old new
@@ -219,7 +229,8 @@ module _ (s : Sections) (m : Moves) (info : List ℕ) (u : Unit) where
     changed_entries old new c.1 (λ e a there k. stay e a (Contains-there o old e there) k),
   )
 
-  pub changed_unit : (w : Walked) (new : List ℕ) (i : IsNewUnit s m w u new) → ((a : Attr) → ((bytes : List ℕ) → w.bytes ≡ Some bytes → IsSameAt (w.place + 4) a bytes new) → IsSameAt 0 a s.info info) →
+  pub changed_unit : (w : Walked) (new : List ℕ) (i : IsNewUnit s m w u new) →
+      ((a : Attr) → ((bytes : List ℕ) → w.bytes ≡ Some bytes → IsSameAt (w.place + 4) a bytes new) → IsSameAt 0 a s.info info) →
       IsChangedUnit s info m u i.unit
   changed_unit w new i whole = record {
     place = i.place;

@@ -1,10 +1,12 @@
 -- What it says that some sections have no fault.
-use Rattle.std.proofs.Common.{◌≡◌, ◌∙◌, ◌<◌, ◌++◌, ℕ, zero, suc, List, [], ◌∷◌, Bool, true, false, Option, Some, None, refl, ap, sym, arith, length, get_or, map}
+use Rattle.std.proofs.Common.{◌≡◌, ◌∙◌, ◌<◌, ◌++◌, ℕ, zero, suc, List, [], ◌∷◌, Bool, true, false, Option, Some, None, refl, ap}
+use Rattle.std.proofs.Common.{arith, length, get_or, map}
+use Rattle.std.proofs.lemmas.Bool.{or_parts}
 use Rattle.std.specs.Prelude.{⊤, ◌||◌, if◌then◌else◌, filter, flat_map, option_map, nat_le}
 use Rattle.std.specs.List.{find, list_any}
-use Rattle.std.specs.Option.{option_or}
 use Rattle.rb_bytes.specs.FirstFault.{IsFree}
 use Rattle.rb_bytes.specs.declared.fault.FaultKind.TheVariants as fault
+use Rattle.rb_bytes.proofs.Options.{not_found}
 use Rattle.table_core.specs.ReadSteps.{least, lower}
 use Rattle.table_core.specs.DebugUnits.{Walked, first_place}
 use Rattle.dw_unit.specs.Declarations.{Declaration}
@@ -28,19 +30,12 @@ absent p free = record {
   none None f = refl
   none (Some n) f = absurd (f n refl)
 
-some_none : (o : Option ℕ) (n : ℕ) → o ≡ None → o ≡ Some n → ⊥
-some_none o n e f = let g : None ≡ Some n = sym e ∙ f in absurd (cc)
-
 pub free_of : (p : FaultPlaces) → AreAbsent p → IsFree (HasDwarfFault p)
-free_of p a fault.DwarfVersion place e = some_none p.version place a.version e
-free_of p a fault.DwarfForm place e = some_none p.form place a.form e
-free_of p a fault.HighPcForm place e = some_none p.high place a.high e
-free_of p a fault.DwarfFault place e = some_none p.bad place a.bad e
+free_of p a fault.DwarfVersion place e = not_found p.version place a.version e
+free_of p a fault.DwarfForm place e = not_found p.form place a.form e
+free_of p a fault.HighPcForm place e = not_found p.high place a.high e
+free_of p a fault.DwarfFault place e = not_found p.bad place a.bad e
 free_of p a _ place e = absurd e
-
-pub both_none : (a b : Option ℕ) → option_or a b ≡ None → (a ≡ None) × (b ≡ None)
-both_none None b e = (refl, e)
-both_none (Some n) b e = absurd (cc)
 
 least_some : (n : ℕ) (o : Option ℕ) → lower (Some n) o ≡ None → ⊥
 least_some n None e = cc
@@ -62,7 +57,8 @@ both_nil (x ∷ xs) ys e = absurd (cc)
 pub none_with : (test : Declaration → Bool) (ds : List Declaration) → places_with test ds ≡ [] → list_any test ds ≡ false
 none_with test [] e = refl
 none_with test (d ∷ ds) e = by_test (test d) e (none_with test ds) where
-  by_test : (b : Bool) → map (λ (d : Declaration). d.place) (if b then d ∷ filter test ds else filter test ds) ≡ [] → (places_with test ds ≡ [] → list_any test ds ≡ false) →
+  by_test : (b : Bool) → map (λ (d : Declaration). d.place) (if b then d ∷ filter test ds else filter test ds) ≡ [] →
+      (places_with test ds ≡ [] → list_any test ds ≡ false) →
       (b || list_any test ds) ≡ false
   by_test true f ih = absurd (cc)
   by_test false f ih = ih f
@@ -75,18 +71,16 @@ with_none test (d ∷ ds) e = by_test (test d) e (with_none test ds) where
   by_test true f ih = absurd (cc)
   by_test false f ih = ih f
 
-or_parts : (a b : Bool) → (a || b) ≡ false → (a ≡ false) × (b ≡ false)
-or_parts true b e = absurd (cc)
-or_parts false b e = (refl, e)
-
-any_parts : (test : Declaration → Bool) (xs ys : List Declaration) → list_any test (xs ++ ys) ≡ false → (list_any test xs ≡ false) × (list_any test ys ≡ false)
+any_parts : (test : Declaration → Bool) (xs ys : List Declaration) → list_any test (xs ++ ys) ≡ false →
+    (list_any test xs ≡ false) × (list_any test ys ≡ false)
 any_parts test [] ys e = (refl, e)
 any_parts test (x ∷ xs) ys e =
     let p = or_parts (test x) (list_any test (xs ++ ys)) e in
     let q = any_parts test xs ys p.1 in
     (ap (λ (b : Bool). b || list_any test xs) p.0 ∙ q.0, q.1)
 
-any_joined : (test : Declaration → Bool) (xs ys : List Declaration) → list_any test xs ≡ false → list_any test ys ≡ false → list_any test (xs ++ ys) ≡ false
+any_joined : (test : Declaration → Bool) (xs ys : List Declaration) → list_any test xs ≡ false → list_any test ys ≡ false →
+    list_any test (xs ++ ys) ≡ false
 any_joined test [] ys e f = f
 any_joined test (x ∷ xs) ys e f =
     let p = or_parts (test x) (list_any test xs) e in

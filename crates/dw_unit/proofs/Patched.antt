@@ -1,5 +1,6 @@
 -- Bytes with numbers written over them.
-use Rattle.std.proofs.Common.{◌≡◌, ◌≤◌, ◌+◌, ◌-◌, ◌++◌, ℕ, zero, suc, List, [], ◌∷◌, refl, ap, sym, ◌∙◌, arith, length, take, drop, append_assoc}
+use Rattle.std.proofs.Common.{◌≡◌, ◌≤◌, ◌+◌, ◌-◌, ◌++◌, ℕ, zero, suc, List, [], ◌∷◌, refl, ap, sym, ◌∙◌, arith, length, take, drop}
+use Rattle.std.proofs.Common.{append_assoc}
 use Rattle.std.specs.Int.{bytes_low_first, byte_at}
 use Rattle.byteorder.specs.Endian.{little_bytes}
 use Rattle.std.proofs.lemmas.List.{take_at, drop-drop}
@@ -22,13 +23,16 @@ patched-behind from to front rest [] e f = refl
 patched-behind from to front rest (p ∷ ps) e f =
     let n : p.place - from ≡ length front + (p.place - to) = omega arith in
     let m : length front + (p.place - to) + length p.bytes ≡ length front + (p.place - to + length p.bytes) = omega arith in
-    ap (λ (k : ℕ). take k (front ++ rest) ++ (p.bytes ++ patched (p.place + length p.bytes) ps (drop (k + length p.bytes) (front ++ rest)))) n
-    ∙ ap (λ (l : List ℕ). l ++ (p.bytes ++ patched (p.place + length p.bytes) ps (drop (length front + (p.place - to) + length p.bytes) (front ++ rest))))
+    ap (λ (k : ℕ). take k (front ++ rest) ++ (p.bytes ++ patched (p.place + length p.bytes) ps
+    (drop (k + length p.bytes) (front ++ rest)))) n
+    ∙ ap (λ (l : List ℕ). l ++ (p.bytes ++ patched (p.place + length p.bytes) ps
+    (drop (length front + (p.place - to) + length p.bytes) (front ++ rest))))
     (take-append-add front rest (p.place - to))
     ∙ ap (λ (k : ℕ). (front ++ take (p.place - to) rest) ++ (p.bytes ++ patched (p.place + length p.bytes) ps (drop k (front ++ rest)))) m
     ∙ ap (λ (l : List ℕ). (front ++ take (p.place - to) rest) ++ (p.bytes ++ patched (p.place + length p.bytes) ps l))
     (drop-append-add front rest (p.place - to + length p.bytes))
-    ∙ append_assoc front (take (p.place - to) rest) (p.bytes ++ patched (p.place + length p.bytes) ps (drop (p.place - to + length p.bytes) rest))
+    ∙ append_assoc front (take (p.place - to) rest) (p.bytes ++ patched (p.place + length p.bytes) ps
+    (drop (p.place - to + length p.bytes) rest))
 
 -- a patch over the bytes behind some others
 pub patched-over : (from to : ℕ) (lead body rest : List ℕ) (p : Patch) (ps : List Patch) → p.place ≡ from + length lead →
@@ -37,8 +41,10 @@ pub patched-over : (from to : ℕ) (lead body rest : List ℕ) (p : Patch) (ps :
 patched-over from to lead body rest p ps e size is =
     let n : p.place - from ≡ length lead = omega arith in
     let m : length lead + length p.bytes ≡ length lead + length body = omega arith in
-    ap (λ (k : ℕ). take k (lead ++ (body ++ rest)) ++ (p.bytes ++ patched (p.place + length p.bytes) ps (drop (k + length p.bytes) (lead ++ (body ++ rest))))) n
-    ∙ ap (λ (l : List ℕ). l ++ (p.bytes ++ patched (p.place + length p.bytes) ps (drop (length lead + length p.bytes) (lead ++ (body ++ rest)))))
+    ap (λ (k : ℕ). take k (lead ++ (body ++ rest)) ++ (p.bytes ++ patched (p.place + length p.bytes) ps
+    (drop (k + length p.bytes) (lead ++ (body ++ rest))))) n
+    ∙ ap (λ (l : List ℕ). l ++ (p.bytes ++ patched (p.place + length p.bytes) ps
+    (drop (length lead + length p.bytes) (lead ++ (body ++ rest)))))
     (take_at lead (body ++ rest) (length lead) refl)
     ∙ ap (λ (k : ℕ). lead ++ (p.bytes ++ patched (p.place + length p.bytes) ps (drop k (lead ++ (body ++ rest))))) m
     ∙ ap (λ (l : List ℕ). lead ++ (p.bytes ++ patched (p.place + length p.bytes) ps l))
@@ -58,9 +64,11 @@ pub lowest_bytes : (n x : ℕ) → n ≤ 8 → take n (little_bytes 8 x) ≡ lit
 lowest_bytes n x h = bytes-take 0 n 8 x h
 
 -- what was put so far, and what patches make of the bytes behind
-pub patch_put : (old new kept bytes all : List ℕ) (from place len : ℕ) (ps : List Patch) → new ≡ (old ++ kept) ++ bytes → kept ≡ take (place - from) (drop from all) →
+pub patch_put : (old new kept bytes all : List ℕ) (from place len : ℕ) (ps : List Patch) → new ≡ (old ++ kept) ++ bytes →
+    kept ≡ take (place - from) (drop from all) →
     length bytes ≡ len → from ≤ place →
-    new ++ patched (place + len) ps (drop (place + len) all) ≡ old ++ patched from (record { place = place; bytes = bytes } ∷ ps) (drop from all)
+    new ++ patched (place + len) ps (drop (place + len) all) ≡ old ++ patched from (record { place = place; bytes = bytes } ∷ ps)
+    (drop from all)
 patch_put old new kept bytes all from place len ps e k size h =
     let rest : List ℕ = patched (place + len) ps (drop (place + len) all) in
     let n : from + (place - from + len) ≡ place + len = omega arith in
@@ -68,4 +76,5 @@ patch_put old new kept bytes all from place len ps e k size h =
     ∙ ap (λ (l : List ℕ). old ++ (l ++ (bytes ++ rest))) k
     ∙ ap (λ (l : List ℕ). old ++ (take (place - from) (drop from all) ++ (bytes ++ patched (place + len) ps l)))
     (sym (drop-drop (place - from + len) from all ∙ ap (λ (k : ℕ). drop k all) n))
-    ∙ ap (λ (k : ℕ). old ++ (take (place - from) (drop from all) ++ (bytes ++ patched (place + k) ps (drop (place - from + k) (drop from all))))) (sym size)
+    ∙ ap (λ (k : ℕ). old ++ (take (place - from) (drop from all)
+    ++ (bytes ++ patched (place + k) ps (drop (place - from + k) (drop from all))))) (sym size)

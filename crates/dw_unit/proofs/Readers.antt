@@ -1,5 +1,6 @@
 -- Readers of declarations and attributes go forward, and take what stands at the front whatever follows.
-use Rattle.std.proofs.Common.{◌≡◌, ◌<◌, ◌≤◌, ◌+◌, ◌-◌, ◌++◌, ℕ, zero, suc, List, [], ◌∷◌, Option, Some, None, Ok, Err, Result, refl, ap, sym, ◌∙◌, arith, length, length-append, append_assoc}
+use Rattle.std.proofs.Common.{◌≡◌, ◌<◌, ◌≤◌, ◌+◌, ◌-◌, ◌++◌, ℕ, zero, suc, List, [], ◌∷◌, Option, Some, None, Ok, Err, Result, refl, ap}
+use Rattle.std.proofs.Common.{sym, ◌∙◌, arith, length, length-append, append_assoc}
 use Rattle.std.specs.Prelude.{◌==◌, ◌&&◌, if◌then◌else◌, nat_lt}
 use Rattle.rb_bytes.specs.declared.gap.Gap.{Gap}
 use Rattle.rb_bytes.specs.Readers.{and_then, number_read}
@@ -11,17 +12,20 @@ use Rattle.dw_unit.specs.declared.trouble.Trouble.TheVariants.{Unsound}
 use Rattle.dw_unit.specs.declared.declaration.Spec.{Spec}
 use Rattle.dw_unit.specs.declared.entry.Attr.{Attr}
 use Rattle.dw_unit.specs.Trouble.{Read, whole}
-use Rattle.dw_unit.specs.Declarations.{Declaration, spec_at, specs_at, specs_within, add_spec, implicit_at, declaration_at, declaration_or_end, next_declaration, table_within, table_behind, Table}
+use Rattle.dw_unit.specs.Declarations.{Declaration, spec_at, specs_at, specs_within, add_spec, implicit_at, declaration_at}
+use Rattle.dw_unit.specs.Declarations.{declaration_or_end, next_declaration, table_within, table_behind, Table}
 use Rattle.dw_unit.specs.CompUnits.{attr_at, attrs_at}
 use Rattle.std.proofs.Common.{drop, length-drop}
 use Rattle.std.proofs.lemmas.List.{append-nil}
 use Rattle.dw_unit.specs.Declarations.{table_at}
 use Rattle.dw_unit.proofs.Forms.{uleb_forward}
-use Rattle.dw_unit.proofs.Local.{Takes, Local, then_local, ok_local, err_local, cond_local, trouble_local, uleb_local, number_local, value_local}
+use Rattle.dw_unit.proofs.Local.{Takes, Local, then_local, ok_local, err_local, cond_local, trouble_local, uleb_local, number_local}
+use Rattle.dw_unit.proofs.Local.{value_local}
 use Rattle.dw_unit.proofs.AttrFronts.{attr_front}
 use Rattle.dw_unit.proofs.Walks.{with_front, with_before}
 
-pub takes_less : {X E : Type 0} {f : List ℕ → Result (X × List ℕ) E} {x : X} {left rest : List ℕ} → Takes f x left rest → length rest ≤ length left
+pub takes_less : {X E : Type 0} {f : List ℕ → Result (X × List ℕ) E} {x : X} {left rest : List ℕ} → Takes f x left rest →
+    length rest ≤ length left
 takes_less {f = f} {left = left} {rest = rest} t = let g = ap length t.is ∙ length-append t.front rest in omega arith
 
 -- a number in LEB128, and then what may take nothing
@@ -52,9 +56,11 @@ spec_behind-local name = then_local (λ left. whole (uleb_at left)) (λ form lef
     else and_then (implicit_at form left2) (λ implicit rest. Ok (Some (record { name = name; form = form; implicit = implicit }), rest)))
     (trouble_local Unsound uleb_at uleb_local)
     (λ form. cond_local (name == 0 && form == 0) (λ left. Ok (None, left))
-    (λ left2. and_then (implicit_at form left2) (λ implicit rest. Ok (Some (record { name = name; form = form; implicit = implicit }), rest)))
+    (λ left2. and_then (implicit_at form left2) (λ implicit rest. Ok
+    (Some (record { name = name; form = form; implicit = implicit }), rest)))
     (ok_local None)
-    (then_local (implicit_at form) (λ implicit rest. Ok (Some (record { name = name; form = form; implicit = implicit }), rest)) (implicit_local form)
+    (then_local (implicit_at form) (λ implicit rest. Ok (Some (record { name = name; form = form; implicit = implicit }), rest))
+    (implicit_local form)
     (λ implicit. ok_local (Some (record { name = name; form = form; implicit = implicit })))))
 
 spec_local : Local spec_at
@@ -88,7 +94,8 @@ pub specs_step : (left : List ℕ) (found : Read (Option Spec)) → spec_at left
 unfolding specs_within
 specs_step [] found e = ap (λ (r : Read (Option Spec)). specs_by [] r) e
 specs_step (b ∷ left) found e =
-    behind_same (length left) (length (b ∷ left)) (b ∷ left) (spec_at (b ∷ left)) refl (λ rest s. specs_enough (length left) (length (b ∷ left)) rest (omega arith) (omega arith))
+    behind_same (length left) (length (b ∷ left)) (b ∷ left) (spec_at (b ∷ left)) refl
+    (λ rest s. specs_enough (length left) (length (b ∷ left)) rest (omega arith) (omega arith))
     ∙ ap (λ (r : Read (Option Spec)). specs_by (b ∷ left) r) e
 
 pub specs_more : (xs : List Spec) (s : Spec) (left rest : List ℕ) → spec_at left ≡ Ok (Some s, rest) →
@@ -96,13 +103,15 @@ pub specs_more : (xs : List Spec) (s : Spec) (left rest : List ℕ) → spec_at 
 specs_more xs s left rest e =
     let less : length rest < length left = spec_forward left rest (Some s) e in
     step (specs_at rest)
-    ∙ ap (λ (r : Read (List Spec)). with_front xs (and_then r (λ specs rest. Ok (s ∷ specs, rest)))) (specs_enough (length rest) (length left) rest (omega arith) (omega arith))
+    ∙ ap (λ (r : Read (List Spec)). with_front xs (and_then r (λ specs rest. Ok (s ∷ specs, rest))))
+    (specs_enough (length rest) (length left) rest (omega arith) (omega arith))
     ∙ sym (ap (with_front xs) (specs_step left (Ok (Some s, rest)) e)) where
       step : (r : Read (List Spec)) → with_front (xs ++ s ∷ []) r ≡ with_front xs (and_then r (λ specs rest. Ok (s ∷ specs, rest)))
       step (Ok read) = ap (λ (l : List Spec). Ok (l, read.1)) (append_assoc xs (s ∷ []) read.0)
       step (Err t) = refl
 
-pub specs_end : (xs : List Spec) (left rest : List ℕ) → spec_at left ≡ Ok (None, rest) → with_front xs (specs_at left) ≡ Ok (xs ++ [], rest)
+pub specs_end : (xs : List Spec) (left rest : List ℕ) → spec_at left ≡ Ok (None, rest) →
+    with_front xs (specs_at left) ≡ Ok (xs ++ [], rest)
 specs_end xs left rest e = ap (with_front xs) (specs_step left (Ok (None, rest)) e)
 
 pub specs_trouble : (xs : List Spec) (left : List ℕ) (t : Trouble) → spec_at left ≡ Err t → with_front xs (specs_at left) ≡ Err t
@@ -133,20 +142,33 @@ specs_local specs left rest e =
 
 pub declaration_local : (place code : ℕ) → Local (declaration_at place code)
 declaration_local place code =
-    then_local (λ left. whole (uleb_at left)) (λ tag left1. and_then (whole (number_read 1 left1)) (λ children left2. and_then (specs_at left2) (λ specs rest.
+    then_local (λ left. whole (uleb_at left)) (λ tag left1. and_then (whole (number_read 1 left1))
+    (λ children left2. and_then (specs_at left2) (λ specs rest.
     Ok (record { place = place; code = code; tag = tag; children = nat_lt 0 children; specs = specs }, rest))))
     (trouble_local Unsound uleb_at uleb_local)
     (λ tag. then_local (λ left. whole (number_read 1 left)) (λ children left2. and_then (specs_at left2) (λ specs rest.
     Ok (record { place = place; code = code; tag = tag; children = nat_lt 0 children; specs = specs }, rest)))
     (trouble_local Unsound (number_read 1) (number_local 1))
-    (λ children. then_local specs_at (λ specs rest. Ok (record { place = place; code = code; tag = tag; children = nat_lt 0 children; specs = specs }, rest)) specs_local
+    (λ children. then_local specs_at (λ specs rest. Ok (
+      record {
+        place = place;
+        code = code;
+        tag = tag;
+        children = nat_lt 0 children;
+        specs = specs;
+      },
+      rest,
+    )) specs_local
     (λ specs. ok_local (record { place = place; code = code; tag = tag; children = nat_lt 0 children; specs = specs }))))
 
 declaration_or_end-local : (place code : ℕ) → Local (declaration_or_end place code)
-declaration_or_end-local place code = cond_local (code == 0) (λ left. Ok (None, left)) (λ left. and_then (declaration_at place code left) (λ d rest. Ok (Some d, rest)))
-    (ok_local None) (then_local (declaration_at place code) (λ d rest. Ok (Some d, rest)) (declaration_local place code) (λ d. ok_local (Some d)))
+declaration_or_end-local place code = cond_local (code == 0) (λ left. Ok (None, left))
+    (λ left. and_then (declaration_at place code left) (λ d rest. Ok (Some d, rest)))
+    (ok_local None) (then_local (declaration_at place code) (λ d rest. Ok (Some d, rest)) (declaration_local place code)
+    (λ d. ok_local (Some d)))
 
-pub declaration_forward : (place : ℕ) (left rest : List ℕ) (o : Option Declaration) → next_declaration place left ≡ Ok (o, rest) → length rest < length left
+pub declaration_forward : (place : ℕ) (left rest : List ℕ) (o : Option Declaration) → next_declaration place left ≡ Ok (o, rest) →
+    length rest < length left
 declaration_forward place left rest o e = leb_then (declaration_or_end place) (declaration_or_end-local place) left rest o e
 
 -- tables
@@ -159,7 +181,8 @@ table_same n m size left (Ok (None, rest)) is same = refl
 table_same n m size left (Ok (Some d, rest)) is same =
     ap (λ (t : Table). with_before (d ∷ []) t) (same rest (declaration_forward (size - length left) left rest (Some d) is))
 
-pub table_enough : (n m size : ℕ) (left : List ℕ) → length left ≤ n → length left ≤ m → table_within n size left ≡ table_within m size left
+pub table_enough : (n m size : ℕ) (left : List ℕ) → length left ≤ n → length left ≤ m →
+    table_within n size left ≡ table_within m size left
 unfolding table_within
 table_enough zero zero size left h k = refl
 table_enough zero (suc m) size [] h k = refl
@@ -167,7 +190,8 @@ table_enough zero (suc m) size (b ∷ left) h k = absurd (omega arith)
 table_enough (suc n) zero size [] h k = refl
 table_enough (suc n) zero size (b ∷ left) h k = absurd (omega arith)
 table_enough (suc n) (suc m) size left h k =
-    table_same n m size left (next_declaration (size - length left) left) refl (λ rest s. table_enough n m size rest (omega arith) (omega arith))
+    table_same n m size left (next_declaration (size - length left) left) refl
+    (λ rest s. table_enough n m size rest (omega arith) (omega arith))
 
 pub table_step : (size : ℕ) (left : List ℕ) (found : Read (Option Declaration)) → next_declaration (size - length left) left ≡ found →
     table_within (length left) size left ≡ table_behind (table_within (length left) size) size found
@@ -189,7 +213,8 @@ attr_less end d s l1 l2 a e =
 
 -- one declaration more
 
-pub table_more : (ds : List Declaration) (d : Declaration) (size : ℕ) (left rest : List ℕ) → next_declaration (size - length left) left ≡ Ok (Some d, rest) →
+pub table_more : (ds : List Declaration) (d : Declaration) (size : ℕ) (left rest : List ℕ) →
+    next_declaration (size - length left) left ≡ Ok (Some d, rest) →
     with_before (ds ++ d ∷ []) (table_within (length rest) size rest) ≡ with_before ds (table_within (length left) size left)
 table_more ds d size left rest e =
     let less : length rest < length left = declaration_forward (size - length left) left rest (Some d) e in
@@ -211,8 +236,10 @@ table_breaks ds size left t e =
     ap (with_before ds) (table_step size left (Err t) e)
     ∙ ap (λ (l : List Declaration). record { list = l; end = None }) (append-nil ds)
 
-pub table_starts : (section : List ℕ) (offset : ℕ) → with_before [] (table_within (length (drop offset section)) (length section) (drop offset section)) ≡ table_at section offset
-table_starts section offset = table_enough (length (drop offset section)) (length section) (length section) (drop offset section) (omega arith) (let g = length-drop offset section in omega arith)
+pub table_starts : (section : List ℕ) (offset : ℕ) → with_before []
+    (table_within (length (drop offset section)) (length section) (drop offset section)) ≡ table_at section offset
+table_starts section offset = table_enough (length (drop offset section)) (length section) (length section) (drop offset section)
+    (omega arith) (let g = length-drop offset section in omega arith)
 
 -- one attribute more
 
@@ -222,21 +249,6 @@ after_attr a r = and_then r (λ attrs rest. Ok (a ∷ attrs, rest))
 abbrev pub attrs_of_attr : ℕ → ℕ → List Spec → Read Attr → Read (List Attr)
 attrs_of_attr end c specs r = and_then r (λ a left1. after_attr a (attrs_at end c specs left1))
 
-attrs_front : (xs : List Attr) (a : Attr) (end d : ℕ) (specs : List Spec) (rest : List ℕ) (r : Read (List Attr)) →
-    with_front (xs ++ a ∷ []) r ≡ with_front xs (and_then r (λ attrs rest. Ok (a ∷ attrs, rest)))
-attrs_front xs a end d specs rest (Ok read) = ap (λ (l : List Attr). Ok (l, read.1)) (append_assoc xs (a ∷ []) read.0)
-attrs_front xs a end d specs rest (Err t) = refl
-
-pub attrs_more : (xs : List Attr) (a : Attr) (end d : ℕ) (s : Spec) (specs : List Spec) (left rest : List ℕ) → attr_at end d s left ≡ Ok (a, rest) →
-    with_front (xs ++ a ∷ []) (attrs_at end d specs rest) ≡ with_front xs (attrs_at end d (s ∷ specs) left)
-attrs_more xs a end d s specs left rest e =
-    attrs_front xs a end d specs rest (attrs_at end d specs rest)
-    ∙ sym (ap (λ (r : Read Attr). with_front xs (and_then r (λ a left1. and_then (attrs_at end d specs left1) (λ attrs rest. Ok (a ∷ attrs, rest))))) e)
-
-pub attrs_trouble : (xs : List Attr) (end d : ℕ) (s : Spec) (specs : List Spec) (left : List ℕ) (t : Trouble) → attr_at end d s left ≡ Err t →
-    with_front xs (attrs_at end d (s ∷ specs) left) ≡ Err t
-attrs_trouble xs end d s specs left t e =
-    ap (λ (r : Read Attr). with_front xs (and_then r (λ a left1. and_then (attrs_at end d specs left1) (λ attrs rest. Ok (a ∷ attrs, rest))))) e
-
 pub next_declaration_local : (place : ℕ) → Local (next_declaration place)
-next_declaration_local place = then_local (λ left. whole (uleb_at left)) (declaration_or_end place) (trouble_local Unsound uleb_at uleb_local) (declaration_or_end-local place)
+next_declaration_local place = then_local (λ left. whole (uleb_at left)) (declaration_or_end place)
+    (trouble_local Unsound uleb_at uleb_local) (declaration_or_end-local place)

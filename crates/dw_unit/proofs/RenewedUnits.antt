@@ -1,5 +1,6 @@
 -- A section whose units get new bytes, as many as they had.
-use Rattle.std.proofs.Common.{◌≡◌, ◌≤◌, ◌+◌, ◌++◌, ◌∙◌, ℕ, List, [], ◌∷◌, Some, false, refl, ap, sym, subst, arith, length, length-append, append_assoc}
+use Rattle.std.proofs.Common.{◌≡◌, ◌≤◌, ◌+◌, ◌++◌, ◌∙◌, ℕ, List, [], ◌∷◌, Some, false, refl, ap, sym, subst, arith, length, length-append}
+use Rattle.std.proofs.Common.{append_assoc}
 use Rattle.std.specs.Prelude.{⊤, ◌==◌, flat_map}
 use Rattle.byteorder.specs.Endian.{little_number}
 use Rattle.table_core.specs.DebugUnits.{Walked, DWARF64}
@@ -40,10 +41,6 @@ all_renewed [] ns = []
 all_renewed (w ∷ ws) [] = []
 all_renewed (w ∷ ws) (n ∷ ns) = renewed w n ∷ all_renewed ws ns
 
--- the values of attributes of each that stay
-abbrev pub Stays : Type 0 → Type 1
-Stays X = X → Attr → Type 0
-
 module _ {X : Type 0} (ps : X → List Patch) (P : Walked → X → List ℕ → Type 0) where
   pub record IsSection (place : ℕ) (ws : List Walked) (xs : List X) (ns : List (List ℕ)) (left : List ℕ) : Type 0 where
     pub new : List ℕ
@@ -55,9 +52,16 @@ module _ {X : Type 0} (ps : X → List Patch) (P : Walked → X → List ℕ →
   head_place : (place : ℕ) (w : Walked) (left rest : List ℕ) → IsWhole place w left rest → w.place ≡ place
   head_place place w left rest i = ap (λ (x : Walked). x.place) i.walked
 
-  pub section_renewed : (place : ℕ) (ws : List Walked) (xs : List X) (ns : List (List ℕ)) (left : List ℕ) → AreWhole place ws left → AreNew ps P ws xs ns →
+  pub section_renewed : (place : ℕ) (ws : List Walked) (xs : List X) (ns : List (List ℕ)) (left : List ℕ) → AreWhole place ws left →
+      AreNew ps P ws xs ns →
       IsSection place ws xs ns left
-  section_renewed place [] [] [] left whole are = record { new = []; size = ap length (sym whole); starts = tt; are = whole; whole = refl }
+  section_renewed place [] [] [] left whole are = record {
+    new = [];
+    size = ap length (sym whole);
+    starts = tt;
+    are = whole;
+    whole = refl;
+  }
   section_renewed place [] [] (n ∷ ns) left whole are = absurd are
   section_renewed place [] (x ∷ xs) ns left whole are = absurd are
   section_renewed place (w ∷ ws) [] ns left whole are = absurd are
@@ -120,7 +124,8 @@ module _ {X : Type 0} (ps : X → List Patch) (P : Walked → X → List ℕ →
   stay_later from to p q old new (w ∷ ws) (n ∷ ns) e f s =
       (λ a h. same_behind from to a p q old new e f (s.0 a h), stay_later from to p q old new ws ns e f s.1)
 
-  pub section_stays : (place : ℕ) (ws : List Walked) (xs : List X) (ns : List (List ℕ)) (left new : List ℕ) → AreWhole place ws left → AreNew ps P ws xs ns →
+  pub section_stays : (place : ℕ) (ws : List Walked) (xs : List X) (ns : List (List ℕ)) (left new : List ℕ) → AreWhole place ws left →
+      AreNew ps P ws xs ns →
       AreWhole place (all_renewed ws ns) new → StayAll place left new ws ns
   section_stays place [] xs ns left new whole are again = tt
   section_stays place (w ∷ ws) xs [] left new whole are again = tt
@@ -138,7 +143,8 @@ module _ {X : Type 0} (ps : X → List Patch) (P : Walked → X → List ℕ →
       ap (λ (k : ℕ). k + 4 + length n) place_is ∙ ap (λ (k : ℕ). place + 4 + k) size_is ∙ sym end_is in
       let long = length-append i.size i.bytes in
       let long2 = length-append j.size j.bytes in
-      let s : StayAll (end_of w) rest rest2 ws ns = section_stays (end_of w) ws xs ns rest rest2 more later (subst (λ (k : ℕ). AreWhole k (all_renewed ws ns) rest2) new_end more2) in (
+      let s : StayAll (end_of w) rest rest2 ws ns = section_stays (end_of w) ws xs ns rest rest2 more later
+      (subst (λ (k : ℕ). AreWhole k (all_renewed ws ns) rest2) new_end more2) in (
         λ a h.
             let front : IsSameAt (place + 4) a i.bytes j.bytes =
             subst (λ (l : List ℕ). IsSameAt (place + 4) a i.bytes l) n_is

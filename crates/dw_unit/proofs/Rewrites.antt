@@ -1,5 +1,6 @@
 -- Attributes that are changed in place are read back changed.
-use Rattle.std.proofs.Common.{◌≡◌, ◌<◌, ◌≤◌, ◌+◌, ◌-◌, ◌^◌, ◌++◌, ℕ, List, [], ◌∷◌, Bool, true, false, cond, Option, Some, None, Ok, Err, Result, refl, ap, sym, ◌∙◌, arith, length, take, drop, map, is_some, unwrap_or, length-append, append_assoc}
+use Rattle.std.proofs.Common.{◌≡◌, ◌<◌, ◌≤◌, ◌+◌, ◌-◌, ◌^◌, ◌++◌, ℕ, List, [], ◌∷◌, Bool, true, false, cond, Option, Some, None, Ok, Err}
+use Rattle.std.proofs.Common.{Result, refl, ap, sym, ◌∙◌, arith, length, take, drop, map, is_some, unwrap_or, length-append, append_assoc}
 use Rattle.std.specs.Prelude.{◌==◌, ◌||◌, if◌then◌else◌}
 use Rattle.std.proofs.lemmas.Bool.Decides.{nat_tests}
 use Rattle.std.proofs.lemmas.List.{take-append-drop, length-take-le}
@@ -15,10 +16,11 @@ use Rattle.dw_unit.specs.declared.entry.Attr.{Attr}
 use Rattle.dw_unit.specs.Trouble.{Read}
 use Rattle.dw_unit.specs.CompUnits.{Entry, form_at, attr_at, attrs_at}
 use Rattle.dw_unit.specs.EntryMoves.{Moves, new_list_offset}
-use Rattle.dw_unit.specs.Changes.{Patch, patched, number_patch, attr_patches, changed_attr, changed_spec, ranges_specs, ranges_attrs, spec_of, new_name, new_value, new_address, new_list}
+use Rattle.dw_unit.specs.Changes.{Patch, patched, number_patch, attr_patches, changed_attr, changed_spec, ranges_specs, ranges_attrs}
+use Rattle.dw_unit.specs.Changes.{spec_of, new_name, new_value, new_address, new_list}
 use Rattle.dw_unit.proofs.AttrFronts.{IsAttr, attr_front, attr_again}
 use Rattle.dw_unit.proofs.Readers.{after_attr, attrs_of_attr}
-use Rattle.std.proofs.lemmas.List.{drop_at}
+use Rattle.std.proofs.lemmas.List.{drop_at, nil_from_length}
 use Rattle.std.proofs.Common.{nat_lt, length-drop}
 use Rattle.byteorder.specs.Numbers.{length-bytes_low_first}
 use Rattle.rb_bytes.specs.declared.gap.Gap.TheVariants.{Short}
@@ -34,7 +36,8 @@ use Rattle.dw_unit.proofs.Patched.{From, from_less, patched-behind, patched-over
 
 -- The bytes left, with patches over those in front of the rest: what they are then, and what is read of them. The values of
 -- some attributes stay as they are.
-pub record IsRewritten (Stays : Attr → Type 0) (end : ℕ) (specs : List Spec) (attrs : List Attr) (ps : List Patch) (left rest : List ℕ) : Type 0 where
+pub record IsRewritten (Stays : Attr → Type 0) (end : ℕ) (specs : List Spec) (attrs : List Attr) (ps : List Patch)
+    (left rest : List ℕ) : Type 0 where
   pub front : List ℕ
   pub old : List ℕ
   pub is : left ≡ old ++ rest
@@ -63,7 +66,8 @@ stays_less P Q end specs attrs ps left rest f r = record {
 
 -- attributes one after another
 
-attrs_last : (end c : ℕ) (specs more : List Spec) (attrs next : List Attr) (a : Attr) (l1 left1 rest : List ℕ) (found : Read (List Attr)) →
+attrs_last : (end c : ℕ) (specs more : List Spec) (attrs next : List Attr) (a : Attr) (l1 left1 rest : List ℕ)
+    (found : Read (List Attr)) →
     attrs_at end c specs l1 ≡ found → after_attr a found ≡ Ok (attrs, left1) →
     ((got : List Attr) → attrs_at end c specs l1 ≡ Ok (got, left1) → attrs_at end c (specs ++ more) l1 ≡ Ok (got ++ next, rest)) →
     after_attr a (attrs_at end c (specs ++ more) l1) ≡ Ok (attrs ++ next, rest)
@@ -76,7 +80,8 @@ attrs_last end c specs more attrs next a l1 left1 rest (Ok got) is e ih =
 
 attrs_behind : (end c : ℕ) (s : Spec) (specs more : List Spec) (attrs next : List Attr) (left left1 rest : List ℕ) (found : Read Attr) →
     attr_at end c s left ≡ found → attrs_of_attr end c specs found ≡ Ok (attrs, left1) →
-    ((l1 : List ℕ) (got : List Attr) → attrs_at end c specs l1 ≡ Ok (got, left1) → attrs_at end c (specs ++ more) l1 ≡ Ok (got ++ next, rest)) →
+    ((l1 : List ℕ) (got : List Attr) → attrs_at end c specs l1 ≡ Ok (got, left1) →
+    attrs_at end c (specs ++ more) l1 ≡ Ok (got ++ next, rest)) →
     attrs_of_attr end c (specs ++ more) found ≡ Ok (attrs ++ next, rest)
 attrs_behind end c s specs more attrs next left left1 rest (Err t) is e ih = absurd (cc)
 attrs_behind end c s specs more attrs next left left1 rest (Ok read) is e ih =
@@ -93,7 +98,8 @@ attrs_append end c (s ∷ specs) more attrs next left left1 rest e f =
     attrs_behind end c s specs more attrs next left left1 rest (attr_at end c s left) refl e
     (λ l1 got g. attrs_append end c specs more got next l1 left1 rest g f)
 
-pub rewritten_then : (P Q : Attr → Type 0) (end : ℕ) (specs more : List Spec) (attrs next : List Attr) (ps qs : List Patch) (left left1 rest : List ℕ) → length left ≤ end →
+pub rewritten_then : (P Q : Attr → Type 0) (end : ℕ) (specs more : List Spec) (attrs next : List Attr) (ps qs : List Patch)
+    (left left1 rest : List ℕ) → length left ≤ end →
     IsRewritten P end specs attrs ps left left1 → IsRewritten Q end more next qs left1 rest →
     IsRewritten (λ x. P x ⊎ Q x) end (specs ++ more) (attrs ++ next) (ps ++ qs) left rest
 rewritten_then P Q end specs more attrs next ps qs left left1 rest h a b = record {
@@ -105,7 +111,8 @@ rewritten_then P Q end specs more attrs next ps qs left left1 rest h a b = recor
   reads = λ c tail k.
       let long : length (b.front ++ tail) ≡ length left1 = let g = length-append b.front tail in omega (arith, b.size) in
       ap (attrs_at end c (specs ++ more)) (append_assoc a.front b.front tail)
-      ∙ attrs_append end c specs more attrs next (a.front ++ (b.front ++ tail)) (b.front ++ tail) tail (a.reads c (b.front ++ tail) long) (b.reads c tail k);
+      ∙ attrs_append end c specs more attrs next (a.front ++ (b.front ++ tail)) (b.front ++ tail) tail (a.reads c (b.front ++ tail) long)
+      (b.reads c tail k);
   starts = λ rs f. ap_from (append_assoc ps qs rs) (a.starts (qs ++ rs) (b.starts rs f));
   patches = λ after rs f.
       ap (λ (l : List Patch). patched (end - length left) l (left ++ after)) (append_assoc ps qs rs)
@@ -118,7 +125,8 @@ rewritten_then P Q end specs more attrs next ps qs left left1 rest h a b = recor
 
   stays_in : (x : Attr) → P x ⊎ Q x → (more : List ℕ) → IsSameAt (end - length left) x left ((a.front ++ b.front) ++ more)
   stays_in x (inl k) more =
-      subst (λ (l : List ℕ). IsSameAt (end - length left) x left l) (sym (append_assoc a.front b.front more)) (a.stay x k (b.front ++ more))
+      subst (λ (l : List ℕ). IsSameAt (end - length left) x left l) (sym (append_assoc a.front b.front more))
+      (a.stay x k (b.front ++ more))
   stays_in x (inr k) more =
       let long : length left ≡ length a.old + length left1 = ap length a.is ∙ length-append a.old left1 in
       let same : length a.front ≡ length a.old = omega (arith, a.size) in
@@ -150,7 +158,8 @@ kept_rewritten end name s a left rest h i =
       old = i.lead ++ i.body;
       is = i.is ∙ sym (append_assoc i.lead i.body rest);
       size = omega arith;
-      stay = λ x e more. subst (λ (x : Attr). IsSameAt (end - length left) x left ((i.lead ++ i.body) ++ more)) (sym e) (value_stays more);
+      stay = λ x e more. subst (λ (x : Attr). IsSameAt (end - length left) x left ((i.lead ++ i.body) ++ more)) (sym e)
+          (value_stays more);
       reads = λ c more k.
           let long : length (i.body ++ more) ≡ length (i.body ++ rest) =
           length-append i.body more ∙ ap (λ (n : ℕ). length i.body + n) k ∙ sym (length-append i.body rest) in
@@ -159,7 +168,8 @@ kept_rewritten end name s a left rest h i =
           let renamed : Spec = record { name = name; form = s.form; implicit = s.implicit } in
           ap (attrs_at end c (renamed ∷ [])) (append_assoc i.lead i.body more)
           ∙ attrs_one end c renamed _ (i.lead ++ (i.body ++ more)) more
-          (attr_again end c renamed a.form a.value i.shape i.lead (i.body ++ more) more (i.form c (i.body ++ more) long) i.shaped (i.value more k)
+          (attr_again end c renamed a.form a.value i.shape i.lead (i.body ++ more) more (i.form c (i.body ++ more) long) i.shaped
+          (i.value more k)
           ∙ attr_is name a.form a.value (end - length (i.body ++ more)) a.place (length (i.body ++ more) - length more) a.len more
           (ap (λ (n : ℕ). end - n) long ∙ sym i.place) len_is);
       starts = λ qs f. from_less (end - length rest) (end - length left) qs (omega arith) f;
@@ -193,7 +203,8 @@ pub record IsNumber (n v : ℕ) (bytes : List ℕ) : Type 0 where
   pub reads : (more : List ℕ) → number_read n (bytes ++ more) ≡ Ok (v, more)
 
 number_long : (n v x : ℕ) (bytes more : List ℕ) → length bytes ≡ n → x ≡ v →
-    ◌≡◌ {A = Result (ℕ × List ℕ) Gap} (cond (nat_lt (length (bytes ++ more)) n) (Err Short) (Ok (x, drop n (bytes ++ more)))) (Ok (v, more))
+    ◌≡◌ {A = Result (ℕ × List ℕ) Gap} (cond (nat_lt (length (bytes ++ more)) n) (Err Short) (Ok (x, drop n (bytes ++ more))))
+    (Ok (v, more))
 number_long n v x bytes more size e =
     let long : nat_lt (length (bytes ++ more)) n ≡ false = let g = length-append bytes more in grind (arith, nat_tests) in
     rw (long, drop_at bytes more n size) (ap (λ (x : ℕ). Ok (x, more)) e)
@@ -201,13 +212,15 @@ number_long n v x bytes more size e =
 pub written_number : (n v : ℕ) → v < 256 ^ n → IsNumber n v (little_bytes n v)
 written_number n v h = record {
   size = length-bytes_low_first 0 n v;
-  reads = λ more. number_long n v (little_number n (little_bytes n v ++ more)) (little_bytes n v) more (length-bytes_low_first 0 n v) (little_number-reads_back n v more h);
+  reads = λ more. number_long n v (little_number n (little_bytes n v ++ more)) (little_bytes n v) more (length-bytes_low_first 0 n v)
+      (little_number-reads_back n v more h);
 }
 
 pub number_size : (n x : ℕ) (body rest : List ℕ) → number_read n (body ++ rest) ≡ Ok (x, rest) → length body ≡ n
 number_size n x body rest e = step (nat_lt (length (body ++ rest)) n) refl e where
   step : (short : Bool) → nat_lt (length (body ++ rest)) n ≡ short →
-      ◌≡◌ {A = Result (ℕ × List ℕ) Gap} (cond short (Err Short) (Ok (little_number n (body ++ rest), drop n (body ++ rest)))) (Ok (x, rest)) → length body ≡ n
+      ◌≡◌ {A = Result (ℕ × List ℕ) Gap} (cond short (Err Short) (Ok (little_number n (body ++ rest), drop n (body ++ rest))))
+      (Ok (x, rest)) → length body ≡ n
   step true is e = absurd (cc)
   step false is e =
       let enough : n ≤ length (body ++ rest) = grind (arith, nat_tests) in
@@ -224,7 +237,8 @@ number_shape n shape form e f = shape_by (sym e ∙ f) where
   shape_by : Some shape ≡ Some (Number n) → shape ≡ Number n
   shape_by e = ap or_leb e
 
-pub number_len : (end n : ℕ) (s : Spec) (a : Attr) (left rest : List ℕ) → IsAttr end s a left rest → shape_of a.form ≡ Some (Number n) → a.len ≡ n
+pub number_len : (end n : ℕ) (s : Spec) (a : Attr) (left rest : List ℕ) → IsAttr end s a left rest → shape_of a.form ≡ Some (Number n) →
+    a.len ≡ n
 number_len end n s a left rest i is =
     let shape_is : i.shape ≡ Number n = number_shape n i.shape a.form i.shaped is in
     let old : number_read n (i.body ++ rest) ≡ Ok (a.value, rest) =
@@ -232,7 +246,8 @@ number_len end n s a left rest i is =
     i.len ∙ number_size n a.value i.body rest old
 
 -- An attribute whose number is written anew.
-pub number_rewritten : (end name n v : ℕ) (s : Spec) (a : Attr) (left rest bytes : List ℕ) → length left ≤ end → IsAttr end s a left rest →
+pub number_rewritten : (end name n v : ℕ) (s : Spec) (a : Attr) (left rest bytes : List ℕ) → length left ≤ end →
+    IsAttr end s a left rest →
     shape_of a.form ≡ Some (Number n) → IsNumber n v bytes →
     IsRewritten NoneStays end (record { name = name; form = s.form; implicit = s.implicit } ∷ [])
     (record { name = name; form = a.form; place = a.place; len = a.len; value = v } ∷ [])
@@ -267,8 +282,10 @@ number_rewritten end name n v s a left rest bytes h i is w =
       patches = λ after qs f.
           let p = i.place in
           ap (patched (end - length left) (record { place = a.place; bytes = bytes } ∷ qs))
-          (ap (λ (l : List ℕ). l ++ after) i.is ∙ append_assoc i.lead (i.body ++ rest) after ∙ ap (λ (l : List ℕ). i.lead ++ l) (append_assoc i.body rest after))
-          ∙ patched-over (end - length left) (end - length rest) i.lead i.body (rest ++ after) (record { place = a.place; bytes = bytes }) qs (omega arith) (omega arith) (omega arith)
+          (ap (λ (l : List ℕ). l ++ after) i.is ∙ append_assoc i.lead (i.body ++ rest) after
+          ∙ ap (λ (l : List ℕ). i.lead ++ l) (append_assoc i.body rest after))
+          ∙ patched-over (end - length left) (end - length rest) i.lead i.body (rest ++ after) (record { place = a.place; bytes = bytes })
+          qs (omega arith) (omega arith) (omega arith)
           ∙ sym (append_assoc i.lead bytes (patched (end - length rest) qs (rest ++ after)));
     }
 
@@ -298,27 +315,26 @@ front_rewritten end name form n v place body rest bytes h formed shaped w body_i
       starts = λ qs f. omega arith;
       patches = λ after qs f.
           ap (patched (end - length (body ++ rest)) (record { place = place; bytes = bytes } ∷ qs)) (append_assoc body rest after)
-          ∙ patched-over (end - length (body ++ rest)) (end - length rest) [] body (rest ++ after) (record { place = place; bytes = bytes }) qs (omega arith) (omega arith) (omega arith);
+          ∙ patched-over (end - length (body ++ rest)) (end - length rest) [] body (rest ++ after)
+          (record { place = place; bytes = bytes }) qs (omega arith) (omega arith) (omega arith);
     }
-
-nil_of : (xs : List ℕ) → length xs ≡ 0 → xs ≡ []
-nil_of [] e = refl
-nil_of (x ∷ xs) e = absurd (omega arith)
 
 -- no form stands before a value whose form isn't the indirect one
 lead_none : (form x : ℕ) (lead more : List ℕ) → (form == 22) ≡ false → form_at 0 form (lead ++ more) ≡ Ok (x, more) → lead ≡ []
 lead_none form x lead more direct e =
-    step (is_form form) (ap (λ (b : Bool). if b then form_within (length (lead ++ more)) 0 (lead ++ more) else (if is_form form then Ok (form, lead ++ more) else Err (NoForm 0))) (sym direct) ∙ e) where
+    step (is_form form) (ap (λ (b : Bool). if b then form_within (length (lead ++ more)) 0 (lead ++ more) else
+    (if is_form form then Ok (form, lead ++ more) else Err (NoForm 0))) (sym direct) ∙ e) where
       step : (b : Bool) → ◌≡◌ {A = Read ℕ} (if b then Ok (form, lead ++ more) else Err (NoForm 0)) (Ok (x, more)) → lead ≡ []
       step false e = absurd (cc)
       step true e =
           let same : lead ++ more ≡ more = same_left _ _ _ _ e in
           let size : length lead + length more ≡ length more = sym (length-append lead more) ∙ ap length same in
-          nil_of lead (omega arith)
+          nil_from_length lead (omega arith)
 
 direct_form : (form x : ℕ) (lead more : List ℕ) → (form == 22) ≡ false → form_at 0 form (lead ++ more) ≡ Ok (x, more) → form ≡ x
 direct_form form x lead more direct e =
-    step (is_form form) (ap (λ (b : Bool). if b then form_within (length (lead ++ more)) 0 (lead ++ more) else (if is_form form then Ok (form, lead ++ more) else Err (NoForm 0))) (sym direct) ∙ e) where
+    step (is_form form) (ap (λ (b : Bool). if b then form_within (length (lead ++ more)) 0 (lead ++ more) else
+    (if is_form form then Ok (form, lead ++ more) else Err (NoForm 0))) (sym direct) ∙ e) where
       step : (b : Bool) → ◌≡◌ {A = Read ℕ} (if b then Ok (form, lead ++ more) else Err (NoForm 0)) (Ok (x, more)) → form ≡ x
       step false e = absurd (cc)
       step true e = same_value _ _ _ _ e
@@ -349,15 +365,20 @@ high_at n end s a left rest i direct shaped =
       place = i.place;
     }
 
-pub high4_rewritten : (end v : ℕ) (a : Attr) (left rest bytes : List ℕ) → length left ≤ end → IsHigh 4 end a left rest → IsNumber 4 v bytes →
-    IsRewritten NoneStays end (spec_of DW_AT_ranges 23 ∷ []) (record { name = DW_AT_ranges; form = 23; place = a.place; len = 4; value = v } ∷ [])
+pub high4_rewritten : (end v : ℕ) (a : Attr) (left rest bytes : List ℕ) → length left ≤ end → IsHigh 4 end a left rest →
+    IsNumber 4 v bytes →
+    IsRewritten NoneStays end (spec_of DW_AT_ranges 23 ∷ []) (record
+    { name = DW_AT_ranges; form = 23; place = a.place; len = 4; value = v } ∷ [])
     (record { place = a.place; bytes = bytes } ∷ []) left rest
 high4_rewritten end v a left rest bytes h i w =
-    subst (λ (l : List ℕ). IsRewritten NoneStays end (spec_of DW_AT_ranges 23 ∷ []) (record { name = DW_AT_ranges; form = 23; place = a.place; len = 4; value = v } ∷ [])
+    subst (λ (l : List ℕ). IsRewritten NoneStays end (spec_of DW_AT_ranges 23 ∷ [])
+    (record { name = DW_AT_ranges; form = 23; place = a.place; len = 4; value = v } ∷ [])
     (record { place = a.place; bytes = bytes } ∷ []) l rest) (sym i.is)
-    (front_rewritten end DW_AT_ranges 23 4 v a.place i.body rest bytes (let g = ap length i.is in omega arith) (λ c left. refl) refl w i.size i.place)
+    (front_rewritten end DW_AT_ranges 23 4 v a.place i.body rest bytes (let g = ap length i.is in omega arith)
+    (λ c left. refl) refl w i.size i.place)
 
-pub high8_rewritten : (end v : ℕ) (a : Attr) (left rest bytes zeros : List ℕ) → length left ≤ end → IsHigh 8 end a left rest → IsNumber 4 v bytes → IsNumber 4 0 zeros →
+pub high8_rewritten : (end v : ℕ) (a : Attr) (left rest bytes zeros : List ℕ) → length left ≤ end → IsHigh 8 end a left rest →
+    IsNumber 4 v bytes → IsNumber 4 0 zeros →
     IsRewritten NoneStays end (spec_of DW_AT_ranges 23 ∷ spec_of DW_AT_unused_high 6 ∷ [])
     (record { name = DW_AT_ranges; form = 23; place = a.place; len = 4; value = v } ∷
     record { name = DW_AT_unused_high; form = 6; place = a.place + 4; len = 4; value = 0 } ∷ [])
@@ -386,7 +407,8 @@ high8_rewritten end v a left rest bytes zeros h i w z =
     (record { place = a.place; bytes = bytes } ∷ []) (record { place = a.place + 4; bytes = zeros } ∷ [])
     (first ++ (second ++ rest)) (second ++ rest) rest (omega arith)
     (front_rewritten end DW_AT_ranges 23 4 v a.place first (second ++ rest) bytes (omega arith) (λ c left. refl) refl w first_is place_is)
-    (front_rewritten end DW_AT_unused_high 6 4 0 (a.place + 4) second rest zeros (omega arith) (λ c left. refl) refl z second_is (omega arith))))
+    (front_rewritten end DW_AT_unused_high 6 4 0 (a.place + 4) second rest zeros (omega arith) (λ c left. refl) refl z second_is
+    (omega arith))))
 
 -- What is asked of an attribute for its change to be read back. A high address is a number of the entry's, and
 -- new numbers fit.
@@ -413,20 +435,24 @@ module _ (m : Moves) (own first : Bool) (e : Entry) (s : Spec) (a : Attr) where
   patch_by b nv = if b || is_some nv then map number_patch (attr_by b nv) else []
 
   -- a number that gets another is one of eight bytes or of four
-  of_size : (end n : ℕ) (left rest : List ℕ) → IsAttr end s a left rest → shape_of a.form ≡ Some (Number n) → shape_of a.form ≡ Some (Number a.len)
+  of_size : (end n : ℕ) (left rest : List ℕ) → IsAttr end s a left rest → shape_of a.form ≡ Some (Number n) →
+      shape_of a.form ≡ Some (Number a.len)
   of_size end n left rest i is = is ∙ ap (λ (k : ℕ). Some (Number k)) (sym (number_len end n s a left rest i is))
 
   eq_of : (x y : ℕ) → (x == y) ≡ true → x ≡ y
   eq_of x y e = grind (arith, nat_tests)
 
-  sized_by : (end : ℕ) (left rest : List ℕ) → IsAttr end s a left rest → (b d : Bool) (o p : Option ℕ) (v : ℕ) → (a.form == 1) ≡ b → (a.form == 23) ≡ d →
+  sized_by : (end : ℕ) (left rest : List ℕ) → IsAttr end s a left rest → (b d : Bool) (o p : Option ℕ) (v : ℕ) → (a.form == 1) ≡ b →
+      (a.form == 23) ≡ d →
       ◌≡◌ {A = Option ℕ} (if b then o else (if d then p else None)) (Some v) → shape_of a.form ≡ Some (Number a.len)
   sized_by end left rest i true d o p v e f g = of_size end 8 left rest i (ap shape_of (eq_of a.form 1 e))
   sized_by end left rest i false true o p v e f g = of_size end 4 left rest i (ap shape_of (eq_of a.form 23 f))
   sized_by end left rest i false false o p v e f g = absurd (cc)
 
-  sized : (end v : ℕ) (left rest : List ℕ) → IsAttr end s a left rest → new_value m own first e a ≡ Some v → shape_of a.form ≡ Some (Number a.len)
-  sized end v left rest i f = sized_by end left rest i (a.form == 1) (a.form == 23) (new_address m own e a) (new_list m first e a) v refl refl f
+  sized : (end v : ℕ) (left rest : List ℕ) → IsAttr end s a left rest → new_value m own first e a ≡ Some v →
+      shape_of a.form ≡ Some (Number a.len)
+  sized end v left rest i f = sized_by end left rest i (a.form == 1) (a.form == 23) (new_address m own e a)
+      (new_list m first e a) v refl refl f
 
   high_by : (end : ℕ) (left rest : List ℕ) → length left ≤ end → IsAttr end s a left rest → IsChangeable m own first e s a →
       (s.form ≡ 6) ⊎ ((s.form ≡ 7) ⊎ (s.form ≡ 1)) → (nv : Option ℕ) →
@@ -436,35 +462,68 @@ module _ (m : Moves) (own first : Bool) (e : Entry) (s : Spec) (a : Attr) where
       let v : ℕ = unwrap_or (new_list_offset m.lists e.place DW_AT_ranges) 0 in
       let bytes : List ℕ = little_bytes 4 v in
       let done = high4_rewritten end v a left rest bytes h high (written_number 4 v c.ranges) in
-      subst (λ (x : ℕ). IsRewritten NoneStays end (ranges_specs x) (ranges_attrs m e a) (map number_patch (ranges_attrs m e a)) left rest) (sym f)
-      (subst (λ (n : ℕ). IsRewritten NoneStays end (ranges_specs 6) (record { name = DW_AT_ranges; form = 23; place = a.place; len = 4; value = v } ∷ (if n == 8 then record { name = DW_AT_unused_high; form = 6; place = a.place + 4; len = 4; value = 0 } ∷ [] else []))
-      (map number_patch (record { name = DW_AT_ranges; form = 23; place = a.place; len = 4; value = v } ∷ (if n == 8 then record { name = DW_AT_unused_high; form = 6; place = a.place + 4; len = 4; value = 0 } ∷ [] else []))) left rest)
+      subst (λ (x : ℕ). IsRewritten NoneStays end (ranges_specs x) (ranges_attrs m e a) (map number_patch (ranges_attrs m e a)) left rest)
+      (sym f)
+      (subst (λ (n : ℕ). IsRewritten NoneStays end (ranges_specs 6)
+      (record { name = DW_AT_ranges; form = 23; place = a.place; len = 4; value = v }
+      ∷ (if n == 8 then record { name = DW_AT_unused_high; form = 6; place = a.place + 4; len = 4; value = 0 } ∷ [] else []))
+      (map number_patch (record { name = DW_AT_ranges; form = 23; place = a.place; len = 4; value = v }
+      ∷ (if n == 8 then record { name = DW_AT_unused_high; form = 6; place = a.place + 4; len = 4; value = 0 } ∷ [] else []))) left
+      rest)
       (sym high.len) done)
   high_by end left rest h i c (inr (inl f)) nv =
       let high : IsHigh 8 end a left rest = high_at 8 end s a left rest i (ap (λ (x : ℕ). x == 22) f) (ap shape_of f) in
       let v : ℕ = unwrap_or (new_list_offset m.lists e.place DW_AT_ranges) 0 in
-      let done = high8_rewritten end v a left rest (little_bytes 4 v) (little_bytes 4 0) h high (written_number 4 v c.ranges) (written_number 4 0 (omega arith)) in
-      subst (λ (x : ℕ). IsRewritten NoneStays end (ranges_specs x) (ranges_attrs m e a) (map number_patch (ranges_attrs m e a)) left rest) (sym f)
-      (subst (λ (n : ℕ). IsRewritten NoneStays end (ranges_specs 7) (record { name = DW_AT_ranges; form = 23; place = a.place; len = 4; value = v } ∷ (if n == 8 then record { name = DW_AT_unused_high; form = 6; place = a.place + 4; len = 4; value = 0 } ∷ [] else []))
-      (map number_patch (record { name = DW_AT_ranges; form = 23; place = a.place; len = 4; value = v } ∷ (if n == 8 then record { name = DW_AT_unused_high; form = 6; place = a.place + 4; len = 4; value = 0 } ∷ [] else []))) left rest)
+      let done = high8_rewritten end v a left rest (little_bytes 4 v) (little_bytes 4 0) h high (written_number 4 v c.ranges)
+      (written_number 4 0 (omega arith)) in
+      subst (λ (x : ℕ). IsRewritten NoneStays end (ranges_specs x) (ranges_attrs m e a) (map number_patch (ranges_attrs m e a)) left rest)
+      (sym f)
+      (subst (λ (n : ℕ). IsRewritten NoneStays end (ranges_specs 7)
+      (record { name = DW_AT_ranges; form = 23; place = a.place; len = 4; value = v }
+      ∷ (if n == 8 then record { name = DW_AT_unused_high; form = 6; place = a.place + 4; len = 4; value = 0 } ∷ [] else []))
+      (map number_patch (record { name = DW_AT_ranges; form = 23; place = a.place; len = 4; value = v }
+      ∷ (if n == 8 then record { name = DW_AT_unused_high; form = 6; place = a.place + 4; len = 4; value = 0 } ∷ [] else []))) left
+      rest)
       (sym high.len) done)
   high_by end left rest h i c (inr (inr f)) nv =
       let high : IsHigh 8 end a left rest = high_at 8 end s a left rest i (ap (λ (x : ℕ). x == 22) f) (ap shape_of f) in
       let v : ℕ = unwrap_or (new_list_offset m.lists e.place DW_AT_ranges) 0 in
-      let done = high8_rewritten end v a left rest (little_bytes 4 v) (little_bytes 4 0) h high (written_number 4 v c.ranges) (written_number 4 0 (omega arith)) in
-      subst (λ (x : ℕ). IsRewritten NoneStays end (ranges_specs x) (ranges_attrs m e a) (map number_patch (ranges_attrs m e a)) left rest) (sym f)
-      (subst (λ (n : ℕ). IsRewritten NoneStays end (ranges_specs 1) (record { name = DW_AT_ranges; form = 23; place = a.place; len = 4; value = v } ∷ (if n == 8 then record { name = DW_AT_unused_high; form = 6; place = a.place + 4; len = 4; value = 0 } ∷ [] else []))
-      (map number_patch (record { name = DW_AT_ranges; form = 23; place = a.place; len = 4; value = v } ∷ (if n == 8 then record { name = DW_AT_unused_high; form = 6; place = a.place + 4; len = 4; value = 0 } ∷ [] else []))) left rest)
+      let done = high8_rewritten end v a left rest (little_bytes 4 v) (little_bytes 4 0) h high (written_number 4 v c.ranges)
+      (written_number 4 0 (omega arith)) in
+      subst (λ (x : ℕ). IsRewritten NoneStays end (ranges_specs x) (ranges_attrs m e a) (map number_patch (ranges_attrs m e a)) left rest)
+      (sym f)
+      (subst (λ (n : ℕ). IsRewritten NoneStays end (ranges_specs 1)
+      (record { name = DW_AT_ranges; form = 23; place = a.place; len = 4; value = v }
+      ∷ (if n == 8 then record { name = DW_AT_unused_high; form = 6; place = a.place + 4; len = 4; value = 0 } ∷ [] else []))
+      (map number_patch (record { name = DW_AT_ranges; form = 23; place = a.place; len = 4; value = v }
+      ∷ (if n == 8 then record { name = DW_AT_unused_high; form = 6; place = a.place + 4; len = 4; value = 0 } ∷ [] else []))) left
+      rest)
       (sym high.len) done)
 
   renamed : (P : Attr → Type 0) (end : ℕ) (attrs : List Attr → List Patch) (value : ℕ) (left rest : List ℕ) → a.name ≡ s.name →
-      IsRewritten P end (spec_by false) (record { name = new_name own e.declaration s.name; form = a.form; place = a.place; len = a.len; value = value } ∷ [])
-      (attrs (record { name = new_name own e.declaration s.name; form = a.form; place = a.place; len = a.len; value = value } ∷ [])) left rest →
-      IsRewritten P end (spec_by false) (record { name = new_name own e.declaration a.name; form = a.form; place = a.place; len = a.len; value = value } ∷ [])
-      (attrs (record { name = new_name own e.declaration a.name; form = a.form; place = a.place; len = a.len; value = value } ∷ [])) left rest
+      IsRewritten P end (spec_by false) (record {
+        name = new_name own e.declaration s.name;
+        form = a.form;
+        place = a.place;
+        len = a.len;
+        value = value;
+      } ∷ [])
+      (attrs (record { name = new_name own e.declaration s.name; form = a.form; place = a.place; len = a.len; value = value } ∷ [])) left
+      rest →
+      IsRewritten P end (spec_by false) (record {
+        name = new_name own e.declaration a.name;
+        form = a.form;
+        place = a.place;
+        len = a.len;
+        value = value;
+      } ∷ [])
+      (attrs (record { name = new_name own e.declaration a.name; form = a.form; place = a.place; len = a.len; value = value } ∷ [])) left
+      rest
   renamed P end attrs value left rest c r =
-      subst (λ (x : ℕ). IsRewritten P end (spec_by false) (record { name = x; form = a.form; place = a.place; len = a.len; value = value } ∷ [])
-      (attrs (record { name = x; form = a.form; place = a.place; len = a.len; value = value } ∷ [])) left rest) (sym (ap (λ (n : ℕ). new_name own e.declaration n) c)) r
+      subst (λ (x : ℕ). IsRewritten P end (spec_by false) (record { name = x; form = a.form; place = a.place; len = a.len; value = value }
+      ∷ [])
+      (attrs (record { name = x; form = a.form; place = a.place; len = a.len; value = value } ∷ [])) left rest)
+      (sym (ap (λ (n : ℕ). new_name own e.declaration n) c)) r
 
   -- what isn't written anew stays
   abbrev pub StaysOf : Bool → Option ℕ → Attr → Type 0
@@ -488,15 +547,19 @@ module _ (m : Moves) (own first : Bool) (e : Entry) (s : Spec) (a : Attr) where
   by_cases end left rest h i c false (Some v) is f =
       stays_less NoneStays (StaysOf false (Some v)) end _ _ _ left rest (λ x k. given v k.2)
       (renamed NoneStays end (map number_patch) v left rest i.name
-      (number_rewritten end (new_name own e.declaration s.name) a.len v s a left rest (little_bytes a.len v) h i (sized end v left rest i f)
+      (number_rewritten end (new_name own e.declaration s.name) a.len v s a left rest (little_bytes a.len v) h i
+      (sized end v left rest i f)
       (written_number a.len v (c.fits v f))))
 
 -- An attribute is read back with its changes.
-pub attr_rewritten : (m : Moves) (own first : Bool) (e : Entry) (s : Spec) (a : Attr) (end d : ℕ) (left rest : List ℕ) → length left ≤ end →
+pub attr_rewritten : (m : Moves) (own first : Bool) (e : Entry) (s : Spec) (a : Attr) (end d : ℕ) (left rest : List ℕ) →
+    length left ≤ end →
     attr_at end d s left ≡ Ok (a, rest) → IsChangeable m own first e s a →
-    IsRewritten (StaysOf m own first e s a (a.name == DW_AT_high_pc) (new_value m own first e a)) end (changed_spec own e.declaration s) (changed_attr m own first e a) (attr_patches m own first e a) left rest
+    IsRewritten (StaysOf m own first e s a (a.name == DW_AT_high_pc) (new_value m own first e a)) end (changed_spec own e.declaration s)
+    (changed_attr m own first e a) (attr_patches m own first e a) left rest
 attr_rewritten m own first e s a end d left rest h read c =
     let i : IsAttr end s a left rest = attr_front end d s a left rest read in
-    subst (λ (n : ℕ). IsRewritten (StaysOf m own first e s a (a.name == DW_AT_high_pc) (new_value m own first e a)) end (spec_by m own first e s a (n == DW_AT_high_pc)) (changed_attr m own first e a) (attr_patches m own first e a) left rest) i.name
+    subst (λ (n : ℕ). IsRewritten (StaysOf m own first e s a (a.name == DW_AT_high_pc) (new_value m own first e a)) end
+    (spec_by m own first e s a (n == DW_AT_high_pc)) (changed_attr m own first e a) (attr_patches m own first e a) left rest) i.name
     (by_cases m own first e s a end left rest h i c (a.name == DW_AT_high_pc) (new_value m own first e a)
     (ap (λ (n : ℕ). n == DW_AT_high_pc) (sym i.name)) refl)

@@ -1,5 +1,6 @@
 -- A unit over its changed table of abbreviations.
-use Rattle.std.proofs.Common.{◌≡◌, ◌≤◌, ◌+◌, ◌-◌, ◌++◌, ℕ, List, ◌∷◌, Bool, true, false, Option, Some, None, Ok, Err, Result, refl, ap, ◌∙◌, arith, subst, length, length-append}
+use Rattle.std.proofs.Common.{◌≡◌, ◌≤◌, ◌+◌, ◌-◌, ◌++◌, ℕ, List, ◌∷◌, Bool, true, false, Option, Some, None, Ok, Err, Result, refl, ap}
+use Rattle.std.proofs.Common.{◌∙◌, arith, subst, length, length-append}
 use Rattle.std.proofs.lemmas.List.{drop_at}
 use Rattle.table_core.specs.ReadSteps.{and_so}
 use Rattle.dw_unit.specs.declared.trouble.Trouble.{Trouble}
@@ -16,7 +17,8 @@ use Rattle.dw_unit.proofs.Spelled.{bytes_of_table, CanSpellAll, IsTableRead, tab
 
 -- the table that is spelled behind some bytes and in front of others
 pub spelled_at : (own : Declaration → Bool) (ds : List Declaration) (before rest : List ℕ) (end : ℕ) (list : List Declaration) →
-    table_within (length (bytes_of_table own ds ++ (0 ∷ rest))) (length (before ++ (bytes_of_table own ds ++ (0 ∷ rest)))) (bytes_of_table own ds ++ (0 ∷ rest))
+    table_within (length (bytes_of_table own ds ++ (0 ∷ rest))) (length (before ++ (bytes_of_table own ds ++ (0 ∷ rest))))
+    (bytes_of_table own ds ++ (0 ∷ rest))
     ≡ record { list = list; end = Some end } →
     table_at (before ++ (bytes_of_table own ds ++ (0 ∷ rest))) (length before) ≡ record { list = list; end = Some end }
 spelled_at own ds before rest end list e =
@@ -40,7 +42,8 @@ module _ (own : Declaration → Bool) where
   named true x d e = (refl, ap (λ (r : Result Declaration Trouble). or_declaration x r) e)
   named false x d e = absurd (cc)
 
-  declared_as : (code : ℕ) (d x : Declaration) (old new : List Declaration) (end : Option ℕ) (table : Table) → table ≡ record { list = new; end = end } →
+  declared_as : (code : ℕ) (d x : Declaration) (old new : List Declaration) (end : Option ℕ) (table : Table) →
+      table ≡ record { list = new; end = end } →
       IsFound own x new code → are_named_once (changed_specs (own x) x) ≡ true → x ≡ d → IsDeclaredAs own table code d
   declared_as code d x old new end table is f once same =
       let specs_once : are_named_once f.d.specs ≡ true = ap are_named_once f.changed.specs ∙ once in
@@ -55,7 +58,8 @@ module _ (own : Declaration → Bool) where
         specs = f.changed.specs;
       })
 
-  by_found : (code : ℕ) (d : Declaration) (table new_table : Table) (new : List Declaration) (end : Option ℕ) (o : Option Declaration) → declared table code ≡ o →
+  by_found : (code : ℕ) (d : Declaration) (table new_table : Table) (new : List Declaration) (end : Option ℕ) (o : Option Declaration) →
+      declared table code ≡ o →
       and_so (sound_if o) (λ d. when (are_named_once d.specs) d) ≡ Ok d → new_table ≡ record { list = new; end = end } →
       ((x : Declaration) → declared table code ≡ Some x → IsFound own x new code) → AreApart table → IsDeclaredAs own new_table code d
   by_found code d table new_table new end None is e t f apart = absurd (cc)
@@ -64,11 +68,13 @@ module _ (own : Declaration → Bool) where
       declared_as code d x table.list new end new_table t (f x is) (names_stay_single (own x) x (apart code x is) p.0) p.1
 
   -- Each code means the changed declaration of what it meant.
-  pub tables_read : (table : Table) (before rest : List ℕ) → CanSpellAll own table.list → AreApart table → (code : ℕ) (d : Declaration) → declaration_of table code ≡ Ok d →
+  pub tables_read : (table : Table) (before rest : List ℕ) → CanSpellAll own table.list → AreApart table → (code : ℕ) (d : Declaration) →
+      declaration_of table code ≡ Ok d →
       IsDeclaredAs own (table_at (before ++ (bytes_of_table own table.list ++ (0 ∷ rest))) (length before)) code d
   tables_read table before rest can apart code d e =
       let section : List ℕ = before ++ (bytes_of_table own table.list ++ (0 ∷ rest)) in
-      let r : IsTableRead own (length section) table.list (bytes_of_table own table.list ++ (0 ∷ rest)) rest = table_read own (length section) table.list rest can in
+      let r : IsTableRead own (length section) table.list (bytes_of_table own table.list ++ (0 ∷ rest)) rest = table_read own
+      (length section) table.list rest can in
       by_found code d table (table_at section (length before)) r.new (Some (length section - length rest)) (declared table code) refl e
       (spelled_at own table.list before rest (length section - length rest) r.new r.is)
       (λ x h. found own code x table.list r.new r.changed h) apart
@@ -81,7 +87,9 @@ module _ (m : Moves) (own : Declaration → Bool) (first : Entry → Bool)
 
   pub unit_read_back : (left : List ℕ) (old : List Entry) → length left ≤ end →
       entries_within (record { place = place; end = end; table = table }) (length left) 0 left ≡ Ok old → CanAll m own first old →
-      AreReadBack m own first place end table new_table (λ d s l1 l2 a. attr_less end d s l1 l2 a) (tables_read own table before rest can apart) (length left) 0 old left
+      AreReadBack m own first place end table new_table (λ d s l1 l2 a. attr_less end d s l1 l2 a)
+      (tables_read own table before rest can apart) (length left) 0 old left
   unit_read_back left old h e c =
-      entries_rewritten m own first place end table new_table (λ d s l1 l2 a. attr_less end d s l1 l2 a) (tables_read own table before rest can apart)
+      entries_rewritten m own first place end table new_table (λ d s l1 l2 a. attr_less end d s l1 l2 a)
+      (tables_read own table before rest can apart)
       (λ d attrs l1 l2. attrs_less end d.place d.specs l1 l2 attrs) (length left) 0 left old h e c

@@ -45,17 +45,21 @@ same_before from a old new x y s = record {
   body = s.body;
   old_rest = s.old_rest ++ x;
   new_rest = s.new_rest ++ y;
-  old_is = ap (λ (l : List ℕ). l ++ x) s.old_is ∙ append_assoc s.old_front (s.body ++ s.old_rest) x ∙ ap (λ (l : List ℕ). s.old_front ++ l) (append_assoc s.body s.old_rest x);
-  new_is = ap (λ (l : List ℕ). l ++ y) s.new_is ∙ append_assoc s.new_front (s.body ++ s.new_rest) y ∙ ap (λ (l : List ℕ). s.new_front ++ l) (append_assoc s.body s.new_rest y);
+  old_is = ap (λ (l : List ℕ). l ++ x) s.old_is ∙ append_assoc s.old_front (s.body ++ s.old_rest) x
+      ∙ ap (λ (l : List ℕ). s.old_front ++ l) (append_assoc s.body s.old_rest x);
+  new_is = ap (λ (l : List ℕ). l ++ y) s.new_is ∙ append_assoc s.new_front (s.body ++ s.new_rest) y
+      ∙ ap (λ (l : List ℕ). s.new_front ++ l) (append_assoc s.body s.new_rest y);
   same = s.same;
   place = s.place;
   len = s.len;
 }
 
-value_at : (len place : ℕ) (section front body rest : List ℕ) → section ≡ front ++ (body ++ rest) → length front ≡ place → length body ≡ len →
+value_at : (len place : ℕ) (section front body rest : List ℕ) → section ≡ front ++ (body ++ rest) → length front ≡ place →
+    length body ≡ len →
     take len (drop place section) ≡ body
 value_at len place section front body rest e f g =
-    ap (λ (l : List ℕ). take len (drop place l)) e ∙ ap (λ (l : List ℕ). take len l) (drop_at front (body ++ rest) place f) ∙ take_at body rest len g
+    ap (λ (l : List ℕ). take len (drop place l)) e ∙ ap (λ (l : List ℕ). take len l) (drop_at front (body ++ rest) place f)
+    ∙ take_at body rest len g
 
 pub same_value_bytes : (a : Attr) (old new : List ℕ) → IsSameAt 0 a old new → value_bytes new a ≡ value_bytes old a
 same_value_bytes a old new s =

@@ -1,8 +1,10 @@
 -- What is sound stays sound when it is changed in place.
-use Rattle.std.proofs.Common.{◌≡◌, ◌+◌, ◌*◌, ◌∙◌, ◌++◌, ℕ, List, [], ◌∷◌, Bool, true, false, Option, Some, None, refl, ap, sym, subst, arith, drop, length, unwrap_or}
+use Rattle.std.proofs.Common.{◌≡◌, ◌+◌, ◌*◌, ◌∙◌, ◌++◌, ℕ, List, [], ◌∷◌, Bool, true, false, Option, Some, None, refl, ap, sym, subst}
+use Rattle.std.proofs.Common.{arith, drop, length, unwrap_or}
 use Rattle.std.specs.Prelude.{◌==◌, ◌&&◌, ◌||◌, not, nat_le, if◌then◌else◌, flat_map, is_some, option_map, option_and_then}
 use Rattle.std.specs.List.{find, list_any, list_all}
 use Rattle.std.proofs.lemmas.Bool.Decides.{nat_tests}
+use Rattle.std.proofs.lemmas.Bool.{and_parts, and_from, or_parts, or_from}
 use Rattle.byteorder.specs.Endian.{little_number}
 use Rattle.table_core.specs.AttributeForms.{is_form, is_block, is_address_index, is_text_index}
 use Rattle.dw_unit.specs.declared.declaration.Spec.{Spec}
@@ -11,7 +13,8 @@ use Rattle.dw_unit.specs.Declarations.{Declaration, has_spec, has_bad_form, has_
 use Rattle.dw_unit.specs.CompUnits.{Entry, Unit, base, own_entry, number_in, address_at, address_of, attr}
 use Rattle.dw_unit.specs.Faults.{implies, is_located, is_sound_attr, is_sound_unit}
 use Rattle.dw_unit.specs.EntryMoves.{Moves, new_list_offset}
-use Rattle.dw_unit.specs.Changes.{new_name, keeps_low, new_value, new_address, new_list, changed_attr, changed_spec, ranges_specs, ranges_attrs}
+use Rattle.dw_unit.specs.Changes.{new_name, keeps_low, new_value, new_address, new_list, changed_attr, changed_spec, ranges_specs}
+use Rattle.dw_unit.specs.Changes.{ranges_attrs}
 use Rattle.dw_unit.proofs.RewrittenEntries.{IsChanged, AreChanged}
 use Rattle.dw_unit.proofs.Spelled.{AreChangedDeclarations}
 
@@ -21,22 +24,6 @@ equal_of x y f = grind (arith, nat_tests)
 and_first : (a b c : Bool) → (a && b && c) ≡ true → a ≡ true
 and_first true b c e = refl
 and_first false b c e = absurd (cc)
-
-and_true : (a b : Bool) → (a && b) ≡ true → (a ≡ true) × (b ≡ true)
-and_true true b e = (refl, e)
-and_true false b e = absurd (cc)
-
-true_and : (a b : Bool) → a ≡ true → b ≡ true → (a && b) ≡ true
-true_and true b e f = f
-true_and false b e f = absurd (cc)
-
-or_parts : (a b : Bool) → (a || b) ≡ false → (a ≡ false) × (b ≡ false)
-or_parts true b e = absurd (cc)
-or_parts false b e = (refl, e)
-
-false_or : (a b : Bool) → a ≡ false → b ≡ false → (a || b) ≡ false
-false_or true b e f = absurd (cc)
-false_or false b e f = f
 
 -- Names that no change gives nor takes away
 pub record IsSteady (k : ℕ) : Type 0 where
@@ -61,9 +48,11 @@ name_by n k h l false e false i f g = refl
 
 named_same : (own : Bool) (d : Declaration) (n k : ℕ) → IsSteady k → (new_name own d n == k) ≡ (n == k)
 named_same own d n k i =
-    name_by n k (has_spec 18 d) (not (keeps_low own d)) (n == 17 && has_spec 18 d && not (keeps_low own d)) (has_spec 82 d) (n == 121 || n == 8503) i refl refl
+    name_by n k (has_spec 18 d) (not (keeps_low own d)) (n == 17 && has_spec 18 d && not (keeps_low own d)) (has_spec 82 d)
+    (n == 121 || n == 8503) i refl refl
 
-steady : (k : ℕ) → (82 == k) ≡ false → (16145 == k) ≡ false → (16146 == k) ≡ false → (17 == k) ≡ false → (121 == k) ≡ false → (8503 == k) ≡ false → IsSteady k
+steady : (k : ℕ) → (82 == k) ≡ false → (16145 == k) ≡ false → (16146 == k) ≡ false → (17 == k) ≡ false → (121 == k) ≡ false →
+    (8503 == k) ≡ false → IsSteady k
 steady k a b c d e f = record { entry = a; unused_low = b; unused_table = c; low = d; macros = e; views = f }
 
 -- Values by names
@@ -78,11 +67,13 @@ module _ (m : Moves) (own first : Bool) (e : Entry) where
   ranges_skipped : (k len : ℕ) (b : Bool) (x y : Attr) (rest : List Attr) → (x.name == k) ≡ false → (y.name == k) ≡ false →
       find (λ (a : Attr). a.name == k) ((x ∷ (if b then y ∷ [] else [])) ++ rest) ≡ find (λ (a : Attr). a.name == k) rest
   ranges_skipped k len true x y rest f g =
-      ap (λ (b : Bool). if b then Some x else find (λ (a : Attr). a.name == k) (y ∷ rest)) f ∙ ap (λ (b : Bool). if b then Some y else find (λ (a : Attr). a.name == k) rest) g
+      ap (λ (b : Bool). if b then Some x else find (λ (a : Attr). a.name == k) (y ∷ rest)) f
+      ∙ ap (λ (b : Bool). if b then Some y else find (λ (a : Attr). a.name == k) rest) g
   ranges_skipped k len false x y rest f g = ap (λ (b : Bool). if b then Some x else find (λ (a : Attr). a.name == k) rest) f
 
   module _ (k : ℕ) (i : IsSteady k) (high : (18 == k) ≡ false) (ranges : (85 == k) ≡ false) (unused : (16144 == k) ≡ false) where
-    mapped : (b : Bool) (x : Attr) (o : Option Attr) → option_map plain_value (if b then Some x else o) ≡ (if b then Some x.value else option_map plain_value o)
+    mapped : (b : Bool) (x : Attr) (o : Option Attr) → option_map plain_value (if b then Some x else o) ≡
+        (if b then Some x.value else option_map plain_value o)
     mapped true x o = refl
     mapped false x o = refl
 
@@ -100,14 +91,17 @@ module _ (m : Moves) (own first : Bool) (e : Entry) where
         (ap (λ (x : ℕ). x == k) (equal_of a.name 18 f) ∙ high))
     one_more a false rest f =
         mapped (new_name own e.declaration a.name == k) _ (find (λ (a : Attr). a.name == k) rest)
-        ∙ ap (λ (b : Bool). if b then Some (value_of a) else option_map plain_value (find (λ (a : Attr). a.name == k) rest)) (named_same own e.declaration a.name k i)
+        ∙ ap (λ (b : Bool). if b then Some (value_of a) else option_map plain_value (find (λ (a : Attr). a.name == k) rest))
+        (named_same own e.declaration a.name k i)
 
-    mapped_by : (b : Bool) (x : Attr) (o : Option Attr) → (if b then Some (value_of x) else option_map value_of o) ≡ option_map value_of (if b then Some x else o)
+    mapped_by : (b : Bool) (x : Attr) (o : Option Attr) → (if b then Some (value_of x) else option_map value_of o) ≡ option_map value_of
+        (if b then Some x else o)
     mapped_by true x o = refl
     mapped_by false x o = refl
 
     found_changed : (attrs : List Attr) →
-        option_map plain_value (find (λ (a : Attr). a.name == k) (flat_map (changed_attr m own first e) attrs)) ≡ option_map value_of (find (λ (a : Attr). a.name == k) attrs)
+        option_map plain_value (find (λ (a : Attr). a.name == k) (flat_map (changed_attr m own first e) attrs)) ≡ option_map value_of
+        (find (λ (a : Attr). a.name == k) attrs)
     found_changed [] = refl
     found_changed (a ∷ attrs) =
         one_more a (a.name == 18) (flat_map (changed_attr m own first e) attrs) refl
@@ -127,11 +121,13 @@ module _ (m : Moves) (own first : Bool) (e : Entry) where
     none false true = refl
     none false false = refl
 
-  base_same : (attrs : List Attr) → option_map value_of (find (λ (a : Attr). a.name == 115) attrs) ≡ option_map plain_value (find (λ (a : Attr). a.name == 115) attrs)
+  base_same : (attrs : List Attr) → option_map value_of (find (λ (a : Attr). a.name == 115) attrs) ≡ option_map plain_value
+      (find (λ (a : Attr). a.name == 115) attrs)
   base_same [] = refl
   base_same (a ∷ attrs) = by_test (a.name == 115) refl (base_same attrs) where
     by_test : (b : Bool) → (a.name == 115) ≡ b →
-        (option_map value_of (find (λ (a : Attr). a.name == 115) attrs) ≡ option_map plain_value (find (λ (a : Attr). a.name == 115) attrs)) →
+        (option_map value_of (find (λ (a : Attr). a.name == 115) attrs) ≡ option_map plain_value
+        (find (λ (a : Attr). a.name == 115) attrs)) →
         option_map value_of (if b then Some a else find (λ (a : Attr). a.name == 115) attrs)
         ≡ option_map plain_value (if b then Some a else find (λ (a : Attr). a.name == 115) attrs)
     by_test true f ih = ap (λ (o : Option ℕ). Some (unwrap_or o a.value)) (base_kept a (equal_of a.name 115 f))
@@ -140,23 +136,28 @@ module _ (m : Moves) (own first : Bool) (e : Entry) where
 -- Bases of units
 
 module _ (m : Moves) (own : Declaration → Bool) (first : Entry → Bool) where
-  some_same : (k : ℕ) (e n : Entry) → IsSteady k → (18 == k) ≡ false → (85 == k) ≡ false → (16144 == k) ≡ false → IsChanged m own first e n →
+  some_same : (k : ℕ) (e n : Entry) → IsSteady k → (18 == k) ≡ false → (85 == k) ≡ false → (16144 == k) ≡ false →
+      IsChanged m own first e n →
       is_some (option_map (λ (a : Attr). a.value) (attr k n)) ≡ is_some (option_map (λ (a : Attr). a.value) (attr k e))
   some_same k e n i high ranges unused c =
       ap (λ (l : List Attr). is_some (option_map (λ (a : Attr). a.value) (find (λ (a : Attr). a.name == k) l))) c.attrs
       ∙ ap is_some (found_changed m (own e.declaration) (first e) e k i high ranges unused e.attrs)
       ∙ is_mapped (find (λ (a : Attr). a.name == k) e.attrs) where
-        is_mapped : (o : Option Attr) → is_some (option_map (λ (a : Attr). unwrap_or (new_value m (own e.declaration) (first e) e a) a.value) o)
+        is_mapped : (o : Option Attr) → is_some (option_map (λ (a : Attr). unwrap_or (new_value m (own e.declaration) (first e) e a)
+            a.value) o)
             ≡ is_some (option_map (λ (a : Attr). a.value) o)
         is_mapped None = refl
         is_mapped (Some a) = refl
 
   module _ (u v : Unit) (changed : AreChanged m own first u.entries v.entries) where
-    base_of : (k : ℕ) → IsSteady k → (18 == k) ≡ false → (85 == k) ≡ false → (16144 == k) ≡ false → is_some (base k v) ≡ is_some (base k u)
+    base_of : (k : ℕ) → IsSteady k → (18 == k) ≡ false → (85 == k) ≡ false → (16144 == k) ≡ false →
+        is_some (base k v) ≡ is_some (base k u)
     base_of k i high ranges unused = step u.entries v.entries changed where
       step : (old new : List Entry) → AreChanged m own first old new →
-          is_some (option_map (λ (a : Attr). a.value) (option_and_then (attr k) (own_entry (record { place = 0; abbrev_offset = 0; entries = new }))))
-          ≡ is_some (option_map (λ (a : Attr). a.value) (option_and_then (attr k) (own_entry (record { place = 0; abbrev_offset = 0; entries = old }))))
+          is_some (option_map (λ (a : Attr). a.value) (option_and_then (attr k)
+          (own_entry (record { place = 0; abbrev_offset = 0; entries = new }))))
+          ≡ is_some (option_map (λ (a : Attr). a.value) (option_and_then (attr k)
+          (own_entry (record { place = 0; abbrev_offset = 0; entries = old }))))
       step [] [] c = refl
       step [] (n ∷ new) c = absurd c
       step (o ∷ old) [] c = absurd c
@@ -165,8 +166,10 @@ module _ (m : Moves) (own : Declaration → Bool) (first : Entry → Bool) where
     addresses_base : base 115 v ≡ base 115 u
     addresses_base = step u.entries v.entries changed where
       step : (old new : List Entry) → AreChanged m own first old new →
-          option_map (λ (a : Attr). a.value) (option_and_then (attr 115) (own_entry (record { place = 0; abbrev_offset = 0; entries = new })))
-          ≡ option_map (λ (a : Attr). a.value) (option_and_then (attr 115) (own_entry (record { place = 0; abbrev_offset = 0; entries = old })))
+          option_map (λ (a : Attr). a.value) (option_and_then (attr 115)
+          (own_entry (record { place = 0; abbrev_offset = 0; entries = new })))
+          ≡ option_map (λ (a : Attr). a.value) (option_and_then (attr 115)
+          (own_entry (record { place = 0; abbrev_offset = 0; entries = old })))
       step [] [] c = refl
       step [] (n ∷ new) c = absurd c
       step (o ∷ old) [] c = absurd c
@@ -211,8 +214,10 @@ module _ (m : Moves) (own first : Bool) (e : Entry) (addr new_addr : List ℕ) (
 
   at_same : (index : ℕ) → is_some (address_at new_addr v index) ≡ is_some (address_at addr u index)
   at_same index =
-      ap (λ (o : Option ℕ). is_some (option_and_then (λ (b : ℕ). number_in 8 (b + 8 * index) new_addr) o)) addresses ∙ step (base 115 u) where
-        step : (o : Option ℕ) → is_some (option_and_then (λ (b : ℕ). number_in 8 (b + 8 * index) new_addr) o) ≡ is_some (option_and_then (λ (b : ℕ). number_in 8 (b + 8 * index) addr) o)
+      ap (λ (o : Option ℕ). is_some (option_and_then (λ (b : ℕ). number_in 8 (b + 8 * index) new_addr) o)) addresses
+      ∙ step (base 115 u) where
+        step : (o : Option ℕ) → is_some (option_and_then (λ (b : ℕ). number_in 8 (b + 8 * index) new_addr) o) ≡ is_some
+            (option_and_then (λ (b : ℕ). number_in 8 (b + 8 * index) addr) o)
         step None = refl
         step (Some b) = number_same (b + 8 * index)
 
@@ -230,17 +235,20 @@ module _ (m : Moves) (own first : Bool) (e : Entry) (addr new_addr : List ℕ) (
   address_by a true d f g = refl
   address_by a false false f g = refl
   address_by a false true f g =
-      let kept : new_value m own first e a ≡ None = index_kept a (a.form == 1) (a.form == 23) (is_address_index a.form) refl refl refl f g in
+      let kept : new_value m own first e a ≡ None = index_kept a (a.form == 1) (a.form == 23) (is_address_index a.form) refl refl refl f g
+      in
       ap (λ (o : Option ℕ). is_some (address_at new_addr v (unwrap_or o a.value))) kept ∙ at_same a.value
 
   located_same : (n : ℕ) → is_located (new_name own e.declaration n) ≡ is_located n
   located_same n =
-      ap (λ (b : Bool). b || (new_name own e.declaration n == 64)) (named_same own e.declaration n 2 (steady 2 refl refl refl refl refl refl))
+      ap (λ (b : Bool). b || (new_name own e.declaration n == 64))
+      (named_same own e.declaration n 2 (steady 2 refl refl refl refl refl refl))
       ∙ ap (λ (b : Bool). (n == 2) || b) (named_same own e.declaration n 64 (steady 64 refl refl refl refl refl refl))
 
   bases_same : (n : ℕ) → (new_name own e.declaration n == 116 || new_name own e.declaration n == 140) ≡ (n == 116 || n == 140)
   bases_same n =
-      ap (λ (b : Bool). b || (new_name own e.declaration n == 140)) (named_same own e.declaration n 116 (steady 116 refl refl refl refl refl refl))
+      ap (λ (b : Bool). b || (new_name own e.declaration n == 140))
+      (named_same own e.declaration n 116 (steady 116 refl refl refl refl refl refl))
       ∙ ap (λ (b : Bool). (n == 116) || b) (named_same own e.declaration n 140 (steady 140 refl refl refl refl refl refl))
 
   one_sound : (a : Attr) → is_sound_attr new_addr v (one a) ≡ is_sound_attr addr u a
@@ -248,51 +256,71 @@ module _ (m : Moves) (own first : Bool) (e : Entry) (addr new_addr : List ℕ) (
       let located : Bool = is_located (one a).name in
       let ranges : Bool = (one a).name == 85 in
       let bases : Bool = (one a).name == 116 || (one a).name == 140 in
-      ap (λ (x : Bool). sound_by a.form x (is_some (address_of new_addr v (one a))) (is_some (base 140 v)) (is_some (base 116 v)) located ranges bases) text
+      ap (λ (x : Bool). sound_by a.form x (is_some (address_of new_addr v (one a))) (is_some (base 140 v))
+      (is_some (base 116 v)) located ranges bases) text
       ∙ ap (λ (x : Bool). sound_by a.form (is_some (base 114 u)) x (is_some (base 140 v)) (is_some (base 116 v)) located ranges bases)
       (address_by a (a.form == 1) (is_address_index a.form) refl refl)
-      ∙ ap (λ (x : Bool). sound_by a.form (is_some (base 114 u)) (is_some (address_of addr u a)) x (is_some (base 116 v)) located ranges bases) loc
-      ∙ ap (λ (x : Bool). sound_by a.form (is_some (base 114 u)) (is_some (address_of addr u a)) (is_some (base 140 u)) x located ranges bases) rng
-      ∙ ap (λ (x : Bool). sound_by a.form (is_some (base 114 u)) (is_some (address_of addr u a)) (is_some (base 140 u)) (is_some (base 116 u)) x ranges bases) (located_same a.name)
-      ∙ ap (λ (x : Bool). sound_by a.form (is_some (base 114 u)) (is_some (address_of addr u a)) (is_some (base 140 u)) (is_some (base 116 u)) (is_located a.name) x bases)
+      ∙ ap (λ (x : Bool). sound_by a.form (is_some (base 114 u)) (is_some (address_of addr u a)) x (is_some (base 116 v)) located ranges
+      bases) loc
+      ∙ ap (λ (x : Bool). sound_by a.form (is_some (base 114 u)) (is_some (address_of addr u a)) (is_some (base 140 u)) x located ranges
+      bases) rng
+      ∙ ap (λ (x : Bool). sound_by a.form (is_some (base 114 u)) (is_some (address_of addr u a)) (is_some (base 140 u))
+      (is_some (base 116 u)) x ranges bases) (located_same a.name)
+      ∙ ap (λ (x : Bool). sound_by a.form (is_some (base 114 u)) (is_some (address_of addr u a)) (is_some (base 140 u))
+      (is_some (base 116 u)) (is_located a.name) x bases)
       (named_same own e.declaration a.name 85 (steady 85 refl refl refl refl refl refl))
-      ∙ ap (λ (x : Bool). sound_by a.form (is_some (base 114 u)) (is_some (address_of addr u a)) (is_some (base 140 u)) (is_some (base 116 u)) (is_located a.name) (a.name == 85) x)
+      ∙ ap (λ (x : Bool). sound_by a.form (is_some (base 114 u)) (is_some (address_of addr u a)) (is_some (base 140 u))
+      (is_some (base 116 u)) (is_located a.name) (a.name == 85) x)
       (bases_same a.name)
 
   all_joined : (xs ys : List Attr) → list_all (is_sound_attr new_addr v) xs ≡ true → list_all (is_sound_attr new_addr v) ys ≡ true →
       list_all (is_sound_attr new_addr v) (xs ++ ys) ≡ true
   all_joined [] ys f g = g
   all_joined (x ∷ xs) ys f g =
-      let p = and_true (is_sound_attr new_addr v x) (list_all (is_sound_attr new_addr v) xs) f in
-      true_and (is_sound_attr new_addr v x) (list_all (is_sound_attr new_addr v) (xs ++ ys)) p.0 (all_joined xs ys p.1 g)
+      let p = and_parts (is_sound_attr new_addr v x) (list_all (is_sound_attr new_addr v) xs) f in
+      and_from (is_sound_attr new_addr v x) (list_all (is_sound_attr new_addr v) (xs ++ ys)) p.0 (all_joined xs ys p.1 g)
 
-  ranges_sound : (a : Attr) (b : Bool) → list_all (is_sound_attr new_addr v) (record { name = 85; form = 23; place = a.place; len = 4; value = a.value } ∷
+  ranges_sound : (a : Attr) (b : Bool) → list_all (is_sound_attr new_addr v)
+      (record { name = 85; form = 23; place = a.place; len = 4; value = a.value } ∷
       (if b then record { name = 16144; form = 6; place = a.place + 4; len = 4; value = 0 } ∷ [] else [])) ≡ true
   ranges_sound a true = refl
   ranges_sound a false = refl
 
-  changed_by : (a : Attr) (b : Bool) → is_sound_attr addr u a ≡ true → list_all (is_sound_attr new_addr v) (if b then ranges_attrs m e a else one a ∷ []) ≡ true
-  changed_by a true f = ranges_sound (record { name = a.name; form = a.form; place = a.place; len = a.len; value = unwrap_or (new_list_offset m.lists e.place 85) 0 }) (a.len == 8)
-  changed_by a false f = true_and (is_sound_attr new_addr v (one a)) true (one_sound a ∙ f) refl
+  changed_by : (a : Attr) (b : Bool) → is_sound_attr addr u a ≡ true →
+      list_all (is_sound_attr new_addr v) (if b then ranges_attrs m e a else one a ∷ []) ≡ true
+  changed_by a true f = ranges_sound (record {
+    name = a.name;
+    form = a.form;
+    place = a.place;
+    len = a.len;
+    value = unwrap_or
+        (new_list_offset m.lists e.place 85) 0;
+  }) (a.len == 8)
+  changed_by a false f = and_from (is_sound_attr new_addr v (one a)) true (one_sound a ∙ f) refl
 
-  pub attrs_sound : (attrs : List Attr) → list_all (is_sound_attr addr u) attrs ≡ true → list_all (is_sound_attr new_addr v) (flat_map (changed_attr m own first e) attrs) ≡ true
+  pub attrs_sound : (attrs : List Attr) → list_all (is_sound_attr addr u) attrs ≡ true →
+      list_all (is_sound_attr new_addr v) (flat_map (changed_attr m own first e) attrs) ≡ true
   attrs_sound [] f = refl
   attrs_sound (a ∷ attrs) f =
-      let p = and_true (is_sound_attr addr u a) (list_all (is_sound_attr addr u) attrs) f in
-      all_joined (changed_attr m own first e a) (flat_map (changed_attr m own first e) attrs) (changed_by a (a.name == 18) p.0) (attrs_sound attrs p.1)
+      let p = and_parts (is_sound_attr addr u a) (list_all (is_sound_attr addr u) attrs) f in
+      all_joined (changed_attr m own first e a) (flat_map (changed_attr m own first e) attrs) (changed_by a (a.name == 18) p.0)
+      (attrs_sound attrs p.1)
 
 -- Units
 
-module _ (m : Moves) (own : Declaration → Bool) (first : Entry → Bool) (addr new_addr : List ℕ) (size : length new_addr ≡ length addr) (u v : Unit)
+module _ (m : Moves) (own : Declaration → Bool) (first : Entry → Bool) (addr new_addr : List ℕ) (size : length new_addr ≡ length addr)
+    (u v : Unit)
     (changed : AreChanged m own first u.entries v.entries) where
-  entries_sound : (old new : List Entry) → AreChanged m own first old new → list_all (λ (e : Entry). list_all (is_sound_attr addr u) e.attrs) old ≡ true →
+  entries_sound : (old new : List Entry) → AreChanged m own first old new →
+      list_all (λ (e : Entry). list_all (is_sound_attr addr u) e.attrs) old ≡ true →
       list_all (λ (e : Entry). list_all (is_sound_attr new_addr v) e.attrs) new ≡ true
   entries_sound [] [] c f = refl
   entries_sound [] (n ∷ new) c f = absurd c
   entries_sound (o ∷ old) [] c f = absurd c
   entries_sound (o ∷ old) (n ∷ new) c f =
-      let p = and_true (list_all (is_sound_attr addr u) o.attrs) (list_all (λ (e : Entry). list_all (is_sound_attr addr u) e.attrs) old) f in
-      true_and (list_all (is_sound_attr new_addr v) n.attrs) (list_all (λ (e : Entry). list_all (is_sound_attr new_addr v) e.attrs) new)
+      let p = and_parts (list_all (is_sound_attr addr u) o.attrs) (list_all (λ (e : Entry). list_all (is_sound_attr addr u) e.attrs) old)
+      f in
+      and_from (list_all (is_sound_attr new_addr v) n.attrs) (list_all (λ (e : Entry). list_all (is_sound_attr new_addr v) e.attrs) new)
       (ap (list_all (is_sound_attr new_addr v)) c.0.attrs
       ∙ attrs_sound m (own o.declaration) (first o) o addr new_addr size u v
       (base_of m own first u v changed 114 (steady 114 refl refl refl refl refl refl) refl refl refl)
@@ -307,37 +335,43 @@ module _ (m : Moves) (own : Declaration → Bool) (first : Entry → Bool) (addr
 -- Declarations
 
 module _ (own : Declaration → Bool) where
-  forms_joined : (xs ys : List Spec) → list_any (λ (s : Spec). not (is_form s.form)) xs ≡ false → list_any (λ (s : Spec). not (is_form s.form)) ys ≡ false →
+  forms_joined : (xs ys : List Spec) → list_any (λ (s : Spec). not (is_form s.form)) xs ≡ false →
+      list_any (λ (s : Spec). not (is_form s.form)) ys ≡ false →
       list_any (λ (s : Spec). not (is_form s.form)) (xs ++ ys) ≡ false
   forms_joined [] ys f g = g
   forms_joined (x ∷ xs) ys f g =
       let p = or_parts (not (is_form x.form)) (list_any (λ (s : Spec). not (is_form s.form)) xs) f in
-      false_or (not (is_form x.form)) (list_any (λ (s : Spec). not (is_form s.form)) (xs ++ ys)) p.0 (forms_joined xs ys p.1 g)
+      or_from (not (is_form x.form)) (list_any (λ (s : Spec). not (is_form s.form)) (xs ++ ys)) p.0 (forms_joined xs ys p.1 g)
 
-  ranges_forms : (b : Bool) → list_any (λ (s : Spec). not (is_form s.form)) (record { name = 85; form = 23; implicit = 0 } ∷ (if b then [] else record { name = 16144; form = 6; implicit = 0 } ∷ [])) ≡ false
+  ranges_forms : (b : Bool) → list_any (λ (s : Spec). not (is_form s.form))
+      (record { name = 85; form = 23; implicit = 0 } ∷ (if b then [] else record { name = 16144; form = 6; implicit = 0 } ∷ [])) ≡ false
   ranges_forms true = refl
   ranges_forms false = refl
 
   form_by : (is_own : Bool) (d : Declaration) (s : Spec) (b : Bool) → not (is_form s.form) ≡ false →
-      list_any (λ (s : Spec). not (is_form s.form)) (if b then ranges_specs s.form else record { name = new_name is_own d s.name; form = s.form; implicit = s.implicit } ∷ []) ≡ false
+      list_any (λ (s : Spec). not (is_form s.form)) (if b then ranges_specs s.form else record
+      { name = new_name is_own d s.name; form = s.form; implicit = s.implicit } ∷ []) ≡ false
   form_by is_own d s true f = ranges_forms (s.form == 6)
-  form_by is_own d s false f = false_or (not (is_form s.form)) false f refl
+  form_by is_own d s false f = or_from (not (is_form s.form)) false f refl
 
   forms_changed : (is_own : Bool) (d : Declaration) (specs : List Spec) → list_any (λ (s : Spec). not (is_form s.form)) specs ≡ false →
       list_any (λ (s : Spec). not (is_form s.form)) (flat_map (changed_spec is_own d) specs) ≡ false
   forms_changed is_own d [] f = refl
   forms_changed is_own d (s ∷ specs) f =
       let p = or_parts (not (is_form s.form)) (list_any (λ (s : Spec). not (is_form s.form)) specs) f in
-      forms_joined (changed_spec is_own d s) (flat_map (changed_spec is_own d) specs) (form_by is_own d s (s.name == 18) p.0) (forms_changed is_own d specs p.1)
+      forms_joined (changed_spec is_own d s) (flat_map (changed_spec is_own d) specs) (form_by is_own d s (s.name == 18) p.0)
+      (forms_changed is_own d specs p.1)
 
   -- no high address is left
-  high_joined : (d : Declaration) (xs ys : List Spec) → list_any (is_bad_high d) xs ≡ false → list_any (is_bad_high d) ys ≡ false → list_any (is_bad_high d) (xs ++ ys) ≡ false
+  high_joined : (d : Declaration) (xs ys : List Spec) → list_any (is_bad_high d) xs ≡ false → list_any (is_bad_high d) ys ≡ false →
+      list_any (is_bad_high d) (xs ++ ys) ≡ false
   high_joined d [] ys f g = g
   high_joined d (x ∷ xs) ys f g =
       let p = or_parts (is_bad_high d x) (list_any (is_bad_high d) xs) f in
-      false_or (is_bad_high d x) (list_any (is_bad_high d) (xs ++ ys)) p.0 (high_joined d xs ys p.1 g)
+      or_from (is_bad_high d x) (list_any (is_bad_high d) (xs ++ ys)) p.0 (high_joined d xs ys p.1 g)
 
-  ranges_high : (d : Declaration) (b : Bool) → list_any (is_bad_high d) (record { name = 85; form = 23; implicit = 0 } ∷ (if b then [] else record { name = 16144; form = 6; implicit = 0 } ∷ [])) ≡ false
+  ranges_high : (d : Declaration) (b : Bool) → list_any (is_bad_high d)
+      (record { name = 85; form = 23; implicit = 0 } ∷ (if b then [] else record { name = 16144; form = 6; implicit = 0 } ∷ [])) ≡ false
   ranges_high d true = refl
   ranges_high d false = refl
 
@@ -346,24 +380,28 @@ module _ (own : Declaration → Bool) where
   not_and false b e = refl
 
   high_by : (is_own : Bool) (d n : Declaration) (s : Spec) (b : Bool) → (s.name == 18) ≡ b →
-      list_any (is_bad_high n) (if b then ranges_specs s.form else record { name = new_name is_own d s.name; form = s.form; implicit = s.implicit } ∷ []) ≡ false
+      list_any (is_bad_high n) (if b then ranges_specs s.form else record
+      { name = new_name is_own d s.name; form = s.form; implicit = s.implicit } ∷ []) ≡ false
   high_by is_own d n s true f = ranges_high n (s.form == 6)
   high_by is_own d n s false f =
-      false_or (is_bad_high n (record { name = new_name is_own d s.name; form = s.form; implicit = s.implicit })) false
+      or_from (is_bad_high n (record { name = new_name is_own d s.name; form = s.form; implicit = s.implicit })) false
       (not_and (new_name is_own d s.name == 18) _ (named_same is_own d s.name 18 (steady 18 refl refl refl refl refl refl) ∙ f)) refl
 
-  high_changed : (is_own : Bool) (d n : Declaration) (specs : List Spec) → list_any (is_bad_high n) (flat_map (changed_spec is_own d) specs) ≡ false
+  high_changed : (is_own : Bool) (d n : Declaration) (specs : List Spec) →
+      list_any (is_bad_high n) (flat_map (changed_spec is_own d) specs) ≡ false
   high_changed is_own d n [] = refl
   high_changed is_own d n (s ∷ specs) =
-      high_joined n (changed_spec is_own d s) (flat_map (changed_spec is_own d) specs) (high_by is_own d n s (s.name == 18) refl) (high_changed is_own d n specs)
+      high_joined n (changed_spec is_own d s) (flat_map (changed_spec is_own d) specs) (high_by is_own d n s (s.name == 18) refl)
+      (high_changed is_own d n specs)
 
-  pub forms_stay : (old new : List Declaration) → AreChangedDeclarations own old new → list_any has_bad_form old ≡ false → list_any has_bad_form new ≡ false
+  pub forms_stay : (old new : List Declaration) → AreChangedDeclarations own old new → list_any has_bad_form old ≡ false →
+      list_any has_bad_form new ≡ false
   forms_stay [] [] c f = refl
   forms_stay [] (n ∷ new) c f = absurd c
   forms_stay (o ∷ old) [] c f = absurd c
   forms_stay (o ∷ old) (n ∷ new) c f =
       let p = or_parts (has_bad_form o) (list_any has_bad_form old) f in
-      false_or (has_bad_form n) (list_any has_bad_form new)
+      or_from (has_bad_form n) (list_any has_bad_form new)
       (ap (list_any (λ (s : Spec). not (is_form s.form))) c.0.specs ∙ forms_changed (own o) o o.specs p.0) (forms_stay old new c.1 p.1)
 
   pub none_high : (old new : List Declaration) → AreChangedDeclarations own old new → list_any has_bad_high new ≡ false
@@ -371,4 +409,5 @@ module _ (own : Declaration → Bool) where
   none_high [] (n ∷ new) c = absurd c
   none_high (o ∷ old) [] c = absurd c
   none_high (o ∷ old) (n ∷ new) c =
-      false_or (has_bad_high n) (list_any has_bad_high new) (ap (list_any (is_bad_high n)) c.0.specs ∙ high_changed (own o) o n o.specs) (none_high old new c.1)
+      or_from (has_bad_high n) (list_any has_bad_high new) (ap (list_any (is_bad_high n)) c.0.specs ∙ high_changed (own o) o n o.specs)
+      (none_high old new c.1)

@@ -4,7 +4,7 @@ use Rattle.std.proofs.Common.{◌≡◌, ◌≢◌, ◌∙◌, ◌++◌, ⊎_eli
 use Rattle.std.proofs.Common.{refl, ap, sym, subst, arith, length}
 use Rattle.std.specs.Prelude.{⊤, ◌==◌, ◌&&◌, ◌||◌, if◌then◌else◌, is_some, option_and_then, Contains}
 use Rattle.std.specs.List.{find, list_any, list_all, AllZip}
-use Rattle.std.proofs.lemmas.Bool.{eq-eqb, eqb-true, ne_eqb}
+use Rattle.std.proofs.lemmas.Bool.{eq-eqb, eqb-true, ne_eqb, or_parts, or_right, and_parts}
 use Rattle.std.proofs.lemmas.Bool.Decides.{nat_tests}
 use Rattle.rb_bytes.proofs.Members.{Contains-nil, Contains-cons_cases, Contains-there}
 use Rattle.rb_bytes.specs.FirstFault.{IsFree}
@@ -18,12 +18,13 @@ use Rattle.dw_unit.specs.declared.trouble.Trouble.TheVariants.{NoForm}
 use Rattle.table_core.specs.ReadSteps.{and_so}
 use Rattle.dw_unit.specs.Trouble.{Read, when, sound_if}
 use Rattle.dw_unit.specs.Declarations.{Declaration, table_at, is_named, has_spec, has_bad_high, is_low, is_high_form}
-use Rattle.dw_unit.specs.CompUnits.{Entry, Unit, UnitBounds, Sections, attr, attr_at, attrs_at, form_within, address_of, address_at, low_pc}
+use Rattle.dw_unit.specs.CompUnits.{Entry, Unit, UnitBounds, Sections, attr, attr_at, attrs_at, form_within, address_of, address_at}
+use Rattle.dw_unit.specs.CompUnits.{low_pc}
 use Rattle.dw_unit.specs.CompUnits.{may_repeat, are_named_once, end_of, units}
 use Rattle.dw_unit.specs.Faults.{HasDwarfFault, unit_fault_places, is_sound_attr, is_sound_unit, declarations_of}
 use Rattle.dw_unit.specs.Walking.{unit_bounds}
 use Rattle.dw_unit.proofs.AttrFronts.{IsAttr, attr_front}
-use Rattle.dw_unit.proofs.Changeable.{not_any, declared_is, apart_high, or_false}
+use Rattle.dw_unit.proofs.Changeable.{not_any, declared_is, apart_high}
 use Rattle.dw_unit.proofs.NewSections.{declarations_are, no_bad_high, sound_units}
 use Rattle.dw_unit.proofs.NoFaults.{NoneOf, none_of}
 use Rattle.dw_unit.proofs.ReadEntries.{IsReadEntry, AreReadEntries, read_entries}
@@ -86,7 +87,8 @@ module _ (end d : ℕ) where
   by_first s specs attrs left rest (Ok got) is f ih =
       by_rest s specs attrs got.0 left got.1 rest (attrs_at end d specs got.1) is refl f (ih got.1)
 
-  attrs_of : (specs : List Spec) (attrs : List Attr) (left rest : List ℕ) → attrs_at end d specs left ≡ Ok (attrs, rest) → AreOf specs attrs
+  attrs_of : (specs : List Spec) (attrs : List Attr) (left rest : List ℕ) → attrs_at end d specs left ≡ Ok (attrs, rest) →
+      AreOf specs attrs
   attrs_of [] attrs left rest f = subst (λ (l : List Attr). AreOf [] l) (same_value _ _ _ _ f) tt
   attrs_of (s ∷ specs) attrs left rest f = by_first s specs attrs left rest (attr_at end d s left) refl f
       (λ l1 got r g. attrs_of specs got l1 r g)
@@ -95,10 +97,6 @@ module _ (end d : ℕ) where
 
 abbrev called : ℕ → Attr → Bool
 called k a = a.name == k
-
-or_right : (a b : Bool) → b ≡ true → (a || b) ≡ true
-or_right true b e = refl
-or_right false b e = e
 
 has_named : (specs : List Spec) (attrs : List Attr) (a : Attr) → AreOf specs attrs → Contains attrs a →
     list_any (is_named a.name) specs ≡ true
@@ -132,10 +130,6 @@ none_named specs attrs k of e = step (find (called k) attrs) refl
     step None f = refl
     step (Some h) f = let g : true ≡ false = sym (found_named specs attrs k h of f) ∙ e in absurd (cc)
 
-and_parts : (a b : Bool) → (a && b) ≡ true → (a ≡ true) × (b ≡ true)
-and_parts true b e = (refl, e)
-and_parts false b e = absurd (cc)
-
 sole_of : (specs : List Spec) (attrs : List Attr) (a : Attr) → AreOf specs attrs → are_named_once specs ≡ true → Contains attrs a →
     may_repeat a.name ≡ false →
     find (called a.name) attrs ≡ Some a
@@ -143,7 +137,8 @@ sole_of [] [] a of once c r = absurd (Contains-nil a c)
 sole_of [] (b ∷ attrs) a of once c r = absurd of
 sole_of (s ∷ specs) [] a of once c r = absurd of
 sole_of (s ∷ specs) (b ∷ attrs) a of once c r = ⊎_elim
-    (λ (e : b ≡ a). ap (λ (x : Bool). if x then Some b else find (called a.name) attrs) (eq-eqb b.name a.name (ap (λ (x : Attr). x.name) e))
+    (λ (e : b ≡ a). ap (λ (x : Bool). if x then Some b else find (called a.name) attrs)
+    (eq-eqb b.name a.name (ap (λ (x : Attr). x.name) e))
     ∙ ap (λ (x : Attr). Some x) e)
     (λ (there : Contains attrs a).
     ap (λ (x : Bool). if x then Some b else find (called a.name) attrs) (ne_eqb b.name a.name (other there))
@@ -171,7 +166,7 @@ low_beside : (d : Declaration) (x : Bool) (specs : List Spec) →
     list_any (is_named 18) specs ≡ true → x ≡ true
 low_beside d x [] e f = absurd (cc)
 low_beside d x (s ∷ specs) e f =
-    let p = or_false (s.name == 18 && (not (is_high_form s.form) || has_spec 85 d || not x))
+    let p = or_parts (s.name == 18 && (not (is_high_form s.form) || has_spec 85 d || not x))
     (list_any (λ s. s.name == 18 && (not (is_high_form s.form) || has_spec 85 d || not x)) specs) e in
     by_name (s.name == 18) (not (is_high_form s.form)) (has_spec 85 d) x p.0 f (low_beside d x specs p.1)
   where
@@ -217,7 +212,8 @@ all_there : (test : Attr → Bool) (attrs : List Attr) (a : Attr) → list_all t
 all_there test [] a e c = absurd (Contains-nil a c)
 all_there test (b ∷ attrs) a e c =
     let p = and_parts (test b) (list_all test attrs) e in
-    ⊎_elim (λ (same : b ≡ a). subst (λ (x : Attr). test x ≡ true) same p.0) (λ (there : Contains attrs a). all_there test attrs a p.1 there)
+    ⊎_elim (λ (same : b ≡ a). subst (λ (x : Attr). test x ≡ true) same p.0)
+    (λ (there : Contains attrs a). all_there test attrs a p.1 there)
     (Contains-cons_cases b attrs a c)
 
 -- the second of the tests of a sound attribute

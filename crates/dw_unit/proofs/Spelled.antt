@@ -1,5 +1,6 @@
 -- Tables of abbreviations that are spelled are read back.
-use Rattle.std.proofs.Common.{◌≡◌, ◌≢◌, ◌<◌, ◌+◌, ◌-◌, ◌*◌, ◌^◌, ◌++◌, ℕ, suc, List, [], ◌∷◌, Bool, true, false, cond, Option, Some, None, Ok, Err, Result, refl, ap, sym, ◌∙◌, arith, subst, ℤ, length, drop, nat_lt, append_assoc}
+use Rattle.std.proofs.Common.{◌≡◌, ◌≢◌, ◌<◌, ◌+◌, ◌-◌, ◌*◌, ◌^◌, ◌++◌, ℕ, suc, List, [], ◌∷◌, Bool, true, false, cond, Option, Some, None}
+use Rattle.std.proofs.Common.{Ok, Err, Result, refl, ap, sym, ◌∙◌, arith, subst, ℤ, length, drop, nat_lt, append_assoc}
 use Rattle.std.specs.Prelude.{◌==◌, ◌&&◌, if◌then◌else◌, flat_map, FitsSigned}
 use Rattle.std.specs.Int.{w64, cast_signed, cast_unsigned}
 use Rattle.std.specs.List.{find}
@@ -18,7 +19,8 @@ use Rattle.table_core.specs.AttributeForms.{value_at}
 use Rattle.dw_unit.specs.declared.trouble.Trouble.TheVariants.{Unsound}
 use Rattle.dw_unit.specs.declared.declaration.Spec.{Spec}
 use Rattle.dw_unit.specs.Trouble.{Read, whole}
-use Rattle.dw_unit.specs.Declarations.{Declaration, Table, spec_at, specs_at, implicit_at, declaration_at, declaration_or_end, next_declaration, table_within}
+use Rattle.dw_unit.specs.Declarations.{Declaration, spec_at, specs_at, implicit_at, declaration_at, declaration_or_end}
+use Rattle.dw_unit.specs.Declarations.{next_declaration, table_within}
 use Rattle.dw_unit.specs.Changes.{spec_bytes, flag, declaration_bytes, changed_specs}
 use Rattle.dw_unit.proofs.Walks.{with_front, with_before}
 use Rattle.dw_unit.proofs.Readers.{spec_behind, specs_more, specs_end, table_more, table_ends}
@@ -46,18 +48,21 @@ signed_fits n h = omega (arith, ints)
 
 signed_read : (n : ℕ) (rest : List ℕ) → n < 2 ^ 64 → value_at Unsound 0 SignedLeb (sleb (cast_signed w64 n) ++ rest) ≡ Ok (n, rest)
 signed_read n rest h =
-    ap (λ (r : Result (ℤ × List ℕ) Gap). or_trouble Unsound (and_then r (λ z rest. Ok (cast_unsigned w64 z, rest)))) ((IsShortestSleb-sleb (cast_signed w64 n) (signed_fits n h)).reads_back rest)
+    ap (λ (r : Result (ℤ × List ℕ) Gap). or_trouble Unsound (and_then r (λ z rest. Ok (cast_unsigned w64 z, rest))))
+    ((IsShortestSleb-sleb (cast_signed w64 n) (signed_fits n h)).reads_back rest)
     ∙ ap (λ (k : ℕ). Ok (k, rest)) (of_z-to_z w64 n h)
 
 abbrev pub implicit_bytes : Bool → Spec → List ℕ
 implicit_bytes b s = if b then sleb (cast_signed w64 s.implicit) else []
 
 implicit_by : (s : Spec) (rest : List ℕ) → IsSpellable s → (b : Bool) → (s.form == 33) ≡ b →
-    ◌≡◌ {A = Read ℕ} (if b then value_at Unsound 0 SignedLeb (implicit_bytes b s ++ rest) else Ok (0, implicit_bytes b s ++ rest)) (Ok (s.implicit, rest))
+    ◌≡◌ {A = Read ℕ} (if b then value_at Unsound 0 SignedLeb (implicit_bytes b s ++ rest) else Ok (0, implicit_bytes b s ++ rest))
+    (Ok (s.implicit, rest))
 implicit_by s rest h false e = ap (λ (n : ℕ). Ok (n, rest)) (sym (h.none e))
 implicit_by s rest h true e = signed_read s.implicit rest h.implicit
 
-implicit_read : (s : Spec) (rest : List ℕ) → IsSpellable s → implicit_at s.form (implicit_bytes (s.form == 33) s ++ rest) ≡ Ok (s.implicit, rest)
+implicit_read : (s : Spec) (rest : List ℕ) → IsSpellable s → implicit_at s.form (implicit_bytes (s.form == 33) s ++ rest) ≡ Ok
+    (s.implicit, rest)
 implicit_read s rest h = implicit_by s rest h (s.form == 33) refl
 
 abbrev pub behind_form : ℕ → Read ℕ → Read (Option Spec)
@@ -84,7 +89,8 @@ front_none : (r : Read (List Spec)) → r ≡ with_front [] r
 front_none (Ok read) = refl
 front_none (Err t) = refl
 
-specs_read : (specs : List Spec) (rest : List ℕ) → AreSpellable specs → specs_at (flat_map spec_bytes specs ++ (0 ∷ (0 ∷ rest))) ≡ Ok (specs, rest)
+specs_read : (specs : List Spec) (rest : List ℕ) → AreSpellable specs →
+    specs_at (flat_map spec_bytes specs ++ (0 ∷ (0 ∷ rest))) ≡ Ok (specs, rest)
 specs_read [] rest h = front_none (specs_at (0 ∷ (0 ∷ rest))) ∙ specs_end [] (0 ∷ (0 ∷ rest)) rest (end_read rest)
 specs_read (s ∷ specs) rest h =
     let more : List ℕ = flat_map spec_bytes specs ++ (0 ∷ (0 ∷ rest)) in
@@ -113,7 +119,8 @@ pub record CanSpell (specs : List Spec) (d : Declaration) : Type 0 where
   pub specs_can : AreSpellable specs
 
 abbrev pub of_tag : ℕ → ℕ → Read ℕ → Read Declaration
-of_tag place code r = and_then r (λ tag left1. and_then (whole (number_read 1 left1)) (λ children left2. and_then (specs_at left2) (λ specs rest.
+of_tag place code r = and_then r (λ tag left1. and_then (whole (number_read 1 left1))
+    (λ children left2. and_then (specs_at left2) (λ specs rest.
     Ok (record { place = place; code = code; tag = tag; children = nat_lt 0 children; specs = specs }, rest))))
 
 abbrev pub of_children : ℕ → ℕ → ℕ → Read ℕ → Read Declaration
@@ -139,7 +146,8 @@ declaration_read own d place rest h =
     ∙ append_assoc (uleb d.code) (uleb d.tag) ((flag d.children ∷ (body ++ (0 ∷ (0 ∷ [])))) ++ rest)
     ∙ ap (λ (l : List ℕ). uleb d.code ++ (uleb d.tag ++ (flag d.children ∷ l))) (append_assoc body (0 ∷ (0 ∷ [])) rest))
     ∙ ap (λ (r : Read ℕ). and_then r (declaration_or_end place)) (uleb_read d.code (uleb d.tag ++ (flag d.children ∷ tail)) h.code)
-    ∙ ap (λ (b : Bool). if b then Ok (None, uleb d.tag ++ (flag d.children ∷ tail)) else some_declaration (declaration_at place d.code (uleb d.tag ++ (flag d.children ∷ tail)))) code_test
+    ∙ ap (λ (b : Bool). if b then Ok (None, uleb d.tag ++ (flag d.children ∷ tail)) else some_declaration
+    (declaration_at place d.code (uleb d.tag ++ (flag d.children ∷ tail)))) code_test
     ∙ ap (λ (r : Read ℕ). some_declaration (of_tag place d.code r)) (uleb_read d.tag (flag d.children ∷ tail) h.tag)
     ∙ ap (λ (r : Read ℕ). some_declaration (of_children place d.code d.tag r)) (byte_read (flag d.children) tail)
     ∙ ap (λ (b : Bool). some_declaration (of_specs place d.code d.tag b (specs_at tail))) (flag_read d.children)
@@ -173,11 +181,9 @@ module _ (own : Declaration → Bool) where
     pub is : table_within (length left) size left ≡ record { list = new; end = Some (size - length rest) }
     pub changed : AreChangedDeclarations ds new
 
-  before_none : (t : Table) → t ≡ with_before [] t
-  before_none t = refl
-
   -- the changed declarations are read back in their order, up to the closing zero
-  pub table_read : (size : ℕ) (ds : List Declaration) (rest : List ℕ) → CanSpellAll ds → IsTableRead size ds (bytes_of_table ds ++ (0 ∷ rest)) rest
+  pub table_read : (size : ℕ) (ds : List Declaration) (rest : List ℕ) → CanSpellAll ds →
+      IsTableRead size ds (bytes_of_table ds ++ (0 ∷ rest)) rest
   table_read size [] rest h = record {
     new = [];
     is = table_ends [] size (0 ∷ rest) rest
@@ -188,8 +194,16 @@ module _ (own : Declaration → Bool) where
       let more : List ℕ = bytes_of_table ds ++ (0 ∷ rest) in
       let r : IsTableRead size ds more rest = table_read size ds rest h.1 in
       let left : List ℕ = declaration_bytes (own d) d ++ more in
-      let new : Declaration = record { place = size - length left; code = d.code; tag = d.tag; children = d.children; specs = changed_specs (own d) d } in
-      let left_is : bytes_of_table (d ∷ ds) ++ (0 ∷ rest) ≡ left = append_assoc (declaration_bytes (own d) d) (bytes_of_table ds) (0 ∷ rest) in
+      let new : Declaration = record {
+        place = size - length left;
+        code = d.code;
+        tag = d.tag;
+        children = d.children;
+        specs =
+            changed_specs (own d) d;
+      } in
+      let left_is : bytes_of_table (d ∷ ds) ++ (0 ∷ rest) ≡ left = append_assoc (declaration_bytes (own d) d) (bytes_of_table ds)
+      (0 ∷ rest) in
       record {
         new = new ∷ r.new;
         is =
@@ -205,12 +219,18 @@ module _ (own : Declaration → Bool) where
     pub is : find (λ d. d.code == code) new ≡ Some d
     pub changed : IsChangedDeclaration old d
 
-  found_step : (code : ℕ) (d o n : Declaration) (old new : List Declaration) (b : Bool) → (o.code == code) ≡ b → (n.code == code) ≡ b → IsChangedDeclaration o n →
+  found_step : (code : ℕ) (d o n : Declaration) (old new : List Declaration) (b : Bool) → (o.code == code) ≡ b → (n.code == code) ≡ b →
+      IsChangedDeclaration o n →
       (if b then Some o else find (λ d. d.code == code) old) ≡ Some d →
       (find (λ d. d.code == code) old ≡ Some d → IsFound d new code) → IsFound d (n ∷ new) code
   found_step code d o n old new true e f c g ih =
       let same : o ≡ d = ap (or_old o) g in
-      record { d = n; is = ap (λ (b : Bool). if b then Some n else find (λ d. d.code == code) new) f; changed = subst (λ (x : Declaration). IsChangedDeclaration x n) same c } where
+      record {
+        d = n;
+        is = ap (λ (b : Bool). if b then Some n else find (λ d. d.code == code) new) f;
+        changed = subst
+            (λ (x : Declaration). IsChangedDeclaration x n) same c;
+      } where
         or_old : Declaration → Option Declaration → Declaration
         or_old o (Some x) = x
         or_old o None = o
@@ -218,7 +238,8 @@ module _ (own : Declaration → Bool) where
       let r : IsFound d new code = ih g in
       record { d = r.d; is = ap (λ (b : Bool). if b then Some n else find (λ d. d.code == code) new) f ∙ r.is; changed = r.changed }
 
-  pub found : (code : ℕ) (d : Declaration) (old new : List Declaration) → AreChangedDeclarations old new → find (λ d. d.code == code) old ≡ Some d → IsFound d new code
+  pub found : (code : ℕ) (d : Declaration) (old new : List Declaration) → AreChangedDeclarations old new →
+      find (λ d. d.code == code) old ≡ Some d → IsFound d new code
   found code d [] new c g = absurd (cc)
   found code d (o ∷ old) [] c g = absurd c
   found code d (o ∷ old) (n ∷ new) c g =

@@ -1,5 +1,6 @@
 -- Tables of abbreviations that are spelled one behind another.
-use Rattle.std.proofs.Common.{◌≡◌, ◌≢◌, ◌<◌, ◌≤◌, ◌+◌, ◌++◌, ◌∙◌, ⊎_elim, ℕ, zero, suc, List, [], ◌∷◌, Bool, true, false, refl, ap, sym, subst, arith, length, take, get_or, append_assoc}
+use Rattle.std.proofs.Common.{◌≡◌, ◌≢◌, ◌<◌, ◌≤◌, ◌+◌, ◌++◌, ◌∙◌, ⊎_elim, ℕ, zero, suc, List, [], ◌∷◌, Bool, true, false, refl, ap, sym}
+use Rattle.std.proofs.Common.{subst, arith, length, take, get_or, append_assoc}
 use Rattle.std.specs.Prelude.{◌==◌, ◌||◌, if◌then◌else◌, filter, flat_map, nat_lt}
 use Rattle.std.specs.List.{list_any, range_with_len}
 use Rattle.std.proofs.lemmas.Bool.{cases_eq, eq-eqb, ne_eqb, eqb-true}
@@ -7,19 +8,16 @@ use Rattle.std.proofs.lemmas.Bool.Decides.{nat_tests}
 use Rattle.dw_unit.specs.Declarations.{table_at}
 use Rattle.dw_unit.specs.CompUnits.{Sections, Unit, units}
 use Rattle.dw_unit.specs.Changes.{changed_abbrevs, is_own, new_offset, table_bytes, table_offsets}
-use Rattle.dw_unit.proofs.NamedOffsets.{Ascends}
+use Rattle.dw_unit.proofs.NamedOffsets.{Ascends, later_up}
 use Rattle.dw_unit.proofs.Spelled.{bytes_of_table}
-
-rising_less : (a b : ℕ) (xs : List ℕ) → b ≤ a → Ascends a xs → Ascends b xs
-rising_less a b [] h up = tt
-rising_less a b (x ∷ xs) h up = (let g = up.0 in omega arith, up.1)
 
 kept_rising : (p : ℕ → Bool) (n a : ℕ) → Ascends a (filter p (range_with_len a n))
 kept_rising p zero a = tt
 kept_rising p (suc n) a = step (p a) (kept_rising p n (a + 1)) where
-  step : (b : Bool) → Ascends (a + 1) (filter p (range_with_len (a + 1) n)) → Ascends a (if b then a ∷ filter p (range_with_len (a + 1) n) else filter p (range_with_len (a + 1) n))
+  step : (b : Bool) → Ascends (a + 1) (filter p (range_with_len (a + 1) n)) →
+      Ascends a (if b then a ∷ filter p (range_with_len (a + 1) n) else filter p (range_with_len (a + 1) n))
   step true up = (omega arith, up)
-  step false up = rising_less (a + 1) a (filter p (range_with_len (a + 1) n)) (omega arith) up
+  step false up = later_up (a + 1) a (filter p (range_with_len (a + 1) n)) (omega arith) up
 
 abbrev pub among : ℕ → List ℕ → Bool
 among q xs = list_any (λ o. o == q) xs
@@ -31,7 +29,8 @@ kept_among p (suc n) a q h k e = ⊎_elim
     (λ (same : a ≡ q). here (p a) (subst (λ (x : ℕ). p x ≡ true) (sym same) e) same)
     (λ (ne : a ≢ q). later (p a) (kept_among p n (a + 1) q (omega arith) (omega arith) e))
     (cases_eq a q) where
-      here : (b : Bool) → b ≡ true → a ≡ q → among q (if b then a ∷ filter p (range_with_len (a + 1) n) else filter p (range_with_len (a + 1) n)) ≡ true
+      here : (b : Bool) → b ≡ true → a ≡ q → among q (if b then a ∷ filter p (range_with_len (a + 1) n) else filter p
+          (range_with_len (a + 1) n)) ≡ true
       here true f same = ap (λ (b : Bool). b || among q (filter p (range_with_len (a + 1) n))) (eq-eqb a q same)
       here false f same = absurd (cc)
 
@@ -49,7 +48,8 @@ none_below o a [] h up = refl
 none_below o a (x ∷ xs) h up =
     let g = up.0 in
     let out : nat_lt x o ≡ false = grind (arith, nat_tests) in
-    ap (λ (b : Bool). if b then x ∷ filter (λ x. nat_lt x o) xs else filter (λ x. nat_lt x o) xs) out ∙ none_below o (x + 1) xs (omega arith) up.1
+    ap (λ (b : Bool). if b then x ∷ filter (λ x. nat_lt x o) xs else filter (λ x. nat_lt x o) xs) out
+    ∙ none_below o (x + 1) xs (omega arith) up.1
 
 lowest : (q a : ℕ) (xs : List ℕ) → Ascends a xs → among q xs ≡ true → a ≤ q
 lowest q a [] up e = absurd (cc)
@@ -98,7 +98,8 @@ split_at f o a (x ∷ xs) up e = ⊎_elim
       is =
           ap (λ (l : List ℕ). f x ++ l) r.is
           ∙ sym (append_assoc (f x) (flat_map f (filter (λ y. nat_lt y o) xs)) (f o ++ r.rest))
-          ∙ sym (ap (λ (b : Bool). flat_map f (if b then x ∷ filter (λ y. nat_lt y o) xs else filter (λ y. nat_lt y o) xs) ++ (f o ++ r.rest)) in_front);
+          ∙ sym (ap (λ (b : Bool). flat_map f (if b then x ∷ filter (λ y. nat_lt y o) xs else filter (λ y. nat_lt y o) xs)
+          ++ (f o ++ r.rest)) in_front);
     })
     (cases_eq x o)
 
@@ -109,7 +110,8 @@ pub record IsSpelledAt (s : Sections) (offset : ℕ) : Type 0 where
   pub is : changed_abbrevs s ≡ before ++ (bytes_of_table (is_own s) (table_at s.abbrevs offset).list ++ (0 ∷ rest))
   pub at : length before ≡ new_offset s offset
 
-pub spelled_table : (s : Sections) (offset : ℕ) → offset < length s.abbrevs → list_any (λ (u : Unit). u.abbrev_offset == offset) (units s) ≡ true → IsSpelledAt s offset
+pub spelled_table : (s : Sections) (offset : ℕ) → offset < length s.abbrevs →
+    list_any (λ (u : Unit). u.abbrev_offset == offset) (units s) ≡ true → IsSpelledAt s offset
 spelled_table s offset inside named =
     let test : ℕ → Bool = λ o. list_any (λ (u : Unit). u.abbrev_offset == o) (units s) in
     let os : List ℕ = table_offsets s in
@@ -119,6 +121,7 @@ spelled_table s offset inside named =
     record {
       before = flat_map (table_bytes s) (filter (λ o. nat_lt o offset) os);
       rest = r.rest;
-      is = r.is ∙ ap (λ (l : List ℕ). flat_map (table_bytes s) (filter (λ o. nat_lt o offset) os) ++ l) (append_assoc table (0 ∷ []) r.rest);
+      is = r.is ∙ ap (λ (l : List ℕ). flat_map (table_bytes s) (filter (λ o. nat_lt o offset) os) ++ l)
+          (append_assoc table (0 ∷ []) r.rest);
       at = refl;
     }

@@ -1,5 +1,7 @@
 -- Steps of spelling declarations and tables one behind another.
-use Rattle.std.proofs.Common.{◌≡◌, ◌≢◌, ◌<◌, ◌+◌, ◌++◌, ◌∙◌, ⊎_elim, ℕ, zero, suc, List, [], ◌∷◌, Bool, true, false, cond, Option, Some, None, Ok, Err, Result, BTreeMap, nat_cmp, refl, ap, sym, subst, arith, length, take, drop, map, get_or, append_assoc, nat_lt}
+use Rattle.std.proofs.Common.{◌≡◌, ◌≢◌, ◌<◌, ◌+◌, ◌++◌, ◌∙◌, ⊎_elim, ℕ, zero, suc, List, [], ◌∷◌, Bool, true, false, cond, Option, Some}
+use Rattle.std.proofs.Common.{None, Ok, Err, Result, BTreeMap, nat_cmp, refl, ap, sym, subst, arith, length, take, drop, map, get_or}
+use Rattle.std.proofs.Common.{append_assoc, nat_lt}
 use Rattle.std.specs.Prelude.{if◌then◌else◌, filter, flat_map, option_map, is_some, ◌==◌, ◌||◌}
 use Rattle.std.specs.List.{list_any}
 use Rattle.std.specs.BTreeMap.{get, is_at}
@@ -8,9 +10,11 @@ use Rattle.std.proofs.lemmas.Bool.{cases_eq, eq-eqb, ne_eqb}
 use Rattle.std.proofs.lemmas.Grind.{common_steps, flat_map-append}
 use Rattle.std.proofs.lemmas.List.{append-nil, take_more}
 use Rattle.std.proofs.lemmas.List.Folds.{list_any-append}
+use Rattle.std.proofs.lemmas.Option.{same_Some}
 use Rattle.table_core.specs.DebugUnits.{Walked}
 use Rattle.table_core.specs.ReadSteps.{oks}
 use Rattle.std.specs.Option.{option_map_or}
+use Rattle.rb_bytes.proofs.Tests.{at_key}
 use Rattle.dw_unit.specs.declared.trouble.Trouble.{Trouble}
 use Rattle.dw_unit.specs.declared.declaration as code
 use Rattle.dw_unit.specs.declared.own_entry.OwnEntry.{OwnEntry}
@@ -22,7 +26,8 @@ use Rattle.dw_unit.specs.Told.{told_declaration}
 use Rattle.dw_unit.proofs.NamedOffsets.{ascends_from}
 use Rattle.dw_unit.proofs.SpelledSections.{below_it}
 
-pub spec_written : (out name form x : List ℕ) (b : Bool) → b ≡ false → (out ++ name) ++ form ≡ out ++ ((name ++ form) ++ (if b then x else []))
+pub spec_written : (out name form x : List ℕ) (b : Bool) → b ≡ false →
+    (out ++ name) ++ form ≡ out ++ ((name ++ form) ++ (if b then x else []))
 spec_written out name form x b e =
     append_assoc out name form ∙ ap (λ (l : List ℕ). out ++ l) (sym (append-nil (name ++ form)))
     ∙ sym (ap (λ (b : Bool). out ++ ((name ++ form) ++ (if b then x else []))) e)
@@ -31,19 +36,22 @@ flat_one : {X : Type 0} (f : X → List ℕ) (x : X) → flat_map f (x ∷ []) �
 flat_one f x = append-nil (f x)
 
 -- one thing more, of those that were written
-pub flat_more : {X : Type 0} (f : X → List ℕ) (xs : List X) (i : ℕ) (d : X) → i < length xs → flat_map f (take (i + 1) xs) ≡ flat_map f (take i xs) ++ f (get_or xs i d)
+pub flat_more : {X : Type 0} (f : X → List ℕ) (xs : List X) (i : ℕ) (d : X) → i < length xs →
+    flat_map f (take (i + 1) xs) ≡ flat_map f (take i xs) ++ f (get_or xs i d)
 flat_more f xs i d h =
     ap (flat_map f) (take_more xs i d h) ∙ flat_map-append f (take i xs) (get_or xs i d ∷ [])
     ∙ ap (λ (l : List ℕ). flat_map f (take i xs) ++ l) (flat_one f (get_or xs i d))
 
-pub out_more : {X : Type 0} (f : X → List ℕ) (xs : List X) (i : ℕ) (d : X) (first old new : List ℕ) → i < length xs → old ≡ first ++ flat_map f (take i xs) →
+pub out_more : {X : Type 0} (f : X → List ℕ) (xs : List X) (i : ℕ) (d : X) (first old new : List ℕ) → i < length xs →
+    old ≡ first ++ flat_map f (take i xs) →
     new ≡ old ++ f (get_or xs i d) → new ≡ first ++ flat_map f (take (i + 1) xs)
 out_more f xs i d first old new h e g =
     g ∙ ap (λ (l : List ℕ). l ++ f (get_or xs i d)) e ∙ append_assoc first (flat_map f (take i xs)) (f (get_or xs i d))
     ∙ ap (λ (l : List ℕ). first ++ l) (sym (flat_more f xs i d h))
 
 -- the same of lists in lists
-pub flat_flat : {X Y : Type 0} (f : Y → List ℕ) (g : X → List Y) (xs : List X) → flat_map f (flat_map g xs) ≡ flat_map (λ x. flat_map f (g x)) xs
+pub flat_flat : {X Y : Type 0} (f : Y → List ℕ) (g : X → List Y) (xs : List X) →
+    flat_map f (flat_map g xs) ≡ flat_map (λ x. flat_map f (g x)) xs
 flat_flat f g [] = refl
 flat_flat f g (x ∷ xs) = flat_map-append f (g x) (flat_map g xs) ∙ ap (λ (l : List ℕ). flat_map f (g x) ++ l) (flat_flat f g xs)
 
@@ -64,33 +72,31 @@ table_more f x rest end old new e =
 
 -- Maps with one key more
 
-at_key : (k q : ℕ) → k ≢ q → is_at (nat_cmp k) q ≡ false
-at_key k q ne = grind (arith, common_steps)
-
 at_same : (k : ℕ) → is_at (nat_cmp k) k ≡ true
 at_same k = grind (arith, common_steps)
 
-some_is : {X : Type 0} {x y : X} → Some x ≡ Some y → x ≡ y
-some_is e = cc
-
 -- what each key has
-pub keys_more : {X : Type 0} (P : ℕ → X → Type 0) (old new : BTreeMap ℕ X) (k : ℕ) (v : X) → ((q : ℕ) (n : X) → get nat_cmp old q ≡ Some n → P q n) → P k v →
-    ((q : ℕ) → get nat_cmp new q ≡ cond (is_at (nat_cmp k) q) (Some v) (get nat_cmp old q)) → (q : ℕ) (n : X) → get nat_cmp new q ≡ Some n → P q n
+pub keys_more : {X : Type 0} (P : ℕ → X → Type 0) (old new : BTreeMap ℕ X) (k : ℕ) (v : X) →
+    ((q : ℕ) (n : X) → get nat_cmp old q ≡ Some n → P q n) → P k v →
+    ((q : ℕ) → get nat_cmp new q ≡ cond (is_at (nat_cmp k) q) (Some v) (get nat_cmp old q)) → (q : ℕ) (n : X) →
+    get nat_cmp new q ≡ Some n → P q n
 keys_more P old new k v before now is q n e = ⊎_elim
     (λ (same : k ≡ q).
     let found : get nat_cmp new q ≡ Some v = is q ∙ ap (λ (x : ℕ). cond (is_at (nat_cmp k) x) (Some v) (get nat_cmp old q)) (sym same)
     ∙ ap (λ (b : Bool). cond b (Some v) (get nat_cmp old q)) (at_same k) in
-    subst (λ (x : _). P q x) (some_is (sym found ∙ e)) (subst (λ (x : ℕ). P x v) same now))
+    subst (λ (x : _). P q x) (same_Some _ _ (sym found ∙ e)) (subst (λ (x : ℕ). P x v) same now))
     (λ (ne : k ≢ q).
     before q n (sym (is q ∙ ap (λ (b : Bool). cond b (Some v) (get nat_cmp old q)) (at_key k q ne)) ∙ e))
     (cases_eq k q)
 
 -- whether a key is there
-pub key_more : {X : Type 0} (old new : BTreeMap ℕ X) (k : ℕ) (v : X) → ((q : ℕ) → get nat_cmp new q ≡ cond (is_at (nat_cmp k) q) (Some v) (get nat_cmp old q)) → (q : ℕ) →
+pub key_more : {X : Type 0} (old new : BTreeMap ℕ X) (k : ℕ) (v : X) →
+    ((q : ℕ) → get nat_cmp new q ≡ cond (is_at (nat_cmp k) q) (Some v) (get nat_cmp old q)) → (q : ℕ) →
     is_some (get nat_cmp new q) ≡ (is_some (get nat_cmp old q) || (k == q))
 key_more old new k v is q = ⊎_elim
     (λ (same : k ≡ q).
-    ap is_some (is q ∙ ap (λ (x : ℕ). cond (is_at (nat_cmp k) x) (Some v) (get nat_cmp old q)) (sym same) ∙ ap (λ (b : Bool). cond b (Some v) (get nat_cmp old q)) (at_same k))
+    ap is_some (is q ∙ ap (λ (x : ℕ). cond (is_at (nat_cmp k) x) (Some v) (get nat_cmp old q)) (sym same)
+    ∙ ap (λ (b : Bool). cond b (Some v) (get nat_cmp old q)) (at_same k))
     ∙ sym (ap (λ (b : Bool). is_some (get nat_cmp old q) || b) (eq-eqb k q same) ∙ or_true (is_some (get nat_cmp old q))))
     (λ (ne : k ≢ q).
     ap is_some (is q ∙ ap (λ (b : Bool). cond b (Some v) (get nat_cmp old q)) (at_key k q ne))
@@ -139,5 +145,6 @@ own_by q u o e = step (own_entry u) ∙ ap (own_test q) (sym e) where
 
 -- Offsets that ascend
 
-pub below_offset : (offsets : List ℕ) (i d : ℕ) → IsStrictlyIncreasing offsets → i < length offsets → filter (λ o. nat_lt o (get_or offsets i d)) offsets ≡ take i offsets
+pub below_offset : (offsets : List ℕ) (i d : ℕ) → IsStrictlyIncreasing offsets → i < length offsets →
+    filter (λ o. nat_lt o (get_or offsets i d)) offsets ≡ take i offsets
 below_offset offsets i d rising h = below_it 0 i d offsets (ascends_from 0 offsets rising (λ h. omega arith)) h

@@ -1,12 +1,15 @@
 -- The table that begins with a declaration of another.
-use Rattle.std.proofs.Common.{◌≡◌, ◌≤◌, ◌+◌, ◌-◌, ◌++◌, ℕ, zero, suc, List, [], ◌∷◌, Bool, true, false, Option, Some, None, Ok, Err, Result, refl, ap, sym, ◌∙◌, arith, length, drop, length-append, length-drop}
+use Rattle.std.proofs.Common.{◌≡◌, ◌≤◌, ◌+◌, ◌-◌, ◌++◌, ℕ, zero, suc, List, ◌∷◌, Bool, true, false, Option, Some, None, Ok, Err}
+use Rattle.std.proofs.Common.{refl, ap, sym, ◌∙◌, arith, length, drop, length-append, length-drop}
 use Rattle.std.specs.Prelude.{◌==◌, if◌then◌else◌, nat_lt, slice_get}
-use Rattle.std.proofs.lemmas.List.{drop_at, drop-drop}
+use Rattle.std.proofs.lemmas.List.{drop_at, drop-drop, drop_all}
 use Rattle.rb_bytes.specs.Readers.{and_then, number_read}
 use Rattle.rb_bytes.specs.Leb.{uleb_at}
+use Rattle.rb_bytes.proofs.Results.{same_ok}
 use Rattle.dw_unit.specs.declared.declaration.Spec.{Spec}
 use Rattle.dw_unit.specs.Trouble.{Read, whole}
-use Rattle.dw_unit.specs.Declarations.{Declaration, Table, specs_at, declaration_at, declaration_or_end, next_declaration, table_within, table_at}
+use Rattle.dw_unit.specs.Declarations.{Declaration, Table, specs_at, declaration_at, declaration_or_end, next_declaration, table_within}
+use Rattle.dw_unit.specs.Declarations.{table_at}
 use Rattle.dw_unit.specs.TableStarts.{table_from}
 use Rattle.dw_unit.proofs.Readers.{next_declaration_local, declaration_forward, table_step, table_enough}
 
@@ -27,15 +30,14 @@ with_children place code tag children left = and_then (specs_at left) (with_spec
 abbrev with_tag : ℕ → ℕ → ℕ → List ℕ → Read Declaration
 with_tag place code tag left = and_then (whole (number_read 1 left)) (with_children place code tag)
 
-ok_value : {X E : Type 0} {x y : X} → ◌≡◌ {A = Result X E} (Ok x) (Ok y) → x ≡ y
-ok_value e = cc
-
-declaration_at_place : (place code : ℕ) (left : List ℕ) (z : Declaration × List ℕ) → declaration_at place code left ≡ Ok z → z.0.place ≡ place
+declaration_at_place : (place code : ℕ) (left : List ℕ) (z : Declaration × List ℕ) → declaration_at place code left ≡ Ok z →
+    z.0.place ≡ place
 declaration_at_place place code left =
     let P : Declaration × List ℕ → Type 0 = λ z. z.0.place ≡ place in
     then_holds P (whole (uleb_at left)) (with_tag place code) (λ tag left1.
     then_holds P (whole (number_read 1 left1)) (with_children place code tag) (λ children left2.
-    then_holds P (specs_at left2) (with_specs place code tag children) (λ specs rest z e. sym (ap (λ (z : Declaration × List ℕ). z.0.place) (ok_value e)))))
+    then_holds P (specs_at left2) (with_specs place code tag children)
+    (λ specs rest z e. sym (ap (λ (z : Declaration × List ℕ). z.0.place) (same_ok e)))))
 
 abbrev Found : Type 0
 Found = Option Declaration × List ℕ
@@ -47,19 +49,21 @@ abbrev found : Declaration → List ℕ → Read (Option Declaration)
 found d rest = Ok (Some d, rest)
 
 behind_code : (place code : ℕ) (left : List ℕ) (z : Found) (b : Bool) →
-    ◌≡◌ {A = Read (Option Declaration)} (if b then Ok (None, left) else and_then (declaration_at place code left) found) (Ok z) → StandsAt place z
-behind_code place code left z true e = λ d f. let n : None ≡ z.0 = ap (λ (z : Found). z.0) (ok_value e) in absurd (cc)
+    ◌≡◌ {A = Read (Option Declaration)} (if b then Ok (None, left) else and_then (declaration_at place code left) found) (Ok z) →
+    StandsAt place z
+behind_code place code left z true e = λ d f. let n : None ≡ z.0 = ap (λ (z : Found). z.0) (same_ok e) in absurd (cc)
 behind_code place code left z false e = of (declaration_at place code left) refl e where
   of : (r : Read Declaration) → declaration_at place code left ≡ r → and_then r found ≡ Ok z → StandsAt place z
   of (Err t) is e = absurd (cc)
   of (Ok read) is e = λ d f.
-      let s : Some read.0 ≡ z.0 = ap (λ (z : Found). z.0) (ok_value e) in
+      let s : Some read.0 ≡ z.0 = ap (λ (z : Found). z.0) (same_ok e) in
       let same : read.0 ≡ d = cc in
       ap (λ (d : Declaration). d.place) (sym same) ∙ declaration_at_place place code left read is
 
 declaration_place : (place : ℕ) (left rest : List ℕ) (d : Declaration) → next_declaration place left ≡ Ok (Some d, rest) → d.place ≡ place
 declaration_place place left rest d e =
-    then_holds (StandsAt place) (whole (uleb_at left)) (declaration_or_end place) (λ code left1 z. behind_code place code left1 z (code == 0)) (Some d, rest) e d refl
+    then_holds (StandsAt place) (whole (uleb_at left)) (declaration_or_end place)
+    (λ code left1 z. behind_code place code left1 z (code == 0)) (Some d, rest) e d refl
 
 -- the bytes from a place on
 
@@ -93,11 +97,13 @@ module _ (section : List ℕ) where
       ∙ ap (λ (t : Table). record { list = x ∷ t.list; end = t.end })
       (table_enough (length left) (length rest) (length section) rest (omega arith) (omega arith))
 
-  first_here : (left rest : List ℕ) (x d : Declaration) → IsRest section left → next_declaration (length section - length left) left ≡ Ok (Some x, rest) →
+  first_here : (left rest : List ℕ) (x d : Declaration) → IsRest section left →
+      next_declaration (length section - length left) left ≡ Ok (Some x, rest) →
       x ≡ d → Begins section left 0 d
   first_here left rest x d is e same =
       let inside = rest_inside section left is in
-      let place : d.place ≡ length section - length left = ap (λ (d : Declaration). d.place) (sym same) ∙ declaration_place (length section - length left) left rest x e in
+      let place : d.place ≡ length section - length left = ap (λ (d : Declaration). d.place) (sym same)
+      ∙ declaration_place (length section - length left) left rest x e in
       ap (table_at section) place ∙ ap (table_within (length section) (length section)) (sym is)
       ∙ table_enough (length section) (length left) (length section) left inside (omega arith)
 
@@ -107,7 +113,8 @@ module _ (section : List ℕ) where
   first_of_front left d is e (Err t) f =
       let s : None ≡ Some d = ap (λ (t : Table). slice_get t.list 0) (sym (table_step (length section) left (Err t) f)) ∙ e in absurd (cc)
   first_of_front left d is e (Ok (None, rest)) f =
-      let s : None ≡ Some d = ap (λ (t : Table). slice_get t.list 0) (sym (table_step (length section) left (Ok (None, rest)) f)) ∙ e in absurd (cc)
+      let s : None ≡ Some d = ap (λ (t : Table). slice_get t.list 0) (sym (table_step (length section) left (Ok (None, rest)) f)) ∙ e in
+      absurd (cc)
   first_of_front left d is e (Ok (Some x, rest)) f =
       let s : Some x ≡ Some d = ap (λ (t : Table). slice_get t.list 0) (sym (step_is left rest x f)) ∙ e in
       first_here left rest x d is f cc
@@ -117,17 +124,22 @@ module _ (section : List ℕ) where
       ((rest : List ℕ) → IsRest section rest → slice_get (rest_table section rest).list j ≡ Some d → Begins section rest j d) →
       (r : Read (Option Declaration)) → next_declaration (length section - length left) left ≡ r → Begins section left (suc j) d
   by_front left j d is e ih (Err t) f =
-      let s : None ≡ Some d = ap (λ (t : Table). slice_get t.list (suc j)) (sym (table_step (length section) left (Err t) f)) ∙ e in absurd (cc)
+      let s : None ≡ Some d = ap (λ (t : Table). slice_get t.list (suc j)) (sym (table_step (length section) left (Err t) f)) ∙ e in
+      absurd (cc)
   by_front left j d is e ih (Ok (None, rest)) f =
-      let s : None ≡ Some d = ap (λ (t : Table). slice_get t.list (suc j)) (sym (table_step (length section) left (Ok (None, rest)) f)) ∙ e in absurd (cc)
+      let s : None ≡ Some d = ap (λ (t : Table). slice_get t.list (suc j)) (sym (table_step (length section) left (Ok (None, rest)) f))
+      ∙ e in absurd (cc)
   by_front left j d is e ih (Ok (Some x, rest)) f =
       let t = next_declaration_local (length section - length left) (Some x) left rest f in
-      let s : slice_get (rest_table section rest).list j ≡ Some d = ap (λ (t : Table). slice_get t.list (suc j)) (sym (step_is left rest x f)) ∙ e in
+      let s : slice_get (rest_table section rest).list j ≡ Some d = ap (λ (t : Table). slice_get t.list (suc j))
+      (sym (step_is left rest x f)) ∙ e in
       ih rest (rest_of_rest section left t.front rest is t.is) s ∙ ap (table_from (suc j)) (sym (step_is left rest x f))
 
-  begins : (i : ℕ) (left : List ℕ) (d : Declaration) → IsRest section left → slice_get (rest_table section left).list i ≡ Some d → Begins section left i d
+  begins : (i : ℕ) (left : List ℕ) (d : Declaration) → IsRest section left → slice_get (rest_table section left).list i ≡ Some d →
+      Begins section left i d
   begins zero left d is e = first_of_front left d is e (next_declaration (length section - length left) left) refl
-  begins (suc i) left d is e = by_front left i d is e (λ rest. begins i rest d) (next_declaration (length section - length left) left) refl
+  begins (suc i) left d is e = by_front left i d is e (λ rest. begins i rest d) (next_declaration (length section - length left) left)
+      refl
 
 -- the table of an offset within the section
 at_rest : (section : List ℕ) (offset : ℕ) → offset ≤ length section → table_at section offset ≡ rest_table section (drop offset section)
@@ -140,18 +152,16 @@ rest_at section offset h =
     let size = length-drop offset section in
     let n : length section - length (drop offset section) ≡ offset = omega arith in ap (λ (k : ℕ). drop k section) (sym n)
 
-pub table_from_declaration : (section : List ℕ) (offset i : ℕ) (d : Declaration) → offset ≤ length section → slice_get (table_at section offset).list i ≡ Some d →
+pub table_from_declaration : (section : List ℕ) (offset i : ℕ) (d : Declaration) → offset ≤ length section →
+    slice_get (table_at section offset).list i ≡ Some d →
     table_at section d.place ≡ table_from i (table_at section offset)
 table_from_declaration section offset i d h e =
-    begins section i (drop offset section) d (rest_at section offset h) (ap (λ (t : Table). slice_get t.list i) (sym (at_rest section offset h)) ∙ e)
+    begins section i (drop offset section) d (rest_at section offset h)
+    (ap (λ (t : Table). slice_get t.list i) (sym (at_rest section offset h)) ∙ e)
     ∙ ap (table_from i) (sym (at_rest section offset h))
 
-drop-long : (n : ℕ) (xs : List ℕ) → length xs ≤ n → drop n xs ≡ []
-drop-long zero [] h = refl
-drop-long zero (x ∷ xs) h = absurd (omega arith)
-drop-long (suc n) [] h = refl
-drop-long (suc n) (x ∷ xs) h = drop-long n xs (omega arith)
-
 -- an offset past the end
-pub table_past : (section : List ℕ) (offset from : ℕ) → length section ≤ offset → length section ≤ from → table_at section offset ≡ table_at section from
-table_past section offset from h k = ap (table_within (length section) (length section)) (drop-long offset section h ∙ sym (drop-long from section k))
+pub table_past : (section : List ℕ) (offset from : ℕ) → length section ≤ offset → length section ≤ from →
+    table_at section offset ≡ table_at section from
+table_past section offset from h k = ap (table_within (length section) (length section)) (drop_all offset section h
+    ∙ sym (drop_all from section k))

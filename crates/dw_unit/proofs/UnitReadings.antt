@@ -1,5 +1,6 @@
 -- What is read of one unit more.
-use Rattle.std.proofs.Common.{◌≡◌, ◌∙◌, ◌++◌, ℕ, Bool, true, false, Option, Some, None, Ok, Err, Result, List, [], ◌∷◌, refl, sym, ap, subst, map, option_map}
+use Rattle.std.proofs.Common.{◌≡◌, ◌∙◌, ◌++◌, ℕ, Bool, true, false, Option, Some, None, Ok, Err, Result, List, [], ◌∷◌, refl, sym, ap}
+use Rattle.std.proofs.Common.{subst, map, option_map}
 use Rattle.std.specs.Prelude.{flat_map, MatchOption, not, if◌then◌else◌, filter}
 use Rattle.std.specs.Global.{Vec}
 use Rattle.std.specs.List.{find}
@@ -9,17 +10,18 @@ use Rattle.std.proofs.lemmas.List.Concat.{flat_map-append}
 use Rattle.std.proofs.lemmas.List.Elements.{filter-append}
 use Rattle.std.proofs.lemmas.List.Folds.{find-append}
 use Rattle.table_core.specs.ReadSteps.{lower, least, oks}
-use Rattle.rb_bytes.specs.Readers.{and_then}
 use Rattle.table_core.specs.DebugUnits.{Walked, walked, first_place}
 use Rattle.dw_unit.specs.declared.trouble.Trouble.{Trouble}
 use Rattle.dw_unit.specs.declared.unit_reading.UnitReading.{UnitReading}
 use Rattle.dw_unit.specs.declared.unit_reading.Readings.{Readings}
-use Rattle.dw_unit.specs.CompUnits.{Sections, Unit, unit_of, unit_by, header_of, end_of}
-use Rattle.dw_unit.specs.Declarations.{Declaration, table_at, has_bad_form, has_bad_high}
-use Rattle.dw_unit.specs.Faults.{declarations_of, named_declarations, places_with, unformed, fails, is_sound_unit, is_bad, bad_address_table, HasDwarfFault, unit_fault_places}
+use Rattle.dw_unit.specs.CompUnits.{Sections, Unit, unit_of}
+use Rattle.dw_unit.specs.Declarations.{Declaration, has_bad_form, has_bad_high}
+use Rattle.dw_unit.specs.Faults.{declarations_of, places_with, unformed, fails, is_sound_unit, is_bad, bad_address_table}
+use Rattle.dw_unit.specs.Faults.{HasDwarfFault, unit_fault_places}
 use Rattle.rb_bytes.specs.FirstFault.{IsFree}
 use Rattle.rb_bytes.specs.declared.fault.FaultKind.TheVariants as fault
-use Rattle.dw_unit.specs.Trouble.{Read}
+use Rattle.rb_bytes.proofs.Results.{same_ok}
+use Rattle.rb_bytes.proofs.Options.{both_none}
 use Rattle.dw_unit.specs.ListedEntries.{ListedEntry, listed, listed_entries}
 use Rattle.dw_unit.specs.ListedUnits.{listed_unit, plain_unit}
 use Rattle.dw_unit.specs.UnitReadings.{IsBehind, IsReading, AreReadings, listed_all}
@@ -28,54 +30,16 @@ use Rattle.dw_unit.proofs.SoundUnits.{sound_listed}
 
 -- One unit
 
-unit_is : (abbrevs : List ℕ) (w : Walked) (offset : ℕ) (left : List ℕ) → header_of w ≡ Ok (offset, left) →
-    unit_of abbrevs w ≡ unit_by w.place (end_of w) offset (table_at abbrevs offset) left
-unit_is abbrevs w offset left e = ap (λ (r : Read ℕ). and_then r (λ offset left. unit_by w.place (end_of w) offset (table_at abbrevs offset) left)) e
-
--- without a header
-pub headless : (abbrevs addr : List ℕ) (w : Walked) (e : Trouble) → header_of w ≡ Err e →
-    IsReading abbrevs addr w (record { bad_form = None; bad_high = None; unformed = least (unformed (Err e)); entries = None })
-headless abbrevs addr w e is =
-    let u : unit_of abbrevs w ≡ Err e =
-    ap (λ (r : Read ℕ). and_then r (λ offset left. unit_by w.place (end_of w) offset (table_at abbrevs offset) left)) is in
-    record {
-      form = sym (ap (λ (r : Read ℕ). least (places_with has_bad_form (named_declarations abbrevs r))) is);
-      high = sym (ap (λ (r : Read ℕ). least (places_with has_bad_high (named_declarations abbrevs r))) is);
-      behind = record {
-        unformed = sym (ap (λ (r : Result Unit Trouble). least (unformed r)) u);
-        entries = ap (fails (is_sound_unit addr)) u;
-      };
-    }
-
--- with one
-pub headed : (abbrevs addr : List ℕ) (w : Walked) (offset : ℕ) (left : List ℕ) (x : UnitReading) → header_of w ≡ Ok (offset, left) →
-    x.bad_form ≡ least (places_with has_bad_form (table_at abbrevs offset).list) →
-    x.bad_high ≡ least (places_with has_bad_high (table_at abbrevs offset).list) →
-    IsBehind addr (unit_by w.place (end_of w) offset (table_at abbrevs offset) left) x → IsReading abbrevs addr w x
-headed abbrevs addr w offset left x header form high behind = record {
-  form = form ∙ sym (ap (λ (r : Read ℕ). least (places_with has_bad_form (named_declarations abbrevs r))) header);
-  high = high ∙ sym (ap (λ (r : Read ℕ). least (places_with has_bad_high (named_declarations abbrevs r))) header);
-  behind = subst (λ (r : Result Unit Trouble). IsBehind addr r x) (sym (unit_is abbrevs w offset left header)) behind;
-}
-
 -- What stands behind a header
 
--- what can't be read
-pub broken_unit : (addr : List ℕ) (u : Result Unit Trouble) (e : Trouble) (x : UnitReading) → u ≡ Err e → x.unformed ≡ least (unformed (Err e)) → x.entries ≡ None →
-    IsBehind addr u x
-broken_unit addr u e x is unformed_is none = record {
-  unformed = unformed_is ∙ sym (ap (λ (r : Result Unit Trouble). least (unformed r)) is);
-  entries = subst (λ o. MatchOption o (fails (is_sound_unit addr) u ≡ true) (λ es. (fails (is_sound_unit addr) u ≡ false) × (listed_unit u ≡ Ok es.items)))
-      (sym none) (ap (fails (is_sound_unit addr)) is);
-}
-
-same_ok : {X E : Type 0} {x y : X} → ◌≡◌ {A = Result X E} (Ok x) (Ok y) → x ≡ y
-same_ok e = cc
-
-found_sound : (addr : List ℕ) (es : List ListedEntry) (r : Result Unit Trouble) → listed_unit r ≡ Ok es → (b : Bool) → is_sound_unit addr (plain_unit es) ≡ b →
+found_sound : (addr : List ℕ) (es : List ListedEntry) (r : Result Unit Trouble) → listed_unit r ≡ Ok es → (b : Bool) →
+    is_sound_unit addr (plain_unit es) ≡ b →
     (fails (is_sound_unit addr) r ≡ not b) × (least (unformed r) ≡ None)
-found_sound addr es (Ok u) e b is =
-    (ap not (sym (sound_listed addr u.place u.abbrev_offset u.entries) ∙ ap (λ (l : List ListedEntry). is_sound_unit addr (plain_unit l)) (same_ok e) ∙ is), refl)
+found_sound addr es (Ok u) e b is = (
+  ap not (sym (sound_listed addr u.place u.abbrev_offset u.entries)
+      ∙ ap (λ (l : List ListedEntry). is_sound_unit addr (plain_unit l)) (same_ok e) ∙ is),
+  refl,
+)
 found_sound addr es (Err t) e b is = absurd (cc)
 
 -- what can be read, and fails a test
@@ -83,7 +47,8 @@ pub unsound_unit : (addr : List ℕ) (u : Result Unit Trouble) (es : List Listed
     is_sound_unit addr (plain_unit es) ≡ false → x.unformed ≡ None → x.entries ≡ None → IsBehind addr u x
 unsound_unit addr u es x e t unformed_is none = let f = found_sound addr es u e false t in record {
   unformed = unformed_is ∙ sym f.1;
-  entries = subst (λ o. MatchOption o (fails (is_sound_unit addr) u ≡ true) (λ es. (fails (is_sound_unit addr) u ≡ false) × (listed_unit u ≡ Ok es.items)))
+  entries = subst (λ o. MatchOption o (fails (is_sound_unit addr) u ≡ true)
+      (λ es. (fails (is_sound_unit addr) u ≡ false) × (listed_unit u ≡ Ok es.items)))
       (sym none) f.0;
 }
 
@@ -92,14 +57,17 @@ pub sound_unit : (addr : List ℕ) (u : Result Unit Trouble) (x : UnitReading) (
     is_sound_unit addr (plain_unit es.items) ≡ true → x.unformed ≡ None → x.entries ≡ Some es → IsBehind addr u x
 sound_unit addr u x es e t unformed_is some = let f = found_sound addr es.items u e true t in record {
   unformed = unformed_is ∙ sym f.1;
-  entries = subst (λ o. MatchOption o (fails (is_sound_unit addr) u ≡ true) (λ es. (fails (is_sound_unit addr) u ≡ false) × (listed_unit u ≡ Ok es.items)))
+  entries = subst (λ o. MatchOption o (fails (is_sound_unit addr) u ≡ true)
+      (λ es. (fails (is_sound_unit addr) u ≡ false) × (listed_unit u ≡ Ok es.items)))
       (sym some) (f.0, e);
 }
 
 -- Several units
 
-places_append : (test : Declaration → Bool) (xs ys : List Declaration) → places_with test (xs ++ ys) ≡ places_with test xs ++ places_with test ys
-places_append test xs ys = ap (map (λ (d : Declaration). d.place)) (filter-append test xs ys) ∙ map-append (λ (d : Declaration). d.place) (filter test xs) (filter test ys)
+places_append : (test : Declaration → Bool) (xs ys : List Declaration) → places_with test (xs ++ ys) ≡ places_with test xs
+    ++ places_with test ys
+places_append test xs ys = ap (map (λ (d : Declaration). d.place)) (filter-append test xs ys)
+    ∙ map-append (λ (d : Declaration). d.place) (filter test xs) (filter test ys)
 
 pub flat-more : {X Y : Type 0} (f : X → List Y) (xs : List X) (x : X) → flat_map f (xs ++ x ∷ []) ≡ flat_map f xs ++ f x
 flat-more f xs x = flat_map-append f xs (x ∷ []) ∙ ap (λ l. flat_map f xs ++ l) (append-nil (f x))
@@ -121,10 +89,13 @@ unformed_more abbrevs ws w =
 
 first_more : (test : Walked → Bool) (ws : List Walked) (w : Walked) →
     first_place test (ws ++ w ∷ []) ≡ option_or (first_place test ws) (first_place test (w ∷ []))
-first_more test ws w = ap (option_map (λ (u : Walked). u.place)) (find-append test ws (w ∷ [])) ∙ step (find test ws) (find test (w ∷ [])) where
-  step : (x y : Option Walked) → option_map (λ (u : Walked). u.place) (option_or x y) ≡ option_or (option_map (λ (u : Walked). u.place) x) (option_map (λ (u : Walked). u.place) y)
-  step None y = refl
-  step (Some x) y = refl
+first_more test ws w = ap (option_map (λ (u : Walked). u.place)) (find-append test ws (w ∷ []))
+    ∙ step (find test ws) (find test (w ∷ [])) where
+      step : (x y : Option Walked) → option_map (λ (u : Walked). u.place) (option_or x y) ≡ option_or
+          (option_map (λ (u : Walked). u.place) x)
+          (option_map (λ (u : Walked). u.place) y)
+      step None y = refl
+      step (Some x) y = refl
 
 -- one was bad before
 pub bad_before : (test : Walked → Bool) (ws : List Walked) (w : Walked) (place : ℕ) → first_place test ws ≡ Some place →
@@ -147,13 +118,15 @@ oks-append [] ys = refl
 oks-append (Ok x ∷ xs) ys = ap (λ l. x ∷ l) (oks-append xs ys)
 oks-append (Err e ∷ xs) ys = oks-append xs ys
 
-one_listed : (r : Result Unit Trouble) (es : List ListedEntry) → listed_unit r ≡ Ok es → map listed (flat_map (λ (u : Unit). u.entries) (oks (r ∷ []))) ≡ es
+one_listed : (r : Result Unit Trouble) (es : List ListedEntry) → listed_unit r ≡ Ok es →
+    map listed (flat_map (λ (u : Unit). u.entries) (oks (r ∷ []))) ≡ es
 one_listed (Ok u) es e = ap (map listed) (append-nil u.entries) ∙ same e where
   same : ◌≡◌ {A = Result (List ListedEntry) Trouble} (Ok (map listed u.entries)) (Ok es) → map listed u.entries ≡ es
   same e = same_ok e
 one_listed (Err t) es e = absurd (cc)
 
-pub listed_more : (abbrevs : List ℕ) (ws : List Walked) (w : Walked) (es : List ListedEntry) → listed_unit (unit_of abbrevs w) ≡ Ok es →
+pub listed_more : (abbrevs : List ℕ) (ws : List Walked) (w : Walked) (es : List ListedEntry) →
+    listed_unit (unit_of abbrevs w) ≡ Ok es →
     listed_all abbrevs (ws ++ w ∷ []) ≡ listed_all abbrevs ws ++ es
 listed_more abbrevs ws w es e =
     let of = unit_of abbrevs in
@@ -178,9 +151,11 @@ module _ (abbrevs addr : List ℕ) (ws : List Walked) (w : Walked) (r : Readings
       AreReadings abbrevs addr (ws ++ w ∷ []) y
   with_bad bad_is entries_are = record {
     form = form ∙ ap (λ (o : Option ℕ). two o x.bad_form) are.form
-        ∙ ap (two (least (places_with has_bad_form (flat_map (declarations_of abbrevs) ws)))) is.form ∙ sym (places_more has_bad_form abbrevs ws w);
+        ∙ ap (two (least (places_with has_bad_form (flat_map (declarations_of abbrevs) ws)))) is.form
+        ∙ sym (places_more has_bad_form abbrevs ws w);
     high = high ∙ ap (λ (o : Option ℕ). two o x.bad_high) are.high
-        ∙ ap (two (least (places_with has_bad_high (flat_map (declarations_of abbrevs) ws)))) is.high ∙ sym (places_more has_bad_high abbrevs ws w);
+        ∙ ap (two (least (places_with has_bad_high (flat_map (declarations_of abbrevs) ws)))) is.high
+        ∙ sym (places_more has_bad_high abbrevs ws w);
     unformed = unformed_is ∙ ap (λ (o : Option ℕ). two o x.unformed) are.unformed
         ∙ ap (two (least (flat_map (λ w. unformed (unit_of abbrevs w)) ws))) is.behind.unformed ∙ sym (unformed_more abbrevs ws w);
     bad = bad_is;
@@ -193,29 +168,30 @@ module _ (abbrevs addr : List ℕ) (ws : List Walked) (w : Walked) (r : Readings
 
   entries_by : (o : Option (Vec ListedEntry)) → x.entries ≡ o → MatchOption o (fails_here w ≡ true)
       (λ es. (fails_here w ≡ false) × (listed_unit (unit_of abbrevs w) ≡ Ok es.items))
-  entries_by o e = subst (λ o. MatchOption o (fails_here w ≡ true) (λ es. (fails_here w ≡ false) × (listed_unit (unit_of abbrevs w) ≡ Ok es.items)))
+  entries_by o e = subst (λ o. MatchOption o (fails_here w ≡ true)
+      (λ es. (fails_here w ≡ false) × (listed_unit (unit_of abbrevs w) ≡ Ok es.items)))
       e is.behind.entries
 
   pub bad_first : r.bad ≡ None → x.entries ≡ None → y.bad ≡ Some w.place → AreReadings abbrevs addr (ws ++ w ∷ []) y
   bad_first before none now = with_bad (now ∙ sym (bad_now fails_here ws w (sym are.bad ∙ before) (entries_by None none)))
       (λ none. let e : None ≡ Some w.place = sym none ∙ now in absurd (cc))
 
-  pub good_more : (es : Vec ListedEntry) → r.bad ≡ None → x.entries ≡ Some es → y.bad ≡ None → y.entries.items ≡ r.entries.items ++ es.items →
+  pub good_more : (es : Vec ListedEntry) → r.bad ≡ None → x.entries ≡ Some es → y.bad ≡ None →
+      y.entries.items ≡ r.entries.items ++ es.items →
       AreReadings abbrevs addr (ws ++ w ∷ []) y
   good_more es before some now more =
       let read = entries_by (Some es) some in
       with_bad (now ∙ sym (still_good fails_here ws w (sym are.bad ∙ before) read.0))
-      (λ none. more ∙ ap (λ (l : List ListedEntry). l ++ es.items) (are.entries before) ∙ sym (listed_more abbrevs ws w es.items read.1))
+      (λ none. more ∙ ap (λ (l : List ListedEntry). l ++ es.items) (are.entries before)
+      ∙ sym (listed_more abbrevs ws w es.items read.1))
 
 -- The entries of a file without faults
 
-left_none : (a b : Option ℕ) → option_or a b ≡ None → a ≡ None
-left_none None b e = refl
-left_none (Some n) b e = absurd (cc)
-
-pub all_listed : (s : Sections) (r : Readings) → AreReadings s.abbrevs s.addr (walked 5 s.info) r → IsFree (HasDwarfFault (unit_fault_places s)) →
+pub all_listed : (s : Sections) (r : Readings) → AreReadings s.abbrevs s.addr (walked 5 s.info) r →
+    IsFree (HasDwarfFault (unit_fault_places s)) →
     r.entries.items ≡ listed_entries s
-all_listed s r are free = are.entries (are.bad ∙ left_none (first_place (is_bad s) (walked 5 s.info)) (bad_address_table s.addr) (none (unit_fault_places s).bad refl)) where
-  none : (o : Option ℕ) → (unit_fault_places s).bad ≡ o → o ≡ None
-  none None e = refl
-  none (Some place) e = absurd (free fault.DwarfFault place e)
+all_listed s r are free = are.entries (are.bad ∙ (both_none (first_place (is_bad s) (walked 5 s.info)) (bad_address_table s.addr)
+    (none (unit_fault_places s).bad refl)).0) where
+      none : (o : Option ℕ) → (unit_fault_places s).bad ≡ o → o ≡ None
+      none None e = refl
+      none (Some place) e = absurd (free fault.DwarfFault place e)

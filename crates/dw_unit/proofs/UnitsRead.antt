@@ -1,5 +1,6 @@
 -- Units that were read: their headers, tables and entries.
-use Rattle.std.proofs.Common.{◌≡◌, ◌∙◌, ℕ, List, [], ◌∷◌, Bool, true, false, Option, Some, None, Ok, Err, IsOk, Result, refl, ap, sym, subst, length, map}
+use Rattle.std.proofs.Common.{◌≡◌, ◌∙◌, ℕ, List, [], ◌∷◌, Bool, true, false, Option, Some, None, Ok, Err, IsOk, Result, refl, ap, sym}
+use Rattle.std.proofs.Common.{subst, length, map}
 use Rattle.std.specs.Prelude.{if◌then◌else◌, not}
 use Rattle.std.specs.List.{find, AllZip}
 use Rattle.rb_bytes.specs.Readers.{and_then}
@@ -39,10 +40,12 @@ module _ (abbrevs : List ℕ) (w : Walked) (bytes : List ℕ) (is : w.bytes ≡ 
       (record { bytes = bytes; is = is; left = left; header = header; end = end; ends = ends; entries = read; place = refl })
 
   by_end : (o : Option ℕ) (u : Unit) → (table_at abbrevs offset).end ≡ o →
-      and_so (sound_if o) (λ _. and_so (entries_within (unit_bounds w.place (end_of w) (table_at abbrevs offset)) (length left) 0 left) (λ entries.
+      and_so (sound_if o) (λ _. and_so (entries_within (unit_bounds w.place (end_of w) (table_at abbrevs offset)) (length left) 0 left)
+      (λ entries.
       Ok (record { place = w.place; abbrev_offset = offset; entries = entries }))) ≡ Ok u → IsRead abbrevs w u
   by_end None u is e = absurd (cc)
-  by_end (Some end) u is e = by_entries end (entries_within (unit_bounds w.place (end_of w) (table_at abbrevs offset)) (length left) 0 left) u is refl e
+  by_end (Some end) u is e = by_entries end (entries_within (unit_bounds w.place (end_of w) (table_at abbrevs offset))
+      (length left) 0 left) u is refl e
 
 by_header : (abbrevs : List ℕ) (w : Walked) (bytes : List ℕ) (r : Read ℕ) (u : Unit) → w.bytes ≡ Some bytes → header_at bytes ≡ r →
     and_then r (λ offset left. unit_by w.place (end_of w) offset (table_at abbrevs offset) left) ≡ Ok u → IsRead abbrevs w u
@@ -52,7 +55,8 @@ by_header abbrevs w bytes (Ok read) u is header e =
 
 pub unit_read : (abbrevs : List ℕ) (w : Walked) (u : Unit) → unit_of abbrevs w ≡ Ok u → IsRead abbrevs w u
 unit_read abbrevs w u e = by_bytes w.bytes refl e where
-  by_bytes : (o : Option (List ℕ)) → w.bytes ≡ o → and_then (and_so (sound_if o) header_at) (λ offset left. unit_by w.place (end_of w) offset (table_at abbrevs offset) left) ≡ Ok u →
+  by_bytes : (o : Option (List ℕ)) → w.bytes ≡ o → and_then (and_so (sound_if o) header_at)
+      (λ offset left. unit_by w.place (end_of w) offset (table_at abbrevs offset) left) ≡ Ok u →
       IsRead abbrevs w u
   by_bytes None is e = absurd (cc)
   by_bytes (Some bytes) is e = by_header abbrevs w bytes (header_at bytes) u is refl e
@@ -63,15 +67,20 @@ header_read abbrevs w u e =
     subst (λ (o : Option (List ℕ)). IsOk (and_so (sound_if o) header_at)) (sym r.is) (subst (λ (h : Read ℕ). IsOk h) (sym r.header) refl)
 
 -- and the other way
-pub unit_again : (abbrevs : List ℕ) (w : Walked) (bytes left : List ℕ) (offset end : ℕ) (es : List Entry) → w.bytes ≡ Some bytes → header_at bytes ≡ Ok (offset, left) →
-    (table_at abbrevs offset).end ≡ Some end → entries_within (unit_bounds w.place (end_of w) (table_at abbrevs offset)) (length left) 0 left ≡ Ok es →
+pub unit_again : (abbrevs : List ℕ) (w : Walked) (bytes left : List ℕ) (offset end : ℕ) (es : List Entry) → w.bytes ≡ Some bytes →
+    header_at bytes ≡ Ok (offset, left) →
+    (table_at abbrevs offset).end ≡ Some end → entries_within (unit_bounds w.place (end_of w) (table_at abbrevs offset))
+    (length left) 0 left ≡ Ok es →
     unit_of abbrevs w ≡ Ok (record { place = w.place; abbrev_offset = offset; entries = es })
 unit_again abbrevs w bytes left offset end es is header ends read =
-    ap (λ (o : Option (List ℕ)). and_then (and_so (sound_if o) header_at) (λ offset left. unit_by w.place (end_of w) offset (table_at abbrevs offset) left)) is
+    ap (λ (o : Option (List ℕ)). and_then (and_so (sound_if o) header_at)
+    (λ offset left. unit_by w.place (end_of w) offset (table_at abbrevs offset) left)) is
     ∙ ap (λ (r : Read ℕ). and_then r (λ offset left. unit_by w.place (end_of w) offset (table_at abbrevs offset) left)) header
-    ∙ ap (λ (o : Option ℕ). and_so (sound_if o) (λ _. and_so (entries_within (unit_bounds w.place (end_of w) (table_at abbrevs offset)) (length left) 0 left) (λ entries.
+    ∙ ap (λ (o : Option ℕ). and_so (sound_if o) (λ _. and_so (entries_within (unit_bounds w.place (end_of w) (table_at abbrevs offset))
+    (length left) 0 left) (λ entries.
     Ok (record { place = w.place; abbrev_offset = offset; entries = entries })))) ends
-    ∙ ap (λ (r : Result (List Entry) Trouble). and_so r (λ entries. Ok (record { place = w.place; abbrev_offset = offset; entries = entries }))) read
+    ∙ ap (λ (r : Result (List Entry) Trouble). and_so r (λ entries. Ok
+    (record { place = w.place; abbrev_offset = offset; entries = entries }))) read
 
 -- Sections of which each unit can be read, and passes a test
 
@@ -82,7 +91,8 @@ module _ (abbrevs : List ℕ) (test : Unit → Bool) where
   none_here : (w : Walked) (ws : List Walked) → find (λ w. fails test (unit_of abbrevs w)) (w ∷ ws) ≡ None →
       (fails test (unit_of abbrevs w) ≡ false) × (find (λ w. fails test (unit_of abbrevs w)) ws ≡ None)
   none_here w ws e = step (fails test (unit_of abbrevs w)) refl e where
-    step : (b : Bool) → fails test (unit_of abbrevs w) ≡ b → (if b then Some w else find (λ w. fails test (unit_of abbrevs w)) ws) ≡ None →
+    step : (b : Bool) → fails test (unit_of abbrevs w) ≡ b → (if b then Some w else find (λ w. fails test (unit_of abbrevs w)) ws) ≡ None
+        →
         (fails test (unit_of abbrevs w) ≡ false) × (find (λ w. fails test (unit_of abbrevs w)) ws ≡ None)
     step true f e = absurd (cc)
     step false f e = (f, e)
@@ -95,7 +105,8 @@ module _ (abbrevs : List ℕ) (test : Unit → Bool) where
   read_here w (Ok u) is f = (u, (is, passes (test u) f))
   read_here w (Err t) is f = absurd (cc)
 
-  pub all_read : (ws : List Walked) → find (λ w. fails test (unit_of abbrevs w)) ws ≡ None → AllZip IsGoodUnit ws (oks (map (unit_of abbrevs) ws))
+  pub all_read : (ws : List Walked) → find (λ w. fails test (unit_of abbrevs w)) ws ≡ None →
+      AllZip IsGoodUnit ws (oks (map (unit_of abbrevs) ws))
   all_read [] e = tt
   all_read (w ∷ ws) e =
       let p = none_here w ws e in

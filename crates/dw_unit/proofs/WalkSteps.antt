@@ -1,9 +1,12 @@
 -- Steps of walks over attributes, entries and units that are written.
-use Rattle.std.proofs.Common.{◌≡◌, ◌<◌, ◌≤◌, ◌+◌, ◌++◌, ◌∙◌, ℕ, zero, suc, List, [], ◌∷◌, Option, Some, None, Ok, Err, Result, IfOk, IfSome, MatchOption, refl, ap, sym, subst, arith, length, drop, take, map, get_or, drop-cons, add-one, append_assoc, length-append}
+use Rattle.std.proofs.Common.{◌≡◌, ◌<◌, ◌≤◌, ◌+◌, ◌++◌, ◌∙◌, ℕ, zero, suc, List, [], ◌∷◌, Option, Some, None, Ok, Err, Result}
+use Rattle.std.proofs.Common.{IfOk, IfSome, MatchOption, refl, ap, sym, subst, arith, length, drop, map, get_or}
+use Rattle.std.proofs.Common.{append_assoc}
+use Rattle.std.proofs.lemmas.List.{drop_more}
 use Rattle.std.specs.Prelude.{flat_map}
 use Rattle.table_core.proofs.Numbers.{same_value, same_left}
 use Rattle.table_core.specs.DebugUnits.{Walked}
-use Rattle.table_core.specs.ReadSteps.{and_so, first_of, oks, with_head}
+use Rattle.table_core.specs.ReadSteps.{and_so, oks, with_head}
 use Rattle.dw_unit.specs.declared.trouble.Trouble.{Trouble}
 use Rattle.dw_unit.specs.Trouble.{Read, sound_if}
 use Rattle.dw_unit.specs.Changes.{Patch}
@@ -12,29 +15,13 @@ use Rattle.dw_unit.specs.Declarations.{Table, table_at}
 use Rattle.dw_unit.specs.EntryChanges.{AreBehind}
 use Rattle.dw_unit.specs.OwnPlaces.{AllRead}
 use Rattle.dw_unit.specs.Walking.{entries_at, unit_bounds}
-use Rattle.dw_unit.proofs.Headers.{IsHeader, header_front}
 use Rattle.dw_unit.proofs.UnitsRead.{IsRead, unit_read}
-
-pub drop_step : {X : Type 0} (xs : List X) (i : ℕ) (d : X) → i < length xs → drop i xs ≡ get_or xs i d ∷ drop (i + 1) xs
-drop_step xs i d h = drop-cons xs i d h ∙ ap (λ (k : ℕ). get_or xs i d ∷ drop k xs) (sym (add-one i))
-
-pub drop_all : {X : Type 0} (n : ℕ) (xs : List X) → length xs ≤ n → drop n xs ≡ []
-drop_all zero [] h = refl
-drop_all (suc n) [] h = refl
-drop_all zero (x ∷ xs) h = absurd (omega arith)
-drop_all (suc n) (x ∷ xs) h = drop_all n xs (omega arith)
-
-pub take_all : {X : Type 0} (n : ℕ) (xs : List X) → length xs ≤ n → take n xs ≡ xs
-take_all zero [] h = refl
-take_all (suc n) [] h = refl
-take_all zero (x ∷ xs) h = absurd (omega arith)
-take_all (suc n) (x ∷ xs) h = ap (λ (l : List _). x ∷ l) (take_all n xs (omega arith))
 
 -- patches of one more thing
 pub patches_step : {X : Type 0} (f : X → List Patch) (xs : List X) (i : ℕ) (d : X) (ps : List Patch) → i < length xs →
     flat_map f (drop i xs) ++ ps ≡ f (get_or xs i d) ++ (flat_map f (drop (i + 1) xs) ++ ps)
 patches_step f xs i d ps h =
-    ap (λ (l : List _). flat_map f l ++ ps) (drop_step xs i d h) ∙ append_assoc (f (get_or xs i d)) (flat_map f (drop (i + 1) xs)) ps
+    ap (λ (l : List _). flat_map f l ++ ps) (drop_more xs i d h) ∙ append_assoc (f (get_or xs i d)) (flat_map f (drop (i + 1) xs)) ps
 
 -- what holds of what is there
 pub if_some : {X : Type 0} (o : Option X) (x : X) (P : X → Type 0) → o ≡ Some x → IfSome o P → P x
@@ -46,11 +33,6 @@ match_some o x A P e p = subst (λ (o : Option _). MatchOption o A P) e p
 pub match_none : {X : Type 0} (o : Option X) (A : Type 0) (P : X → Type 0) → o ≡ None → MatchOption o A P → A
 match_none o A P e p = subst (λ (o : Option _). MatchOption o A P) e p
 
--- what holds of a result that is there
-pub ok_map : {X E : Type 0} (r : Result X E) (P Q : X → Type 0) → ((x : X) → P x → Q x) → IfOk r P → IfOk r Q
-ok_map (Ok x) P Q f p = f x p
-ok_map (Err e) P Q f p = p
-
 pub ok_map2 : {X E : Type 0} (r : Result X E) (P Q R : X → Type 0) → ((x : X) → P x → Q x → R x) → IfOk r P → IfOk r Q → IfOk r R
 ok_map2 (Ok x) P Q R f p q = f x p q
 ok_map2 (Err e) P Q R f p q = p
@@ -61,7 +43,8 @@ pub record IsBehindHeader (w : Walked) (u : Unit) (offset : ℕ) (table : Table)
   pub place : u.place ≡ w.place
   pub entries : entries_at (unit_bounds w.place (end_of w) table) 0 left ≡ Ok u.entries
 
-pub entries_of : (abbrevs : List ℕ) (w : Walked) (u : Unit) (offset : ℕ) (table : Table) (left : List ℕ) → unit_of abbrevs w ≡ Ok u → header_of w ≡ Ok (offset, left) →
+pub entries_of : (abbrevs : List ℕ) (w : Walked) (u : Unit) (offset : ℕ) (table : Table) (left : List ℕ) → unit_of abbrevs w ≡ Ok u →
+    header_of w ≡ Ok (offset, left) →
     table_at abbrevs offset ≡ table → IsBehindHeader w u offset table left
 entries_of abbrevs w u offset table left e h t =
     let r : IsRead abbrevs w u = unit_read abbrevs w u e in
@@ -79,36 +62,17 @@ entries_of abbrevs w u offset table left e h t =
     }
 
 -- those by a place and an end that are the unit's
-pub entries_there : (abbrevs : List ℕ) (w : Walked) (u : Unit) (offset place end : ℕ) (table : Table) (left : List ℕ) → unit_of abbrevs w ≡ Ok u →
+pub entries_there : (abbrevs : List ℕ) (w : Walked) (u : Unit) (offset place end : ℕ) (table : Table) (left : List ℕ) →
+    unit_of abbrevs w ≡ Ok u →
     header_of w ≡ Ok (offset, left) → table_at abbrevs offset ≡ table → place ≡ w.place → end ≡ end_of w →
     entries_at (unit_bounds place end table) 0 left ≡ Ok u.entries
 entries_there abbrevs w u offset place end table left e h t p q =
     ap (λ (k : ℕ). entries_at (unit_bounds k end table) 0 left) p
     ∙ ap (λ (k : ℕ). entries_at (unit_bounds w.place k table) 0 left) q ∙ (entries_of abbrevs w u offset table left e h t).entries
 
--- a header has more bytes than the offset of abbreviations
-pub header_room : (w : Walked) (offset : ℕ) (left : List ℕ) → header_of w ≡ Ok (offset, left) → w.place + 12 + length left ≤ end_of w
-header_room w offset left e = by_bytes w.bytes refl e where
-  by_bytes : (o : Option (List ℕ)) → w.bytes ≡ o → and_so (sound_if o) header_at ≡ Ok (offset, left) → w.place + 12 + length left ≤ end_of w
-  by_bytes None is e = absurd (cc)
-  by_bytes (Some bytes) is e =
-      let i : IsHeader bytes left = header_front bytes left offset e in
-      let a = ap length i.is ∙ length-append i.lead (i.old ++ (i.tail ++ left)) in
-      let b = length-append i.old (i.tail ++ left) in
-      let c = length-append i.tail left in
-      let d = i.lead_size in
-      let f = i.old_size in
-      let g : end_of w ≡ w.place + 4 + length bytes = ap (λ (o : Option (List ℕ)). end_of (record { place = w.place; bytes = o; is_other = w.is_other })) is in
-      omega arith
-
 abbrev pub or_entries : List Entry → Result (List Entry) Trouble → List Entry
 or_entries d (Ok l) = l
 or_entries d (Err t) = d
-
--- the first of entries
-pub first_with_head : (e : Entry) (r : Result (List Entry) Trouble) (es : List Entry) → with_head e r ≡ Ok es → first_of es ≡ Some e
-first_with_head e (Err t) es f = absurd (cc)
-first_with_head e (Ok xs) es f = sym (ap (λ (r : Result (List Entry) Trouble). first_of (or_entries [] r)) f)
 
 -- those behind it
 pub record IsWithHead (e : Entry) (r : Result (List Entry) Trouble) (es : List Entry) : Type 0 where
@@ -122,12 +86,14 @@ with_head_parts e (Ok xs) es f = record { rest = xs; read = refl; is = sym (ap (
 
 -- units that can all be read
 
-pub read_at : (abbrevs : List ℕ) (ws : List Walked) (i : ℕ) (d : Walked) → AllRead abbrevs ws → i < length ws → (u : Unit) × (unit_of abbrevs (get_or ws i d) ≡ Ok u)
+pub read_at : (abbrevs : List ℕ) (ws : List Walked) (i : ℕ) (d : Walked) → AllRead abbrevs ws → i < length ws →
+    (u : Unit) × (unit_of abbrevs (get_or ws i d) ≡ Ok u)
 read_at abbrevs [] i d r h = absurd (omega arith)
 read_at abbrevs (w ∷ ws) zero d r h = r.0
 read_at abbrevs (w ∷ ws) (suc i) d r h = read_at abbrevs ws i d r.1 (omega arith)
 
-pub oks_step : (abbrevs : List ℕ) (w : Walked) (ws : List Walked) (u : Unit) → unit_of abbrevs w ≡ Ok u → oks (map (unit_of abbrevs) (w ∷ ws)) ≡ u ∷ oks (map (unit_of abbrevs) ws)
+pub oks_step : (abbrevs : List ℕ) (w : Walked) (ws : List Walked) (u : Unit) → unit_of abbrevs w ≡ Ok u →
+    oks (map (unit_of abbrevs) (w ∷ ws)) ≡ u ∷ oks (map (unit_of abbrevs) ws)
 oks_step abbrevs w ws u e = ap (λ (r : Result Unit Trouble). oks (r ∷ map (unit_of abbrevs) ws)) e
 
 pub behind_less : (from less to : ℕ) (ws : List Walked) → less ≤ from → AreBehind from to ws → AreBehind less to ws

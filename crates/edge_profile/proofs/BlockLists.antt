@@ -1,28 +1,18 @@
 -- The blocks of a program lie apart, in order.
-use Rattle.std.proofs.Common.{◌<◌, ◌≤◌, ℕ, List, Option, Some, None, get_or, arith, sym, subst, inl, inr, ⊎_elim}
+use Rattle.std.proofs.Common.{◌≤◌, ℕ, List, Option, Some, None, get_or, arith, sym, subst, inl, inr}
 use Rattle.std.specs.Prelude.{IsSomeAnd, slice_get}
-use Rattle.std.proofs.lemmas.Bool.{cases_lt}
 use Rattle.std.proofs.lemmas.List.Elements.{Contains-get_or}
 use Rattle.rv_code.specs.declared.placed.Func.{Func}
 use Rattle.rv_code.specs.declared.placed.Block.{Block}
 use Rattle.rv_code.specs.layout.Blocks.{AreBlocks, IsBlock, IsBlockOf, IsBefore, func_of}
 use Rattle.rv_code.specs.layout.ProgramCode.{ProgramCode}
+use Rattle.rv_code.proofs.lists.Blocks.{no_overlap}
 use Rattle.edge_profile.specs.BlockPlaces.{AreBlocksApart, IsApart}
 
 first_last : (code : ProgramCode) (b : Block) (found : Option Func) →
     IsSomeAnd found (λ func. IsBlockOf code func b.first b.last) → b.first ≤ b.last
 first_last code b None is = absurd is
 first_last code b (Some func) is = is.some
-
--- a later block of a function doesn't begin within an earlier one
-no_overlap : (code : ProgramCode) (b c : Block) (found : Option Func) → b.first < c.first
-    → IsSomeAnd found (λ func. IsBlockOf code func b.first b.last)
-    → IsSomeAnd found (λ func. IsBlockOf code func c.first c.last) → b.last < c.first
-no_overlap code b c None less is other = absurd is
-no_overlap code b c (Some func) less is other = ⊎_elim
-    (λ (apart : b.last < c.first). apart)
-    (λ (inside : c.first ≤ b.last). absurd (is.no_other c.first less inside other.begins))
-    (cases_lt b.last c.first)
 
 pub AreApart-blocks : (code : ProgramCode) (blocks : List Block) → AreBlocks code blocks → AreBlocksApart blocks
 AreApart-blocks code blocks are = record {

@@ -43,12 +43,6 @@ starts_above func laid a above =
     ne_eqb (get_or func.insts.items k d).addr a (λ e. omega (arith, bounds.1, e)))
 
 module _ (funcs : List Func) (laid : AreLaidOut funcs) where
-  func_before : (i j : ℕ) (d : Func) → i < j → j < length funcs → (get_or funcs i d).end ≤ (get_or funcs j d).start
-  func_before i j d less within = laid.apart i j d less within
-
-  func_laid : (k : ℕ) (d : Func) → k < length funcs → IsLaidOut (get_or funcs k d)
-  func_laid k d within = laid.each k d within
-
   pub funcs_rise : IsNonDecreasingBy (λ f. f.start) funcs
   funcs_rise i j d le within = ⊎_elim
       (λ (less : i < j).

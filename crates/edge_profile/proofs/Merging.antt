@@ -1,5 +1,5 @@
 -- Counts merged one after another.
-use Rattle.std.proofs.Common.{◌≡◌, ◌≢◌, ◌<◌, ◌≤◌, ◌+◌, ◌-◌, ◌*◌, ◌^◌, ◌∙◌, ◌⊎◌, ℕ, zero, Bool, true, false, List, [], ◌∷◌}
+use Rattle.std.proofs.Common.{◌≡◌, ◌≢◌, ◌<◌, ◌≤◌, ◌+◌, ◌-◌, ◌*◌, ◌^◌, ◌∙◌, ◌⊎◌, ℕ, Bool, true, false, List, [], ◌∷◌}
 use Rattle.std.proofs.Common.{◌++◌, length, get_or, set, take, arith, refl, ap, sym, subst, inl, inr, ⊎_elim, All, AllPairs}
 use Rattle.std.proofs.Common.{length-set, get_or-set_same, get_or-set_other}
 use Rattle.std.specs.Prelude.{◌==◌, ◌&&◌, if◌then◌else◌, not}
@@ -158,15 +158,6 @@ pub record IsMergedTo (said : List Counted) (i : ℕ) (pairs : List Counted) : T
   pub ordered : AllPairs IsCountedBefore pairs
   pub not_after : (j : ℕ) (d : Counted) → i ≤ j → j < length said → All (λ p. IsNotAfter p (get_or said j d)) pairs
 
-pub merged_none : (said : List Counted) → IsMergedTo said 0 []
-merged_none said = record {
-  counts = λ from to. refl;
-  bound = omega arith;
-  positive = λ k d within. absurd (omega arith);
-  ordered = λ i j d less within. absurd (omega arith);
-  not_after = λ j d from within k e inside. absurd (omega arith);
-}
-
 -- one count more
 pub merged_more : (said : List Counted) (i : ℕ) (pairs new : List Counted) (d : Counted)
     → AllPairs IsNotAfter said → i < length said
@@ -188,26 +179,6 @@ merged_more said i pairs new d ordered within small is was =
           (subst (λ (q : Counted). IsNotAfter q (get_or said j e)) (sym same) (ordered i j e (omega arith) inside))
           (was.not_after j e (omega arith) inside);
     }
-
--- a count of zero changes nothing
-pub merged_zero : (said : List Counted) (i : ℕ) (pairs : List Counted) (d : Counted) → i < length said
-    → (get_or said i d).2 ≡ 0 → IsMergedTo said i pairs → IsMergedTo said (i + 1) pairs
-merged_zero said i pairs d within zero' was = record {
-  counts = λ from to.
-      let before = was.counts from to in
-      let more = sum_by_more (λ q. if is_pair from to q then q.2 else 0) said i d within in
-      let nothing : (if is_pair from to (get_or said i d) then (get_or said i d).2 else 0) ≡ 0 =
-      none (is_pair from to (get_or said i d)) in
-      omega (arith, before, more, nothing);
-  bound = omega (arith, was.bound);
-  positive = was.positive;
-  ordered = was.ordered;
-  not_after = λ j e from inside. was.not_after j e (omega arith) inside;
-}
-  where
-    none : (b : Bool) → (if b then (get_or said i d).2 else 0) ≡ 0
-    none true = zero'
-    none false = refl
 
 pub merged_all : (said : List Counted) (i : ℕ) (pairs : List Counted) → length said ≤ i → i ≤ length said →
     IsMergedTo said i pairs → AreMerged said pairs

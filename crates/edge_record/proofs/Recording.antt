@@ -6,8 +6,7 @@ use Rattle.std.specs.Io.KnownBytes.{append_known}
 use Rattle.std.specs.List.{list_any}
 use Rattle.std.specs.Option.{option_map_or}
 use Rattle.std.proofs.lemmas.Bool.{eqb-true, and_parts}
-use Rattle.std.proofs.lemmas.List.Folds.{list_any_at}
-use Rattle.std.proofs.lemmas.Option.{get_or_from_slice_get, slice_get_within}
+use Rattle.std.proofs.lemmas.Map.Keys.{any_passes_from_place}
 use Rattle.run_core.specs.Answers.{Answer}
 use Rattle.run_core.specs.Answers as answer
 use Rattle.run_core.specs.Inputs.{Outside, as_told}
@@ -73,11 +72,6 @@ any_weaker p q (x ∷ xs) weaker any = at (p x) refl any (any_weaker p q xs weak
         or_true true is = refl
         or_true false is = is
 
-any_from_get : {X : Type 0} (p : X → Bool) (xs : List X) (k : ℕ) (x : X) → slice_get xs k ≡ Some x →
-    p x ≡ true → list_any p xs ≡ true
-any_from_get p xs k x is passes =
-    list_any_at p xs k x (slice_get_within xs k x is) (ap p (get_or_from_slice_get xs k x x is) ∙ passes)
-
 module _ (funcs : List Func) (a : ℕ) where
   last_is_code : (b : Block) → ends_at funcs a b ≡ true → list_any (λ f. starts_at f.insts.items a) funcs ≡ true
   last_is_code b ends = by_func (slice_get funcs b.func) refl
@@ -86,8 +80,8 @@ module _ (funcs : List Func) (a : ℕ) where
           → option_map_or (λ p. p.addr == a) o false ≡ true → list_any (λ g. starts_at g.insts.items a) funcs ≡ true
       by_inst f is None none has = absurd (cc)
       by_inst f is (Some p) some has =
-          any_from_get (λ g. starts_at g.insts.items a) funcs b.func f is
-          (any_from_get (λ q. q.addr == a) f.insts.items b.last p some has)
+          any_passes_from_place (λ g. starts_at g.insts.items a) funcs b.func f is
+          (any_passes_from_place (λ q. q.addr == a) f.insts.items b.last p some has)
 
       by_func : (o : Option Func) → slice_get funcs b.func ≡ o → list_any (λ f. starts_at f.insts.items a) funcs ≡ true
       by_func None is =

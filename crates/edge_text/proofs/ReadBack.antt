@@ -8,13 +8,14 @@ use Rattle.rv_code.specs.declared.placed.Func.{Func}
 use Rattle.rv_code.specs.layout.FunctionLists.{AreLaidOut}
 use Rattle.rv_code.specs.layout.ProgramCode.{is_code_address}
 use Rattle.rb_bytes.specs.Text.{hexadecimal, hex_number, decimal_number}
+use Rattle.rb_bytes.proofs.NumberTexts.{decimal_lower, decimal_read, hex_lower, hex_read}
 use Rattle.elf_image.specs.declared.symbol.Symbol.{Symbol}
 use Rattle.edge_profile.specs.PairCounts.{Counted, both_ends, counted_by}
 use Rattle.edge_profile.specs.Grammar.{all_three, branch_line, lines, named_place}
 use Rattle.edge_profile.specs.Names.{address_at, function_start}
 use Rattle.edge_text.specs.EdgeText.{edge_line, start_at}
 use Rattle.edge_text.proofs.LineTexts.{first_line, line_fields, line_with, line_written}
-use Rattle.edge_text.proofs.NumberTexts.{decimal_lower, decimal_read, hex_lower, hex_read, short_hex_read}
+use Rattle.edge_text.proofs.NumberTexts.{short_hex_read}
 use Rattle.edge_text.proofs.Starts.{in_code}
 
 -- a pair of instructions, with a count that fits

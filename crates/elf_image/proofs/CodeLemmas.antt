@@ -31,11 +31,6 @@ IsSecondCode-next file first i code lowest code_i past next = (
   ),
 )
 
-pub no_second : (file : List ℕ) (first : ℕ) → ((k : ℕ) → IsCode file k → 0 ≤ k → first ≤ k) →
-    ((k : ℕ) → IsCode file k → first + 1 ≤ k → ⊥) → (i : ℕ) → IsSecondCode file i → ⊥
-no_second file first lowest none i (code, (j, code_j, before, only)) =
-    let from = lowest j code_j (omega arith) in none i code (omega arith)
-
 -- there is one second
 earlier_second : (file : List ℕ) (i k : ℕ) → IsSecondCode file i → IsSecondCode file k → i < k → ⊥
 earlier_second file i k (code, (j, code_j, before, only)) (code_k, (m, code_m, before_m, only_m)) less =

@@ -1,5 +1,5 @@
 -- Ranges in the order of their starts.
-use Rattle.std.proofs.Common.{◌≡◌, ◌≢◌, ◌∙◌, sym, ap, subst, refl, ℕ, ◌+◌, ◌≤◌, ◌<◌, inl, inr, ⊎_elim, Bool, List, length, get_or}
+use Rattle.std.proofs.Common.{◌≡◌, ◌≢◌, ◌∙◌, sym, ap, subst, ℕ, ◌+◌, ◌≤◌, ◌<◌, inl, inr, ⊎_elim, Bool, List, length, get_or}
 use Rattle.std.proofs.Common.{max, nat_eq, Option, All, arith}
 use Rattle.std.specs.List.{IsDistinct}
 use Rattle.std.specs.List.Sorted.{IsNonDecreasingBy, IsPermutation}
@@ -46,9 +46,6 @@ MeetsNext-from_another extents k reach e rising reached past (m, within, differ,
             (omega arith, λ d. let here = (meet d).1 in let before = rising (k + 1) m d (omega arith) within in omega arith)
       ]
     ]
-
-pub IsReach-begin : (extents : List Extent) → IsReach extents 0 0
-IsReach-begin extents = record { above = λ m d below. absurd (omega arith); reached = inl refl }
 
 pub IsReach-more : (extents : List Extent) (k reach new : ℕ) (e : Extent) → k < length extents →
     new ≡ max reach (get_or extents k e).end → IsReach extents k reach → IsReach extents (k + 1) new

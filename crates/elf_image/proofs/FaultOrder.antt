@@ -1,5 +1,5 @@
 -- The order of faults: each is looked for where those of lower numbers are absent.
-use Rattle.std.proofs.Common.{◌≡◌, ◌∙◌, sym, ap, subst, refl, ℕ, if◌then◌else◌, ◌+◌, ◌≤◌, ◌<◌, ⊎_elim, List, Option, Some, None}
+use Rattle.std.proofs.Common.{◌≡◌, ◌∙◌, sym, ap, subst, refl, ℕ, if◌then◌else◌, ◌+◌, ◌≤◌, ◌<◌, ⊎_elim, Option, Some, None}
 use Rattle.std.proofs.Common.{Result, Ok, Err, MatchOption, MatchResult, OnOk, IfErr, arith, rules}
 use Rattle.std.proofs.lemmas.Bool.{cases_lt}
 use Rattle.std.proofs.lemmas.Result.{MatchResult-at_ok, MatchResult-at_err}
@@ -12,7 +12,6 @@ use Rattle.rb_bytes.specs.declared.fault.FaultKind.TheVariants.{HighAddress, Com
 use Rattle.rb_bytes.specs.declared.fault.FaultKind.TheVariants.{LoMismatch, NarrowDiff, IfuncOrPlt, AlreadyMoved, BadEntry}
 use Rattle.rb_bytes.specs.FirstFault.{LacksBelow, IsAnswered}
 use Rattle.elf_image.specs.faults.LowestPlace.{IsLowest}
-use Rattle.elf_image.specs.faults.FileFaults.{HasFault, IsSound}
 
 -- the kind of a number below 16, which two kinds share
 numbered : ℕ → FaultKind
@@ -119,15 +118,3 @@ pub stopped : {U : Type 0} (u : U) (Has : FaultKind → ℕ → Type 0) (kind : 
 stopped u Has kind lowest r fault e err low before is =
     MatchResult-at_err (λ _. LacksBelow Has (number_of kind + 1)) (IsAnswered Has) fault err
     (refused u Has kind lowest r e low before is)
-
--- none is present
-pub IsSound-lacks : (file : List ℕ) → LacksBelow (HasFault file) 9 → IsSound file
-IsSound-lacks file lacks NotElf = lacks NotElf (omega arith)
-IsSound-lacks file lacks Truncated = lacks Truncated (omega arith)
-IsSound-lacks file lacks Flags = lacks Flags (omega arith)
-IsSound-lacks file lacks NotStatic = lacks NotStatic (omega arith)
-IsSound-lacks file lacks ExecSegments = lacks ExecSegments (omega arith)
-IsSound-lacks file lacks WritableCode = lacks WritableCode (omega arith)
-IsSound-lacks file lacks HighAddress = lacks HighAddress (omega arith)
-IsSound-lacks file lacks CompressedSection = lacks CompressedSection (omega arith)
-IsSound-lacks file lacks _ = λ place has. has

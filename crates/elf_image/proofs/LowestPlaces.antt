@@ -2,6 +2,7 @@
 use Rattle.std.proofs.Common.{◌≡◌, subst, ℕ, ◌+◌, ◌≤◌, ◌<◌, ◌⊎◌, inl, inr, Bool, true, false, Option, Some, None, min, IfSome}
 use Rattle.std.proofs.Common.{IsSomeAnd, ⊎_elim, if◌then◌else◌, IsTrue, ◌↔◌, sym, not, arith, rules, refl}
 use Rattle.std.proofs.lemmas.Bool.{cases_lt}
+use Rattle.rb_bytes.proofs.Tests.{if_not}
 use Rattle.elf_image.specs.faults.LowestPlace.{IsLowest, lower, SomeBelow}
 
 -- a set with the same places
@@ -96,17 +97,10 @@ pub IsLowest-all : (S : ℕ → ℕ → Type 0) (n count : ℕ) (o : Option ℕ)
 IsLowest-all S n count o same is = let All : ℕ → Type 0 = λ k. IsLowest (SomeBelow k S) o in subst All same is
 
 -- a place where something doesn't hold
-if_not : (C : Type 0) (b : Bool) → IsTrue b ↔ C → IsTrue (not b) ↔ (C → ⊥)
-if_not C true test = (λ wrong. let never : false ≡ true = wrong in cc, λ wrong. absurd (wrong (test.0 refl)))
-if_not C false test = (λ _ is. let never : false ≡ true = test.1 is in cc, λ _. refl)
-
 pub IsLowest-place_not : (C : Type 0) (holds : Bool) (at place : ℕ) (r : Option ℕ) → r ≡ (if (not holds) then Some at else None) →
     at ≡ place → IsTrue holds ↔ C → IsLowest (λ p. (C → ⊥) × (p ≡ place)) r
-IsLowest-place_not C holds at place r e same test = IsLowest-place (C → ⊥) (not holds) at place r e same (if_not C holds test)
+IsLowest-place_not C holds at place r e same test = IsLowest-place (C → ⊥) (not holds) at place r e same (if_not holds test)
 
 -- places that are looked at under a condition
 pub IsLowest-under : {P : ℕ → Type 0} (C : Type 0) (o : Option ℕ) → C → IsLowest P o → IsLowest (λ p. C × P p) o
 IsLowest-under C o holds is = IsLowest-same o (λ p here. (holds, here)) (λ p both. both.1) is
-
-pub IsLowest-lacks : (P : ℕ → Type 0) (C : Type 0) → (C → ⊥) → IsLowest (λ p. C × P p) None
-IsLowest-lacks P C lacks = IsLowest-none (λ p both. lacks both.0)

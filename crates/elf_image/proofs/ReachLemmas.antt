@@ -22,10 +22,6 @@ pub record AreReaches (extents reaches : List Extent) (n : ℕ) : Type 0 where
   pub start : (k : ℕ) (d : Extent) → k < n → (get_or reaches k d).start ≡ (get_or extents k d).start
   pub reach : (k : ℕ) (d : Extent) → k < n → IsReach extents (k + 1) (get_or reaches k d).end
 
-pub AreReaches-begin : (extents : List Extent) → AreReaches extents [] 0
-AreReaches-begin extents =
-    record { count = refl; start = λ k d below. absurd (omega arith); reach = λ k d below. absurd (omega arith) }
-
 pub AreReaches-more : (extents old new : List Extent) (n : ℕ) (t e : Extent) → n < length extents →
     t.start ≡ (get_or extents n e).start → IsReach extents (n + 1) t.end → new ≡ old ++ t ∷ [] → AreReaches extents old n →
     AreReaches extents new (n + 1)
@@ -63,15 +59,6 @@ AreReaches-growing extents reaches n are i j d before within =
     let there = are.reach j d (omega arith) in
     ⊎_elim (λ (none : (get_or reaches i d).end ≡ 0). omega arith)
     (λ (m, below, end). let far = there.above m d (omega arith) in let same = end d in omega arith) here.reached
-
-pub AreReaches-rising : (extents reaches : List Extent) (n : ℕ) → n ≤ length extents → IsNonDecreasingBy (λ s. s.start) extents →
-    AreReaches extents reaches n → IsNonDecreasingBy (λ s. s.start) reaches
-AreReaches-rising extents reaches n all rising are i j d before within =
-    let count = are.count in
-    let start_i = are.start i d (omega arith) in
-    let start_j = are.start j d (omega arith) in
-    let order = rising i j d before (omega arith) in
-    omega arith
 
 -- what the grown ranges hold the given ones hold
 pub IsCovered-from_reaches : (extents reaches : List Extent) (n a e : ℕ) → n ≡ length extents →

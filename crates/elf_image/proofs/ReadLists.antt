@@ -42,18 +42,12 @@ each_more P [] x each here (suc i) s e = absurd (cc)
 each_more P (y ∷ ys) x each here zero s e = each zero s e
 each_more P (y ∷ ys) x each here (suc i) s e = each_more (λ k. P (suc k)) ys x (λ k. each (suc k)) here i s e
 
-pub AreSections-none : (file : List ℕ) → AreSections file 0 []
-AreSections-none file = record { count_is = refl; each = λ i s e. absurd (cc) }
-
 pub AreSections-more : (file : List ℕ) (n : ℕ) (xs : List Section) (x : Section) → AreSections file n xs → IsSectionAt file n x →
     AreSections file (n + 1) (xs ++ x ∷ [])
 AreSections-more file n xs x are is = record {
   count_is = length-append xs (x ∷ []) ∙ ap (λ (k : ℕ). k + 1) are.count_is;
   each = each_more (IsSectionAt file) xs x are.each (subst (λ (k : ℕ). IsSectionAt file k x) (sym are.count_is) is);
 }
-
-pub AreSymbols-none : (file : List ℕ) (table : SectionHeader) → AreSymbols file table 0 []
-AreSymbols-none file table = record { count_is = refl; each = λ i s e. absurd (cc) }
 
 pub AreSymbols-more : (file : List ℕ) (table : SectionHeader) (n : ℕ) (xs : List Symbol) (x : Symbol) →
     AreSymbols file table n xs → IsSymbolAt file table (symbol_place table n) x → AreSymbols file table (n + 1) (xs ++ x ∷ [])

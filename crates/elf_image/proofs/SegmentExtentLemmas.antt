@@ -34,13 +34,6 @@ Extent-same s t start end place = λ i. record { start = start i; end = end i; p
 
 -- A loop over the segments that appends the range of each, if there is one.
 
-pub AreExtents-begin : (IsExtent : ℕ → Extent → Type 0) → AreExtents IsExtent 0 []
-AreExtents-begin IsExtent = record {
-  each = λ s (k, within, is). absurd (omega arith);
-  all = λ i s below is. absurd (omega arith);
-  ascending = λ i j d before within. absurd (omega arith);
-}
-
 none_more : (IsExtent : ℕ → Extent → Type 0) (n : ℕ) (extents : List Extent) → ((s : Extent) → IsExtent n s → ⊥) →
     AreExtents IsExtent n extents → AreExtents IsExtent (n + 1) extents
 none_more IsExtent n extents none are = record {

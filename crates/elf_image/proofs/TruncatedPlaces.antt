@@ -76,10 +76,6 @@ IsLowest-no_names file o table same lacks =
     same
     (IsLowest-none (λ p unnamed. lacks unnamed.0))
 
-pub IsLowest-no_table : (file : List ℕ) (o : Option SectionHeader) → None ≡ o → IsLowest (IsUnnamedSymbolOf file o) None
-IsLowest-no_table file o same =
-    subst (λ (t : Option SectionHeader). IsLowest (IsUnnamedSymbolOf file t) None) same (IsLowest-none (λ p unnamed. unnamed))
-
 -- the places beyond a header that is whole
 pub IsLowest-beyond : (file : List ℕ) (r : Option ℕ) → HasHeader file → IsLowest (IsTruncatedBeyond file) r →
     IsLowest (IsTruncated file) r

@@ -21,9 +21,6 @@ use Rattle.elf_make.proofs.Tightness.{is-tight, starts-above}
 module _ (s : Source) (above : Bool) (w : List ℕ) (read : IsElfOf s.elf.file.now s.elf) (sound : IsSound s.elf.file.now)
     (bytes : All (λ b. b < 256) s.elf.file.now) (can : All (CanHoldPiece s.elf) s.cells) (apart : AllPairs AreApart s.cells)
     (made : IsMade s above w) (sound_w : IsSound w) where
-  ps : List Segment
-  ps = s.elf.segments.items
-
   found-file : executable_segment (segments_of s.elf.file.now) ≡ Some (made.layout.code, made.laid_out.executable)
   found-file = ap executable_segment (sym read.segments) ∙ made.laid_out.found
 

@@ -5,7 +5,7 @@ use Rattle.std.specs.Prelude.{All, IfSome, IsFalse, IsTrue, Option, Some, nat_le
 use Rattle.std.specs.List.{list_any}
 use Rattle.std.proofs.lemmas.Bool.{and_parts, cases_lt, le-leb, leb-true, lt-ltb, ltb-true}
 use Rattle.std.proofs.lemmas.List.{get_or-map, get_or_append_left, length-map}
-use Rattle.std.proofs.lemmas.List.Elements.{All-append}
+use Rattle.std.proofs.lemmas.List.Elements.{All-append, All-cons}
 use Rattle.std.proofs.lemmas.List.Folds.{list_any_at}
 use Rattle.byteorder.specs.Numbers.{length-bytes_low_first}
 use Rattle.elf_image.specs.declared.segment.Segment.{Segment}
@@ -32,7 +32,7 @@ use Rattle.elf_make.specs.Source.{Source}
 use Rattle.elf_make.proofs.CellPatches.{moved-less, moved-more}
 use Rattle.elf_make.proofs.CellPieces.{CanHoldPiece}
 use Rattle.elf_make.proofs.CellPlaces.{CellPlace, cell-offset, cell-place}
-use Rattle.elf_make.proofs.ImageWritten.{all-more, patches, within-all, written-all}
+use Rattle.elf_make.proofs.ImageWritten.{patches, within-all, written-all}
 use Rattle.elf_make.proofs.Loads.{moved-before}
 use Rattle.elf_make.proofs.MadeHeaders.{headers, joined}
 use Rattle.elf_make.proofs.MadeInput.{by-tight, input-once, keep-behind, moved-none, offset-tight, tight-is}
@@ -245,7 +245,7 @@ module _ (s : Source) (tight : Bool) (w : List ℕ) (read : IsElfOf s.elf.file.n
     all-beside : All (IsBeside k) (patches s tight w read sound bytes made)
     all-beside =
         All-append (IsBeside k) (map patch_of made.cells) (headers s tight w made) cells-beside
-        (all-more (IsBeside k) (record { offset = made.table_at; bytes = segment_table made.segments })
+        (All-cons (IsBeside k) (record { offset = made.table_at; bytes = segment_table made.segments })
         (map patch_of (header_numbers made.fields)) table-beside fields-beside)
 
     front-is : get_or w k 0 ≡ get_or s.elf.file.now k 0

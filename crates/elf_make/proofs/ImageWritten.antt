@@ -6,7 +6,7 @@ use Rattle.std.specs.Option.{option_map_or}
 use Rattle.std.specs.List.{list_any}
 use Rattle.std.proofs.lemmas.Bool.{cases_lt, leb-false, lt-ltb, or_parts}
 use Rattle.std.proofs.lemmas.List.{get_or-map, get_or_default, length-map}
-use Rattle.std.proofs.lemmas.List.Elements.{All-append}
+use Rattle.std.proofs.lemmas.List.Elements.{All-append, All-cons}
 use Rattle.std.proofs.lemmas.List.Sums.{fold-append}
 use Rattle.byteorder.specs.Endian.{little_bytes}
 use Rattle.elf_image.specs.declared.segment.Segment.{Segment}
@@ -50,11 +50,6 @@ use Rattle.elf_make.proofs.MadeSegments.{new-loads}
 use Rattle.elf_make.proofs.SameBreak.{rounded_up-above, align-above}
 use Rattle.elf_make.proofs.SoundFiles.{table_crosses_not}
 use Rattle.elf_make.proofs.WrittenImages.{FitSegments, AreNewLoads, image-written}
-
--- one more of which it holds
-pub all-more : {X : Type 0} (P : X → Type 0) (x : X) (xs : List X) → P x → All P xs → All P (x ∷ xs)
-all-more P x xs first rest zero d below = first
-all-more P x xs first rest (suc k) d below = rest k d (omega arith)
 
 -- bytes are below 256, and so is what is read past their end
 low-bytes : (xs : List ℕ) → All (λ b. b < 256) xs → (j : ℕ) → get_or xs j 0 < 256
@@ -353,7 +348,7 @@ module _ (s : Source) (tight : Bool) (w : List ℕ) (read : IsElfOf s.elf.file.n
     pub all-left : All IsLeft patches
     all-left =
         All-append IsLeft (map patch_of made.cells) (headers s tight w made) cells-left
-        (all-more IsLeft (record { offset = made.table_at; bytes = segment_table made.segments })
+        (All-cons IsLeft (record { offset = made.table_at; bytes = segment_table made.segments })
         (map patch_of (header_numbers made.fields)) table-left fields-left)
 
   -- the whole memory

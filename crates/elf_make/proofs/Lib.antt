@@ -8,7 +8,6 @@ pub mod CodeMemory
 pub mod CodeWritten
 pub mod EntryWritten
 pub mod FileEnds
-pub mod FreeRange
 pub mod FromMade
 pub mod FrontWritten
 pub mod Growing

@@ -1,9 +1,7 @@
 -- A table of names that others were added to keeps its own, and has the new ones.
-use Rattle.std.proofs.Common.{◌≡◌, ◌∙◌, sym, ap, subst, refl, ℕ, zero, suc, ◌+◌, ◌≤◌, ◌<◌, List, [], ◌∷◌, ◌++◌, Bool, true, false}
-use Rattle.std.proofs.Common.{length, get_or, drop, arith}
-use Rattle.std.specs.Prelude.{take_while, not, ◌==◌, All, cond}
-use Rattle.std.proofs.Math.Seq.{drop-append_seam}
-use Rattle.std.proofs.lemmas.Bool.{eq-eqb, ne_eqb, eqb-true}
+use Rattle.std.proofs.Common.{◌≡◌, ◌∙◌, sym, ap, ℕ, zero, suc, ◌+◌, ◌≤◌, ◌<◌, List, [], ◌∷◌, ◌++◌, Bool, false}
+use Rattle.std.proofs.Common.{length, get_or, arith}
+use Rattle.std.specs.Prelude.{take_while, not, ◌==◌, cond}
 use Rattle.std.proofs.lemmas.List.Sums.{take_while-cons}
 use Rattle.elf_image.specs.file.Sections.{text_of}
 
@@ -27,17 +25,3 @@ text_of-front xs ys zero z from below is = front-same xs ys z below is
 text_of-front [] ys (suc i) z from below is = absurd (omega arith)
 text_of-front (x ∷ xs) ys (suc i) zero from below is = absurd (omega arith)
 text_of-front (x ∷ xs) ys (suc i) (suc z) from below is = text_of-front xs ys i z (omega arith) (omega arith) is
-
--- a name that was added, with its zero byte
-whole-name : (name rest : List ℕ) → All (λ b. 0 < b) name → take_while goes_on (name ++ 0 ∷ rest) ≡ name
-whole-name [] rest there = take_while-cons goes_on 0 rest
-whole-name (b ∷ name) rest there =
-    let some : b ≡ 0 → ⊥ = λ e. let above : 0 < b = there 0 b (omega arith) in absurd (omega arith) in
-    let goes : goes_on b ≡ true = ap not (ne_eqb b 0 some) in
-    take_while-cons goes_on b (name ++ 0 ∷ rest)
-    ∙ ap (λ (t : Bool). cond t (b ∷ take_while goes_on (name ++ 0 ∷ rest)) []) goes
-    ∙ ap (λ (t : List ℕ). b ∷ t) (whole-name name rest (λ k d below. there (suc k) d (omega arith)))
-
-pub text_of-added : (xs name rest : List ℕ) → All (λ b. 0 < b) name → text_of (xs ++ (name ++ 0 ∷ rest)) (length xs) ≡ name
-text_of-added xs name rest there =
-    ap (λ (ys : List ℕ). take_while goes_on ys) (drop-append_seam xs (name ++ 0 ∷ rest)) ∙ whole-name name rest there

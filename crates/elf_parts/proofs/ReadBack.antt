@@ -1,18 +1,17 @@
 -- What is read back of a file after numbers were put over its header's fields.
-use Rattle.std.proofs.Common.{◌≡◌, ◌∙◌, sym, ap, subst, refl, ℕ, ◌+◌, ◌≤◌, ◌<◌, ◌^◌, ◌⊎◌, inl, inr, List, [], ◌++◌, length}
-use Rattle.std.proofs.Common.{get_or, arith}
-use Rattle.std.specs.Prelude.{All, AllPairs, Contains}
+use Rattle.std.proofs.Common.{◌≡◌, ◌∙◌, sym, ap, ℕ, ◌+◌, ◌<◌, ◌^◌, List, [], length}
+use Rattle.std.proofs.Common.{arith}
+use Rattle.std.specs.Prelude.{All, AllPairs}
 use Rattle.std.proofs.lemmas.List.{append-nil}
 use Rattle.std.proofs.lemmas.List.Elements.{All-contains}
 use Rattle.byteorder.specs.Endian.{little_bytes, little_number}
 use Rattle.byteorder.specs.Numbers.{length-bytes_low_first, little_number-reads_back}
 use Rattle.elf_image.specs.declared.segment.Segment.{Segment}
 use Rattle.elf_image.specs.file.Header.{number_at, e_phoff, e_phnum, segments_of, segments_from}
-use Rattle.elf_parts.specs.Patches.{Patch, put_all, IsWithin, IsBeside, AreApart, Stands}
-use Rattle.elf_parts.specs.Spellings.{SegmentFits, segment_table}
+use Rattle.elf_parts.specs.Patches.{Patch, put_all, IsWithin, AreApart, Stands}
+use Rattle.elf_parts.specs.Spellings.{segment_table}
 use Rattle.elf_parts.specs.Assembly.{PutsNumber, PutsTable}
-use Rattle.elf_parts.proofs.Patches.{stands-each, number_at-stands, get_or-put_all}
-use Rattle.elf_image.proofs.NumberBytes.{number_at-same}
+use Rattle.elf_parts.proofs.Patches.{stands-each, number_at-stands}
 use Rattle.elf_parts.proofs.Spellings.{segments_from-stands}
 
 -- a number that a patch puts
@@ -40,14 +39,3 @@ segments_of-put_all ps xs o qs within apart puts =
     ap (λ (k : ℕ). segments_from (put_all xs ps) k (e_phnum (put_all xs ps))) at
     ∙ ap (λ (n : ℕ). segments_from (put_all xs ps) o n) count
     ∙ segments_from-stands qs (put_all xs ps) o puts.fits there
-
--- a number of which no patch puts a byte
-pub number_at-beside_all : (ps : List Patch) (xs : List ℕ) (o n : ℕ) → All (IsWithin (length xs)) ps →
-    All (λ p. (p.offset + length p.bytes ≤ o) ⊎ (o + n ≤ p.offset)) ps → number_at (put_all xs ps) o n ≡ number_at xs o n
-number_at-beside_all ps xs o n within apart =
-    number_at-same (put_all xs ps) xs o n
-    (λ k from below. get_or-put_all ps xs k within (λ j d low. beside k _ from below (apart j d low)))
-  where
-    beside : (k : ℕ) (p : Patch) → o ≤ k → k < o + n → (p.offset + length p.bytes ≤ o) ⊎ (o + n ≤ p.offset) → IsBeside k p
-    beside k p from below (inl high) = inr (omega arith)
-    beside k p from below (inr low) = inl (omega arith)

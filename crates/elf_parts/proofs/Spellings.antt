@@ -5,19 +5,17 @@ use Rattle.std.specs.Prelude.{All}
 use Rattle.std.proofs.Math.Seq.{drop-append-add}
 use Rattle.std.proofs.lemmas.List.{append-nil, append_assoc}
 use Rattle.std.proofs.lemmas.List.{get_or_append_left, get_or-append_right}
-use Rattle.byteorder.specs.Endian.{little_from, little_number, little_bytes}
+use Rattle.byteorder.specs.Endian.{little_number, little_bytes}
 use Rattle.byteorder.specs.Numbers.{length-bytes_low_first, little_number-reads_back}
 use Rattle.elf_image.specs.declared.segment.Segment.{Segment}
 use Rattle.elf_image.specs.declared.segment.TheConstants.{PHDR_SIZE}
 use Rattle.elf_image.specs.declared.section.SectionHeader.{SectionHeader}
-use Rattle.elf_image.specs.declared.section.TheConstants.{SHDR_SIZE}
 use Rattle.elf_image.specs.file.Header.{number_at, segment_at, segments_from}
-use Rattle.elf_image.specs.file.Sections.{section_header_at}
 use Rattle.elf_parts.specs.declared.spell.SymbolEntry.{SymbolEntry}
 use Rattle.elf_parts.specs.Patches.{Stands}
-use Rattle.elf_parts.specs.Spellings.{Number, number, spelled, segment_numbers, segment_bytes, section_numbers}
+use Rattle.elf_parts.specs.Spellings.{Number, number, spelled, segment_bytes}
 use Rattle.elf_parts.specs.Spellings.{section_header_bytes}
-use Rattle.elf_parts.specs.Spellings.{symbol_numbers, symbol_entry_bytes, SegmentFits, SectionFits, segment_table, section_table}
+use Rattle.elf_parts.specs.Spellings.{symbol_entry_bytes, SegmentFits, segment_table, section_table}
 use Rattle.elf_parts.proofs.Patches.{number_at-stands}
 
 -- Bytes that stand, in parts.
@@ -78,9 +76,6 @@ length-spelled_none = refl
 
 pub length-segment_bytes : (p : Segment) → length (segment_bytes p) ≡ 56
 length-segment_bytes p = simp (length-spelled_more, length-spelled_none)
-
-pub length-section_bytes : (s : SectionHeader) → length (section_header_bytes s) ≡ 64
-length-section_bytes s = simp (length-spelled_more, length-spelled_none)
 
 -- a number that stands in a file, by its place among the spelled ones
 field : (file : List ℕ) (o : ℕ) (bytes : List ℕ) (size q i n v : ℕ) → Stands file o bytes → length bytes ≡ size → i + n ≤ size →
@@ -164,63 +159,6 @@ pub ruleset tables = (segment_table-take, segment_table-none, append_assoc, appe
 
 -- Section headers.
 
-pub section_header_at-stands : (file : List ℕ) (o : ℕ) (s : SectionHeader) → SectionFits s →
-    Stands file o (section_header_bytes s) →
-    section_header_at file o ≡ s
-section_header_at-stands file o s fits stands = λ i. record {
-  name = at o 0 4 s.name (omega arith) (omega arith) (number_at-here 4 s.name _ fits.name) i;
-  kind = at (o + 4) 4 4 s.kind (omega arith) refl (number_at-next 4 s.name _ 0 4 ∙ number_at-here 4 s.kind _ fits.kind) i;
-  flags = at (o + 8) 8 8 s.flags (omega arith) refl
-      (number_at-next 4 s.name _ 4 8 ∙ number_at-next 4 s.kind _ 0 8 ∙ number_at-here 8 s.flags _ fits.flags) i;
-  addr = at (o + 16) 16 8 s.addr (omega arith) refl (past_flags 0 8 ∙ number_at-here 8 s.addr _ fits.addr) i;
-  offset = at (o + 24) 24 8 s.offset (omega arith) refl
-      (past_flags 8 8 ∙ number_at-next 8 s.addr _ 0 8 ∙ number_at-here 8 s.offset _ fits.offset) i;
-  size = at (o + 32) 32 8 s.size (omega arith) refl
-      (past_flags 16 8 ∙ number_at-next 8 s.addr _ 8 8 ∙ number_at-next 8 s.offset _ 0 8 ∙ number_at-here 8 s.size _ fits.size) i;
-  link = at (o + 40) 40 4 s.link (omega arith) refl (past_size 0 4 ∙ number_at-here 4 s.link _ fits.link) i;
-  info = at (o + 44) 44 4 s.info (omega arith) refl
-      (past_size 4 4 ∙ number_at-next 4 s.link _ 0 4 ∙ number_at-here 4 s.info _ fits.info) i;
-  align = at (o + 48) 48 8 s.align (omega arith) refl
-      (past_size 8 8 ∙ number_at-next 4 s.link _ 4 8 ∙ number_at-next 4 s.info _ 0 8 ∙ number_at-here 8 s.align _ fits.align) i;
-  entsize = at (o + 56) 56 8 s.entsize (omega arith) refl (past_size 16 8 ∙ number_at-next 4 s.link _ 12 8
-      ∙ number_at-next 4 s.info _ 8 8 ∙ number_at-next 8 s.align _ 0 8 ∙ number_at-here 8 s.entsize _ fits.entsize) i;
-}
-  where
-    behind_flags : List Number
-    behind_flags = number 8 s.addr ∷ number 8 s.offset ∷ number 8 s.size ∷ number 4 s.link ∷ number 4 s.info ∷ number 8 s.align
-        ∷ number 8 s.entsize ∷ []
-
-    behind_size : List Number
-    behind_size = number 4 s.link ∷ number 4 s.info ∷ number 8 s.align ∷ number 8 s.entsize ∷ []
-
-    past_flags : (i n : ℕ) → number_at (section_header_bytes s) (4 + (4 + (8 + i))) n ≡ number_at (spelled behind_flags) i n
-    past_flags i n = number_at-next 4 s.name _ (4 + (8 + i)) n ∙ number_at-next 4 s.kind _ (8 + i) n
-        ∙ number_at-next 8 s.flags behind_flags i n
-
-    past_size : (i n : ℕ) →
-        number_at (section_header_bytes s) (4 + (4 + (8 + (8 + (8 + (8 + i)))))) n ≡ number_at (spelled behind_size) i n
-    past_size i n = past_flags (8 + (8 + (8 + i))) n ∙ number_at-next 8 s.addr _ (8 + (8 + i)) n
-        ∙ number_at-next 8 s.offset _ (8 + i) n ∙ number_at-next 8 s.size behind_size i n
-
-    at : (q i n v : ℕ) → i + n ≤ 64 → q ≡ o + i → number_at (section_header_bytes s) i n ≡ v → number_at file q n ≡ v
-    at q i n v inside place is = field file o (section_header_bytes s) 64 q i n v stands (length-section_bytes s) inside place is
-
-pub section-in-table : (ss : List SectionHeader) (file : List ℕ) (o k : ℕ) (d : SectionHeader) → All SectionFits ss →
-    Stands file o (section_table ss) → k < length ss → section_header_at file (o + SHDR_SIZE * k) ≡ get_or ss k d
-unfolding section_table
-section-in-table [] file o k d fits stands below = absurd (omega arith)
-section-in-table (s ∷ ss) file o zero d fits stands below =
-    let here : o + SHDR_SIZE * 0 ≡ o = omega arith in
-    ap (λ (q : ℕ). section_header_at file q) here
-    ∙ section_header_at-stands file o s (fits 0 s (omega arith))
-    (stands-first file o (section_header_bytes s) (section_table ss) stands)
-section-in-table (s ∷ ss) file o (suc k) d fits stands below =
-    let next : Stands file (o + SHDR_SIZE) (section_table ss) = subst (λ (n : ℕ). Stands file (o + n) (section_table ss))
-    (length-section_bytes s) (stands-rest file o (section_header_bytes s) (section_table ss) stands) in
-    let there : o + SHDR_SIZE * suc k ≡ o + SHDR_SIZE + SHDR_SIZE * k = omega arith in
-    ap (λ (q : ℕ). section_header_at file q) there
-    ∙ section-in-table ss file (o + SHDR_SIZE) k d (λ j e low. fits (suc j) e (omega arith)) next (omega arith)
-
 pub section_table-take : (ss : List SectionHeader) (i : ℕ) (d : SectionHeader) → i < length ss →
     section_table (take (i + 1) ss) ≡ section_table (take i ss) ++ section_header_bytes (get_or ss i d)
 unfolding section_table
@@ -249,9 +187,6 @@ length-segment_table (p ∷ ps) =
     ∙ ap (λ (n : ℕ). 56 + n) rest ∙ more
 
 -- Symbols.
-
-pub length-symbol_bytes : (s : SymbolEntry) → length (symbol_entry_bytes s) ≡ 24
-length-symbol_bytes s = simp (length-spelled_more, length-spelled_none)
 
 pub symbol_bytes-appended : (xs : List ℕ) (s : SymbolEntry) →
     (((((xs ++ little_bytes 4 s.name) ++ little_bytes 1 s.info) ++ little_bytes 1 s.other) ++ little_bytes 2 s.section)

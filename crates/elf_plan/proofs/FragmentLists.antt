@@ -59,34 +59,6 @@ new_byte old fragment q r b func is low end high =
     let same : q.end ≡ r.end = ap (λ (x : Fragment). x.end) is in
     inr (func ∙ ap (λ (x : Fragment). x.func) is, low, omega arith)
 
-pub grows-first : (fragment : Fragment) → fragment.start < fragment.end → Grows [] fragment (fragment ∷ [])
-grows-first fragment some = record {
-  sorted = λ old. record {
-    some = All-push (λ (r : Fragment). r.start < r.end) [] fragment old.some some;
-    apart = all_pairs_push Apart [] fragment old.apart (λ k d within. absurd (omega arith));
-  };
-  keeps = λ f start end has. record {
-    fragment = has.fragment;
-    there = Contains-append_left [] (fragment ∷ []) has.fragment has.there;
-    func = has.func;
-    low = has.low;
-    high = has.high;
-  };
-  has = λ _. record {
-    fragment = fragment;
-    there = Contains-push [] fragment;
-    func = refl;
-    low = omega arith;
-    high = omega arith;
-  };
-  only = λ r there b low high. ⊎_elim
-      (λ (in_none : Contains [] r). let less = in_none.1 in absurd (omega arith))
-      (λ (is : fragment ≡ r).
-      let start : fragment.start ≡ r.start = ap (λ (x : Fragment). x.start) is in
-      new_byte [] fragment fragment r b refl is (omega arith) refl high)
-      (Contains-push_cases [] fragment r there);
-}
-
 pub grows-added : (front : List Fragment) (last fragment : Fragment) → fragment.start < fragment.end →
     last.end ≤ fragment.start → (last.func ≡ fragment.func → last.end ≡ fragment.start → ⊥) →
     Grows (front ++ last ∷ []) fragment ((front ++ last ∷ []) ++ fragment ∷ [])
@@ -299,13 +271,6 @@ only-fragment fragments to n d sorted within above from r (j, j_in, j_is) low hi
     (cases_lt j n)
 
 -- One span more.
-
-pub fragments-none : (funcs : List Func) → AreFragments funcs [] []
-fragments-none funcs = record {
-  sorted = record { some = λ k d within. absurd (omega arith); apart = λ i j d less within. absurd (omega arith) };
-  held = λ k d within. absurd (omega arith);
-  filled = λ r there. let less = there.1 in absurd (omega arith);
-}
 
 -- a byte stays one of a function
 one_more : (funcs : List Func) (spans : List Span) (s : Span) (f b : ℕ) → HasByte funcs spans f b →

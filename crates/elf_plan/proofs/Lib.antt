@@ -9,5 +9,4 @@ pub mod LoadedRanges
 pub mod NewSegments
 pub mod Pairs
 pub mod Positions
-pub mod RangesWithNew
 pub mod SectionOrder

@@ -66,9 +66,6 @@ passes sections test offset index = of (slice_get sections index)
 abbrev pub ListsBelow : List Section → (ℕ → Section → Bool) → ℕ → List (ℕ × ℕ) → Type 0
 ListsBelow sections test n xs = (e : ℕ × ℕ) → Contains xs e ↔ ((e.1 < n) × PassesAt sections test e)
 
-pub lists_none : (sections : List Section) (test : ℕ → Section → Bool) → ListsBelow sections test 0 []
-lists_none sections test e = ((λ (k, within, is). absurd (omega arith)), (λ (low, is). absurd (omega arith)))
-
 pub lists_skip : (sections : List Section) (test : ℕ → Section → Bool) (i : ℕ) (xs : List (ℕ × ℕ)) →
     offset_if test i (slice_get sections i) ≡ None → ListsBelow sections test i xs → ListsBelow sections test (i + 1) xs
 lists_skip sections test i xs none lists (o, k) = (

@@ -1,12 +1,13 @@
 -- The sections that are added to a written file, and the names of debug tables that the input hasn't.
 use Rattle.std.proofs.Common.{◌≡◌, ◌≢◌, ℕ, ◌+◌, ◌-◌, ◌<◌, ◌≤◌, List, length, Option, Some, None, Bool, true, false, refl, sym, ap, ◌∙◌}
 use Rattle.std.proofs.Common.{subst, arith, inl, inr, ◌⊎◌}
-use Rattle.std.specs.Prelude.{slice_get, is_some, IsSomeAnd, String, Vec, codes, Contains, IfSome}
+use Rattle.std.specs.Prelude.{slice_get, is_some, IsSomeAnd, String, Vec, codes, IfSome}
 use Rattle.std.specs.Str.{bytes_eq}
-use Rattle.std.proofs.lemmas.Bool.{and_parts, cases_lt, cases_order}
-use Rattle.std.proofs.lemmas.Option.{slice_get_within, slice_get-get_or}
-use Rattle.rb_bytes.proofs.ListLemmas.{find_none, if_found, slice_get_found}
+use Rattle.std.proofs.lemmas.Bool.{and_parts, cases_lt, cases_order, cases_Bool, false_from_ne_true}
+use Rattle.std.proofs.lemmas.Option.{slice_get_within}
+use Rattle.rb_bytes.proofs.ListLemmas.{find_none, if_found, slice_get_found, contains_at}
 use Rattle.rb_bytes.proofs.Searches.{find-none}
+use Rattle.rb_bytes.proofs.Options.{option_cases}
 use Rattle.rv_code.proofs.lists.Follows.{at_contains}
 use Rattle.rv_code.specs.isa.Op.{flag}
 use Rattle.elf_image.specs.declared.elf.Elf.{Elf}
@@ -18,7 +19,7 @@ use Rattle.elf_plan.specs.declared.area.Shift.{Shift}
 use Rattle.elf_plan.specs.Contents.{section_bytes}
 use Rattle.elf_plan.specs.NewSections.{AreNewSections, IsAdded, IsInArea, adds_ranges, bytes_called}
 use Rattle.elf_write.specs.TablePlaces.{Holds}
-use Rattle.elf_write.proofs.GivenTables.{found_first, not_true, same_at, same_bytes}
+use Rattle.elf_write.proofs.GivenTables.{found_first, same_at, same_bytes}
 
 -- the name of one of them: the unwind table where the area has it, and ranges where they are added, which come last
 pub data AddedName (adds : Bool) (frames : Option ℕ) (IsLast : Type 0) (name : List ℕ) : Type 0 where
@@ -26,18 +27,6 @@ pub data AddedName (adds : Bool) (frames : Option ℕ) (IsLast : Type 0) (name :
   is_frames : (a : ℕ) → frames ≡ Some a → name ≡ codes ".eh_frame" → AddedName adds frames IsLast name
   is_index : name ≡ codes ".eh_frame_hdr" → AddedName adds frames IsLast name
   is_ranges : adds ≡ true → name ≡ codes ".debug_rnglists" → IsLast → AddedName adds frames IsLast name
-
-option_cases : (o : Option ℕ) → (o ≡ None) ⊎ ((a : ℕ) × (o ≡ Some a))
-option_cases None = inl refl
-option_cases (Some a) = inr (a, refl)
-
-bool_cases : (b : Bool) → (b ≡ true) ⊎ (b ≡ false)
-bool_cases true = inl refl
-bool_cases false = inr refl
-
--- an item of a list, by its place
-pub item_place : {X : Type 0} (xs : List X) (x : X) → Contains xs x → (k : ℕ) × (slice_get xs k ≡ Some x)
-item_place xs x (k, within, is) = (k, slice_get-get_or xs k x within ∙ ap Some is)
 
 module _ {Y Z : Type 0} (elf new : Elf) (tables : List (String Y × Vec ℕ Z)) (area : Area) (shift : Shift) (code : List ℕ)
     (are : AreNewSections elf new tables area shift code) where
@@ -111,7 +100,7 @@ module _ {Y Z : Type 0} (elf new : Elf) (tables : List (String Y × Vec ℕ Z)) 
       inside = slice_get_within new.sections.items k z at
 
       last : (f i : ℕ) → flag (is_some area.frames) ≡ f → flag (is_some area.index) ≡ i → n + f + i < k → IsNamed k z
-      last f i is_f is_i high = elim (bool_cases adds) [
+      last f i is_f is_i high = elim (cases_Bool adds) [
         | inl some ↦
             let count = are.count in
             let one : flag adds ≡ 1 = ap flag some in
@@ -145,7 +134,7 @@ module _ {Y Z : Type 0} (elf new : Elf) (tables : List (String Y × Vec ℕ Z)) 
     old_none k z less at =
         let (s, at_s) = slice_get_found elf.sections.items k less in
         same_at elf new tables area shift code are name debug k s z at_s at
-        ∙ not_true (is_called name s) (λ called.
+        ∙ false_from_ne_true (is_called name s) (λ called.
         find_none (is_called name) elf.sections.items s absent (at_contains elf.sections.items k s at_s) called)
 
     named : (z : Section) → is_called name z ≡ true → z.name.now ≡ name
@@ -154,7 +143,7 @@ module _ {Y Z : Type 0} (elf new : Elf) (tables : List (String Y × Vec ℕ Z)) 
     -- a table that isn't added isn't there
     pub absent_stays : (adds ≡ true → name ≢ codes ".debug_rnglists") → section_called new.sections.items name ≡ None
     absent_stays differs =
-        find-none (is_called name) new.sections.items (λ z is_in. let p = item_place new.sections.items z is_in in all p.0 z p.1)
+        find-none (is_called name) new.sections.items (λ z is_in. let p = contains_at new.sections.items z is_in in all p.0 z p.1)
       where
         wrong : (L : Type 0) (x : List ℕ) → AddedName adds area.frames L x → x ≡ name → ⊥
         wrong L x (is_text e) is = let c : names_debug (codes ".text") ≡ true = ap names_debug (sym e ∙ is) ∙ debug in absurd (cc)
@@ -167,7 +156,7 @@ module _ {Y Z : Type 0} (elf new : Elf) (tables : List (String Y × Vec ℕ Z)) 
         all : (k : ℕ) (z : Section) → slice_get new.sections.items k ≡ Some z → is_called name z ≡ false
         all k z at = elim (cases_lt k n) [
           | inl less ↦ old_none k z less at
-          | inr past ↦ not_true (is_called name z) (λ h.
+          | inr past ↦ false_from_ne_true (is_called name z) (λ h.
               wrong (k ≡ length new.sections.items - 1) z.name.now (added k z past at) (named z h))
         ]
 
@@ -183,7 +172,7 @@ module _ {Y Z : Type 0} (elf new : Elf) (tables : List (String Y × Vec ℕ Z)) 
       found_first (is_called (codes ".debug_rnglists")) new.sections.items (length new.sections.items - 1) z at called
       (λ k x less at_x. elim (cases_lt k n) [
         | inl low ↦ old_none (codes ".debug_rnglists") refl absent k x low at_x
-        | inr past ↦ not_true (is_called (codes ".debug_rnglists") x) (λ h.
+        | inr past ↦ false_from_ne_true (is_called (codes ".debug_rnglists") x) (λ h.
             not_last k x.name.now less (added k x past at_x) (named (codes ".debug_rnglists") refl absent x h))
       ]) in
       subst (λ (o : Option Section). IsSomeAnd o (λ s. section_bytes new.file.now s

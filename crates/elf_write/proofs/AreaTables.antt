@@ -1,11 +1,11 @@
 -- The sections of the unwind table and its index: those that the names mean in a written file are the added ones.
 use Rattle.std.proofs.Common.{◌≡◌, ℕ, ◌+◌, ◌-◌, ◌<◌, List, ◌++◌, length, Option, Some, None, Bool, true, false, refl, sym, ap, ◌∙◌, subst}
 use Rattle.std.proofs.Common.{arith, inl, inr}
-use Rattle.std.specs.Prelude.{◌&&◌, ◌||◌, slice_get, is_some, if◌then◌else◌, nat_eq, String, Vec, codes, IfSome, IsSomeAnd}
+use Rattle.std.specs.Prelude.{◌&&◌, slice_get, is_some, if◌then◌else◌, nat_eq, String, Vec, codes, IfSome, IsSomeAnd}
 use Rattle.std.specs.List.{starts_with}
 use Rattle.std.specs.Str.{bytes_eq}
-use Rattle.std.proofs.lemmas.Bool.{and_parts, cases_lt, cases_order}
-use Rattle.rb_bytes.proofs.ListLemmas.{slice_get_found}
+use Rattle.std.proofs.lemmas.Bool.{and_parts, cases_lt, cases_order, or_right, false_from_ne_true}
+use Rattle.rb_bytes.proofs.ListLemmas.{slice_get_found, contains_at}
 use Rattle.rb_bytes.proofs.Searches.{find-none}
 use Rattle.rv_code.specs.isa.Op.{flag}
 use Rattle.elf_image.specs.declared.elf.Elf.{Elf}
@@ -18,13 +18,9 @@ use Rattle.elf_plan.specs.declared.area.Shift.{Shift}
 use Rattle.elf_plan.specs.NewSections.{AreNewSections, IsInArea, adds_ranges, bytes_called}
 use Rattle.elf_plan.specs.OldNames.{is_renamed, new_name, old_name}
 use Rattle.elf_write.specs.TablePlaces.{HoldsAt, IsLoadedAt}
-use Rattle.elf_write.proofs.AddedSections.{AddedName, added, is_text, is_frames, is_index, is_ranges, item_place}
+use Rattle.elf_write.proofs.AddedSections.{AddedName, added, is_text, is_frames, is_index, is_ranges}
 use Rattle.rb_bytes.proofs.Tests.{clash}
-use Rattle.elf_write.proofs.GivenTables.{found_first, not_true, same_bytes}
-
-or_right : (a b : Bool) → b ≡ true → (a || b) ≡ true
-or_right true b h = refl
-or_right false b h = h
+use Rattle.elf_write.proofs.GivenTables.{found_first, same_bytes}
 
 old_frames : (x : List ℕ) → bytes_eq (old_name x) (codes ".eh_frame") ≡ false
 old_frames x = by (starts_with nat_eq x (codes "."))
@@ -59,7 +55,7 @@ module _ {Y Z : Type 0} (elf new : Elf) (tables : List (String Y × Vec ℕ Z)) 
       by : (b : Bool) → is_renamed s ≡ b → bytes_eq m.name.now name ≡ false
       by true e = ap (λ (x : List ℕ). bytes_eq x name) (named ∙ rw e refl) ∙ old s.name.now
       by false e =
-          not_true (bytes_eq m.name.now name) (λ same.
+          false_from_ne_true (bytes_eq m.name.now name) (λ same.
           let kept : m.name.now ≡ s.name.now = named ∙ rw e refl in
           let is : s.name.now ≡ name = sym kept ∙ same_bytes m.name.now name same in
           clash (is_renamed s) (or_right (holds_code s.flags) (names_frames s.name.now) (ap names_frames is ∙ frames)) e)
@@ -166,7 +162,7 @@ module _ {Y Z : Type 0} (elf new : Elf) (tables : List (String Y × Vec ℕ Z)) 
   pub no_frames_stand : area.frames ≡ None → section_called new.sections.items (codes ".eh_frame") ≡ None
   no_frames_stand none =
       find-none (is_called (codes ".eh_frame")) new.sections.items
-      (λ z is_in. let p = item_place new.sections.items z is_in in all p.0 z p.1)
+      (λ z is_in. let p = contains_at new.sections.items z is_in in all p.0 z p.1)
     where
       wrong : (L : Type 0) (x : List ℕ) → AddedName (adds_ranges elf.sections.items tables) area.frames L x →
           x ≡ codes ".eh_frame" → ⊥
@@ -184,7 +180,7 @@ module _ {Y Z : Type 0} (elf new : Elf) (tables : List (String Y × Vec ℕ Z)) 
       all : (k : ℕ) (z : Section) → slice_get new.sections.items k ≡ Some z → is_called (codes ".eh_frame") z ≡ false
       all k z at = elim (cases_lt k n) [
         | inl less ↦ none_before (codes ".eh_frame") refl old_frames k z less at
-        | inr past ↦ not_true (is_called (codes ".eh_frame") z) (λ h.
+        | inr past ↦ false_from_ne_true (is_called (codes ".eh_frame") z) (λ h.
             wrong (k ≡ length new.sections.items - 1) z.name.now
             (added elf new tables area shift code are k z past at)
             (same_bytes z.name.now (codes ".eh_frame")

@@ -8,7 +8,7 @@ use Rattle.std.specs.Option.{option_map_or}
 use Rattle.std.specs.List.{starts_with, position_or_len}
 use Rattle.std.specs.Str.{bytes_eq}
 use Rattle.std.specs.Cmp.Lexicographic.{same_text}
-use Rattle.std.proofs.lemmas.Bool.{and_parts, eqb-true, eq-eqb, lt-ltb, ltb-true}
+use Rattle.std.proofs.lemmas.Bool.{and_parts, eqb-true, eq-eqb, lt-ltb, ltb-true, false_from_ne_true, and_right}
 use Rattle.std.proofs.lemmas.List.Folds.{find_at}
 use Rattle.std.proofs.lemmas.List.Quantifiers.{position-Some}
 use Rattle.std.proofs.lemmas.Option.{slice_get_within, slice_get-get_or, get_or_from_slice_get, same_Some}
@@ -32,15 +32,6 @@ use Rattle.elf_plan.specs.NewSections.{AreNewSections, Follows, bytes_called, fl
 use Rattle.elf_plan.specs.OldNames.{is_renamed, new_name, old_name}
 use Rattle.elf_write.specs.TablePlaces.{takes_table}
 
--- a test that isn't true
-pub not_true : (b : Bool) → (b ≡ true → ⊥) → b ≡ false
-not_true true h = absurd (h refl)
-not_true false h = refl
-
-and_false : (a b : Bool) → b ≡ false → (a && b) ≡ false
-and_false true b h = h
-and_false false b h = refl
-
 pub same_bytes : (xs ys : List ℕ) → bytes_eq xs ys ≡ true → xs ≡ ys
 same_bytes xs ys h = same_text xs ys (sym h)
 
@@ -55,14 +46,14 @@ other_second b c d x y differs h k =
 
 dotted : (c : ℕ) (xs name : List ℕ) → nat_eq c 100 ≡ false → names_debug name ≡ true → bytes_eq (46 ∷ c ∷ xs) name ≡ true → ⊥
 dotted c xs [] differs d h = absurd (cc)
-dotted c xs (a ∷ []) differs d h = clash (nat_eq 46 a && false) h (and_false (nat_eq 46 a) false refl)
+dotted c xs (a ∷ []) differs d h = clash (nat_eq 46 a && false) h (and_right (nat_eq 46 a) false refl)
 dotted c xs (a ∷ b ∷ rest) differs d h =
     other_second b c 100 (bytes_eq xs rest) (bytes_eq (101 ∷ 98 ∷ 117 ∷ 103 ∷ 95 ∷ []) (take 5 rest)) differs
     ((and_parts (nat_eq 46 a) (nat_eq c b && bytes_eq xs rest) h).1)
     ((and_parts (nat_eq 46 a) (nat_eq 100 b && bytes_eq (101 ∷ 98 ∷ 117 ∷ 103 ∷ 95 ∷ []) (take 5 rest)) d).1)
 
 old_other : (x name : List ℕ) → names_debug name ≡ true → bytes_eq (old_name x) name ≡ false
-old_other x name d = not_true (bytes_eq (old_name x) name) (by (starts_with nat_eq x (codes ".")))
+old_other x name d = false_from_ne_true (bytes_eq (old_name x) name) (by (starts_with nat_eq x (codes ".")))
   where
     by : (b : Bool) → bytes_eq (if b then codes ".old" ++ x else codes ".old." ++ x) name ≡ true → ⊥
     by true h = dotted 111 (108 ∷ 100 ∷ x) name refl d h
@@ -71,7 +62,7 @@ old_other x name d = not_true (bytes_eq (old_name x) name) (by (starts_with nat_
 -- no name of a debug table is one of unwinding
 pub no_frames : (name : List ℕ) → names_debug name ≡ true → names_frames name ≡ false
 no_frames name d =
-    not_true (names_frames name) (by (bytes_eq name (codes ".eh_frame")) (bytes_eq name (codes ".eh_frame_hdr")) refl refl)
+    false_from_ne_true (names_frames name) (by (bytes_eq name (codes ".eh_frame")) (bytes_eq name (codes ".eh_frame_hdr")) refl refl)
   where
     one : (other : List ℕ) → names_debug other ≡ false → bytes_eq name other ≡ true → ⊥
     one other none h = clash (names_debug other) (ap names_debug (sym (same_bytes name other h)) ∙ d) none
@@ -82,9 +73,6 @@ no_frames name d =
     by false false is_a is_b h = absurd (cc)
 
 -- First of several.
-
-get_is : {X : Type 0} (xs : List X) (k : ℕ) (x d : X) → slice_get xs k ≡ Some x → get_or xs k d ≡ x
-get_is xs k x d at = get_or_from_slice_get xs k x d at
 
 pub found_first : {X : Type 0} (q : X → Bool) (ys : List X) (i : ℕ) (y : X) → slice_get ys i ≡ Some y → q y ≡ true →
     ((k : ℕ) (z : X) → k < i → slice_get ys k ≡ Some z → q z ≡ false) → find q ys ≡ Some y
@@ -193,7 +181,7 @@ module _ {Y Z : Type 0} (elf new : Elf) (tables : List (String Y × Vec ℕ Z)) 
         let one : n.flags ≡ SHF_ALLOC = left ∙ rw (is_l, is_k) refl in meant_so s n (rw (one, is_l) refl) kept
     left_meant true false s n is_l is_k left plain kept =
         let differs : bytes_eq s.name.now name ≡ false =
-        not_true (bytes_eq s.name.now name) (λ h. clash (names_debug s.name.now)
+        false_from_ne_true (bytes_eq s.name.now name) (λ h. clash (names_debug s.name.now)
         (ap names_debug (same_bytes s.name.now name h) ∙ debug) is_k) in
         ap (λ (b : Bool). b && is_meant_by name n) (ap (λ (x : List ℕ). bytes_eq x name) kept ∙ differs)
         ∙ sym (ap (λ (b : Bool). b && is_meant_by name s) differs)
@@ -218,7 +206,7 @@ module _ {Y Z : Type 0} (elf new : Elf) (tables : List (String Y × Vec ℕ Z)) 
         by_frames : (b : Bool) → names_frames s.name.now ≡ b → holds_code s.flags ≡ false → is_called name n ≡ is_called name s
         by_frames true e plain =
             renamed (rw (plain, e) refl) ∙ sym (ap (λ (b : Bool). b && is_meant_by name s)
-            (not_true (bytes_eq s.name.now name) (λ same.
+            (false_from_ne_true (bytes_eq s.name.now name) (λ same.
             clash (names_frames name) (ap names_frames (sym (same_bytes s.name.now name same)) ∙ e) other)))
         by_frames false e plain =
             plain_called s n plain (named ∙ rw (plain, e) refl) (flags_stay s n plain flags)
@@ -226,8 +214,8 @@ module _ {Y Z : Type 0} (elf new : Elf) (tables : List (String Y × Vec ℕ Z)) 
         by_code : (b : Bool) → holds_code s.flags ≡ b → is_called name n ≡ is_called name s
         by_code true e =
             let none : is_meant_by name s ≡ false =
-            meant s ∙ and_false (not (is_loaded s)) (not (holds_code s.flags)) (ap not e) in
-            renamed (rw e refl) ∙ sym (and_false (bytes_eq s.name.now name) (is_meant_by name s) none)
+            meant s ∙ and_right (not (is_loaded s)) (not (holds_code s.flags)) (ap not e) in
+            renamed (rw e refl) ∙ sym (and_right (bytes_eq s.name.now name) (is_meant_by name s) none)
         by_code false e = by_frames (names_frames s.name.now) refl e
 
     pub same_at : (k : ℕ) (x y : Section) → slice_get elf.sections.items k ≡ Some x → slice_get new.sections.items k ≡ Some y →
@@ -240,7 +228,7 @@ module _ {Y Z : Type 0} (elf new : Elf) (tables : List (String Y × Vec ℕ Z)) 
       called_i : is_called name s ≡ true
       called_i =
           let h = position-Some (is_called name) elf.sections.items i s first in
-          ap (is_called name) (sym (get_is elf.sections.items i s s at)) ∙ h.1
+          ap (is_called name) (sym (get_or_from_slice_get elf.sections.items i s s at)) ∙ h.1
 
       -- the section of the name is the same
       pub new_called : section_called new.sections.items name ≡ Some n
@@ -269,7 +257,7 @@ module _ {Y Z : Type 0} (elf new : Elf) (tables : List (String Y × Vec ℕ Z)) 
               let same : j ≡ i = eqb-true j i h in
               let p = position-Some (is_called x) elf.sections.items j s e in
               let called : is_called x s ≡ true =
-              ap (is_called x) (sym (get_is elf.sections.items i s s at))
+              ap (is_called x) (sym (get_or_from_slice_get elf.sections.items i s s at))
               ∙ ap (λ (k : ℕ). is_called x (get_or elf.sections.items k s)) (sym same) ∙ p.1 in
               let of_x = same_bytes s.name.now x (and_parts (bytes_eq s.name.now x) (is_meant_by x s) called).0 in
               let of_name = (and_parts (bytes_eq s.name.now name) (is_meant_by name s) called_i).0 in

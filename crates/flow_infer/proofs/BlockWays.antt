@@ -7,6 +7,7 @@ use Rattle.std.specs.Option.{option_map_or}
 use Rattle.std.proofs.lemmas.Bool.{eq-eqb, eqb-true}
 use Rattle.std.proofs.lemmas.List.Sorted.{sum_by-IsPermutation}
 use Rattle.std.proofs.lemmas.Option.{same_Some, slice_get-get_or, slice_get_within}
+use Rattle.rb_bytes.proofs.Options.{some_and, of_some}
 use Rattle.rv_code.specs.declared.placed.Func.{Func}
 use Rattle.rv_code.specs.declared.placed.Block.{Block}
 use Rattle.rv_code.specs.layout.Blocks.{block_start}
@@ -20,12 +21,6 @@ use Rattle.flow_infer.specs.Sources.{AreEntries, AreSources, IsCodeOf, IsLinkIn,
 use Rattle.flow_infer.proofs.Sums.{sum_mapped}
 
 -- What holds of the item at a place, and a number of it.
-
-some_and : {A : Type 0} (P : A → Type 0) (o : Option A) (x : A) → o ≡ Some x → P x → IsSomeAnd o P
-some_and {A} P o x is holds = subst (λ (o : Option A). IsSomeAnd o P) (sym is) holds
-
-of_some : {A : Type 0} (P : A → Type 0) (o : Option A) (x : A) → o ≡ Some x → IsSomeAnd o P → P x
-of_some {A} P o x is holds = subst (λ (o : Option A). IsSomeAnd o P) is holds
 
 module _ {A : Type 0} (P : A → Type 0) (g : A → ℕ) (o : Option A) (x : A) (is : o ≡ Some x) where
   counted_some : (r c : ℕ) → P x → r ≡ g x → (Some r ≡ Some c) ↔ (IsSomeAnd o P × (c ≡ option_map_or g o 0))

@@ -7,6 +7,7 @@ use Rattle.std.proofs.lemmas.Bool.{cases_lt}
 use Rattle.std.proofs.lemmas.List.Elements.{All-push, Contains-append_left, Contains-get_or, Contains-push, Contains-push_cases}
 use Rattle.std.proofs.lemmas.List.Quantifiers.{all_pairs_push}
 use Rattle.std.proofs.lemmas.Option.{same_Some}
+use Rattle.std.proofs.lemmas.List.{append-nil}
 use Rattle.rv_code.specs.layout.Lists.{ListsAll}
 use Rattle.rv_code.specs.layout.ProgramCode.{ProgramCode}
 use Rattle.rb_bytes.proofs.Members.{Contains-nil}
@@ -15,7 +16,6 @@ use Rattle.flow_infer.specs.declared.source.Source.{Source}
 use Rattle.flow_infer.specs.Links.{CountedEnds, IsLinkBefore, a_block, counted_ends, rank}
 use Rattle.flow_infer.specs.Sources.{AreLinksUpto, AreLinksWithin, IsBelow, IsCodeOf, IsFunctionRange, IsLinkIn, IsLinkUpto, IsLinkWithin}
 use Rattle.flow_infer.specs.Sources.{link_if}
-use Rattle.flow_infer.proofs.Runs.{append_none}
 
 pub rank_same : (o p : Option ℕ) → rank o ≡ rank p → o ≡ p
 rank_same None None same = refl
@@ -36,7 +36,7 @@ pub all_pushed : (P : Link → Type 0) (x0 x1 way : Option ℕ) (links new : Lis
 all_pushed P x0 x1 way links new holds is all = subst (All P) (sym is) (by way)
   where
     by : (w : Option ℕ) → All P (links ++ option_to_list (link_if x0 x1 w))
-    by None = subst (All P) (sym (append_none links)) all
+    by None = subst (All P) (sym (append-nil links)) all
     by (Some c) = All-push P links (record { from = x0; to = x1; count = c; flow = c }) all (holds c)
 
 module _ (s : Source) (first end : ℕ) (range : IsFunctionRange s.blocks.now first end) where
@@ -74,7 +74,7 @@ module _ (s : Source) (first end : ℕ) (range : IsFunctionRange s.blocks.now fi
       by : (w : Option ℕ) → ((c : ℕ) → (w ≡ Some c) ↔ IsLinkIn code s (x0, x1, c)) →
           ListsAll (IsLinkUpto code s first end r (q + 1)) (IsLinkBefore s.blocks.now)
           (ends ++ option_to_list (option_map (λ c. (x0, x1, c)) w))
-      by None is = subst (ListsAll (IsLinkUpto code s first end r (q + 1)) (IsLinkBefore s.blocks.now)) (sym (append_none ends))
+      by None is = subst (ListsAll (IsLinkUpto code s first end r (q + 1)) (IsLinkBefore s.blocks.now)) (sym (append-nil ends))
           (record {
             only = λ e is_in. let (within, below) = old.only e is_in in (within, wider e below);
             each = λ e upto. ⊎_elim

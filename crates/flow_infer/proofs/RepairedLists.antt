@@ -4,10 +4,9 @@ use Rattle.std.proofs.Common.{AllPairs, Option, Some, None, get_or, length, map,
 use Rattle.std.specs.Prelude.{Contains, IsSomeAnd, slice_get}
 use Rattle.std.specs.Option.{option_map_or}
 use Rattle.std.proofs.lemmas.Bool.{cases_lt, cases_order}
-use Rattle.std.proofs.lemmas.List.{get_or_append_left, get_or-append_right, length-append}
 use Rattle.std.proofs.lemmas.List.Elements.{All-contains, Contains-append_cases, Contains-append_left, Contains-append_right}
-use Rattle.std.proofs.lemmas.List.Elements.{Contains-get_or}
 use Rattle.std.proofs.lemmas.Option.{slice_get-get_or, slice_get_within}
+use Rattle.rb_bytes.proofs.ListLemmas.{pairs_append}
 use Rattle.rv_code.specs.declared.placed.Block.{Block}
 use Rattle.rv_code.specs.layout.BlockOrders.{func_of_block}
 use Rattle.rv_code.specs.layout.Blocks.{IsBefore}
@@ -89,26 +88,6 @@ module _ (blocks : List Block) (up : AllPairs IsBefore blocks) where
         )
 
 -- Lists one after another.
-
-pub pairs_append : {A : Type 0} (R : A → A → Type 0) (xs ys : List A) → AllPairs R xs → AllPairs R ys →
-    ((x y : A) → Contains xs x → Contains ys y → R x y) → AllPairs R (xs ++ ys)
-pairs_append {A} R xs ys in_xs in_ys across i j d less within = ⊎_elim
-    (λ (early : j < length xs).
-    subst (λ (y : A). R (get_or (xs ++ ys) i d) y) (sym (get_or_append_left xs ys d j early))
-    (subst (λ (x : A). R x (get_or xs j d)) (sym (get_or_append_left xs ys d i (omega arith))) (in_xs i j d less early)))
-    (λ (late : length xs ≤ j).
-    let long = length-append xs ys in
-    let inside : j - length xs < length ys = omega arith in
-    let at_j = get_or-append_right xs ys (length xs) j d refl late in
-    subst (λ (y : A). R (get_or (xs ++ ys) i d) y) (sym at_j) (⊎_elim
-    (λ (before : i < length xs).
-    subst (λ (x : A). R x (get_or ys (j - length xs) d)) (sym (get_or_append_left xs ys d i before))
-    (across (get_or xs i d) (get_or ys (j - length xs) d) (Contains-get_or xs i d before) (Contains-get_or ys (j - length xs) d inside)))
-    (λ (after : length xs ≤ i).
-    subst (λ (x : A). R x (get_or ys (j - length xs) d)) (sym (get_or-append_right xs ys (length xs) i d refl after))
-    (in_ys (i - length xs) (j - length xs) d (omega arith) inside))
-    (cases_lt i (length xs))))
-    (cases_lt j (length xs))
 
 ends_of_bare : (links : List Link) → map counted_ends links ≡ map counted_ends (map bare links)
 ends_of_bare [] = refl

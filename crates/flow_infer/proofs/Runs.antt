@@ -4,7 +4,7 @@ use Rattle.std.proofs.Common.{All, AllPairs, ⊎_elim, take, drop, length, get_o
 use Rattle.std.specs.Prelude.{◌==◌, Bool, filter}
 use Rattle.std.specs.List.Sorted.{IsNonDecreasingBy, IsPartitionPoint}
 use Rattle.std.proofs.lemmas.Bool.{cases_lt, eq-eqb, ne_eqb, leb-true, leb-false, ltb-true, ltb-false}
-use Rattle.std.proofs.lemmas.List.{get_or-drop, get_or-take, length-drop, length-take, take-append-drop}
+use Rattle.std.proofs.lemmas.List.{get_or-drop, get_or-take, length-drop, length-take, take-append-drop, append-nil}
 use Rattle.std.proofs.lemmas.List.Elements.{All-head, All-tail, filter-append}
 use Rattle.rv_code.specs.layout.Lists.{IsPairBefore}
 use Rattle.edge_profile.specs.PairCounts.{Counted, IsCountedBefore}
@@ -21,15 +21,11 @@ filter_failing p (x ∷ xs) all =
     ap (λ (b : Bool). cond b (x ∷ filter p xs) (filter p xs)) (All-head (λ y. p y ≡ false) x xs all)
     ∙ filter_failing p xs (All-tail (λ y. p y ≡ false) x xs all)
 
-pub append_none : {A : Type 0} (xs : List A) → xs ++ [] ≡ xs
-append_none [] = refl
-append_none (x ∷ xs) = ap (λ ys. x ∷ ys) (append_none xs)
-
 -- what passes a test stands in front, or behind
 module _ {A : Type 0} (p : A → Bool) (xs : List A) (k : ℕ) where
   pub front_filtered : All (λ x. p x ≡ true) (take k xs) → All (λ x. p x ≡ false) (drop k xs) → take k xs ≡ filter p xs
   front_filtered passing failing =
-      sym (append_none (take k xs))
+      sym (append-nil (take k xs))
       ∙ sym (λ i. filter_passing p (take k xs) passing i ++ filter_failing p (drop k xs) failing i)
       ∙ sym (filter-append p (take k xs) (drop k xs))
       ∙ ap (filter p) (take-append-drop k xs)
@@ -53,7 +49,7 @@ module _ {A : Type 0} (key : A → ℕ) (k : ℕ) where
       ∙ sym (ap (λ ys. ys ++ filter at_key (drop m upto)) (filter_failing at_key (take m upto) before))
       ∙ sym (filter-append at_key (take m upto) (drop m upto))
       ∙ ap (filter at_key) (take-append-drop m upto ∙ front)
-      ∙ sym (append_none (filter at_key (take n xs)))
+      ∙ sym (append-nil (filter at_key (take n xs)))
       ∙ sym (ap (λ ys. filter at_key (take n xs) ++ ys) (filter_failing at_key (drop n xs) after))
       ∙ sym (filter-append at_key (take n xs) (drop n xs))
       ∙ ap (filter at_key) (take-append-drop n xs)
@@ -107,6 +103,3 @@ pairs_rise = ordered_rise IsPairBefore (λ e. e.0)
 pub counted_rise : (xs : List Counted) → AllPairs IsCountedBefore xs → IsNonDecreasingBy (λ p. p.0) xs
 counted_rise = ordered_rise IsCountedBefore (λ p. p.0)
     (λ p q. ⊎_elim (λ (below : p.0 < q.0). omega arith) (λ (same, below). omega arith))
-
-pub numbers_rise : (xs : List ℕ) → AllPairs (λ a b. a < b) xs → IsNonDecreasingBy (λ a. a) xs
-numbers_rise = ordered_rise (λ a b. a < b) (λ a. a) (λ a b less. omega arith)

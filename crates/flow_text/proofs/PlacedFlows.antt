@@ -12,9 +12,8 @@ use Rattle.std.proofs.lemmas.List.Sums.{sum_by-append, sum_by-cons}
 use Rattle.edge_profile.specs.PairCounts.{Counted, IsCountedBefore, count_among, is_pair}
 use Rattle.edge_profile.specs.Pairs.{is_before}
 use Rattle.edge_profile.proofs.AscendingPairs.{before_from_test, before_test, sum_none}
-use Rattle.rb_bytes.proofs.ListLemmas.{only_one}
+use Rattle.rb_bytes.proofs.ListLemmas.{only_one, pairs_append}
 use Rattle.rb_bytes.proofs.Searches.{find-found}
-use Rattle.flow_infer.proofs.RepairedLists.{pairs_append}
 use Rattle.flow_text.specs.MergedFlows.{some_flow, with_flows}
 use Rattle.flow_text.specs.RepairedCounts.{count_with}
 

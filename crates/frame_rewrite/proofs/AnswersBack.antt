@@ -1,12 +1,16 @@
 -- A table that is written answers at each address what its runs do.
-use Rattle.std.proofs.Common.{ℕ, zero, suc, ◌+◌, ◌≤◌, ◌<◌, ◌≡◌, ◌==◌, ◌&&◌, List, [], ◌∷◌, Option, Some, None, cond, leb, ltb, Bool, true, false, refl, sym, ◌∙◌, ap}
+use Rattle.std.proofs.Common.{ℕ, zero, suc, ◌+◌, ◌≤◌, ◌<◌, ◌≡◌, ◌==◌, ◌&&◌, List, [], ◌∷◌, Option, Some, None, cond, leb, ltb, Bool, true}
+use Rattle.std.proofs.Common.{false, refl, sym, ◌∙◌, ap}
 use Rattle.std.proofs.Common.{subst, arith, length, take, drop, option_map}
 use Rattle.std.specs.Prelude.{All, IsTrue, IsSome, not}
+use Rattle.std.specs.Bool.{beq}
 use Rattle.std.specs.List.{position_or_len}
 use Rattle.std.specs.Option.{option_or}
 use Rattle.std.proofs.lemmas.Bool.Decides.{nat_tests}
 use Rattle.std.proofs.lemmas.Grind.{common_steps}
 use Rattle.std.proofs.lemmas.List.Elements.{All-nil, All-cons, All-head, All-tail, All-take, All-drop}
+use Rattle.std.proofs.lemmas.Bool.{ltb-true, ltb-false}
+use Rattle.rb_bytes.proofs.Tests.{bool_is}
 use Rattle.addr_map.specs.declared.span.Span.{Span}
 use Rattle.addr_map.specs.Spans.{new}
 use Rattle.table_core.specs.declared.run.Run.{Run}
@@ -17,7 +21,7 @@ use Rattle.cfi_rows.specs.Entries.{Fde, is_in_range}
 use Rattle.frame_rewrite.specs.FrameAnswers.{FrameAnswer, answer_of, answer_at}
 use Rattle.frame_rewrite.specs.CarriedFrames.{IsCarriedFrame}
 use Rattle.frame_rewrite.specs.SpelledFits.{IsReached}
-use Rattle.frame_rewrite.specs.SpelledFrames.{key_of, is_one, continues, more_count, start_of, last_end, fde_body}
+use Rattle.frame_rewrite.specs.SpelledFrames.{key_of, continues, more_count, start_of, last_end, fde_body}
 use Rattle.frame_rewrite.proofs.FdeBack.{fde_of}
 use Rattle.frame_rewrite.proofs.RowsBack.{placed}
 use Rattle.frame_rewrite.proofs.RunGroups.{within-take, within-drop, at-before, at-behind, at-among, rows-at}
@@ -59,11 +63,6 @@ parts true true false d e f g h t = absurd (cc)
 parts true false c d e f g h t = absurd (cc)
 parts false b c d e f g h t = absurd (cc)
 
-same-bools : (a b : Bool) → is_one a b ≡ true → a ≡ b
-same-bools true b e = sym e
-same-bools false true e = absurd (cc)
-same-bools false false e = refl
-
 same-numbers : (a b : ℕ) → (a == b) ≡ true → a ≡ b
 same-numbers a b e = grind (arith, nat_tests)
 
@@ -71,7 +70,7 @@ continues-so : (r q : Run FrameAnswer) → continues r q ≡ true → Continues 
 continues-so r q t =
     let p = parts r.answer.marked q.answer.marked (r.answer.start == q.answer.start) (r.answer.table == q.answer.table)
     (r.answer.ra == q.answer.ra) (r.answer.handler == q.answer.handler)
-    (is_one r.answer.indirect q.answer.indirect) (is_one r.answer.signal q.answer.signal) t in
+    (beq r.answer.indirect q.answer.indirect) (beq r.answer.signal q.answer.signal) t in
     record {
       first_marked = p.0;
       marked = p.1;
@@ -79,8 +78,8 @@ continues-so r q t =
       table = same-numbers r.answer.table q.answer.table p.3;
       ra = same-numbers r.answer.ra q.answer.ra p.4;
       handler = same-numbers r.answer.handler q.answer.handler p.5;
-      indirect = same-bools r.answer.indirect q.answer.indirect p.6;
-      signal = same-bools r.answer.signal q.answer.signal p.7;
+      indirect = bool_is r.answer.indirect q.answer.indirect p.6;
+      signal = bool_is r.answer.signal q.answer.signal p.7;
     }
 
 pub group-continues : (r : Run FrameAnswer) (rs : Runs) → All (Continues r) (take (more_count r rs) rs)
@@ -269,12 +268,6 @@ is_in s q p end a b t = grind (arith, nat_tests)
 is_out : (s p end : ℕ) → ltb p end ≡ false → (leb s p && ltb p end) ≡ false
 is_out s p end t = grind (arith, nat_tests)
 
-below : (p end : ℕ) → ltb p end ≡ true → p < end
-below p end t = grind (arith, nat_tests)
-
-behind : (p end : ℕ) → ltb p end ≡ false → end ≤ p
-behind p end t = grind (arith, nat_tests)
-
 shorter : (k : ℕ) (rs : Runs) (n : ℕ) → suc (length rs) ≤ suc n → length (drop k rs) ≤ n
 shorter k rs n h = grind (arith, common_steps)
 
@@ -304,7 +297,7 @@ split-made is_marked spans n place lo hi r rs p a w before e further = one
           ∷ made spans n (place + 8 + length (fde_body spans r (take (more_count r rs) rs))) (drop (more_count r rs) rs)) p)
       one true t =
           let among = sym (at-among (suc (more_count r rs)) lo (r ∷ rs) hi p w
-          (below p (last_end (r.start + r.len) (take (more_count r rs) rs)) t)) ∙ e in
+          (ltb-true p (last_end (r.start + r.len) (take (more_count r rs) rs)) t)) ∙ e in
           subst (Agree (IsCarriedFrame spans) (Some a)) (sym (in-entry is_marked here rest p
           (is_in (start_of spans r) r.start p (last_end (r.start + r.len) (take (more_count r rs) rs))
           (All-head (Before spans) r rs before) first t)))
@@ -313,7 +306,7 @@ split-made is_marked spans n place lo hi r rs p a w before e further = one
           (group-continues r rs) among first)
       one false t =
           let later = sym (at-behind (suc (more_count r rs)) lo (r ∷ rs) hi p w
-          (behind p (last_end (r.start + r.len) (take (more_count r rs) rs)) t)) ∙ e in
+          (ltb-false p (last_end (r.start + r.len) (take (more_count r rs) rs)) t)) ∙ e in
           subst (Agree (IsCarriedFrame spans) (Some a)) (sym (past-entry is_marked here rest p
           (is_out (start_of spans r) p (last_end (r.start + r.len) (take (more_count r rs) rs)) t)))
           (further later)

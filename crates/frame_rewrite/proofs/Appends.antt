@@ -1,8 +1,9 @@
 -- One append after another.
-use Rattle.std.proofs.Common.{ℕ, suc, ◌+◌, ◌-◌, ◌≤◌, ◌<◌, ◌≡◌, List, [], ◌∷◌, ◌++◌, Bool, true, false, refl, sym, ◌∙◌, ap, subst, arith, length, append_assoc}
-use Rattle.std.proofs.Common.{get_or, drop, take, add-one, drop-cons, length-append, flat_map}
+use Rattle.std.proofs.Common.{ℕ, suc, ◌+◌, ◌-◌, ◌≤◌, ◌<◌, ◌≡◌, List, [], ◌∷◌, ◌++◌, Bool, true, false, refl, sym, ◌∙◌, ap, subst, arith}
+use Rattle.std.proofs.Common.{length, append_assoc}
+use Rattle.std.proofs.Common.{get_or, drop, take, add-one, length-append, flat_map}
 use Rattle.std.proofs.lemmas.Grind.{common_steps}
-use Rattle.std.proofs.lemmas.List.{append-nil}
+use Rattle.std.proofs.lemmas.List.{append-nil, drop_more}
 use Rattle.std.specs.Prelude.{All}
 use Rattle.std.specs.List.{position_or_len}
 use Rattle.table_core.specs.declared.run.Run.{Run}
@@ -10,9 +11,6 @@ use Rattle.cfi_rows.specs.Entries.{RawEntry}
 use Rattle.frame_rewrite.specs.FrameAnswers.{FrameAnswer}
 use Rattle.frame_rewrite.specs.SpelledFrames.{zeros, padding, spelled_entry, spelled_row_before, spelled_rows}
 use Rattle.frame_rewrite.proofs.EntriesBack.{spelled-length}
-
-pub next-is : {A : Type 0} (xs : List A) (i : ℕ) (d : A) → i < length xs → drop i xs ≡ get_or xs i d ∷ drop (i + 1) xs
-next-is xs i d h = rw (add-one, drop-cons xs i d) refl
 
 pub past-end : {A : Type 0} (xs : List A) (i : ℕ) → length xs ≤ i → drop i xs ≡ []
 past-end xs i h = grind (arith, common_steps)
@@ -29,7 +27,7 @@ pub spelled-more : {A : Type 0} (spelled : A → List ℕ) (xs : List A) (i : �
     → i < length xs → x ≡ get_or xs i d → new ≡ o ++ spelled x
     → o ++ flat_map spelled (drop i xs) ≡ want → new ++ flat_map spelled (drop (i + 1) xs) ≡ want
 spelled-more spelled xs i x d o new want h is e w =
-    let n = next-is xs i d h in
+    let n = drop_more xs i d h in
     ap (λ (l : List ℕ). l ++ flat_map spelled (drop (i + 1) xs)) e
     ∙ append_assoc o (spelled x) (flat_map spelled (drop (i + 1) xs))
     ∙ ap (λ y. o ++ (spelled y ++ flat_map spelled (drop (i + 1) xs))) is
@@ -48,11 +46,7 @@ rows-more o new want last r more i h is e w =
     ap (λ (l : List ℕ). l ++ spelled_rows r.answer.row rest) e
     ∙ append_assoc o (spelled_row_before last.answer.row r.start) (spelled_rows r.answer.row rest)
     ∙ ap (λ (q : Run FrameAnswer). o ++ spelled_rows last.answer.row (q ∷ rest)) is
-    ∙ ap (λ (l : List (Run FrameAnswer)). o ++ spelled_rows last.answer.row l) (sym (next-is more i r h)) ∙ w
-
-pub spelled-all : {A : Type 0} (spelled : A → List ℕ) (xs : List A) (i : ℕ) (o want : List ℕ) → length xs ≤ i
-    → o ++ flat_map spelled (drop i xs) ≡ want → o ≡ want
-spelled-all spelled xs i o want h w = sym (append-nil o) ∙ ap (λ l. o ++ flat_map spelled l) (sym (past-end xs i h)) ∙ w
+    ∙ ap (λ (l : List (Run FrameAnswer)). o ++ spelled_rows last.answer.row l) (sym (drop_more more i r h)) ∙ w
 
 pub five-puts : (o a b c d e x y z t r : List ℕ) → a ≡ o ++ x → b ≡ a ++ y → c ≡ b ++ z → d ≡ c ++ t → e ≡ d ++ r
     → e ≡ o ++ (x ++ (y ++ (z ++ (t ++ r))))
@@ -87,26 +81,6 @@ pub pos-false : {A : Type 0} (p : A → Bool) (x : A) (xs : List A) → p x ≡ 
     → position_or_len p (x ∷ xs) ≡ 1 + position_or_len p xs
 pos-false p x xs e = rw e refl
 
-pub place-more : {A : Type 0} (p : A → Bool) (xs : List A) (i n : ℕ) (d : A) → i < length xs → p (get_or xs i d) ≡ false
-    → n ≡ i + position_or_len p (drop i xs) → n ≡ i + 1 + position_or_len p (drop (i + 1) xs)
-place-more p xs i n d h f e =
-    let s : position_or_len p (drop i xs) ≡ 1 + position_or_len p (drop (i + 1) xs) = ap (position_or_len p)
-    (next-is xs i d h) ∙ pos-false p (get_or xs i d) (drop (i + 1) xs) f in
-    omega arith
-
-pub place-here : {A : Type 0} (p : A → Bool) (xs : List A) (i n : ℕ) (d : A) → i < length xs → p (get_or xs i d) ≡ true
-    → n ≡ i + position_or_len p (drop i xs) → i ≡ n
-place-here p xs i n d h f e =
-    let s : position_or_len p (drop i xs) ≡ 0 = ap (position_or_len p) (next-is xs i d h)
-    ∙ pos-true p (get_or xs i d) (drop (i + 1) xs) f in
-    omega arith
-
-pub place-end : {A : Type 0} (p : A → Bool) (xs : List A) (i n : ℕ) → length xs ≤ i → i ≤ length xs
-    → n ≡ i + position_or_len p (drop i xs) → length xs ≡ n
-place-end p xs i n h k e =
-    let z : position_or_len p (drop i xs) ≡ 0 = ap (position_or_len p) (past-end xs i h) in
-    omega arith
-
 pub entry-put : (out new a b d g f : List ℕ) (place id want : ℕ)
     → new ≡ out ++ spelled_entry (record { place = place; id = id; body = g }) → g ≡ d → id ≡ want
     → a ≡ [] → b ≡ a ++ f → d ≡ b ++ zeros (padding (length b))
@@ -114,10 +88,6 @@ pub entry-put : (out new a b d g f : List ℕ) (place id want : ℕ)
 entry-put out new a b d g f place id want w u e p q r =
     w ∙ ap (λ (n : ℕ). out ++ spelled_entry (record { place = place; id = n; body = g })) e
     ∙ ap (λ (l : List ℕ). out ++ spelled_entry (record { place = place; id = want; body = l })) (u ∙ body-put a b d f p q r)
-
-pub empty : {A : Type 0} (xs : List A) → length xs ≡ 0 → xs ≡ []
-empty [] h = refl
-empty (x ∷ xs) h = absurd (omega arith)
 
 pub all-taken : {A : Type 0} (P : A → Type 0) (xs : List A) (i : ℕ) → length xs ≤ i → All P (take i xs) → All P xs
 all-taken P xs i h f = subst (All P) (whole xs i h) f where

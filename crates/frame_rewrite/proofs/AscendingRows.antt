@@ -5,7 +5,8 @@ use Rattle.cfi_rows.specs.declared.instruction.Malformed.{Malformed}
 use Rattle.cfi_rows.specs.RuleEntries.{Ascend}
 use Rattle.cfi_rows.specs.FrameRows.{RowValue, Known, rows, begins, nothing_known, known_after, PlacedRow, row_at}
 use Rattle.cfi_rows.specs.FrameInstructions.{instructions_at}
-use Rattle.cfi_rows.specs.Entries.{RawEntry, Cie, Fde, cie_at, cie_by, cie_after, cie_made, head_at, head_context, fde_at, fde_made, sound_if, end_of, frames}
+use Rattle.cfi_rows.specs.Entries.{RawEntry, Cie, Fde, cie_at, cie_by, cie_after, cie_made, head_at, head_context, fde_at, fde_made}
+use Rattle.cfi_rows.specs.Entries.{sound_if, end_of, frames}
 use Rattle.cfi_rows.proofs.AscendingRules.{RowsAscend, IfRows, rows-ascend, KnownAscends, known-ascend}
 use Rattle.table_core.specs.ReadSteps.{and_so}
 use Rattle.frame_rewrite.proofs.ReadEntries.{IfFde, IfCie, cie-so, fde-read, all-by-cie}

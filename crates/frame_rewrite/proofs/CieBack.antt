@@ -12,7 +12,8 @@ use Rattle.cfi_rows.specs.declared.instruction.Malformed.{Malformed}
 use Rattle.cfi_rows.specs.declared.encoding.Encoding.TheVariants.{Absptr}
 use Rattle.cfi_rows.specs.FrameRows.{nothing_known}
 use Rattle.cfi_rows.specs.FrameInstructions.{whole, Read, block_at, instructions_at}
-use Rattle.cfi_rows.specs.Entries.{Augmentation, with_data, with_handler, letter_at, handler_at, letters_at, augmentation_at, Head, head_at, Cie, cie_at}
+use Rattle.cfi_rows.specs.Entries.{Augmentation, with_data, with_handler, letter_at, handler_at, letters_at, augmentation_at, Head}
+use Rattle.cfi_rows.specs.Entries.{head_at, Cie, cie_at}
 use Rattle.frame_rewrite.specs.declared.cie_key.CieKey.{CieKey}
 use Rattle.frame_rewrite.specs.SpelledFits.{KeyFits}
 use Rattle.frame_rewrite.specs.SpelledFrames.{handler_encoding, cie_text, cie_nops, cie_body, zeros}

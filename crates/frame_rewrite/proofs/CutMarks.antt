@@ -1,5 +1,6 @@
 -- Entries that are marked by cuts, which ascend.
-use Rattle.std.proofs.Common.{◌≡◌, ◌∙◌, ◌+◌, ◌-◌, ◌<◌, ◌≤◌, ◌==◌, ◌&&◌, ℕ, Bool, true, false, not, List, refl, sym, ap, subst, arith, length}
+use Rattle.std.proofs.Common.{◌≡◌, ◌∙◌, ◌+◌, ◌-◌, ◌<◌, ◌≤◌, ◌==◌, ◌&&◌, ℕ, Bool, true, false, not, List, refl, sym, ap, subst, arith}
+use Rattle.std.proofs.Common.{length}
 use Rattle.std.proofs.lemmas.Bool.Decides.{nat_tests}
 use Rattle.std.proofs.lemmas.Grind.{common_steps}
 use Rattle.std.proofs.lemmas.List.Folds.{list_any_none, list_any_at, Any-from_list_any}
@@ -9,7 +10,10 @@ use Rattle.std.specs.List.{list_any}
 use Rattle.std.specs.List.Sorted.{IsStrictlyIncreasing}
 use Rattle.cfi_rows.specs.declared.frame_table.Fde.{Fde as ReadFde}
 use Rattle.frame_rewrite.specs.FrameAnswers.{is_marked_by}
-use Rattle.frame_rewrite.specs.FrameLookups.{is_marked_as, is_strictly_inside}
+use Rattle.frame_rewrite.specs.FrameLookups.{is_marked_as}
+
+abbrev is_strictly_inside : ReadFde → ℕ → Bool
+is_strictly_inside f a = nat_lt f.start a && nat_lt a f.end
 
 -- so many cuts are at most an address
 pub record IsCount (cuts : List ℕ) (address n : ℕ) : Type 0 where
@@ -51,28 +55,30 @@ rising cuts i j d h l m = below_from_sorted cuts i j d (sorted_from_strictly_inc
 absent : (cuts : List ℕ) (start n : ℕ) → IsStrictlyIncreasing cuts → IsCount cuts start n →
     (0 < n → slice_index_or cuts (n - 1) 0 ≡ start → ⊥) →
     list_any (λ c. c == start) cuts ≡ false
-absent cuts start n h c m = list_any_none (λ c. c == start) cuts (λ k d l. unequal (slice_index_or cuts k d) start (λ e. at k d l e (nat_lt k n) (nat_lt (k + 1) n) refl refl)) where
-  at : (k d : ℕ) → k < length cuts → slice_index_or cuts k d ≡ start → (a b : Bool) → nat_lt k n ≡ a →
-      nat_lt (k + 1) n ≡ b → ⊥
-  at k d l e true true f g =
-      let low : k < n - 1 = grind (arith, nat_tests) in let b = c.bound in let p : n - 1 < length cuts = omega arith in
-      let r = rising cuts k (n - 1) d h low p in let q : n - 1 < n = omega arith in let s = c.below (n - 1) d q in
-      omega arith
-  at k d l e true false f g =
-      let is : k ≡ n - 1 = grind (arith, nat_tests) in let p : 0 < n = grind (arith, nat_tests) in
-      let same : slice_index_or cuts k d ≡ slice_index_or cuts k 0 = grind (arith, common_steps) in
-      m p (sym (ap (λ j. slice_index_or cuts j 0) is) ∙ sym same ∙ e)
-  at k d l e false b f g = let p : n ≤ k = grind (arith, nat_tests) in let s = c.above k d p l in omega arith
+absent cuts start n h c m = list_any_none (λ c. c == start) cuts
+    (λ k d l. unequal (slice_index_or cuts k d) start (λ e. at k d l e (nat_lt k n) (nat_lt (k + 1) n) refl refl)) where
+      at : (k d : ℕ) → k < length cuts → slice_index_or cuts k d ≡ start → (a b : Bool) → nat_lt k n ≡ a →
+          nat_lt (k + 1) n ≡ b → ⊥
+      at k d l e true true f g =
+          let low : k < n - 1 = grind (arith, nat_tests) in let b = c.bound in let p : n - 1 < length cuts = omega arith in
+          let r = rising cuts k (n - 1) d h low p in let q : n - 1 < n = omega arith in let s = c.below (n - 1) d q in
+          omega arith
+      at k d l e true false f g =
+          let is : k ≡ n - 1 = grind (arith, nat_tests) in let p : 0 < n = grind (arith, nat_tests) in
+          let same : slice_index_or cuts k d ≡ slice_index_or cuts k 0 = grind (arith, common_steps) in
+          m p (sym (ap (λ j. slice_index_or cuts j 0) is) ∙ sym same ∙ e)
+      at k d l e false b f g = let p : n ≤ k = grind (arith, nat_tests) in let s = c.above k d p l in omega arith
 
 -- none lies strictly inside
 clear : (cuts : List ℕ) (f : ReadFde) (n : ℕ) → IsCount cuts f.start n →
     ((k d : ℕ) → n ≤ k → k < length cuts → f.end ≤ slice_index_or cuts k d) →
     list_any (is_strictly_inside f) cuts ≡ false
-clear cuts f n c h = list_any_none (is_strictly_inside f) cuts (λ k d l. not-inside f.start (slice_index_or cuts k d) f.end (λ p q. at k d l p q (nat_lt k n) refl)) where
-  at : (k d : ℕ) → k < length cuts → f.start < slice_index_or cuts k d → slice_index_or cuts k d < f.end → (b : Bool) →
-      nat_lt k n ≡ b → ⊥
-  at k d l p q true e = let m : k < n = grind (arith, nat_tests) in let s = c.below k d m in omega arith
-  at k d l p q false e = let m : n ≤ k = grind (arith, nat_tests) in let s = h k d m l in omega arith
+clear cuts f n c h = list_any_none (is_strictly_inside f) cuts (λ k d l. not-inside f.start (slice_index_or cuts k d) f.end
+    (λ p q. at k d l p q (nat_lt k n) refl)) where
+      at : (k d : ℕ) → k < length cuts → f.start < slice_index_or cuts k d → slice_index_or cuts k d < f.end → (b : Bool) →
+          nat_lt k n ≡ b → ⊥
+      at k d l p q true e = let m : k < n = grind (arith, nat_tests) in let s = c.below k d m in omega arith
+      at k d l p q false e = let m : n ≤ k = grind (arith, nat_tests) in let s = h k d m l in omega arith
 
 no-start : (b a c : Bool) → a ≡ false → false ≡ (b && (a && c))
 no-start true a c e = rw e refl
@@ -80,9 +86,6 @@ no-start false a c e = refl
 
 by-parts : (b a c d : Bool) → b ≡ true → a ≡ true → c ≡ d → d ≡ (b && (a && c))
 by-parts b a c d e f g = rw (e, f) (sym g)
-
-pub no-table : (cuts : List ℕ) (f : ReadFde) → f.table ≡ 0 → false ≡ is_marked_as cuts f
-no-table cuts f e = rw e refl
 
 pub not-at-cut : (cuts : List ℕ) (f : ReadFde) (n : ℕ) → IsStrictlyIncreasing cuts → IsCount cuts f.start n →
     (0 < n → slice_index_or cuts (n - 1) 0 ≡ f.start → ⊥) → false ≡ is_marked_as cuts f
@@ -123,7 +126,8 @@ next-cut cuts f n d h t c p e l = at (nat_le f.end (slice_index_or cuts n d)) re
   at true g = by-parts (nat_lt 0 f.table) _ _ true (some-table f.table t) starts
       (ap not (clear cuts f n c (from (grind (arith, nat_tests)))))
   at false g = by-parts (nat_lt 0 f.table) _ _ false (some-table f.table t) starts
-      (ap not (list_any_at (is_strictly_inside f) cuts n d l (inside f.start (slice_index_or cuts n d) f.end (c.above n d (omega arith) l) (grind (arith, nat_tests)))))
+      (ap not (list_any_at (is_strictly_inside f) cuts n d l (inside f.start (slice_index_or cuts n d) f.end (c.above n d (omega arith) l)
+      (grind (arith, nat_tests)))))
 
 -- The marks depend on which numbers are cuts, and not on their order.
 
@@ -144,4 +148,5 @@ any-same test xs ys h = at (list_any test xs) (list_any test ys) refl refl where
   at false true e f = let t = any-kept test ys xs (λ a. (h a).1) f in absurd (cc)
 
 pub same-marks : (xs ys : List ℕ) → ((a : ℕ) → Contains xs a ↔ Contains ys a) → is_marked_by xs ≡ is_marked_by ys
-same-marks xs ys h = λ i f. nat_lt 0 f.table && (any-same (λ c. c == f.start) xs ys h i && not (any-same (λ c. nat_lt f.start c && nat_lt c f.end) xs ys h i))
+same-marks xs ys h = λ i f. nat_lt 0 f.table && (any-same (λ c. c == f.start) xs ys h i
+    && not (any-same (λ c. nat_lt f.start c && nat_lt c f.end) xs ys h i))

@@ -1,9 +1,10 @@
 -- Steps of the loops that write entries.
-use Rattle.std.proofs.Common.{ℕ, suc, ◌+◌, ◌-◌, ◌*◌, ◌≤◌, ◌<◌, ◌≡◌, ◌^◌, List, [], ◌∷◌, ◌++◌, Bool, refl, sym, ◌∙◌, ap, subst, arith, length, append_assoc}
+use Rattle.std.proofs.Common.{ℕ, suc, ◌+◌, ◌-◌, ◌*◌, ◌≤◌, ◌<◌, ◌≡◌, ◌^◌, List, [], ◌∷◌, ◌++◌, Bool, refl, sym, ◌∙◌, ap, subst, arith}
+use Rattle.std.proofs.Common.{length, append_assoc}
 use Rattle.std.proofs.Common.{get_or, drop, take}
 use Rattle.std.specs.Prelude.{All}
 use Rattle.std.proofs.lemmas.Grind.{flat_map-append}
-use Rattle.std.proofs.lemmas.List.{append-nil}
+use Rattle.std.proofs.lemmas.List.{append-nil, drop_more}
 use Rattle.std.proofs.lemmas.List.Elements.{All-cons, All-head, All-tail, All-take, All-drop}
 use Rattle.addr_map.specs.declared.span.Span.{Span}
 use Rattle.table_core.specs.declared.run.Run.{Run}
@@ -15,8 +16,9 @@ use Rattle.cfi_rows.specs.RuleEntries.{Ascend}
 use Rattle.frame_rewrite.specs.declared.cie_key.CieKey.{CieKey}
 use Rattle.frame_rewrite.specs.FrameAnswers.{FrameAnswer}
 use Rattle.frame_rewrite.specs.SpelledFits.{RuleFits, RulesFit, RunAscends, Writes, WritesAll, EndFits, IsSpelled}
-use Rattle.frame_rewrite.specs.SpelledFrames.{spelled_entry, spelled_entries, cie_entry, cie_entries, fde_entry, fde_entries, fde_body, more_count, start_of, last_end, cie_size, cie_body, end_mark}
-use Rattle.frame_rewrite.proofs.Appends.{next-is, past-end, new-length}
+use Rattle.frame_rewrite.specs.SpelledFrames.{spelled_entry, spelled_entries, cie_entry, cie_entries, fde_entry, fde_entries, fde_body}
+use Rattle.frame_rewrite.specs.SpelledFrames.{more_count, start_of, last_end, cie_size, cie_body, end_mark}
+use Rattle.frame_rewrite.proofs.Appends.{past-end, new-length}
 use Rattle.frame_rewrite.proofs.EntriesBack.{spelled-length}
 use Rattle.frame_rewrite.proofs.RunGroups.{within-take, within-drop, within-low, le-last, ends-fit}
 use Rattle.frame_rewrite.proofs.TableBack.{Before, cie-length}
@@ -42,7 +44,7 @@ cie-more debug ks i d o new want h e w =
     ap (λ (l : List ℕ). l ++ spelled_entries (cie_entries debug (i + 1) (drop (i + 1) ks))) e
     ∙ append_assoc o (spelled_entry (cie_entry debug i (get_or ks i d)))
     (spelled_entries (cie_entries debug (i + 1) (drop (i + 1) ks)))
-    ∙ ap (λ (l : List CieKey). o ++ spelled_entries (cie_entries debug i l)) (sym (next-is ks i d h)) ∙ w
+    ∙ ap (λ (l : List CieKey). o ++ spelled_entries (cie_entries debug i l)) (sym (drop_more ks i d h)) ∙ w
 
 pub cies-end : (debug : Bool) (ks : List CieKey) (i : ℕ) (o want : List ℕ) → length ks ≤ i
     → o ++ spelled_entries (cie_entries debug i (drop i ks)) ≡ want → o ≡ want

@@ -1,13 +1,16 @@
 -- The rows of each entry of a table begin with its range.
-use Rattle.std.proofs.Common.{ℕ, ◌≤◌, ◌≡◌, List, [], ◌∷◌, Option, Some, None, option_map, Result, cond, leb, Bool, true, false, refl, subst, arith}
+use Rattle.std.proofs.Common.{ℕ, ◌≤◌, ◌≡◌, List, [], ◌∷◌, Option, Some, None, option_map, Result, cond, leb, Bool, true, false, refl}
+use Rattle.std.proofs.Common.{subst, arith}
 use Rattle.std.specs.Prelude.{All, IsSome}
 use Rattle.std.proofs.lemmas.Bool.Decides.{nat_tests}
 use Rattle.table_core.specs.ReadSteps.{and_so}
 use Rattle.cfi_rows.specs.declared.row.Cfa.{Cfa}
 use Rattle.cfi_rows.specs.declared.instruction.Instruction.{Instruction}
-use Rattle.cfi_rows.specs.declared.instruction.Instruction.TheVariants.{Advance, SetLoc, DefCfa, DefCfaRegister, DefCfaOffset, SetRule, Restore, RememberState, RestoreState, Nop}
+use Rattle.cfi_rows.specs.declared.instruction.Instruction.TheVariants.{Advance, SetLoc, DefCfa, DefCfaRegister, DefCfaOffset, SetRule}
+use Rattle.cfi_rows.specs.declared.instruction.Instruction.TheVariants.{Restore, RememberState, RestoreState, Nop}
 use Rattle.cfi_rows.specs.declared.instruction.Malformed.{Malformed}
-use Rattle.cfi_rows.specs.FrameRows.{RowValue, Rules, Known, State, with_cfa, with_register, with_offset, take_back, row_from, prepended, then_rows, rows, begins, PlacedRow, row_at}
+use Rattle.cfi_rows.specs.FrameRows.{RowValue, Rules, Known, State, with_cfa, with_register, with_offset, take_back, row_from, prepended}
+use Rattle.cfi_rows.specs.FrameRows.{then_rows, rows, begins, PlacedRow, row_at}
 use Rattle.cfi_rows.specs.Entries.{RawEntry, Cie, Fde, fde_at, fde_made, sound_if, end_of, cie_in, cie_place}
 use Rattle.cfi_rows.specs.Entries.{frames, walked_entries}
 use Rattle.frame_rewrite.proofs.ReadEntries.{IfFde, fde-so, fde-read, all-read}

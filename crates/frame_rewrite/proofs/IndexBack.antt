@@ -1,5 +1,6 @@
 -- The index that is made of what is kept of entries is that of the entries.
-use Rattle.std.proofs.Common.{ℕ, suc, ◌+◌, ◌*◌, ◌≤◌, ◌<◌, ◌≡◌, List, [], ◌∷◌, ◌++◌, refl, sym, ◌∙◌, ap, subst, arith, length, map, get_or, flat_map}
+use Rattle.std.proofs.Common.{ℕ, suc, ◌+◌, ◌*◌, ◌≤◌, ◌<◌, ◌≡◌, List, [], ◌∷◌, ◌++◌, refl, sym, ◌∙◌, ap, subst, arith, length, map, get_or}
+use Rattle.std.proofs.Common.{flat_map}
 use Rattle.std.proofs.Common.{length-append}
 use Rattle.std.specs.Prelude.{IsPermutation, AllPairs}
 use Rattle.std.specs.List.{swap}
@@ -12,9 +13,12 @@ use Rattle.indexmap.proofs.ReorderLemmas.{map-swap}
 use Rattle.cfi_rows.specs.declared.frame_table.Fde.{Fde as ReadFde}
 use Rattle.cfi_rows.specs.Entries.{Fde}
 use Rattle.cfi_rows.specs.ReadEntries.{fde_of}
-use Rattle.frame_rewrite.specs.Index.{IsIndexOf, pair_bytes, distance_bytes}
-use Rattle.frame_rewrite.specs.IndexPairs.{distance, pairs_of}
+use Rattle.frame_rewrite.specs.Index.{IsIndexOf, pair_bytes, distance, distance_bytes}
 use Rattle.frame_rewrite.proofs.NumbersBack.{length-little}
+
+-- the pair of what is kept of an entry
+abbrev pub pairs_of : ℕ → ℕ → ReadFde → List ℕ
+pairs_of at index f = pair_bytes at index f.start f.place
 
 map-swaps : {X Y : Type 0} (f : X → Y) (xs : List X) (moves : List (ℕ × ℕ))
     → map f (apply_swaps xs moves) ≡ apply_swaps (map f xs) moves
@@ -35,7 +39,7 @@ ascends zs kept e up i j d before inside =
       ordered a b c d e f h = omega arith
 
 pairs-same : (at index : ℕ) (zs : List Fde) (kept : List ReadFde) → map fde_of zs ≡ kept
-    → flat_map (pairs_of at index) kept ≡ flat_map (pair_bytes at index) zs
+    → flat_map (pairs_of at index) kept ≡ flat_map (λ (f : Fde). pair_bytes at index f.start f.place) zs
 pairs-same at index zs kept e = ap (flat_map (pairs_of at index)) (sym e) ∙ flat_map-map (pairs_of at index) fde_of zs
 
 pub index-of : (at index : ℕ) (list : List Fde) (were kept : List ReadFde) (bytes : List ℕ) → map fde_of list ≡ were

@@ -1,19 +1,17 @@
 -- Lists of kinds of frames.
-use Rattle.std.proofs.Common.{ℕ, suc, ◌+◌, ◌<◌, ◌≡◌, ◌==◌, ◌&&◌, List, [], ◌∷◌, ◌++◌, Option, Some, None, cond, ltb, Bool, true, false, refl, sym, ◌∙◌, ap, arith, length}
-use Rattle.std.specs.Prelude.{All, slice_get, position}
+use Rattle.std.proofs.Common.{sym, suc, ◌+◌, ◌<◌, ◌≡◌, ◌==◌, ◌&&◌, List, [], ◌∷◌, ◌++◌, Some, cond, Bool, true, false}
+use Rattle.std.proofs.Common.{refl, ◌∙◌, ap, arith, length}
+use Rattle.std.specs.Prelude.{All, slice_get}
+use Rattle.std.specs.Bool.{beq}
 use Rattle.std.specs.List.{position_or_len}
 use Rattle.std.proofs.lemmas.Bool.Decides.{nat_tests}
 use Rattle.std.proofs.lemmas.List.Elements.{All-push}
+use Rattle.rb_bytes.proofs.Tests.{bool_is}
 use Rattle.frame_rewrite.specs.declared.cie_key.CieKey.{CieKey}
-use Rattle.frame_rewrite.specs.SpelledFrames.{is_one, is_key}
+use Rattle.frame_rewrite.specs.SpelledFrames.{is_key}
 use Rattle.frame_rewrite.proofs.Appends.{pos-true, pos-false}
 
 -- a key that passes the test is the key
-same-bools : (a b : Bool) → is_one a b ≡ true → b ≡ a
-same-bools true b e = e
-same-bools false true e = absurd (cc)
-same-bools false false e = refl
-
 parts : (a b c d : Bool) → (a && b && c && d) ≡ true → (a ≡ true) × (b ≡ true) × (c ≡ true) × (d ≡ true)
 parts true true true true e = (refl, refl, refl, refl)
 parts true true true false e = absurd (cc)
@@ -23,15 +21,16 @@ parts false b c d e = absurd (cc)
 
 same-key : (a b : CieKey) → is_key a b ≡ true → b ≡ a
 same-key a b e =
-    let p = parts (a.ra == b.ra) (a.handler == b.handler) (is_one a.indirect b.indirect) (is_one a.signal b.signal) e in
+    let p = parts (a.ra == b.ra) (a.handler == b.handler) (beq a.indirect b.indirect) (beq a.signal b.signal) e in
     let r : b.ra ≡ a.ra = grind (arith, nat_tests, p.0) in
     let h : b.handler ≡ a.handler = grind (arith, nat_tests, p.1) in
+    let d : b.indirect ≡ a.indirect = sym (bool_is a.indirect b.indirect p.2) in
+    let s : b.signal ≡ a.signal = sym (bool_is a.signal b.signal p.3) in
     λ i. record {
       ra = r i;
       handler = h i;
-      indirect = same-bools a.indirect b.indirect p.2 i;
-      signal = same-bools a.signal
-          b.signal p.3 i;
+      indirect = d i;
+      signal = s i;
     }
 
 key-first : (b : Bool) (k x : CieKey) (xs : List CieKey) → is_key k x ≡ b
@@ -49,25 +48,6 @@ pub key-found : (k : CieKey) (ks : List CieKey) → position_or_len (is_key k) k
     → slice_get ks (position_or_len (is_key k) ks) ≡ Some k
 key-found k [] h = absurd (omega arith)
 key-found k (x ∷ xs) h = key-first (is_key k x) k x xs refl (key-found k xs) h
-
--- what stands at the place where a key is found
-pub found-at : (k : CieKey) (ks : List CieKey) (i : ℕ) → position (is_key k) ks ≡ Some i → slice_get ks i ≡ Some k
-found-at k ks i e = one (ltb (position_or_len (is_key k) ks) (length ks)) refl where
-  inside : ltb (position_or_len (is_key k) ks) (length ks) ≡ true → position_or_len (is_key k) ks < length ks
-  inside t = grind (arith, nat_tests)
-
-  some-same : (x y : ℕ) → Some x ≡ Some y → x ≡ y
-  some-same x y e = cc
-
-  none-some : ◌≡◌ {A = Option ℕ} None (Some i) → ⊥
-  none-some e = cc
-
-  one : (b : Bool) → ltb (position_or_len (is_key k) ks) (length ks) ≡ b → slice_get ks i ≡ Some k
-  one true t =
-      let at : position_or_len (is_key k) ks ≡ i = some-same _ _
-      (sym (ap (λ (b : Bool). cond b (Some (position_or_len (is_key k) ks)) None) t) ∙ e) in
-      ap (slice_get ks) (sym at) ∙ key-found k ks (inside t)
-  one false t = absurd (none-some (sym (ap (λ (b : Bool). cond b (Some (position_or_len (is_key k) ks)) None) t) ∙ e))
 
 -- a key more, unless it is there
 pub all-inserted : (P : CieKey → Type 0) (b : Bool) (ks : List CieKey) (k : CieKey) → All P ks → P k → All P (cond b ks (ks ++ k ∷ []))

@@ -1,7 +1,9 @@
 -- The kinds of frames of a table that was read are those of its CIEs, so they are no more.
-use Rattle.std.proofs.Common.{ℕ, suc, ◌+◌, ◌≤◌, ◌<◌, ◌≡◌, ◌==◌, ◌||◌, ◌⊎◌, inl, inr, List, [], ◌∷◌, Option, Some, None, Result, Ok, Err, cond, Bool, true, false}
+use Rattle.std.proofs.Common.{ℕ, suc, ◌+◌, ◌≤◌, ◌<◌, ◌≡◌, ◌==◌, ◌||◌, ◌⊎◌, inl, inr, List, [], ◌∷◌, Option, Some, None, Result, Ok, Err}
+use Rattle.std.proofs.Common.{cond, Bool, true, false}
 use Rattle.std.proofs.Common.{refl, sym, ◌∙◌, ap, subst, arith, length, map}
 use Rattle.std.specs.Prelude.{All, Contains, slice_get}
+use Rattle.std.specs.Bool.{beq}
 use Rattle.std.specs.List.{list_any, position_or_len, IsDistinct, AllByRecursion}
 use Rattle.std.proofs.lemmas.Bool.Decides.{nat_tests}
 use Rattle.std.proofs.lemmas.Grind.{common_steps}
@@ -14,7 +16,7 @@ use Rattle.cfi_rows.specs.FrameRows.{rows, begins}
 use Rattle.cfi_rows.specs.Entries.{RawEntry, Cie, Fde, Frames, frames, frames_from, walked_entries, one_cie, one_fde, is_cie}
 use Rattle.cfi_rows.specs.Entries.{cie_in, cie_place, cie_at, end_of, fde_at, fde_made, sound_if}
 use Rattle.frame_rewrite.specs.declared.cie_key.CieKey.{CieKey}
-use Rattle.frame_rewrite.specs.SpelledFrames.{is_one, is_key}
+use Rattle.frame_rewrite.specs.SpelledFrames.{is_key}
 use Rattle.frame_rewrite.proofs.Appends.{pos-true, pos-false}
 use Rattle.frame_rewrite.proofs.KeyLists.{key-found}
 use Rattle.frame_rewrite.proofs.ReadEntries.{IfFde, IfCie, fde-so, fde-read, all-by-cie}
@@ -58,10 +60,13 @@ from-count : (debug : Bool) (address : ℕ) (all : List RawEntry) (broken : Opti
 from-count debug address all broken [] b = refl
 from-count debug address all broken (e ∷ es) b =
     either-count (is_cie debug e) (one_cie e (cie_at (end_of address e) e.body) (frames_from debug address all broken es))
-    (one_fde e (and_so (cie_in debug address all (cie_place debug e)) (λ cie. fde_at cie (end_of address e) e)) (frames_from debug address all broken es))
+    (one_fde e (and_so (cie_in debug address all (cie_place debug e)) (λ cie. fde_at cie (end_of address e) e))
+    (frames_from debug address all broken es))
     (with_cie (cie_at (end_of address e) e.body) (cies_of debug address es)) (cies_of debug address es) b
-    (λ x. cie-count e (cie_at (end_of address e) e.body) (frames_from debug address all broken es) (cies_of debug address es) x (from-count debug address all broken es))
-    (λ x. fde-count e (and_so (cie_in debug address all (cie_place debug e)) (λ cie. fde_at cie (end_of address e) e)) (frames_from debug address all broken es)
+    (λ x. cie-count e (cie_at (end_of address e) e.body) (frames_from debug address all broken es) (cies_of debug address es) x
+    (from-count debug address all broken es))
+    (λ x. fde-count e (and_so (cie_in debug address all (cie_place debug e)) (λ cie. fde_at cie (end_of address e) e))
+    (frames_from debug address all broken es)
     (length (cies_of debug address es)) x (from-count debug address all broken es))
 
 -- The CIE of each FDE is among them
@@ -114,11 +119,12 @@ read-cies debug address table =
 
 pub count-cies : (debug : Bool) (address : ℕ) (table : List ℕ) → (frames debug address table).bad ≡ None
     → (frames debug address table).cies ≡ length (cies_of debug address (walked_entries debug table).entries)
-count-cies debug address table b = from-count debug address (walked_entries debug table).entries (walked_entries debug table).broken (walked_entries debug table).entries b
+count-cies debug address table b = from-count debug address (walked_entries debug table).entries (walked_entries debug table).broken
+    (walked_entries debug table).entries b
 
 -- Different keys among some kinds are no more than these
 
-one-itself : (b : Bool) → is_one b b ≡ true
+one-itself : (b : Bool) → beq b b ≡ true
 one-itself true = refl
 one-itself false = refl
 
@@ -150,7 +156,8 @@ at-once ys x y h g e = same x y (sym (key-found x ys (at-below x ys h)) ∙ ap (
   same : (x y : CieKey) → Some x ≡ Some y → x ≡ y
   same x y e = cc
 
-apart : (e : CieKey → CieKey → Bool) → ((x : CieKey) → e x x ≡ true) → (ys : List CieKey) (x y : CieKey) → Contains ys x → Contains ys y → e x y ≡ false
+apart : (e : CieKey → CieKey → Bool) → ((x : CieKey) → e x x ≡ true) → (ys : List CieKey) (x y : CieKey) → Contains ys x → Contains ys y →
+    e x y ≡ false
     → (at ys x == at ys y) ≡ false
 apart e itself ys x y h g f = one (at ys x == at ys y) refl where
   told : (a b : ℕ) → (a == b) ≡ true → a ≡ b
@@ -163,17 +170,22 @@ apart e itself ys x y h g f = one (at ys x == at ys y) refl where
   one true t = absurd (clash (e x y) (ap (e x) (sym (at-once ys x y h g (told _ _ t))) ∙ itself x) f)
   one false t = refl
 
-heads-apart : (e : CieKey → CieKey → Bool) → ((x : CieKey) → e x x ≡ true) → (ys : List CieKey) (x : CieKey) (xs : List CieKey) → Contains ys x → All (Contains ys) xs
+heads-apart : (e : CieKey → CieKey → Bool) → ((x : CieKey) → e x x ≡ true) → (ys : List CieKey) (x : CieKey) (xs : List CieKey) →
+    Contains ys x → All (Contains ys) xs
     → AllByRecursion (λ y. e x y ≡ false) xs → AllByRecursion (λ n. (at ys x == n) ≡ false) (map (at ys) xs)
 heads-apart e itself ys x [] h a f = tt
 heads-apart e itself ys x (y ∷ xs) h a f =
     (apart e itself ys x y h (All-head (Contains ys) y xs a) f.0, heads-apart e itself ys x xs h (All-tail (Contains ys) y xs a) f.1)
 
-all-apart : (e : CieKey → CieKey → Bool) → ((x : CieKey) → e x x ≡ true) → (ys xs : List CieKey) → All (Contains ys) xs → IsDistinct e xs → IsDistinct ◌==◌ (map (at ys) xs)
+all-apart : (e : CieKey → CieKey → Bool) → ((x : CieKey) → e x x ≡ true) → (ys xs : List CieKey) → All (Contains ys) xs →
+    IsDistinct e xs → IsDistinct ◌==◌ (map (at ys) xs)
 unfolding IsDistinct
 all-apart e itself ys [] a d = tt
-all-apart e itself ys (x ∷ xs) a d =
-    (heads-apart e itself ys x xs (All-head (Contains ys) x xs a) (All-tail (Contains ys) x xs a) d.0, all-apart e itself ys xs (All-tail (Contains ys) x xs a) d.1)
+all-apart e itself ys (x ∷ xs) a d = (
+  heads-apart e itself ys x xs (All-head (Contains ys) x xs a) (All-tail (Contains ys) x xs a) d.0,
+  all-apart e itself ys xs
+      (All-tail (Contains ys) x xs a) d.1,
+)
 
 all-below : (ys xs : List CieKey) → All (Contains ys) xs → (q : ℕ) → list_any (λ n. q == n) (map (at ys) xs) ≡ true → q < length ys
 all-below ys [] a q t = absurd (cc)
@@ -185,8 +197,10 @@ all-below ys (x ∷ xs) a q t = one (q == at ys x) refl (all-below ys xs (All-ta
   one true e later = subst (λ (n : ℕ). n < length ys) (sym (told q (at ys x) e)) (at-below x ys (All-head (Contains ys) x xs a))
   one false e later = later (sym (ap (λ (b : Bool). b || list_any (λ n. q == n) (map (at ys) xs)) e) ∙ t)
 
-pub few-keys : (e : CieKey → CieKey → Bool) → ((x : CieKey) → e x x ≡ true) → (ys xs : List CieKey) → All (Contains ys) xs → IsDistinct e xs → length xs ≤ length ys
+pub few-keys : (e : CieKey → CieKey → Bool) → ((x : CieKey) → e x x ≡ true) → (ys xs : List CieKey) → All (Contains ys) xs →
+    IsDistinct e xs → length xs ≤ length ys
 few-keys e itself ys xs a d =
-    subst (λ (n : ℕ). n ≤ length ys) (mapped xs) (length-le_from_distinct_below (map (at ys) xs) (length ys) (all-apart e itself ys xs a d) (all-below ys xs a)) where
+    subst (λ (n : ℕ). n ≤ length ys) (mapped xs) (length-le_from_distinct_below (map (at ys) xs) (length ys)
+    (all-apart e itself ys xs a d) (all-below ys xs a)) where
       mapped : (xs : List CieKey) → length (map (at ys) xs) ≡ length xs
       mapped xs = grind (arith, common_steps)

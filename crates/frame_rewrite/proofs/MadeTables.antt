@@ -1,5 +1,6 @@
 -- What is said of a table that was written, besides its answers.
-use Rattle.std.proofs.Common.{ℕ, zero, suc, ◌+◌, ◌-◌, ◌*◌, ◌^◌, ◌≤◌, ◌<◌, ◌≡◌, List, [], ◌∷◌, ◌++◌, Option, Some, None, false, refl, sym, ◌∙◌, ap, subst}
+use Rattle.std.proofs.Common.{ℕ, zero, suc, ◌+◌, ◌-◌, ◌*◌, ◌^◌, ◌≤◌, ◌<◌, ◌≡◌, List, [], ◌∷◌, ◌++◌, Option, Some, None, false, refl, sym}
+use Rattle.std.proofs.Common.{◌∙◌, ap, subst}
 use Rattle.std.proofs.Common.{arith, length, take, drop, length-append}
 use Rattle.std.specs.Prelude.{All, IsTrue, IsSome, is_some, option_and_then, sum_by}
 use Rattle.std.proofs.lemmas.Grind.{common_steps, flat_map-append}
@@ -12,7 +13,8 @@ use Rattle.cfi_rows.specs.Entries.{Fde, Frames, WalkedEntries, frames}
 use Rattle.frame_rewrite.specs.declared.cie_key.CieKey.{CieKey}
 use Rattle.frame_rewrite.specs.FrameAnswers.{FrameAnswer}
 use Rattle.frame_rewrite.specs.SpelledFits.{KeyFits, IsReached, IsSpelled}
-use Rattle.frame_rewrite.specs.SpelledFrames.{start_of, fde_body, fde_entries, more_count, cie_size, cie_entries, table_entries, spelled_entry, spelled_entries}
+use Rattle.frame_rewrite.specs.SpelledFrames.{start_of, fde_body, fde_entries, more_count, cie_size, cie_entries, table_entries}
+use Rattle.frame_rewrite.specs.SpelledFrames.{spelled_entry, spelled_entries}
 use Rattle.frame_rewrite.specs.Tables.{EndsWithMark, run_size}
 use Rattle.frame_rewrite.proofs.EntriesBack.{walked-alone}
 use Rattle.frame_rewrite.proofs.EntrySizes.{fdes-size}

@@ -1,5 +1,6 @@
 -- The entry of a marked run holds no bytes but those of runs, where the ranges that are marked move whole.
-use Rattle.std.proofs.Common.{ℕ, ◌+◌, ◌-◌, ◌≤◌, ◌<◌, ◌≡◌, ◌&&◌, ◌⊎◌, inl, inr, List, [], ◌∷◌, Option, Some, None, option_map, leb, ltb, Bool, true, false, refl}
+use Rattle.std.proofs.Common.{ℕ, ◌+◌, ◌-◌, ◌≤◌, ◌<◌, ◌≡◌, ◌&&◌, ◌⊎◌, inl, inr, List, [], ◌∷◌, Option, Some, None, option_map, leb, ltb}
+use Rattle.std.proofs.Common.{Bool, true, false, refl}
 use Rattle.std.proofs.Common.{sym, ◌∙◌, ap, subst, arith}
 use Rattle.std.specs.Prelude.{All, IsTrue, IsSome, Contains, option_and_then}
 use Rattle.std.specs.List.{find}
@@ -59,7 +60,8 @@ map-found f (Some a) b e = (a, refl, same (f a) b e) where
   same : {B : Type 0} (x y : B) → Some x ≡ Some y → x ≡ y
   same x y e = cc
 
-pub then-found : {A B : Type 0} (f : A → Option B) (o : Option A) (b : B) → option_and_then f o ≡ Some b → (a : A) × (o ≡ Some a) × (f a ≡ Some b)
+pub then-found : {A B : Type 0} (f : A → Option B) (o : Option A) (b : B) → option_and_then f o ≡ Some b →
+    (a : A) × (o ≡ Some a) × (f a ≡ Some b)
 then-found f None b e = absurd (none b e) where
   none : {B : Type 0} (b : B) → ◌≡◌ {A = Option B} None (Some b) → ⊥
   none b e = cc
@@ -161,7 +163,8 @@ module _ (marks : Fde → Bool) (list : List Fde) (spans : List Span) (runs : Ru
   one-marked r c l m =
       let is : start_of spans r ≡ new spans r.answer.start = rw m refl in
       let x = answered-first marks list spans runs hi within answers r c in
-      let y = answered marks list spans runs hi within answers r c (r.start + r.len - 1) (last_from r.start r.len l) (last_in r.start r.len l) in
+      let y = answered marks list spans runs hi within answers r c (r.start + r.len - 1) (last_from r.start r.len l)
+      (last_in r.start r.len l) in
       let low : new spans x.fde.start ≤ x.span.out = (moves r.start r.answer x m).from_start x.span x.in_map x.in_range in
       record {
         before = subst (λ (n : ℕ). n ≤ r.start) (sym (is ∙ ap (new spans) x.start))

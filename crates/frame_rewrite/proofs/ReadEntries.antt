@@ -108,7 +108,8 @@ module _ (P : Fde → Type 0) (Q : Cie → Type 0) where
 
   -- every entry of a table, by what holds of its CIE
   pub all-by-cie : (debug : Bool) (address : ℕ) (table : List ℕ)
-      → ((y : RawEntry) → Contains (walked_entries debug table).entries y → is_cie debug y ≡ true → IfCie Q (cie_at (end_of address y) y.body))
+      → ((y : RawEntry) → Contains (walked_entries debug table).entries y → is_cie debug y ≡ true →
+      IfCie Q (cie_at (end_of address y) y.body))
       → ((c : Cie) (end : ℕ) (e : RawEntry) → Q c → IfFde P (fde_at c end e)) → All P (frames debug address table).list
   all-by-cie debug address table q h = all-read P debug address table (λ e.
       by-entry address (end_of address e) e (entry_named debug (walked_entries debug table).entries (cie_place debug e))

@@ -1,11 +1,8 @@
 -- Frame tables that are read of a file.
-use Rattle.std.proofs.Common.{◌≡◌, ◌∙◌, ℕ, Bool, List, [], ◌∷◌, Option, Some, None, refl, sym, ap, arith, Bor}
-use Rattle.std.proofs.lemmas.Option.{same_Some}
+use Rattle.std.proofs.Common.{◌≡◌, ◌∙◌, ℕ, Bool, List, [], ◌∷◌, Option, Some, None, sym, ap, Bor}
 use Rattle.std.specs.Prelude.{Contains, ◌↔◌, is_some}
 use Rattle.std.specs.Option.{option_copied}
-use Rattle.rb_bytes.specs.Fault.{number_of, fault_at}
-use Rattle.rb_bytes.specs.FirstFault.{IsFree, IsAnswered}
-use Rattle.rb_bytes.specs.declared.fault.FaultKind.TheVariants.{FrameFault}
+use Rattle.rb_bytes.specs.FirstFault.{IsFree}
 use Rattle.elf_image.specs.declared.elf.Elf.{Elf}
 use Rattle.elf_image.specs.file.Cuts.{IsCutAddress}
 use Rattle.elf_image.proofs.CutLists.{IsCutAddress-from_lists, lists-from_IsCutAddress}
@@ -22,14 +19,6 @@ use Rattle.frame_rewrite.proofs.CutMarks.{same-marks}
 
 pub no-fault : (t : Frames) → t.bad ≡ None → IsFree (IsFrameFault t)
 no-fault t e = λ kind place h. let p = h.1 in absurd (cc)
-
-pub one-fault : (t : Frames) (place : ℕ) → t.bad ≡ Some place → IsAnswered (IsFrameFault t) (fault_at FrameFault place)
-one-fault t place e = record {
-  present = (refl, e);
-  first = λ kind l p h. let n : number_of kind ≡ 21 = ap number_of h.0 in absurd (omega arith);
-  lowest = λ kind p n h. let same : place ≡ p = same_Some _ _ (sym e ∙ h.1) in omega arith;
-  alone = refl;
-}
 
 pub read-of : (t : Kept) (debug : Bool) (section : Held) → t.debug ≡ debug → section_held t ≡ section →
     read_as t ≡ frames_of debug section

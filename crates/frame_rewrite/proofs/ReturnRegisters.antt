@@ -1,5 +1,6 @@
 -- The return register of each entry of a table of bytes has one byte.
-use Rattle.std.proofs.Common.{ℕ, zero, suc, ◌+◌, ◌-◌, ◌<◌, ◌≡◌, ◌==◌, ◌||◌, ◌&&◌, List, [], ◌∷◌, length, take, drop, Ok, Err, cond, Bool, true, false, not, refl, arith}
+use Rattle.std.proofs.Common.{ℕ, zero, suc, ◌+◌, ◌-◌, ◌<◌, ◌≡◌, ◌==◌, ◌||◌, ◌&&◌, List, [], ◌∷◌, length, take, drop, Ok, Err, cond, Bool}
+use Rattle.std.proofs.Common.{true, false, not, refl, arith}
 use Rattle.std.specs.Prelude.{All, nat_le, nat_lt, ◌^◌, Some}
 use Rattle.std.specs.List.{position_or_len}
 use Rattle.std.proofs.lemmas.Bool.Decides.{nat_tests}
@@ -11,8 +12,10 @@ use Rattle.rb_bytes.specs.Leb.{uleb_at, sleb_at, leb_length, uleb_value, sleb_va
 use Rattle.table_core.specs.ReadSteps.{and_so}
 use Rattle.cfi_rows.specs.FrameInstructions.{Read, whole}
 use Rattle.cfi_rows.specs.declared.instruction.Malformed.TheVariants.{Entry}
-use Rattle.cfi_rows.specs.Entries.{RawEntry, Front, Ends, Breaks, Stands, WalkedEntries, front_of, entry_of, walk, onward, walked_entries, Head, head_at, sizes_at, return_register_at, augmentation_at}
-use Rattle.cfi_rows.specs.Entries.{Cie, Fde, cie_at, cie_by, cie_after, cie_made, head_context, end_of, fde_at, fde_made, sound_if, frames}
+use Rattle.cfi_rows.specs.Entries.{RawEntry, Front, Ends, Breaks, Stands, WalkedEntries, front_of, entry_of, walk, onward, walked_entries}
+use Rattle.cfi_rows.specs.Entries.{Head, head_at, sizes_at, return_register_at, augmentation_at}
+use Rattle.cfi_rows.specs.Entries.{Cie, Fde, cie_at, cie_by, cie_after, cie_made, head_context, end_of, fde_at, fde_made, sound_if}
+use Rattle.cfi_rows.specs.Entries.{frames}
 use Rattle.cfi_rows.specs.FrameInstructions.{instructions_at}
 use Rattle.cfi_rows.specs.FrameRows.{known_after, rows, begins, nothing_known}
 use Rattle.frame_rewrite.proofs.ReadEntries.{IfFde, IfCie, cie-so, fde-so, fde-read, all-by-cie}
@@ -62,7 +65,11 @@ byte-read l h = either (nat_lt (length l) 1) where
 
 text-read : (l : List ℕ) → Bytes l → IfRead Left (whole (text_at l))
 text-read l h = either (nat_lt (position_or_len (λ b. b == 0) l) (length l)) where
-  either : (b : Bool) → IfRead Left (whole (cond b (Ok (take (position_or_len (λ b. b == 0) l) l, drop (position_or_len (λ b. b == 0) l + 1) l)) (Err Short)))
+  either : (b : Bool) → IfRead Left (whole (cond b (Ok (
+    take (position_or_len (λ b. b == 0) l) l,
+    drop
+        (position_or_len (λ b. b == 0) l + 1) l,
+  )) (Err Short)))
   either true = All-drop (λ (b : ℕ). b < 256) (position_or_len (λ b. b == 0) l + 1) l h
   either false = tt
 

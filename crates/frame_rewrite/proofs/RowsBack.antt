@@ -1,5 +1,6 @@
 -- The instructions of an entry describe its rows: each begins from a state in which no register has a rule.
-use Rattle.std.proofs.Common.{ℕ, zero, suc, ◌+◌, ◌^◌, ◌≤◌, ◌<◌, ◌≡◌, List, [], ◌∷◌, ◌++◌, Option, Some, None, ltb, leb, refl, sym, ◌∙◌, ap, arith}
+use Rattle.std.proofs.Common.{ℕ, zero, suc, ◌+◌, ◌^◌, ◌≤◌, ◌<◌, ◌≡◌, List, [], ◌∷◌, ◌++◌, Option, Some, None, ltb, leb, refl, sym, ◌∙◌}
+use Rattle.std.proofs.Common.{ap, arith}
 use Rattle.std.proofs.Common.{append_assoc, map, Bool, true, false}
 use Rattle.std.specs.Prelude.{◌==◌, if◌then◌else◌}
 use Rattle.std.proofs.lemmas.Bool.{eq-eqb}
@@ -10,7 +11,8 @@ use Rattle.cfi_rows.specs.declared.row.Cfa.{Cfa}
 use Rattle.cfi_rows.specs.declared.row.Rule.{Rule}
 use Rattle.cfi_rows.specs.declared.instruction.Instruction.{Instruction}
 use Rattle.cfi_rows.specs.declared.instruction.Instruction.TheVariants.{SetLoc, RememberState, RestoreState}
-use Rattle.cfi_rows.specs.FrameRows.{RowValue, Rules, with_rule, without_rule, Known, State, begins, nothing_known, rows, prepended, known_after, PlacedRow}
+use Rattle.cfi_rows.specs.FrameRows.{RowValue, Rules, with_rule, without_rule, Known, State, begins, nothing_known, rows, prepended}
+use Rattle.cfi_rows.specs.FrameRows.{known_after, PlacedRow}
 use Rattle.frame_rewrite.specs.FrameAnswers.{FrameAnswer}
 use Rattle.frame_rewrite.specs.SpelledFits.{RulesFit}
 use Rattle.frame_rewrite.specs.SpelledFrames.{are_low}

@@ -1,10 +1,13 @@
 -- Runs that ascend, and the first ones among them.
-use Rattle.std.proofs.Common.{ℕ, zero, suc, ◌+◌, ◌^◌, ◌≤◌, ◌<◌, ◌≡◌, ◌&&◌, List, [], ◌∷◌, Option, Some, None, cond, leb, ltb, Bool, true, false, refl}
+use Rattle.std.proofs.Common.{ℕ, zero, suc, ◌+◌, ◌^◌, ◌≤◌, ◌<◌, ◌≡◌, ◌&&◌, List, [], ◌∷◌, Option, Some, None, cond, leb, ltb, Bool, true}
+use Rattle.std.proofs.Common.{false, refl}
 use Rattle.std.proofs.Common.{sym, ◌∙◌, ap, arith, take, drop}
 use Rattle.std.specs.Prelude.{All}
 use Rattle.std.specs.Option.{option_or}
 use Rattle.std.proofs.lemmas.Bool.Decides.{nat_tests}
 use Rattle.std.proofs.lemmas.List.Elements.{All-nil, All-cons, All-head, All-tail}
+use Rattle.std.proofs.lemmas.Option.{same_Some}
+use Rattle.rb_bytes.proofs.Options.{not_found}
 use Rattle.table_core.specs.declared.run.Run.{Run}
 use Rattle.table_core.specs.AnswerRuns.{IsWithin, answer_over, run_at}
 use Rattle.cfi_rows.specs.FrameRows.{RowValue, row_at}
@@ -73,11 +76,6 @@ follow at lo (r ∷ rs) hi l h w f =
 
 -- Which run has a byte
 
-over-in : (start len p : ℕ) (a : FrameAnswer) → start ≤ p → p < start + len → answer_over start len a p ≡ Some a
-over-in start len p a l h =
-    let t : (leb start p && ltb p (start + len)) ≡ true = grind (arith, nat_tests) in
-    rw t refl
-
 over-out : (start len p : ℕ) (a : FrameAnswer) → (leb start p && ltb p (start + len)) ≡ false
     → answer_over start len a p ≡ None
 over-out start len p a t = rw t refl
@@ -120,18 +118,11 @@ rows-before lo (r ∷ rs) hi p found w h =
     ap (λ (b : Bool). row_at p (placed rs) (cond b (Some r.answer.row) found)) t
     ∙ rows-before (r.start + r.len) rs hi p found w.2 (omega arith)
 
-none-some : {A : Type 0} (o : Option A) (x : A) → o ≡ None → o ≡ Some x → ⊥
-none-some None x e f = absurd (cc)
-none-some (Some y) x e f = absurd (cc)
-
-some-same : {A : Type 0} (x y : A) → Some x ≡ Some y → x ≡ y
-some-same x y e = cc
-
 -- the row of the run that has the byte
 pub rows-at : (lo : ℕ) (rs : Runs) (hi p : ℕ) (found : Option RowValue) (a : FrameAnswer) → IsWithin lo rs hi
     → run_at rs p ≡ Some a
     → row_at p (placed rs) found ≡ Some a.row
-rows-at lo [] hi p found a w e = absurd (none-some {A = FrameAnswer} None a refl e)
+rows-at lo [] hi p found a w e = absurd (not_found {A = FrameAnswer} None a refl e)
 rows-at lo (r ∷ rs) hi p found a w e =
     one (leb r.start p && ltb p (r.start + r.len)) refl
     (rows-at (r.start + r.len) rs hi p (cond (leb r.start p) (Some r.answer.row) found) a w.2) where
@@ -145,7 +136,7 @@ rows-at lo (r ∷ rs) hi p found a w e =
           → (run_at rs p ≡ Some a → row_at p (placed rs) (cond (leb r.start p) (Some r.answer.row) found) ≡ Some a.row)
           → row_at p (placed (r ∷ rs)) found ≡ Some a.row
       one true t later =
-          let same : r.answer ≡ a = some-same r.answer a
+          let same : r.answer ≡ a = same_Some r.answer a
           (sym (ap (λ (b : Bool). option_or (cond b (Some r.answer) None) (run_at rs p)) t) ∙ e) in
           ap (λ (b : Bool). row_at p (placed rs) (cond b (Some r.answer.row) found)) (starts r.start r.len t)
           ∙ rows-before (r.start + r.len) rs hi p (Some r.answer.row) w.2 (ends r.start r.len t)

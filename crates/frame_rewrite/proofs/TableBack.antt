@@ -1,21 +1,24 @@
 -- The entries of a table that is written are read back.
-use Rattle.std.proofs.Common.{ℕ, zero, suc, zero-add, ◌+◌, ◌-◌, ◌*◌, ◌^◌, ◌≤◌, ◌<◌, ◌≡◌, ◌==◌, List, [], ◌∷◌, ◌++◌, Option, Some, None, Result, Ok, leb, Bool}
+use Rattle.std.proofs.Common.{ℕ, zero, suc, zero-add, ◌+◌, ◌-◌, ◌*◌, ◌^◌, ◌≤◌, ◌<◌, ◌≡◌, ◌==◌, List, [], ◌∷◌, ◌++◌, Option, Some, None}
+use Rattle.std.proofs.Common.{Result, Ok, leb, Bool}
 use Rattle.std.proofs.Common.{true, false, refl, sym, ◌∙◌, ap, subst, arith, length, take, drop}
 use Rattle.std.specs.Prelude.{All, slice_get}
 use Rattle.std.specs.List.{find}
 use Rattle.std.proofs.lemmas.Bool.Decides.{nat_tests}
 use Rattle.std.proofs.lemmas.List.Elements.{All-head, All-tail, All-drop}
-use Rattle.std.proofs.lemmas.Option.{same_Some}
+use Rattle.std.proofs.lemmas.Option.{same_Some, slice_get_within}
 use Rattle.addr_map.specs.declared.span.Span.{Span}
 use Rattle.table_core.specs.ReadSteps.{and_so}
 use Rattle.table_core.specs.declared.run.Run.{Run}
 use Rattle.table_core.specs.AnswerRuns.{IsWithin}
 use Rattle.cfi_rows.specs.declared.instruction.Malformed.{Malformed}
-use Rattle.cfi_rows.specs.Entries.{RawEntry, Cie, Fde, is_cie, cie_id, cie_place, is_named, cie_in, cie_at, fde_at, end_of, sound_if, frames_from, frames, WalkedEntries}
+use Rattle.cfi_rows.specs.Entries.{RawEntry, Cie, Fde, is_cie, cie_id, cie_place, is_named, cie_in, cie_at, fde_at, end_of, sound_if}
+use Rattle.cfi_rows.specs.Entries.{frames_from, frames, WalkedEntries}
 use Rattle.frame_rewrite.specs.declared.cie_key.CieKey.{CieKey}
 use Rattle.frame_rewrite.specs.FrameAnswers.{FrameAnswer}
 use Rattle.frame_rewrite.specs.SpelledFits.{KeyFits, Writes, WritesAll}
-use Rattle.frame_rewrite.specs.SpelledFrames.{key_of, zeros, cie_body, cie_text, cie_nops, cie_size, cie_entry, cie_entries, fde_body, fde_id, fde_entry, fde_entries, table_entries}
+use Rattle.frame_rewrite.specs.SpelledFrames.{key_of, zeros, cie_body, cie_text, cie_nops, cie_size, cie_entry, cie_entries, fde_body}
+use Rattle.frame_rewrite.specs.SpelledFrames.{fde_id, fde_entry, fde_entries, table_entries}
 use Rattle.frame_rewrite.specs.SpelledFrames.{spelled_entries, end_mark, start_of, last_end, more_count, key_index, handler_encoding}
 use Rattle.frame_rewrite.proofs.EntriesBack.{EntryFits, AreFrom, walked-back}
 use Rattle.frame_rewrite.proofs.CieBack.{cie_of, cie-back}
@@ -60,12 +63,6 @@ cies-from debug i place (k ∷ ks) es e a =
       next : (place i n : ℕ) → place ≡ 32 * i → n ≡ 24 → place + 8 + n ≡ 32 * (i + 1)
       next place i n e l = omega arith
 
--- an index of a list is below its length
-pub below : {A : Type 0} (xs : List A) (i : ℕ) (x : A) → slice_get xs i ≡ Some x → i < length xs
-below [] i x e = absurd (cc)
-below (y ∷ ys) zero x e = omega arith
-below (y ∷ ys) (suc i) x e = let h : i < length ys = below ys i x e in omega arith
-
 fde-id-fits : (debug : Bool) (place i n : ℕ) → i < n → cie_size * n ≤ place → place + 4 < 2 ^ 32
     → fde_id debug place i < 2 ^ 32
 fde-id-fits true place i n h l f = omega arith
@@ -84,7 +81,7 @@ fdes-from debug spans keys (suc n) place (r ∷ rs) h w = (
   refl,
   record {
     id = fde-id-fits debug place (key_index spans keys r) (length keys)
-        (below keys (key_index spans keys r) (key_of spans r.answer) w.0.key) h w.0.low;
+        (slice_get_within keys (key_index spans keys r) (key_of spans r.answer) w.0.key) h w.0.low;
     size = w.0.size;
   },
   fdes-from debug spans keys n (place + 8 + length (fde_body spans r (take (more_count r rs) rs)))
@@ -180,7 +177,7 @@ fde-found : (debug : Bool) (address : ℕ) (all : List RawEntry) (keys : List Ci
     ≡ Ok (fde_of spans (key_of spans r.answer) place r more)
 fde-found debug address all keys spans place lo hi r more h f l w low within before =
     let n = place-named debug place (key_index spans keys r) (length keys) (fde_body spans r more)
-    (below keys (key_index spans keys r) (key_of spans r.answer) w.key) l in
+    (slice_get_within keys (key_index spans keys r) (key_of spans r.answer) w.key) l in
     let c : cie_in debug address all (cie_place debug (fde_entry debug spans keys place r more))
     ≡ Ok (cie_of (key_of spans r.answer)) =
     ap (cie_in debug address all) n
@@ -227,7 +224,7 @@ frames-fdes debug address all keys spans zero place lo hi (r ∷ rs) h f l w low
 frames-fdes debug address all keys spans (suc n) place lo hi (r ∷ rs) h f l w low within before =
     let t : is_cie debug (fde_entry debug spans keys place r (take (more_count r rs) rs)) ≡ false
     = not-cie debug place (key_index spans keys r) (length keys)
-    (below keys (key_index spans keys r) (key_of spans r.answer) w.0.key) l w.0.low in
+    (slice_get_within keys (key_index spans keys r) (key_of spans r.answer) w.0.key) l w.0.low in
     let rest = frames-fdes debug address all keys spans n
     (place + 8 + length (fde_body spans r (take (more_count r rs) rs)))
     (last_end (r.start + r.len) (take (more_count r rs) rs)) hi

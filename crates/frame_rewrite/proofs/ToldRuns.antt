@@ -28,7 +28,8 @@ abbrev kind_of : List Span → Cie → CieKey
 kind_of spans c =
     record { ra = c.ra; handler = new spans c.augmentation.handler; indirect = c.augmentation.indirect; signal = c.augmentation.signal }
 
-module _ (debug : Bool) (is_marked : Fde → Bool) (section : Held) (spans : List Span) (runs : Runs) (within : IsWithin 0 runs (2 ^ 64 - 1))
+module _ (debug : Bool) (is_marked : Fde → Bool) (section : Held) (spans : List Span) (runs : Runs)
+    (within : IsWithin 0 runs (2 ^ 64 - 1))
     (answers : (p : ℕ) → run_at runs p ≡ carried (answer_at is_marked (frames_of debug section).list) spans p) where
   told : (r : Run FrameAnswer) → Contains runs r → Answered is_marked (frames_of debug section).list spans r.start r.answer
   told r c = answered-first is_marked (frames_of debug section).list spans runs (2 ^ 64 - 1) within answers r c
@@ -36,7 +37,8 @@ module _ (debug : Bool) (is_marked : Fde → Bool) (section : Held) (spans : Lis
   pub all-ascend : All RunAscends runs
   all-ascend = all_of RunAscends runs (λ r c. let t = told r c in
       row-ascends t.span.input t.fde.rows None r.answer.row
-      (All-contains FdeAscends (frames_of debug section).list t.fde (frames-ascend debug section.address section.bytes) t.in_list) tt t.row)
+      (All-contains FdeAscends (frames_of debug section).list t.fde (frames-ascend debug section.address section.bytes) t.in_list) tt
+      t.row)
 
   pub all-return : Bytes section.bytes → All RunReturns runs
   all-return h = all_of RunReturns runs (λ r c. let t = told r c in
@@ -46,7 +48,8 @@ module _ (debug : Bool) (is_marked : Fde → Bool) (section : Held) (spans : Lis
   abbrev kinds : List CieKey
   kinds = map (kind_of spans) (cies_of debug section.address (walked_entries debug section.bytes).entries)
 
-  same-kind : (p : ℕ) (a : FrameAnswer) → (t : Answered is_marked (frames_of debug section).list spans p a) → key_of spans a ≡ kind_of spans t.fde.cie
+  same-kind : (p : ℕ) (a : FrameAnswer) → (t : Answered is_marked (frames_of debug section).list spans p a) →
+      key_of spans a ≡ kind_of spans t.fde.cie
   same-kind p a t =
       λ i. record { ra = t.ra i; handler = new spans (t.handler i); indirect = t.indirect i; signal = t.signal i }
 

@@ -1,5 +1,6 @@
 -- The law and what is made, of the two tables where they stand.
-use Rattle.std.proofs.Common.{ℕ, ◌+◌, ◌-◌, ◌*◌, ◌^◌, ◌≤◌, ◌≡◌, List, [], Option, Some, None, Bool, true, false, refl, sym, ◌∙◌, ap, subst, arith, length}
+use Rattle.std.proofs.Common.{ℕ, ◌+◌, ◌-◌, ◌*◌, ◌^◌, ◌≤◌, ◌≡◌, List, [], Option, Some, None, Bool, true, false, refl, sym, ◌∙◌, ap, subst}
+use Rattle.std.proofs.Common.{arith, length}
 use Rattle.std.specs.Prelude.{All, is_some, option_and_then, sum_by}
 use Rattle.std.proofs.lemmas.List.Elements.{All-nil}
 use Rattle.rb_bytes.specs.FirstFault.{IsFree}

@@ -1,11 +1,11 @@
 -- What the first entry that holds an address says there, of an entry as the code keeps it.
-use Rattle.std.specs.Prelude.{◌==◌, ◌&&◌, ℕ, Bool, not, nat_lt, List, Option, None, option_map, option_and_then}
-use Rattle.std.specs.List.{find, list_any}
+use Rattle.std.specs.Prelude.{◌&&◌, ℕ, Bool, nat_lt, List, Option, None, option_map, option_and_then}
+use Rattle.std.specs.List.{find}
 use Rattle.cfi_rows.specs.declared.frame_table.Fde.{Fde as ReadFde}
 use Rattle.cfi_rows.specs.FrameRows.{RowValue, row_at}
 use Rattle.cfi_rows.specs.Entries.{Fde, is_in_range}
 use Rattle.cfi_rows.specs.ReadEntries.{fde_of}
-use Rattle.frame_rewrite.specs.FrameAnswers.{FrameAnswer}
+use Rattle.frame_rewrite.specs.FrameAnswers.{FrameAnswer, is_whole_range}
 
 abbrev pub told_by : ℕ → Fde → Option (ReadFde × RowValue)
 told_by a f = option_map (λ row. (fde_of f, row)) (row_at a f.rows None)
@@ -26,9 +26,5 @@ answer_by f row marked = record {
 }
 
 -- whether an entry is marked
-abbrev pub is_strictly_inside : ReadFde → ℕ → Bool
-is_strictly_inside f a = nat_lt f.start a && nat_lt a f.end
-
 abbrev pub is_marked_as : List ℕ → ReadFde → Bool
-is_marked_as cuts f =
-    nat_lt 0 f.table && (list_any (λ c. c == f.start) cuts && not (list_any (is_strictly_inside f) cuts))
+is_marked_as cuts f = nat_lt 0 f.table && is_whole_range cuts f.start f.end

@@ -1,6 +1,7 @@
 -- How a frame table is written: one CIE for each kind of frame, and then the FDEs. All pointers are absolute, so the bytes
 -- don't depend on the address of the section. LSB, "The .eh_frame section"; DWARF 5, sections 6.4.1, 6.4.2 and 7.24.
 use Rattle.std.specs.Prelude.{ℕ, zero, suc, ◌+◌, ◌-◌, ◌*◌, ◌%◌, ◌==◌, ◌&&◌, ◌++◌, Bool, true, false, not, cond, List, [], ◌∷◌}
+use Rattle.std.specs.Bool.{beq}
 use Rattle.std.specs.Prelude.{length, take, drop, flat_map, map, nat_lt, if◌then◌else◌}
 use Rattle.std.specs.List.{position_or_len, list_all}
 use Rattle.byteorder.specs.Endian.{little_bytes}
@@ -124,15 +125,11 @@ cie_entries debug i (k ∷ ks) = cie_entry debug i k ∷ cie_entries debug (i + 
 -- FDEs, each of a group of runs. The range of an entry that is marked begins where its start went, and the runs of one such
 -- entry that follow one another are a group; every other run is one of its own.
 
-abbrev pub is_one : Bool → Bool → Bool
-is_one true b = b
-is_one false b = not b
-
 abbrev pub continues : Run FrameAnswer → Run FrameAnswer → Bool
 continues r q =
     r.answer.marked && q.answer.marked && (r.answer.start == q.answer.start) && (r.answer.table == q.answer.table)
     && (r.answer.ra == q.answer.ra) && (r.answer.handler == q.answer.handler)
-    && is_one r.answer.indirect q.answer.indirect && is_one r.answer.signal q.answer.signal
+    && beq r.answer.indirect q.answer.indirect && beq r.answer.signal q.answer.signal
 
 -- how many of the runs behind one are of its group
 abbrev pub more_count : Run FrameAnswer → List (Run FrameAnswer) → ℕ
@@ -160,7 +157,7 @@ abbrev pub fde_body : List Span → Run FrameAnswer → List (Run FrameAnswer) �
 fde_body spans r more = let fields = fde_fields spans r more in fields ++ zeros (padding (length fields))
 
 abbrev pub is_key : CieKey → CieKey → Bool
-is_key a b = (a.ra == b.ra) && (a.handler == b.handler) && is_one a.indirect b.indirect && is_one a.signal b.signal
+is_key a b = (a.ra == b.ra) && (a.handler == b.handler) && beq a.indirect b.indirect && beq a.signal b.signal
 
 abbrev pub key_index : List Span → List CieKey → Run FrameAnswer → ℕ
 key_index spans keys r = position_or_len (is_key (key_of spans r.answer)) keys

@@ -3,6 +3,7 @@ use Rattle.std.proofs.Common.{◌≡◌, ◌≢◌, ◌∙◌, sym, subst, ap, r
 use Rattle.std.proofs.Common.{Some, List, Contains, AllPairs, length, slice_index_or, arith, ℤ}
 use Rattle.std.proofs.lemmas.Bool.{cases_lt}
 use Rattle.std.proofs.lemmas.List.{get_or_default}
+use Rattle.std.proofs.lemmas.Option.{same_Some}
 use Rattle.rb_bytes.specs.Fault.{fault_at}
 use Rattle.rb_bytes.specs.declared.fault.Fault.{Fault}
 use Rattle.rb_bytes.specs.declared.fault.FaultKind.TheVariants.{BareAuipc}
@@ -20,9 +21,6 @@ use Rattle.func_find.specs.InstLists.{IsFaultBefore, bare, IsPlacedAt}
 use Rattle.func_find.proofs.NoRole.{HasNoRole-none}
 use Rattle.func_find.proofs.StartsApart.{length_is}
 
-pub pair_is : {A B : Type 0} (r s : A × B) → Some r ≡ Some s → r ≡ s
-pair_is r s is = cc
-
 -- what is valid at an address is the only instruction there
 abbrev pub IsOnlyValid : Elf → ℕ → ℕ → Inst × ℕ → Type 0
 IsOnlyValid elf end a found = (inst : Inst) (bytes : ℕ) → IsValidBefore elf end a inst bytes → Some found ≡ Some (inst, bytes)
@@ -39,7 +37,7 @@ only_inst elf end a found valid only inst bytes is =
       even = valid.even;
       allowed = λ two. valid.allowed (same ∙ two);
     } in
-    sym (ap (λ (x : Inst × ℕ). x.0) (pair_is found (inst, bytes) (only inst bytes valid')))
+    sym (ap (λ (x : Inst × ℕ). x.0) (same_Some found (inst, bytes) (only inst bytes valid')))
 
 pub placed_role : (elf : Elf) (end a : ℕ) (roles : List (ℕ × Role)) (found : Inst × ℕ) (role : Role) → AreRoles elf roles →
     IsValidBefore elf end a found.0 found.1 → IsOnlyValid elf end a found → Contains roles (a, role) →
@@ -72,7 +70,7 @@ placed_plain elf end a roles found auipc are valid only none test isnt = record 
   role = inr (no_role elf a roles are none, refl);
   only = only_inst elf end a found valid only;
   not_bare = λ bare.
-      let same = pair_is found (Auipc bare.rd bare.imm, 4) (only _ 4 bare.auipc) in
+      let same = same_Some found (Auipc bare.rd bare.imm, 4) (only _ 4 bare.auipc) in
       let there : IsAuipc found.0 = subst IsAuipc (sym (ap (λ (x : Inst × ℕ). x.0) same)) tt in
       let is : auipc ≡ true = test.1 (there, ap (λ (x : Inst × ℕ). x.1) same) in
       let no : true ≡ false = sym is ∙ isnt in
@@ -92,12 +90,6 @@ fault_bare elf end a roles found fault are valid none (auipc, four) fault_is =
     })
 
 -- Looking up roles.
-
-pub role_there : (roles : List (ℕ × Role)) (a k : ℕ) (d : ℕ × Role) → k < length roles → (slice_index_or roles k d).0 ≡ a →
-    Contains roles (a, (slice_index_or roles k d).1)
-role_there roles a k d within is =
-    let x = slice_index_or roles k d in
-    (k, within, get_or_default roles k (a, x.1) d within ∙ (λ i. (is i, x.1)))
 
 pub role_absent : (roles : List (ℕ × Role)) (a k : ℕ) (d : ℕ × Role) → AllPairs (λ r s. r.0 < s.0) roles →
     ((j : ℕ) (e : ℕ × Role) → j < k → (slice_index_or roles j e).0 < a) →

@@ -2,7 +2,7 @@
 use Rattle.std.proofs.Common.{◌≡◌, ◌∙◌, sym, subst, ap, refl, ℕ, ◌+◌, ◌<◌, ◌≤◌, ◌⊎◌, inl, inr, ⊎_elim, List, [], ◌∷◌, ◌++◌}
 use Rattle.std.proofs.Common.{Contains, AllPairs, take, length, slice_index_or, arith}
 use Rattle.std.proofs.lemmas.Bool.{cases_lt}
-use Rattle.std.proofs.lemmas.List.{take_more, take_all, get_or_default, get_or-take, length-take}
+use Rattle.std.proofs.lemmas.List.{take_more, get_or_default, get_or-take, length-take}
 use Rattle.std.proofs.lemmas.List.Elements.{Contains-append_left, Contains-push, Contains-push_cases}
 use Rattle.std.proofs.lemmas.List.Quantifiers.{all_pairs_push}
 use Rattle.rb_bytes.specs.declared.fault.Fault.{Fault}
@@ -112,13 +112,6 @@ first_bad elf part address insts fault inside bad are = record {
 
 -- Functions, one part after another.
 
-pub made_none : (elf : Elf) (wholes parts : List Part) → AreFunctionsOf elf wholes (take 0 parts) []
-made_none elf wholes parts = record {
-  only = λ f (k, within, is). absurd (omega arith);
-  each = λ p (k, within, is). absurd (omega arith);
-  ordered = λ i j d less within. absurd (omega arith);
-}
-
 pub made_next : (elf : Elf) (wholes parts : List Part) (i : ℕ) (d : Part) (was now : List Func) (func : Func) →
     AllPairs Precedes parts → i < length parts → IsFunctionOf elf wholes (slice_index_or parts i d) func →
     now ≡ was ++ func ∷ [] →
@@ -154,11 +147,6 @@ made_next elf wholes parts i d was now func ordered within made pushed are =
         let order : (slice_index_or parts k d).end ≤ (slice_index_or parts i d).start = ordered k i d short within in
         let same : (slice_index_or parts k d).end ≡ p.end = ap (λ (q : Part). q.end) at in
         omega arith
-
-pub made_all : (elf : Elf) (wholes parts : List Part) (i : ℕ) (funcs : List Func) → i ≡ length parts →
-    AreFunctionsOf elf wholes (take i parts) funcs → AreFunctionsOf elf wholes parts funcs
-made_all elf wholes parts i funcs all =
-    subst (λ (ps : List Part). AreFunctionsOf elf wholes ps funcs) (take_all i parts (omega arith))
 
 -- the first fault of a part is that of all, where those before it have none
 pub first_of_all : (elf : Elf) (wholes parts : List Part) (i : ℕ) (d : Part) (funcs : List Func) (fault : Fault) →

@@ -2,12 +2,12 @@
 use Rattle.std.proofs.Common.{take, Option, Some, None, inl, inr, subst, ℕ, ◌≡◌, ◌≢◌, ◌⊎◌, ◌<◌, ◌≤◌, ◌+◌, ◌&&◌, not, Bool, true}
 use Rattle.std.proofs.Common.{false, List, [], ◌∷◌, ◌++◌, length, get_or, set, sym, ◌∙◌, ap, refl, arith, ⊎_elim, length-set}
 use Rattle.std.proofs.Common.{get_or-set_same, get_or-set_other}
-use Rattle.std.specs.Prelude.{sum, ◌^◌, ◌==◌, slice_index, if◌then◌else◌, nat_le}
+use Rattle.std.specs.Prelude.{sum, ◌==◌, slice_index, if◌then◌else◌, nat_le}
 use Rattle.std.proofs.lemmas.Bool.{cases_eq, cases_Bool}
 use Rattle.std.proofs.lemmas.List.Sums.{sum_by-append, sum_by-cons, sum_by-set, fold_more}
 use Rattle.std.proofs.lemmas.Grind.{common_steps}
 use Rattle.rv_code.specs.layout.WorstSizes.{near_limit}
-use Rattle.func_place.specs.Clusters.{total, alone, joined_clusters, appended, take_unit, clusters_of, has_unit, AreWithinLimit}
+use Rattle.func_place.specs.Clusters.{total, alone, joined_clusters, appended, take_unit, clusters_of, has_unit}
 use Rattle.func_place.specs.internal.Groups.{Grouping, list_at, group_of, IsGrouped}
 use Rattle.func_place.specs.internal.ClusterState.{count_of, size_at, heat_at, Merges, Keeps, IsValidState, ClusterState}
 use Rattle.func_place.proofs.GroupMoves.{IsJoined, count_new, joined_from, grouped_joined, number_among, number_elsewhere}
@@ -234,26 +234,6 @@ pub record IsAlone (g : Grouping) (n : ℕ) : Type 0 where
   pub grouped : IsGrouped g
   pub number : (u : ℕ) → u < n → slice_index g.numbers u ≡ u
   pub list : (u : ℕ) → u < n → list_at g.lists u ≡ u ∷ []
-
-pub sound_alone : (sizes heats : List ℕ) (state : ClusterState) → IsAlone state.grouping (length sizes) → state.totals ≡ sizes →
-    state.heats ≡ heats → length heats ≡ length sizes → sum heats < 2 ^ 101 → AreWithinLimit sizes →
-    ((u : ℕ) → u < length sizes → 0 < slice_index heats u → 0 < slice_index sizes u) → IsValidState state
-sound_alone sizes heats state a totals_is heats_is heats_len room low some = record {
-  grouped = a.grouped;
-  totals_len = ap length totals_is ∙ sym a.count;
-  heats_len = ap length heats_is ∙ heats_len ∙ sym a.count;
-  low = λ q lt. rw totals_is (low q 0 (rw (← a.count) lt));
-  some = λ q lt. rw (totals_is, heats_is) (some q (rw (← a.count) lt));
-  room = rw heats_is room;
-}
-
-pub keeps_alone : (sizes heats : List ℕ) (state : ClusterState) → IsAlone state.grouping (length sizes) → state.totals ≡ sizes →
-    state.heats ≡ heats → Keeps sizes heats alone state
-keeps_alone sizes heats state a totals_is heats_is = record {
-  list = λ u lt. let n = a.number u (rw (← a.count) lt) in rw n (a.list u (rw (← a.count) lt));
-  size = λ u lt. let n = a.number u (rw (← a.count) lt) in rw (totals_is, n) (omega arith);
-  heat = λ u lt. let n = a.number u (rw (← a.count) lt) in rw (heats_is, n) (omega arith);
-}
 
 -- One more unit is taken: it has no caller, or its cluster is appended to its caller's.
 

@@ -32,22 +32,6 @@ apart_more {n} {numbers} {lists} a =
           (λ (ne : k ≢ n). get_or_append_left lists ((n ∷ []) ∷ []) [] k (omega arith) ∙ a.list k (omega arith)) (cases_eq k n);
     }
 
-one_member : (q u : ℕ) → has_unit (q ∷ []) u ≡ (u == q)
-one_member q u = grind (arith, common_steps)
-
-pub apart_grouped : {n : ℕ} {g : Grouping} → IsApart n g.numbers g.lists → IsGrouped g
-apart_grouped {n} {g} a =
-    let len = a.lists_len in
-    record {
-      numbers_len = a.numbers_len ∙ sym a.lists_len;
-      number_in = λ u lt. let is : slice_index g.numbers u ≡ u = a.number u (omega arith) in omega arith;
-      members_in = λ q lt. let l : list_at g.lists q ≡ q ∷ [] = a.list q (omega arith) in
-          rw l (λ k d one. grind (arith, common_steps));
-      stands = λ u q lt q_lt. let l : list_at g.lists q ≡ q ∷ [] = a.list q (omega arith) in
-          let n : slice_index g.numbers u ≡ u = a.number u (omega arith) in
-          rw (l, n) (one_member q u);
-    }
-
 -- Two groups become one.
 
 -- what a move asks of the new list

@@ -9,7 +9,6 @@ mod Heaviest
 mod InstOrder
 mod LowestMembers
 mod Moving
-mod Only
 mod OnlyHeaviest
 mod OrderFacts
 mod PlacementFaults

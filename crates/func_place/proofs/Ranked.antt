@@ -1,9 +1,8 @@
 -- The ranks of clusters, by their first units.
-use Rattle.std.proofs.Common.{ℕ, ◌≡◌, ◌<◌, ◌≤◌, ◌+◌, true, false, List, [], ◌∷◌, ◌++◌, length, take, get_or, map, arith, refl}
-use Rattle.std.proofs.Common.{◌∙◌, sum}
-use Rattle.std.specs.Prelude.{slice_index, All}
+use Rattle.std.proofs.Common.{ℕ, ◌≡◌, ◌<◌, ◌+◌, true, false, List, [], ◌∷◌, ◌++◌, length, take, get_or, map, arith, refl}
+use Rattle.std.proofs.Common.{◌∙◌}
+use Rattle.std.specs.Prelude.{All}
 use Rattle.std.proofs.lemmas.List.{map-append, append-nil, get_or-map, length-map}
-use Rattle.std.proofs.lemmas.List.Sums.{get_or-le-sum_by}
 use Rattle.std.proofs.lemmas.List.Elements.{filter_more, All-push}
 use Rattle.std.proofs.lemmas.List.Sorted.{IsPermutation-map, All-permutation}
 use Rattle.func_place.specs.declared.ranks.Rank.{Rank}
@@ -11,9 +10,6 @@ use Rattle.func_place.specs.Clusters.{total}
 use Rattle.func_place.specs.Ranks.{IsInOrder, begins, denser, denser_by, cluster_heads}
 use Rattle.func_place.specs.internal.Groups.{group_of}
 use Rattle.func_place.specs.internal.ClusterState.{Keeps, count_of, size_at, heat_at, ClusterState}
-
-pub one-le-sum : (xs : List ℕ) (q : ℕ) → q < length xs → slice_index xs q ≤ sum xs
-one-le-sum xs q lt = get_or-le-sum_by (λ x. x) xs q 0 lt
 
 -- a rank is that of the cluster that its unit begins
 pub record IsRank (sizes heats : List ℕ) (cluster : ℕ → List ℕ) (r : Rank) : Type 0 where
@@ -26,9 +22,6 @@ pub record AreRanks (sizes heats : List ℕ) (cluster : ℕ → List ℕ) (taken
 
 no_rank : Rank
 no_rank = record { heat = 0; size = 1; unit = 0; fits = omega arith; some = omega arith; small = omega arith }
-
-pub none_ranked : (sizes heats : List ℕ) (cluster : ℕ → List ℕ) (taken : List ℕ) → AreRanks sizes heats cluster (take 0 taken) []
-none_ranked sizes heats cluster taken = record { units = refl; each = λ k d lt. absurd (omega arith) }
 
 pub ranks_more : (sizes heats : List ℕ) (cluster : ℕ → List ℕ) (taken : List ℕ) (ranks : List Rank)
     (state : ClusterState) (i : ℕ) (r : Rank) → Keeps sizes heats cluster state → i < length taken →

@@ -1,7 +1,7 @@
 -- Units and clusters in order.
-use Rattle.std.proofs.Common.{suc, ◌-◌, append_assoc, ℕ, ◌≡◌, ◌≢◌, ◌⊎◌, ◌<◌, ◌≤◌, ◌+◌, ◌*◌, ◌&&◌, ◌||◌, inl, inr, ⊎_elim, Bool}
+use Rattle.std.proofs.Common.{◌-◌, append_assoc, ℕ, ◌≡◌, ◌≢◌, ◌⊎◌, ◌<◌, ◌≤◌, ◌+◌, ◌*◌, ◌&&◌, ◌||◌, inl, inr, ⊎_elim, Bool}
 use Rattle.std.proofs.Common.{true, false, cond, List, [], ◌∷◌, ◌++◌, arith, refl, sym, ◌∙◌, ap}
-use Rattle.std.specs.Prelude.{find, ◌==◌, nat_lt, filter}
+use Rattle.std.specs.Prelude.{◌==◌, nat_lt, filter}
 use Rattle.std.specs.List.{range_with_len}
 use Rattle.std.specs.Cmp.{IsStrictWeakOrder}
 use Rattle.std.specs.Ordering.{is_lt, nat_cmp, ordering_then}
@@ -107,11 +107,3 @@ is_zero n h = grind (arith, common_steps)
 
 pub is_some : (n : ℕ) → n ≢ 0 → (n == 0) ≡ false
 is_some n h = grind (arith, common_steps)
-
--- one more unit isn't what is looked for
-pub find_next : (p : ℕ → Bool) (u n : ℕ) → u < n → p u ≡ false →
-    find p (range_with_len (u + 1) (n - (u + 1))) ≡ find p (range_with_len u (n - u))
-find_next p u n lt h = let s : n - u ≡ suc (n - (u + 1)) = omega arith in rw (s, h) refl
-
-pub not_above : (m n : ℕ) → n ≤ m → nat_lt m n ≡ false
-not_above m n h = grind (arith, common_steps)

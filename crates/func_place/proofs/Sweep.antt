@@ -1,6 +1,6 @@
 -- The heaviest callers by the first calls of a list that is sorted by callee and caller.
 use Rattle.std.proofs.Common.{subst, set, ℕ, ◌≡◌, ◌≢◌, ◌⊎◌, ◌<◌, ◌≤◌, ◌+◌, ◌==◌, ◌&&◌, inl, inr, ⊎_elim, Bool, true, false, List}
-use Rattle.std.proofs.Common.{[], length, take, get_or, Option, None, Some, arith, refl, sym, ◌∙◌, ap, length-set}
+use Rattle.std.proofs.Common.{length, take, get_or, Option, None, Some, arith, refl, sym, ◌∙◌, ap, length-set}
 use Rattle.std.proofs.Common.{get_or-set_same, get_or-set_other}
 use Rattle.std.specs.Prelude.{if◌then◌else◌, slice_index, sum_by}
 use Rattle.std.proofs.lemmas.Grind.{common_steps}
@@ -56,13 +56,6 @@ pub record IsRun (calls : List UnitCall) (i : ℕ) (run : UnitCall) : Type 0 whe
   pub count : run.count ≡ calls_between (take i calls) run.from run.to
   pub before : (k : ℕ) → k < i → IsUpTo (call_at calls k) run
   pub after : (k : ℕ) → i ≤ k → k < length calls → IsUpTo run (call_at calls k)
-
-pub first_run : (calls : List UnitCall) → IsRun calls 0 (record { from = 0; to = 0; count = 0 })
-first_run calls = record {
-  count = refl;
-  before = λ k lt. absurd (omega arith);
-  after = λ k le lt. record { to = omega arith; from = λ e. omega arith };
-}
 
 other_ends : (a b x y : ℕ) → ((a == x) && (b == y)) ≡ false → a ≡ x → b ≡ y → ⊥
 other_ends a b x y h p q = grind (arith, common_steps)
@@ -260,24 +253,6 @@ tops_keep heats calls i best most r ordered lt from_is to_is run t stays =
           (slice_index most u) (get_or best u None) sums old)
           (cases_eq u r.to);
     }
-
-pub no_tops : (heats : List ℕ) (best : List (Option ℕ)) (most : List ℕ) → length best ≡ length heats →
-    length most ≡ length heats → ((u : ℕ) → u < length heats → get_or best u None ≡ None) →
-    ((u : ℕ) → u < length heats → slice_index most u ≡ 0) → AreTops heats [] best most
-no_tops heats best most best_len most_len none zero = record {
-  best_len = best_len;
-  most_len = most_len;
-  top = λ u u_in.
-      let none_is = none u u_in in
-      record {
-        bound = λ w o. omega arith;
-        none = λ e. zero u u_in;
-        other = λ v e. absurd (some_none v (sym e ∙ none_is));
-        some = λ v e. absurd (some_none v (sym e ∙ none_is));
-        is = λ v e. absurd (some_none v (sym e ∙ none_is));
-        first = λ v w e. absurd (some_none v (sym e ∙ none_is));
-      };
-}
 
 top_heaviest : (heats : List ℕ) (calls : List UnitCall) (u most : ℕ) (best : Option ℕ) →
     IsTopOf (MayCall heats u) (λ w. calls_between calls w u) best most → IsHeaviest heats calls u best

@@ -48,22 +48,12 @@ from_both funcs f i func p is_func is_inst t = (
     split to ties (jumps is) = inl (to, is, ties)
     split to ties (falls_into falls is) = inr (to, falls_true (falls_at func i p) (p.addr + p.len) falls ∙ ap Some is, ties)
 
-pub from_none : (funcs : List Func) (f i : ℕ) (func : Func) → slice_get funcs f ≡ Some func → length func.insts.items ≤ i →
-    (t : ℕ × ℕ) → TiesFrom funcs f i t → ⊥
-from_none funcs f i func is_func past t from =
-    let same_func : from.func ≡ func = same_Some from.func func (sym from.is_func ∙ is_func) in
-    let lt = slice_get_within func.insts.items i from.inst (ap (λ (g : Func). inst_at g i) (sym same_func) ∙ from.is_inst) in
-    omega arith
-
 -- The first n instructions of a function, and the first n functions.
 
 pub record TiesOfBelow (funcs : List Func) (f n : ℕ) (t : ℕ × ℕ) : Type 0 where
   pub at : ℕ
   pub within : at < n
   pub ties : TiesFrom funcs f at t
-
-pub below_none : (funcs : List Func) (f : ℕ) (t : ℕ × ℕ) → TiesOfBelow funcs f 0 t → ⊥
-below_none funcs f t b = let w = b.within in omega arith
 
 pub below_next : (funcs : List Func) (f n : ℕ) (t : ℕ × ℕ) →
     (TiesOfBelow funcs f n t ⊎ TiesFrom funcs f n t) ↔ TiesOfBelow funcs f (n + 1) t
@@ -93,9 +83,6 @@ pub record TiesBelow (funcs : List Func) (n : ℕ) (t : ℕ × ℕ) : Type 0 whe
   pub place : ℕ
   pub within : place < n
   pub ties : TiesOf funcs place t
-
-pub funcs_none : (funcs : List Func) (t : ℕ × ℕ) → TiesBelow funcs 0 t → ⊥
-funcs_none funcs t b = let w = b.within in omega arith
 
 pub funcs_next : (funcs : List Func) (n : ℕ) (t : ℕ × ℕ) → (TiesBelow funcs n t ⊎ TiesOf funcs n t) ↔ TiesBelow funcs (n + 1) t
 funcs_next funcs n t = (

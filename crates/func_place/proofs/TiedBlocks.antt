@@ -8,7 +8,6 @@ use Rattle.rv_code.specs.declared.placed.Func.{Func}
 use Rattle.rv_code.specs.layout.Blocks.{inst_at}
 use Rattle.rv_code.specs.layout.FunctionLists.{IsLaidOut, AreLaidOut, HasLength}
 use Rattle.rv_code.specs.layout.FunctionMembers.{function_at}
-use Rattle.func_place.specs.Units.{AreTied, itself, onward, LeadsNear}
 use Rattle.rv_code.proofs.lists.FunctionAt.{IsAbove, ends_rise, function_at-found}
 use Rattle.rv_code.proofs.lists.Follows.{follow_bounds}
 use Rattle.func_place.proofs.WorstPositive.{has_bytes}
@@ -40,18 +39,3 @@ function_at-inst funcs g y other q are is_other is_q =
           ap (λ (x : Func). x.end) (get_or_from_slice_get funcs g other d is_other) in omega arith;
     } in
     function_at-found funcs q.addr g other above g_in (omega arith)
-
--- an instruction leads to another one: their functions are tied
-pub tied_by_insts : (funcs : List Func) (f g x y : ℕ) (func other : Func) (p q : Placed) → AreLaidOut funcs →
-    slice_get funcs f ≡ Some func → slice_get funcs g ≡ Some other → inst_at func x ≡ Some p → inst_at other y ≡ Some q →
-    LeadsNear func x p q.addr → AreTied funcs f g
-tied_by_insts funcs f g x y func other p q are is_func is_other is_p is_q leads = onward itself (record {
-  func = func;
-  is_func = is_func;
-  at = x;
-  inst = p;
-  is_inst = is_p;
-  to = q.addr;
-  leads = leads;
-  into = function_at-inst funcs g y other q are is_other is_q;
-})

@@ -1,14 +1,13 @@
 -- Sums over the blocks of units, and the blocks of their functions, as far as lists were read.
-use Rattle.std.proofs.Common.{ℕ, zero, suc, ◌≡◌, ◌≢◌, ◌<◌, ◌≤◌, ◌+◌, ◌==◌, Bool, true, false, List, [], ◌∷◌, ◌++◌, length, take}
+use Rattle.std.proofs.Common.{ℕ, ◌≡◌, ◌≢◌, ◌<◌, ◌≤◌, ◌+◌, ◌==◌, Bool, true, false, List, [], ◌∷◌, ◌++◌, length, take}
 use Rattle.std.proofs.Common.{map, get_or, set, sym, ◌∙◌, ap, refl, arith, ⊎_elim, length-set, get_or-set_same, get_or-set_other}
-use Rattle.std.specs.Prelude.{if◌then◌else◌, filter, replicate, sum, slice_index}
+use Rattle.std.specs.Prelude.{if◌then◌else◌, filter, sum, slice_index}
 use Rattle.std.specs.List.{range_with_len, flat_map}
-use Rattle.std.proofs.lemmas.Bool.{cases_eq, cases_lt}
+use Rattle.std.proofs.lemmas.Bool.{cases_eq}
 use Rattle.std.proofs.lemmas.Grind.{common_steps}
-use Rattle.std.proofs.lemmas.List.{get_or-map, get_or_past, take_all, append-nil, flat_map_more, length-replicate}
-use Rattle.std.proofs.lemmas.List.{get_or-replicate, length_push, get_or_push, get_or_append_left}
+use Rattle.std.proofs.lemmas.List.{get_or-map, take_all, append-nil, flat_map_more}
 use Rattle.std.proofs.lemmas.List.FromFn.{fill_by_all}
-use Rattle.std.proofs.lemmas.List.Sums.{sum_by_more, sum_by_more_le, sum_by-cons, sum_by-set}
+use Rattle.std.proofs.lemmas.List.Sums.{sum_by_more, sum_by_more_le, sum_by-set}
 use Rattle.rv_code.specs.declared.placed.Block.{Block}
 use Rattle.func_place.specs.Units.{unit_sum, by_unit}
 use Rattle.func_place.specs.internal.Groups.{list_at}
@@ -80,23 +79,6 @@ sums_are units blocks numbers i sums end a number is =
     fill_by_all (unit_sum units number blocks) sums (length units) 0 a.len
     (λ k k_in. a.is number is k k_in ∙ ap (λ (bs : List Block). unit_sum units number bs k) all)
 
-pub no_sums : (units : List ℕ) (blocks : List Block) (numbers : List ℕ) →
-    AreSums units blocks numbers 0 (replicate (length units) 0)
-no_sums units blocks numbers = record {
-  len = length-replicate (length units) 0;
-  bound = λ u. let z = zeros (length units) u in omega arith;
-  total = none (length units);
-  is = λ number is u u_in. zeros (length units) u;
-}
-  where
-    none : (n : ℕ) → sum (replicate n 0) ≡ 0
-    none zero = refl
-    none (suc n) = let one = sum_by-cons (λ (x : ℕ). x) 0 (replicate n 0) in let rest = none n in omega arith
-
-    zeros : (n u : ℕ) → slice_index (replicate n 0) u ≡ 0
-    zeros n u = ⊎_elim (λ (lt : u < n). get_or-replicate n u 0 0 lt) (λ (ge : n ≤ u). get_or_past (replicate n 0) u 0
-        (let l : length (replicate {A = ℕ} n 0) ≡ n = length-replicate {A = ℕ} n 0 in rw l ge)) (cases_lt u n)
-
 pub sums_within : (units : List ℕ) (blocks : List Block) (numbers : List ℕ) (i : ℕ) (sums : List ℕ) → i ≡ length blocks →
     length numbers ≡ length blocks → AreSums units blocks numbers i sums → sum sums ≤ sum numbers
 sums_within units blocks numbers i sums end len a =
@@ -141,27 +123,6 @@ parts_next units part i unit own more unit_is unit_in more_is a = record {
 pub record AreEmpty (n : ℕ) (own : List (List ℕ)) : Type 0 where
   pub len : length own ≡ n
   pub empty : (u : ℕ) → list_at own u ≡ []
-
-pub empty_more : (n : ℕ) (own : List (List ℕ)) → AreEmpty n own → AreEmpty (n + 1) (own ++ [] ∷ [])
-empty_more n own a =
-    let len = a.len in
-    record {
-      len = length_push own [] ∙ omega arith;
-      empty = λ u. ⊎_elim
-          (λ (lt : u < n). get_or_append_left own ([] ∷ []) [] u (omega arith) ∙ a.empty u)
-          (λ (ge : n ≤ u). ⊎_elim
-          (λ (e : u ≡ n). ap (list_at (own ++ [] ∷ [])) e ∙ get_or_push own [] [] n len)
-          (λ (ne : u ≢ n). get_or_past (own ++ [] ∷ []) u [] (let l = length_push own [] in omega arith))
-          (cases_eq u n))
-          (cases_lt u n);
-    }
-
-pub no_empty : AreEmpty 0 []
-no_empty = record { len = refl; empty = λ u. refl }
-
-pub no_parts : (units : List ℕ) (part : ℕ → List ℕ) (own : List (List ℕ)) → AreEmpty (length units) own →
-    AreParts units part 0 own
-no_parts units part own a = record { len = a.len; is = a.empty }
 
 -- lists of what is kept in a list of owners
 pub list_of : {X : Type 0} (f : X → List ℕ) (xs : List X) (q : ℕ) (d : X) → q < length xs → d ≡ get_or xs q d →

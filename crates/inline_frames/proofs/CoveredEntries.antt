@@ -4,6 +4,7 @@ use Rattle.std.specs.Prelude.{◌==◌, ◌&&◌, ◌||◌, flat_map}
 use Rattle.std.specs.List.{list_any}
 use Rattle.std.proofs.lemmas.Bool.Decides.{nat_tests}
 use Rattle.std.proofs.lemmas.List.{map-append}
+use Rattle.std.proofs.lemmas.Bool.{and_right}
 use Rattle.rb_bytes.specs.FirstFault.{IsFree}
 use Rattle.table_core.specs.declared.range.Range.{Range}
 use Rattle.dw_unit.proofs.EntryPlaces.{places_ascend}
@@ -30,10 +31,6 @@ apart a b h = grind (arith, nat_tests)
 apart_above : (a b : ℕ) → a + 1 ≤ b → (a == b) ≡ false
 apart_above a b h = grind (arith, nat_tests)
 
-no_and : (b c : Bool) → c ≡ false → (b && c) ≡ false
-no_and true c e = e
-no_and false c e = refl
-
 and_so : (b c : Bool) → c ≡ true → (b && c) ≡ b
 and_so true c e = e
 and_so false c e = refl
@@ -52,7 +49,7 @@ none_above place a lo (q ∷ rs) h up =
     let g = up.0 in
     let other : (q.entry.place == place) ≡ false = apart place q.entry.place (omega arith) in
     let more = none_above place a (q.entry.place + 1) rs (omega arith) up.1 in
-    (λ i. no_and (hold q.own a) (q.entry.place == place) other i || more i)
+    (λ i. and_right (hold q.own a) (q.entry.place == place) other i || more i)
 
 -- what stands at the place of each is itself alone
 all_stand : (a lo : ℕ) (rs : List Ranged) → Above lo rs → (before : Ranged → Bool) →
@@ -66,7 +63,7 @@ all_stand a lo (r ∷ rs) up before none =
       (λ i. none r up.0 i || (hold r.own a && same i || rest i)) ∙ one (hold r.own a),
       regroup rs (all_stand a (place + 1) rs up.1 (λ q. before q || stands q.entry.place a r)
           (λ q h. let g = up.0 in
-          (λ i. none q (omega arith) i || no_and (hold r.own a) (place == q.entry.place) (apart_above place q.entry.place h) i))),
+          (λ i. none q (omega arith) i || and_right (hold r.own a) (place == q.entry.place) (apart_above place q.entry.place h) i))),
     )
   where
     one : (b : Bool) → (false || (b && true || false)) ≡ b

@@ -1,7 +1,8 @@
 -- The rows of a sound program: their addresses don't fall, and their files are entries of the table.
-use Rattle.std.proofs.Common.{◌≡◌, ◌≤◌, ◌&&◌, ℕ, Bool, true, false, List, [], ◌∷◌, Option, Some, None, refl, arith}
+use Rattle.std.proofs.Common.{◌≡◌, ◌≤◌, ◌&&◌, ℕ, Bool, true, List, [], ◌∷◌, Option, Some, None, arith}
 use Rattle.std.proofs.lemmas.Bool.Decides.{nat_tests}
 use Rattle.std.proofs.lemmas.List.Elements.{All-nil, All-cons}
+use Rattle.std.proofs.lemmas.Bool.{and_parts}
 use Rattle.std.specs.Prelude.{All, nat_lt}
 use Rattle.line_rewrite.specs.declared.coding.Coding.{Coding}
 use Rattle.line_rewrite.specs.declared.registers.Registers.{Registers}
@@ -11,11 +12,6 @@ use Rattle.line_rewrite.specs.declared.operation.LineOp.{LineOp}
 use Rattle.line_rewrite.specs.LineMachine.{Sequence, start, after_op, after_row, effect_of, rows_from, rows_behind, sequences}
 use Rattle.line_rewrite.specs.LineMachine.{sequences_from, sequences_behind, sound_from, sound_behind, follows}
 use Rattle.line_rewrite.specs.Walks.{Ascends}
-
-pub both : (a b : Bool) → (a && b) ≡ true → (a ≡ true) × (b ≡ true)
-both true true e = (refl, refl)
-both true false e = absurd (cc)
-both false b e = absurd (cc)
 
 -- rows that may follow a last address, in a unit with so many files
 abbrev pub Follow : ℕ → Option ℕ → List Registers → Type 0
@@ -28,8 +24,8 @@ rows_more : (sound : Option ℕ → Registers → Bool) (others : Bool) (files :
     → sound_behind sound others files last e o ≡ true → Follow files last (rows_behind rows e o)
 rows_more sound others files rows last e None more h = tt
 rows_more sound others files rows last Appends (Some r) more h =
-    let p = both (follows last r.address && nat_lt r.file files) (sound (Some r.address) (after_row r)) h in
-    let q = both (follows last r.address) (nat_lt r.file files) p.0 in
+    let p = and_parts (follows last r.address && nat_lt r.file files) (sound (Some r.address) (after_row r)) h in
+    let q = and_parts (follows last r.address) (nat_lt r.file files) p.0 in
     (q.0, q.1, more (Some r.address) (after_row r) p.1)
 rows_more sound others files rows last Ends (Some r) more h = tt
 rows_more sound others files rows last Sets (Some r) more h = more last r h
@@ -55,10 +51,10 @@ sequences_more : (sound : Option ℕ → Registers → Bool) (others : Bool) (fi
     → sound_behind sound others files last e o ≡ true → AllFollow files (sequences_behind list next rows e o)
 sequences_more sound others files list next rows last e None up more rest h = All-nil (λ (s : Sequence). Follow files None s.rows)
 sequences_more sound others files list next rows last Appends (Some r) up more rest h =
-    more (Some r.address) (after_row r) (both (follows last r.address && nat_lt r.file files) (sound (Some r.address) (after_row r)) h).1
+    more (Some r.address) (after_row r) (and_parts (follows last r.address && nat_lt r.file files) (sound (Some r.address) (after_row r)) h).1
 sequences_more sound others files list next rows last Ends (Some r) up more rest h =
     All-cons (λ (s : Sequence). Follow files None s.rows) (record { rows = rows; end = r.address }) next up
-    (rest (both (follows last r.address) others h).1)
+    (rest (and_parts (follows last r.address) others h).1)
 sequences_more sound others files list next rows last Sets (Some r) up more rest h = more last r h
 
 from_follow : (coding : Coding) (files : ℕ) (rows : List Registers) (last : Option ℕ) (r : Registers) (ops : List LineOp)

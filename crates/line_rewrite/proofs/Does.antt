@@ -1,10 +1,13 @@
 -- What operations that are written do.
 use Rattle.std.proofs.Common.{◌≡◌, ◌<◌, ◌≤◌, ◌-◌, ◌+◌, ◌*◌, ◌/◌, ◌%◌, ◌^◌, ◌==◌, ◌++◌, ◌&&◌, ℕ, pos, List, [], ◌∷◌, refl}
+use Rattle.std.specs.Bool.{beq}
 use Rattle.std.proofs.Common.{arith, sym, ◌∙◌, ap, subst, append_assoc, Bool, true, false, not, cond, nat_lt, nat_le, Option, Some, None}
 use Rattle.std.proofs.lemmas.Bool.Decides.{nat_tests}
 use Rattle.std.proofs.lemmas.Int.{ints, of_z-to_z}
+use Rattle.std.proofs.lemmas.Bool.{not-true, not-false}
 use Rattle.std.specs.Prelude.{◌+ℤ◌, negsuc}
 use Rattle.std.specs.Int.{w64, cast_unsigned}
+use Rattle.rb_bytes.proofs.Tests.{bool_is}
 use Rattle.line_rewrite.specs.declared.coding.Coding.{Coding}
 use Rattle.line_rewrite.specs.declared.registers.Registers.{Registers}
 use Rattle.line_rewrite.specs.declared.operation.LineOp.{LineOp}
@@ -17,7 +20,7 @@ use Rattle.line_rewrite.specs.LineMachine.{rows_from, rows_behind, sequences_fro
 use Rattle.line_rewrite.specs.LineMachine.{after_op, after_row, effect_of, start, advanced}
 use Rattle.line_rewrite.specs.WrittenPrograms.{after_rows}
 use Rattle.line_rewrite.proofs.Ascending.{Follow}
-use Rattle.line_rewrite.specs.Written.{IsRow, written_coding, unless, same_flag, line_distance, above_base}
+use Rattle.line_rewrite.specs.Written.{IsRow, written_coding, unless, line_distance, above_base}
 use Rattle.line_rewrite.specs.Written.{step_ops, row_ops, rows_ops}
 
 -- operations that append rows and make t of r
@@ -116,25 +119,14 @@ unless_does coding false op r s is after e = sets is (after refl) stays
 number_same : (a b : ℕ) (set : ℕ → Registers) → (a == b) ≡ true → set a ≡ set b
 number_same a b set t = let e : a ≡ b = grind (arith, nat_tests) in ap set e
 
-flag_same : (a b : Bool) (set : Bool → Registers) → same_flag a b ≡ true → set a ≡ set b
-flag_same true true set t = refl
-flag_same false false set t = refl
-flag_same true false set t = absurd (cc)
-flag_same false true set t = absurd (cc)
+flag_same : (a b : Bool) (set : Bool → Registers) → beq a b ≡ true → set a ≡ set b
+flag_same a b set t = ap set (bool_is a b t)
 
-not_same : (a b : Bool) → same_flag a b ≡ false → not a ≡ b
+not_same : (a b : Bool) → beq a b ≡ false → not a ≡ b
 not_same true true t = absurd (cc)
 not_same false false t = absurd (cc)
 not_same true false t = refl
 not_same false true t = refl
-
-not_true : (b : Bool) → not b ≡ true → b ≡ false
-not_true true e = absurd (cc)
-not_true false e = refl
-
-not_false : (b : Bool) → not b ≡ false → b ≡ true
-not_false true e = refl
-not_false false e = absurd (cc)
 
 line_there : (from to : ℕ) → from < 2 ^ 64 → to < 2 ^ 64 → (from + cast_unsigned w64 (line_distance from to)) % 2 ^ 64 ≡ to
 line_there from to h k =
@@ -152,7 +144,7 @@ abbrev settings : Registers → Registers → List LineOp
 settings r row =
     unless (r.file == row.file) (SetFile row.file)
     ++ (unless (r.column == row.column) (SetColumn row.column)
-    ++ (unless (same_flag r.is_stmt row.is_stmt) NegateStmt
+    ++ (unless (beq r.is_stmt row.is_stmt) NegateStmt
     ++ (unless (not row.basic_block) SetBasicBlock
     ++ (unless (not row.prologue_end) SetPrologueEnd
     ++ (unless (not row.epilogue_begin) SetEpilogueBegin
@@ -186,14 +178,14 @@ settings_do coding r row fresh =
     (unless_does coding (r.file == row.file) (SetFile row.file) r s1 refl (λ _. refl) (number_same r.file row.file f1))
     (does_append coding s1 s2 s8 _ _ [] []
     (unless_does coding (r.column == row.column) (SetColumn row.column) s1 s2 refl (λ _. refl) (number_same r.column row.column f2))
-    (does_append coding s2 s3 s8 _ _ [] [] (unless_does coding (same_flag r.is_stmt row.is_stmt) NegateStmt s2 s3 refl
+    (does_append coding s2 s3 s8 _ _ [] [] (unless_does coding (beq r.is_stmt row.is_stmt) NegateStmt s2 s3 refl
     (λ t. ap (some f3) (not_same r.is_stmt row.is_stmt t)) (flag_same r.is_stmt row.is_stmt f3))
     (does_append coding s3 s4 s8 _ _ [] [] (unless_does coding (not row.basic_block) SetBasicBlock s3 s4 refl
-    (λ t. sym (ap (some f4) (not_false row.basic_block t))) (λ t. ap f4 (fresh.block ∙ sym (not_true row.basic_block t))))
+    (λ t. sym (ap (some f4) (not-false row.basic_block t))) (λ t. ap f4 (fresh.block ∙ sym (not-true row.basic_block t))))
     (does_append coding s4 s5 s8 _ _ [] [] (unless_does coding (not row.prologue_end) SetPrologueEnd s4 s5 refl
-    (λ t. sym (ap (some f5) (not_false row.prologue_end t))) (λ t. ap f5 (fresh.prologue ∙ sym (not_true row.prologue_end t))))
+    (λ t. sym (ap (some f5) (not-false row.prologue_end t))) (λ t. ap f5 (fresh.prologue ∙ sym (not-true row.prologue_end t))))
     (does_append coding s5 s6 s8 _ _ [] [] (unless_does coding (not row.epilogue_begin) SetEpilogueBegin s5 s6 refl
-    (λ t. sym (ap (some f6) (not_false row.epilogue_begin t))) (λ t. ap f6 (fresh.epilogue ∙ sym (not_true row.epilogue_begin t))))
+    (λ t. sym (ap (some f6) (not-false row.epilogue_begin t))) (λ t. ap f6 (fresh.epilogue ∙ sym (not-true row.epilogue_begin t))))
     (does_append coding s6 s7 s8 _ _ [] []
     (unless_does coding (r.isa == row.isa) (SetIsa row.isa) s6 s7 refl (λ _. refl) (number_same r.isa row.isa f7))
     (unless_does coding (row.discriminator == 0) (SetDiscriminator row.discriminator) s7 s8 refl (λ _. refl)

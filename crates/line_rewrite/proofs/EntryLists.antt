@@ -1,12 +1,12 @@
 -- Lists of fields and of entries, read one at a time.
 use Rattle.std.proofs.Common.{◌≡◌, ◌<◌, ◌≤◌, ◌+◌, ◌-◌, ◌++◌, ℕ, zero, suc, Bool, true, false, List, [], ◌∷◌, refl, sym, ap, arith, length, drop, get_or, append_assoc, add-one, drop-cons, Option, Some, None, Ok, Err}
 use Rattle.std.specs.Prelude.{◌&&◌, nat_le}
-use Rattle.std.proofs.lemmas.List.{append-nil}
 use Rattle.std.proofs.lemmas.Grind.{common_steps}
 use Rattle.rb_bytes.specs.declared.gap.Gap.{Gap}
 use Rattle.rb_bytes.specs.Readers.{number_read}
 use Rattle.rb_bytes.specs.Leb.{uleb_at}
 use Rattle.rb_bytes.specs.Options.{only_if}
+use Rattle.rb_bytes.proofs.Tests.{less_one}
 use Rattle.line_rewrite.specs.declared.field.Field.{Field}
 use Rattle.line_rewrite.specs.declared.content.TheConstants.{DW_LNCT_path, DW_LNCT_MD5}
 use Rattle.line_rewrite.specs.declared.trouble.Trouble.{Trouble}
@@ -35,9 +35,6 @@ next_of : {X : Type 0} (xs : List X) (x : X) (o : Option (List X × List ℕ))
 next_of xs x None = refl
 next_of xs x (Some read) = ap (λ (l : List _). Some (l, read.1)) (sym (append_assoc xs (x ∷ []) read.0))
 
-less_one : (n i : ℕ) → i < n → n - i ≡ suc (n - (i + 1))
-less_one n i h = omega arith
-
 pub times_more : {X : Type 0} (step : List ℕ → Option (X × List ℕ)) (n i : ℕ) (left rest : List ℕ) (x : X) (xs : List X) → i < n
     → step left ≡ Some (x, rest) → with_front xs (times step (n - i) left) ≡ with_front (xs ++ x ∷ []) (times step (n - (i + 1)) rest)
 times_more step n i left rest x xs h e = rw (less_one n i h, e) (next_of xs x (times step (n - (i + 1)) rest))
@@ -45,10 +42,6 @@ times_more step n i left rest x xs h e = rw (less_one n i h, e) (next_of xs x (t
 pub times_none : {X : Type 0} (step : List ℕ → Option (X × List ℕ)) (n i : ℕ) (left : List ℕ) (xs : List X) → i < n
     → step left ≡ None → with_front xs (times step (n - i) left) ≡ None
 times_none step n i left xs h e = rw (less_one n i h, e) refl
-
-pub times_end : {X : Type 0} (step : List ℕ → Option (X × List ℕ)) (n i : ℕ) (left : List ℕ) (xs : List X) → n ≤ i
-    → with_front xs (times step (n - i) left) ≡ Some (xs, left)
-times_end step n i left xs h = let z : n - i ≡ 0 = omega arith in rw z (ap (λ (l : List _). Some (l, left)) (append-nil xs))
 
 abbrev pub lacking : (Y : Type 0) → Option Y
 lacking Y = None

@@ -1,9 +1,11 @@
 -- The first sequence of many units that holds an address.
-use Rattle.std.proofs.Common.{◌≡◌, ◌∙◌, ◌≤◌, ◌+◌, ◌-◌, ℕ, zero, suc, Bool, true, false, cond, List, [], ◌∷◌, Option, Some, None, refl, sym, ap, arith, map, drop, add-one, option_map, subst}
+use Rattle.std.proofs.Common.{◌≡◌, ◌∙◌, ◌≤◌, ◌+◌, ◌-◌, ℕ, zero, suc, Bool, true, false, cond, List, [], ◌∷◌, Option, Some, refl}
+use Rattle.std.proofs.Common.{sym, ap, arith, map, drop, add-one, option_map, subst}
 use Rattle.std.specs.Prelude.{All, find, slice_get}
 use Rattle.std.specs.Option.{option_or}
 use Rattle.std.proofs.lemmas.List.Elements.{All-nil, All-cons, All-head, All-tail, All-append, All-weaker}
 use Rattle.std.proofs.lemmas.List.Folds.{find-append}
+use Rattle.rb_bytes.proofs.Options.{mapped_or}
 use Rattle.table_core.specs.AddressRanges.{holds_address}
 use Rattle.line_rewrite.specs.declared.kept.KeptSequence.{KeptSequence}
 use Rattle.line_rewrite.specs.declared.unit.Unit as kept
@@ -24,10 +26,6 @@ numbered_said strings a x = record { unit = x.number; rows = rows_said (told_uni
 pub map_cond : {X Y : Type 0} (f : X → Y) (b : Bool) (x : X) (o : Option X) → option_map f (cond b (Some x) o) ≡ cond b (Some (f x)) (option_map f o)
 map_cond f true x o = refl
 map_cond f false x o = refl
-
-map_or : {X Y : Type 0} (f : X → Y) (o p : Option X) → option_map f (option_or o p) ≡ option_or (option_map f o) (option_map f p)
-map_or f None p = refl
-map_or f (Some x) p = refl
 
 module _ (strings : Strings) (a n : ℕ) (u : kept.Unit) where
   say : Sequence → LineSaid
@@ -64,7 +62,7 @@ said_found strings a n [] = refl
 said_found strings a n (u ∷ us) =
     ap (λ (o : Option LineSaid). option_or o (said_at (n + 1) (map (told_unit strings) us) a)) (unit_said strings a n u)
     ∙ ap (option_or (option_map (numbered_said strings a) (find (λ x. holds_address a (kept_range x)) (unit_numbered n u)))) (said_found strings a (n + 1) us)
-    ∙ sym (map_or (numbered_said strings a) (find (λ x. holds_address a (kept_range x)) (unit_numbered n u)) (find (λ x. holds_address a (kept_range x)) (all_numbered (n + 1) us)))
+    ∙ sym (mapped_or (numbered_said strings a) (find (λ x. holds_address a (kept_range x)) (unit_numbered n u)) (find (λ x. holds_address a (kept_range x)) (all_numbered (n + 1) us)))
     ∙ sym (ap (option_map (numbered_said strings a)) (find-append (λ x. holds_address a (kept_range x)) (unit_numbered n u) (all_numbered (n + 1) us)))
 
 -- where a numbered sequence stands

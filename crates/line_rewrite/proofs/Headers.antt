@@ -5,6 +5,7 @@ use Rattle.std.specs.List.{list_all}
 use Rattle.std.proofs.lemmas.List.{length-map}
 use Rattle.std.proofs.lemmas.Bool.Decides.{nat_tests}
 use Rattle.std.proofs.lemmas.Grind.{common_steps}
+use Rattle.std.proofs.lemmas.Bool.{and_left, and_right}
 use Rattle.rb_bytes.specs.Options.{only_if}
 use Rattle.rb_bytes.specs.declared.gap.Gap.{Gap}
 use Rattle.rb_bytes.specs.declared.gap.Gap.TheVariants.{Short}
@@ -15,9 +16,9 @@ use Rattle.line_rewrite.specs.declared.header.Header as code
 use Rattle.line_rewrite.specs.Operations.{operations, is_whole}
 use Rattle.line_rewrite.specs.LineMachine.{sound_from, start}
 use Rattle.line_rewrite.specs.Entries.{◌>>=◌, ok, Named, Strings, table_at}
-use Rattle.line_rewrite.specs.LineUnits.{Header, LineUnit, header_in, unit_of, is_sound_program}
+use Rattle.line_rewrite.specs.LineUnits.{Header, LineUnit, header_in, unit_of, is_sound_program, coding_at, header_behind}
 use Rattle.line_rewrite.specs.KeptEntries.{told_entry, told_entries}
-use Rattle.line_rewrite.specs.KeptUnits.{coding_at, header_behind, are_filed, told_header, tables_at, Outer, outer_at, unit_with}
+use Rattle.line_rewrite.specs.KeptUnits.{are_filed, told_header, tables_at, Outer, outer_at, unit_with}
 use Rattle.line_rewrite.specs.SoundPrograms.{is_sound}
 
 -- what is read first, in a part of its own
@@ -30,13 +31,7 @@ header_then strings c = header_behind strings c.0.0 c.0.1 c.1
 
 pub header_split : (strings : Strings) (bytes : List ℕ) → (coding_at bytes >>= header_then strings) ≡ header_in strings bytes
 unfolding header_in
-header_split strings bytes =
-    split (ok (number_read 1 bytes)) _ (header_then strings) _ (λ minimum.
-    split (ok (number_read 1 minimum.1)) _ (header_then strings) _ (λ maximum.
-    split (ok (number_read 1 maximum.1)) _ (header_then strings) _ (λ stmt.
-    split (ok (number_read 1 stmt.1)) _ (header_then strings) _ (λ base.
-    split (ok (number_read 1 base.1)) _ (header_then strings) _ (λ range.
-    split (ok (number_read 1 range.1)) _ (header_then strings) _ (λ opcodes. refl))))))
+header_split strings bytes = refl
 
 abbrev unit_then : Strings → Outer → Option LineUnit
 unit_then strings o = header_in strings o.fields >>= (λ header.
@@ -89,17 +84,13 @@ fails (Some a) f e = e a
 abbrev pub are_numbers : Coding → ℕ → Bool
 are_numbers coding maximum = maximum == 1 && nat_lt 0 coding.line_range && nat_lt 0 coding.opcode_base
 
-and_false : (a b : Bool) → a ≡ false → (a && b) ≡ false
-and_false true b e = absurd (cc)
-and_false false b e = refl
-
 module _ (strings : Strings) (coding : Coding) (maximum : ℕ) (left : List ℕ) where
   abbrev filed : List Named → List Named → Bool
   filed directories files = list_all (λ f. nat_lt f.directory (length directories)) files
 
   pub not_numbers : are_numbers coding maximum ≡ false → header_behind strings coding maximum left ≡ None
   not_numbers e = fails (ok (bytes_at (coding.opcode_base - 1) left)) _ (λ lengths. fails (table_at strings lengths.1) _ (λ directories.
-      fails (table_at strings directories.1) _ (λ files. rw (and_false (are_numbers coding maximum) (filed directories.0 files.0) e) refl)))
+      fails (table_at strings directories.1) _ (λ files. rw (and_left (are_numbers coding maximum) (filed directories.0 files.0) e) refl)))
 
   pub no_lengths : (gap : Gap) → bytes_at (coding.opcode_base - 1) left ≡ Err gap → header_behind strings coding maximum left ≡ None
   no_lengths gap e = rw e refl
@@ -240,20 +231,16 @@ not_nothing n f = by (n == 0) refl
     by true e = absurd (f (grind (arith, nat_tests)))
     by false e = e
 
-and_not : (a b : Bool) → b ≡ false → (a && b) ≡ false
-and_not true b e = e
-and_not false b e = refl
-
 pub numbers_false : (coding : Coding) (maximum : ℕ) → (maximum ≡ 1 → ⊥) ⊎ (((maximum ≡ 1) × (coding.line_range ≡ 0)) ⊎ ((maximum ≡ 1) × (coding.line_range ≡ 0 → ⊥) × (coding.opcode_base ≡ 0))) → are_numbers coding maximum ≡ false
 numbers_false coding maximum (inl f) =
-    and_false (maximum == 1 && nat_lt 0 coding.line_range) (nat_lt 0 coding.opcode_base) (and_false (maximum == 1) (nat_lt 0 coding.line_range) (not_one maximum f))
+    and_left (maximum == 1 && nat_lt 0 coding.line_range) (nat_lt 0 coding.opcode_base) (and_left (maximum == 1) (nat_lt 0 coding.line_range) (not_one maximum f))
 numbers_false coding maximum (inr (inl e)) =
-    and_false (maximum == 1 && nat_lt 0 coding.line_range) (nat_lt 0 coding.opcode_base) (and_not (maximum == 1) (nat_lt 0 coding.line_range) (ap (nat_lt 0) e.1))
-numbers_false coding maximum (inr (inr e)) = and_not (maximum == 1 && nat_lt 0 coding.line_range) (nat_lt 0 coding.opcode_base) (ap (nat_lt 0) e.2)
+    and_left (maximum == 1 && nat_lt 0 coding.line_range) (nat_lt 0 coding.opcode_base) (and_right (maximum == 1) (nat_lt 0 coding.line_range) (ap (nat_lt 0) e.1))
+numbers_false coding maximum (inr (inr e)) = and_right (maximum == 1 && nat_lt 0 coding.line_range) (nat_lt 0 coding.opcode_base) (ap (nat_lt 0) e.2)
 
 pub sizes_false : (a b : ℕ) → (a ≡ 8 → ⊥) ⊎ ((a ≡ 8) × (b ≡ 0 → ⊥)) → (a == 8 && b == 0) ≡ false
-sizes_false a b (inl f) = and_false (a == 8) (b == 0) (not_eight a f)
-sizes_false a b (inr f) = and_not (a == 8) (b == 0) (not_nothing b f.1)
+sizes_false a b (inl f) = and_left (a == 8) (b == 0) (not_eight a f)
+sizes_false a b (inr f) = and_right (a == 8) (b == 0) (not_nothing b f.1)
 
 clash : (xs ys : List ℕ) (gap : Gap) → read_as xs ys ≡ Err gap → ⊥
 clash xs ys gap e = cc

@@ -11,9 +11,9 @@ use Rattle.line_rewrite.specs.declared.operation.LineOp.{LineOp}
 use Rattle.line_rewrite.specs.Operations.{operations}
 use Rattle.line_rewrite.specs.LineMachine.{Sequence, sequences, sound_from, start}
 use Rattle.line_rewrite.specs.Entries.{◌>>=◌, Named, Strings, table_at}
-use Rattle.line_rewrite.specs.LineUnits.{Header, LineUnit, header_in, unit_of, is_sound_program}
+use Rattle.line_rewrite.specs.LineUnits.{Header, LineUnit, header_in, unit_of, is_sound_program, coding_at}
 use Rattle.line_rewrite.specs.KeptEntries.{told_entries}
-use Rattle.line_rewrite.specs.KeptUnits.{coding_at, tables_at, HasTables, Outer, outer_at, unit_with}
+use Rattle.line_rewrite.specs.KeptUnits.{tables_at, HasTables, Outer, outer_at, unit_with}
 use Rattle.line_rewrite.specs.Written.{written_coding, all_spelled}
 use Rattle.line_rewrite.specs.WrittenPrograms.{Piece}
 use Rattle.line_rewrite.proofs.PieceSequences.{program_ops, strands}

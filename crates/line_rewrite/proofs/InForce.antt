@@ -3,6 +3,7 @@ use Rattle.std.proofs.Common.{◌≡◌, ◌<◌, ◌≤◌, ◌==◌, ◌++◌,
 use Rattle.std.specs.Prelude.{filter}
 use Rattle.std.proofs.lemmas.Grind.{common_steps}
 use Rattle.std.proofs.lemmas.Bool.Decides.{nat_tests}
+use Rattle.std.proofs.lemmas.List.Elements.{filter-append}
 use Rattle.line_rewrite.specs.declared.registers.Registers.{Registers}
 use Rattle.line_rewrite.specs.LineMachine.{in_force, reached, greatest_address}
 use Rattle.line_rewrite.specs.Walks.{latest, Ascends}
@@ -22,10 +23,6 @@ at_address m rows = filter (λ r. r.address == m) rows
 kept_append : (b : Bool) (x : Registers) (xs ys zs : List Registers) → zs ≡ xs ++ ys → cond b (x ∷ zs) zs ≡ cond b (x ∷ xs) xs ++ ys
 kept_append true x xs ys zs e = ap (λ (l : List Registers). x ∷ l) e
 kept_append false x xs ys zs e = e
-
-pub filter_append : (p : Registers → Bool) (xs ys : List Registers) → filter p (xs ++ ys) ≡ filter p xs ++ filter p ys
-filter_append p [] ys = refl
-filter_append p (x ∷ xs) ys = kept_append (p x) x (filter p xs) (filter p ys) (filter p (xs ++ ys)) (filter_append p xs ys)
 
 greatest_append : (xs ys : List Registers) → greatest_address (xs ++ ys) ≡ max (greatest_address xs) (greatest_address ys)
 greatest_append [] ys = grind (arith, nat_tests)
@@ -53,14 +50,14 @@ reached_below m a (x ∷ xs) b = below_kept m (nat_le x.address a) x (reached a 
 pub front_drop : (m a : ℕ) (front rows : List Registers) → AllBelow m front → m ≤ greatest_address (reached a rows) → in_force a (front ++ rows) ≡ in_force a rows
 unfolding in_force
 front_drop m a front rows b h =
-    let split : reached a (front ++ rows) ≡ reached a front ++ reached a rows = filter_append (λ r. nat_le r.address a) front rows in
+    let split : reached a (front ++ rows) ≡ reached a front ++ reached a rows = filter-append (λ r. nat_le r.address a) front rows in
     let below : AllBelow m (reached a front) = reached_below m a front b in
     let low : greatest_address (reached a front) ≤ m = greatest_below m (reached a front) below in
     let same : greatest_address (reached a front ++ reached a rows) ≡ greatest_address (reached a rows) =
     greatest_append (reached a front) (reached a rows) ∙ grind (arith, nat_tests) in
     ap (λ (l : List Registers). at_address (greatest_address l) l) split
     ∙ ap (λ (g : ℕ). at_address g (reached a front ++ reached a rows)) same
-    ∙ filter_append (λ r. r.address == greatest_address (reached a rows)) (reached a front) (reached a rows)
+    ∙ filter-append (λ r. r.address == greatest_address (reached a rows)) (reached a front) (reached a rows)
     ∙ ap (λ (l : List Registers). l ++ at_address (greatest_address (reached a rows)) (reached a rows)) (none_at m (greatest_address (reached a rows)) (reached a front) below h)
 
 pub none_reached : (from a : ℕ) (rows : List Registers) → Ascends from rows → a < from → reached a rows ≡ []
@@ -93,7 +90,7 @@ pub found_stay : (m a : ℕ) (f : Registers) (found rows : List Registers) → A
 unfolding in_force
 found_stay m a f found rows w h none =
     let split : reached a ((f ∷ found) ++ rows) ≡ f ∷ found =
-    filter_append (λ r. nat_le r.address a) (f ∷ found) rows ∙ ap (λ (l : List Registers). reached a (f ∷ found) ++ l) none ∙ grind (arith, common_steps) ∙ all_reached m a (f ∷ found) w h in
+    filter-append (λ r. nat_le r.address a) (f ∷ found) rows ∙ ap (λ (l : List Registers). reached a (f ∷ found) ++ l) none ∙ grind (arith, common_steps) ∙ all_reached m a (f ∷ found) w h in
     ap (λ (l : List Registers). at_address (greatest_address l) l) split
     ∙ ap (λ (g : ℕ). at_address g (f ∷ found)) (greatest_at m f found w)
     ∙ all_at m (f ∷ found) w

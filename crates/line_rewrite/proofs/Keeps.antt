@@ -59,26 +59,6 @@ pub record OnWay (coding : Coding) (lengths bytes : List ℕ) (place : ℕ) (who
   pub low : (j : ℕ) (d : Kept) → j < length kept → (get_or kept j d).index < count
   pub first : FirstDue due kept
 
-pub way_start : (coding : Coding) (lengths bytes left : List ℕ) (place : ℕ) → place ≤ length bytes → left ≡ drop place bytes
-    → OnWay coding lengths bytes place (rows_at_place coding lengths bytes (start coding) place) left (start coding) 0
-    (record { row = 0; place = 0 }) []
-way_start coding lengths bytes left place h e =
-    let n : length left ≡ length bytes - place = ap length e ∙ length-drop place bytes in
-    let k : place ≡ length bytes - length left = omega arith in
-    record {
-      on = omega arith;
-      behind = e ∙ ap (λ (k : ℕ). drop k bytes) k;
-      others = ap (λ (l : List ℕ). sequences_from coding (rows_at_place coding lengths bytes (start coding) place) (start coding)
-          (operations coding.opcode_base lengths l)) e;
-      rows = ap (λ (l : List ℕ). rows_from coding (start coding) (operations coding.opcode_base lengths l)) e;
-      counted = omega arith;
-      reached = omega arith;
-      states = record { each = λ j d h. absurd (omega arith); rise = λ i j d h k. absurd (omega arith) };
-      begins = record { none = λ h. refl; first = λ d h. absurd (omega arith) };
-      low = λ j d h. absurd (omega arith);
-      first = refl;
-    }
-
 pub way_sets : (coding : Coding) (lengths bytes : List ℕ) (place : ℕ) (whole : List Registers) (left : List ℕ) (r : Registers) (count : ℕ)
     (due : Due) (kept : List Kept) (rest : List ℕ) (op : LineOp) (next : Registers)
     → OnWay coding lengths bytes place whole left r count due kept → op_at coding.opcode_base lengths left ≡ Ok (op, rest)

@@ -18,12 +18,12 @@ use Rattle.line_rewrite.specs.declared.trouble.Trouble.{Trouble}
 use Rattle.line_rewrite.specs.declared.trouble.Trouble.TheVariants.{Malformed}
 use Rattle.line_rewrite.specs.declared.unit.Unit as kept
 use Rattle.line_rewrite.specs.Entries.{Strings}
-use Rattle.line_rewrite.specs.LineUnits.{LineUnit}
+use Rattle.line_rewrite.specs.LineUnits.{LineUnit, unit_in}
 use Rattle.line_rewrite.specs.LineAnswers.{line_units}
 use Rattle.line_rewrite.specs.KeptUnits.{HasTables, told_unit}
 use Rattle.line_rewrite.specs.Tables.{LineSections, HasLineFault, line_version, line_fault, line_at}
 use Rattle.line_rewrite.specs.Troubles.{Tells}
-use Rattle.line_rewrite.specs.UnitLists.{unit_in, kept_size, walked_size, AreUnits, IsLineFault}
+use Rattle.line_rewrite.specs.UnitLists.{kept_size, walked_size, AreUnits, IsLineFault}
 
 -- lists whose values are all there
 
@@ -123,13 +123,6 @@ refusal_is s (refusal.Fault fault) v e = subst (IsAnswered (HasLineFault s)) (sy
 refusal_is s refusal.Memory v e = tt
 
 -- one unit more
-
-pub units_none : (strings : Strings) (ws : List Walked) → AreUnits strings (take 0 ws) []
-units_none strings ws = record { are = ap (map (unit_in strings)) (front ws); tables = All-nil (λ (u : kept.Unit). HasTables strings u.header); sizes = omega arith }
-  where
-    front : (ws : List Walked) → take 0 ws ≡ []
-    front [] = refl
-    front (w ∷ ws) = refl
 
 pub units_more : (strings : Strings) (ws : List Walked) (us new : List kept.Unit) (u : kept.Unit) (i : ℕ) (d : Walked) → i < length ws → AreUnits strings (take i ws) us
     → unit_in strings (get_or ws i d) ≡ Some (told_unit strings u) → HasTables strings u.header → kept_size u ≤ walked_size (get_or ws i d) → new ≡ us ++ u ∷ [] → AreUnits strings (take (i + 1) ws) new

@@ -2,9 +2,10 @@
 use Rattle.std.proofs.Common.{◌≡◌, ◌∙◌, ◌≤◌, ◌<◌, ◌-◌, ◌==◌, ℕ, zero, suc, Bool, true, List, [], ◌∷◌, Option, Some, None, refl, sym, ap}
 use Rattle.std.proofs.Common.{arith, map, option_map, subst, length, get_or}
 use Rattle.std.specs.Prelude.{All, find, slice_get, option_and_then, filter_map, nat_lt}
-use Rattle.std.proofs.lemmas.Option.{slice_get-map, slice_get_read, slice_get_past}
+use Rattle.std.proofs.lemmas.Option.{slice_get-map, slice_get_read, slice_get_past, same_Some}
 use Rattle.std.proofs.lemmas.Bool.Decides.{nat_tests}
 use Rattle.std.proofs.lemmas.List.Elements.{All-head, All-tail}
+use Rattle.std.proofs.lemmas.Bool.{and_parts}
 use Rattle.table_core.specs.declared.first_range.FirstRange.{FirstRange}
 use Rattle.table_core.specs.AddressRanges.{holds_address}
 use Rattle.table_core.specs.DebugUnits.{Walked, walked}
@@ -20,16 +21,16 @@ use Rattle.line_rewrite.specs.declared.unit.Unit as kept
 use Rattle.line_rewrite.specs.LineMachine.{Sequence, start, sound_from, in_force}
 use Rattle.line_rewrite.specs.Operations.{operations, is_whole}
 use Rattle.line_rewrite.specs.LineAnswers.{row_said, said_at}
-use Rattle.line_rewrite.specs.LineUnits.{LineUnit}
+use Rattle.line_rewrite.specs.LineUnits.{LineUnit, unit_in}
 use Rattle.line_rewrite.specs.FilePaths.{file_path, path_at}
 use Rattle.line_rewrite.specs.KeptUnits.{told_unit}
 use Rattle.line_rewrite.specs.Keeping.{AreKept, Begins}
-use Rattle.line_rewrite.specs.SequenceIndex.{Numbered, all_numbered, kept_range, place_of, IsIndexOf, numbered_at, unit_sequence, IsFound}
+use Rattle.line_rewrite.specs.SequenceIndex.{all_numbered, kept_range, place_of, IsIndexOf, numbered_at, unit_sequence, IsFound}
 use Rattle.line_rewrite.specs.SequenceIndex.{IsSame}
 use Rattle.line_rewrite.specs.Tables.{LineSections, line_at}
-use Rattle.line_rewrite.specs.UnitLists.{unit_in, place_range, AreLines}
+use Rattle.line_rewrite.specs.UnitLists.{place_range, AreLines}
 use Rattle.line_rewrite.specs.Walks.{Ascends}
-use Rattle.line_rewrite.proofs.Ascending.{both, Follow, AllFollow, sequences_follow, follow_ascends}
+use Rattle.line_rewrite.proofs.Ascending.{Follow, AllFollow, sequences_follow, follow_ascends}
 use Rattle.line_rewrite.proofs.FirstSequence.{IsUnitKept, numbered_said, said_found, Stands, found_stands}
 use Rattle.line_rewrite.proofs.LineFaults.{units_are, there_at}
 
@@ -50,7 +51,7 @@ module _ (u : kept.Unit) (k : KeptSequence) (i : ℕ) (at : slice_get u.sequence
       let files = length u.header.files.items in
       let ops = operations base u.header.lengths.items u.program.items in
       let sound : sound_from u.header.coding files None (start u.header.coding) ops ≡ true =
-      (both (is_whole base u.header.lengths.items u.program.items)
+      (and_parts (is_whole base u.header.lengths.items u.program.items)
       (sound_from u.header.coding files None (start u.header.coding) ops) u.sound).1 in
       let all = sequences_follow u.header.coding files ops sound in
       let kept : AllFollow files (map (unit_sequence u) u.sequences.items) = subst (AllFollow files) u.listed.are all in
@@ -66,9 +67,6 @@ then_map : {X Y : Type 0} (f : X → Y) (xs : List X) (o : Option ℕ)
     → option_and_then (slice_get (map f xs)) o ≡ option_map f (option_and_then (slice_get xs) o)
 then_map f xs None = refl
 then_map f xs (Some i) = slice_get-map f xs i
-
-same_some : {X : Type 0} (x y : X) → Some x ≡ Some y → x ≡ y
-same_some x y e = cc
 
 not_some : {X : Type 0} (x : X) → Some x ≡ None → ⊥
 not_some x e = cc
@@ -122,7 +120,7 @@ module _ (us : List kept.Unit) (index : SequenceIndex) (is : IsIndexOf us index)
 
     module _ (u : kept.Unit) (at : slice_get us p.unit ≡ Some u) where
       same_unit : here.x.unit ≡ u
-      same_unit = same_some here.x.unit u (sym unit_here ∙ at)
+      same_unit = same_Some here.x.unit u (sym unit_here ∙ at)
 
       there : slice_get u.sequences.items p.sequence ≡ Some here.x.sequence
       there = ap (λ (v : kept.Unit). slice_get v.sequences.items p.sequence) (sym same_unit) ∙ sequence_here
@@ -132,7 +130,7 @@ module _ (us : List kept.Unit) (index : SequenceIndex) (is : IsIndexOf us index)
 
       module _ (k : KeptSequence) (on : slice_get u.sequences.items p.sequence ≡ Some k) where
         same_sequence : here.x.sequence ≡ k
-        same_sequence = same_some here.x.sequence k (sym there ∙ on)
+        same_sequence = same_Some here.x.sequence k (sym there ∙ on)
 
         pub found_there : (f : FoundRows) → f.unit ≡ p.unit → f.rows.items ≡ in_force a (unit_sequence u k).rows → IsFound us a f
         found_there f n rows = record {
@@ -145,22 +143,19 @@ module _ (us : List kept.Unit) (index : SequenceIndex) (is : IsIndexOf us index)
 
 -- one sequence at two addresses
 
-number_of : Numbered → ℕ
-number_of x = x.number
-
 pub same_there : (us : List kept.Unit) (index : SequenceIndex) (is : IsIndexOf us index) (a b : ℕ) (o r : Option Place) (p q : Place)
     (u : kept.Unit) (k : KeptSequence)
     → o ≡ place_at us index is a → o ≡ Some p → r ≡ place_at us index is b → r ≡ Some q → p.unit ≡ q.unit → p.sequence ≡ q.sequence
     → slice_get us p.unit ≡ Some u → slice_get u.sequences.items p.sequence ≡ Some k
     → in_force a (unit_sequence u k).rows ≡ in_force b (unit_sequence u k).rows → IsSame us a b
 same_there us index is a b o r p q u k oa op rb rq n m at on same =
-    let both : p ≡ q = λ i. record { unit = n i; sequence = m i } in
+    let and_parts : p ≡ q = λ i. record { unit = n i; sequence = m i } in
     let x = here us index is a o p oa op in
-    let y = here us index is b r p rb (rq ∙ ap Some (sym both)) in
+    let y = here us index is b r p rb (rq ∙ ap Some (sym and_parts)) in
     let xu = same_unit us index is a o p oa op u at in
-    let yu = same_unit us index is b r p rb (rq ∙ ap Some (sym both)) u at in
+    let yu = same_unit us index is b r p rb (rq ∙ ap Some (sym and_parts)) u at in
     let xk = same_sequence us index is a o p oa op u at k on in
-    let yk = same_sequence us index is b r p rb (rq ∙ ap Some (sym both)) u at k on in
+    let yk = same_sequence us index is b r p rb (rq ∙ ap Some (sym and_parts)) u at k on in
     let place = x.gives ∙ sym y.gives in
     let one : x.x ≡ y.x = λ i. record {
       number = ap (λ (q : Place). q.unit) place i;
@@ -232,7 +227,7 @@ module _ (s : LineSections) (us : List kept.Unit) (index : SequenceIndex) (offse
   pub at_some : (a : ℕ) (f : FoundRows) (u : kept.Unit) → IsFound us a f → slice_get us f.unit ≡ Some u
       → line_at s a ≡ Some (record { unit = f.unit; rows = filter_map (row_said (told_unit s.strings u)) f.rows.items })
   at_some a f u found at =
-      let same : found.first.unit ≡ u = same_some found.first.unit u (sym found.unit ∙ at) in
+      let same : found.first.unit ≡ u = same_Some found.first.unit u (sym found.unit ∙ at) in
       says a ∙ ap (option_map (numbered_said s.strings a)) found.found
       ∙ (λ i. Some (record {
         unit = found.number i;

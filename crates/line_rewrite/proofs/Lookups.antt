@@ -251,10 +251,6 @@ latest_append found from a (x ∷ xs) ys up = by (nat_le x.address a) refl (late
         let past : a < x.address = grind (arith, nat_tests) in
         sym (none_latest found x.address a ys (ascends_behind x.address xs ys up.1) past)
 
--- what is found from a state on, with what was found of the rows before
-abbrev pub FoundFrom : List Registers → List Kept → ℕ → List Registers → ℕ → List Registers → Type 0
-FoundFrom found kept a rows state whole = latest found a (drop (row_at kept (length rows) state) rows) ≡ whole
-
 ascends_past : (n from : ℕ) (rows : List Registers) → Ascends from rows → (to : ℕ) × Ascends to (drop n rows)
 ascends_past zero from [] up = (from, tt)
 ascends_past (suc n) from [] up = (from, tt)

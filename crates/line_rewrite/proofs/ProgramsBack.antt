@@ -1,5 +1,6 @@
 -- Programs that are written for pieces: their operations are read again, take all of the bytes, and have few.
 use Rattle.std.proofs.Common.{◌≡◌, ◌<◌, ◌≤◌, ◌-◌, ◌+◌, ◌*◌, ◌^◌, ◌==◌, ◌++◌, ◌&&◌, ℕ, List, [], ◌∷◌, refl, arith, ◌∙◌, ap}
+use Rattle.std.specs.Bool.{beq}
 use Rattle.std.proofs.Common.{Bool, true, false, cond, not, nat_le, nat_lt, length, length-append, Option, Some, None}
 use Rattle.std.proofs.Common.{FitsSigned}
 use Rattle.std.proofs.lemmas.Bool.Decides.{nat_tests}
@@ -20,7 +21,7 @@ use Rattle.line_rewrite.specs.declared.operation.LineOp.TheVariants.{EndSequence
 use Rattle.line_rewrite.specs.declared.run_writer.Going.{Going}
 use Rattle.line_rewrite.specs.Operations.{is_whole, whole_within}
 use Rattle.line_rewrite.specs.LineMachine.{after_row}
-use Rattle.line_rewrite.specs.Written.{IsRow, unless, same_flag, line_distance, above_base, step_ops, row_ops, rows_ops, spelled}
+use Rattle.line_rewrite.specs.Written.{IsRow, unless, line_distance, above_base, step_ops, row_ops, rows_ops, spelled}
 use Rattle.line_rewrite.specs.Written.{all_spelled}
 use Rattle.line_rewrite.specs.WrittenPrograms.{Piece, piece_end, opened, close_ops, open_ops, run_ops, piece_ops, going_after, closing_ops}
 use Rattle.line_rewrite.proofs.PieceSequences.{program_ops}
@@ -85,11 +86,11 @@ row_written r row fits =
     (are_append (first5 r row) (unless (not row.epilogue_begin) SetEpilogueBegin)
     (are_append (first4 r row) (unless (not row.prologue_end) SetPrologueEnd)
     (are_append (first3 r row) (unless (not row.basic_block) SetBasicBlock)
-    (are_append (first2 r row) (unless (same_flag r.is_stmt row.is_stmt) NegateStmt)
+    (are_append (first2 r row) (unless (beq r.is_stmt row.is_stmt) NegateStmt)
     (are_append (unless (r.file == row.file) (SetFile row.file)) (unless (r.column == row.column) (SetColumn row.column))
     (unless_written (r.file == row.file) (SetFile row.file) fits.file)
     (unless_written (r.column == row.column) (SetColumn row.column) fits.column))
-    (unless_written (same_flag r.is_stmt row.is_stmt) NegateStmt tt))
+    (unless_written (beq r.is_stmt row.is_stmt) NegateStmt tt))
     (unless_written (not row.basic_block) SetBasicBlock tt))
     (unless_written (not row.prologue_end) SetPrologueEnd tt))
     (unless_written (not row.epilogue_begin) SetEpilogueBegin tt))
@@ -193,11 +194,11 @@ row_size r row =
     (both_sizes (first5 r row) (unless (not row.epilogue_begin) SetEpilogueBegin) 25 1
     (both_sizes (first4 r row) (unless (not row.prologue_end) SetPrologueEnd) 24 1
     (both_sizes (first3 r row) (unless (not row.basic_block) SetBasicBlock) 23 1
-    (both_sizes (first2 r row) (unless (same_flag r.is_stmt row.is_stmt) NegateStmt) 22 1
+    (both_sizes (first2 r row) (unless (beq r.is_stmt row.is_stmt) NegateStmt) 22 1
     (both_sizes (unless (r.file == row.file) (SetFile row.file)) (unless (r.column == row.column) (SetColumn row.column)) 11 11
     (unless_size (r.file == row.file) (SetFile row.file) 11 (omega (arith, length-uleb-le row.file)))
     (unless_size (r.column == row.column) (SetColumn row.column) 11 (omega (arith, length-uleb-le row.column))))
-    (unless_size (same_flag r.is_stmt row.is_stmt) NegateStmt 1 (omega arith)))
+    (unless_size (beq r.is_stmt row.is_stmt) NegateStmt 1 (omega arith)))
     (unless_size (not row.basic_block) SetBasicBlock 1 (omega arith)))
     (unless_size (not row.prologue_end) SetPrologueEnd 1 (omega arith)))
     (unless_size (not row.epilogue_begin) SetEpilogueBegin 1 (omega arith)))

@@ -1,10 +1,11 @@
 -- What is written for a row, register by register.
 use Rattle.std.proofs.Common.{◌≡◌, ◌==◌, ◌++◌, ℕ, List, [], ◌∷◌, refl, sym, ◌∙◌, ap, append_assoc, not}
+use Rattle.std.specs.Bool.{beq}
 use Rattle.line_rewrite.specs.declared.registers.Registers.{Registers}
 use Rattle.line_rewrite.specs.declared.operation.LineOp.{LineOp}
 use Rattle.line_rewrite.specs.declared.operation.LineOp.TheVariants.{SetFile, SetColumn, NegateStmt, SetBasicBlock, SetPrologueEnd}
 use Rattle.line_rewrite.specs.declared.operation.LineOp.TheVariants.{SetEpilogueBegin, SetIsa, SetDiscriminator}
-use Rattle.line_rewrite.specs.Written.{unless, same_flag, spelled, all_spelled}
+use Rattle.line_rewrite.specs.Written.{unless, spelled, all_spelled}
 
 pub spelled_append : (xs ys : List LineOp) → all_spelled (xs ++ ys) ≡ all_spelled xs ++ all_spelled ys
 spelled_append [] ys = refl
@@ -24,7 +25,7 @@ abbrev pub first2 : Registers → Registers → List LineOp
 first2 r row = unless (r.file == row.file) (SetFile row.file) ++ unless (r.column == row.column) (SetColumn row.column)
 
 abbrev pub first3 : Registers → Registers → List LineOp
-first3 r row = first2 r row ++ unless (same_flag r.is_stmt row.is_stmt) NegateStmt
+first3 r row = first2 r row ++ unless (beq r.is_stmt row.is_stmt) NegateStmt
 
 abbrev pub first4 : Registers → Registers → List LineOp
 first4 r row = first3 r row ++ unless (not row.basic_block) SetBasicBlock

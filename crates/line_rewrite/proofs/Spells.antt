@@ -5,6 +5,7 @@ use Rattle.std.proofs.Common.{FitsSigned}
 use Rattle.std.specs.Int.{w64}
 use Rattle.std.proofs.lemmas.Bool.Decides.{nat_tests}
 use Rattle.std.proofs.lemmas.Grind.{common_steps}
+use Rattle.std.proofs.lemmas.List.{append-nil}
 use Rattle.byteorder.specs.Endian.{little_number, little_bytes}
 use Rattle.byteorder.specs.Numbers.{little_number-reads_back, length-bytes_low_first}
 use Rattle.rb_bytes.specs.declared.gap.Gap.{Gap}
@@ -73,19 +74,15 @@ extended_back n bytes rest op e h is =
     let d : drop n (bytes ++ rest) ≡ rest = grind (arith, common_steps) in
     rw (small_back n (bytes ++ rest) h, t, f, d, is) refl
 
-nothing_after : (l : List ℕ) → l ++ [] ≡ l
-nothing_after [] = refl
-nothing_after (x ∷ l) = ap (λ (l : List ℕ). x ∷ l) (nothing_after l)
-
 address_in : (a : ℕ) → a < 2 ^ 64 → extended_in (2 ∷ little_bytes 8 a) ≡ Ok (SetAddress a)
 address_in a h =
-    let e : number_read 8 (little_bytes 8 a) ≡ Ok (a, []) = sym (ap (number_read 8) (nothing_after (little_bytes 8 a)))
+    let e : number_read 8 (little_bytes 8 a) ≡ Ok (a, []) = sym (ap (number_read 8) (append-nil (little_bytes 8 a)))
     ∙ number_back 8 a [] (omega arith) in
     ap (λ (r : Result (ℕ × List ℕ) Gap). and_then r (λ address _. Ok (SetAddress address))) e
 
 discriminator_in : (n : ℕ) → n < 2 ^ 64 → extended_in (4 ∷ uleb n) ≡ Ok (SetDiscriminator n)
 discriminator_in n h =
-    let e : uleb_at (uleb n) ≡ Ok (n, []) = sym (ap uleb_at (nothing_after (uleb n))) ∙ uleb_back n [] h in
+    let e : uleb_at (uleb n) ≡ Ok (n, []) = sym (ap uleb_at (append-nil (uleb n))) ∙ uleb_back n [] h in
     rw (byte_back 4 (uleb n), e) refl
 
 end_in : extended_in (1 ∷ []) ≡ Ok EndSequence

@@ -100,9 +100,6 @@ close_sound stmt files last g more is f =
 
 -- An open sequence, and the pieces behind it
 
-touch : (e s : ℕ) (b : Bool) → (e == s) ≡ b → b ≡ true → e ≡ s
-touch e s b t is = grind (arith, nat_tests)
-
 module _ (stmt : Bool) (files : ℕ) where
   coding : Coding
   coding = written_coding stmt

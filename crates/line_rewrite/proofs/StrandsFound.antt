@@ -3,6 +3,7 @@ use Rattle.std.proofs.Common.{◌≡◌, ◌<◌, ◌≤◌, ◌==◌, ◌++◌,
 use Rattle.std.proofs.Common.{Bool, true, false, cond, nat_le, nat_lt, length, Option, Some, None, option_map, ◌⊎◌, inl, inr}
 use Rattle.std.specs.Prelude.{find}
 use Rattle.std.proofs.lemmas.Bool.Decides.{nat_tests}
+use Rattle.std.proofs.lemmas.List.Elements.{filter-append}
 use Rattle.table_core.specs.AddressRanges.{holds_address}
 use Rattle.line_rewrite.specs.declared.registers.Registers.{Registers}
 use Rattle.line_rewrite.specs.LineMachine.{Sequence, in_force, reached, greatest_address}
@@ -10,7 +11,7 @@ use Rattle.line_rewrite.specs.LineAnswers.{first_address, range_of}
 use Rattle.line_rewrite.specs.WrittenPrograms.{Piece, piece_end}
 use Rattle.line_rewrite.proofs.PieceSequences.{rows_on, end_on, strand_at, strand, others_on, strands}
 use Rattle.line_rewrite.proofs.FirstSequence.{map_cond}
-use Rattle.line_rewrite.proofs.InForce.{AllAt, AllBelow, filter_append, at-below, front_drop, found_stay}
+use Rattle.line_rewrite.proofs.InForce.{AllAt, AllBelow, at-below, front_drop, found_stay}
 use Rattle.line_rewrite.proofs.Strands.{ArePieceRows, IsPiece, ArePieces}
 
 abbrev pub has_address : ℕ → Piece → Bool
@@ -177,7 +178,7 @@ module _ (files p : ℕ) where
       reach : v.start ≤ greatest_address (reached p (v.rows ++ rows_on (piece_end v) us))
       reach =
           let split : reached p (v.rows ++ rows_on (piece_end v) us) ≡ reached p v.rows ++ reached p (rows_on (piece_end v) us) =
-          filter_append (λ r. nat_le r.address p) v.rows (rows_on (piece_end v) us) in
+          filter-append (λ r. nat_le r.address p) v.rows (rows_on (piece_end v) us) in
           let h : v.start ≤ greatest_address (reached p v.rows) = same_addresses files v.start p v.rows two.rows two.any high in
           let k : greatest_address (reached p v.rows) ≤ greatest_address (reached p v.rows ++ reached p (rows_on (piece_end v) us)) =
           greatest_more (reached p v.rows) (reached p (rows_on (piece_end v) us)) in

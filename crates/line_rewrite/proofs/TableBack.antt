@@ -2,6 +2,7 @@
 use Rattle.std.proofs.Common.{◌≡◌, ◌∙◌, ◌<◌, ◌+◌, ◌^◌, ℕ, zero, suc, Bool, true, false, cond, List, []}
 use Rattle.std.proofs.Common.{◌∷◌, Option, Some, None, refl, sym, ap, subst, arith, length, option_map}
 use Rattle.std.proofs.Common.{get_or}
+use Rattle.std.proofs.lemmas.Option.{same_Some}
 use Rattle.std.specs.Prelude.{find, slice_get}
 use Rattle.std.specs.Option.{option_or}
 use Rattle.addr_map.specs.declared.span.Span.{Span}
@@ -16,7 +17,7 @@ use Rattle.line_rewrite.specs.SequenceIndex.{Numbered, numbered_at, numbered_row
 use Rattle.line_rewrite.specs.Written.{moved, written_coding}
 use Rattle.line_rewrite.specs.WrittenPrograms.{Begun, nothing_begun, closed}
 use Rattle.line_rewrite.specs.WrittenRuns.{Placed, placed_by, placed_at, placed, RowsFit, AllRowsFit, with_placed, with_runs, begun}
-use Rattle.line_rewrite.specs.WrittenUnits.{header_fields, written_units, spelled_unit, spelled_units}
+use Rattle.line_rewrite.specs.WrittenUnits.{written_units}
 use Rattle.line_rewrite.specs.WrittenUnits as unit
 use Rattle.line_rewrite.proofs.FoundRows.{unit_stands, rows_filed, some_rows, piece_rows, moved_count}
 use Rattle.line_rewrite.proofs.HeadersBack.{written_unit, piece_program}
@@ -51,12 +52,9 @@ module _ (us : List kept.Unit) (spans : List Span) (r : Run LineSaid) (P : Optio
   placed_cases : P (placed us spans r)
   placed_cases = by_owner (owner spans r.start)
 
-unit_same : (u v : kept.Unit) → Some u ≡ Some v → u ≡ v
-unit_same u v e = cc
-
 module _ (us : List kept.Unit) (spans : List Span) (k : ℕ) (u : kept.Unit) (at : slice_get us k ≡ Some u) where
   number_unit : (a : ℕ) (x : Numbered) → numbered_at us a ≡ Some x → x.number ≡ k → x.unit ≡ u
-  number_unit a x e n = unit_same x.unit u (sym (unit_stands us a x e) ∙ ap (slice_get us) n ∙ at)
+  number_unit a x e n = same_Some x.unit u (sym (unit_stands us a x e) ∙ ap (slice_get us) n ∙ at)
 
   run_codes : (r : Run LineSaid) → Codes us spans k (written_coding u.header.coding.default_is_stmt) (placed us spans r)
   run_codes r = placed_cases us spans r (Codes us spans k (written_coding u.header.coding.default_is_stmt)) tt

@@ -3,6 +3,7 @@ use Rattle.std.proofs.Common.{◌≡◌, ◌∙◌, ◌<◌, ◌-◌, ◌+◌, �
 use Rattle.std.proofs.Common.{arith, length, map, option_map, Bool, true, false, cond}
 use Rattle.std.specs.Prelude.{All, find, filter_map, option_and_then, slice_get, not, is_some}
 use Rattle.std.proofs.lemmas.List.{length-map}
+use Rattle.std.proofs.lemmas.Iterator.Adapters.{option_map_id}
 use Rattle.elf_image.specs.declared.elf.Elf.{Elf}
 use Rattle.rb_bytes.specs.FirstFault.{IsFree}
 use Rattle.addr_map.specs.declared.span.Span.{Span}
@@ -23,10 +24,10 @@ use Rattle.line_rewrite.specs.LineAnswers.{LineSaid, said_at, line_units}
 use Rattle.line_rewrite.specs.LineMachine.{in_force}
 use Rattle.line_rewrite.specs.SequenceIndex.{unit_sequence}
 use Rattle.line_rewrite.specs.LineTable.{LineFits, LinesMade, moved_units, places_in}
-use Rattle.line_rewrite.specs.LineUnits.{LineUnit}
+use Rattle.line_rewrite.specs.LineUnits.{LineUnit, unit_in}
 use Rattle.line_rewrite.specs.Tables.{LineSections, line_sections, line_version, line_fault, line_at, line_answers, HasLineFault}
 use Rattle.line_rewrite.specs.Tables.{StandsLines}
-use Rattle.line_rewrite.specs.UnitLists.{unit_in, AreLines}
+use Rattle.line_rewrite.specs.UnitLists.{AreLines}
 use Rattle.line_rewrite.specs.WrittenRuns.{placed_by, placed, with_runs, begun, AllRowsFit}
 use Rattle.line_rewrite.specs.WrittenUnits.{written_units, spelled_units}
 use Rattle.line_rewrite.proofs.FoundRows.{unit_stands, moved_said}
@@ -65,9 +66,6 @@ new_count strings us spans rs k (u ∷ more) = ap suc (new_count strings us span
 module _ (s : LineSections) (us : List kept.Unit) (index : SequenceIndex) (offsets : FirstRange) (are : AreLines s us index offsets)
     (spans : List Span) (rs : List (Run LineSaid))
     (within : IsWithin 0 rs (2 ^ 64 - 1)) (answers : (p : ℕ) → run_at rs p ≡ carried (line_at s) spans p) (fits : LineFits s spans rs) where
-  units_list : List (List ℕ)
-  units_list = new_bytes s.strings us spans rs 0 us
-
   small : All (λ b. length b < 2 ^ 32 - 1) (new_bytes s.strings us spans rs 0 us)
   small = all_small (2 ^ 32 - 1) (new_bytes s.strings us spans rs 0 us) (table_small s us index offsets are spans rs within answers fits)
 
@@ -202,10 +200,6 @@ module _ (s : LineSections) (us : List kept.Unit) (index : SequenceIndex) (offse
 
 -- As the trait asks for it, where a run's answer is what it says.
 
-same_answer : (o : Option LineSaid) → option_map (λ x. x) o ≡ o
-same_answer None = refl
-same_answer (Some x) = refl
-
 same_runs : (rs : List (Run LineSaid)) → said_runs (λ x. x) rs ≡ rs
 same_runs [] = refl
 same_runs (r ∷ rs) = ap (λ (l : List (Run LineSaid)). r ∷ l) (same_runs rs)
@@ -221,7 +215,7 @@ module _ (self s : LineSections) (view : self ≡ s) (us now : List kept.Unit) (
       (subst (λ (l : List kept.Unit). AreLines s l index offsets) (sym same) are)
 
   run_answers : (p : ℕ) → run_at rs p ≡ carried (line_at self) spans p
-  run_answers p = sym (same_answer (run_at rs p)) ∙ answers p
+  run_answers p = sym (option_map_id (run_at rs p)) ∙ answers p
 
   run_fits : LineFits self spans rs
   run_fits = subst (LineFits self spans) (same_runs rs) fits
@@ -237,7 +231,7 @@ module _ (self s : LineSections) (view : self ≡ s) (us now : List kept.Unit) (
     written_law i f from stood =
         let t = law self now index offsets are_lines spans rs within run_answers run_fits fit written.bytes.items is written refl i f from
         stood in
-        let all : run_at rs ≡ (λ p. option_map (λ x. x) (run_at rs p)) = λ j p. sym (same_answer (run_at rs p)) j in
+        let all : run_at rs ≡ (λ p. option_map (λ x. x) (run_at rs p)) = λ j p. sym (option_map_id (run_at rs p)) j in
         (subst (λ (want : ℕ → Option LineSaid). IsCarried (λ (x y : LineSaid). x ≡ y) spans want (line_answers f)) all t.0, t.1, t.2)
 
     pub written_made : (line : List ℕ) → line ≡ s.line → written.lists.items ≡ moved_units (places_in line) (places_in written.bytes.items)

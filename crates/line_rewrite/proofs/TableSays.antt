@@ -6,6 +6,7 @@ use Rattle.std.specs.Prelude.{All, find, filter_map, slice_get, option_and_then,
 use Rattle.std.specs.Option.{option_or}
 use Rattle.std.proofs.lemmas.Bool.Decides.{nat_tests}
 use Rattle.std.proofs.lemmas.List.Elements.{All-nil, All-cons, All-head, All-tail}
+use Rattle.std.proofs.lemmas.Option.{same_Some}
 use Rattle.byteorder.specs.Endian.{little_bytes, little_number}
 use Rattle.addr_map.specs.declared.span.Span.{Span}
 use Rattle.table_core.specs.AnswerRuns.{IsWithin}
@@ -17,15 +18,14 @@ use Rattle.line_rewrite.specs.declared.header.Header.{Header}
 use Rattle.line_rewrite.specs.declared.unit.Unit as kept
 use Rattle.line_rewrite.specs.LineMachine.{Sequence, in_force}
 use Rattle.line_rewrite.specs.LineAnswers.{LineSaid, RowSaid, range_of, row_said, rows_said, said_at}
-use Rattle.line_rewrite.specs.LineUnits.{LineUnit, unit_of}
+use Rattle.line_rewrite.specs.LineUnits.{LineUnit, unit_of, unit_in}
 use Rattle.line_rewrite.specs.Entries.{Strings}
 use Rattle.line_rewrite.specs.KeptUnits.{HasTables, told_unit}
 use Rattle.line_rewrite.specs.KeptLineUnits.{Files, files_of}
-use Rattle.line_rewrite.specs.UnitLists.{unit_in}
 use Rattle.line_rewrite.specs.WrittenPrograms.{Piece}
 use Rattle.line_rewrite.proofs.PieceSequences.{strands}
 use Rattle.line_rewrite.specs.WrittenRuns.{Placed, placed, AllRowsFit}
-use Rattle.line_rewrite.specs.WrittenUnits.{header_fields, spelled_unit, spelled_units}
+use Rattle.line_rewrite.specs.WrittenUnits.{spelled_units}
 use Rattle.line_rewrite.specs.WrittenUnits as unit
 use Rattle.table_core.specs.AddressRanges.{holds_address}
 use Rattle.line_rewrite.proofs.HeadersBack.{written_unit, piece_program, unit_back}
@@ -62,9 +62,6 @@ said_as : (k n : ℕ) (u v : LineUnit) (rows : List Registers) → k ≡ n → u
     → said k u rows ≡ said n v rows
 said_as k n u v rows e f d = (λ i. said (e i) u rows) ∙ ap (λ (rs : List RowSaid). said_rows n rs) (rows_by u v rows f d)
 
-same_some : {X : Type 0} (x y : X) → Some x ≡ Some y → x ≡ y
-same_some x y e = cc
-
 version_back : (h : Header) (program : List ℕ) → little_number 2 (unit.unit_bytes h program) ≡ 5
 unfolding unit.unit_bytes
 version_back h program = refl
@@ -75,9 +72,6 @@ module _ (strings : Strings) (us : List kept.Unit) (spans : List Span) (rs : Lis
   -- the unit of a number
   abbrev unit_new : ℕ → kept.Unit → LineUnit
   unit_new k u = written_unit strings u.header (pieces us spans k rs)
-
-  found_at : ℕ → Option Placed
-  found_at p = option_and_then (placed us spans) (find (has_run p) rs)
 
   -- what the unit of a number says at an address
   says_here : (p k : ℕ) → kept.Unit → Option LineSaid
@@ -152,7 +146,7 @@ module _ (strings : Strings) (us : List kept.Unit) (spans : List Span) (rs : Lis
       said_step p k v more
       ∙ ap (λ (o : Option LineSaid). option_or o (said_at (k + 1) (new_units strings us spans rs (k + 1) more) p))
       (here_says p k q v first e k_is)
-      ∙ ap (λ (x : kept.Unit). said q.unit (told_unit strings x) q.piece.rows) (same_some v u at)
+      ∙ ap (λ (x : kept.Unit). said q.unit (told_unit strings x) q.piece.rows) (same_Some v u at)
   says_some p k (suc j) (v ∷ more) q u from e n at =
       said_step p k v more
       ∙ ap (λ (o : Option LineSaid). option_or o (said_at (k + 1) (new_units strings us spans rs (k + 1) more) p))

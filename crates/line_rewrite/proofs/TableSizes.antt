@@ -1,5 +1,5 @@
 -- The written table is no longer than its parts may be.
-use Rattle.std.proofs.Common.{◌≡◌, ◌∙◌, ◌≤◌, ◌<◌, ◌-◌, ◌+◌, ◌*◌, ◌^◌, ◌==◌, ◌&&◌, ◌++◌, ℕ, zero, suc, Bool, true, false, cond, not, List}
+use Rattle.std.proofs.Common.{◌≡◌, ◌∙◌, ◌≤◌, ◌<◌, ◌-◌, ◌+◌, ◌*◌, ◌^◌, ◌&&◌, ◌++◌, ℕ, zero, suc, Bool, true, false, cond, List}
 use Rattle.std.proofs.Common.{[], ◌∷◌, Option, Some, None, refl, sym, ap, arith, length, length-append, length-drop, length-take}
 use Rattle.std.proofs.Common.{drop, take, nat_le, nat_lt, option_map}
 use Rattle.std.specs.Prelude.{All, filter_map, option_and_then, sum_by}
@@ -7,6 +7,7 @@ use Rattle.std.specs.Option.{option_or}
 use Rattle.std.proofs.lemmas.Bool.Decides.{nat_tests}
 use Rattle.std.proofs.lemmas.List.Elements.{All-nil, All-cons}
 use Rattle.std.proofs.lemmas.List.Sums.{sum_by-cons}
+use Rattle.std.proofs.lemmas.Option.{same_Some}
 use Rattle.byteorder.specs.Endian.{little_bytes}
 use Rattle.byteorder.specs.Numbers.{length-bytes_low_first}
 use Rattle.addr_map.specs.declared.span.Span.{Span}
@@ -17,6 +18,7 @@ use Rattle.table_core.specs.declared.first_range.FirstRange.{FirstRange}
 use Rattle.table_core.specs.declared.run.Run.{Run}
 use Rattle.table_core.specs.Sections.{section_limit}
 use Rattle.table_core.specs.Weights.{run_weight, weight_limit}
+use Rattle.table_core.proofs.UnitsWalk.{whole_fits}
 use Rattle.line_rewrite.specs.declared.sequence_index.SequenceIndex.{SequenceIndex}
 use Rattle.line_rewrite.specs.declared.unit.Unit as kept
 use Rattle.line_rewrite.specs.KeptUnits.{HasTables, told_unit}
@@ -51,15 +53,6 @@ whole_size left true true n w s h =
     omega arith
 whole_size left true false n w s h = let a : n + (unit_length left + 4) ≤ length left = h refl in omega arith
 whole_size left false some n w s h = omega arith
-
-whole_fits : (left : List ℕ) → is_whole_unit left ≡ true → unit_length left + 4 ≤ length left
-whole_fits left e = by (nat_le 4 (length left)) (not (unit_length left == 2 ^ 32 - 1)) (nat_le (unit_length left + 4) (length left)) refl e
-  where
-    by : (a b d : Bool) → nat_le (unit_length left + 4) (length left) ≡ d → (a && b && d) ≡ true → unit_length left + 4 ≤ length left
-    by true true true t e = grind (arith, nat_tests)
-    by true true false t e = absurd (cc)
-    by true false d t e = absurd (cc)
-    by false b d t e = absurd (cc)
 
 walked_sizes : (n version place : ℕ) (left : List ℕ) → sum_by walked_size (units_from n version place left) ≤ length left
 unfolding units_from
@@ -125,9 +118,6 @@ pub record IsAnswered (s : LineSections) (us : List kept.Unit) (spans : List Spa
   pub at : placed us spans r ≡ Some (placed_by r a x)
   pub answer : r.answer ≡ numbered_said s.strings a x
 
-same_said : (x y : LineSaid) → Some x ≡ Some y → x ≡ y
-same_said x y e = cc
-
 module _ (s : LineSections) (us : List kept.Unit) (index : SequenceIndex) (offsets : FirstRange) (are : AreLines s us index offsets)
     (spans : List Span) where
   pub answered : (r : Run LineSaid) → carried (line_at s) spans r.start ≡ Some r.answer → IsAnswered s us spans r
@@ -142,7 +132,7 @@ module _ (s : LineSections) (us : List kept.Unit) (index : SequenceIndex) (offse
         x = x;
         found = n;
         at = ap (placed_at us r) f ∙ ap (option_map (placed_by r a)) n;
-        answer = same_said r.answer (numbered_said s.strings a x) (sym g);
+        answer = same_Some r.answer (numbered_said s.strings a x) (sym g);
       }
 
       by_owner : (o : Option ℕ) → owner spans r.start ≡ o → option_and_then (line_at s) o ≡ Some r.answer → IsAnswered s us spans r

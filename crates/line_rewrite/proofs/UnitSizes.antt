@@ -57,14 +57,6 @@ unit_parts h program out o1 o2 o3 o4 new size fields s f e1 e2 e3 e4 e5 =
 
 -- one program more
 
-pub begun_next : (units : List kept.Unit) (i : ℕ) (d : kept.Unit) (programs new : List Begun) → i < length units
-    → new ≡ programs ++ nothing_begun ∷ []
-    → programs ++ begun (drop i units) ≡ begun units → new ++ begun (drop (i + 1) units) ≡ begun units
-begun_next units i d programs new h e inv =
-    ap (λ (l : List Begun). l ++ begun (drop (i + 1) units)) e
-    ∙ append_assoc programs (nothing_begun ∷ []) (begun (drop (i + 1) units))
-    ∙ sym (ap (λ (l : List Begun). programs ++ l) (at_drop_more begun units i d h)) ∙ inv
-
 pub begun_count : (us : List kept.Unit) → length (begun us) ≡ length us
 begun_count [] = refl
 begun_count (u ∷ us) = ap suc (begun_count us)

@@ -4,13 +4,12 @@ use Rattle.std.specs.List.{find}
 use Rattle.table_core.specs.DebugUnits.{Walked, walked}
 use Rattle.line_rewrite.specs.Entries.{path_of}
 use Rattle.line_rewrite.specs.Tables.{LineSections}
-use Rattle.line_rewrite.specs.LineUnits.{LineUnit, unit_of}
+use Rattle.line_rewrite.specs.LineUnits.{LineUnit, unit_in}
 
 -- the line unit at an offset
 abbrev pub line_unit_at : LineSections → ℕ → Option LineUnit
 line_unit_at s offset =
-    option_and_then (λ (w : Walked). option_and_then (unit_of s.strings) w.bytes)
-    (find (λ (w : Walked). w.place == offset) (walked 5 s.line))
+    option_and_then (unit_in s.strings) (find (λ (w : Walked). w.place == offset) (walked 5 s.line))
 
 -- the path of a file of a unit, by its index
 abbrev pub file_path : LineUnit → ℕ → Option (List ℕ)

@@ -1,5 +1,5 @@
 -- The units of a line table, as they are kept.
-use Rattle.std.specs.Prelude.{⊤, ◌≡◌, ◌≤◌, ◌+◌, ℕ, All, List, length, map, sum_by, is_some, not, Option, Some, None}
+use Rattle.std.specs.Prelude.{⊤, ◌≡◌, ◌≤◌, ◌+◌, ℕ, All, List, length, map, sum_by, Option, Some, None}
 use Rattle.std.specs.Prelude.{position}
 use Rattle.rb_bytes.specs.declared.fault.FaultKind.TheVariants.{LineFault}
 use Rattle.rb_bytes.specs.declared.fault.Refusal.{Refusal}
@@ -8,18 +8,15 @@ use Rattle.rb_bytes.specs.Fault.{fault_at}
 use Rattle.table_core.specs.declared.range.Range.{Range}
 use Rattle.table_core.specs.declared.first_range.FirstRange.{FirstRange}
 use Rattle.table_core.specs.AddressRanges.{holds_address}
-use Rattle.table_core.specs.DebugUnits.{Walked, walked, first_place}
+use Rattle.table_core.specs.DebugUnits.{Walked, walked}
 use Rattle.table_core.specs.FirstRanges.{first_range}
 use Rattle.line_rewrite.specs.declared.sequence_index.SequenceIndex.{SequenceIndex}
 use Rattle.line_rewrite.specs.declared.unit.Unit as kept
-use Rattle.line_rewrite.specs.Entries.{◌>>=◌, Strings}
-use Rattle.line_rewrite.specs.LineUnits.{LineUnit, unit_of}
+use Rattle.line_rewrite.specs.Entries.{Strings}
 use Rattle.line_rewrite.specs.KeptUnits.{HasTables, told_unit}
 use Rattle.line_rewrite.specs.SequenceIndex.{IsIndexOf}
 use Rattle.line_rewrite.specs.Tables.{LineSections, line_version}
-
-abbrev pub unit_in : Strings → Walked → Option LineUnit
-unit_in strings w = w.bytes >>= unit_of strings
+use Rattle.line_rewrite.specs.LineUnits.{unit_in, first_unread}
 
 -- how many bytes a unit takes, with its length
 abbrev pub bytes_size : Option (List ℕ) → ℕ
@@ -42,7 +39,7 @@ pub record AreUnits (strings : Strings) (ws : List Walked) (us : List kept.Unit)
 -- a refusal names the first that can't be read; memory may be wanting at any time
 abbrev pub IsLineFault : Strings → List Walked → Refusal → Type 0
 IsLineFault strings ws (refusal.Fault fault) =
-    (fault ≡ fault_at LineFault fault.place) × (first_place (λ w. not (is_some (unit_in strings w))) ws ≡ Some fault.place)
+    (fault ≡ fault_at LineFault fault.place) × (first_unread strings ws ≡ Some fault.place)
 IsLineFault strings ws refusal.Memory = ⊤
 
 -- the offset of a unit, as a range

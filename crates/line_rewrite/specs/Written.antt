@@ -1,5 +1,6 @@
 -- How rows are written as operations, and operations as bytes. DWARF 5, sections 6.2.5 and 7.22.
 use Rattle.std.specs.Prelude.{◌+◌, ◌-◌, ◌*◌, ◌%◌, ◌^◌, ◌==◌, ◌&&◌, ◌<◌, ℕ, ℤ, negsuc, Bool, true, false, not, List, []}
+use Rattle.std.specs.Bool.{beq}
 use Rattle.std.specs.Prelude.{◌∷◌, ◌++◌, nat_le, nat_lt, if◌then◌else◌, length, map}
 use Rattle.std.specs.Int.{w64, cast_signed}
 use Rattle.byteorder.specs.Endian.{little_bytes}
@@ -18,10 +19,6 @@ use Rattle.line_rewrite.specs.LineMachine.{after_row}
 abbrev pub unless : Bool → LineOp → List LineOp
 unless true op = []
 unless false op = op ∷ []
-
-abbrev pub same_flag : Bool → Bool → Bool
-same_flag true b = b
-same_flag false b = not b
 
 -- how far a line is from another, modulo 2 ^ 64
 abbrev pub line_step : ℕ → ℕ → ℕ
@@ -61,7 +58,7 @@ abbrev pub row_ops : Registers → Registers → List LineOp
 row_ops r row =
     unless (r.file == row.file) (SetFile row.file)
     ++ unless (r.column == row.column) (SetColumn row.column)
-    ++ unless (same_flag r.is_stmt row.is_stmt) NegateStmt
+    ++ unless (beq r.is_stmt row.is_stmt) NegateStmt
     ++ unless (not row.basic_block) SetBasicBlock
     ++ unless (not row.prologue_end) SetPrologueEnd
     ++ unless (not row.epilogue_begin) SetEpilogueBegin

@@ -1,8 +1,8 @@
 // The headers of line units. DWARF 5, section 6.2.4.
 ghost use Rattle.std.specs.Prelude.{◌≡◌, ◌≤◌, ◌+◌, Some, None, IfOk, OnOk, length};
 ghost use Rattle.line_rewrite.specs.KeptEntries.{texts_strings};
-ghost use Rattle.line_rewrite.specs.LineUnits.{header_in};
-ghost use Rattle.line_rewrite.specs.KeptUnits.{coding_at, told_header, are_filed, HasTables};
+ghost use Rattle.line_rewrite.specs.LineUnits.{header_in, coding_at};
+ghost use Rattle.line_rewrite.specs.KeptUnits.{told_header, are_filed, HasTables};
 ghost use Rattle.line_rewrite.specs.Troubles.{IfMalformed};
 
 use crate::coding::Coding;

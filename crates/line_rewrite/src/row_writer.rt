@@ -1,7 +1,8 @@
 // Rows as operations. DWARF 5, section 6.2.5.
 ghost use Rattle.std.specs.Prelude.{◌≡◌, ◌++◌, OnOk};
+ghost use Rattle.std.specs.Bool.{beq};
 ghost use Rattle.line_rewrite.specs.declared.operation.LineOp.TheVariants as operation;
-ghost use Rattle.line_rewrite.specs.Written.{IsRow, IsSpelled, unless, same_flag, step_ops, row_ops, all_spelled};
+ghost use Rattle.line_rewrite.specs.Written.{IsRow, IsSpelled, unless, step_ops, row_ops, all_spelled};
 
 use crate::op_writer::put_op;
 use crate::operation::LineOp;
@@ -28,7 +29,7 @@ fn put_unless(out: &mut Vec<u8>, needless: bool, op: LineOp) -> Result<(), NoMem
 // Writes a change of the flag.
 fn put_stmt_change(out: &mut Vec<u8>, from: bool, to: bool) -> Result<(), NoMemory>
     ensures { OnOk result (out.new.items
-        ≡ out.old.items ++ all_spelled (unless (same_flag from to) operation.NegateStmt)) }
+        ≡ out.old.items ++ all_spelled (unless (beq from to) operation.NegateStmt)) }
 {
     match (from, to) {
         (true, true) | (false, false) => Ok(()),

@@ -7,7 +7,8 @@ ghost use Rattle.line_rewrite.specs.KeptEntries.{strings_held, texts_strings};
 ghost use Rattle.line_rewrite.specs.KeptUnits.{HasTables, told_unit};
 ghost use Rattle.line_rewrite.specs.Tables.{HasLineFault, line_sections_held, line_version};
 ghost use Rattle.line_rewrite.specs.Troubles.{IfMalformed};
-ghost use Rattle.line_rewrite.specs.UnitLists.{unit_in, kept_size, walked_size, place_range, AreUnits, IsLineFault};
+ghost use Rattle.line_rewrite.specs.LineUnits.{unit_in};
+ghost use Rattle.line_rewrite.specs.UnitLists.{kept_size, walked_size, place_range, AreUnits, IsLineFault};
 ghost use Rattle.rb_bytes.specs.FirstFault.{IsRefusalBy};
 
 use crate::text::Texts;

@@ -8,7 +8,7 @@ use Rattle.std.proofs.lemmas.List.Elements.{All-head, All-tail}
 use Rattle.rb_bytes.specs.Text.{hexadecimal, is_lower_hex_digit}
 use Rattle.addr_map.specs.declared.span.Span.{Span}
 use Rattle.addr_map.specs.MapText.{span_line}
-use Rattle.map_check.proofs.NumberTexts.{hex_lower, decimal_lower}
+use Rattle.rb_bytes.proofs.NumberTexts.{hex_lower, decimal_lower}
 
 -- a text lacks a byte
 pub Lacks : ℕ → List ℕ → Type 0

@@ -1,10 +1,11 @@
 -- The text of a map, one more line at a time.
-use Rattle.std.proofs.Common.{◌≡◌, ◌<◌, ◌+◌, ◌∙◌, ℕ, List, [], ◌∷◌, ◌++◌, All, length, arith, refl, ap, sym, append_assoc, append-nil}
+use Rattle.std.proofs.Common.{◌≡◌, ◌<◌, ◌+◌, ◌∙◌, ℕ, List, [], ◌∷◌, ◌++◌, All, length, arith, ap, sym, append_assoc, append-nil}
 use Rattle.std.proofs.Common.{length-append, subst}
 use Rattle.std.specs.Prelude.{decimal}
 use Rattle.rb_bytes.specs.Text.{hexadecimal}
 use Rattle.std.proofs.lemmas.Grind.{flat_map-append}
 use Rattle.std.proofs.lemmas.List.Elements.{All-push}
+use Rattle.std.proofs.lemmas.List.{nil_from_length}
 use Rattle.addr_map.specs.declared.span.Span.{Span}
 use Rattle.addr_map.specs.MapText.{span_line, map_text}
 use Rattle.map_check.specs.MapReading.{FitsLine, IsMapOfLines, IsFirstBadLine}
@@ -33,13 +34,9 @@ shorter left rest s line =
     let three = length-append (hexadecimal s.input) (10 ∷ rest) in
     omega (arith, whole, one, two, three)
 
-nothing_left : (left : List ℕ) → length left ≡ 0 → left ≡ []
-nothing_left [] none = refl
-nothing_left (b ∷ left) none = absurd (omega arith)
-
 pub read_all : (text left : List ℕ) (spans : List Span) → HasRead text spans left → length left ≡ 0 → IsMapOfLines text spans
 read_all text left spans read none = record {
-  text_is = read.text_is ∙ ap (λ l. map_text spans ++ l) (nothing_left left none) ∙ append-nil (map_text spans);
+  text_is = read.text_is ∙ ap (λ l. map_text spans ++ l) (nil_from_length left none) ∙ append-nil (map_text spans);
   fit = read.fit;
 }
 

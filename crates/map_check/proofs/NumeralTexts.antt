@@ -12,8 +12,8 @@ use Rattle.std.proofs.lemmas.Fmt.{decimal-digits_value}
 use Rattle.std.proofs.lemmas.Str.Parse.{IsNumeralModel}
 use Rattle.std.proofs.lemmas.Str.{digit_value_digit}
 use Rattle.rb_bytes.specs.Text.{hexadecimal, is_lower_hex_digit, number_of_digits, hex_number, decimal_number}
+use Rattle.rb_bytes.proofs.NumberTexts.{hex_read, decimal_read}
 use Rattle.map_check.specs.internal.LineNumbers.{has_leading_zero}
-use Rattle.map_check.proofs.NumberTexts.{hex_read, decimal_read}
 
 -- a digit from `a` to `f`
 letter_value : (c : ℕ) → 97 ≤ c → c ≤ 102 → digit_value c ≡ c - 87

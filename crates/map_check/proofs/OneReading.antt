@@ -4,12 +4,12 @@ use Rattle.std.proofs.Common.{append_assoc, length}
 use Rattle.std.specs.Prelude.{decimal}
 use Rattle.std.proofs.lemmas.List.Elements.{All-head, All-tail}
 use Rattle.rb_bytes.specs.Text.{hexadecimal, hex_number, decimal_number}
+use Rattle.rb_bytes.proofs.NumberTexts.{hex_read, decimal_read}
 use Rattle.addr_map.specs.declared.span.Span.{Span}
 use Rattle.addr_map.specs.MapText.{span_line, map_text}
 use Rattle.map_check.specs.MapReading.{BeginsWithLine, FitsLine, IsFirstBadLine, IsMapOfLines}
 use Rattle.map_check.proofs.LineTexts.{line_spelled, one_split, hex_lacks, decimal_lacks}
 use Rattle.map_check.proofs.MapTexts.{shorter}
-use Rattle.map_check.proofs.NumberTexts.{hex_read, decimal_read}
 
 hex_one : (m n : ℕ) → m < 2 ^ 64 → n < 2 ^ 64 → hexadecimal m ≡ hexadecimal n → m ≡ n
 hex_one m n small fits same =

@@ -1,6 +1,6 @@
 -- What is known of files that were read: they are loaded low, and their code cells share no byte.
 use Rattle.std.proofs.Common.{◌≡◌, ◌∙◌, sym, subst, ap, ℕ, ◌+◌, ◌<◌, ◌≤◌, ⊎_elim, false, true, IsTrue, IsSome, List, Option, Some}
-use Rattle.std.proofs.Common.{All, Bool, None, arith, get_or, inl, inr, not}
+use Rattle.std.proofs.Common.{All, None, arith, get_or, inl, inr}
 use Rattle.std.specs.Option.{option_map}
 use Rattle.std.proofs.lemmas.Bool.{cases_lt}
 use Rattle.rb_bytes.specs.declared.fault.FaultKind.TheVariants.{HighAddress}
@@ -16,12 +16,13 @@ use Rattle.elf_image.specs.file.ParsedFile.{IsElfOf}
 use Rattle.elf_image.specs.memory.Image.{loads_address, segment_of, byte_of}
 use Rattle.elf_image.specs.faults.FileFaults.{IsSound}
 use Rattle.elf_image.proofs.ReadLists.{get_or-segments}
-use Rattle.elf_code.specs.Cells.{Content, Counts, Field, IsCell, counts, gives_way}
+use Rattle.elf_code.specs.Cells.{Content, Counts, Field, IsCell, counts}
 use Rattle.elf_code.specs.FileCode.{AreCells}
+use Rattle.elf_code.proofs.Counts.{can_of, no_both}
 use Rattle.code_starts.specs.LoadedMemory.{IsLow}
 use Rattle.rv_reloc.specs.Refs.{IsRead}
 use Rattle.map_check.specs.FirstFalse.{HasCode}
-use Rattle.move_law.proofs.code.CellWidths.{can_of, field_width}
+use Rattle.move_law.proofs.code.CellWidths.{field_width}
 use Rattle.map_check.specs.internal.Cells.{AreApart, HasWidth}
 use Rattle.map_check.specs.internal.Verdicts.{AreReady}
 
@@ -54,13 +55,6 @@ IsLow-read elf is = record {
 abbrev field_of : CodeCell → Content → Field
 field_of c content = record { place = c.addr; width = c.width; content = content }
 
--- a field that counts doesn't give way
-no_both : (elf : Elf) (tabled : List (ℕ × ℕ)) (f : Field) (b : Bool) → Counts elf tabled f b → Counts elf tabled f (not b) → ⊥
-no_both elf tabled f true (counts g can later) (gives_way h other can' before share counted) =
-    no_both elf tabled other false (later other (can_of counted) before share) counted
-no_both elf tabled f false (gives_way h other can before share counted) (counts g can' later) =
-    no_both elf tabled other true counted (later other (can_of counted) before share)
-
 module _ (elf : Elf) (tabled : List (ℕ × ℕ)) where
   apart : (c d : CodeCell) → IsCell elf tabled c → IsCell elf tabled d → c.addr < d.addr → c.addr + c.width ≤ d.addr
   apart c d is_c is_d before = by is_d.counted
@@ -68,7 +62,7 @@ module _ (elf : Elf) (tabled : List (ℕ × ℕ)) where
       shares : d.addr < c.addr + c.width → Counts elf tabled (field_of d is_d.content) true → ⊥
       shares over (counts f can later) =
           let width = field_width elf tabled (field_of d is_d.content) (can_of is_d.counted).is_field in
-          no_both elf tabled (field_of c is_c.content) true is_c.counted
+          no_both (field_of c is_c.content) true is_c.counted
           (later (field_of c is_c.content) (can_of is_c.counted) (inl before) (omega (arith, before), over))
 
       by : Counts elf tabled (field_of d is_d.content) true → c.addr + c.width ≤ d.addr

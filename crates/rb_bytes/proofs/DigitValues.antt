@@ -1,6 +1,6 @@
 -- The value of digits, one more at a time.
-use Rattle.std.proofs.Common.{◌≡◌, ◌<◌, ◌≤◌, ◌+◌, ◌*◌, ◌∙◌, ℕ, suc, zero, Bool, true, false, List, [], ◌∷◌, length, get_or, take}
-use Rattle.std.proofs.Common.{arith, refl, add-one, ap, sym, ◌^◌, cond, Some, None}
+use Rattle.std.proofs.Common.{◌≡◌, ◌<◌, ◌≤◌, ◌+◌, ◌*◌, ◌∙◌, ℕ, Bool, true, false, List, [], ◌∷◌, length, get_or, take}
+use Rattle.std.proofs.Common.{arith, refl, ap, sym, ◌^◌, cond, Some, None}
 use Rattle.std.specs.Prelude.{◌&&◌, ◌||◌, nat_lt, if◌then◌else◌}
 use Rattle.std.proofs.lemmas.Bool.{ltb-true, ltb-false, lt-ltb, le-ltb}
 use Rattle.std.specs.Char.{is_ascii_digit}
@@ -9,18 +9,9 @@ use Rattle.std.specs.List.{list_all}
 use Rattle.rb_bytes.specs.Text.{is_lower_hex_digit}
 use Rattle.std.proofs.lemmas.List.{take_all}
 use Rattle.std.specs.Char.{digit_value}
-use Rattle.std.specs.Str.Parse.{digits_value_after, digits_value}
+use Rattle.std.specs.Str.Parse.{digits_value}
 use Rattle.std.proofs.lemmas.Str.Parse.{digits_value-take-le}
-
-after-more : (radix n : ℕ) (ds : List ℕ) (i : ℕ) → i < length ds
-    → digits_value_after radix n (take (suc i) ds) ≡ digits_value_after radix n (take i ds) * radix + digit_value (get_or ds i 0)
-after-more radix n [] i within = absurd (omega arith)
-after-more radix n (c ∷ ds) zero within = refl
-after-more radix n (c ∷ ds) (suc i) within = after-more radix (n * radix + digit_value c) ds i (omega arith)
-
-pub digits_value-more : (radix : ℕ) (ds : List ℕ) (i : ℕ) → i < length ds
-    → digits_value radix (take (i + 1) ds) ≡ digits_value radix (take i ds) * radix + digit_value (get_or ds i 0)
-digits_value-more radix ds i within = rw add-one (after-more radix 0 ds i within)
+use Rattle.std.proofs.lemmas.Int.Digits.{digits_value_more}
 
 -- a decimal digit is a hexadecimal one
 pub hex_from_decimal : (ds : List ℕ) → list_all is_ascii_digit ds ≡ true → list_all is_lower_hex_digit ds ≡ true
@@ -36,7 +27,7 @@ hex_from_decimal (c ∷ ds) all = both (is_ascii_digit c) (is_in_range 97 102 c)
 pub too_large : (radix v d : ℕ) (ds : List ℕ) (i : ℕ) → 0 < radix → i < length ds → v ≡ digits_value radix (take i ds)
     → d ≡ digit_value (get_or ds i 0) → 2 ^ 64 ≤ v * radix + d → 2 ^ 64 ≤ digits_value radix ds
 too_large radix v d ds i some within is digit large =
-    let more = digits_value-more radix ds i within in
+    let more = digits_value_more radix ds i within in
     let part = digits_value-take-le radix ds (i + 1) (omega arith) in
     let same : digits_value radix (take (i + 1) ds) ≡ v * radix + d =
     more ∙ sym (ap (λ n. n * radix + d) is ∙ ap (λ e. digits_value radix (take i ds) * radix + e) digit) in
@@ -82,7 +73,7 @@ appended_some radix v d more ds i within is digit some =
     let less = some_less (v * radix + d) more some in
     let same = some_small (v * radix + d) more some in (
       same ∙ ap (λ n. n * radix + d) is ∙ ap (λ e. digits_value radix (take i ds) * radix + e) digit
-          ∙ sym (digits_value-more radix ds i within),
+          ∙ sym (digits_value_more radix ds i within),
       omega (arith, less, same),
     )
 

@@ -23,9 +23,6 @@ Any-push_cases P xs y (k, x, within, is, holds) =
 abbrev pub Given : {A B : Type 0} → (A → B → Type 0) → List A → B → Type 0
 Given Gives items a = Any (λ x. Gives x a) items
 
-pub gains_none : {A B : Type 0} (Gives : A → B → Type 0) (items : List A) (xs : List B) → Gains xs xs (Given Gives (take 0 items))
-gains_none Gives items xs a = ((λ is. inl is), ⊎_elim (λ is. is) (λ (k, x, within, is, holds). absurd (omega arith)))
-
 pub gains_next : {A B : Type 0} (Gives : A → B → Type 0) (items : List A) (i : ℕ) (x d : A) (xs was now : List B) →
     i < length items → x ≡ slice_index_or items i d → Gains was now (Gives x) → Gains xs was (Given Gives (take i items)) →
     Gains xs now (Given Gives (take (i + 1) items))

@@ -13,3 +13,6 @@ pub mod Permuted
 pub mod Results
 pub mod Tests
 pub mod NumberBytes
+pub mod Options
+pub mod RangeCounts
+pub mod NumberTexts

@@ -1,10 +1,14 @@
 -- Options and lists: what a search finds or doesn't, lists of lists, lists of what a function gives, and items that go in pairs.
 use Rattle.std.proofs.Common.{◌≡◌, ℕ, zero, suc, ◌<◌, List, [], ◌∷◌, ◌++◌, length, map, Option, Some, None, Bool, true, false}
-use Rattle.std.proofs.Common.{cond, refl, sym, ap, ◌∙◌, subst, arith, inl, inr, ◌⊎◌, All, get_or}
+use Rattle.std.proofs.Common.{cond, refl, sym, ap, ◌∙◌, subst, arith, inl, inr, ◌⊎◌, ⊎_elim, All, get_or, ◌+◌, ◌≤◌, take, sum_by}
 use Rattle.std.specs.Prelude.{AllPairs, Contains, IfSome, find, flat_map, slice_index_or, ◌||◌, slice_index, replicate}
 use Rattle.std.specs.Prelude.{slice_get}
 use Rattle.std.specs.List.{list_any}
-use Rattle.std.proofs.lemmas.Bool.{cases_order}
+use Rattle.std.specs.List.Sorted.{IsNonDecreasingBy}
+use Rattle.std.proofs.lemmas.Bool.{cases_lt, cases_order}
+use Rattle.std.proofs.lemmas.Grind.{common_steps}
+use Rattle.std.proofs.lemmas.List.Sums.{sum_by-cons}
+use Rattle.std.proofs.lemmas.Option.{slice_get-get_or}
 use Rattle.std.proofs.lemmas.List.{get_or-map, get_or_default, length-map}
 use Rattle.std.proofs.lemmas.List.Elements.{Contains-append_cases, Contains-append_left, Contains-append_right, Contains-get_or}
 use Rattle.std.proofs.lemmas.List.Kept.{AllPairs-cons}
@@ -100,7 +104,7 @@ module _ {X : Type 0} (R : X → X → Type 0) where
   pairs_head : (x y : X) (xs : List X) → AllPairs R (x ∷ xs) → Contains xs y → R x y
   pairs_head x y xs pairs (k, within, is) = subst (R x) is (pairs zero (suc k) y (omega arith) (omega (arith, within)))
 
-  pairs_append : (xs ys : List X) → AllPairs R xs → AllPairs R ys → ((x y : X) → Contains xs x → Contains ys y → R x y) →
+  pub pairs_append : (xs ys : List X) → AllPairs R xs → AllPairs R ys → ((x y : X) → Contains xs x → Contains ys y → R x y) →
       AllPairs R (xs ++ ys)
   pairs_append [] ys first second between = second
   pairs_append (x ∷ xs) ys first second between =
@@ -167,3 +171,27 @@ slice_get_found (x ∷ xs) (suc i) within = slice_get_found xs i (omega arith)
 pub any_element : {X : Type 0} (xs : List X) (k : ℕ) → k < length xs → X
 any_element [] k within = absurd (omega arith)
 any_element (x ∷ xs) k within = x
+
+-- a place of a member
+pub contains_at : {X : Type 0} (xs : List X) (x : X) → Contains xs x → (k : ℕ) × (slice_get xs k ≡ Some x)
+contains_at xs x (k, within, is) = (k, slice_get-get_or xs k x within ∙ ap Some is)
+
+pub taken_less : {X : Type 0} (n : ℕ) (xs : List X) → length (take n xs) ≤ n
+taken_less n xs = grind (arith, common_steps)
+
+-- a sum over what a function gives
+pub sum_by-map : {X Y : Type 0} (f : Y → ℕ) (g : X → Y) (xs : List X) → sum_by f (map g xs) ≡ sum_by (λ x. f (g x)) xs
+sum_by-map f g [] = refl
+sum_by-map f g (x ∷ xs) =
+    let a = sum_by-cons f (g x) (map g xs) in
+    let b = sum_by-cons (λ x. f (g x)) x xs in
+    let c = sum_by-map f g xs in
+    omega (arith, a, b, c)
+
+-- numbers of which each is less than the next
+pub rising : (xs : List ℕ) → AllPairs (λ a b. a < b) xs → IsNonDecreasingBy (λ a. a) xs
+rising xs up i j d upto within =
+    ⊎_elim
+    (λ (less : i < j). let r = up i j d less within in omega arith)
+    (λ (more : j ≤ i). let e : i ≡ j = omega arith in let s = ap (λ (k : ℕ). slice_index_or xs k d) e in omega arith)
+    (cases_lt i j)

@@ -1,12 +1,14 @@
 -- What holds of results that are known.
-use Rattle.std.proofs.Common.{◌≡◌, true}
-use Rattle.std.specs.Prelude.{Result, Ok, Err, OnErr, OnOk}
+use Rattle.std.proofs.Common.{◌≡◌, sym, subst, true}
+use Rattle.std.specs.Prelude.{Result, Ok, Err, IsOkAnd, OnErr}
 use Rattle.std.specs.Result.{is_err}
 
 pub from_err : {T E : Type 0} (P : Type 0) (r : Result T E) → is_err r ≡ true → OnErr r P → P
 from_err P (Ok x) is p = absurd (cc)
 from_err P (Err e) is p = p
 
-pub on_ok : {T E P Q : Type 0} (r : Result T E) → (P → Q) → OnOk r P → OnOk r Q
-on_ok (Ok x) f p = f p
-on_ok (Err e) f p = tt
+pub ok_when : {X E : Type 0} (P : X → Type 0) (r : Result X E) (x : X) → r ≡ Ok x → P x → IsOkAnd r P
+ok_when {X} {E} P r x e p = subst (λ (r : Result X E). IsOkAnd r P) (sym e) p
+
+pub same_ok : {X E : Type 0} {x y : X} → ◌≡◌ {A = Result X E} (Ok x) (Ok y) → x ≡ y
+same_ok e = cc

@@ -1,6 +1,6 @@
 -- Signed LEB128 numbers: their values, and that the spelling is read back and is the shortest.
-use Rattle.std.proofs.Common.{◌≡◌, ◌≢◌, ◌<◌, ◌≤◌, ◌+◌, ◌-◌, ◌*◌, ◌/◌, ◌%◌, ◌^◌, ℕ, zero, suc, ℤ, pos, negsuc, ◌+ℤ◌, ◌*ℤ◌, ◌-ℤ◌}
-use Rattle.std.proofs.Common.{List, [], ◌∷◌, ◌++◌, Bool, true, false, nat_lt, arith, refl, sym, ◌∙◌, ap, take, drop, length, Ok}
+use Rattle.std.proofs.Common.{◌≡◌, ◌<◌, ◌≤◌, ◌+◌, ◌-◌, ◌*◌, ◌/◌, ◌%◌, ◌^◌, ℕ, zero, suc, ℤ, pos, negsuc, ◌+ℤ◌, ◌*ℤ◌, ◌-ℤ◌}
+use Rattle.std.proofs.Common.{List, [], ◌∷◌, ◌++◌, true, false, nat_lt, arith, refl, sym, ◌∙◌, ap, take, drop, length, Ok}
 use Rattle.std.proofs.Common.{inl, inr, length-append, length-take, length-drop, append_assoc}
 use lib.Signed.{mag}
 use Rattle.std.proofs.lemmas.Bool.{cases_lt}
@@ -264,11 +264,5 @@ pub sleb-next : (z : ℤ) → fits_seven_bits z ≡ false → FitsSigned w64 z �
 unfolding sleb
 sleb-next z e fits = let lt = fits.sfits in sleb_within-next 8 z e
     ∙ ap (λ bytes. (low_bits z + 128) ∷ bytes) (sym (sleb_within-more 8 (high_bits z) (rw (mag-high_bits z) (omega arith))))
-
-pub mag-high_bits-lt : (z : ℤ) → fits_seven_bits z ≡ false → mag (high_bits z) < mag z
-mag-high_bits-lt z e = elim (cases_lt (mag z) 64) [
-  | inl lt ↦ let t = fits_seven_bits-true z lt in cc
-  | inr ge ↦ rw (mag-high_bits z) (omega arith)
-]
 
 pub ruleset spellings = (IsShortestSleb-sleb, length-sleb-le, length-sleb-pos, sleb-last, sleb-next, append_assoc, to_z-of_z)

@@ -1,5 +1,9 @@
 -- Facts on tests, and on numbers.
-use Rattle.std.proofs.Common.{◌≡◌, Bool, true, false, refl, sym, ◌&&◌, ap, arith, ℤ, pos, negsuc, ◌≤ℤ◌}
+use Rattle.std.proofs.Common.{◌≡◌, ◌≢◌, ◌<◌, ◌+◌, ◌-◌, ◌↔◌, ℕ, suc, Bool, true, false, not, IsTrue, refl, sym, ◌&&◌, ap, arith, nat_cmp}
+use Rattle.std.proofs.Common.{ℤ, pos, negsuc, ◌≤ℤ◌}
+use Rattle.std.specs.BTreeMap.{is_at}
+use Rattle.std.specs.Bool.{beq}
+use Rattle.std.proofs.lemmas.Grind.{common_steps}
 use Rattle.std.proofs.lemmas.Int.{ints}
 
 pub bool_same : (a b : Bool) → (a ≡ true → b ≡ true) → (b ≡ true → a ≡ true) → a ≡ b
@@ -7,12 +11,30 @@ bool_same true b h k = sym (h refl)
 bool_same false true h k = k refl
 bool_same false false h k = refl
 
+pub bool_is : (a b : Bool) → beq a b ≡ true → a ≡ b
+bool_is true true e = refl
+bool_is true false e = absurd (cc)
+bool_is false true e = absurd (cc)
+bool_is false false e = refl
+
 pub second_of : (a b : Bool) → (a && b) ≡ true → b ≡ true
 second_of true b both = both
 second_of false b both = absurd (cc)
 
 pub clash : (b : Bool) → b ≡ true → b ≡ false → ⊥
 clash b t f = absurd (cc)
+
+pub if_not : {C : Type 0} (b : Bool) → IsTrue b ↔ C → IsTrue (not b) ↔ (C → ⊥)
+if_not true test = (λ wrong. let never : false ≡ true = wrong in cc, λ wrong. absurd (wrong (test.0 refl)))
+if_not false test = (λ _ is. let never : false ≡ true = test.1 is in cc, λ _. refl)
+
+-- another key than the one that is looked for
+pub at_key : (k q : ℕ) → k ≢ q → is_at (nat_cmp k) q ≡ false
+at_key k q ne = grind (arith, common_steps)
+
+-- what is left of n steps before one of them
+pub less_one : (n i : ℕ) → i < n → n - i ≡ suc (n - (i + 1))
+less_one n i h = omega arith
 
 pub antisym : (x y : ℤ) → x ≤ℤ y → y ≤ℤ x → x ≡ y
 antisym (pos a) (pos b) h k = ap pos (omega (arith, ints, h, k))

@@ -4,7 +4,6 @@ use Rattle.std.proofs.Common.{take, drop, get_or, refl, sym, ap, ◌∙◌, arit
 use Rattle.std.proofs.Common.{drop-cons}
 use Rattle.std.specs.Prelude.{if◌then◌else◌, ◌==◌, ◌&&◌}
 use Rattle.std.proofs.Math.Nat.{pow-le-pow_right, pow-suc, div-div-eq-div-mul}
-use Rattle.std.proofs.Math.Bool.{and-true}
 use Rattle.rv_code.specs.machine.Machine.{plus, memory_bytes, put, little, all_may, low_bytes}
 use Rattle.std.specs.Int.{w64, to_le_bytes, bytes_low_first}
 use Rattle.rb_bytes.proofs.NumberBytes.{byte_at-power}
@@ -79,10 +78,6 @@ all_may_next may a i n h =
     let e : n - i ≡ suc (n - (i + 1)) = omega arith in
     let next : plus (plus a i) 1 ≡ plus a (i + 1) = omega arith in
     rw (e, next) refl
-
-pub all_may_two : (may : ℕ → Bool) (a : ℕ) → all_may may a 2 ≡ may a && may (plus a 1)
-unfolding all_may
-all_may_two may a = rw (and-true (may (plus a 1))) refl
 
 pub bytes_low_first-low_bytes : (i n k v : ℕ) → n ≤ k → take n (bytes_low_first i k v) ≡ low_bytes n (v / 256 ^ i)
 unfolding low_bytes

@@ -8,13 +8,13 @@ use Rattle.rb_bytes.proofs.Tests.{second_of}
 use Rattle.std.specs.Option.{is_some}
 use Rattle.std.proofs.lemmas.Bool.{cases_eq, eq-eqb, ne_eqb, and_from}
 use Rattle.elf_image.specs.declared.elf.Elf.{Elf}
-use Rattle.elf_image.specs.declared.relocation.TheConstants.{R_RISCV_32_PCREL, R_RISCV_PLT32, R_RISCV_ADD32, R_RISCV_ADD64}
+use Rattle.elf_image.specs.declared.relocation.TheConstants.{R_RISCV_32_PCREL, R_RISCV_PLT32}
 use Rattle.elf_code.specs.Cells.{IsOnly, same_width, is_plus, is_minus, IsDifference, of_labels, of_place, can_be_cell}
 use Rattle.elf_code.specs.Cells.{IsCodeLabel, HasCodeLabel, IsInOneWhole}
 use Rattle.elf_code.specs.Fields.{HoldsDifference}
 use Rattle.elf_code.specs.ReferenceFaults.{IsBadDifference, number, unpaired, IsPaired, IsNarrow}
 use Rattle.elf_code.specs.Relocations.{Relocation, relocations, Width, Bits, Uleb128, plus_width, minus_width}
-use Rattle.elf_code.specs.Relocations.{is_pc_difference, is_add, label}
+use Rattle.elf_code.specs.Relocations.{is_pc_difference, label}
 use Rattle.rv_reloc.proofs.Ordered.{count-cons, count-some, one_if}
 use Rattle.rv_reloc.specs.declared.differences.Difference.{Difference}
 use Rattle.rv_reloc.specs.Differences.{IsDifferenceOf, IsTheDifference, HoldsOther, IsUnpaired}
@@ -254,18 +254,3 @@ none-narrow elf tabled r none = (
   λ wrong. let e : false ≡ true = wrong in absurd (cc),
   λ narrow. absurd (none narrow.width narrow.to narrow.from narrow.difference),
 )
-
--- The widths of cells.
-
-bits_once : (kind m n : ℕ) → plus_width kind ≡ Some (Bits m) → plus_width kind ≡ Some (Bits n) → m ≡ n
-bits_once kind m n e f = let g : Some (Bits m) ≡ Some (Bits n) = sym e ∙ f in cc
-
-added : (kind bits : ℕ) → is_add kind ≡ true → plus_width kind ≡ Some (Bits bits) → (bits ≡ 32) ⊎ (bits ≡ 64)
-added kind bits is width = ⊎_elim
-    (λ (e : kind ≡ R_RISCV_ADD32). inl (bits_once kind bits 32 width (ap plus_width e)))
-    (λ (other : kind ≢ R_RISCV_ADD32). ⊎_elim
-    (λ (e : kind ≡ R_RISCV_ADD64). inr (bits_once kind bits 64 width (ap plus_width e)))
-    (λ (other' : kind ≢ R_RISCV_ADD64). let f : false
-    ≡ true = rw (ne_eqb kind R_RISCV_ADD32 other, ne_eqb kind R_RISCV_ADD64 other') at is in absurd (cc))
-    (cases_eq kind R_RISCV_ADD64))
-    (cases_eq kind R_RISCV_ADD32)

@@ -111,16 +111,6 @@ run-last file runs now run is =
     ∙ ap (λ (es : List Relocation). entries file runs ++ es)
     (flat_map-cons (run_entries file) run [] ∙ append-nil (run_entries file run))
 
-no-spans : (file : List ℕ) (phase a : ℕ) (sections : List Section) → spans file sections phase a 0 ≡ []
-no-spans file phase a [] = refl
-no-spans file phase a (s ∷ ss) = flat_map-cons (span file phase a 0) s ss ∙ no-spans file phase a ss
-
-pub run-none : (file : List ℕ) (run : EntryRun) → run.end ≤ run.first → run_entries file run ≡ []
-run-none file run none =
-    let zero_left : run.end - run.first ≡ 0 = omega arith in
-    ap (λ (n : ℕ). spans file (sections_of run.applies_to) run.phase run.first n) zero_left
-    ∙ no-spans file run.phase run.first (sections_of run.applies_to)
-
 pub span-next : (file : List ℕ) (phase a end : ℕ) (s : Section) → a < end →
     span file phase a (end - a) s ≡ entry file phase s a ∷ span file phase (a + 1) (end - (a + 1)) s
 span-next file phase a end s below =

@@ -6,13 +6,6 @@ use Rattle.std.proofs.lemmas.Bool.{cases_lt}
 use Rattle.std.proofs.lemmas.List.{get_or_default}
 use Rattle.rv_reloc.specs.declared.lows.Low.{Low}
 
-pub first_none : (lows : List Low) (hi n : ℕ) (l : Low) → n ≡ length lows →
-    ((k : ℕ) (d : Low) → k < n → (slice_index_or lows k d).hi < hi) → Contains lows l → l.hi ≡ hi → ⊥
-first_none lows hi n l all below (k, within, there) same =
-    let low = below k l (omega arith) in
-    let at = ap (λ (m : Low). m.hi) there in
-    omega arith
-
 pub first_other : (lows : List Low) (hi n : ℕ) (l first : Low) → IsNonDecreasingBy (λ m. m.hi) lows →
     ((k : ℕ) (d : Low) → k < n → (slice_index_or lows k d).hi < hi) → n < length lows → first ≡ slice_index_or lows n first →
     hi ≤ first.hi → first.hi ≢ hi → Contains lows l → l.hi ≡ hi → ⊥

@@ -102,9 +102,6 @@ parted place label items ordered i j d upto within is =
 
 -- Looking a label up.
 
-both_upto : (a b : ℤ) → a ≤ℤ b → b ≤ℤ a → (b <ℤ a → ⊥)
-both_upto a b one other less = not_both a b one less
-
 pub listed-first : (items : List SlotLabel) (place : ℕ) (label : ℤ) (n : ℕ) →
     AllPairs (λ s t. IsLabelFrom s.place s.label t) items →
     n ≤ length items → ((k : ℕ) (d : SlotLabel) → k < n → IsLabelBelow place label (slice_index_or items k d)) →

@@ -1,5 +1,5 @@
 -- Numbers in LEB128 in memory, from one of their bytes on.
-use Rattle.std.proofs.Common.{◌≡◌, ◌≢◌, ◌∙◌, sym, ap, subst, refl, ℕ, zero, suc, ◌+◌, ◌*◌, ◌/◌, ◌%◌, ◌^◌, ◌<◌, ◌≤◌, ℤ, pos}
+use Rattle.std.proofs.Common.{◌≡◌, ◌∙◌, sym, ap, subst, refl, ℕ, zero, suc, ◌+◌, ◌*◌, ◌/◌, ◌%◌, ◌^◌, ◌<◌, ◌≤◌, ℤ, pos}
 use Rattle.std.proofs.Common.{negsuc, ◌⊎◌, ⊎_elim, ◌↔◌, Bool, true, false, IsTrue, IsSome, IsSomeAnd, List, [], ◌∷◌, length}
 use Rattle.std.proofs.Common.{Option, Some, None, if◌then◌else◌, arith}
 use Rattle.std.specs.Option.{option_map}
@@ -205,39 +205,7 @@ tail-more elf a b t u byte high next end zeros ones =
 pub tail-never : (elf : Elf) (a b : ℕ) → byte_at elf a ≡ Some b → 128 ≤ b → TailAt elf (a + 1) None → TailAt elf a None
 tail-never elf a b byte high next = no_tail (never-more elf a b byte (le-ltb b 128 high) (no_tail_of next))
 
--- the place of a tail that ends in so many bytes
-pub tail-bytes : (elf : Elf) (a : ℕ) (t : LebRest) → TailAt elf a (Some t) →
-    (bs : List ℕ) × AreLebBytes elf a bs × (t.end ≡ a + length bs)
-tail-bytes elf a t at = let is = tail_of t at in (is.bytes, is.are, is.end)
-
-pub no_tail-never : (elf : Elf) (a n : ℕ) → TailAt elf a None → leb_at elf a n ≡ None
-no_tail-never elf a n at = no_tail_of at n
-
 -- Bits.
-
-pub zeros-hold : (elf : Elf) (a : ℕ) (t : LebRest) (bs : List ℕ) (z : ℤ) → TailAt elf a (Some t) → AreLebBytes elf a bs →
-    z ≡ pos 0 →
-    IsTrue t.is_zeros ↔ HoldBits bs z
-zeros-hold elf a t bs z at are is =
-    let tail = tail_of t at in
-    let same = bytes-once elf a tail.bytes bs tail.are are in
-    subst (λ (y : ℤ). IsTrue t.is_zeros ↔ HoldBits bs y) (sym is)
-    (subst (λ (cs : List ℕ). IsTrue t.is_zeros ↔ HoldBits cs (pos 0)) same tail.zeros)
-
-minus_one : (z : ℤ) → magnitude z ≡ 0 → z ≢ pos 0 → z ≡ negsuc 0
-minus_one (pos n) small other = absurd (other (ap pos small))
-minus_one (negsuc n) small other = ap negsuc small
-
-pub ones-hold : (elf : Elf) (a : ℕ) (t : LebRest) (bs : List ℕ) (z : ℤ) → TailAt elf a (Some t) →
-    AreLebBytes elf a bs → magnitude z ≡ 0 → z ≢ pos 0 → IsTrue t.is_ones ↔ HoldBits bs z
-ones-hold elf a t bs z at are small other =
-    let tail = tail_of t at in
-    let same = bytes-once elf a tail.bytes bs tail.are are in
-    subst (λ (y : ℤ). IsTrue t.is_ones ↔ HoldBits bs y) (sym (minus_one z small other))
-    (subst (λ (cs : List ℕ). IsTrue t.is_ones ↔ HoldBits cs (negsuc 0)) same tail.ones)
-
-pub no_tail-hold : (elf : Elf) (a : ℕ) (bs : List ℕ) → TailAt elf a None → AreLebBytes elf a bs → ⊥
-no_tail-hold elf a bs at are = never-bytes elf a bs are (no_tail_of at)
 
 pub first-bits : (elf : Elf) (a b : ℕ) (bs : List ℕ) (z : ℤ) → AreLebBytes elf a bs → byte_at elf a ≡ Some b → HoldBits bs z →
     b % 128 ≡ low_bits z

@@ -22,7 +22,6 @@ mod FieldsFound
 mod Finds
 mod FirstLow
 mod FirstRoles
-mod Frees
 mod InstructionFields
 mod Kept
 mod Keys
@@ -36,7 +35,6 @@ mod LowLists
 mod MisfitCases
 mod NamedLists
 mod Only
-mod Options
 mod Ordered
 mod PairTargets
 pub mod Places

@@ -1,5 +1,5 @@
 -- The sweep over the fields that can be cells.
-use Rattle.std.proofs.Common.{◌≡◌, ◌∙◌, sym, subst, ap, refl, ℕ, ◌+◌, ◌<◌, ◌≤◌, ◌⊎◌, inl, inr, ⊎_elim, Bool, true, false, not}
+use Rattle.std.proofs.Common.{◌≡◌, ◌∙◌, sym, subst, ap, refl, ℕ, ◌+◌, ◌<◌, ◌≤◌, ◌⊎◌, inl, inr, ⊎_elim, true, false}
 use Rattle.std.proofs.Common.{List, [], ◌∷◌, ◌++◌, length, slice_index_or, arith}
 use Rattle.std.proofs.lemmas.Int.{ints}
 use Rattle.std.proofs.lemmas.List.{get_or_default}
@@ -10,14 +10,10 @@ use Rattle.std.proofs.lemmas.List.Quantifiers.{all_pairs_push}
 use Rattle.elf_image.specs.declared.elf.Elf.{Elf}
 use Rattle.elf_code.specs.Cells.{Field, Content, Address, Difference, CanBeCell, Counts, counts, gives_way, IsContentBefore}
 use Rattle.elf_code.specs.Cells.{IsFieldBefore}
+use Rattle.elf_code.proofs.Counts.{can_of, no_both}
 use Rattle.rv_reloc.specs.CountedFields.{IsFieldUpTo, AreCandidates, AreCounted}
 
 -- The order is strict.
-
-content_once : (c : Content) → IsContentBefore c c → ⊥
-content_once (Address to) is = is
-content_once (Difference to from) (inl less) = omega (arith, ints)
-content_once (Difference to from) (inr (same, less)) = omega (arith, ints)
 
 content_one_way : (c d : Content) → IsContentBefore c d → IsContentBefore d c → ⊥
 content_one_way (Address to) (Address to') is back = is
@@ -48,17 +44,8 @@ not_above f g (inr (same, rest)) = omega arith
 
 -- No field both counts and doesn't.
 
-can_be : {elf : Elf} {tabled : List (ℕ × ℕ)} (g : Field) → Counts elf tabled g true → CanBeCell elf tabled g
-can_be g (counts _ can others) = can
-
-once : {elf : Elf} {tabled : List (ℕ × ℕ)} (f : Field) (b : Bool) → Counts elf tabled f b → Counts elf tabled f (not b) → ⊥
-once f true (counts _ can others) (gives_way _ g can' before share wins) =
-    once g false (others g (can_be g wins) before share) wins
-once f false (gives_way _ g can' before share wins) (counts _ can others) =
-    once g true wins (others g (can_be g wins) before share)
-
 pub counts_once : {elf : Elf} {tabled : List (ℕ × ℕ)} (f : Field) → Counts elf tabled f true → Counts elf tabled f false → ⊥
-counts_once f wins gives = once f true wins gives
+counts_once f wins gives = no_both f true wins gives
 
 -- The sweep.
 
@@ -195,7 +182,7 @@ pub IsSweptTo-all : (elf : Elf) (tabled : List (ℕ × ℕ)) (fields kept : List
 IsSweptTo-all elf tabled fields kept i reach are all to = record {
   only = to.counted;
   each = λ f wins.
-      let (k, within, there) = are.each f (can_be f wins) in
+      let (k, within, there) = are.each f (can_of wins) in
       ⊎_elim (λ is_in. is_in) (λ gives. absurd (counts_once f wins gives)) (to.judged f (k, omega arith, there));
   ordered = to.ordered;
 }

@@ -5,6 +5,7 @@ use Rattle.std.specs.List.{Contains}
 use Rattle.std.specs.Prelude.{option_map}
 use Rattle.std.proofs.lemmas.Bool.{cases_lt}
 use Rattle.rb_bytes.proofs.ListLemmas.{from_map}
+use Rattle.rb_bytes.proofs.Options.{the_some}
 use Rattle.elf_image.specs.declared.elf.Elf.{Elf}
 use Rattle.elf_image.specs.declared.section.Section.{Section}
 use Rattle.elf_image.specs.faults.LowestPlace.{IsLowest}
@@ -52,18 +53,14 @@ module _ (elf : Elf) (s t : Section) (r : Relocation) (sooner : end_of t ≤ end
   size-more : (n : ℕ) → field_size elf (for_section t r) ≡ Some n → field_size elf (for_section s r) ≡ Some n
   size-more n is = by-more (plus_width r.kind) (minus_width r.kind) n is
 
-some_and : {A : Type 0} (P : A → Type 0) (o : Option A) → IsSomeAnd o P → (x : A) × (o ≡ Some x) × P x
-some_and P None is = absurd is
-some_and P (Some x) is = (x, refl, is)
-
 field-between : (elf : Elf) (s t : Section) (r : Relocation) → r.section.addr ≤ s.addr → end_of t ≤ end_of r.section →
     HasField elf (for_section s r) → HasField elf (for_section t r) → HasField elf r
 field-between elf s t r starts ends (inl ignored) there = inl ignored
 field-between elf s t r starts ends (inr is) (inl ignored) = inl ignored
 field-between elf s t r starts ends (inr is) (inr is') =
-    let (n, size, (low, high)) = some_and (λ size. (s.addr ≤ r.place) × (r.place + size ≤ s.addr + s.size))
+    let (n, size, (low, high)) = the_some (λ size. (s.addr ≤ r.place) × (r.place + size ≤ s.addr + s.size))
     (field_size elf (for_section s r)) is in
-    let (m, size', (low', high')) = some_and (λ size. (t.addr ≤ r.place) × (r.place + size ≤ t.addr + t.size))
+    let (m, size', (low', high')) = the_some (λ size. (t.addr ≤ r.place) × (r.place + size ≤ t.addr + t.size))
     (field_size elf (for_section t r)) is' in
     inr (subst (λ (o : Option ℕ). IsSomeAnd o (λ size. (r.section.addr ≤ r.place) × (r.place + size ≤ end_of r.section)))
     (sym (size-more elf r.section t r ends m size')) (omega (arith, starts, low), omega (arith, ends, high')))

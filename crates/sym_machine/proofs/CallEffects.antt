@@ -39,12 +39,6 @@ arguments_found s rest b is =
     three_are s rest (number (s.registers a0)) (number (s.registers a1)) (number (s.registers a2))
     ∙ ap (λ o. needs s reason.CallArg o (with_buffer rest)) is
 
-pub arguments_missing : (s : SymState) (rest : ℕ → ℕ → ℕ → SymOutcome) → buffer_in s.registers ≡ None →
-    three_arguments s rest ≡ Halts s.pc reason.CallArg
-arguments_missing s rest is =
-    three_are s rest (number (s.registers a0)) (number (s.registers a1)) (number (s.registers a2))
-    ∙ ap (λ o. needs s reason.CallArg o (with_buffer rest)) is
-
 pub called : (s : SymState) (next n : ℕ) (call : Call) → number (s.registers a7) ≡ Some n → call_of n ≡ call →
     argument s a7 (λ m. calls s next m (call_of m)) ≡ calls s next n call
 called s next n call is call_is = rw (is, call_is) refl

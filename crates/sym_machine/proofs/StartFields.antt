@@ -5,7 +5,7 @@ use Rattle.std.specs.Prelude.{◌&&◌, ◌||◌, ◌==◌, nat_le, nat_lt, min,
 use Rattle.std.specs.List.{list_any, enumerate_from}
 use Rattle.std.specs.Option.{option_and_then, option_map_or}
 use Rattle.std.proofs.lemmas.List.{take_more}
-use Rattle.std.proofs.lemmas.Bool.{and_parts, and_from, leb-true, ltb-true, lt-ltb, le-leb}
+use Rattle.std.proofs.lemmas.Bool.{and_parts, and_from, leb-true, ltb-true, lt-ltb, le-leb, or_cases}
 use Rattle.elf_image.specs.declared.elf.Elf.{Elf}
 use Rattle.elf_image.specs.declared.segment.Segment.{Segment}
 use Rattle.elf_image.specs.memory.Image.{is_load, has_memory, end_of, loads_address, segment_of}
@@ -51,16 +51,12 @@ segment_low segments p i low one load within =
 
 -- Hidden fields lie in the headers.
 
-or_cases : (a b : Bool) → (a || b) ≡ true → (a ≡ true) ⊎ (b ≡ true)
-or_cases true b e = inl refl
-or_cases false b e = inr e
-
 -- an offset lies in the headers of a file with so many segments
 data IsInTables (elf : Elf) (n o : ℕ) : Type 0 where
   header : o < header_size → IsInTables elf n o
   table : elf.phoff ≤ o → o < elf.phoff + PHDR_SIZE * n → IsInTables elf n o
 
-in_range : (o : ℕ) (range : Range) → is_in_range o range ≡ true → (range.start ≤ o) × (o < range.start + range.size)
+pub in_range : (o : ℕ) (range : Range) → is_in_range o range ≡ true → (range.start ≤ o) × (o < range.start + range.size)
 in_range o range is =
     let parts = and_parts (nat_le range.start o) (nat_lt o (range.start + range.size)) is in
     (leb-true range.start o parts.0, ltb-true o (range.start + range.size) parts.1)

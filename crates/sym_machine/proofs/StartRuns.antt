@@ -34,33 +34,3 @@ run_more x y old from i q same = cases (q == from + i) refl
                 rw (in_run-past from (from + i) q after, in_run-past from (from + (i + 1)) q (omega (arith, apart))) refl
           ]
         ]
-
--- the same where only some are hidden
-pub hidden_more : {A : Type 0} (x old : Option A) (h : Bool) (from i q : ℕ) →
-    (if (q == from + i) && h then x else (if (nat_le from q && nat_lt q (from + i)) && h then x else old))
-    ≡ (if (nat_le from q && nat_lt q (from + (i + 1))) && h then x else old)
-hidden_more {A} x old true from i q = and_true (q == from + i) (nat_le from q && nat_lt q (from + i))
-    (nat_le from q && nat_lt q (from + (i + 1))) (run_more x x old from i q (λ here. refl))
-  where
-    and_true : (a b c : Bool) → (if a then x else (if b then x else old)) ≡ (if c then x else old) →
-        (if a && true then x else (if b && true then x else old)) ≡ (if c && true then x else old)
-    and_true true true true e = e
-    and_true true true false e = e
-    and_true true false true e = e
-    and_true true false false e = e
-    and_true false true true e = e
-    and_true false true false e = e
-    and_true false false true e = e
-    and_true false false false e = e
-hidden_more {A} x old false from i q =
-    and_false (q == from + i) (nat_le from q && nat_lt q (from + i)) (nat_le from q && nat_lt q (from + (i + 1)))
-  where
-    and_false : (a b c : Bool) → (if a && false then x else (if b && false then x else old)) ≡ (if c && false then x else old)
-    and_false true true true = refl
-    and_false true true false = refl
-    and_false true false true = refl
-    and_false true false false = refl
-    and_false false true true = refl
-    and_false false true false = refl
-    and_false false false true = refl
-    and_false false false false = refl

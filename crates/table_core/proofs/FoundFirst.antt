@@ -1,5 +1,6 @@
 -- What is found in a list by an index of the ranges of its items.
-use Rattle.std.proofs.Common.{ℕ, suc, ◌+◌, ◌≡◌, List, [], ◌∷◌, Option, Some, None, Bool, true, false, cond, refl, sym, ◌∙◌, ap, map, option_map, arith}
+use Rattle.std.proofs.Common.{ℕ, suc, ◌+◌, ◌≡◌, List, [], ◌∷◌, Option, Some, None, Bool, true, false, cond, refl, sym, ◌∙◌, ap, map}
+use Rattle.std.proofs.Common.{option_map, arith}
 use Rattle.std.specs.Prelude.{find, position, slice_get, option_and_then}
 use Rattle.std.specs.List.{position_from}
 use Rattle.std.proofs.lemmas.Iterator.Adapters.{position_from-zero}
@@ -17,7 +18,8 @@ position_from-suc p n (x ∷ xs) = by (p x) (position_from-suc p (n + 1) xs)
     by true e = ap Some (grind arith)
     by false e = e
 
-position_from-map : {X Y : Type 0} (p : Y → Bool) (f : X → Y) (n : ℕ) (xs : List X) → position_from p n (map f xs) ≡ position_from (λ x. p (f x)) n xs
+position_from-map : {X Y : Type 0} (p : Y → Bool) (f : X → Y) (n : ℕ) (xs : List X) →
+    position_from p n (map f xs) ≡ position_from (λ x. p (f x)) n xs
 position_from-map p f n [] = refl
 position_from-map p f n (x ∷ xs) = ap (cond (p (f x)) (Some n)) (position_from-map p f (n + 1) xs)
 

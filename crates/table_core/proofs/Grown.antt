@@ -4,6 +4,7 @@ use Rattle.std.proofs.Common.{option_map, cond, leb, ltb, ◌&&◌, Bool, true, 
 use Rattle.std.proofs.lemmas.Bool.Decides.{nat_tests}
 use Rattle.std.specs.Prelude.{option_and_then}
 use Rattle.std.specs.Option.{option_or}
+use Rattle.rb_bytes.proofs.Options.{mapped_or}
 use Rattle.addr_map.specs.declared.span.Span.{Span}
 use Rattle.table_core.specs.CarriedAnswers.{Agree, IsCarried}
 use Rattle.table_core.specs.declared.run.Run.{Run}
@@ -127,14 +128,16 @@ last-room lo (x ∷ y ∷ zs) t n m w lt = last-room (x.start + x.len) (y ∷ zs
 
 -- the last run by its index
 
-pub last-get : {A : Type 0} (P : Run A → Type 0) (xs : List (Run A)) (k : ℕ) (r : Run A) → k + 1 ≡ length xs → r ≡ get_or xs k r → P r → IfLast P xs
+pub last-get : {A : Type 0} (P : Run A → Type 0) (xs : List (Run A)) (k : ℕ) (r : Run A) → k + 1 ≡ length xs → r ≡ get_or xs k r → P r →
+    IfLast P xs
 last-get P [] k r end is h = tt
 last-get P (x ∷ []) zero r end is h = subst P is h
 last-get P (x ∷ []) (suc k) r end is h = absurd (omega arith)
 last-get P (x ∷ y ∷ zs) zero r end is h = absurd (omega arith)
 last-get P (x ∷ y ∷ zs) (suc k) r end is h = last-get P (y ∷ zs) k r (omega arith) is h
 
-pub get-last : {A : Type 0} (P : Run A → Type 0) (xs : List (Run A)) (k : ℕ) (r : Run A) → k + 1 ≡ length xs → r ≡ get_or xs k r → IfLast P xs → P r
+pub get-last : {A : Type 0} (P : Run A → Type 0) (xs : List (Run A)) (k : ℕ) (r : Run A) → k + 1 ≡ length xs → r ≡ get_or xs k r →
+    IfLast P xs → P r
 get-last P [] k r end is h = absurd (omega arith)
 get-last P (x ∷ []) zero r end is h = subst P (sym is) h
 get-last P (x ∷ []) (suc k) r end is h = absurd (omega arith)
@@ -174,14 +177,11 @@ said-ends f [] t = refl
 said-ends f (x ∷ []) t = refl
 said-ends f (x ∷ y ∷ zs) t = said-ends f (y ∷ zs) t
 
-pub said-last : {A M : Type 0} (f : A → M) (P : M → Type 0) (xs : List (Run A)) → IfLast (λ r. P (f r.answer)) xs → IfLast (λ r. P r.answer) (said_runs f xs)
+pub said-last : {A M : Type 0} (f : A → M) (P : M → Type 0) (xs : List (Run A)) → IfLast (λ r. P (f r.answer)) xs →
+    IfLast (λ r. P r.answer) (said_runs f xs)
 said-last f P [] h = tt
 said-last f P (x ∷ []) h = h
 said-last f P (x ∷ y ∷ zs) h = said-last f P (y ∷ zs) h
-
-said_or : {A M : Type 0} (f : A → M) (a b : Option A) → option_map f (option_or a b) ≡ option_or (option_map f a) (option_map f b)
-said_or f (Some x) b = refl
-said_or f None b = refl
 
 said_if : {A M : Type 0} (f : A → M) (b : Bool) (x : A) → option_map f (cond b (Some x) None) ≡ cond b (Some (f x)) None
 said_if f true x = refl
@@ -190,7 +190,7 @@ said_if f false x = refl
 pub said_at : {A M : Type 0} (f : A → M) (rs : List (Run A)) (p : ℕ) → option_map f (run_at rs p) ≡ run_at (said_runs f rs) p
 said_at f [] p = refl
 said_at f (r ∷ rs) p =
-    said_or f (answer_in r p) (run_at rs p)
+    mapped_or f (answer_in r p) (run_at rs p)
     ∙ ap (λ o. option_or o (option_map f (run_at rs p))) (said_if f (leb r.start p && ltb p (r.start + r.len)) r.answer)
     ∙ ap (option_or (answer_over r.start r.len (f r.answer) p)) (said_at f rs p)
 

@@ -8,3 +8,5 @@ pub mod FoundFirst
 pub mod OnlyWeights
 pub mod Numbers
 pub mod SameLists
+pub mod Pigeonhole
+pub mod RunStarts

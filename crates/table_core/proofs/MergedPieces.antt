@@ -1,5 +1,6 @@
 -- Pieces put together, and what they say at an address.
-use Rattle.std.proofs.Common.{ℕ, zero, suc, ◌+◌, ◌-◌, ◌≤◌, ◌<◌, ◌≡◌, List, [], ◌∷◌, ◌++◌, Option, Some, None, Bool, true, false, cond, leb, ltb, ◌&&◌}
+use Rattle.std.proofs.Common.{ℕ, zero, suc, ◌+◌, ◌-◌, ◌≤◌, ◌<◌, ◌≡◌, List, [], ◌∷◌, ◌++◌, Option, Some, None, Bool, true, false, cond}
+use Rattle.std.proofs.Common.{leb, ltb, ◌&&◌}
 use Rattle.std.proofs.Common.{refl, sym, ◌∙◌, ap, subst, arith, length, take, get_or}
 use Rattle.std.specs.List.{position_from}
 use Rattle.std.specs.List.Sorted.{IsNonDecreasingBy}
@@ -7,7 +8,7 @@ use Rattle.std.specs.Option.{option_or}
 use Rattle.std.proofs.lemmas.Bool.{leb-true}
 use Rattle.std.proofs.lemmas.Bool.Decides.{nat_tests}
 use Rattle.std.proofs.lemmas.Grind.{common_steps}
-use Rattle.std.proofs.lemmas.List.{take_more, take_all, get_or_default}
+use Rattle.std.proofs.lemmas.List.{take_more, get_or_default}
 use Rattle.std.proofs.lemmas.List.Sorted.{IsNonDecreasingBy-push, IsNonDecreasingBy-short}
 use Rattle.table_core.specs.declared.range.Range.{Range}
 use Rattle.table_core.specs.declared.pieces.Piece.{Piece}
@@ -20,7 +21,8 @@ unfolding under
 under-more before [] p a = refl
 under-more before (q ∷ ps) p a = under-more (cond (leb q.start a) q.first before) ps p a
 
-none_started : (before : Option ℕ) (ps : List Piece) (a : ℕ) → ((k : ℕ) (d : Piece) → k < length ps → a < (get_or ps k d).start) → under before ps a ≡ before
+none_started : (before : Option ℕ) (ps : List Piece) (a : ℕ) → ((k : ℕ) (d : Piece) → k < length ps → a < (get_or ps k d).start) →
+    under before ps a ≡ before
 unfolding under
 none_started before [] a later = refl
 none_started before (p ∷ ps) a later =
@@ -29,7 +31,8 @@ none_started before (p ∷ ps) a later =
     ap (λ b. under (cond b p.first before) ps a) not ∙ none_started before ps a (λ k d lt. later (suc k) d (omega arith))
 
 -- what is found by the count of the pieces that have started
-pub under_none : (ps : List Piece) (a : ℕ) → ((k : ℕ) (d : Piece) → 0 ≤ k → k < length ps → a < (get_or ps k d).start) → under None ps a ≡ None
+pub under_none : (ps : List Piece) (a : ℕ) → ((k : ℕ) (d : Piece) → 0 ≤ k → k < length ps → a < (get_or ps k d).start) →
+    under None ps a ≡ None
 under_none ps a later = none_started None ps a (λ k d lt. later k d (omega arith) lt)
 
 pub under_last : (before : Option ℕ) (ps : List Piece) (i a : ℕ) (d : Piece) → i < length ps → (get_or ps i d).start ≤ a
@@ -52,7 +55,8 @@ one_range r low number a is some = rw is (grind (arith, nat_tests))
 pub no_range : (r : Range) (number a : ℕ) → r.high ≤ r.low → None ≡ cond (leb r.low a && ltb a r.high) (Some number) None
 no_range r number a none = grind (arith, nat_tests)
 
-pub no_ranges : {X : Type 0} (p : X → Bool) (ps : List Piece) (xs : List X) (n a : ℕ) → ps ≡ [] → length xs ≡ 0 → under None ps a ≡ position_from p n xs
+pub no_ranges : {X : Type 0} (p : X → Bool) (ps : List Piece) (xs : List X) (n a : ℕ) → ps ≡ [] → length xs ≡ 0 →
+    under None ps a ≡ position_from p n xs
 unfolding under
 no_ranges p [] [] n a e l = refl
 no_ranges p [] (x ∷ xs) n a e l = absurd (omega arith)
@@ -65,8 +69,10 @@ position-append p n [] ys = ap (λ k. position_from p k ys) (grind arith)
 position-append {X} p n (x ∷ xs) ys = by (p x)
     (position-append p (n + 1) xs ys ∙ ap (λ k. option_or (position_from p (n + 1) xs) (position_from p k ys)) (grind arith))
   where
-    by : (b : Bool) → position_from p (n + 1) (xs ++ ys) ≡ option_or (position_from p (n + 1) xs) (position_from p (n + length (x ∷ xs)) ys)
-        → cond b (Some n) (position_from p (n + 1) (xs ++ ys)) ≡ option_or (cond b (Some n) (position_from p (n + 1) xs)) (position_from p (n + length (x ∷ xs)) ys)
+    by : (b : Bool) → position_from p (n + 1) (xs ++ ys) ≡ option_or (position_from p (n + 1) xs)
+        (position_from p (n + length (x ∷ xs)) ys)
+        → cond b (Some n) (position_from p (n + 1) (xs ++ ys)) ≡ option_or (cond b (Some n) (position_from p (n + 1) xs))
+        (position_from p (n + length (x ∷ xs)) ys)
     by true e = refl
     by false e = e
 
@@ -80,7 +86,8 @@ pub none_taken : (ps : List Piece) → IsTaken ps 0 0 None
 unfolding under
 none_taken ps = record { bound = omega arith; now = λ a le. refl; next = λ k d le lt. omega arith }
 
-pub taken_more : (ps : List Piece) (i start : ℕ) (x : Option ℕ) (d : Piece) → IsNonDecreasingBy (λ p. p.start) ps → IsTaken ps i start x → i < length ps
+pub taken_more : (ps : List Piece) (i start : ℕ) (x : Option ℕ) (d : Piece) → IsNonDecreasingBy (λ p. p.start) ps → IsTaken ps i start x →
+    i < length ps
     → IsTaken ps (i + 1) (get_or ps i d).start (get_or ps i d).first
 taken_more ps i start x d rises taken lt = record {
   bound = omega arith;
@@ -96,7 +103,8 @@ taken_more ps i start x d rises taken lt = record {
         subst (λ (p : Piece). p.start ≤ (get_or ps k e).start) (get_or_default ps i e d lt) up
 
 -- those of another list stay, where its next piece starts no later
-pub taken_same : (ps qs : List Piece) (i j start : ℕ) (y : Option ℕ) (d : Piece) → IsNonDecreasingBy (λ p. p.start) qs → IsTaken qs j start y
+pub taken_same : (ps qs : List Piece) (i j start : ℕ) (y : Option ℕ) (d : Piece) → IsNonDecreasingBy (λ p. p.start) qs →
+    IsTaken qs j start y
     → IsNext ps i qs j → start ≤ (get_or ps i d).start → IsTaken qs j (get_or ps i d).start y
 taken_same ps qs i j start y d rises taken first up = record {
   bound = taken.bound;
@@ -188,10 +196,3 @@ module _ (front back pieces : List Piece) (i j start : ℕ) (x y : Option ℕ) (
           let low : (get_or back j d).start ≤ a = leb-true _ _ (sym is) in
           ap (λ o. option_or o (get_or back j d).first) (sym (merged.in_front.now a (omega (arith, low, up))))
       by a false is = merged.found a
-
--- all of both
-pub all_merged : (front back pieces : List Piece) (i j start : ℕ) (x y : Option ℕ) → AreMerged front back pieces i j start x y
-    → length front ≤ i → length back ≤ j → (a : ℕ) → under None pieces a ≡ option_or (under None front a) (under None back a)
-all_merged front back pieces i j start x y merged f b a =
-    merged.found a ∙ ap (λ l. option_or (under None l a) (under None (take j back) a)) (take_all i front f)
-    ∙ ap (λ l. option_or (under None front a) (under None l a)) (take_all j back b)

@@ -28,7 +28,8 @@ owner-more [] s p = one (has_byte p s)
     one false = refl
 owner-more (x ∷ xs) s p = more (has_byte p x) (owner-more xs s p)
   where
-    more : (b : Bool) → owner (xs ++ s ∷ []) p ≡ option_or (owner xs p) (owns s p) → option_map (λ (t : Span). t.input) (cond b (Some x) (find (has_byte p) (xs ++ s ∷ [])))
+    more : (b : Bool) → owner (xs ++ s ∷ []) p ≡ option_or (owner xs p) (owns s p) →
+        option_map (λ (t : Span). t.input) (cond b (Some x) (find (has_byte p) (xs ++ s ∷ [])))
         ≡ option_or (option_map (λ (t : Span). t.input) (cond b (Some x) (find (has_byte p) xs))) (owns s p)
     more true e = refl
     more false e = e
@@ -42,7 +43,8 @@ apart_owner [] s p apart has = refl
 apart_owner (x ∷ xs) s p apart has =
     step (has_byte p x) refl (apart_owner xs s p (λ k d lt. apart (suc k) d (omega arith)) has)
   where
-    step : (b : Bool) → b ≡ has_byte p x → owner xs p ≡ None → option_map (λ (t : Span). t.input) (cond b (Some x) (find (has_byte p) xs)) ≡ None
+    step : (b : Bool) → b ≡ has_byte p x → owner xs p ≡ None → option_map (λ (t : Span). t.input) (cond b (Some x) (find (has_byte p) xs))
+        ≡ None
     step true e rest = absurd (apart 0 x (omega arith) p (sym e) has)
     step false e rest = rest
 
@@ -65,14 +67,6 @@ pub record AreMade {A : Type 0} (says : ℕ → Option A) (map : List Span) (i :
   pub before : (k : ℕ) (t : Span) → i ≤ k → slice_get map k ≡ Some t → 0 < t.len → IsWithin 0 runs t.out
   pub below : IsWithin 0 runs (2 ^ 64 - 1)
   pub longest : AreLongest runs
-
-pub made_none : {A : Type 0} (says : ℕ → Option A) (map : List Span) → AreMade says map 0 []
-made_none says map = record {
-  answered = λ p. refl;
-  before = λ k t le at some. omega arith;
-  below = omega arith;
-  longest = tt;
-}
 
 module _ {A : Type 0} (says : ℕ → Option A) (map : List Span) (ordered : AllPairs IsLineBefore map) (disjoint : AllPairs ShareNoByte map)
     (i : ℕ) (s : Span) (at : slice_get map i ≡ Some s) where

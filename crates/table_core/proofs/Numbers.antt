@@ -1,5 +1,6 @@
 -- The number in the bytes that were taken.
-use Rattle.std.proofs.Common.{◌≡◌, ◌≤◌, ◌<◌, ◌+◌, ◌*◌, ℕ, zero, suc, List, Bool, true, false, cond, Ok, Err, Result, refl, ap, sym, ◌∙◌, arith, take, drop, length, nat_lt, get_or, get_or-take}
+use Rattle.std.proofs.Common.{◌≡◌, ◌≤◌, ◌<◌, ◌+◌, ◌*◌, ℕ, zero, suc, List, Bool, true, false, cond, Ok, Err, Result, refl, ap, sym, ◌∙◌}
+use Rattle.std.proofs.Common.{arith, take, drop, length, nat_lt, get_or, get_or-take}
 use Rattle.byteorder.specs.Endian.{little_from, little_number}
 use Rattle.rb_bytes.specs.declared.gap.Gap.{Gap}
 use Rattle.rb_bytes.specs.declared.gap.Gap.TheVariants.{Short}

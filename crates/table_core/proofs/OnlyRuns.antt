@@ -3,22 +3,20 @@ use Rattle.std.proofs.Common.{ℕ, List, [], ◌∷◌, Option, Some, None, ◌+
 use Rattle.std.proofs.Common.{arith}
 use Rattle.std.proofs.lemmas.Bool.{cases_lt}
 use Rattle.std.proofs.lemmas.Bool.Decides.{nat_tests}
+use Rattle.std.proofs.lemmas.Option.{same_Some}
 use Rattle.std.specs.Option.{option_or}
 use Rattle.table_core.specs.declared.run.Run.{Run}
 use Rattle.table_core.specs.AnswerRuns.{answer_in, run_at, IsWithin, AreLongest, AreRunsOf}
+use Rattle.table_core.proofs.Grown.{within-up}
 
-within-end : {A : Type 0} (lo : ℕ) (rs : List (Run A)) (hi : ℕ) → IsWithin lo rs hi → lo ≤ hi
-within-end lo [] hi w = w
-within-end lo (r ∷ rs) hi w = let h = within-end (r.start + r.len) rs hi w.2 in omega (arith, h, w.0)
-
-outside : {A : Type 0} (r : Run A) (p : ℕ) → (p < r.start) ⊎ (r.start + r.len ≤ p) → answer_in r p ≡ None
+pub outside : {A : Type 0} (r : Run A) (p : ℕ) → (p < r.start) ⊎ (r.start + r.len ≤ p) → answer_in r p ≡ None
 outside r p (inl below) = grind (arith, nat_tests)
 outside r p (inr above) = grind (arith, nat_tests)
 
-inside : {A : Type 0} (r : Run A) (p : ℕ) → r.start ≤ p → p < r.start + r.len → answer_in r p ≡ Some r.answer
+pub inside : {A : Type 0} (r : Run A) (p : ℕ) → r.start ≤ p → p < r.start + r.len → answer_in r p ≡ Some r.answer
 inside r p le lt = grind (arith, nat_tests)
 
-before : {A : Type 0} (lo : ℕ) (rs : List (Run A)) (hi p : ℕ) → IsWithin lo rs hi → p < lo → run_at rs p ≡ None
+pub before : {A : Type 0} (lo : ℕ) (rs : List (Run A)) (hi p : ℕ) → IsWithin lo rs hi → p < lo → run_at rs p ≡ None
 before lo [] hi p w lt = refl
 before lo (r ∷ rs) hi p w lt =
     ap (λ o. option_or o (run_at rs p)) (outside r p (inl (omega (arith, w.0, lt))))
@@ -30,21 +28,21 @@ head r rs p le lt = ap (λ o. option_or o (run_at rs p)) (inside r p le lt)
 differ : {A : Type 0} (x : A) → ◌≡◌ {A = Option A} None (Some x) → ⊥
 differ x e = cc
 
-same : {A : Type 0} (x y : A) → Some x ≡ Some y → x ≡ y
-same x y e = cc
-
 -- behind a run that is as long as it can be there is another answer, or none
 module _ {A : Type 0} (r : Run A) (rs : List (Run A)) (lo hi : ℕ) (w : IsWithin lo (r ∷ rs) hi) (longest : AreLongest (r ∷ rs)) where
   pub ends : run_at (r ∷ rs) (r.start + r.len) ≡ Some r.answer → ⊥
-  ends e = at_end rs w.2 longest (sym (ap (λ o. option_or o (run_at rs (r.start + r.len))) (outside r (r.start + r.len) (inr (omega arith)))) ∙ e)
+  ends e = at_end rs w.2 longest (sym (ap (λ o. option_or o (run_at rs (r.start + r.len)))
+      (outside r (r.start + r.len) (inr (omega arith)))) ∙ e)
     where
-      at_end : (ss : List (Run A)) → IsWithin (r.start + r.len) ss hi → AreLongest (r ∷ ss) → run_at ss (r.start + r.len) ≡ Some r.answer → ⊥
+      at_end : (ss : List (Run A)) → IsWithin (r.start + r.len) ss hi → AreLongest (r ∷ ss) →
+          run_at ss (r.start + r.len) ≡ Some r.answer → ⊥
       at_end [] v l f = differ r.answer f
       at_end (s ∷ ss) v l f = ⊎_elim
-          (λ (later : r.start + r.len < s.start). differ r.answer (sym (before s.start (s ∷ ss) hi (r.start + r.len) (omega arith, v.1, v.2) later) ∙ f))
+          (λ (later : r.start + r.len < s.start). differ r.answer
+          (sym (before s.start (s ∷ ss) hi (r.start + r.len) (omega arith, v.1, v.2) later) ∙ f))
           (λ (here : s.start ≤ r.start + r.len).
           let meets : r.start + r.len ≡ s.start = omega (arith, v.0, here) in
-          l.0 meets (sym (same s.answer r.answer (sym (head s ss (r.start + r.len) here (omega (arith, v.1, meets))) ∙ f))))
+          l.0 meets (sym (same_Some s.answer r.answer (sym (head s ss (r.start + r.len) here (omega (arith, v.1, meets))) ∙ f))))
           (cases_lt (r.start + r.len) s.start)
 
 not_before : {A : Type 0} (r : Run A) (rs ss : List (Run A)) (lo n hi : ℕ) → IsWithin lo (r ∷ rs) hi → IsWithin n ss hi → r.start < n
@@ -52,10 +50,12 @@ not_before : {A : Type 0} (r : Run A) (rs ss : List (Run A)) (lo n hi : ℕ) →
 not_before r rs ss lo n hi w v lt e =
     differ r.answer (sym (before n ss hi r.start v lt) ∙ sym (e r.start) ∙ head r rs r.start (omega arith) (omega (arith, w.1)))
 
-not_shorter : {A : Type 0} (r s : Run A) (rs ss : List (Run A)) (lo n hi : ℕ) → IsWithin lo (r ∷ rs) hi → AreLongest (r ∷ rs) → IsWithin n (s ∷ ss) hi
+not_shorter : {A : Type 0} (r s : Run A) (rs ss : List (Run A)) (lo n hi : ℕ) → IsWithin lo (r ∷ rs) hi → AreLongest (r ∷ rs) →
+    IsWithin n (s ∷ ss) hi
     → r.start ≡ s.start → r.answer ≡ s.answer → r.len < s.len → ((p : ℕ) → run_at (r ∷ rs) p ≡ run_at (s ∷ ss) p) → ⊥
 not_shorter r s rs ss lo n hi w l v start answer lt e =
-    ends r rs lo hi w l (e (r.start + r.len) ∙ head s ss (r.start + r.len) (omega (arith, start)) (omega (arith, start, lt)) ∙ ap Some (sym answer))
+    ends r rs lo hi w l (e (r.start + r.len) ∙ head s ss (r.start + r.len) (omega (arith, start)) (omega (arith, start, lt))
+    ∙ ap Some (sym answer))
 
 rest : {A : Type 0} (r s : Run A) (rs ss : List (Run A)) (lo n hi : ℕ) → IsWithin lo (r ∷ rs) hi → IsWithin n (s ∷ ss) hi
     → r.start ≡ s.start → r.len ≡ s.len → ((p : ℕ) → run_at (r ∷ rs) p ≡ run_at (s ∷ ss) p) → (p : ℕ) → run_at rs p ≡ run_at ss p
@@ -87,7 +87,7 @@ only lo hi (r ∷ rs) (s ∷ ss) w v l m e =
     (λ (ge : r.start ≤ s.start). omega (arith, le, ge))
     (cases_lt s.start r.start))
     (cases_lt r.start s.start) in
-    let answer : r.answer ≡ s.answer = same r.answer s.answer (sym (head r rs r.start (omega arith) (omega (arith, w.1))) ∙ e r.start
+    let answer : r.answer ≡ s.answer = same_Some r.answer s.answer (sym (head r rs r.start (omega arith) (omega (arith, w.1))) ∙ e r.start
     ∙ head s ss r.start (omega (arith, start)) (omega (arith, start, v.1))) in
     let len : r.len ≡ s.len = ⊎_elim
     (λ (lt : r.len < s.len). absurd (not_shorter r s rs ss lo lo hi w l v start answer lt e))
@@ -101,12 +101,9 @@ only lo hi (r ∷ rs) (s ∷ ss) w v l m e =
     (longest-tail r rs l) (longest-tail s ss m) (rest r s rs ss lo lo hi w v start len e) in
     ap (λ (x : Run _). x ∷ rs) (run_is r s start len answer) ∙ ap (λ l. s ∷ l) tails
 
-wider : {A : Type 0} (lo : ℕ) (rs : List (Run A)) (mid hi : ℕ) → IsWithin lo rs mid → mid ≤ hi → IsWithin lo rs hi
-wider lo [] mid hi w e = omega arith
-wider lo (r ∷ rs) mid hi w e = (w.0, w.1, wider (r.start + r.len) rs mid hi w.2 e)
-
 -- two lists of longest runs of the same answers are one
 pub only_runs : {A : Type 0} (answers : ℕ → Option A) (rs ss : List (Run A)) → AreRunsOf answers rs → AreRunsOf answers ss → rs ≡ ss
 only_runs answers rs ss r s =
-    only 0 (r.end + s.end) rs ss (wider 0 rs r.end (r.end + s.end) r.within (omega arith)) (wider 0 ss s.end (r.end + s.end) s.within (omega arith))
+    only 0 (r.end + s.end) rs ss (within-up 0 rs r.end (r.end + s.end) r.within (omega arith))
+    (within-up 0 ss s.end (r.end + s.end) s.within (omega arith))
     r.longest s.longest (λ p. r.answered p ∙ sym (s.answered p))

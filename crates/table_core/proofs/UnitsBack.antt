@@ -6,6 +6,7 @@ use Rattle.std.specs.Prelude.{not, All}
 use Rattle.std.proofs.lemmas.List.Elements.{All-head, All-tail}
 use Rattle.std.proofs.lemmas.Bool.Decides.{nat_tests}
 use Rattle.std.proofs.lemmas.Grind.{common_steps}
+use Rattle.std.proofs.lemmas.List.{drop_at, take_at}
 use Rattle.byteorder.specs.Endian.{little_number, little_bytes}
 use Rattle.byteorder.specs.Numbers.{little_number-reads_back, length-bytes_low_first}
 use Rattle.table_core.specs.DebugUnits.{Walked, units_from}
@@ -24,32 +25,35 @@ tests_some d some = grind (arith, nat_tests)
 pub unit-front : (n version place d : ℕ) (left : List ℕ) → little_number 4 left ≡ d → little_number 2 (drop 4 left) ≡ version
     → d + 4 ≤ length left → 2 ≤ d → d < 2 ^ 32 - 1
     → units_from (suc n) version place left
-    ≡ record { place = place; bytes = Some (take d (drop 4 left)); is_other = false } ∷ units_from n version (place + (d + 4)) (drop (d + 4) left)
+    ≡ record { place = place; bytes = Some (take d (drop 4 left)); is_other = false } ∷ units_from n version (place + (d + 4))
+    (drop (d + 4) left)
 unfolding units_from
 unit-front n version place d [] is other inside some small = absurd (omega arith)
 unit-front n version place d (b ∷ rest) is other inside some small =
-    rw (is, other, tests_whole d (length (b ∷ rest)) inside small, tests_other d (length (b ∷ rest)) version inside small, tests_some d some) refl
-
-drop-front : (xs ys : List ℕ) (n : ℕ) → length xs ≡ n → drop n (xs ++ ys) ≡ ys
-drop-front xs ys n e = grind (arith, common_steps)
-
-take-front : (xs ys : List ℕ) (n : ℕ) → length xs ≡ n → take n (xs ++ ys) ≡ xs
-take-front xs ys n e = grind (arith, common_steps)
+    rw (
+      is,
+      other,
+      tests_whole d (length (b ∷ rest)) inside small,
+      tests_other d (length (b ∷ rest)) version inside small,
+      tests_some d
+          some,
+    ) refl
 
 behind : (h b rest : List ℕ) (n version place : ℕ) → length h ≡ 4 → little_number 4 (h ++ (b ++ rest)) ≡ length b
     → little_number 2 (b ++ rest) ≡ version → 2 ≤ length b → length b < 2 ^ 32 - 1
     → units_from (suc n) version place (h ++ (b ++ rest))
     ≡ record { place = place; bytes = Some b; is_other = false } ∷ units_from n version (place + (length b + 4)) rest
 behind h b rest n version place four is other some small =
-    let d4 : drop 4 (h ++ (b ++ rest)) ≡ b ++ rest = drop-front h (b ++ rest) 4 four in
+    let d4 : drop 4 (h ++ (b ++ rest)) ≡ b ++ rest = drop_at h (b ++ rest) 4 four in
     let size : length (h ++ (b ++ rest)) ≡ length h + (length b + length rest)
     = length-append h (b ++ rest) ∙ ap (λ k. length h + k) (length-append b rest) in
     let rest_is : drop (length b + 4) (h ++ (b ++ rest)) ≡ rest
     = ap (drop (length b + 4)) (sym (append_assoc h b rest))
-    ∙ drop-front (h ++ b) rest (length b + 4) (length-append h b ∙ omega (arith, four)) in
+    ∙ drop_at (h ++ b) rest (length b + 4) (length-append h b ∙ omega (arith, four)) in
     unit-front n version place (length b) (h ++ (b ++ rest)) is (ap (little_number 2) d4 ∙ other) (omega (arith, size, four)) some small
-    ∙ ap (λ bytes. record { place = place; bytes = Some bytes; is_other = false } ∷ units_from n version (place + (length b + 4)) (drop (length b + 4) (h ++ (b ++ rest))))
-    (ap (take (length b)) d4 ∙ take-front b rest (length b) refl)
+    ∙ ap (λ bytes. record { place = place; bytes = Some bytes; is_other = false } ∷ units_from n version (place + (length b + 4))
+    (drop (length b + 4) (h ++ (b ++ rest))))
+    (ap (take (length b)) d4 ∙ take_at b rest (length b) refl)
     ∙ ap (λ left. record { place = place; bytes = Some b; is_other = false } ∷ units_from n version (place + (length b + 4)) left) rest_is
 
 -- a unit that is written behind its length
@@ -75,10 +79,14 @@ pub record IsUnit (version : ℕ) (b : List ℕ) : Type 0 where
   pub some : 2 ≤ length b
   pub small : length b < 2 ^ 32 - 1
 
-two-front : (xs ys : List ℕ) → 2 ≤ length xs → little_number 2 (xs ++ ys) ≡ little_number 2 xs
+pub two-front : (xs ys : List ℕ) → 2 ≤ length xs → little_number 2 (xs ++ ys) ≡ little_number 2 xs
 two-front [] ys some = absurd (omega arith)
 two-front (x ∷ []) ys some = absurd (omega arith)
 two-front (x ∷ y ∷ xs) ys some = refl
+
+-- lists that begin with the same four bytes begin with one number of two bytes
+pub same-front : (lead xs ys : List ℕ) → length lead ≡ 4 → little_number 2 (lead ++ xs) ≡ little_number 2 (lead ++ ys)
+same-front lead xs ys e = two-front lead xs (omega (arith, e)) ∙ sym (two-front lead ys (omega (arith, e)))
 
 pub units-back : (version place n : ℕ) (bs : List (List ℕ)) → All (IsUnit version) bs → length (units_bytes bs) ≤ n
     → units_from n version place (units_bytes bs) ≡ walked_units place bs

@@ -11,7 +11,7 @@ use Rattle.rv_code.specs.declared.placed.Block.{Block}
 use Rattle.rv_code.specs.layout.Blocks.{func_of, Begins, at_start, named, after_end, IsBlockOf, IsBlock, IsBefore, AreBlocks}
 use Rattle.rv_code.specs.layout.ProgramCode.{ProgramCode}
 use Rattle.cfg_build.specs.EdgeLists.{AreStretches}
-use Rattle.cfg_build.proofs.Options.{of_some, some_and, the_some}
+use Rattle.rb_bytes.proofs.Options.{of_some, some_and, the_some}
 use Rattle.cfg_build.proofs.PushedBlocks.{block_of}
 
 -- a block of a list has the i-th instruction of the function at a place

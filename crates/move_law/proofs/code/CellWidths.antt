@@ -2,13 +2,9 @@
 use Rattle.std.proofs.Common.{◌≡◌, ℕ, ◌/◌, List, Bool, true, false, ap, ◌∙◌, inl, inr, ◌⊎◌}
 use Rattle.std.specs.Prelude.{if◌then◌else◌, ◌==◌}
 use Rattle.elf_image.specs.declared.elf.Elf.{Elf}
-use Rattle.elf_code.specs.Cells.{Field, IsField, pointer, slot, difference, Counts, counts, gives_way, CanBeCell, Address}
+use Rattle.elf_code.specs.Cells.{Field, IsField, pointer, slot, difference, Address}
 use Rattle.elf_code.proofs.Differences.{difference_bits}
 use Rattle.rv_memory.specs.Start.{start}
-
-pub can_of : {elf : Elf} {tabled : List (ℕ × ℕ)} {f : Field} {b : Bool} → Counts elf tabled f b → CanBeCell elf tabled f
-can_of (counts f can later) = can
-can_of (gives_way f g can before share counted) = can
 
 pub field_width : (elf : Elf) (tabled : List (ℕ × ℕ)) (f : Field) → IsField elf tabled f → (f.width ≡ 4) ⊎ (f.width ≡ 8)
 field_width elf tabled f (pointer r counted address place width to number start content) = by (r.kind == 1) width

@@ -101,14 +101,6 @@ lui_only : (i : Inst) → opcode i ≡ 0x37 → IsLui i
 lui_only (Lui rd imm) e = tt
 lui_only _ e = absurd (omega (arith, e))
 
-abbrev pub IsJalr : Inst → Type 0
-IsJalr (Jalr rd rs1 imm) = Unit {0}
-IsJalr _ = ⊥
-
-jalr_only : (i : Inst) → opcode i ≡ 0x67 → IsJalr i
-jalr_only (Jalr rd rs1 imm) e = tt
-jalr_only _ e = absurd (omega (arith, e))
-
 jalr_low : (i : Inst) → opcode i ≡ 0x67 → TakesLower i
 jalr_low (Jalr rd rs1 imm) e = tt
 jalr_low _ e = absurd (omega (arith, e))

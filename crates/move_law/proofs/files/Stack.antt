@@ -7,7 +7,7 @@ use Rattle.std.proofs.lemmas.List.{get_or_append_left, get_or-append_right, leng
 use Rattle.rv_code.specs.machine.Machine.{low_bytes}
 use Rattle.elf_image.specs.declared.segment.TheConstants.{PHDR_SIZE}
 use Rattle.elf_image.specs.file.Header.{e_entry, e_phnum}
-use Rattle.rv_memory.specs.Start.{stack_entries, start_bytes, stack_bytes, stack_pointer, stack_end, stack_size}
+use Rattle.rv_memory.specs.Start.{start_bytes, stack_bytes, stack_pointer, stack_end, stack_size}
 use Rattle.rv_memory.specs.Start.{random_address, random_bytes, program_arguments, texts, texts_address, text_addresses}
 use Rattle.rv_memory.proofs.StackLengths.{length-text_addresses}
 use Rattle.elf_image.specs.memory.Break.{table_address, page_size}
@@ -25,10 +25,6 @@ back t n e = 0 ∷ 0 ∷ 3 ∷ t ∷ 4 ∷ PHDR_SIZE ∷ 5 ∷ n ∷ 6 ∷ page_
 
 pub front_length : (args : List (List ℕ)) → length (front args) ≡ suc (count args)
 front_length args = ap suc (length-text_addresses (texts_address args) (program_arguments args))
-
-numbers_are : (file : List ℕ) (args : List (List ℕ)) →
-    stack_entries file args ≡ front args ++ back (table_address file) (e_phnum file) (e_entry file)
-numbers_are file args = refl
 
 back_same : (t n e t' n' e' k : ℕ) → (k ≡ 3 → t ≡ t') → (k ≡ 7 → n ≡ n') → (k ≡ 11 → e ≡ e') →
     get_or (back t n e) k 0 ≡ get_or (back t' n' e') k 0

@@ -29,8 +29,9 @@ use Rattle.elf_image.specs.memory.Executables.{Executable, executable_read, memo
 use Rattle.move_law.specs.RelocatedValues.{distance, number_of_symbol}
 use Rattle.move_law.specs.Laws.{IsAcceptedCode, IsSoundExecutable}
 use Rattle.move_law.proofs.code.FittingRoles.{fits, bounded_of}
-use Rattle.move_law.proofs.code.CellWidths.{field_width, can_of, same_address}
+use Rattle.move_law.proofs.code.CellWidths.{field_width, same_address}
 use Rattle.elf_code.proofs.Differences.{difference_bits}
+use Rattle.elf_code.proofs.Counts.{can_of}
 use Rattle.move_law.proofs.files.Executables.{byte_small, accepted_executable}
 use Rattle.move_law.proofs.files.Numbers.{bytes_at_is}
 use Rattle.rb_bytes.proofs.Tests.{antisym}

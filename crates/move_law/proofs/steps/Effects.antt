@@ -4,7 +4,6 @@ use Rattle.std.proofs.Common.{refl, sym, ap, ◌∙◌, arith, inl, inr}
 use Rattle.std.specs.Prelude.{if◌then◌else◌, ◌==◌, ◌&&◌, ◌||◌, not, nat_le, nat_lt, IsTrue, IfSome, min, map, take, drop}
 use Rattle.std.specs.List.{list_any}
 use Rattle.std.proofs.lemmas.Bool.{and_parts, and_from, leb-true, ltb-true, lt-ltb, le-leb, cases_lt}
-use Rattle.std.proofs.lemmas.Grind.{common_steps}
 use Rattle.rv_code.specs.declared.action.Extension.{Extension}
 use Rattle.rv_code.specs.isa.Extension.{bytes_of, extended}
 use Rattle.rv_code.specs.machine.Machine.{plus, all_may, memory_bytes, put, little, low_bytes, Space, may_read, may_write}
@@ -22,7 +21,7 @@ use Rattle.sym_machine.specs.declared.value.MemoryByte.{MemoryByte}
 use Rattle.sym_machine.specs.declared.value.MemoryByte.TheVariants.{Byte}
 use Rattle.sym_machine.specs.Values.{number, numbers, stored, is_hidden}
 use Rattle.sym_machine.specs.Rules.{loaded}
-use Rattle.sym_machine.specs.SymStep.{SymState, SymOutcome, needs, checks}
+use Rattle.sym_machine.specs.SymStep.{SymState, SymOutcome, needs}
 use Rattle.sym_machine.specs.SymStep as symbol
 use Rattle.move_law.specs.Rewrite.{Rewrite}
 use Rattle.elf_image.specs.memory.Executables.{memory_of}
@@ -35,7 +34,7 @@ use Rattle.move_law.proofs.steps.Outcomes.{SameSpaces, Follows, needs_found, che
 use Rattle.move_law.proofs.steps.Outcomes.{writes_can, gives_follows, fixed_not_written, break_start_same, break_bound_same}
 use Rattle.move_law.proofs.steps.Outcomes.{lt_le}
 use Rattle.std.proofs.lemmas.Option.{same_Some}
-use Rattle.rb_bytes.proofs.ListLemmas.{if_found}
+use Rattle.rb_bytes.proofs.ListLemmas.{if_found, taken_less}
 
 -- the number of a value that is one
 pub number_is : (r : Rewrite) (v : Value) (x n : ℕ) → StandsFor r v x → number v ≡ Some n → x ≡ n
@@ -47,9 +46,6 @@ length_bytes : {C : Type 0} (memory : ℕ → C) (a n : ℕ) → length (memory_
 unfolding memory_bytes
 length_bytes memory a zero = refl
 length_bytes memory a (suc n) = ap suc (length_bytes memory (plus a 1) n)
-
-length_taken : (n : ℕ) (xs : List ℕ) → length (take n xs) ≤ n
-length_taken n xs = grind (arith, common_steps)
 
 returns_follows : (r : Rewrite) (L : ℕ → ℕ → Type 0) (s : SymState) (u : ByteState) (next from : ℕ) (e g : Event) →
     RelatedData r s u → RelatedPc r L next from → e ≡ g → Follows r L (symbol.returns s next e) (byte.returns u from g)
@@ -259,7 +255,7 @@ module _ (r : Rewrite) (L : ℕ → ℕ → Type 0) (symbols : Symbols r) (space
       (symbol.moving_event 63 0 at size (take (min size most_moved) s.input))
       (symbol.moving_event 63 0 at size (take (min size most_moved) s.input))
       (read_data r spaces s u rel at (min size most_moved) (take (min size most_moved) s.input)
-      (drop (length (take (min size most_moved) s.input)) s.input) can (length_taken (min size most_moved) s.input))
+      (drop (length (take (min size most_moved) s.input)) s.input) can (taken_less (min size most_moved) s.input))
       leads refl))
 
   read_call : (file at size : ℕ) → u.registers a0 ≡ file → u.registers a1 ≡ at → u.registers a2 ≡ size →

@@ -1,7 +1,7 @@
 -- States that are related but for their pcs, what steps come to, and how it is shown that one outcome follows another.
 use Rattle.std.proofs.Common.{◌≡◌, ℕ, zero, suc, ◌<◌, ◌≤◌, List, length, Option, Some, None, Bool, true, false, refl, sym, ap}
 use Rattle.std.proofs.Common.{◌∙◌, arith}
-use Rattle.std.specs.Prelude.{◌||◌, nat_le, nat_lt, IfSome}
+use Rattle.std.specs.Prelude.{◌||◌, nat_le, nat_lt}
 use Rattle.std.proofs.lemmas.Bool.{and_parts, leb-true, ltb-true, ne_eqb}
 use Rattle.rv_code.specs.machine.Machine.{set_register, all_may, memory_bytes, put, Space, may_read, may_write, in_break, Event}
 use Rattle.rv_code.specs.machine.Machine.{Going, Ended, Halts}
@@ -42,11 +42,6 @@ Follows r L (Ended j) (Going t f) = ⊥
 Follows r L (Ended j) (Halts p why) = ⊥
 
 -- Conditions.
-
-pub needs_follows : {A : Type 0} (r : Rewrite) (L : ℕ → ℕ → Type 0) (s : SymState) (why : Reason) (o : Option A)
-    (rest : A → SymOutcome) (b : ByteOutcome) → IfSome o (λ x. Follows r L (rest x) b) → Follows r L (needs s why o rest) b
-needs_follows r L s why None rest b f = tt
-needs_follows r L s why (Some x) rest b f = f
 
 -- the same, with how the value was found
 pub needs_found : {A : Type 0} (r : Rewrite) (L : ℕ → ℕ → Type 0) (s : SymState) (why : Reason) (o : Option A)

@@ -2,8 +2,7 @@
 use Rattle.std.proofs.Common.{◌≡◌, ℕ, zero, suc, ◌+◌, ◌-◌, ◌*◌, ◌/◌, ◌%◌, ◌^◌, ◌<◌, ◌≤◌, List, [], ◌∷◌, ◌++◌, length, Option}
 use Rattle.std.proofs.Common.{Some, None, Bool, true, false, refl, sym, ap, ◌∙◌, subst, arith, inl, inr, ◌⊎◌, get_or}
 use Rattle.std.specs.Prelude.{if◌then◌else◌, ◌&&◌, ◌||◌, nat_le, nat_lt, IsTrue, option_map, unwrap_or, slice_index, find}
-use Rattle.std.specs.Prelude.{min}
-use Rattle.std.specs.List.{Contains, list_any, fold}
+use Rattle.std.specs.List.{Contains, list_any}
 use Rattle.std.specs.Option.{option_map_or, option_or}
 use Rattle.std.proofs.lemmas.Bool.{and_parts, and_from, leb-true, ltb-true, le-leb, lt-ltb, false_from_ne_true}
 use Rattle.std.proofs.lemmas.List.Elements.{Contains-append_right, Contains-append_cases}
@@ -11,7 +10,6 @@ use Rattle.rv_code.specs.declared.cell.CodeCell.{CodeCell}
 use Rattle.rv_code.specs.declared.cell.CellKind.{CellKind}
 use Rattle.rv_code.specs.declared.cell.CellKind.TheVariants as kind
 use Rattle.rv_code.specs.layout.ProgramCode.{is_code_address, IsNamed, by_cell, by_entry, CellNames, KindNames}
-use Rattle.elf_image.specs.declared.segment.Segment.{Segment}
 use Rattle.elf_image.specs.declared.segment.TheConstants.{PF_R, PF_W, PF_X}
 use Rattle.elf_image.specs.file.Header.{e_entry, e_phnum, e_phoff, segments_of}
 use Rattle.elf_image.specs.memory.Image.{is_loaded_with}
@@ -22,7 +20,7 @@ use Rattle.elf_code.specs.Functions as functions
 use Rattle.elf_code.specs.Parts.{IsStart}
 use Rattle.rb_bytes.specs.declared.fault.FaultKind.TheVariants.{BadEntry}
 use Rattle.rv_memory.specs.Start.{start, start_memory, start_registers, stack_bytes, stack_pointer, stack_end, stack_size}
-use Rattle.elf_image.specs.memory.Break.{table_address, break_start, break_room, pages_above}
+use Rattle.elf_image.specs.memory.Break.{table_address, break_start}
 use Rattle.rv_memory.specs.Start.{in_stack, space_of}
 use Rattle.rb_bytes.proofs.Searches.{find-found}
 use Rattle.sym_machine.specs.declared.value.Pointer.TheVariants.{Code}
@@ -40,30 +38,24 @@ use Rattle.move_law.specs.FaithfulRewrite.{KeepsCell}
 use Rattle.move_law.specs.Laws.{KeepsCode, FitStack, StartsRelated}
 use Rattle.move_law.proofs.files.Executables.{loaded_byte, accepted_executable, number_byte, loaded_start}
 use Rattle.move_law.proofs.files.Stack.{stack_of, count, byte_same, entry_on_stack, room, stack_is}
-use Rattle.move_law.proofs.code.CellWidths.{can_of, field_width, same_address}
+use Rattle.move_law.proofs.code.CellWidths.{field_width, same_address}
 use Rattle.move_law.proofs.values.Arithmetic.{number_stands}
 use Rattle.move_law.proofs.map.MappedPlaces.{place}
 use Rattle.move_law.proofs.code.InstLists.{function_code, start_code}
 use Rattle.sym_machine.specs.Values.{IsSymbol}
 use Rattle.std.proofs.lemmas.List.Elements.{All-contains}
+use Rattle.elf_code.proofs.Counts.{can_of}
+use Rattle.sym_machine.proofs.StartFields.{in_range}
 use Rattle.rb_bytes.proofs.ListLemmas.{find_none, none_any, only_one, if_found}
 use Rattle.elf_image.proofs.ReadLists.{length-segments_from}
 use Rattle.elf_image.proofs.LowSegments.{break_fits}
 
 -- The files.
 
-inside_range : (a : ℕ) (range : Range) → is_in_range a range ≡ true → (range.start ≤ a) × (a < range.start + range.size)
-inside_range a range e =
-    let parts = and_parts (nat_le range.start a) (nat_lt a (range.start + range.size)) e in
-    (leb-true range.start a parts.0, ltb-true a (range.start + range.size) parts.1)
-
 holds_inside : (a : ℕ) (range : Range) → range.start ≤ a → a < range.start + range.size → is_in_range a range ≡ true
 holds_inside a range h k =
     and_from (nat_le range.start a) (nat_lt a (range.start + range.size)) (le-leb range.start a h)
     (lt-ltb a (range.start + range.size) k)
-
-abbrev least_page : List Segment → ℕ
-least_page segments = fold min (break_start segments + break_room) (pages_above segments)
 
 or_parts : (x y : Bool) → x || y ≡ false → (x ≡ false) × (y ≡ false)
 or_parts true y e = absurd (cc)
@@ -146,7 +138,7 @@ module _ (r : Rewrite) (keeps : KeepsCode r) (args : List (List ℕ)) (fit : Fit
       StandsForByte r (SymbolByte (Points (Code r.input.entry)) 8 (a - (at_entry args).start))
       (start_memory r.output.file args a)
   entry_on_the_stack a e =
-      let inside = inside_range a (at_entry args) e in
+      let inside = in_range a (at_entry args) e in
       let from = inside.0 in
       let to = inside.1 in
       let at : a - stack_pointer args ≡ 8 * (count args + 12) + (a - (at_entry args).start) = omega (arith, from, to) in
@@ -162,7 +154,7 @@ module _ (r : Rewrite) (keeps : KeepsCode r) (args : List (List ℕ)) (fit : Fit
       is_in_range a (record { start = x; size = 8 }) ≡ true →
       StandsForByte r (SymbolByte (Points (Code r.input.entry)) 8 (a - x)) (start_memory r.output.file args a)
   entry_in_header a x at e =
-      let inside = inside_range a (record { start = x; size = 8 }) e in
+      let inside = in_range a (record { start = x; size = 8 }) e in
       let from = inside.0 in
       let to = inside.1 in
       let number : number_in (memory_of r.output) x 8 ≡ Some r.output.entry =
@@ -200,7 +192,7 @@ module _ (r : Rewrite) (keeps : KeepsCode r) (args : List (List ℕ)) (fit : Fit
   cell_stands : (a : ℕ) (cell : CodeCell) → Contains r.code.cells cell → is_in_range a (code_cell_range cell) ≡ true →
       StandsForByte r (byte_of_cell a cell) (start_memory r.output.file args a)
   cell_stands a cell is_in e =
-      let inside = inside_range a (code_cell_range cell) e in
+      let inside = in_range a (code_cell_range cell) e in
       let from = inside.0 in
       let to = inside.1 in
       let number = All-contains (KeepsCell r) r.code.cells cell keeps.faithful.cells.each is_in in

@@ -1,6 +1,7 @@
 -- The blocks of a program.
-use Rattle.std.proofs.Common.{◌<◌, ◌≤◌, List, Option, Some, None, length, get_or, All}
+use Rattle.std.proofs.Common.{◌<◌, ◌≤◌, List, Option, Some, None, length, get_or, All, ⊎_elim}
 use Rattle.std.specs.Prelude.{IsSomeAnd}
+use Rattle.std.proofs.lemmas.Bool.{cases_lt}
 use Rattle.std.proofs.lemmas.List.Elements.{Contains-get_or}
 use Rattle.rv_code.specs.declared.placed.Func.{Func}
 use Rattle.rv_code.specs.declared.placed.Block.{Block}
@@ -21,3 +22,13 @@ blocks_of_functions code blocks are k d within =
         IsSomeAnd found (λ func. (b.first ≤ b.last) × (b.last < length func.insts.items))
     at None is = is
     at (Some func) is = (is.some, is.inside)
+
+-- a later block of a function begins behind an earlier one
+pub no_overlap : (code : ProgramCode) (b c : Block) (found : Option Func) → b.first < c.first →
+    IsSomeAnd found (λ func. IsBlockOf code func b.first b.last) → IsSomeAnd found (λ func. IsBlockOf code func c.first c.last) →
+    b.last < c.first
+no_overlap code b c None less is other = absurd is
+no_overlap code b c (Some func) less is other = ⊎_elim
+    (λ (apart : b.last < c.first). apart)
+    (λ (inside : c.first ≤ b.last). absurd (is.no_other c.first less inside other.begins))
+    (cases_lt b.last c.first)

@@ -5,7 +5,7 @@ use Rattle.std.specs.Prelude.{Contains, slice_get}
 use Rattle.std.proofs.lemmas.Bool.{cases_order}
 use Rattle.std.proofs.lemmas.List.Elements.{All-contains}
 use Rattle.std.proofs.lemmas.List.Kept.{AllPairs-cons}
-use Rattle.std.proofs.lemmas.Option.{slice_get_within, get_or_from_slice_get}
+use Rattle.std.proofs.lemmas.Option.{slice_get_within, get_or_from_slice_get, same_Some}
 use Rattle.rv_code.specs.declared.placed.Placed.{Placed}
 use Rattle.rv_code.specs.declared.placed.Func.{Func}
 use Rattle.rv_code.specs.layout.FunctionLists.{Follow, HasLength, IsLaidOut, AreLaidOut}
@@ -14,13 +14,6 @@ use Rattle.rv_code.specs.layout.FunctionLists.{Follow, HasLength, IsLaidOut, Are
 abbrev pub before_of : List Placed → ℕ
 before_of [] = 0
 before_of (p ∷ ps) = p.len + before_of ps
-
-same : (p q : Placed) → Some p ≡ Some q → p ≡ q
-same p q h = cc
-
-pub follow_end : (a : ℕ) (ps : List Placed) (end : ℕ) → Follow a ps end → a + before_of ps ≡ end
-follow_end a [] end h = omega (arith, h)
-follow_end a (p ∷ ps) end h = let e = follow_end (a + p.len) ps end h.1 in omega (arith, e)
 
 pub follow_upto : (a : ℕ) (ps : List Placed) (end : ℕ) → Follow a ps end → a ≤ end
 follow_upto a [] end f = omega (arith, f)
@@ -70,8 +63,8 @@ pub follow_next : (a : ℕ) (ps : List Placed) (end : ℕ) (i : ℕ) (p q : Plac
 follow_next a [] end i p q h at_i at_j = absurd (cc)
 follow_next a (x ∷ []) end zero p q h at_i at_j = absurd (cc)
 follow_next a (x ∷ (y ∷ ps)) end zero p q h at_i at_j =
-    let e = same x p at_i in
-    let f = same y q at_j in
+    let e = same_Some x p at_i in
+    let f = same_Some y q at_j in
     let addr : p.addr ≡ a = ap (λ (z : Placed). z.addr) (sym e) ∙ h.0 in
     let len : x.len ≡ p.len = ap (λ (z : Placed). z.len) e in
     let next : q.addr ≡ a + x.len = ap (λ (z : Placed). z.addr) (sym f) ∙ h.1.0 in
@@ -82,7 +75,7 @@ pub follow_last : (a : ℕ) (ps : List Placed) (end : ℕ) (i : ℕ) (p : Placed
     slice_get ps i ≡ Some p → suc i ≡ length ps → p.addr + p.len ≡ end
 follow_last a [] end i p h at is = absurd (cc)
 follow_last a (x ∷ []) end zero p h at is =
-    let e = same x p at in
+    let e = same_Some x p at in
     let addr : p.addr ≡ a = ap (λ (z : Placed). z.addr) (sym e) ∙ h.0 in
     let len : x.len ≡ p.len = ap (λ (z : Placed). z.len) e in
     let all = h.1 in

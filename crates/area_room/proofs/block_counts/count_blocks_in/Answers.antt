@@ -1,7 +1,7 @@
 use Rattle.std.proofs.Common.{sym, refl, ◌∙◌, ◌≡◌, ◌<◌, ◌+◌, ◌-◌, add-zero, length, filter, arith, false, true, get_or}
 use Rattle.rv_code.specs.declared.placed.Block.{Block}
 use Rattle.area_room.specs.EntryNeeds.{has_inst_in}
-use Rattle.area_room.proofs.RangeCounts.{count-none}
+use Rattle.rb_bytes.proofs.RangeCounts.{count-none}
 use Rattle.area_room.proofs.BlockStretches.{are_of_functions, count_by_starts, none_in_empty, place_within, starts_ascend}
 use Rattle.area_room.proofs.block_counts.count_blocks_in.Goals as goal
 use Rattle.area_room.proofs.block_counts.count_blocks_in.Goals.{else-before-gt0-via-then-before-gt0+else-has_inst_in, else-before-gt0-via-else-before-gt0}

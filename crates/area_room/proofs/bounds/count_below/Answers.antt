@@ -1,7 +1,7 @@
 use Rattle.std.proofs.Common.{sym, rules}
 use Rattle.std.specs.Prelude.{nat_lt}
 use Rattle.std.proofs.lemmas.List.Sorted.{IsPartitionPoint-from_clause, IsPartitionedBy-ltb}
-use Rattle.area_room.proofs.RangeCounts.{count-partition}
+use Rattle.rb_bytes.proofs.RangeCounts.{count-partition}
 use Rattle.area_room.proofs.bounds.count_below.Goals as goal
 
 pub returns : goal.returns

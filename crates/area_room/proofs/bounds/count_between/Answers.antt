@@ -1,6 +1,6 @@
 use Rattle.std.proofs.Common.{sym, arith}
 use Rattle.area_room.specs.EntryNeeds.{is_strictly_between}
-use Rattle.area_room.proofs.RangeCounts.{count-inside, count-none, none_inside}
+use Rattle.rb_bytes.proofs.RangeCounts.{count-inside, count-none, none_inside}
 use Rattle.area_room.proofs.bounds.count_between.Goals as goal
 
 pub returns-then-high-low : goal.returns-then-high-low

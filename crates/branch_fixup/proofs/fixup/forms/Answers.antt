@@ -1,4 +1,4 @@
-use Rattle.std.proofs.Common.{◌≡◌, ◌∙◌, ◌++◌, ◌≤◌, ℕ, List, length, take, drop, arith, sym, ap, subst, All}
+use Rattle.std.proofs.Common.{◌≡◌, ◌∙◌, ◌≤◌, ℕ, List, arith, sym, ap, subst, All}
 use Rattle.std.specs.Prelude.{IsTrue}
 use Rattle.rv_code.specs.declared.layout.Form.{Form}
 use Rattle.rv_code.specs.declared.cell.CodeCell.{CodeCell}
@@ -10,7 +10,7 @@ use Rattle.addr_map.specs.Spans.{IsMap, IsStretch}
 use Rattle.branch_fixup.specs.Forms.{AreForms, new_code_end}
 use Rattle.branch_fixup.specs.Pieces.{end_from}
 use Rattle.branch_fixup.specs.Strips.{pieces_of, spans_of, strips_of}
-use Rattle.branch_fixup.proofs.Made.{IsGiven, IsMade, is_made, kept_forms, start_given, block_ends_given}
+use Rattle.branch_fixup.proofs.Made.{IsGiven, are_found, start_given, block_ends_given}
 use Rattle.branch_fixup.proofs.Map.{is_stretch}
 use Rattle.branch_fixup.proofs.fixup.forms.Goals as goal
 
@@ -43,14 +43,13 @@ spans-requires-clause-low c =
     let fs = c.grow.new.forms in
     let g : IsGiven funcs blocks order base =
     record { laid = q.laid; direct = q.direct; blocks_of = q.blocks; perm = q.order; near = q.near; even = q.even; some = q.some } in
-    let m : IsMade funcs blocks order base fs = is_made funcs blocks order base g c.as_slice-order.result.now
-    c.in_ok-block_ends.block_ends.items c.deref.result.now c.in_ok-block_ends.forms.items c.deref_mut.result.now fs
-    c.as_slice-order.ensures.value c.deref.ensures.value c.deref_mut.ensures.value c.in_ok-block_ends.ensures
-    c.in_ok-grow.ensures.sound c.in_ok-grow.ensures.same c.in_ok-grow.ensures.enough in
     let as_many = c.in_ok-block_ends.ensures.forms in
-    let e : take c.in_ok-block_ends.forms.len (fs ++ drop (length fs) c.in_ok-block_ends.forms.items) ≡ fs =
-    kept_forms order c.as_slice-order.result.now fs (drop (length fs) c.in_ok-block_ends.forms.items)
-    c.in_ok-block_ends.forms.len m.count (omega (arith, as_many)) c.as_slice-order.ensures.value in
+    let found = are_found funcs blocks order base g c.as_slice-order.result.now c.in_ok-block_ends.block_ends.items
+    c.deref.result.now c.in_ok-block_ends.forms.items c.deref_mut.result.now fs c.in_ok-block_ends.forms.len
+    c.as_slice-order.ensures.value c.deref.ensures.value c.deref_mut.ensures.value c.in_ok-block_ends.ensures
+    c.in_ok-grow.ensures.sound c.in_ok-grow.ensures.same c.in_ok-grow.ensures.enough (omega (arith, as_many)) in
+    let m = found.made in
+    let e = found.same in
     let d : c.deref-2.result.now ≡ fs = c.deref-2.ensures.value ∙ e in
     let end : end_from base (pieces_of (strips_of funcs blocks c.as_slice-order.result.now) c.deref-2.result.now) ≡
     new_code_end (strips_of funcs blocks order) base fs =
@@ -71,14 +70,13 @@ returns c =
     let fs = c.grow.new.forms in
     let g : IsGiven funcs blocks order base =
     record { laid = q.laid; direct = q.direct; blocks_of = q.blocks; perm = q.order; near = q.near; even = q.even; some = q.some } in
-    let m : IsMade funcs blocks order base fs = is_made funcs blocks order base g c.as_slice-order.result.now
-    c.in_ok-block_ends.block_ends.items c.deref.result.now c.in_ok-block_ends.forms.items c.deref_mut.result.now fs
-    c.as_slice-order.ensures.value c.deref.ensures.value c.deref_mut.ensures.value c.in_ok-block_ends.ensures
-    c.in_ok-grow.ensures.sound c.in_ok-grow.ensures.same c.in_ok-grow.ensures.enough in
     let as_many = c.in_ok-block_ends.ensures.forms in
-    let e : take c.in_ok-block_ends.forms.len (fs ++ drop (length fs) c.in_ok-block_ends.forms.items) ≡ fs =
-    kept_forms order c.as_slice-order.result.now fs (drop (length fs) c.in_ok-block_ends.forms.items)
-    c.in_ok-block_ends.forms.len m.count (omega (arith, as_many)) c.as_slice-order.ensures.value in
+    let found = are_found funcs blocks order base g c.as_slice-order.result.now c.in_ok-block_ends.block_ends.items
+    c.deref.result.now c.in_ok-block_ends.forms.items c.deref_mut.result.now fs c.in_ok-block_ends.forms.len
+    c.as_slice-order.ensures.value c.deref.ensures.value c.deref_mut.ensures.value c.in_ok-block_ends.ensures
+    c.in_ok-grow.ensures.sound c.in_ok-grow.ensures.same c.in_ok-grow.ensures.enough (omega (arith, as_many)) in
+    let m = found.made in
+    let e = found.same in
     let d : c.deref-2.result.now ≡ fs = c.deref-2.ensures.value ∙ e in
     let s : c.in_ok-spans.spans.items ≡ spans_of (strips_of funcs blocks order) base fs =
     c.in_ok-spans.ensures ∙ ap (λ (o : List ℕ). spans_of (strips_of funcs blocks o) base c.deref-2.result.now)

@@ -1,7 +1,7 @@
 use Rattle.std.proofs.Common.{rules, nat_le, ℕ}
 use Rattle.std.proofs.lemmas.Bool.{leb-true, leb-false}
 use Rattle.std.proofs.lemmas.List.Sorted.{IsPartitionPoint-from_clause, IsPartitionedBy-leb}
-use Rattle.branch_fixup.proofs.Starts.{rising}
+use Rattle.rb_bytes.proofs.ListLemmas.{rising}
 use Rattle.branch_fixup.proofs.lookup.count_up_to.Goals as goal
 
 pub returns-clause-below : goal.returns-clause-below

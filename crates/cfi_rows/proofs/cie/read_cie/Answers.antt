@@ -16,14 +16,17 @@ returns-in_err-frame-clause-err c =
     let p = err_from_is_err_and c.from_residual-in_err-frame.result c.from_residual-in_err-frame.ensures.1 in
     rw (p.1, p.2)
     (fails_by c.in_err-frame.field-0.0
-    (λ n. no-frame c.args.end c.args.body.now _ _ _ (sym (ap (λ (r : Reading). head_at c.args.end r.left) c.new-cursor.ensures) ∙ c.in_ok-head.ensures.ok)
-    (ap (λ x. instructions_at x c.read_head.new.cursor.left) (sym c.factors.ensures) ∙ c.in_ok-list.ensures.ok) (ap frame_after (sym c.deref.ensures.value) ∙ n))
+    (λ n. no-frame c.args.end c.args.body.now _ _ _ (sym (ap (λ (r : Reading). head_at c.args.end r.left) c.new-cursor.ensures)
+    ∙ c.in_ok-head.ensures.ok)
+    (ap (λ x. instructions_at x c.read_head.new.cursor.left) (sym c.factors.ensures) ∙ c.in_ok-list.ensures.ok)
+    (ap frame_after (sym c.deref.ensures.value) ∙ n))
     c.in_err-frame.ensures.err)
 
 pub returns-clause-ok : goal.returns-clause-ok
 returns-clause-ok c =
     let counted = alone c.new.result c.in_ok-registers.registers (flat_map registers_set c.deref-2.result.now)
-    (flat_map registers_set c.in_ok-list.list.items) c.new.ensures.empty c.in_ok-registers.ensures (ap (flat_map registers_set) c.deref-2.ensures.value) in
+    (flat_map registers_set c.in_ok-list.list.items) c.new.ensures.empty c.in_ok-registers.ensures
+    (ap (flat_map registers_set) c.deref-2.ensures.value) in
     let bytes : sum_by bytes_in c.deref-3.result.now ≡ c.in_ok-bytes.bytes = search rules in
     made c.args.end c.args.body.now _ _ c.in_ok-list.list.items
     (sym (ap (λ (r : Reading). head_at c.args.end r.left) c.new-cursor.ensures) ∙ c.in_ok-head.ensures.ok)

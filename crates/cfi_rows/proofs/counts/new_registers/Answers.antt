@@ -13,7 +13,8 @@ loop-instruction-preserved c =
     let more : c.add_set.new.self.count ≤ c.loop-instruction.registers.count + 1 = c.add_set.ensures.more in
     let before = c.loop-instruction.invariant.1 in (
       λ xs a. subst (λ zs. AreCounted xs zs c.args.known.now c.add_set.new.self)
-          (ap (λ i. first ++ registers_set i) item ∙ sym (set-more c.args.instructions.now k c.instruction-item.result c.loop-instruction-test.true))
+          (ap (λ i. first ++ registers_set i) item ∙ sym (set-more c.args.instructions.now k c.instruction-item.result
+          c.loop-instruction-test.true))
           (c.in_ok-add_set.ensures.added xs first a (c.loop-instruction.invariant.0 xs a)),
       omega arith,
     )

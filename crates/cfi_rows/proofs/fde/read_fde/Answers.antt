@@ -22,7 +22,8 @@ returns-in_err-list-clause-err c = λ is known kept.
     ∙ ap (λ (e : RawEntry). fde_head_at A c.args.end e.body) c.entry.view_is) ∙ c.in_ok-head.ensures.ok in
     rw (p.1, p.2)
     (fails_by c.in_err-list.field-0.0
-    (λ n. no-instructions (cie_of c.args.cie.now is known) c.args.end c.args.entry.now c.in_ok-head.head c.read_fde_head.new.cursor.left head
+    (λ n. no-instructions (cie_of c.args.cie.now is known) c.args.end c.args.entry.now c.in_ok-head.head c.read_fde_head.new.cursor.left
+    head
     (ap (λ x. instructions_at x c.read_fde_head.new.cursor.left) (sym c.factors.ensures) ∙ n))
     c.in_err-list.ensures.err)
 
@@ -34,9 +35,11 @@ returns-in_err-rows-clause-err c = λ is known kept.
     ∙ ap (λ (e : RawEntry). fde_head_at A c.args.end e.body) c.entry.view_is) ∙ c.in_ok-head.ensures.ok in
     rw (p.1, p.2)
     (fails_by c.in_err-rows.field-0.0
-    (λ n. unsound c.args.cie.now is known c.args.end c.args.entry.now c.in_ok-head.head c.read_fde_head.new.cursor.left c.in_ok-list.list.items kept head
+    (λ n. unsound c.args.cie.now is known c.args.end c.args.entry.now c.in_ok-head.head c.read_fde_head.new.cursor.left
+    c.in_ok-list.list.items kept head
     (ap (λ x. instructions_at x c.read_fde_head.new.cursor.left) (sym c.factors.ensures) ∙ c.in_ok-list.ensures.ok)
-    (ap (λ xs. outline_rows xs (record { location = c.in_ok-head.head.start; frame = c.args.cie.now.frame; saved = [] })) (sym c.deref.ensures.value) ∙ n))
+    (ap (λ xs. outline_rows xs (record { location = c.in_ok-head.head.start; frame = c.args.cie.now.frame; saved = [] }))
+    (sym c.deref.ensures.value) ∙ n))
     c.in_err-rows.ensures.err)
 
 pub returns-clause-ok : goal.returns-clause-ok
@@ -48,9 +51,11 @@ returns-clause-ok c = λ is known kept.
     made-as c.args.cie.now is known c.args.end c.args.entry.now c.in_ok-head.head c.read_fde_head.new.cursor.left c.in_ok-list.list.items
     c.in_ok-rows.rows c.in_ok-added.added c.in_ok-own.own _ _ _ kept head
     (ap (λ x. instructions_at x c.read_fde_head.new.cursor.left) (sym c.factors.ensures) ∙ c.in_ok-list.ensures.ok)
-    (ap (λ xs. outline_rows xs (record { location = c.in_ok-head.head.start; frame = c.args.cie.now.frame; saved = [] })) (sym c.deref.ensures.value)
+    (ap (λ xs. outline_rows xs (record { location = c.in_ok-head.head.start; frame = c.args.cie.now.frame; saved = [] }))
+    (sym c.deref.ensures.value)
     ∙ c.in_ok-rows.ensures.ok)
-    (subst (λ ys. (xs : List ℕ) → AreIn xs c.args.cie.now.registers.set → AreCounted xs (flat_map registers_set ys) c.args.cie.now.registers.set c.in_ok-added.added)
+    (subst (λ ys. (xs : List ℕ) → AreIn xs c.args.cie.now.registers.set →
+    AreCounted xs (flat_map registers_set ys) c.args.cie.now.registers.set c.in_ok-added.added)
     c.deref-2.ensures.value c.in_ok-added.ensures)
     (own ∙ ap (sum_by bytes_in) c.deref-3.ensures.value)
     (ap (λ (e : RawEntry). e.place) c.entry.view_is)

@@ -24,7 +24,8 @@ pub loop-count-preserved : goal.loop-count-preserved
 loop-count-preserved c =
     let z : 0 < length c.loop-count.left.now = search rules in
     let body : length c.entry.inside.body.now ≡ length c.in-Ok.entry.body = search rules in
-    let place : c.loop-count.place + 8 + length c.in-Ok.entry.body ≡ c.loop-count.place + (8 + length c.entry.inside.body.now) = omega arith in
+    let place : c.loop-count.place + 8 + length c.in-Ok.entry.body ≡ c.loop-count.place + (8 + length c.entry.inside.body.now) = omega
+    arith in
     let count = length c.args.table.now - (c.loop-count.count + 1) in (
       c.loop-count.invariant.0 ∙ next _ _ _ _ _ _ _ _ c.loop-count-test.true z c.in-Ok.ensures.entry
           ∙ ap (λ n. after (c.loop-count.entries.items ++ c.in-Ok.entry ∷ []) (walk c.args.debug count n c.in-Ok.rest.now)) place

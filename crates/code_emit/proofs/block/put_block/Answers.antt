@@ -12,7 +12,7 @@ use Rattle.code_emit.specs.Bytes.{AllCanBeEncoded}
 use Rattle.code_emit.specs.Inputs.{HasLowTargets}
 use Rattle.code_emit.specs.NewInsts.{made}
 use Rattle.code_emit.proofs.Parts.{front_can, last_can, one_more, inner_targets}
-use Rattle.rb_bytes.proofs.Results.{on_ok}
+use Rattle.std.proofs.lemmas.Result.{on_ok_weaker}
 use Rattle.code_emit.proofs.block.put_block.Goals as goal
 
 pub put_inner-requires-clause-placed : goal.put_inner-requires-clause-placed
@@ -58,7 +58,7 @@ put_piece-requires-clause-targets c =
 
 pub returns : goal.returns
 returns c = record {
-  adds = on_ok c.put_piece.result
+  adds = on_ok_weaker c.put_piece.result
       (λ more. one_more
       (new c.args.moved.now) c.args.at c.in_ok-last_at.last_at c.args.code.now.items c.put_inner.new.code.items
       c.put_piece.new.code.items (map as_it_is c.args.block.now.inner.now) (record {

@@ -2,13 +2,13 @@ use Rattle.std.proofs.Common.{[], ◌∷◌, List, ℕ, sym, subst}
 use Rattle.rv_encode.specs.InstWords.{bytes}
 use Rattle.code_emit.specs.Bytes.{Adds}
 use Rattle.code_emit.proofs.Coded.{half_wanted}
-use Rattle.rb_bytes.proofs.Results.{on_ok}
+use Rattle.std.proofs.lemmas.Result.{on_ok_weaker}
 use Rattle.code_emit.proofs.code.push.Goals as goal
 
 pub returns-in-Some-Half : goal.returns-in-Some-Half
 returns-in-Some-Half c =
     record {
-      ok = on_ok c.push_half.result
+      ok = on_ok_weaker c.push_half.result
           (λ is. subst
           (λ (x : List ℕ). Adds c.args.code.now.items x
           (record { inst = c.args.inst.now; bytes = bytes c.args.want } ∷ [])) (sym is)

@@ -11,6 +11,8 @@ abbrev pub invariant-loop-attr : goal.invariant-loop-attr
 invariant-loop-attr l = record {
   placed : ArePlaced l.to l.end (drop l.attr-index l.attrs);
   put : (m : Moves) (e : Entry) (ps : List Patch) → AreMovesIn m l.moves → IsOf e l.entry →
-      l.out.items ++ patched l.to (flat_map (attr_patches m l.entry.is_own l.entry.is_first e) (drop l.attr-index l.attrs) ++ ps) (drop l.to l.info)
-      ≡ l.fn.out.items ++ patched l.fn.from (flat_map (attr_patches m l.entry.is_own l.entry.is_first e) l.attrs ++ ps) (drop l.fn.from l.info);
+      l.out.items ++ patched l.to (flat_map (attr_patches m l.entry.is_own l.entry.is_first e) (drop l.attr-index l.attrs) ++ ps)
+      (drop l.to l.info)
+      ≡ l.fn.out.items ++ patched l.fn.from (flat_map (attr_patches m l.entry.is_own l.entry.is_first e) l.attrs ++ ps)
+      (drop l.fn.from l.info);
 }

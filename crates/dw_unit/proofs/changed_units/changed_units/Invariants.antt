@@ -12,6 +12,7 @@ abbrev pub invariant-loop-unit : goal.invariant-loop-unit
 invariant-loop-unit l = record {
   behind : AreBehind l.to (length l.change.info.now) (drop l.unit-index l.units);
   put : (s : Sections) (m : Moves) (ps : List Patch) → IsChangeOf s m l.change →
-      l.out.items ++ patched l.to (flat_map (unit_patches s m) (oks (map (unit_of s.abbrevs) (drop l.unit-index l.units))) ++ ps) (drop l.to l.change.info.now)
+      l.out.items ++ patched l.to (flat_map (unit_patches s m) (oks (map (unit_of s.abbrevs) (drop l.unit-index l.units))) ++ ps)
+      (drop l.to l.change.info.now)
       ≡ patched 0 (flat_map (unit_patches s m) (oks (map (unit_of s.abbrevs) l.units)) ++ ps) l.change.info.now;
 }

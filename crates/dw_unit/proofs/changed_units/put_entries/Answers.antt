@@ -1,4 +1,5 @@
-use Rattle.std.proofs.Common.{◌≡◌, ◌≤◌, ◌<◌, ◌+◌, ◌-◌, ◌∙◌, ◌++◌, ◌∷◌, [], ℕ, List, ap, arith, refl, sym, subst, drop, length, append_assoc}
+use Rattle.std.proofs.Common.{◌≡◌, ◌≤◌, ◌<◌, ◌+◌, ◌-◌, ◌∙◌, ◌++◌, ◌∷◌, [], ℕ, List, ap, arith, refl, sym, subst, drop, length}
+use Rattle.std.proofs.Common.{append_assoc}
 use Rattle.std.specs.Prelude.{flat_map}
 use Rattle.dw_unit.specs.declared.entry.Attr.{Attr}
 use Rattle.dw_unit.specs.Changes.{Patch, patched, entry_patches}
@@ -21,7 +22,8 @@ put_entry-requires-clause-placed c =
     let placed : ArePlaced (end - length c.entries.cursor.left) (end - length c.next_entry.new.cursor.left) items =
     if_some c.in-Ok-Some.field-0 c.in-Ok-Some.head _ c.in-Ok-Some.field-0-is c.in-Ok-Some.ensures.placed in
     let less : ArePlaced c.entries.to (end - length c.next_entry.new.cursor.left) items =
-    placed_less (end - length c.entries.cursor.left) c.entries.to (end - length c.next_entry.new.cursor.left) items (omega arith) placed in
+    placed_less (end - length c.entries.cursor.left) c.entries.to (end - length c.next_entry.new.cursor.left) items
+    (omega arith) placed in
     subst (λ (n : ℕ). ArePlaced c.entries.to (end - n) c.deref.result.now) (sym c.left.ensures)
     (subst (λ (l : List Attr). ArePlaced c.entries.to (end - length c.next_entry.new.cursor.left) l) (sym c.deref.ensures.value) less)
 
@@ -62,14 +64,16 @@ entries-preserved c =
       put = λ s m u ps x own read.
           let before = c.entries.invariant.put s m u ps x own read in
           let parts : IsWithHead e (entries_at b c.next_entry.new.depth c.next_entry.new.cursor.left) before.0 =
-          with_head_parts e (entries_at b c.next_entry.new.depth c.next_entry.new.cursor.left) before.0 (sym (match_some c.in-Ok-Some.field-0 head _ _ c.in-Ok-Some.field-0-is c.in-Ok-Some.ensures.read) ∙ before.1) in
+          with_head_parts e (entries_at b c.next_entry.new.depth c.next_entry.new.cursor.left) before.0
+          (sym (match_some c.in-Ok-Some.field-0 head _ _ c.in-Ok-Some.field-0-is c.in-Ok-Some.ensures.read) ∙ before.1) in
           let f : Entry → List Patch = entry_patches s m u in
           let whole : f e ++ (flat_map f parts.rest ++ ps) ≡ flat_map f before.0 ++ ps =
           sym (append_assoc (f e) (flat_map f parts.rest) ps) ∙ ap (λ (l : List Entry). flat_map f l ++ ps) (sym parts.is) in (
             parts.rest,
             parts.read,
             c.in_ok-to-in-Ok-Some.ensures.put s m u e (flat_map f parts.rest ++ ps) x own refl refl (sym c.deref.ensures.value)
-                ∙ ap (λ (l : List Patch). c.entries.out.items ++ patched c.entries.to l (drop c.entries.to c.args.change.now.info.now)) whole
+                ∙ ap (λ (l : List Patch). c.entries.out.items ++ patched c.entries.to l (drop c.entries.to c.args.change.now.info.now))
+                whole
                 ∙ before.2,
           );
     }
@@ -77,6 +81,8 @@ entries-preserved c =
 pub returns-in-Ok-None-clause-put : goal.returns-in-Ok-None-clause-put
 returns-in-Ok-None-clause-put c = λ s m u ps x own read.
     let before = c.entries.invariant.put s m u ps x own read in
-    let none : [] ≡ before.0 = ap (or_entries []) (sym (match_none c.in-Ok-None.field-0 _ _ c.in-Ok-None.field-0-is c.in-Ok-None.ensures.read) ∙ before.1) in
-    ap (λ (es : List Entry). c.entries.out.items ++ patched c.entries.to (flat_map (entry_patches s m u) es ++ ps) (drop c.entries.to c.args.change.now.info.now)) none
+    let none : [] ≡ before.0 = ap (or_entries []) (sym (match_none c.in-Ok-None.field-0 _ _ c.in-Ok-None.field-0-is
+    c.in-Ok-None.ensures.read) ∙ before.1) in
+    ap (λ (es : List Entry). c.entries.out.items ++ patched c.entries.to (flat_map (entry_patches s m u) es ++ ps)
+    (drop c.entries.to c.args.change.now.info.now)) none
     ∙ before.2

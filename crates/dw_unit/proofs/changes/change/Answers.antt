@@ -24,7 +24,8 @@ use Rattle.dw_unit.proofs.changes.change.Goals as goal
 
 pub changed_sections-requires-clause-behind : goal.changed_sections-requires-clause-behind
 changed_sections-requires-clause-behind c =
-    subst (λ (l : List ℕ). AreBehind 0 (length l) (walked 5 l)) (sym c.contents_of.ensures) (units_behind (sections_of c.args.elf.now) c.requires.sound)
+    subst (λ (l : List ℕ). AreBehind 0 (length l) (walked 5 l)) (sym c.contents_of.ensures)
+    (units_behind (sections_of c.args.elf.now) c.requires.sound)
 
 pub changed_sections-requires-clause-read : goal.changed_sections-requires-clause-read
 changed_sections-requires-clause-read c =
@@ -34,8 +35,10 @@ changed_sections-requires-clause-read c =
 
 pub changed_sections-requires-clause-fine : goal.changed_sections-requires-clause-fine
 changed_sections-requires-clause-fine c =
-    subst (λ (l : List ℕ). list_any has_bad_high (flat_map (declarations_of c.contents_of-2.result.now) (walked 5 l)) ≡ false) (sym c.contents_of.ensures)
-    (subst (λ (l : List ℕ). list_any has_bad_high (flat_map (declarations_of l) (walked 5 (sections_of c.args.elf.now).info)) ≡ false) (sym c.contents_of-2.ensures)
+    subst (λ (l : List ℕ). list_any has_bad_high (flat_map (declarations_of c.contents_of-2.result.now) (walked 5 l)) ≡ false)
+    (sym c.contents_of.ensures)
+    (subst (λ (l : List ℕ). list_any has_bad_high (flat_map (declarations_of l) (walked 5 (sections_of c.args.elf.now).info)) ≡ false)
+    (sym c.contents_of-2.ensures)
     (no_bad_high (sections_of c.args.elf.now) c.requires.sound))
 
 pub returns : goal.returns
@@ -43,7 +46,8 @@ returns c =
     let s : Sections = sections_of c.args.elf.now in
     let m : Moves = record { spans = c.args.map.now; lists = c.in_ok-lists.lists; call_end = get nat_cmp c.in_ok-call_ends.call_ends } in
     let lists : c.in_ok-lists.lists ≡ c.args.lists.now = c.in_ok-lists.ensures in
-    let low : All (λ (l : ListAt). l.offset < 2 ^ 32) c.in_ok-lists.lists = subst (λ (ls : List ListAt). All (λ (l : ListAt). l.offset < 2 ^ 32) ls) (sym lists) c.requires.low in
+    let low : All (λ (l : ListAt). l.offset < 2 ^ 32) c.in_ok-lists.lists = subst
+    (λ (ls : List ListAt). All (λ (l : ListAt). l.offset < 2 ^ 32) ls) (sym lists) c.requires.low in
     let small : AreSmall m = record {
       moved = λ a b e. moved_small c.args.map.now a b c.in_ok-call_ends.ensures.below e;
       call_end = λ a b e. c.in_ok-call_ends.ensures.ends.below a b e;
@@ -57,11 +61,18 @@ returns c =
     λ f e i. record { info = sym e.info i; abbrevs = sym e.abbrevs i; addr = sym e.addr i } in
     record {
       moves = m;
-      are_moves = record { spans_are = refl; call_end_is = c.in_ok-call_ends.ensures.ends.is; no_call_end = c.in_ok-call_ends.ensures.ends.none };
+      are_moves = record {
+        spans_are = refl;
+        call_end_is = c.in_ok-call_ends.ensures.ends.is;
+        no_call_end =
+            c.in_ok-call_ends.ensures.ends.none;
+      };
       lists_are = lists;
-      info_is = info s m (sym c.contents_of.ensures) (sym c.contents_of-2.ensures) free (record { spans = refl; lists = refl; call_end = λ a. refl });
+      info_is = info s m (sym c.contents_of.ensures) (sym c.contents_of-2.ensures) free
+          (record { spans = refl; lists = refl; call_end = λ a. refl });
       abbrevs_are = abbrevs_are;
       units_are = λ f e. subst (λ (t : Sections). AreChangedUnits s m t) (of f e) (units_changed s m small free low_size);
-      sound = λ f e. subst (λ (t : Sections). IsFree (HasDwarfFault (unit_fault_places t))) (of f e) (written_sound s m small free low_size);
+      sound = λ f e. subst (λ (t : Sections). IsFree (HasDwarfFault (unit_fault_places t))) (of f e)
+          (written_sound s m small free low_size);
     })
     c.changed_sections.ensures.info c.changed_sections.ensures.abbrevs

@@ -19,7 +19,8 @@ use Rattle.dw_unit.proofs.changes.changed_sections.Goals as goal
 pub returns-clause-info : goal.returns-clause-info
 returns-clause-info c = λ s m info abbrevs free moves.
     let os : List ℕ = c.in_ok-offsets.offsets.items in
-    let named = λ (q : ℕ). c.in_ok-offsets.ensures.named q ∙ ap (is_named_by q) (c.deref.ensures.value ∙ c.in_ok-units.ensures ∙ ap (walked 5) (sym info)) in
+    let named = λ (q : ℕ). c.in_ok-offsets.ensures.named q ∙ ap (is_named_by q) (c.deref.ensures.value ∙ c.in_ok-units.ensures
+    ∙ ap (walked 5) (sym info)) in
     let os_are : table_offsets s ≡ os = offsets_are s os free c.in_ok-offsets.ensures.rising named in
     let section : s.abbrevs ≡ c.in_ok-tables.tables.section.now = abbrevs ∙ sym c.in_ok-tables.ensures.section in
     let own : AreOwn s c.in_ok-own.own = are_own s c.in_ok-own.own c.in_ok-tables.tables.section.now c.deref-3.result.now section
@@ -38,7 +39,8 @@ returns-clause-info c = λ s m info abbrevs free moves.
 pub returns-clause-abbrevs : goal.returns-clause-abbrevs
 returns-clause-abbrevs c = λ s info abbrevs free.
     let os : List ℕ = c.in_ok-offsets.offsets.items in
-    let named = λ (q : ℕ). c.in_ok-offsets.ensures.named q ∙ ap (is_named_by q) (c.deref.ensures.value ∙ c.in_ok-units.ensures ∙ ap (walked 5) (sym info)) in
+    let named = λ (q : ℕ). c.in_ok-offsets.ensures.named q ∙ ap (is_named_by q) (c.deref.ensures.value ∙ c.in_ok-units.ensures
+    ∙ ap (walked 5) (sym info)) in
     let os_are : table_offsets s ≡ os = offsets_are s os free c.in_ok-offsets.ensures.rising named in
     let section : s.abbrevs ≡ c.in_ok-tables.tables.section.now = abbrevs ∙ sym c.in_ok-tables.ensures.section in
     let own : AreOwn s c.in_ok-own.own = are_own s c.in_ok-own.own c.in_ok-tables.tables.section.now c.deref-3.result.now section
@@ -47,28 +49,35 @@ returns-clause-abbrevs c = λ s info abbrevs free.
 
 pub own_declarations-requires-clause-named : goal.own_declarations-requires-clause-named
 own_declarations-requires-clause-named c =
-    named_keys c.in_ok-tables.tables.starts c.deref-2.result.now c.in_ok-offsets.offsets.items c.deref.result.now c.deref-3.result.now c.in_ok-units.units.items
+    named_keys c.in_ok-tables.tables.starts c.deref-2.result.now c.in_ok-offsets.offsets.items c.deref.result.now c.deref-3.result.now
+    c.in_ok-units.units.items
     c.deref-2.ensures.value c.deref.ensures.value c.deref-3.ensures.value c.in_ok-tables.ensures.found c.in_ok-offsets.ensures.named
 
 pub own_declarations-requires-clause-within : goal.own_declarations-requires-clause-within
 own_declarations-requires-clause-within c =
-    subst (λ (ws : List Walked). All (λ w. end_of w < 2 ^ 64) ws) (sym (c.deref-3.ensures.value ∙ c.in_ok-units.ensures)) (walked_ends 5 c.args.info.now (omega arith))
+    subst (λ (ws : List Walked). All (λ w. end_of w < 2 ^ 64) ws) (sym (c.deref-3.ensures.value ∙ c.in_ok-units.ensures))
+    (walked_ends 5 c.args.info.now (omega arith))
 
 pub new_tables-requires-clause-read : goal.new_tables-requires-clause-read
 new_tables-requires-clause-read c =
-    subst (λ (os : List ℕ). HasKeys c.in_ok-tables.tables.starts os) (c.deref-2.ensures.value ∙ sym c.deref-4.ensures.value) c.in_ok-tables.ensures.found
+    subst (λ (os : List ℕ). HasKeys c.in_ok-tables.tables.starts os) (c.deref-2.ensures.value ∙ sym c.deref-4.ensures.value)
+    c.in_ok-tables.ensures.found
 
 pub changed_units-requires-clause-fine : goal.changed_units-requires-clause-fine
 changed_units-requires-clause-fine c =
-    ap (λ (ws : List Walked). list_any has_bad_high (flat_map (declarations_of c.in_ok-tables.tables.section.now) ws)) (c.deref-5.ensures.value ∙ c.in_ok-units.ensures)
-    ∙ ap (λ (a : List ℕ). list_any has_bad_high (flat_map (declarations_of a) (walked 5 c.args.info.now))) c.in_ok-tables.ensures.section ∙ c.requires.fine
+    ap (λ (ws : List Walked). list_any has_bad_high (flat_map (declarations_of c.in_ok-tables.tables.section.now) ws))
+    (c.deref-5.ensures.value ∙ c.in_ok-units.ensures)
+    ∙ ap (λ (a : List ℕ). list_any has_bad_high (flat_map (declarations_of a) (walked 5 c.args.info.now))) c.in_ok-tables.ensures.section
+    ∙ c.requires.fine
 
 pub changed_units-requires-clause-named : goal.changed_units-requires-clause-named
 changed_units-requires-clause-named c =
-    named_keys c.in_ok-tables.tables.starts c.deref-2.result.now c.in_ok-offsets.offsets.items c.deref.result.now c.deref-5.result.now c.in_ok-units.units.items
+    named_keys c.in_ok-tables.tables.starts c.deref-2.result.now c.in_ok-offsets.offsets.items c.deref.result.now c.deref-5.result.now
+    c.in_ok-units.units.items
     c.deref-2.ensures.value c.deref.ensures.value c.deref-5.ensures.value c.in_ok-tables.ensures.found c.in_ok-offsets.ensures.named
 
 pub changed_units-requires-clause-written : goal.changed_units-requires-clause-written
 changed_units-requires-clause-written c =
-    named_keys c.in_ok-written.written.offsets c.deref-4.result.now c.in_ok-offsets.offsets.items c.deref.result.now c.deref-5.result.now c.in_ok-units.units.items
+    named_keys c.in_ok-written.written.offsets c.deref-4.result.now c.in_ok-offsets.offsets.items c.deref.result.now c.deref-5.result.now
+    c.in_ok-units.units.items
     c.deref-4.ensures.value c.deref.ensures.value c.deref-5.ensures.value c.in_ok-written.ensures.found c.in_ok-offsets.ensures.named

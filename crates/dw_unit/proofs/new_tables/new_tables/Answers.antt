@@ -16,7 +16,8 @@ loop-offset-preserved c =
       bytes = λ s abbrevs own.
           let table : table_at s.abbrevs offset ≡ _ = ap (λ (l : List ℕ). table_at l offset) abbrevs ∙ c.find-table.ensures.table in
           c.in_ok-put_table.ensures s own
-          ∙ ap (λ (t : Table). c.loop-offset.bytes.items ++ (flat_map (λ d. declaration_bytes (is_own s d) d) t.list ++ 0 ∷ [])) (sym table)
+          ∙ ap (λ (t : Table). c.loop-offset.bytes.items ++ (flat_map (λ d. declaration_bytes (is_own s d) d) t.list ++ 0 ∷ []))
+          (sym table)
           ∙ ap (λ (l : List ℕ). l ++ table_bytes s offset) (c.loop-offset.invariant.bytes s abbrevs own)
           ∙ sym (flat_more (table_bytes s) offsets i 0 c.loop-offset-test.true);
       starts = λ s abbrevs own q n e.
@@ -25,10 +26,12 @@ loop-offset-preserved c =
           let here : c.len.result ≡ length (flat_map f (filter (λ o. nat_lt o offset) offsets)) =
           len_is ∙ ap length (c.loop-offset.invariant.bytes s abbrevs own)
           ∙ sym (ap (λ (l : List ℕ). length (flat_map f l)) (below_offset offsets i 0 c.requires.rising c.loop-offset-test.true)) in
-          keys_more (λ (q n : ℕ). n ≡ length (flat_map f (filter (λ o. nat_lt o q) offsets))) c.loop-offset.starts c.insert.new.self offset c.len.result
+          keys_more (λ (q n : ℕ). n ≡ length (flat_map f (filter (λ o. nat_lt o q) offsets))) c.loop-offset.starts c.insert.new.self
+          offset c.len.result
           (λ q n e. c.loop-offset.invariant.starts s abbrevs own q n e) here (λ q. c.in_ok-insert.ensures.updates.0 q) q n e;
       keys = below_more (λ (k : ℕ). HasKey c.insert.new.self (get_or offsets k 0)) i
-          (λ k h. keys_kept c.loop-offset.starts c.insert.new.self offset c.len.result (λ q. c.in_ok-insert.ensures.updates.0 q) (get_or offsets k 0)
+          (λ k h. keys_kept c.loop-offset.starts c.insert.new.self offset c.len.result (λ q. c.in_ok-insert.ensures.updates.0 q)
+          (get_or offsets k 0)
           (c.loop-offset.invariant.keys k h))
           (key_there c.loop-offset.starts c.insert.new.self offset c.len.result (λ q. c.in_ok-insert.ensures.updates.0 q));
     }

@@ -1,4 +1,5 @@
-use Rattle.std.proofs.Common.{rules, ◌≡◌, ◌<◌, ◌^◌, ◌+◌, ◌∙◌, ◌++◌, ◌∷◌, [], ℕ, Bool, true, false, List, refl, Ok, Option, None, ap, sym, subst, take, is_some, nat_cmp, option_map}
+use Rattle.std.proofs.Common.{rules, ◌≡◌, ◌<◌, ◌^◌, ◌+◌, ◌∙◌, ◌++◌, ◌∷◌, [], ℕ, Bool, true, false, List, refl, Ok, Option, None, ap, sym}
+use Rattle.std.proofs.Common.{subst, take, is_some, nat_cmp, option_map}
 use Rattle.std.specs.Prelude.{◌||◌}
 use Rattle.std.specs.BTreeMap.{get}
 use Rattle.std.proofs.lemmas.List.{take_more}
@@ -32,8 +33,10 @@ loop-unit-preserved c = λ q.
     let before : Bool = is_some (get nat_cmp c.loop-unit.places q) in
     let same : before ≡ names_own section (take i ws) q = c.loop-unit.invariant q in
     let step : names_own section (take (i + 1) ws) q ≡ (before || own_test q found) =
-    ap (λ (l : List Walked). names_own section l q) (take_more ws i w c.loop-unit-test.true ∙ ap (λ (x : Walked). take i ws ++ x ∷ []) (sym c.unit-item.is))
-    ∙ own_more section (take i ws) w u q read ∙ ap (λ (b : Bool). b || is_own_of q u) (sym same) ∙ ap (λ (b : Bool). before || b) (own_by q u found own) in
+    ap (λ (l : List Walked). names_own section l q) (take_more ws i w c.loop-unit-test.true
+    ∙ ap (λ (x : Walked). take i ws ++ x ∷ []) (sym c.unit-item.is))
+    ∙ own_more section (take i ws) w u q read ∙ ap (λ (b : Bool). b || is_own_of q u) (sym same)
+    ∙ ap (λ (b : Bool). before || b) (own_by q u found own) in
     elim c.match-branch-2.branch [
       | in-Some+in_ok-insert v ↦
           ap (λ m. is_some (get nat_cmp m q)) v.places-is
@@ -42,7 +45,8 @@ loop-unit-preserved c = λ q.
           ∙ sym step
       | in_default v ↦
           let none : found ≡ None = search rules in
-          ap (λ m. is_some (get nat_cmp m q)) v.places-is ∙ sym (ap (λ (o : Option OwnEntry). before || own_test q o) none ∙ or_nothing before) ∙ sym step
+          ap (λ m. is_some (get nat_cmp m q)) v.places-is ∙ sym (ap (λ (o : Option OwnEntry). before || own_test q o) none
+          ∙ or_nothing before) ∙ sym step
     ]
 
 pub own_entry-requires-clause-read : goal.own_entry-requires-clause-read
@@ -53,8 +57,10 @@ own_entry-requires-clause-read c =
 
 pub own_entry-requires-clause-named : goal.own_entry-requires-clause-named
 own_entry-requires-clause-named c =
-    offset_key c.args.tables.now.starts c.args.units.now c.loop-unit.unit-index c.unit-item.result c.unit-item.result c.requires.named c.loop-unit-test.true c.unit-item.is
+    offset_key c.args.tables.now.starts c.args.units.now c.loop-unit.unit-index c.unit-item.result c.unit-item.result c.requires.named
+    c.loop-unit-test.true c.unit-item.is
 
 pub own_entry-requires-clause-within : goal.own_entry-requires-clause-within
 own_entry-requires-clause-within c =
-    subst (λ (w : Walked). end_of w < 2 ^ 64) (sym c.unit-item.is) (c.requires.within c.loop-unit.unit-index c.unit-item.result c.loop-unit-test.true)
+    subst (λ (w : Walked). end_of w < 2 ^ 64) (sym c.unit-item.is)
+    (c.requires.within c.loop-unit.unit-index c.unit-item.result c.loop-unit-test.true)

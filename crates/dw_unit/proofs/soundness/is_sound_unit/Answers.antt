@@ -16,8 +16,10 @@ returns-then-not-are_sound_attrs c =
     let sound : ListedEntry → Bool = λ e. list_all test e.attrs in
     let e : ListedEntry = c.entry-item.result in
     let attrs_are : c.deref.result.now ≡ e.attrs = search (rules, c.deref.ensures.value, c.entry.view_is) in
-    let here : sound e ≡ false = ap (list_all test) (sym attrs_are) ∙ sym (c.are_sound_attrs.ensures (plain_unit es) c.bases-bases.ensures) ∙ c.if-not-are_sound_attrs.true in
-    sym (plain_sound test es ∙ list_all_at sound es c.loop-entry.entry-index e c.loop-entry-test.true (ap sound (sym c.entry-item.is) ∙ here))
+    let here : sound e ≡ false = ap (list_all test) (sym attrs_are)
+    ∙ sym (c.are_sound_attrs.ensures (plain_unit es) c.bases-bases.ensures) ∙ c.if-not-are_sound_attrs.true in
+    sym (plain_sound test es ∙ list_all_at sound es c.loop-entry.entry-index e c.loop-entry-test.true (ap sound (sym c.entry-item.is)
+    ∙ here))
 
 pub returns : goal.returns
 returns c =
@@ -25,5 +27,6 @@ returns c =
     let test : Attr → Bool = is_sound_attr c.args.addr.now (plain_unit es) in
     let sound : ListedEntry → Bool = λ e. list_all test e.attrs in
     let done : c.loop-entry.entry-index ≡ length es = omega (arith, c.loop-entry-test.false, c.loop-entry.auto.entry-index-end) in
-    let all : list_all sound es ≡ true = ap (list_all sound) (sym (take-length es) ∙ ap (λ (n : ℕ). take n es) (sym done)) ∙ c.loop-entry.invariant in
+    let all : list_all sound es ≡ true = ap (list_all sound) (sym (take-length es) ∙ ap (λ (n : ℕ). take n es) (sym done))
+    ∙ c.loop-entry.invariant in
     sym (plain_sound test es ∙ all)

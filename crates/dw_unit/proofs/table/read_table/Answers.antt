@@ -15,7 +15,8 @@ table-init c =
     ap (λ (r : Reading). r.left) c.new-cursor.ensures ∙ c.split_at.ensures.back in
     record {
       same =
-          ap (λ (l : List code.Declaration.Declaration). with_before (map told_declaration l) (table_within (length c.new-cursor.result.left) size c.new-cursor.result.left)) c.new-list.ensures.items
+          ap (λ (l : List code.Declaration.Declaration). with_before (map told_declaration l)
+          (table_within (length c.new-cursor.result.left) size c.new-cursor.result.left)) c.new-list.ensures.items
           ∙ ap (λ (l : List ℕ). with_before [] (table_within (length l) size l)) left_is ∙ table_starts c.args.section.now c.args.offset;
       on = omega (arith, ap length left_is, length-drop c.args.offset c.args.section.now);
     }
@@ -28,10 +29,17 @@ table-preserved c =
     let d : Declaration = told_declaration c.in-Ok-Some.declaration in
     record {
       same =
-          ap (λ (l : List Declaration). with_before l (table_within (length c.next_declaration.new.cursor.left) size c.next_declaration.new.cursor.left))
-          (ap (map told_declaration) c.in_ok-push-in-Ok-Some.ensures.items ∙ map-append told_declaration c.table.list.items (c.in-Ok-Some.declaration ∷ []))
+          ap (λ (l : List Declaration). with_before l (table_within (length c.next_declaration.new.cursor.left) size
+          c.next_declaration.new.cursor.left))
+          (ap (map told_declaration) c.in_ok-push-in-Ok-Some.ensures.items
+          ∙ map-append told_declaration c.table.list.items (c.in-Ok-Some.declaration ∷ []))
           ∙ table_more ds d size c.table.cursor.left c.next_declaration.new.cursor.left read ∙ c.table.invariant.same;
-      on = omega (arith, declaration_forward (size - length c.table.cursor.left) c.table.cursor.left c.next_declaration.new.cursor.left _ read, c.table.invariant.on);
+      on = omega (
+        arith,
+        declaration_forward (size - length c.table.cursor.left) c.table.cursor.left c.next_declaration.new.cursor.left _
+            read,
+        c.table.invariant.on,
+      );
     }
 
 pub returns-in-Ok-None : goal.returns-in-Ok-None
@@ -45,5 +53,6 @@ returns-in-Ok-None c =
 pub returns-in-Err-Trouble : goal.returns-in-Err-Trouble
 returns-in-Err-Trouble c =
     let broken = rw c.in-Err-Trouble.field-0-is at c.in-Err-Trouble.ensures.trouble in
-    sym (table_breaks (map told_declaration c.table.list.items) (length c.args.section.now) c.table.cursor.left c.in-Err-Trouble.field-0-0 broken)
+    sym (table_breaks (map told_declaration c.table.list.items) (length c.args.section.now) c.table.cursor.left c.in-Err-Trouble.field-0-0
+    broken)
     ∙ c.table.invariant.same

@@ -12,9 +12,11 @@ use Rattle.dw_unit.proofs.MapKeys.{keys_kept}
 use Rattle.dw_unit.proofs.Starts.{mark_more}
 use Rattle.dw_unit.proofs.tables.mark.Goals as goal
 
-told_at : (items : List code.Declaration.Declaration) (i : ℕ) (x : code.Declaration.Declaration) → i < length items → x ≡ get_or items i x →
+told_at : (items : List code.Declaration.Declaration) (i : ℕ) (x : code.Declaration.Declaration) → i < length items →
+    x ≡ get_or items i x →
     slice_get (map told_declaration items) i ≡ Some (told_declaration x)
-told_at items i x h e = slice_get-map told_declaration items i ∙ ap (λ o. option_map told_declaration o) (slice_get_read items (length items) i x refl h e)
+told_at items i x h e = slice_get-map told_declaration items i ∙ ap (λ o. option_map told_declaration o)
+    (slice_get_read items (length items) i x refl h e)
 
 pub marks-preserved : goal.marks-preserved
 marks-preserved c =
@@ -27,9 +29,11 @@ marks-preserved c =
     let there = told_at items i x h item in
     record {
       form = c.lower_of-form.ensures ∙ ap (λ b. lower_if b x.place c.marks.form) c.has_bad_form.ensures
-          ∙ least_with has_bad_form (map told_declaration items) i c.marks.index (told_declaration x) c.marks.form next there c.marks.invariant.form;
+          ∙ least_with has_bad_form (map told_declaration items) i c.marks.index (told_declaration x) c.marks.form next there
+          c.marks.invariant.form;
       high = c.lower_of-high.ensures ∙ ap (λ b. lower_if b x.place c.marks.high) c.has_bad_high.ensures
-          ∙ least_with has_bad_high (map told_declaration items) i c.marks.index (told_declaration x) c.marks.high next there c.marks.invariant.high;
+          ∙ least_with has_bad_high (map told_declaration items) i c.marks.index (told_declaration x) c.marks.high next there
+          c.marks.invariant.high;
       marks = c.marks.invariant.marks;
       keeps = c.marks.invariant.keeps;
     }
@@ -44,9 +48,11 @@ marks-preserved-in_ok-insert c =
     let item : x ≡ get_or items i x = search rules in
     let there = told_at items i x h item in
     let form_is = c.lower_of-form.ensures ∙ ap (λ b. lower_if b x.place c.marks.form) c.has_bad_form.ensures
-    ∙ least_with has_bad_form (map told_declaration items) i c.marks.index (told_declaration x) c.marks.form next there c.marks.invariant.form in
+    ∙ least_with has_bad_form (map told_declaration items) i c.marks.index (told_declaration x) c.marks.form next there
+    c.marks.invariant.form in
     let high_is = c.lower_of-high.ensures ∙ ap (λ b. lower_if b x.place c.marks.high) c.has_bad_high.ensures
-    ∙ least_with has_bad_high (map told_declaration items) i c.marks.index (told_declaration x) c.marks.high next there c.marks.invariant.high in
+    ∙ least_with has_bad_high (map told_declaration items) i c.marks.index (told_declaration x) c.marks.high next there
+    c.marks.invariant.high in
     let t : Table = told_table c.args.table.now in
     let s0 : Start = record { number = c.args.number; index = i; form = c.lower_of-form.result; high = c.lower_of-high.result } in
     let is : IsMark t c.args.number x.place s0 = record {
@@ -60,5 +66,6 @@ marks-preserved-in_ok-insert c =
       high = high_is;
       marks = mark_more t c.args.number c.args.starts.now c.marks.starts c.insert.new.self x.place s0 c.marks.invariant.marks
           (λ q. c.in_ok-insert.ensures.updates.0 q) is;
-      keeps = λ q h. keys_kept c.marks.starts c.insert.new.self x.place s0 (λ q. c.in_ok-insert.ensures.updates.0 q) q (c.marks.invariant.keeps q h);
+      keeps = λ q h. keys_kept c.marks.starts c.insert.new.self x.place s0 (λ q. c.in_ok-insert.ensures.updates.0 q) q
+          (c.marks.invariant.keeps q h);
     }

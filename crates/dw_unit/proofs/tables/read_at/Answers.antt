@@ -45,7 +45,8 @@ returns-clause-right c = λ q s e.
 pub returns-clause-keeps : goal.returns-clause-keeps
 returns-clause-keeps c = λ q h.
     let s0 : Start = record { number = c.len-number.result; index = 0; form = c.in_ok-form.form; high = c.in_ok-form.high } in
-    keys_kept c.mark.new.starts c.insert.new.self c.args.offset s0 (λ q. c.in_ok-insert.ensures.updates.0 q) q (c.in_ok-form.ensures.keeps q h)
+    keys_kept c.mark.new.starts c.insert.new.self c.args.offset s0 (λ q. c.in_ok-insert.ensures.updates.0 q) q
+    (c.in_ok-form.ensures.keeps q h)
 
 pub returns-clause-there : goal.returns-clause-there
 returns-clause-there c =

@@ -19,10 +19,12 @@ returns c = λ s units tables readings.
     let declared : List ℕ = places_with has_bad_form (declarations s) in
     let formless : List ℕ = flat_map (λ (w : Walked). unformed (unit_of s.abbrevs w)) ws in
     let version : c.or-version.result ≡ p.version = c.or-version.ensures
-    ∙ ap (λ (o : Option ℕ). option_or o c.other_version-table.result) (c.other_version-unit.ensures ∙ ap (first_place (λ (w : Walked). w.is_other)) units)
+    ∙ ap (λ (o : Option ℕ). option_or o c.other_version-table.result) (c.other_version-unit.ensures
+    ∙ ap (first_place (λ (w : Walked). w.is_other)) units)
     ∙ ap (option_or (other_version 5 s.info)) (c.other_version-table.ensures ∙ ap (first_place (λ (w : Walked). w.is_other)) tables) in
     let form : c.lower-form.result ≡ p.form = c.lower-form.ensures
-    ∙ ap (λ (o : Option ℕ). lower o c.args.readings.now.unformed) are.form ∙ ap (lower (least declared)) are.unformed ∙ sym (least-append declared formless) in
+    ∙ ap (λ (o : Option ℕ). lower o c.args.readings.now.unformed) are.form ∙ ap (lower (least declared)) are.unformed
+    ∙ sym (least-append declared formless) in
     let bad : c.or-bad.result ≡ p.bad = c.or-bad.ensures
     ∙ ap (λ (o : Option ℕ). option_or o c.bad_table-broken.result) are.bad
     ∙ ap (option_or (first_place (is_bad s) ws)) (c.bad_table-broken.ensures

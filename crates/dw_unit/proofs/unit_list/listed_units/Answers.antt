@@ -17,12 +17,15 @@ returns-in_err-refused-clause-fault c =
     let units : c.deref-4.result.now ≡ walked 5 s.info = c.deref-4.ensures.value ∙ c.in_ok-units.ensures in
     let tables : c.deref-5.result.now ≡ walked 5 s.addr = c.deref-5.ensures.value ∙ c.in_ok-address_tables.ensures in
     let are : AreReadings s.abbrevs s.addr c.deref-3.result.now c.in_ok-readings.readings =
-    subst (λ (a : List ℕ). AreReadings a s.addr c.deref-3.result.now c.in_ok-readings.readings) c.in_ok-tables.ensures.section c.in_ok-readings.ensures in
+    subst (λ (a : List ℕ). AreReadings a s.addr c.deref-3.result.now c.in_ok-readings.readings) c.in_ok-tables.ensures.section
+    c.in_ok-readings.ensures in
     let here : AreReadings s.abbrevs s.addr c.deref-4.result.now c.in_ok-readings.readings =
-    subst (λ (us : List Walked). AreReadings s.abbrevs s.addr us c.in_ok-readings.readings) (c.deref-3.ensures.value ∙ sym c.deref-4.ensures.value) are in
+    subst (λ (us : List Walked). AreReadings s.abbrevs s.addr us c.in_ok-readings.readings) (c.deref-3.ensures.value
+    ∙ sym c.deref-4.ensures.value) are in
     let same = c.fault_places-places.ensures s units tables here in
     let p = err_from_is_err_and c.from_residual-in_err-refused.result c.from_residual-in_err-refused.ensures.1 in
-    rw (p.1, p.2) (subst (λ (p : FaultPlaces). IsAnswered (HasDwarfFault p) c.in_err-refused.field-0.0) same c.in_err-refused.ensures.fault)
+    rw (p.1, p.2) (subst (λ (p : FaultPlaces). IsAnswered (HasDwarfFault p) c.in_err-refused.field-0.0) same
+    c.in_err-refused.ensures.fault)
 
 pub returns-clause-entries : goal.returns-clause-entries
 returns-clause-entries c =
@@ -30,11 +33,14 @@ returns-clause-entries c =
     let units : c.deref-4.result.now ≡ walked 5 s.info = c.deref-4.ensures.value ∙ c.in_ok-units.ensures in
     let tables : c.deref-5.result.now ≡ walked 5 s.addr = c.deref-5.ensures.value ∙ c.in_ok-address_tables.ensures in
     let are : AreReadings s.abbrevs s.addr c.deref-3.result.now c.in_ok-readings.readings =
-    subst (λ (a : List ℕ). AreReadings a s.addr c.deref-3.result.now c.in_ok-readings.readings) c.in_ok-tables.ensures.section c.in_ok-readings.ensures in
+    subst (λ (a : List ℕ). AreReadings a s.addr c.deref-3.result.now c.in_ok-readings.readings) c.in_ok-tables.ensures.section
+    c.in_ok-readings.ensures in
     let here : AreReadings s.abbrevs s.addr c.deref-4.result.now c.in_ok-readings.readings =
-    subst (λ (us : List Walked). AreReadings s.abbrevs s.addr us c.in_ok-readings.readings) (c.deref-3.ensures.value ∙ sym c.deref-4.ensures.value) are in
+    subst (λ (us : List Walked). AreReadings s.abbrevs s.addr us c.in_ok-readings.readings) (c.deref-3.ensures.value
+    ∙ sym c.deref-4.ensures.value) are in
     let same = c.fault_places-places.ensures s units tables here in
-    all_listed s c.in_ok-readings.readings (subst (λ (us : List Walked). AreReadings s.abbrevs s.addr us c.in_ok-readings.readings) units here)
+    all_listed s c.in_ok-readings.readings (subst (λ (us : List Walked). AreReadings s.abbrevs s.addr us c.in_ok-readings.readings) units
+    here)
     (subst (λ (p : FaultPlaces). IsFree (HasDwarfFault p)) same c.in_ok-refused.ensures.free)
 
 pub returns-clause-sound : goal.returns-clause-sound
@@ -43,21 +49,26 @@ returns-clause-sound c =
     let units : c.deref-4.result.now ≡ walked 5 s.info = c.deref-4.ensures.value ∙ c.in_ok-units.ensures in
     let tables : c.deref-5.result.now ≡ walked 5 s.addr = c.deref-5.ensures.value ∙ c.in_ok-address_tables.ensures in
     let are : AreReadings s.abbrevs s.addr c.deref-3.result.now c.in_ok-readings.readings =
-    subst (λ (a : List ℕ). AreReadings a s.addr c.deref-3.result.now c.in_ok-readings.readings) c.in_ok-tables.ensures.section c.in_ok-readings.ensures in
+    subst (λ (a : List ℕ). AreReadings a s.addr c.deref-3.result.now c.in_ok-readings.readings) c.in_ok-tables.ensures.section
+    c.in_ok-readings.ensures in
     let here : AreReadings s.abbrevs s.addr c.deref-4.result.now c.in_ok-readings.readings =
-    subst (λ (us : List Walked). AreReadings s.abbrevs s.addr us c.in_ok-readings.readings) (c.deref-3.ensures.value ∙ sym c.deref-4.ensures.value) are in
+    subst (λ (us : List Walked). AreReadings s.abbrevs s.addr us c.in_ok-readings.readings) (c.deref-3.ensures.value
+    ∙ sym c.deref-4.ensures.value) are in
     let same = c.fault_places-places.ensures s units tables here in
     subst (λ (p : FaultPlaces). IsFree (HasDwarfFault p)) same c.in_ok-refused.ensures.free
 
 pub read_units-requires-clause-named : goal.read_units-requires-clause-named
 read_units-requires-clause-named c =
-    named_keys c.in_ok-tables.tables.starts c.deref-2.result.now c.in_ok-offsets.offsets.items c.deref.result.now c.deref-3.result.now c.in_ok-units.units.items
+    named_keys c.in_ok-tables.tables.starts c.deref-2.result.now c.in_ok-offsets.offsets.items c.deref.result.now c.deref-3.result.now
+    c.in_ok-units.units.items
     c.deref-2.ensures.value c.deref.ensures.value c.deref-3.ensures.value c.in_ok-tables.ensures.found c.in_ok-offsets.ensures.named
 
 pub read_units-requires-clause-within : goal.read_units-requires-clause-within
 read_units-requires-clause-within c =
-    subst (λ (ws : List Walked). All (λ w. end_of w < 2 ^ 64) ws) (sym (c.deref-3.ensures.value ∙ c.in_ok-units.ensures)) (walked_ends 5 c.args.info.now (omega arith))
+    subst (λ (ws : List Walked). All (λ w. end_of w < 2 ^ 64) ws) (sym (c.deref-3.ensures.value ∙ c.in_ok-units.ensures))
+    (walked_ends 5 c.args.info.now (omega arith))
 
 pub read_units-requires-clause-short : goal.read_units-requires-clause-short
 read_units-requires-clause-short c =
-    subst (λ (ws : List Walked). All (λ w. size_of w < 2 ^ 32) ws) (sym (c.deref-3.ensures.value ∙ c.in_ok-units.ensures)) (walked_short 5 c.args.info.now (λ k. omega (arith, c.type_inv.info k)))
+    subst (λ (ws : List Walked). All (λ w. size_of w < 2 ^ 32) ws) (sym (c.deref-3.ensures.value ∙ c.in_ok-units.ensures))
+    (walked_short 5 c.args.info.now (λ k. omega (arith, c.type_inv.info k)))

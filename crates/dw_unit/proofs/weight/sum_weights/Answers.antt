@@ -20,7 +20,8 @@ loop-offset-preserved c = λ s e.
     ∙ ap (λ (n : ℕ). min (n + c.table_weight.result) limit) (c.loop-offset.invariant s e)
     ∙ ap (λ (n : ℕ). min (min sum limit + n) limit) more
     ∙ saturated sum (table_weight s offset) limit
-    ∙ ap (λ (n : ℕ). min n limit) (sym (sum_by_more (table_weight s) c.args.offsets.now c.loop-offset.offset-index 0 c.loop-offset-test.true))
+    ∙ ap (λ (n : ℕ). min n limit) (sym (sum_by_more (table_weight s) c.args.offsets.now c.loop-offset.offset-index 0
+    c.loop-offset-test.true))
 
 pub find-table-requires : goal.find-table-requires
 find-table-requires c = c.requires c.loop-offset.offset-index c.loop-offset-test.true

@@ -4,9 +4,9 @@ use Rattle.byteorder.specs.Endian.{little_bytes}
 use Rattle.cfi_rows.specs.declared.frame_table.Fde.{Fde as ReadFde}
 use Rattle.cfi_rows.specs.KeptTables.{SaidFrames}
 use Rattle.cfi_rows.specs.Entries.{frames}
-use Rattle.frame_rewrite.specs.IndexPairs.{distance, pairs_of}
+use Rattle.frame_rewrite.specs.Index.{distance}
 use Rattle.frame_rewrite.proofs.Appends.{four-puts}
-use Rattle.frame_rewrite.proofs.IndexBack.{index-of, index-size}
+use Rattle.frame_rewrite.proofs.IndexBack.{index-of, index-size, pairs_of}
 use Rattle.frame_rewrite.proofs.NumbersBack.{length-little}
 use Rattle.frame_rewrite.proofs.index.header.Goals as goal
 

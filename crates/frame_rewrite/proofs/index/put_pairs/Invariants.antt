@@ -1,5 +1,5 @@
 use Rattle.std.proofs.Common.{◌≡◌, ◌++◌, drop, flat_map}
-use Rattle.frame_rewrite.specs.IndexPairs.{pairs_of}
+use Rattle.frame_rewrite.proofs.IndexBack.{pairs_of}
 use Rattle.frame_rewrite.proofs.index.put_pairs.Given as goal
 
 abbrev pub invariant-loop-fde : goal.invariant-loop-fde

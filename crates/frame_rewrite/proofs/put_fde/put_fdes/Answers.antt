@@ -1,12 +1,13 @@
 use Rattle.std.proofs.Common.{◌∙◌, ◌≡◌, ◌≤◌, ◌+◌, ◌-◌, ◌++◌, ◌∷◌, ◌^◌, ℕ, List, ap, sym, subst, arith, take, drop, length}
+use Rattle.std.proofs.lemmas.List.{nil_from_length}
 use Rattle.std.specs.Prelude.{All}
 use Rattle.table_core.specs.declared.run.Run.{Run}
 use Rattle.table_core.specs.AnswerRuns.{IsWithin}
 use Rattle.frame_rewrite.specs.FrameAnswers.{FrameAnswer}
 use Rattle.frame_rewrite.specs.SpelledFits.{EndFits, RunAscends, Writes, WritesAll}
 use Rattle.frame_rewrite.specs.SpelledFrames.{more_count, start_of, last_end, spelled_entry, spelled_entries, fde_entry, fde_entries}
-use Rattle.frame_rewrite.proofs.Appends.{empty}
-use Rattle.frame_rewrite.proofs.EntrySteps.{no-entries, no-writes, out-of-fuel, out-of-writes, group-ends, group-start, group-more, writes-more, within-behind, before-behind, ascend-behind, group-ascends, longer}
+use Rattle.frame_rewrite.proofs.EntrySteps.{no-entries, no-writes, out-of-fuel, out-of-writes, group-ends, group-start, group-more}
+use Rattle.frame_rewrite.proofs.EntrySteps.{writes-more, within-behind, before-behind, ascend-behind, group-ascends, longer}
 use Rattle.frame_rewrite.proofs.TableBack.{Before}
 use Rattle.frame_rewrite.proofs.put_fde.put_fdes.Goals as goal
 
@@ -15,11 +16,11 @@ Runs = List (Run FrameAnswer)
 
 pub returns-in-None-clause-written : goal.returns-in-None-clause-written
 returns-in-None-clause-written c = no-entries _ _ _ _ _ c.loop-count.rest.now c.loop-count.out.items _
-    (empty c.loop-count.rest.now c.in-None.ensures.cases) c.loop-count.invariant.written
+    (nil_from_length c.loop-count.rest.now c.in-None.ensures.cases) c.loop-count.invariant.written
 
 pub returns-in-None-clause-writes : goal.returns-in-None-clause-writes
 returns-in-None-clause-writes c = no-writes _ _ _ _ c.loop-count.rest.now _
-    (empty c.loop-count.rest.now c.in-None.ensures.cases) c.loop-count.invariant.writes
+    (nil_from_length c.loop-count.rest.now c.in-None.ensures.cases) c.loop-count.invariant.writes
 
 pub returns-clause-written : goal.returns-clause-written
 returns-clause-written c = out-of-fuel _ _ _ _ c.loop-count.count _ c.loop-count.rest.now c.loop-count.out.items _

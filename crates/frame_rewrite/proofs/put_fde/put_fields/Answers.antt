@@ -15,7 +15,8 @@ same-less a b c d e f = cc
 pub returns-clause-written : goal.returns-clause-written
 returns-clause-written c =
     let size = same-less _ _ _ _ c.group_end.ensures c.start_of-start.ensures in
-    on_ok_weaker c.put_rows.result (λ e. five-puts c.args.out.now.items c.put_u64.new.out.items c.put_u64-2.new.out.items c.put_byte.new.out.items
+    on_ok_weaker c.put_rows.result (λ e. five-puts c.args.out.now.items c.put_u64.new.out.items c.put_u64-2.new.out.items
+    c.put_byte.new.out.items
     c.put_u64-3.new.out.items c.put_rows.new.out.items
     (little_bytes 8 (start_of c.args.map.now c.args.first.now))
     (little_bytes 8 (last_end (c.args.first.now.start + c.args.first.now.len) c.args.more.now - start_of c.args.map.now

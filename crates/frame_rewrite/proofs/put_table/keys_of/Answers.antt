@@ -21,12 +21,15 @@ loop-run-preserved c =
     (All-get_or RunReturns c.args.runs.now c.loop-run.run-index c.run-item.result c.loop-run-test.true c.requires)) in
     record {
       fits = subst (All KeyFits) (sym c.in_ok-insert.ensures.keys)
-          (all-inserted KeyFits _ c.loop-run.keys.keys k c.loop-run.invariant.fits (record { ra = small; handler = c.key_of.ensures.low }));
+          (all-inserted KeyFits _ c.loop-run.keys.keys k c.loop-run.invariant.fits
+          (record { ra = small; handler = c.key_of.ensures.low }));
       distinct = c.in_ok-insert.ensures.unique;
       among = λ kinds all. subst (All (Contains kinds)) (sym c.in_ok-insert.ensures.keys)
           (all-inserted (Contains kinds) _ c.loop-run.keys.keys k (c.loop-run.invariant.among kinds all)
-          (subst (Contains kinds) (sym c.key_of.ensures.key) (subst (λ (r : Run FrameAnswer). Contains kinds (key_of c.args.map.now r.answer)) (sym is)
-          (All-get_or (λ (r : Run FrameAnswer). Contains kinds (key_of c.args.map.now r.answer)) c.args.runs.now c.loop-run.run-index c.run-item.result
+          (subst (Contains kinds) (sym c.key_of.ensures.key) (subst
+          (λ (r : Run FrameAnswer). Contains kinds (key_of c.args.map.now r.answer)) (sym is)
+          (All-get_or (λ (r : Run FrameAnswer). Contains kinds (key_of c.args.map.now r.answer)) c.args.runs.now c.loop-run.run-index
+          c.run-item.result
           c.loop-run-test.true all))));
     }
 

@@ -18,5 +18,6 @@ loop-register-preserved c =
 
 pub returns-clause-fits : goal.returns-clause-fits
 returns-clause-fits c =
-    rules-fit 0 c.args.rules.now c.requires (all-taken EntryFits c.args.rules.now c.loop-register.register-index c.loop-register-test.false
+    rules-fit 0 c.args.rules.now c.requires (all-taken EntryFits c.args.rules.now c.loop-register.register-index
+    c.loop-register-test.false
     c.loop-register.invariant.fits)

@@ -1,10 +1,10 @@
 use Rattle.std.proofs.Common.{◌∙◌, ◌≡◌, true, rules, subst, length}
+use Rattle.std.proofs.lemmas.List.{nil_from_length}
 use Rattle.table_core.specs.Sections.{held}
 use Rattle.cfi_rows.specs.ReadFrames.{read_as, section_held}
 use Rattle.frame_rewrite.specs.FrameAnswers.{is_never_marked}
 use Rattle.frame_rewrite.specs.Tables.{debug_name}
 use Rattle.frame_rewrite.proofs.AnswersBack.{reached-before}
-use Rattle.frame_rewrite.proofs.Appends.{empty}
 use Rattle.frame_rewrite.proofs.ReturnRegisters.{Bytes}
 use Rattle.frame_rewrite.proofs.ToldRuns.{all-ascend, all-return}
 use Rattle.frame_rewrite.proofs.WrittenTables.{stands, none-listed, nothing-stands, debug-reached}
@@ -16,7 +16,7 @@ returns-then-is_empty-clause-law c =
     λ f there. nothing-stands true is_never_marked is_never_marked c.args.map.now c.args.runs.now
     (read_as c.args.table.now.frames).list (held f debug_name)
     (none-listed c.args.table.now.frames.debug (section_held c.args.table.now.frames)
-    (empty c.args.table.now.frames.section.items none)) (there ∙ c.new.ensures.items) c.requires.answers
+    (nil_from_length c.args.table.now.frames.section.items none)) (there ∙ c.new.ensures.items) c.requires.answers
 
 pub keys_of-requires : goal.keys_of-requires
 keys_of-requires c =

@@ -1,8 +1,8 @@
 use Rattle.std.proofs.Common.{◌≡◌, ◌∙◌, sym, ap, ℕ, true, false, arith}
+use Rattle.std.proofs.lemmas.Option.{same_Some}
 use Rattle.rv_code.specs.declared.inst.Inst.{Inst}
 use Rattle.rv_code.specs.isa.Action.{action_of}
 use Rattle.rv_code.specs.layout.Flow.{falls}
-use Rattle.func_find.proofs.PlacedAt.{pair_is}
 use Rattle.func_find.proofs.function_parts.falls_at.Goals as goal
 
 pub returns-then-end-address : goal.returns-then-end-address
@@ -15,7 +15,7 @@ returns-then-end-address c = (
     falls_out = sym c.falls.ensures ∙ out;
   }),
   (λ at.
-      let same = pair_is _ (at.inst, at.bytes) (c.in-Some.ensures.only at.inst at.bytes at.valid) in
+      let same = same_Some _ (at.inst, at.bytes) (c.in-Some.ensures.only at.inst at.bytes at.valid) in
       c.falls.ensures ∙ ap (λ (x : Inst × ℕ). falls (action_of x.0) true) same ∙ at.falls_out),
 )
 

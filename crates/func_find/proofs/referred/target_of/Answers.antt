@@ -1,8 +1,8 @@
 use Rattle.std.proofs.Common.{◌∙◌, sym, ap, ℕ}
+use Rattle.std.proofs.lemmas.Option.{same_Some}
 use Rattle.rv_code.specs.declared.inst.Inst.{Inst}
 use Rattle.rv_code.specs.isa.Action.{action_of}
 use Rattle.rv_code.specs.layout.Flow.{target}
-use Rattle.func_find.proofs.PlacedAt.{pair_is}
 use Rattle.func_find.proofs.referred.target_of.Goals as goal
 
 pub returns-in-Some : goal.returns-in-Some
@@ -15,7 +15,7 @@ returns-in-Some c = λ a. (
         ∙ is;
   }),
   (λ goes.
-      let same = pair_is _ (goes.inst, goes.bytes) (c.in-Some.ensures.only goes.inst goes.bytes goes.valid) in
+      let same = same_Some _ (goes.inst, goes.bytes) (c.in-Some.ensures.only goes.inst goes.bytes goes.valid) in
       c.target.ensures ∙ ap (λ (x : Inst × ℕ). target c.args.from (action_of x.0)) same ∙ goes.target_is),
 )
 

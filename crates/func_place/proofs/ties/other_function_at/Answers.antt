@@ -1,17 +1,14 @@
-use Rattle.std.proofs.Common.{ℕ, ◌≡◌, sym, ap, ◌∙◌, true, false, Some, None, refl}
+use Rattle.std.proofs.Common.{ℕ, ◌≡◌, sym, ap, ◌∙◌, refl}
 use Rattle.std.specs.Prelude.{slice_index_or}
-use Rattle.std.proofs.lemmas.Option.{slice_get_read}
+use Rattle.std.proofs.lemmas.Option.{slice_get_read, none-some}
 use Rattle.rv_code.specs.layout.FunctionMembers.{func_holds}
 use Rattle.rv_code.proofs.lists.FunctionAt.{function_at-holds, function_at-within}
 use Rattle.func_place.proofs.ties.other_function_at.Goals as goal
 use Rattle.rb_bytes.proofs.Tests.{clash}
 
-not_some : (g : ℕ) → None ≡ Some g → ⊥
-not_some g e = cc
-
 pub returns-then-func_holds : goal.returns-then-func_holds
 returns-then-func_holds c = λ g. (
-  λ e. absurd (not_some g e),
+  λ e. absurd (none-some g e),
   λ found. absurd (found.1
       (function_at-holds c.args.funcs.now c.args.address c.args.place g c.index-funcs-place.result c.requires.funcs
       (slice_get_read c.args.funcs.now _ c.args.place c.index-funcs-place.result refl c.requires.inside c.index-funcs-place.is)

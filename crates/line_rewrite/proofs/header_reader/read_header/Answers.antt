@@ -3,7 +3,8 @@ use Rattle.std.proofs.lemmas.Result.{err_from_is_err_and}
 use Rattle.rb_bytes.specs.Readers.{Reading}
 use Rattle.line_rewrite.specs.Entries.{Strings, table_at}
 use Rattle.line_rewrite.specs.KeptEntries.{texts_strings}
-use Rattle.line_rewrite.specs.KeptUnits.{coding_at, are_filed}
+use Rattle.line_rewrite.specs.LineUnits.{coding_at}
+use Rattle.line_rewrite.specs.KeptUnits.{are_filed}
 use Rattle.line_rewrite.proofs.EntryLists.{tells_map}
 use Rattle.line_rewrite.proofs.Headers.{header_lacks, header_from, not_numbers, numbers_false, numbers_true, no_lengths, no_directories, no_files}
 use Rattle.line_rewrite.proofs.Headers.{no_gap, all_taken, taken_length, header_unfiled, header_made, tables_made}

@@ -1,8 +1,9 @@
 use Rattle.std.proofs.Common.{ℕ, List, ◌==◌, not}
+use Rattle.std.specs.Bool.{beq}
 use Rattle.line_rewrite.specs.declared.registers.Registers.{Registers}
 use Rattle.line_rewrite.specs.declared.operation.LineOp.TheVariants.{SetFile, SetColumn, NegateStmt, SetBasicBlock, SetPrologueEnd}
 use Rattle.line_rewrite.specs.declared.operation.LineOp.TheVariants.{SetEpilogueBegin, SetIsa, SetDiscriminator}
-use Rattle.line_rewrite.specs.Written.{unless, same_flag, step_ops}
+use Rattle.line_rewrite.specs.Written.{unless, step_ops}
 use Rattle.line_rewrite.proofs.RowOps.{spelled_more, first2, first3, first4, first5, first6, first7, first8}
 use Rattle.line_rewrite.proofs.row_writer.put_row.Goals as goal
 
@@ -23,7 +24,7 @@ returns-clause-written c =
     (spelled_more out c.put_stmt_change.new.out.items c.put_unless-3.new.out.items (first3 from row)
     (unless (not row.basic_block) SetBasicBlock)
     (spelled_more out c.put_unless-2.new.out.items c.put_stmt_change.new.out.items (first2 from row)
-    (unless (same_flag from.is_stmt row.is_stmt) NegateStmt)
+    (unless (beq from.is_stmt row.is_stmt) NegateStmt)
     (spelled_more out c.put_unless.new.out.items c.put_unless-2.new.out.items (unless (from.file == row.file) (SetFile row.file))
     (unless (from.column == row.column) (SetColumn row.column))
     c.in_ok-put_unless.ensures c.in_ok-put_unless-2.ensures) c.in_ok-put_stmt_change.ensures) c.in_ok-put_unless-3.ensures)

@@ -4,7 +4,8 @@ use Rattle.rb_bytes.specs.Fault.{fault_at}
 use Rattle.table_core.specs.DebugUnits.{Walked}
 use Rattle.line_rewrite.specs.Entries.{Strings}
 use Rattle.line_rewrite.specs.KeptEntries.{texts_strings}
-use Rattle.line_rewrite.specs.UnitLists.{unit_in, kept_size, walked_size}
+use Rattle.line_rewrite.specs.LineUnits.{unit_in}
+use Rattle.line_rewrite.specs.UnitLists.{kept_size, walked_size}
 use Rattle.line_rewrite.proofs.LineFaults.{units_nothing, units_more, units_all, units_fault}
 use Rattle.line_rewrite.proofs.unit_list.units_in.Goals as goal
 

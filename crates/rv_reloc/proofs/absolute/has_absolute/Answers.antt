@@ -1,7 +1,7 @@
 use Rattle.std.proofs.Common.{◌≡◌, false, true}
 use Rattle.rv_reloc.specs.Records.{seen}
 use Rattle.rv_reloc.proofs.Absolutes.{has-absolute, absolute-part, absolute-full}
-use Rattle.rv_reloc.proofs.Options.{same_some, not_found}
+use Rattle.rb_bytes.proofs.Options.{same_some, not_found}
 use Rattle.rv_reloc.proofs.absolute.has_absolute.Goals as goal
 
 pub returns-in-Some : goal.returns-in-Some

@@ -1,7 +1,7 @@
 use Rattle.std.proofs.Common.{◌≡◌, ◌∙◌, sym, false, true}
 use Rattle.rv_reloc.specs.Records.{seen}
 use Rattle.rv_reloc.proofs.Absolutes.{kind_absolute, bad-absolute}
-use Rattle.rv_reloc.proofs.Options.{same_some, not_found}
+use Rattle.rb_bytes.proofs.Options.{same_some, not_found}
 use Rattle.rv_reloc.proofs.absolute.is_bad_absolute.Goals as goal
 
 pub has_absolute-requires-clause-kind : goal.has_absolute-requires-clause-kind

@@ -3,7 +3,7 @@ use Rattle.std.specs.Int.{w128}
 use Rattle.std.proofs.lemmas.Int.{to_z-of_z}
 use Rattle.elf_code.specs.ReferenceFaults.{IsAddress}
 use Rattle.rv_reloc.proofs.BadEntryPlaces.{misses-listed, entry-names, entry-far}
-use Rattle.rv_reloc.proofs.Options.{same_some, not_found}
+use Rattle.rb_bytes.proofs.Options.{same_some, not_found}
 use Rattle.rv_reloc.proofs.bad_entries.names_bad_entry.Goals as goal
 
 pub has_label_at-requires : goal.has_label_at-requires

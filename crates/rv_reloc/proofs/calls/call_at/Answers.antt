@@ -1,6 +1,6 @@
 use Rattle.std.proofs.Common.{Some}
 use Rattle.rv_reloc.proofs.CallFaults.{call_there, call_full, call_after}
-use Rattle.rv_reloc.proofs.Options.{same_some, not_found}
+use Rattle.rb_bytes.proofs.Options.{same_some, not_found}
 use Rattle.rv_reloc.proofs.calls.call_at.Goals as goal
 
 pub returns-in-Some-jump_after-clause-there : goal.returns-in-Some-jump_after-clause-there

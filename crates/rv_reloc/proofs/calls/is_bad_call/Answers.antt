@@ -1,7 +1,7 @@
 use Rattle.std.proofs.Common.{◌≡◌, ◌∙◌, sym, refl, false, true}
 use Rattle.rv_reloc.specs.Records.{seen}
 use Rattle.rv_reloc.proofs.CallFaults.{bad-none, bad-some, bad-is_call}
-use Rattle.rv_reloc.proofs.Options.{same_some, not_found}
+use Rattle.rb_bytes.proofs.Options.{same_some, not_found}
 use Rattle.rv_reloc.proofs.calls.is_bad_call.Goals as goal
 
 pub returns-then-not-is_call_pair : goal.returns-then-not-is_call_pair

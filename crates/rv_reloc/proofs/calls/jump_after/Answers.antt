@@ -1,6 +1,6 @@
 use Rattle.std.proofs.Common.{arith}
 use Rattle.rv_reloc.proofs.CallFaults.{jump_there, jump_full, jump_past, jump_held}
-use Rattle.rv_reloc.proofs.Options.{not_found}
+use Rattle.rb_bytes.proofs.Options.{not_found}
 use Rattle.code_starts.proofs.PartLookup.{AreApart-parts}
 use Rattle.rv_reloc.proofs.calls.jump_after.Goals as goal
 

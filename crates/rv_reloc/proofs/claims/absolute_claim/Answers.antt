@@ -3,7 +3,7 @@ use Rattle.elf_code.specs.ReferenceFaults.{IsMisfit}
 use Rattle.rv_reloc.specs.Records.{seen}
 use Rattle.rv_reloc.proofs.Absolutes.{bad-absolute}
 use Rattle.rv_reloc.proofs.AbsoluteClaims.{absolute_view, absolute-claim}
-use Rattle.rv_reloc.proofs.Options.{same_some, not_found}
+use Rattle.rb_bytes.proofs.Options.{same_some, not_found}
 use Rattle.rv_reloc.proofs.claims.absolute_claim.Goals as goal
 
 pub returns-else-not-has_absolute-clause-is : goal.returns-else-not-has_absolute-clause-is

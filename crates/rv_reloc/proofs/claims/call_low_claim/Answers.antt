@@ -3,7 +3,7 @@ use Rattle.elf_code.specs.ReferenceFaults.{IsMisfit}
 use Rattle.rv_reloc.specs.Records.{seen}
 use Rattle.rv_reloc.proofs.CallFaults.{pair_call}
 use Rattle.rv_reloc.proofs.CallClaims.{lo-claim, lo_view, no_target}
-use Rattle.rv_reloc.proofs.Options.{same_some, not_found, none_some}
+use Rattle.rb_bytes.proofs.Options.{same_some, not_found, none_some}
 use Rattle.rv_reloc.proofs.claims.call_low_claim.Goals as goal
 
 pub returns-in-Some-target-clause-is : goal.returns-in-Some-target-clause-is

@@ -4,7 +4,7 @@ use Rattle.rv_reloc.specs.Pairs.{IsTargetOf}
 use Rattle.rv_reloc.specs.Records.{seen}
 use Rattle.rv_reloc.proofs.UpperClaims.{lower_view, lower-claim, lower-address, part_low}
 use Rattle.rv_reloc.proofs.PairTargets.{lower_target}
-use Rattle.rv_reloc.proofs.Options.{same_some, not_found, none_some}
+use Rattle.rb_bytes.proofs.Options.{same_some, not_found, none_some}
 use Rattle.rv_reloc.proofs.claims.lower_claim.Goals as goal
 
 pub returns-in-Some-low_address-clause-is : goal.returns-in-Some-low_address-clause-is

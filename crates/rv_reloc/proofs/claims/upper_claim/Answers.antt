@@ -2,7 +2,7 @@ use Rattle.std.proofs.Common.{sym, refl, pos}
 use Rattle.rv_reloc.specs.Records.{seen}
 use Rattle.rv_reloc.proofs.UpperClaims.{upper_view, upper-claim, upper-address}
 use Rattle.rv_reloc.proofs.PairTargets.{upper_low}
-use Rattle.rv_reloc.proofs.Options.{none_some}
+use Rattle.rb_bytes.proofs.Options.{none_some}
 use Rattle.rv_reloc.proofs.claims.upper_claim.Goals as goal
 
 pub first_low-requires : goal.first_low-requires

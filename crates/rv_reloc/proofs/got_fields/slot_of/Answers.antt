@@ -2,7 +2,7 @@ use Rattle.std.proofs.Common.{◌≡◌, ◌∙◌, sym, ℕ, ◌<◌, ◌≤◌
 use Rattle.std.specs.Int.{w128}
 use Rattle.std.proofs.lemmas.Bool.{cases_lt}
 use Rattle.std.proofs.lemmas.Int.{to_z-of_z}
-use Rattle.rv_reloc.proofs.Options.{same_some, not_found}
+use Rattle.rb_bytes.proofs.Options.{same_some, not_found}
 use Rattle.rv_reloc.proofs.SlotFields.{slot-made, slot-named, slot-missing, label-listed}
 use Rattle.rv_reloc.proofs.Only.{some-only}
 use Rattle.rv_reloc.proofs.got_fields.slot_of.Goals as goal

@@ -4,7 +4,7 @@ use Rattle.elf_code.specs.Roles.{IsFullAt}
 use Rattle.rv_reloc.specs.declared.instructions.Upper.{Upper}
 use Rattle.rv_reloc.specs.Instructions.{auipc_of}
 use Rattle.rv_reloc.proofs.InstructionFields.{as_auipc}
-use Rattle.rv_reloc.proofs.Options.{same_some, not_found}
+use Rattle.rb_bytes.proofs.Options.{same_some, not_found}
 use Rattle.rv_reloc.proofs.instructions.auipc_at.Goals as goal
 
 pub returns-in-Some-clause-there : goal.returns-in-Some-clause-there

@@ -1,12 +1,9 @@
-use Rattle.std.proofs.Common.{◌≡◌, ◌∙◌, sym, refl, false, true, not, Bool, IsTrue, ◌↔◌}
+use Rattle.std.proofs.Common.{◌≡◌, ◌∙◌, sym, false, true}
+use Rattle.rb_bytes.proofs.Tests.{if_not}
 use Rattle.elf_code.specs.ReferenceFaults.{IsBadField}
 use Rattle.rv_reloc.specs.Records.{seen}
 use Rattle.rv_reloc.proofs.MisfitCases.{bad_symbol, field_cases}
 use Rattle.rv_reloc.proofs.misfits.has_bad_field.Goals as goal
-
-if_not : {C : Type 0} (b : Bool) → IsTrue b ↔ C → IsTrue (not b) ↔ (C → ⊥)
-if_not true test = (λ wrong. let never : false ≡ true = wrong in cc, λ wrong. absurd (wrong (test.0 refl)))
-if_not false test = (λ _ is. let never : false ≡ true = test.1 is in cc, λ _. refl)
 
 pub returns-then-has_bad_symbol : goal.returns-then-has_bad_symbol
 returns-then-has_bad_symbol c = (

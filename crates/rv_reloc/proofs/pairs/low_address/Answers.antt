@@ -4,7 +4,7 @@ use Rattle.std.proofs.lemmas.Int.{to_z-of_z}
 use Rattle.elf_code.specs.ReferenceFaults.{IsAddress}
 use Rattle.rv_reloc.specs.Pairs.{IsTargetOf}
 use Rattle.rv_reloc.proofs.Only.{some-only}
-use Rattle.rv_reloc.proofs.Options.{same_some, not_found}
+use Rattle.rb_bytes.proofs.Options.{same_some, not_found}
 use Rattle.rv_reloc.proofs.pairs.low_address.Goals as goal
 
 pub returns-in-Some-clause-is : goal.returns-in-Some-clause-is

@@ -3,7 +3,7 @@ use Rattle.std.specs.Int.{w128}
 use Rattle.std.proofs.lemmas.Int.{to_z-of_z}
 use Rattle.elf_code.specs.Roles.{pair_target}
 use Rattle.rv_reloc.specs.declared.instructions.Upper.{Upper}
-use Rattle.rv_reloc.proofs.Options.{same_some, not_found}
+use Rattle.rb_bytes.proofs.Options.{same_some, not_found}
 use Rattle.rv_reloc.proofs.pairs.low_target.Goals as goal
 
 kept : (hi : ℕ) (r r' u u' l l' : ℤ) → r' ≡ r → r ≡ pair_target hi u' l' → u' ≡ u → l' ≡ l → r' ≡ pair_target hi u l

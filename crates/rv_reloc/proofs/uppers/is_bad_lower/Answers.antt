@@ -1,7 +1,7 @@
 use Rattle.std.proofs.Common.{◌∙◌, sym}
 use Rattle.rv_reloc.specs.Records.{seen}
 use Rattle.rv_reloc.proofs.UpperFaults.{bad-is_lo, bad-low, bad-no_low}
-use Rattle.rv_reloc.proofs.Options.{not_found}
+use Rattle.rb_bytes.proofs.Options.{not_found}
 use Rattle.rv_reloc.proofs.uppers.is_bad_lower.Goals as goal
 
 pub returns-in-Some : goal.returns-in-Some

@@ -1,7 +1,7 @@
 use Rattle.std.proofs.Common.{◌≡◌, ◌∙◌, sym, refl, false, true}
 use Rattle.rv_reloc.specs.Records.{seen}
 use Rattle.rv_reloc.proofs.UpperFaults.{bad-is_hi, bad-no_auipc, bad-auipc}
-use Rattle.rv_reloc.proofs.Options.{not_found}
+use Rattle.rb_bytes.proofs.Options.{not_found}
 use Rattle.rv_reloc.proofs.uppers.is_bad_upper.Goals as goal
 
 pub is_named-requires : goal.is_named-requires

@@ -1,7 +1,7 @@
 use Rattle.std.proofs.Common.{◌≡◌, subst, false, true, Bool, ◌↔◌, IsTrue}
 use Rattle.elf_code.specs.Relocations.{HasRelocation, is_pcrel_hi}
 use Rattle.rv_reloc.proofs.UpperFaults.{upper-auipc}
-use Rattle.rv_reloc.proofs.Options.{not_found}
+use Rattle.rb_bytes.proofs.Options.{not_found}
 use Rattle.rv_reloc.proofs.uppers.is_upper.Goals as goal
 
 pub has_upper-upper-requires : goal.has_upper-upper-requires

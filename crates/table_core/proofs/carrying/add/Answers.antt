@@ -4,7 +4,8 @@ use Rattle.table_core.specs.LastRuns.{IfLast, IsAnswer, ends_at}
 use Rattle.table_core.specs.declared.run.Run.{Run}
 use Rattle.table_core.specs.AnswerRuns.{said_runs, run_at, answer_over}
 use Rattle.table_core.proofs.Grown.{run_at-more, longest-more, within-more, answer-more, said-more, IsApart, apart-end, last-weaker}
-use Rattle.table_core.proofs.Grown.{run_at-longer, within-longer, longest-longer, answer-longer, said-longer, said-ends, last-room, unsaid-within, and_then-Some}
+use Rattle.table_core.proofs.Grown.{run_at-longer, within-longer, longest-longer, answer-longer, said-longer, said-ends, last-room}
+use Rattle.table_core.proofs.Grown.{unsaid-within, and_then-Some}
 use Rattle.table_core.proofs.carrying.add.Goals as goal
 use Rattle.table_core.proofs.carrying.add.Goals.{else-ends_at-via-then-ends_at+else-ends_with, else-ends_at-via-else-ends_at}
 
@@ -12,14 +13,17 @@ pub ends_at-requires : goal.ends_at-requires
 ends_at-requires g c = rw c.deref.ensures.value (unsaid-within g.T.ByAddress.said 0 _ _ c.requires.before)
 
 pub lengthen-requires : goal.lengthen-requires
-lengthen-requires g c = last-room 0 _ c.args.start c.args.len (2 ^ 64) (unsaid-within g.T.ByAddress.said 0 _ _ c.requires.before) c.requires.fits
+lengthen-requires g c = last-room 0 _ c.args.start c.args.len (2 ^ 64) (unsaid-within g.T.ByAddress.said 0 _ _ c.requires.before)
+    c.requires.fits
 
 pub returns-then-ends_with-clause-answers : goal.returns-then-ends_with-clause-answers
 returns-then-ends_with-clause-answers g c = λ p.
     let said = g.T.ByAddress.said in
     let runs = c.args.runs.now.items in
-    let ends = said-ends said runs c.args.start ∙ ap (ends_at c.args.start) (sym c.deref.ensures.value) ∙ sym c.ends_at.ensures ∙ c.if-ends_at.true in
-    let is = subst (λ l. IsAnswer (Some (said c.args.answer)) (said_runs said l)) c.deref-then-ends_at.ensures.value (c.if-ends_with.ensures.has refl) in
+    let ends = said-ends said runs c.args.start ∙ ap (ends_at c.args.start) (sym c.deref.ensures.value) ∙ sym c.ends_at.ensures
+    ∙ c.if-ends_at.true in
+    let is = subst (λ l. IsAnswer (Some (said c.args.answer)) (said_runs said l)) c.deref-then-ends_at.ensures.value
+    (c.if-ends_with.ensures.has refl) in
     rw (c.lengthen.ensures, said-longer said runs c.args.len)
     (run_at-longer (said_runs said runs) c.args.start c.args.len p Some (said c.args.answer) ends is
     ∙ ap (option_or (run_at (said_runs said runs) p)) (and_then-Some (answer_over c.args.start c.args.len (said c.args.answer) p)))
@@ -35,7 +39,8 @@ returns-then-ends_with-clause-longer g c =
 pub returns-then-ends_with-clause-last : goal.returns-then-ends_with-clause-last
 returns-then-ends_with-clause-last g c =
     let said = g.T.ByAddress.said in
-    let is = subst (λ l. IsAnswer (Some (said c.args.answer)) (said_runs said l)) c.deref-then-ends_at.ensures.value (c.if-ends_with.ensures.has refl) in
+    let is = subst (λ l. IsAnswer (Some (said c.args.answer)) (said_runs said l)) c.deref-then-ends_at.ensures.value
+    (c.if-ends_with.ensures.has refl) in
     rw (c.lengthen.ensures, said-longer said c.args.runs.now.items c.args.len)
     (answer-longer (Some (said c.args.answer)) (said_runs said c.args.runs.now.items) c.args.len is)
 
@@ -55,10 +60,12 @@ returns-in_ok-push-clause-longer g c =
     let apart : IfLast (IsApart r) (said_runs said runs) = elim c.else-ends_at.branch [
       | else-ends_at-via-then-ends_at+else-ends_with w ↦
           last-weaker {P = λ l. l.answer ≢ r.answer} {Q = IsApart r} (said_runs said runs) (λ l differ meets. differ)
-          (subst (λ l. IfLast (λ m. m.answer ≢ r.answer) (said_runs said l)) w.deref-then-ends_at.ensures.value (w.ends_with.ensures.lacks w.if-ends_with.false))
+          (subst (λ l. IfLast (λ m. m.answer ≢ r.answer) (said_runs said l)) w.deref-then-ends_at.ensures.value
+          (w.ends_with.ensures.lacks w.if-ends_with.false))
       | else-ends_at-via-else-ends_at w ↦
           apart-end (said_runs said runs) r
-          (said-ends said runs c.args.start ∙ ap (ends_at c.args.start) (sym c.deref.ensures.value) ∙ sym c.ends_at.ensures ∙ w.if-ends_at.false)
+          (said-ends said runs c.args.start ∙ ap (ends_at c.args.start) (sym c.deref.ensures.value) ∙ sym c.ends_at.ensures
+          ∙ w.if-ends_at.false)
     ] in
     rw (c.in_ok-push.ensures.items, said-more said runs _) (longest-more (said_runs said runs) r c.requires.longest apart)
 

@@ -1,7 +1,8 @@
 use Rattle.std.proofs.Common.{arith, sym, refl, ◌∙◌, ap, ◌^◌, subst}
 use Rattle.table_core.specs.LastRuns.{IsAnswer, ends_at}
 use Rattle.table_core.specs.AnswerRuns.{said_runs}
-use Rattle.table_core.proofs.Grown.{run_at-longer, within-longer, longest-longer, answer-longer, said-longer, said-ends, last-room, unsaid-within, within-up}
+use Rattle.table_core.proofs.Grown.{run_at-longer, within-longer, longest-longer, answer-longer, said-longer, said-ends, last-room}
+use Rattle.table_core.proofs.Grown.{unsaid-within, within-up}
 use Rattle.table_core.proofs.carrying.add_span.Goals as goal
 
 pub ends_at-requires : goal.ends_at-requires
@@ -15,14 +16,17 @@ pub returns-then-alike-clause-answers : goal.returns-then-alike-clause-answers
 returns-then-alike-clause-answers g c = λ p.
     let said = g.T.ByAddress.said in
     let runs = c.args.runs.now.items in
-    let ends = said-ends said runs c.args.span.out ∙ ap (ends_at c.args.span.out) (sym c.deref.ensures.value) ∙ sym c.ends_at.ensures ∙ c.if-ends_at.true in
+    let ends = said-ends said runs c.args.span.out ∙ ap (ends_at c.args.span.out) (sym c.deref.ensures.value) ∙ sym c.ends_at.ensures
+    ∙ c.if-ends_at.true in
     let is = subst (λ o. IsAnswer o (said_runs said runs)) (c.if-alike.ensures refl) c.requires.asked in
     rw (c.lengthen.ensures, said-longer said runs c.args.span.len)
-    (run_at-longer (said_runs said runs) c.args.span.out c.args.span.len p (g.T.ByAddress.says c.args.table.now) c.args.span.input ends is)
+    (run_at-longer (said_runs said runs) c.args.span.out c.args.span.len p (g.T.ByAddress.says c.args.table.now) c.args.span.input ends
+    is)
 
 pub returns-then-alike-clause-within : goal.returns-then-alike-clause-within
 returns-then-alike-clause-within g c =
-    rw (c.lengthen.ensures, said-longer g.T.ByAddress.said _ c.args.span.len) (within-longer 0 _ c.args.span.out c.args.span.len c.requires.before)
+    rw (c.lengthen.ensures, said-longer g.T.ByAddress.said _ c.args.span.len)
+    (within-longer 0 _ c.args.span.out c.args.span.len c.requires.before)
 
 pub returns-then-alike-clause-longer : goal.returns-then-alike-clause-longer
 returns-then-alike-clause-longer g c =
@@ -31,7 +35,8 @@ returns-then-alike-clause-longer g c =
 pub returns-then-alike-clause-asked : goal.returns-then-alike-clause-asked
 returns-then-alike-clause-asked g c =
     rw (c.lengthen.ensures, said-longer g.T.ByAddress.said c.args.runs.now.items c.args.span.len)
-    (answer-longer (g.T.ByAddress.says c.args.table.now c.args.asked.now) (said_runs g.T.ByAddress.said c.args.runs.now.items) c.args.span.len c.requires.asked)
+    (answer-longer (g.T.ByAddress.says c.args.table.now c.args.asked.now) (said_runs g.T.ByAddress.said c.args.runs.now.items)
+    c.args.span.len c.requires.asked)
 
 pub returns-in-None-clause-within : goal.returns-in-None-clause-within
 returns-in-None-clause-within g c = within-up 0 _ _ _ c.requires.before (omega arith)

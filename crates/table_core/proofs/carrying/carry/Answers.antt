@@ -17,8 +17,10 @@ write_runs-requires-clause-answers g c = λ p.
 
 pub returns-clause-law : goal.returns-clause-law
 returns-clause-law g c =
-    let same : (p : ℕ) → option_map g.T.ByAddress.said (run_at c.deref.result.now p) ≡ carried (g.T.ByAddress.says c.args.table.now) c.args.map.now p
+    let same : (p : ℕ) → option_map g.T.ByAddress.said (run_at c.deref.result.now p) ≡ carried (g.T.ByAddress.says c.args.table.now)
+    c.args.map.now p
     = λ p. rw c.deref.ensures.value (said_at g.T.ByAddress.said _ p ∙ c.in_ok-runs.ensures.runs.answered p) in
     IfOk-weaker c.write_runs.result _ _ (λ w h i f from stands.
     let law = h i f from stands in
-    (wanted-same (g.T.ByAddress.carries c.args.map.now) c.args.map.now _ _ (g.T.ByAddress.means f) same law.0, law.1, law.2)) c.write_runs.ensures.law
+    (wanted-same (g.T.ByAddress.carries c.args.map.now) c.args.map.now _ _ (g.T.ByAddress.means f) same law.0, law.1, law.2))
+    c.write_runs.ensures.law

@@ -15,4 +15,5 @@ pub returns-in-Some : goal.returns-in-Some
 returns-in-Some g c =
     let is = sym c.in-Some.ensures.value in
     let within = slice_get_within c.args.runs.now _ _ is in
-    ends-get c.args.runs.now _ c.in-Some.last.now c.args.end (omega (arith, within)) (sym (get_or_from_slice_get c.args.runs.now _ _ _ is))
+    ends-get c.args.runs.now _ c.in-Some.last.now c.args.end (omega (arith, within))
+    (sym (get_or_from_slice_get c.args.runs.now _ _ _ is))

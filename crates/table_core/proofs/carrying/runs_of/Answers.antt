@@ -17,5 +17,6 @@ loop-i-preserved g c = elim c.match-span.branch [
         c.loop-i.i w.in-Some.span (sym w.in-Some.ensures) _ c.loop-i.invariant.made (omega (arith, w.if-span-gt0.false)));
     asked = rw (w.runs-is, w.asked-is) c.loop-i.invariant.asked;
   }
-  | in-None w ↦ let h : length c.args.map.now ≤ c.loop-i.i = past c.args.map.now c.loop-i.i (sym w.in-None.ensures) in absurd (omega arith)
+  | in-None w ↦ let h : length c.args.map.now ≤ c.loop-i.i = past c.args.map.now c.loop-i.i (sym w.in-None.ensures) in
+      absurd (omega arith)
 ]

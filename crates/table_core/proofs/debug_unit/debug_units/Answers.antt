@@ -20,7 +20,8 @@ loop-count-preserved c =
     let inside : c.loop-count.place + length left ≡ n = c.loop-count.invariant.1 in (
       ap (λ (us : List Walked). us ++ units_from (n - (c.loop-count.count + 1)) c.args.version to rest)
           (c.in_ok-push.ensures.items ∙ ap (λ (u : Walked). c.loop-count.units.items ++ u ∷ []) c.unit_at.ensures)
-          ∙ sym (next_unit n c.loop-count.count c.args.version c.loop-count.place to left rest c.loop-count.units.items c.loop-count-test.true some
+          ∙ sym (next_unit n c.loop-count.count c.args.version c.loop-count.place to left rest c.loop-count.units.items
+          c.loop-count-test.true some
           c.in-Some.ensures.is.0 c.in-Some.ensures.is.1 to_is)
           ∙ c.loop-count.invariant.0,
       omega arith,
@@ -30,7 +31,8 @@ pub returns-in_default : goal.returns-in_default
 returns-in_default c =
     let some : 0 < length c.loop-count.left.now = search rules in
     c.in_ok-push.ensures.items ∙ ap (λ (u : Walked). c.loop-count.units.items ++ u ∷ []) c.unit_at.ensures
-    ∙ sym (last_unit (length c.args.section.now) c.loop-count.count c.args.version c.loop-count.place c.loop-count.left.now c.loop-count.units.items
+    ∙ sym (last_unit (length c.args.section.now) c.loop-count.count c.args.version c.loop-count.place c.loop-count.left.now
+    c.loop-count.units.items
     c.loop-count-test.true some c.in_default.ensures.is)
     ∙ c.loop-count.invariant.0
 

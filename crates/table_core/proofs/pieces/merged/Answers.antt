@@ -10,10 +10,12 @@ pub loop-i-preserved : goal.loop-i-preserved
 loop-i-preserved c = elim c.if-is_front_next.branch [
   | then-is_front_next w ↦
       rw (c.in_ok-push.ensures.items, c.or.ensures, w.start-is, w.in_front-is, w.in_back-is, w.i-is, w.j-is)
-      (more_front c.args.front.now c.args.back.now c.loop-i.pieces.items c.loop-i.i c.loop-i.j c.loop-i.start c.loop-i.in_front c.loop-i.in_back _
+      (more_front c.args.front.now c.args.back.now c.loop-i.pieces.items c.loop-i.i c.loop-i.j c.loop-i.start c.loop-i.in_front
+      c.loop-i.in_back _
       c.requires.front c.requires.back c.loop-i.invariant (w.if-is_front_next.ensures.front refl))
   | else-is_front_next w ↦
       rw (c.in_ok-push.ensures.items, c.or.ensures, w.start-is, w.in_front-is, w.in_back-is, w.i-is, w.j-is)
-      (more_back c.args.front.now c.args.back.now c.loop-i.pieces.items c.loop-i.i c.loop-i.j c.loop-i.start c.loop-i.in_front c.loop-i.in_back _
+      (more_back c.args.front.now c.args.back.now c.loop-i.pieces.items c.loop-i.i c.loop-i.j c.loop-i.start c.loop-i.in_front
+      c.loop-i.in_back _
       c.requires.front c.requires.back c.loop-i.invariant (w.if-is_front_next.ensures.back refl))
 ]

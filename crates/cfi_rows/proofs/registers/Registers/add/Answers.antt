@@ -1,17 +1,19 @@
 use Rattle.std.proofs.Common.{rules, ◌≡◌, ◌||◌, true, false, refl, nat_cmp}
+use Rattle.std.proofs.lemmas.Bool.{or_left, or_right}
 use Rattle.std.specs.BTreeSet.{contains}
-use Rattle.cfi_rows.proofs.RegisterCounts.{added, adds, kept, or-left, or-right}
+use Rattle.cfi_rows.proofs.RegisterCounts.{added, adds, kept}
 use Rattle.cfi_rows.proofs.registers.Registers.add.Goals as goal
-use Rattle.cfi_rows.proofs.registers.Registers.add.Goals.{then-contains-via-then-contains, then-contains-via-else-contains+then-contains-2}
+use Rattle.cfi_rows.proofs.registers.Registers.add.Goals.{then-contains-via-then-contains}
+use Rattle.cfi_rows.proofs.registers.Registers.add.Goals.{then-contains-via-else-contains+then-contains-2}
 
 pub returns-then-contains-clause-added : goal.returns-then-contains-clause-added
 returns-then-contains-clause-added c = λ xs ys a counted.
     let either : (contains nat_cmp c.args.known.now c.args.register || contains nat_cmp c.args.self.now.set c.args.register) ≡ true =
     elim c.then-contains.branch [
       | then-contains-via-then-contains w ↦
-          let k : contains nat_cmp c.args.known.now c.args.register ≡ true = search rules in or-left _ _ k
+          let k : contains nat_cmp c.args.known.now c.args.register ≡ true = search rules in or_left _ _ k
       | then-contains-via-else-contains+then-contains-2 w ↦
-          let k : contains nat_cmp c.args.self.now.set c.args.register ≡ true = search rules in or-right _ _ k
+          let k : contains nat_cmp c.args.self.now.set c.args.register ≡ true = search rules in or_right _ _ k
     ] in
     kept xs ys c.args.known.now c.args.self.now c.args.self.now c.args.register counted either (λ q. refl) refl
 

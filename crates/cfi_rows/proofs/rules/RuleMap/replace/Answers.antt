@@ -7,7 +7,8 @@ use Rattle.cfi_rows.proofs.rules.RuleMap.replace.Goals.{in-Some+in_ok-before-in-
 pub returns-clause-undone : goal.returns-clause-undone
 returns-clause-undone c = elim c.match-rule.branch [
   | in-Some+in_ok-before-in-Some w ↦
-      taken-back c.args.register (Some (rc_value w.in-Some.rule)) c.args.self.now c.match-rule.self (option_map rc_value c.match-rule.before)
+      taken-back c.args.register (Some (rc_value w.in-Some.rule)) c.args.self.now c.match-rule.self
+      (option_map rc_value c.match-rule.before)
       w.in_ok-before-in-Some.ensures.ascends (w.self-is ∙ w.in_ok-before-in-Some.ensures.set)
       (ap (option_map rc_value) w.before-is ∙ w.in_ok-before-in-Some.ensures.had)
   | in-None w ↦

@@ -1,4 +1,4 @@
-use Rattle.std.proofs.Common.{◌≡◌, ◌∙◌, sym, ap}
+use Rattle.std.proofs.Common.{◌∙◌, sym, ap}
 use Rattle.table_core.specs.ReadSteps.{least}
 use Rattle.dw_unit.specs.Declarations.{Table, has_bad_form, has_bad_high}
 use Rattle.dw_unit.specs.Faults.{places_with}
@@ -9,7 +9,8 @@ indexed-table-requires c = (c.args.self.now.right c.args.offset c.start-start.re
 
 pub returns-clause-table : goal.returns-clause-table
 returns-clause-table c =
-    (c.args.self.now.right c.args.offset c.start-start.result c.start-start.ensures).table c.indexed-table.result.now c.indexed-table.ensures
+    (c.args.self.now.right c.args.offset c.start-start.result c.start-start.ensures).table c.indexed-table.result.now
+    c.indexed-table.ensures
 
 pub returns-clause-form : goal.returns-clause-form
 returns-clause-form c =

@@ -11,7 +11,8 @@ returns-clause-reads c =
     let t = c.in_ok-frames.frames in
     let elf = c.args.elf.now in
     let none : t.bad ≡ None = search rules in
-    let same : read_as t ≡ eh_frames elf = read-of t false (frames_in false elf) c.in_ok-frames.ensures.kind c.in_ok-frames.ensures.section in
+    let same : read_as t ≡ eh_frames elf = read-of t false (frames_in false elf) c.in_ok-frames.ensures.kind
+    c.in_ok-frames.ensures.section in
     let sound : (read_as t).bad ≡ None = sym c.in_ok-frames.ensures.bad ∙ none in
     let marks = cut-marks elf c.in_ok-cuts.cuts.items c.in_ok-cuts.ensures.exact in (
       means-so (is_marked_by (cuts_of elf)) (is_marked_by c.in_ok-cuts.cuts.items) (eh_frames elf) (read_as t) same sound marks,

@@ -1,6 +1,6 @@
 use Rattle.std.proofs.Common.{◌≡◌, ◌+◌, ◌-◌, ◌<◌, ◌∙◌, ap, arith, true, rules, Some, Bool, ℕ}
 use Rattle.std.specs.Prelude.{◌&&◌, min, nat_le, nat_lt, if◌then◌else◌}
-use Rattle.rb_bytes.proofs.Results.{on_ok}
+use Rattle.std.proofs.lemmas.Result.{on_ok_weaker}
 use Rattle.elf_image.specs.memory.Image.{is_load}
 use Rattle.elf_image.specs.memory.HiddenFields.{is_hidden_field}
 use Rattle.sym_machine.specs.declared.value.MemoryByte.TheVariants.{Hidden}
@@ -25,7 +25,7 @@ hide_run-requires c =
     omega arith
 
 pub returns : goal.returns
-returns c = on_ok c.hide_run.result (λ all tight fields q.
+returns c = on_ok_weaker c.hide_run.result (λ all tight fields q.
     let p = c.args.p.now in
     let load : is_load p ≡ true = search rules in
     let end : (p.vaddr + c.saturating_sub-skipped.result) + (c.file_end-end.result - c.saturating_sub-skipped.result)

@@ -7,12 +7,12 @@ use Rattle.elf_image.specs.memory.HiddenFields.{is_hidden_field}
 use Rattle.sym_machine.specs.internal.Fields.{range_of_field}
 use Rattle.sym_machine.specs.internal.SpecialBytes.{special, covers_header}
 use Rattle.sym_machine.proofs.StartFields.{hidden_everywhere}
-use Rattle.rb_bytes.proofs.Results.{on_ok}
+use Rattle.std.proofs.lemmas.Result.{on_ok_weaker}
 use Rattle.sym_machine.proofs.other_bytes.OtherBytes.hide_fields.Goals as goal
 
 pub returns : goal.returns
 returns c =
-    on_ok c.hide_in_segments.result
+    on_ok_weaker c.hide_in_segments.result
     (λ all q.
     let old = special c.args.self.now q in
     all c.args.tight (ap (map range_of_field) c.in_ok-fields.ensures ∙ c.in_ok-list.ensures) q

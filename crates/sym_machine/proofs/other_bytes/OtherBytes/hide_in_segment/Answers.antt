@@ -1,6 +1,6 @@
 use Rattle.std.proofs.Common.{◌≡◌, ◌+◌, ◌*◌, ◌∙◌, ap, ℕ, List, Some, Option, length}
 use Rattle.std.specs.Prelude.{◌&&◌, ◌||◌, if◌then◌else◌}
-use Rattle.rb_bytes.proofs.Results.{on_ok}
+use Rattle.std.proofs.lemmas.Result.{on_ok_weaker}
 use Rattle.elf_image.specs.declared.segment.Segment.{Segment}
 use Rattle.elf_image.specs.declared.segment.TheConstants.{PHDR_SIZE}
 use Rattle.elf_image.specs.file.Header.{header_size}
@@ -13,7 +13,7 @@ use Rattle.sym_machine.proofs.other_bytes.OtherBytes.hide_in_segment.Goals as go
 
 pub returns : goal.returns
 unfolding covers_header
-returns c = on_ok c.hide_between-2.result (λ all tight fields q.
+returns c = on_ok_weaker c.hide_between-2.result (λ all tight fields q.
     let elf = c.args.elf.now in
     let p = c.args.p.now in
     let h = is_hidden_field elf tight q in

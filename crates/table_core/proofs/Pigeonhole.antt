@@ -118,7 +118,8 @@ module _ {F C : Type 0} (places : F → List C) (size : F → ℕ) where
   pub owned_has : (fs : List F) (f : F) (c : C) → Contains fs f → Contains (places f) c → Contains {X = F × C} (all_owned fs) (f, c)
   owned_has [] f c a b = absurd (Contains-nil f a)
   owned_has (g ∷ fs) f c a b = by (λ m. owned_has fs f c m b) (Contains-cons_cases g fs f a) where
-    by : (Contains fs f → Contains {X = F × C} (all_owned fs) (f, c)) → (g ≡ f) ⊎ Contains fs f → Contains {X = F × C} (all_owned (g ∷ fs)) (f, c)
+    by : (Contains fs f → Contains {X = F × C} (all_owned fs) (f, c)) → (g ≡ f) ⊎ Contains fs f →
+        Contains {X = F × C} (all_owned (g ∷ fs)) (f, c)
     by more (inl e) = Contains-append_left (owned g) (all_owned fs) (f, c)
         (subst (λ (u : F). Contains {X = F × C} (owned u) (f, c)) (sym e) (map_has f (places f) c b))
     by more (inr m) = Contains-append_right (owned g) (all_owned fs) (f, c) (more m)
