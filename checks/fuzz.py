@@ -1,0 +1,372 @@
+#!/usr/bin/env python3
+"""Gives every command files and words that are wrong, and reports what it doesn't keep of what is promised.
+
+    python3 checks/fuzz.py PROGRAM COUNT SEED [--jobs N] [--keep FOLDER] [--only KIND] [--command COMMAND]
+
+PROGRAM is a command, as `./sudrepka`. COUNT inputs are made, the same ones for the same SEED: an input is a command
+with its files. A file is a program with unwind and debug tables of every kind, of which none, one or a few things are
+changed: a field of the file's headers, of a symbol or a relocation (`headers`, `symbols`), of a table (`tables`), an
+instruction (`code`), data, or any bytes. A table is kept as a list of fields: one gets another value, is left out,
+doubled or put elsewhere, while lengths and offsets follow unless they are what is changed; and a part may stand there a
+thousand times. Texts, as profiles and maps, are changed by words and lines; some commands are words at random, and some have a
+standard output that takes nothing.
+
+What is reported (`fuzzed/promises.py`): a status or a text that isn't one of the command's, a fault that it doesn't
+look for, a signal, a file that is written where none should be or isn't where it should, seconds of the processor that
+aren't near-linear in the size of the files (0.25 and 4 millionths a byte), memory of more than 64 times their size (and
+16 MiB) or more than 1 GiB; and, of some: a rewrite that `verify` doesn't call faithful, that `map` prints otherwise,
+that ends otherwise than the input does on the symbol machine, or of which `lookup` says something else than of the
+input. With --keep the files of what is reported stay in FOLDER, in a folder each, with the words. The last lines count
+the answers of each command. `out of memory`, where the same command isn't so with all the memory there is, is reported;
+else it is only counted, with the first such input of each command. The status is 0 where nothing was reported.
+"""
+from __future__ import annotations
+import argparse
+import collections
+import multiprocessing
+import os
+import random
+import resource
+import shlex
+import shutil
+import sys
+import tempfile
+from dataclasses import dataclass, field
+
+from fuzzed import texts
+from fuzzed.programs import KINDS, Program
+from fuzzed.promises import (
+    BYTES_A_BYTE, ENDED, MIB, MOST_BYTES, NO_MEMORY, OK, READ_FAULT, WRITE_FAULT, WRITES, Answer, complaints)
+
+CHUNK = 200                             # inputs that share a program
+COMMANDS = {"rewrite": 24, "map": 4, "run": 8, "symbols": 12, "record": 6, "lookup": 24, "frames": 12, "repair": 6,
+            "verify": 10, "sample": 1, "words": 3, "full": 2}
+STEPS, SLACK, LONGEST, FILES = 3000, 16 * MIB, 64 * MIB, ("in", "profile", "out", "map")
+SECONDS_AT_MOST, UNLIMITED = 60, 1 << 62
+WRITTEN = WRITES | {"words": ["out", "map"]}
+FILLED = ["rewrite in profile out map", "map in profile", "run --steps 900 in", "run --symbols --steps 900 in",
+          "record --steps 900 in out", "repair in profile out", "lookup in 10078", "sample 2 out map", "verify in in profile"]
+
+
+@dataclass
+class Report:
+    counts: collections.Counter = field(default_factory=collections.Counter)
+    found: list[str] = field(default_factory=list)
+    memory: dict[str, str] = field(default_factory=dict)    # the first input of a command that was out of memory
+
+
+class Tool:
+    """Runs the program in the current folder, with memory for its size."""
+
+    def __init__(self, words: list[str]):
+        self.words = [shutil.which(words[0]) or os.path.abspath(words[0]), *words[1:]]
+        self.streams = [os.open(name, os.O_RDWR | os.O_CREAT | os.O_TRUNC) for name in ("input", "printed", "said")]
+        self.actions = [(os.POSIX_SPAWN_DUP2, stream, number) for number, stream in enumerate(self.streams)]
+        self.to_full = [*self.actions, (os.POSIX_SPAWN_OPEN, 1, "/dev/full", os.O_WRONLY, 0)]
+        self.own = 0
+        self.own = self.least_memory()
+
+    def least_memory(self) -> int:
+        """How much the program's own parts take, rounded up to MiB; a build with a sanitizer can't be limited."""
+        low, high = 0, 1024
+        while low + 1 < high:
+            middle = (low + high) // 2
+            fits = self.run(["sample", "1", "out", "map"], middle * MIB).status == OK
+            low, high = (low, middle) if fits else (middle, high)
+        return high * MIB if high < 1024 else UNLIMITED
+
+    def run(self, words: list[str], memory: int, is_full: bool = False) -> Answer:
+        """The answer to some words, with so much memory; where `is_full`, standard output takes nothing."""
+        for stream in self.streams:
+            os.lseek(stream, 0, os.SEEK_SET)
+        for stream in self.streams[1:]:
+            os.ftruncate(stream, 0)
+        there = {name for name in FILES[2:] if os.path.exists(name)}
+        actions = self.to_full if is_full else self.actions
+        child = os.posix_spawn(self.words[0], self.words + words, {}, file_actions=actions)
+        try:
+            resource.prlimit(child, resource.RLIMIT_AS, (memory, memory))
+            resource.prlimit(child, resource.RLIMIT_CPU, (SECONDS_AT_MOST, SECONDS_AT_MOST))
+        except ProcessLookupError:
+            pass
+        _, status, usage = os.wait4(child, 0)
+        printed, said = (os.pread(stream, 1 << 26, 0) for stream in self.streams[1:])
+        wrote = [name for name in FILES[2:] if name not in there and os.path.exists(name)]
+        return Answer(os.waitstatus_to_exitcode(status), printed, said, wrote, usage.ru_utime + usage.ru_stime)
+
+
+def put(name: str, data: bytes) -> None:
+    with open(name, "wb") as file:
+        file.write(data)
+
+
+def take(name: str) -> bytes:
+    """A file's contents; none where it isn't there."""
+    if not os.path.exists(name):
+        return b""
+    with open(name, "rb") as file:
+        return file.read()
+
+
+def remove(*names: str) -> None:
+    for name in names:
+        if os.path.exists(name):
+            os.unlink(name)
+
+
+class Worker:
+    """Makes and judges inputs in a folder of its own."""
+
+    def __init__(self, given: argparse.Namespace):
+        self.given = given
+        os.chdir(tempfile.mkdtemp(dir=given.folder))
+        put("input", b"some input\n" * 20)
+        self.tool = Tool(shlex.split(given.program))
+        known = self.tool.run([], UNLIMITED).printed
+        self.commands = {name: often for name, often in COMMANDS.items() if name != "frames" or b"frames FILE" in known}
+        if given.command:
+            self.commands = {given.command: 1}
+
+    def chunk(self, number: int) -> Report:
+        """The inputs of a chunk."""
+        self.report, self.program = Report(), Program(random.Random(f"program {number}"))
+        self.moved = None
+        first = self.given.seed + number * CHUNK
+        for seed in range(first, min(first + CHUNK, self.given.seed + self.given.count)):
+            self.input(seed, random.Random(f"input {seed}"))
+        return self.report
+
+    def input(self, seed: int, rng: random.Random) -> None:
+        command = rng.choices(list(self.commands), list(self.commands.values()))[0]
+        kinds = KINDS + ("tables",) * (6 if command in ("lookup", "frames") else 2)
+        if self.given.only:
+            kinds = (self.given.only,)
+        remove(*FILES)
+        self.changes, self.seed = [command], seed
+        getattr(self, command)(rng, kinds)
+
+    def file(self, rng: random.Random, kinds: tuple) -> None:
+        data, changes = self.program.changed(rng, kinds)
+        put("in", data)
+        self.changes += changes
+
+    def profile(self, rng: random.Random) -> None:
+        put("profile", texts.profile(rng, self.program.profile, self.program.shape.code.functions))
+
+    def judge(self, command: str, words: list[str], size: int | None = None) -> Answer:
+        """Runs a command; it is given memory for the files that it reads."""
+        remove(*WRITTEN.get(command, []))
+        if size is None:
+            size = sum(os.path.getsize(name) for name in FILES if name in words and os.path.exists(name))
+        memory = min(SLACK + BYTES_A_BYTE * size, MOST_BYTES)
+        answer = self.tool.run(words, min(self.tool.own + memory, UNLIMITED))
+        found = complaints(command, answer, size) if command != "words" else []
+        if answer.status == NO_MEMORY and not ENDED.search(answer.printed):
+            remove(*WRITTEN.get(command, []))
+            if self.tool.run(words, UNLIMITED).status != NO_MEMORY:
+                found.append("takes much memory")
+            else:
+                self.report.memory.setdefault(command, f"{self.seed} ({', '.join(self.changes)})")
+        self.report.counts[command, answer.kind()] += 1
+        if found:
+            self.complain(command, words, found)
+        return answer
+
+    def complain(self, command: str, words: list[str], found: list[str]) -> None:
+        self.report.found.append(f"input {self.seed} ({', '.join(self.changes)}): {command}: {'; '.join(found)}")
+        if self.given.keep:
+            place = os.path.join(self.given.keep, str(self.seed))
+            os.makedirs(place, exist_ok=True)
+            for name in FILES:
+                if os.path.exists(name):
+                    shutil.copy(name, place)
+            put(os.path.join(place, "words"), shlex.join(words).encode())
+
+    # Commands.
+
+    def rewrite(self, rng: random.Random, kinds: tuple) -> None:
+        self.file(rng, kinds)
+        self.profile(rng)
+        answer = self.judge("rewrite", ["rewrite", "in", "profile", "out", "map"])
+        if answer.status == OK and rng.random() < 0.3:
+            self.compare(rng)
+
+    def compare(self, rng: random.Random) -> None:
+        """What is promised of an input and its output together, where that isn't too large itself."""
+        if os.path.getsize("out") > LONGEST:
+            return
+        verdict = self.judge("verify", ["verify", "in", "out", "map"])
+        if verdict.status != OK:
+            self.complain("verify", ["verify", "in", "out", "map"], [f"a rewrite is {verdict.kind()}"])
+        spans = take("map")
+        if self.judge("map", ["map", "in", "profile"]).printed != spans:
+            self.complain("map", ["map", "in", "profile"], ["differs from MAP"])
+        old = self.tool.run(["run", "--symbols", "--steps", str(STEPS), "in"], UNLIMITED)
+        if ENDED.search(old.printed):
+            new = self.tool.run(["run", "--steps", str(3 * STEPS + 1), "out"], UNLIMITED)
+            if ENDED.split(old.printed)[:2] != ENDED.split(new.printed)[:2]:
+                self.complain("run", ["run", "out"], ["ends otherwise than its input"])
+        self.compare_answers(rng, spans)
+
+    def compare_answers(self, rng: random.Random, spans: bytes) -> None:
+        """What `lookup` says of an instruction before and after."""
+        lines = [line.split(b" ") for line in spans.splitlines()]
+        lines = [line for line in lines if len(line) == 3 and line[1] != b"0"]
+        if not lines:
+            return
+        new, _, old = rng.choice(lines)
+        asked = (["lookup", "in", old.decode()], ["lookup", "out", new.decode()])
+        before, after = (self.tool.run(words, UNLIMITED) for words in asked)
+        said = [answer.printed.split(b" handler ")[0] for answer in (before, after)]
+        if before.status == OK and (after.status != OK or said[0] != said[1]):
+            self.complain("lookup", asked[0], [f"{said[0]!r} becomes {said[1]!r}"])
+
+    def map(self, rng: random.Random, kinds: tuple) -> None:
+        self.file(rng, kinds)
+        self.profile(rng)
+        self.judge("map", ["map", "in", "profile"])
+
+    def run(self, rng: random.Random, kinds: tuple) -> None:
+        self.file(rng, kinds)
+        self.judge("run", ["run", "--steps", str(STEPS), "in", *["word"] * rng.choice([0, 0, 2, 64])])
+
+    def symbols(self, rng: random.Random, kinds: tuple) -> None:
+        self.file(rng, kinds)
+        words = ["--steps", str(STEPS), "in", *["word"] * rng.choice([0, 0, 2])]
+        answer = self.judge("symbols", ["run", "--symbols", *words])
+        if ENDED.search(answer.printed) and rng.random() < 0.3:
+            if self.judge("run", ["run", *words]).printed != answer.printed:
+                self.complain("run", ["run", *words], ["ends otherwise than on the symbol machine"])
+
+    def record(self, rng: random.Random, kinds: tuple) -> None:
+        self.file(rng, kinds)
+        self.judge("record", ["record", "--steps", str(STEPS), "in", "out"])
+
+    def address(self, rng: random.Random) -> str:
+        start, size = rng.choice(self.program.ranges)
+        others = ["0", "ffffffffffffffff", f"{self.program.shape.data_address:x}"]
+        return rng.choice([f"{start + rng.randrange(-2, size + 3):x}"] * 6 + others)
+
+    def lookup(self, rng: random.Random, kinds: tuple) -> None:
+        self.file(rng, kinds)
+        self.judge("lookup", ["lookup", "in", self.address(rng)])
+
+    def frames(self, rng: random.Random, kinds: tuple) -> None:
+        self.file(rng, kinds)
+        self.judge("frames", ["frames", "in", self.address(rng)])
+
+    def repair(self, rng: random.Random, kinds: tuple) -> None:
+        self.file(rng, kinds)
+        self.profile(rng)
+        self.judge("repair", ["repair", "in", "profile", "out"])
+
+    def verify(self, rng: random.Random, kinds: tuple) -> None:
+        """A rewrite with changes in one of the three files, mostly."""
+        if self.moved is None:
+            put("in", self.program.file)
+            put("profile", self.program.profile.encode())
+            done = self.tool.run(["rewrite", "in", "profile", "out", "map"], UNLIMITED).status == OK
+            self.moved = (take("out"), take("map")) if done else (self.program.file, b"10078 4 10078\n")
+            remove(*FILES)
+        out, spans = self.moved
+        way = rng.randrange(4)
+        if way == 0:
+            self.file(rng, kinds)
+        else:
+            put("in", self.program.file)
+        put("out", changed_output(rng, out) if way in (1, 3) else out)
+        put("map", texts.changed_text(rng, spans) if way in (2, 3) else spans)
+        self.judge("verify", ["verify", "in", "out", "map"])
+
+    def sample(self, rng: random.Random, kinds: tuple) -> None:
+        number = rng.choice([1, 2, 3, 10, 100, 1000])
+        self.judge("sample", ["sample", str(number), "out", "map"], 300 * number)
+
+    def full(self, rng: random.Random, kinds: tuple) -> None:
+        """A command whose lines can't be printed has written the same files."""
+        self.file(rng, kinds)
+        self.profile(rng)
+        words = rng.choice(FILLED).split(" ")
+        usual = self.tool.run(words, UNLIMITED)
+        files = [take(name) for name in FILES]
+        remove(*usual.wrote)
+        answer = self.tool.run(words, UNLIMITED, is_full=True)
+        self.report.counts["full", answer.kind()] += 1
+        wanted = WRITE_FAULT if usual.printed else usual.status
+        if answer.status != wanted or answer.said or files != [take(name) for name in FILES]:
+            self.complain("full", words, [f"status {answer.status} where nothing can be printed"])
+
+    def words(self, rng: random.Random, kinds: tuple) -> None:
+        put("in", self.program.file)
+        put("profile", self.program.profile.encode())
+        words = texts.words(rng)
+        answer = self.judge("words", words, len(self.program.file))
+        is_silent = answer.status in (READ_FAULT, WRITE_FAULT, NO_MEMORY)
+        if answer.status < 0 or answer.said or not (answer.printed.endswith(b"\n") or is_silent):
+            self.complain("words", words, [f"status {answer.status}"])
+
+
+def changed_output(rng: random.Random, data: bytes) -> bytes:
+    """A written file of which one bit, a halfword or a stretch is changed."""
+    out = bytearray(data)
+    for _ in range(rng.choice([1, 1, 1, 2, 3])):
+        at = rng.randrange(len(out)) if out else 0
+        way = rng.random()
+        if way < 0.7:
+            out[at:at + 1] = bytes([out[at] ^ 1 << rng.randrange(8)])
+        elif way < 0.9:
+            other = rng.randrange(len(out))
+            out[at:at + 4] = out[other:other + 4]
+        else:
+            del out[at:]
+            out = out or bytearray(1)
+    return bytes(out)
+
+
+WORKER: Worker | None = None
+
+
+def begin(given: argparse.Namespace) -> None:
+    global WORKER
+    WORKER = Worker(given)
+
+
+def chunk(number: int) -> Report:
+    return WORKER.chunk(number)
+
+
+def show(counts: collections.Counter, memory: dict[str, str]) -> None:
+    for command in sorted({command for command, _ in counts}):
+        mine = [(kind, count) for (name, kind), count in counts.most_common() if name == command]
+        print(f"{command} {sum(count for _, count in mine)}: " + ", ".join(f"{count} {kind}" for kind, count in mine))
+    for command, first in sorted(memory.items()):
+        print(f"{command} is out of memory: first at input {first}")
+
+
+def main() -> int:
+    parser = argparse.ArgumentParser()
+    parser.add_argument("program")
+    parser.add_argument("count", type=int)
+    parser.add_argument("seed", type=int)
+    parser.add_argument("--jobs", type=int, default=1)
+    parser.add_argument("--keep", type=os.path.abspath)
+    parser.add_argument("--only", choices=KINDS)
+    parser.add_argument("--command", choices=list(COMMANDS))
+    given = parser.parse_args()
+    program = shlex.split(given.program)
+    given.program = shlex.join([shutil.which(program[0]) or os.path.abspath(program[0]), *program[1:]])
+    counts, memory, reported = collections.Counter(), {}, 0
+    with tempfile.TemporaryDirectory(dir="/dev/shm" if os.path.isdir("/dev/shm") else None) as given.folder:
+        with multiprocessing.Pool(given.jobs, begin, (given,)) as pool:
+            for report in pool.imap_unordered(chunk, range(-(-given.count // CHUNK))):
+                counts += report.counts
+                reported += len(report.found)
+                memory = report.memory | memory
+                for line in report.found:
+                    print(line, flush=True)
+    show(counts, memory)
+    return 1 if reported else 0
+
+
+if __name__ == "__main__":
+    sys.exit(main())
