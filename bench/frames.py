@@ -1,13 +1,21 @@
-"""What other tools find in the frame tables of an executable and of its rewritten file.
+#!/usr/bin/env python3
+"""Mends the frame tables that GNU as made, in place; and compares those of an executable and of its rewritten file.
 
-`readelf` says for each address how the frame is unwound there, and `llvm-dwarfdump` what its entry says of exceptions;
-`gdb` unwinds a stopped program.
+    python3 bench/frames.py FILE..
+
+GNU as begins each common entry by changing the register of a frame address that isn't given yet, which DWARF 5 doesn't
+allow (section 6.4.2.2). In all such entries of `.eh_frame` and `.debug_frame` of each FILE register and offset are given instead, in as
+many bytes. It wants `riscv64-unknown-elf-readelf`.
+
+For other scripts `readelf` says for each address how the frame is unwound there, and `llvm-dwarfdump` what its entry says of
+exceptions; `gdb` unwinds a stopped program.
 """
 import bisect
 import re
 import shutil
 import socket
 import subprocess
+import sys
 import time
 
 from profiles import CROSS, output
@@ -15,11 +23,16 @@ from profiles import CROSS, output
 NOP, DEF_CFA, DEF_CFA_REGISTER, DEF_CFA_OFFSET, SP = 0x00, 0x0C, 0x0D, 0x0E, 2
 
 
+def table_at(path, name):
+    """The address, the offset and the size of a section; three times 0 where there is none."""
+    sections = output([CROSS + "readelf", "-SW", path])
+    found = re.search(rf" \{name} +\S+ +([0-9a-f]+) ([0-9a-f]+) ([0-9a-f]+)", sections)
+    return tuple(int(number, 16) for number in found.groups()) if found else (0, 0, 0)
+
+
 def unwind_table(path):
     """The address, the offset and the size of `.eh_frame`; three times 0 where there is none."""
-    sections = output([CROSS + "readelf", "-SW", path])
-    found = re.search(r" \.eh_frame +\S+ +([0-9a-f]+) ([0-9a-f]+) ([0-9a-f]+)", sections)
-    return tuple(int(number, 16) for number in found.groups()) if found else (0, 0, 0)
+    return table_at(path, ".eh_frame")
 
 
 def after_leb(data, at):
@@ -31,8 +44,8 @@ def after_leb(data, at):
 def instructions_of(data, at):
     """Where the instructions of a CIE begin: behind its text, factors, return register and further data."""
     text = data[at + 9:data.index(0, at + 9)]
-    place = after_leb(data, after_leb(data, at + 10 + len(text)))
-    place = after_leb(data, place)
+    first = at + 10 + len(text) + (2 if data[at + 8] == 4 else 0)  # behind the sizes of addresses and of segments
+    place = after_leb(data, after_leb(data, after_leb(data, first)))
     if text.startswith(b"z"):
         place = after_leb(data, place) + data[place]
     return place
@@ -52,17 +65,17 @@ def defined(instructions):
 
 
 def mend_tables(path):
-    """GNU as begins each CIE by changing the register of a frame address that isn't given yet, which is malformed.
-    Gives register and offset instead, in all CIEs of an executable."""
-    _, at, size = unwind_table(path)
+    """Gives register and offset of the frame address in all common entries of an executable that GNU as made otherwise."""
     with open(path, "r+b") as file:
         data = bytearray(file.read())
-        end = at + size
-        while at < end and (length := int.from_bytes(data[at:at + 4], "little")) != 0:
-            if data[at + 4:at + 8] == bytes(4):
-                first, past = instructions_of(data, at), at + 4 + length
-                data[first:past] = defined(bytes(data[first:past]))
-            at += 4 + length
+        for name, mark in ((".eh_frame", bytes(4)), (".debug_frame", b"\xff" * 4)):
+            _, at, size = table_at(path, name)
+            end = at + size
+            while at < end and (length := int.from_bytes(data[at:at + 4], "little")) != 0:
+                if data[at + 4:at + 8] == mark:
+                    first, past = instructions_of(data, at), at + 4 + length
+                    data[first:past] = defined(bytes(data[first:past]))
+                at += 4 + length
         file.seek(0)
         file.write(data)
 
@@ -201,3 +214,10 @@ def backtrace_problems(old, new, moved, name, words):
         if sp - before[0][1] != new_sp - after[0][1]:
             problems.append(f"gdb: the frame at {now:x} has another stack pointer than that at {was:x} before")
     return problems
+
+
+if __name__ == "__main__":
+    if len(sys.argv) < 2:
+        sys.exit("frames.py FILE..: mends the frame tables of these files")
+    for path in sys.argv[1:]:
+        mend_tables(path)

@@ -1,19 +1,20 @@
 #!/usr/bin/env python3
 """Seconds and memory of files that are made to be slow, and how both grow with the file.
 
-    python3 bench/hostile.py [--tool COMMAND] [--kib KIB] [KIND..]
+    python3 bench/hostile.py [--tool COMMAND] [--kib KIB] [--command rewrite|lookup] [KIND..]
 
 Each kind is a small file in which few bytes name much: names that are ends of one text, headers of sections over one
 table, an entry of an unwind table with a row for each instruction. A file of about KIB, one of twice and one of four
-times the size are made in a temporary folder; COMMAND (`sudrepka` where it isn't given) rewrites each, or runs it where
-the kind says so. Each line has the kind, the size, the seconds of the processor and the peak memory in MiB of the best
-of three runs, and by how much both grew since the file of half the size. Where a file takes less than 0.05 seconds or
-32 MiB, its growth says nothing and is left out. All growth has to be below 2.5: the script ends with status 1 where
-some isn't.
+times the size are made in a temporary folder; COMMAND (`sudrepka` where it isn't given) rewrites each, and of those with
+debug tables looks up an address. Each line has the kind, the command, the size, the seconds of the processor and the peak
+memory in MiB of the best of three runs, and by how much both grew since the file of half the size. Where a file takes less
+than 0.05 seconds or 32 MiB, its growth says nothing and is left out. No more is given than 4 GiB and 300 seconds. All growth
+has to be below 2.5: the script ends with status 1 where some isn't. The kinds of SLOW are run only where they are named.
 """
 import argparse
 import os
 import random
+import resource
 import struct
 import subprocess
 import sys
@@ -21,6 +22,7 @@ import tempfile
 
 BASE, TEXT = 0x10000, 64 + 56  # the address of the file's first byte, and where in the file its code begins
 MOST, LEAST_SECONDS, LEAST_MIB = 2.5, 0.05, 32
+MOST_MEMORY, MOST_SECONDS = 4 << 30, 300
 SHT_PROGBITS, SHT_SYMTAB, SHT_STRTAB, SHT_RELA, STT_FUNC = 1, 2, 3, 4, 0x12
 R_RISCV_64, R_RISCV_BRANCH, R_RISCV_RELAX = 2, 16, 51
 MOST_SECTIONS = 65_000
@@ -234,10 +236,9 @@ def frame_entries(size):
     return framed_functions(size, 4, False)
 
 
-def line_unit(program):
+def line_unit(program, files=b"\2\1\x08\2\x0b\2a.c\0\0a.c\0\0"):
     """A unit of `.debug_line` of version 5, with one file."""
-    numbers = bytes.fromhex("010101fb0e0d000101010100000001000001")
-    numbers += b"\1\1\x08\1/s\0" + b"\2\1\x08\2\x0b\2" + b"a.c\0\0" + b"a.c\0\0"
+    numbers = bytes.fromhex("010101fb0e0d000101010100000001000001") + b"\1\1\x08\1/s\0" + files
     unit = struct.pack("<HBBI", 5, 8, 0, len(numbers)) + numbers + program
     return struct.pack("<I", len(unit)) + unit
 
@@ -283,6 +284,147 @@ def line_address(size):
     return lined_functions(count, 1, lambda starts: line_sequence(starts[0], operations))
 
 
+def debug_file(tables, code=NOP + RETURN):
+    """One function, and tables that aren't loaded, by their names."""
+    names = b"\0" + b"".join(name.encode() + b"\0" for name in tables)
+    file = File(code, names)
+    file.add_symbols([(0, BASE + TEXT, len(code))], b"\0")
+    for name, contents in tables.items():
+        file.add(SHT_PROGBITS, contents, name=names.index(b"\0" + name.encode() + b"\0") + 1)
+    return file.bytes(), b""
+
+
+def unit(entries, declarations=0):
+    """A compile unit of version 5, whose declarations stand there."""
+    contents = struct.pack("<HBBI", 5, 1, 8, declarations) + entries
+    return struct.pack("<I", len(contents)) + contents
+
+
+def declaration(code, tag, children, *attributes):
+    """The declaration of a code, with pairs of an attribute and a form."""
+    fields = uleb(code) + uleb(tag) + bytes([children]) + b"".join(uleb(name) + uleb(form) for name, form in attributes)
+    return fields + b"\0\0"
+
+
+def units_over_declarations(size):
+    """Units of one entry, all over the same declarations, of which each uses the last; these are half of the file."""
+    least = 25
+    count = max(1, size // 2 // 8)
+    fields = ((0x11, 0x01), (0x12, 0x06))  # DW_AT_low_pc by DW_FORM_addr, DW_AT_high_pc by DW_FORM_data4
+    declarations = b"".join(declaration(code, 0x11, 0) for code in range(1, count)) + declaration(count, 0x11, 0, *fields)
+    entry = uleb(count) + struct.pack("<QI", BASE + TEXT, 8)
+    units = unit(entry) * (size // 2 // (least + len(uleb(count)) - 1))
+    return debug_file({".debug_info": units, ".debug_abbrev": declarations + b"\0"})
+
+
+def nested_entries(size):
+    """Each entry is the child of the one before it."""
+    declarations = declaration(1, 0x0B, 1) + b"\0"  # DW_TAG_lexical_block
+    return debug_file({".debug_info": unit(b"\1" * (size // 2) + bytes(size // 2)), ".debug_abbrev": declarations})
+
+
+def lists_that_overlap(size):
+    """As many entries as ranges stand one behind another: the list of each begins one range after that of the entry before it,
+    and all end together."""
+    count = size // 8
+    declarations = declaration(1, 0x11, 1, (0x11, 0x01)) + declaration(2, 0x2E, 0, (0x55, 0x17)) + b"\0"
+    entries = b"".join(struct.pack("<BI", 2, 12 + 3 * k) for k in range(count))
+    info = unit(b"\1" + struct.pack("<Q", BASE + TEXT) + entries + b"\0")
+    ranges = b"\4\0\4" * count + b"\0"  # DW_RLE_offset_pair 0, 4
+    head = struct.pack("<IHBBI", 8 + len(ranges), 5, 8, 0, 0)
+    return debug_file({".debug_info": info, ".debug_abbrev": declarations, ".debug_rnglists": head + ranges})
+
+
+def one_list(size):
+    """Entries that all name one list of locations; it is half of the file."""
+    declarations = declaration(1, 0x11, 1, (0x11, 0x01), (0x12, 0x06)) + declaration(2, 0x34, 0, (0x02, 0x17)) + b"\0"
+    entries = struct.pack("<BI", 2, 12) * (size // 2 // 5)
+    info = unit(b"\1" + struct.pack("<QI", BASE + TEXT, 8) + entries + b"\0")
+    places = b"\4\0\0\1\x50" * (size // 2 // 5) + b"\4\0\4\1\x50\0"  # DW_LLE_offset_pair, and DW_OP_reg0
+    head = struct.pack("<IHBBI", 8 + len(places), 5, 8, 0, 0)
+    return debug_file({".debug_info": info, ".debug_abbrev": declarations, ".debug_loclists": head + places})
+
+
+def frames_of_one_range(size):
+    """Entries of `.debug_frame` that are all for the same code: the first answers."""
+    head = struct.pack("<I", 0xFFFFFFFF) + bytes.fromhex("04000800047801")
+    table = frame_entry(head + bytes.fromhex("0c0200"))
+    entry = frame_entry(struct.pack("<IQQ", 0, BASE + TEXT, 8) + b"\x41\x0e\x10")
+    return debug_file({".debug_frame": table + entry * (size // len(entry))})
+
+
+def line_long_path(size):
+    """Each instruction has a row, and all rows the same path, which is half of the file."""
+    count = size // 2 // 6
+    code, rows = NOP * (count - 1) + RETURN, b"\x12" + b"\x4b" * (count - 1) + b"\2\4"  # special opcodes, by 4 bytes each
+    files = b"\2\1\x08\2\x0b\2" + 2 * (long_name(size // 4) + b"\0\0")
+    return debug_file({".debug_line": line_unit(line_sequence(BASE + TEXT, rows), files)}, code)
+
+
+def line_paths(size):
+    """Many files, whose paths are ends of one text by DW_FORM_line_strp; it is half of the file."""
+    count = size // 2 // 5
+    entries = b"".join(struct.pack("<IB", k * (size // 2) // count, 0) for k in range(count))
+    program = line_sequence(BASE + TEXT, b"\x12\2\x08")
+    unit = line_unit(program, b"\2\1\x1f\2\x0b" + uleb(count) + entries)
+    return debug_file({".debug_line": unit, ".debug_line_str": long_name(size // 2) + b"\0"})
+
+
+def entry_attributes(size):
+    """As many attributes of a declaration as entries that have it; none takes bytes in an entry."""
+    count = size // 2 // 4
+    attributes = ((0x2200 + k, 0x19) for k in range(count))  # DW_FORM_flag_present
+    declarations = declaration(1, 0x34, 0, *attributes) + declaration(2, 0x11, 1) + b"\0"
+    return debug_file({".debug_info": unit(b"\2" + b"\1" * (size // 2) + b"\0"), ".debug_abbrev": declarations})
+
+
+def nested_ranges(count):
+    """Ranges of the first instructions, each inside the one behind it."""
+    return [(BASE + TEXT + 4 * k, 4 * (count - 2 * k)) for k in reversed(range(count // 2))]
+
+
+def frames_of_nested_ranges(size):
+    """Entries of `.debug_frame` for ranges each inside the next one, so that each answers for two instructions."""
+    count = size // 22
+    head = struct.pack("<I", 0xFFFFFFFF) + bytes.fromhex("04000800047801")
+    table = [frame_entry(head + bytes.fromhex("0c0200"))]
+    table += [frame_entry(struct.pack("<IQQ", 0, *bounds) + b"\x41\x0e\x10") for bounds in nested_ranges(count)]
+    return debug_file({".debug_frame": b"".join(table)}, NOP * (count - 1) + RETURN)
+
+
+def tables_of_nested_ranges(size):
+    """Two units, whose ranges in `.debug_aranges` are each inside the next one."""
+    count = size // 12
+    table = b"".join(struct.pack("<QQ", *bounds) for bounds in nested_ranges(count)) + bytes(16)
+    units = [unit(b"\1")] * 2
+    tables = []
+    for k, part in enumerate((table[: len(table) // 32 * 16] + bytes(16), table[len(table) // 32 * 16 :])):
+        contents = struct.pack("<HIBBI", 2, k * len(units[0]), 8, 0, 0) + part
+        tables.append(struct.pack("<I", len(contents)) + contents)
+    declarations = declaration(1, 0x11, 0) + b"\0"
+    names = {".debug_info": b"".join(units), ".debug_abbrev": declarations, ".debug_aranges": b"".join(tables)}
+    return debug_file(names, NOP * (count - 1) + RETURN)
+
+
+def frames_of_many_rules(size):
+    """Entries of `.debug_frame` for an instruction each, all with the rules of one CIE, which are half of the file."""
+    count = size // 2 // 32
+    head = struct.pack("<I", 0xFFFFFFFF) + bytes.fromhex("040008000478010c0200")
+    rules = b"".join(b"\x07" + uleb(128 + k) for k in range(size // 2 // 4))  # DW_CFA_undefined
+    table = [frame_entry(head + rules)]
+    table += [frame_entry(struct.pack("<IQQ", 0, BASE + TEXT + 4 * k, 4) + b"\x0e" + uleb(k % 100)) for k in range(count)]
+    return debug_file({".debug_frame": b"".join(table)}, NOP * (count - 1) + RETURN)
+
+
+def frame_of_growing_rules(size):
+    """One entry of `.debug_frame` with a rule more at each instruction."""
+    count = size // 9
+    head = struct.pack("<I", 0xFFFFFFFF) + bytes.fromhex("040008000478010c0200")
+    rows = b"".join(b"\x41\x07" + uleb(128 + k) for k in range(count - 1))
+    table = frame_entry(head) + frame_entry(struct.pack("<IQQ", 0, BASE + TEXT, 4 * count) + rows)
+    return debug_file({".debug_frame": table}, NOP * (count - 1) + RETURN)
+
+
 def uleb(number):
     """A number as ULEB128."""
     out = bytearray()
@@ -311,7 +453,29 @@ KINDS = {
     "line-sequences": line_sequences,
     "line-operations": line_operations,
     "line-address": line_address,
+    "line-paths": line_paths,
+    "one-range": frames_of_one_range,
+    "nested-ranges": frames_of_nested_ranges,
+    "aranges": tables_of_nested_ranges,
+    "declarations": units_over_declarations,
+    "nested": nested_entries,
+    "one-list": one_list,
 }
+# What is known to take longer than in the size of the file: run where it is named alone.
+SLOW = {
+    "lists": lists_that_overlap,
+    "attributes": entry_attributes,
+    "line-long-path": line_long_path,
+    "cie-rules": frames_of_many_rules,
+    "growing-rules": frame_of_growing_rules,
+}
+# Those with debug tables, in which an address is looked up too.
+LOOKED_UP = list(KINDS)[list(KINDS).index("long-frame-entry") :] + list(SLOW)
+
+
+def limit():
+    resource.setrlimit(resource.RLIMIT_AS, (MOST_MEMORY, MOST_MEMORY))
+    resource.setrlimit(resource.RLIMIT_CPU, (MOST_SECONDS, MOST_SECONDS))
 
 
 def measure(command):
@@ -319,10 +483,10 @@ def measure(command):
     found = []
     for _ in range(3):
         with tempfile.TemporaryFile() as said:
-            process = subprocess.Popen(command, stdout=said, stderr=said)
-            usage = os.wait4(process.pid, 0)[2]
-            said.seek(0)
-            last = said.read().decode(errors="replace").strip()
+            process = subprocess.Popen(command, stdout=said, stderr=said, preexec_fn=limit)
+            _, status, usage = os.wait4(process.pid, 0)
+            said.seek(max(0, os.fstat(said.fileno()).st_size - 200))
+            last = said.read().decode(errors="replace").strip() or f"status {os.waitstatus_to_exitcode(status)}"
         found.append((usage.ru_utime + usage.ru_stime, usage.ru_maxrss / 1024))
     return min(seconds for seconds, _ in found), min(peak for _, peak in found), last
 
@@ -336,39 +500,50 @@ def show(grew):
     return "" if grew is None else f"{grew:5.2f}"
 
 
-def main():
+def arguments():
     words = argparse.ArgumentParser(description="seconds and memory of files that are made to be slow")
     words.add_argument("--tool", default="sudrepka", help="the command that takes `rewrite ..`")
     words.add_argument("--kib", type=int, default=512)
+    words.add_argument("--command", choices=["rewrite", "lookup"], help="one of the two")
     words.add_argument("--make", help="writes the smallest file of each kind into this folder, and runs nothing")
-    words.add_argument("kinds", nargs="*", choices=[[], *KINDS], default=[])
-    given = words.parse_args()
+    words.add_argument("kinds", nargs="*", choices=[[], *KINDS, *SLOW], default=[])
+    return words.parse_args()
+
+
+def measure_growth(given, kind, command, folder):
+    """Whether what a command takes grows as it should: prints a line a size."""
+    before, well = (None, None), True
+    names = [os.path.join(given.make or folder, name) for name in (f"{kind}.in", f"{kind}.profile", "out", "map")]
+    words = ["rewrite", *names] if command == "rewrite" else ["lookup", names[0], f"{BASE + TEXT:x}"]
+    for times in (1, 2, 4):
+        # in a process of its own, since a child's peak counts what its parent had when it began
+        maker = [sys.executable, os.path.abspath(__file__), "--write", kind, str(given.kib * 1024 * times), *names[:2]]
+        subprocess.run(maker, check=True)
+        if given.make:
+            break
+        seconds, peak, last = measure([*given.tool.split(), *words])
+        grew = growth(seconds, before[0], LEAST_SECONDS), growth(peak, before[1], LEAST_MIB)
+        before = (seconds, peak)
+        well = well and all(each is None or each < MOST for each in grew)
+        kib = os.path.getsize(names[0]) // 1024
+        figures = f"{kib:6} KiB {seconds:8.3f} s {show(grew[0]):5} {peak:8.1f} MiB {show(grew[1]):5}"
+        print(f"{kind:18} {command:7} {figures} {last[-60:]}", flush=True)
+    return well
+
+
+def main():
+    given = arguments()
     well = True
     with tempfile.TemporaryDirectory() as folder:
         for kind in given.kinds or KINDS:
-            before = (None, None)
-            for times in (1, 2, 4):
-                path = lambda name: os.path.join(given.make or folder, name)
-                names = [path(f"{kind}.in"), path(f"{kind}.profile"), path("out"), path("map")]
-                # in a process of its own, since a child's peak counts what its parent had when it began
-                maker = [sys.executable, os.path.abspath(__file__), "--write", kind, str(given.kib * 1024 * times), *names[:2]]
-                subprocess.run(maker, check=True)
-                if given.make:
-                    break
-                seconds, peak, last = measure([*given.tool.split(), "rewrite", *names])
-                grew = growth(seconds, before[0], LEAST_SECONDS), growth(peak, before[1], LEAST_MIB)
-                before = (seconds, peak)
-                well = well and all(each is None or each < MOST for each in grew)
-                kib = os.path.getsize(names[0]) // 1024
-                print(
-                    f"{kind:18} {kib:6} KiB {seconds:8.3f} s {show(grew[0]):5} {peak:8.1f} MiB {show(grew[1]):5} {last[:60]}",
-                    flush=True,
-                )
+            for command in ["rewrite"] + ["lookup"] * (kind in LOOKED_UP):
+                if given.command in (None, command):
+                    well = measure_growth(given, kind, command, folder) and well
     sys.exit(0 if well else 1)
 
 
 def write(kind, size, file_path, profile_path):
-    contents, profile = KINDS[kind](size)
+    contents, profile = (KINDS | SLOW)[kind](size)
     for path, data in ((file_path, contents), (profile_path, profile)):
         with open(path, "wb") as file:
             file.write(data)

@@ -2,8 +2,10 @@
 """What a rewrite by a profile does to the way of a run through its code.
 
     python3 bench/layout.py [--tool COMMAND] [FUNCTIONS..]
+    python3 bench/layout.py --files IN OUT [WORDS..]
 
-The programs are those of `bench/programs`, and a program of many functions of which a few run often, each with much in it
+With --files it follows a run of IN and one of OUT, both with WORDS as arguments and with standard input, where that is no
+terminal. Else the programs are those of `bench/programs`, and a program of many functions of which a few run often, each with much in it
 that seldom runs; it is made for so many functions (400 and 3,000 where none are given). Each is built by GCC with
 picolibc, as `real_programs.py` builds it; COMMAND (`./sudrepka` where it isn't given) records a run of it, and rewrites it
 by that profile. Then `qemu-riscv64` runs both files and says each instruction's address, from which this counts
@@ -102,10 +104,10 @@ class Way:
         )
 
 
-def way_of(path, words):
+def way_of(path, words, given=b""):
     """The way of a run, its status and its output, or nothing where it crashes."""
     way = Way()
-    status, printed = follow(path, words, way.go)
+    status, printed = follow(path, words, way.go, given)
     return (way, status, printed) if status >= 0 else None
 
 
@@ -149,18 +151,29 @@ def compare(tool, name, path, words, folder):
         print(f"    {tool_name:10} {result[0] if same else 'runs otherwise' if result else 'crashes'}", flush=True)
 
 
+def follow_files(paths, words):
+    given = b"" if sys.stdin.isatty() else sys.stdin.buffer.read()
+    found = [way_of(path, words, given) for path in paths]
+    for when, result in zip(("before", "after"), found):
+        same = result and result[1:] == found[0][1:]
+        print(f"{when:10} {result[0] if same else 'runs otherwise' if result else 'crashes'}")
+
+
 def main():
     words = argparse.ArgumentParser(description="the way of runs through their code before and after a rewrite")
     words.add_argument("--tool", default=os.path.join(ROOT, "sudrepka"), help="the command that takes `rewrite ..`")
-    words.add_argument("functions", nargs="*", type=int, default=[400, 3000])
+    words.add_argument("--files", nargs=2, metavar=("IN", "OUT"), help="follows runs of these, with the words behind them")
+    words.add_argument("functions", nargs="*", metavar="FUNCTIONS or WORDS")
     given = words.parse_args()
+    if given.files:
+        return follow_files(given.files, given.functions)
     gcc = compilers().get("gcc") or sys.exit(f"there is no {CROSS}gcc")
     with tempfile.TemporaryDirectory() as folder:
         path = os.path.join(folder, "program")
         for program in sorted(LONGER):
             build(path, os.path.join(PROGRAMS, program), "gcc", gcc, "roomy", "-O2")
             compare(given.tool.split(), program, path, [LONGER[program]], folder)
-        for functions in given.functions:
+        for functions in map(int, given.functions or ["400", "3000"]):
             source = os.path.join(folder, "spread")
             with open(source + ".c", "w", encoding="ascii") as file:
                 file.write(spread(functions))

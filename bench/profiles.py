@@ -10,12 +10,15 @@ def output(command):
     return subprocess.run(command, capture_output=True, text=True, errors="replace", check=False).stdout
 
 
-def follow(path, words, go):
-    """Runs a file and calls `go` with the address of each instruction. Gives the status and what was printed."""
-    with tempfile.TemporaryFile() as printed:
+def follow(path, words, go, given=b""):
+    """Runs a file, with its standard input, and calls `go` with the address of each instruction. Gives the status and what was
+    printed."""
+    with tempfile.TemporaryFile() as printed, tempfile.TemporaryFile() as file:
+        file.write(given)
+        file.seek(0)
         read, write = os.pipe()
         command = ["qemu-riscv64", "-singlestep", "-d", "exec,nochain", "-D", f"/dev/fd/{write}", path, *words]
-        process = subprocess.Popen(command, stdout=printed, stderr=subprocess.DEVNULL, pass_fds=[write])
+        process = subprocess.Popen(command, stdin=file, stdout=printed, stderr=subprocess.DEVNULL, pass_fds=[write])
         os.close(write)
         with os.fdopen(read, "rb") as log:
             for line in log:

@@ -142,8 +142,8 @@ def build(path, program, compiler, parts, layout, level):
 class Checks:
     """What is asked of an input and its rewritten file."""
 
-    def __init__(self, tool, old, new, map_path):
-        self.tool, self.old, self.new, self.problems = tool, old, new, []
+    def __init__(self, tool, old, new, map_path, given=b""):
+        self.tool, self.old, self.new, self.given, self.problems = tool, old, new, given, []
         with open(map_path, encoding="ascii") as file:
             rows = [line.split() for line in file]
         self.spans = [(int(new, 16), int(length), int(old, 16)) for new, length, old in rows]
@@ -154,7 +154,8 @@ class Checks:
 
     def run_with(self, path, options, words):
         """The status, what was printed, and the count of steps."""
-        done = subprocess.run([*self.tool, "run", *options, path, *words], capture_output=True, check=False)
+        command = [*self.tool, "run", *options, path, "--", *words]
+        done = subprocess.run(command, input=self.given, capture_output=True, check=False)
         printed, _, line = done.stdout.rpartition(b"[")
         found = re.match(rb"ended \d+ after (\d+) steps\]", line)
         status, steps = done.returncode, int(found[1]) if found else None
@@ -172,7 +173,7 @@ class Checks:
             self.say("the output runs otherwise")
         if shutil.which("qemu-riscv64"):
             for path in (self.old, self.new):
-                done = subprocess.run(["qemu-riscv64", path, *words], capture_output=True, check=False)
+                done = subprocess.run(["qemu-riscv64", path, *words], input=self.given, capture_output=True, check=False)
                 if (done.returncode, done.stdout) != before[:2]:
                     self.say(f"qemu runs {os.path.basename(path)} otherwise")
         return before[2], after[2]

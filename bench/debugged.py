@@ -1,0 +1,76 @@
+"""What `gdb` says where a program and its rewritten file stop: lines, frames, arguments and locals."""
+import os
+import re
+import socket
+import subprocess
+import tempfile
+import time
+
+from profiles import output
+
+GDB = ["gdb-multiarch", "-batch", "-nx", "-ex", "set confirm off", "-ex", "set width 0", "-ex", "set print frame-arguments all"]
+
+
+def free_port():
+    with socket.socket() as free:
+        free.bind(("127.0.0.1", 0))
+        return free.getsockname()[1]
+
+
+def session(path, words, given, commands):
+    """What gdb prints of commands in a program that `qemu-riscv64` runs, with its standard input."""
+    port = free_port()
+    with tempfile.TemporaryFile() as file:
+        file.write(given)
+        file.seek(0)
+        machine = subprocess.Popen(["qemu-riscv64", "-g", str(port), path, *words], stdin=file, stdout=subprocess.DEVNULL,
+                                   stderr=subprocess.DEVNULL)
+        try:
+            time.sleep(0.3)
+            asked = [word for command in commands for word in ("-ex", command)]
+            return output([*GDB, "-ex", f"target remote 127.0.0.1:{port}", *asked, path])
+        finally:
+            machine.kill()
+            machine.wait()
+
+
+def stops(path, words, given, places):
+    """Stops once at each of the places, and gives what gdb says at each stop: the address, and a text without addresses of code."""
+    ask = [f"tbreak *{place:#x}" for place in places]
+    for _ in places:
+        ask += ["continue", r'printf "\nSTOP %lx\n", $pc', "info line *$pc", "bt 12", "info args", "info locals", r"echo \nEND\n"]
+    found = []
+    for at, text in re.findall(r"\nSTOP ([0-9a-f]+)\n(.*?)\nEND\n", session(path, words, given, ask), re.S):
+        # An address in a frame, of a line's range, or of a function in a variable, has moved.
+        text = re.sub(r"0x[0-9a-f]+ in ", "", text)
+        text = re.sub(r"0x[0-9a-f]+ <([\w.]+)(?:\+\d+)?>", r"<\1>", text)
+        text = re.sub(r" (?:starts|is) at address .*", "", text).replace(".cold>", ">")
+        found.append((int(at, 16), text))
+    return found
+
+
+def stop_problems(old, new, moved, places, words, given):
+    """Where gdb says another thing of the rewritten program, both stopped at the same instructions."""
+    before = stops(old, words, given, places)
+    after = stops(new, words, given, [moved[place] for place in places])
+    problems = []
+    if [moved.get(at) for at, _ in before] != [at for at, _ in after]:
+        return [f"gdb stops {len(before)} times before and {len(after)} times afterwards, or elsewhere"]
+    for (at, was), (_, now) in zip(before, after):
+        if was != now:
+            lines = [f"{a!r} before, {b!r} after" for a, b in zip(was.splitlines(), now.splitlines()) if a != b]
+            problems.append(f"gdb at {at:x}: {(lines or ['more lines'])[0]}")
+    return problems
+
+
+def line_problems(old, new, places):
+    """Where a breakpoint by file and line leads to another function in the rewritten file than in the input."""
+    ask = [word for place in places for word in ("-ex", f"info line *{place:#x}")]
+    lines = sorted(set(re.findall(r'Line (\d+) of "([^"]+)"', output([*GDB, *ask, old]))))
+    asked = [word for line, file in lines for word in ("-ex", f"break {os.path.basename(file)}:{line}")]
+    said = []
+    for path in (old, new):
+        text = output([*GDB, *asked, "-ex", "info breakpoints", path])
+        # (a cold part is one of its function's places)
+        said.append(set(re.findall(r" in (\w+)\S* at (\S+:\d+)", text)))
+    return [f"gdb: a breakpoint at {where} leads to {name} in one file alone" for name, where in sorted(said[0] ^ said[1])]

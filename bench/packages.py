@@ -1,0 +1,79 @@
+"""Programs of Debian's source packages: Lua, zlib, bzip2 and pugixml, built for a RISC-V processor without a system.
+
+`packages/` has what each of them wants beside its own code: a main function, standard input, and what is run. Their sources
+are fetched by `apt-get` from a mirror of Debian 12, which checks them by the archive's keys, and used as their authors
+wrote them, without Debian's patches.
+"""
+import dataclasses
+import glob
+import os
+import subprocess
+import sys
+
+BENCH = os.path.dirname(os.path.abspath(__file__))
+OWN = os.path.join(BENCH, "packages")
+PROGRAMS = os.path.join(BENCH, "programs")
+MIRROR = "deb-src [signed-by=/usr/share/keyrings/debian-archive-keyring.gpg] http://deb.debian.org/debian bookworm main\n"
+
+
+@dataclasses.dataclass
+class Program:
+    """A program of a package: its folder of sources, files of it that are compiled, and those that aren't."""
+
+    source: str
+    folder: str
+    code: list
+    own: list = ()
+    without: list = ()
+    flags: list = ()
+    words: list = ()
+    given: str = ""  # the file that is standard input, in the folder of sources or in `packages`
+    length: int = 1 << 20  # how many bytes of that
+
+    def files(self, sources):
+        top = os.path.join(sources, self.folder)
+        found = sorted(file for pattern in self.code for file in glob.glob(os.path.join(top, pattern)))
+        return [file for file in found if os.path.basename(file) not in self.without]
+
+    def include(self, sources):
+        return sorted({os.path.dirname(file) for file in self.files(sources)}) + [OWN]
+
+    def input(self, sources):
+        for folder in (os.path.join(sources, self.folder), OWN):
+            path = os.path.join(folder, self.given)
+            if os.path.isfile(path):
+                with open(path, "rb") as file:
+                    return file.read(self.length)
+        return b""
+
+
+PACKAGES = {
+    "lua": Program("lua5.4", "lua-5.4.4", ["src/*.c"], without=["luac.c"], words=["-"], given="work.lua",
+                   # a seed that isn't made of addresses
+                   flags=["-DLUA_USE_C89", "-Dluai_makeseed(L)=1u"]),
+    "zpipe": Program("zlib", "zlib-1.2.13.dfsg", ["*.c", "examples/zpipe.c"], given="deflate.c", length=16384,
+                     without=["gzclose.c", "gzlib.c", "gzread.c", "gzwrite.c"]),
+    "bzip2": Program("bzip2", "bzip2-1.0.8", ["[bcdhr]*.c"], own=["bzip_pipe.c"], given="compress.c", length=8192,
+                     without=["bzip2.c", "bzip2recover.c", "dlltest.c"], flags=["-DBZ_NO_STDIO"]),
+    "pugixml": Program("pugixml", "pugixml-1.13", ["src/pugixml.cpp"], own=["xml_outline.cc"],
+                       given="outline.xml",
+                       flags=["-DPUGIXML_NO_STL", "-DPUGIXML_NO_EXCEPTIONS", "-fno-exceptions"]),
+}
+
+
+def fetch(sources, names):
+    """Fetches and unpacks the sources of programs that aren't in the folder yet."""
+    wanted = {PACKAGES[name].source: PACKAGES[name].folder for name in names}
+    wanted = [source for source, folder in wanted.items() if not os.path.isdir(os.path.join(sources, folder))]
+    if not wanted:
+        return
+    os.makedirs(os.path.join(sources, "lists", "partial"), exist_ok=True)
+    with open(os.path.join(sources, "sources.list"), "w", encoding="ascii") as file:
+        file.write(MIRROR)
+    apt = ["apt-get", "-qq", "-o", f"Dir::Etc::sourcelist={sources}/sources.list", "-o", "Dir::Etc::sourceparts=/dev/null",
+           "-o", f"Dir::State::Lists={sources}/lists"]
+    for command in (["update"], ["source", "--download-only", *wanted]):
+        if subprocess.run([*apt, *command], cwd=sources, check=False).returncode != 0:
+            sys.exit(f"{' '.join([*apt, *command])} failed: the sources of {', '.join(wanted)} can't be had")
+    for archive in glob.glob(os.path.join(sources, "*.orig.tar.*")):
+        subprocess.run(["tar", "xf", archive], cwd=sources, check=True)

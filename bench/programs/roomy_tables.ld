@@ -1,0 +1,21 @@
+/* As roomy.ld, code alone in its segment with room behind it, and unwind tables. */
+ENTRY(_start)
+PHDRS {
+  text PT_LOAD FLAGS(5);
+  constants PT_LOAD FLAGS(4);
+  data PT_LOAD FLAGS(6);
+  tls PT_TLS FLAGS(4);
+}
+SECTIONS {
+  . = 0x10000;
+  .text : { *(.text.startup .text.startup.*) *(.text .text.*) } :text
+  . = 0x1100000;
+  .rodata : { *(.rodata .rodata.* .srodata .srodata.*) *(.data.rel.ro .data.rel.ro.*) } :constants
+  .eh_frame : { KEEP(*(.eh_frame .eh_frame.*)) } :constants
+  . = ALIGN(0x1000);
+  .data : { *(.data .data.*) *(.sdata .sdata.*) *(.got .got.*) } :data
+  .tdata : { __tdata_start = .; *(.tdata .tdata.*) __tdata_end = .; } :data :tls
+  .tbss : { *(.tbss .tbss.*) } :data :tls
+  .bss : { *(.sbss .sbss.*) *(.bss .bss.*) *(COMMON) } :data
+  /DISCARD/ : { *(.note .note.*) }
+}

@@ -1,0 +1,250 @@
+#!/usr/bin/env python3
+"""All that is tried on real programs, in one table.
+
+    python3 bench/report.py [--tool COMMAND] [--sources FOLDER] [--keep FOLDER] [--levels LEVEL..] [PROGRAM..]
+
+The programs are those of Debian's source packages Lua, zlib, bzip2 and pugixml (`packages.py`; fetched into FOLDER, or into
+the cache of the user) and those of `programs/` that don't unwind themselves. Each is built by GCC with GNU ld and by Clang with lld,
+with picolibc for RV64IMC: `bare` without debug data and unwind tables, `debug` with all that `-g` makes, and `tables` with
+unwind tables besides. Of each file the table says, step by step, `yes`, or a number that a line below the table explains:
+
+- `record`, `repair`, `rewrite`, `verify` by COMMAND (`./sudrepka` where it isn't given), and `run --symbols` to the end;
+- `alike`: both files run alike on `run` and on `qemu-riscv64`, and `readelf`, `eu-elflint`, `objdump`, `gdb` and
+  `llvm-dwarfdump --verify` find nothing in the output that they don't find in the input;
+- `lookup`, and `frames` where COMMAND has it: the same at moved instructions as at their owners;
+- `gdb`: the same lines, frames, arguments and locals where both programs stop at one instruction, hot or cold, and
+  breakpoints by line in the same functions.
+
+A second table has the way of a run through the code before and after, and that of `llvm-bolt-19`'s output, as `layout.py`
+counts it. It wants what `real_programs.py` wants.
+"""
+import argparse
+import os
+import re
+import shutil
+import subprocess
+import sys
+import tempfile
+
+sys.path.insert(0, os.path.dirname(os.path.abspath(__file__)))
+import debugged  # noqa: E402
+from heatmap import counts_of, edges_of, entry_of, functions_of  # noqa: E402
+from frames import mend_tables  # noqa: E402
+from layout import bolt_profile, way_of  # noqa: E402
+from packages import OWN, PACKAGES, fetch  # noqa: E402
+from profiles import output  # noqa: E402
+from real_programs import COMPILE, LINES, LINK, LONGER, MACHINE, NO_TABLES, OWN_TABLES, PICOLIBC, PROGRAMS, ROOT  # noqa: E402
+from real_programs import UNWINDING, Checks, call, compilers, newest  # noqa: E402
+
+KINDS = {"bare": NO_TABLES, "debug": [*LINES, "-fno-dwarf2-cfi-asm"], "tables": ["-g", *OWN_TABLES]}
+SCRIPTS = {"tables": "roomy_tables.ld"}
+STEPS = ["record", "repair", "symbols", "rewrite", "verify", "alike", "lookup", "frames", "gdb"]
+ASKED = 24  # addresses that are looked up, and at which gdb stops
+
+
+def own_programs():
+    return [name for name in sorted(LONGER) if name not in UNWINDING]
+
+
+class Builder:
+    """Builds programs. Libraries have no debug data of their own: that of GNU as is refused, as HighPcForm."""
+
+    def __init__(self, folder, sources):
+        self.folder, self.sources, self.parts = folder, sources, {}
+        strip = shutil.which("riscv64-unknown-elf-strip")
+        for compiler, (front, libraries) in compilers().items():
+            found = os.path.join(PICOLIBC, "lib", "rv64im", "lp64")
+            gcc = output(["riscv64-unknown-elf-gcc", *MACHINE, "-print-libgcc-file-name"]).strip()
+            stripped = []
+            for path in (os.path.join(found, "libc.a"), os.path.join(found, "libm.a"), gcc):
+                stripped.append(os.path.join(folder, os.path.basename(path)))
+                if not os.path.exists(stripped[-1]):
+                    call([strip, "-g", "-o", stripped[-1], path])
+            group = ["-Wl,--start-group", *stripped, "-Wl,--end-group"]
+            self.parts[compiler] = (front, group)
+
+    def files(self, program):
+        """The files of a program, the folders of its headers, and its own flags."""
+        start = os.path.join(PROGRAMS, "start.c")
+        if program not in PACKAGES:
+            return [os.path.join(PROGRAMS, program + ".c"), start], [], []
+        package = PACKAGES[program]
+        own = [os.path.join(OWN, name) for name in (*package.own, "standard_input.c")]
+        return [*package.files(self.sources), *own, start], package.include(self.sources), package.flags
+
+    def objects(self, program, compiler, kind, level):
+        front, _ = self.parts[compiler]
+        files, folders, flags = self.files(program)
+        include = [word for folder in folders for word in ("-I", folder)]
+        made = []
+        for number, source in enumerate(files):
+            made.append(os.path.join(self.folder, f"{program}.{number}.o"))
+            cxx = ["-fno-rtti"] if source.endswith((".cc", ".cpp")) else []
+            call([*front, *MACHINE, *COMPILE, *KINDS[kind], level, *flags, *cxx, *include, "-w",
+                  "-isystem", os.path.join(PICOLIBC, "include"), "-c", source, "-o", made[-1]])
+        return made
+
+    def build(self, path, program, compiler, kind, level):
+        front, libraries = self.parts[compiler]
+        script = os.path.join(PROGRAMS, SCRIPTS.get(kind, "roomy.ld"))
+        made = self.objects(program, compiler, kind, level)
+        call([*front, *MACHINE, "-nostdlib", *LINK, "-T", script, *made, *libraries, "-o", path])
+        mend_tables(path)  # those of libraries, which GNU as made
+        for name in made:
+            os.remove(name)
+
+
+class Try:
+    """All steps of one program."""
+
+    def __init__(self, tool, path, words, given):
+        self.tool, self.path, self.words, self.given = tool, path, words, given
+        self.results, self.problems = {}, []
+
+    def at(self, end):
+        return f"{self.path}.{end}"
+
+    def command(self, *words):
+        done = subprocess.run([*self.tool, *words], input=self.given, capture_output=True, check=False)
+        return done.returncode, done.stdout.decode(errors="replace").rstrip().rpartition("\n")[2]
+
+    def note(self, step, problems):
+        self.results[step] = not problems
+        self.problems += [f"{step}: {problem}" for problem in problems[:3]]
+        return not problems
+
+    def ran(self, step, *words):
+        status, last = self.command(*words)
+        return self.note(step, [] if "[ended" in last else [last or f"status {status}"])
+
+    def done(self, step, *words):
+        status, last = self.command(*words)
+        return self.note(step, [] if status == 0 else [last or f"status {status}"])
+
+    def go(self):
+        """Does the steps, up to one without which the others make no sense."""
+        limit = ["--steps", "1000000000"]
+        if not self.ran("record", "record", *limit, self.path, self.at("profile"), "--", *self.words):
+            return
+        self.done("repair", "repair", self.path, self.at("profile"), self.at("repaired"))
+        self.ran("symbols", "run", "--symbols", *limit, self.path, "--", *self.words)
+        if not self.done("rewrite", "rewrite", self.path, self.at("profile"), self.at("moved"), self.at("map")):
+            return
+        os.chmod(self.at("moved"), 0o755)
+        self.done("verify", "verify", self.path, self.at("moved"), self.at("map"))
+        checks = Checks(self.tool, self.path, self.at("moved"), self.at("map"), self.given)
+        self.compared(checks)
+        places = self.places(checks)
+        self.looked_up("lookup", places, checks.moved)
+        if "frames FILE" in self.command()[1]:
+            self.looked_up("frames", places, checks.moved)
+        if shutil.which("gdb-multiarch") and shutil.which("qemu-riscv64"):
+            found = debugged.stop_problems(self.path, self.at("moved"), checks.moved, places, self.words, self.given)
+            self.note("gdb", found + debugged.line_problems(self.path, self.at("moved"), places))
+
+    def compared(self, checks):
+        checks.runs(self.words, True)
+        checks.readers()
+        if dump := newest("llvm-dwarfdump"):
+            for line in checks.complaints([dump, "--verify"], r"(?i)error|warning"):
+                checks.say(f"llvm-dwarfdump: {line}")
+        checks.debugger(checks.disassembly())
+        self.note("alike", checks.problems)
+
+    def places(self, checks):
+        """Instructions to ask of: from those that ran often to those that ran once, and others."""
+        edges = edges_of(self.at("profile"), functions_of(self.path)[1])
+        kept = sorted(old for _, size, old in checks.spans if size)
+        counts = counts_of(edges, entry_of(self.path), kept)
+        ran = sorted((old for old in kept if counts[old]), key=lambda old: (-counts[old], old))
+        often = ran[::max(1, len(ran) // (ASKED * 3 // 4))]
+        never = [old for old in kept if not counts[old]]
+        return often + never[::max(1, len(never) // (ASKED // 4))][:ASKED // 4]
+
+    def looked_up(self, name, places, moved):
+        problems = []
+        for place in places:
+            said = []
+            for path, at in ((self.path, place), (self.at("moved"), moved[place])):
+                done = subprocess.run([*self.tool, name, path, f"{at:x}"], capture_output=True, text=True, check=False)
+                said.append((done.returncode, re.sub(r" handler \S+", "", done.stdout)))
+            if said[0] != said[1] or said[0][0] != 0:
+                problems.append(f"{said[0][1]!r} at {place:x}, and {said[1][1]!r} where it went")
+        self.note(name, problems)
+
+    def ways(self):
+        """The way of the run before, after, and of llvm-bolt's output."""
+        found = [("before", way_of(self.path, self.words, self.given)), ("after", way_of(self.at("moved"), self.words, self.given))]
+        if shutil.which("llvm-bolt-19"):
+            bolt_profile(self.at("profile"), self.path, self.at("named"))
+            options = ["--reorder-blocks=ext-tsp", "--reorder-functions=cdsort", "--split-functions", "--data", self.at("named")]
+            done = subprocess.run(["llvm-bolt-19", self.path, "-o", self.at("bolted"), *options], capture_output=True,
+                                  text=True, errors="replace", check=False)
+            said = re.findall(r"(?i)error: (.*)|(Emission failed.*)|(Assertion.*failed)|(UNREACHABLE.*)", done.stderr)
+            why = next(("".join(words) for words in said), f"status {done.returncode}")
+            found.append(("llvm-bolt", way_of(self.at("bolted"), self.words, self.given) if os.path.exists(self.at("bolted")) else why))
+        return found
+
+
+def row_of(way, first):
+    if way is None:
+        return "crashes"
+    if isinstance(way, str):
+        return f"no file: {way[:90]}"
+    if way[1:] != first[1:]:
+        return "runs otherwise"
+    return " ".join(str(way[0]).split())
+
+
+def report(tool, names, folder, sources, levels):
+    builder, notes, ways = Builder(folder, sources), [], []
+    print(f"| file | {' | '.join(STEPS)} |\n|---|{'---|' * len(STEPS)}", flush=True)
+    for program in names:
+        package = PACKAGES.get(program)
+        words = list(package.words) if package else []
+        given = package.input(sources) if package else b""
+        for compiler in builder.parts:
+            for kind in KINDS:
+                for level in levels:
+                    name = f"{program}.{compiler}.{kind}{level}"
+                    tried = Try(tool, os.path.join(folder, name), words, given)
+                    builder.build(tried.path, program, compiler, kind, level)
+                    tried.go()
+                    marks = []
+                    for step in STEPS:
+                        marks.append({True: "yes", False: "**no**", None: "-"}[tried.results.get(step)])
+                    notes += [f"{name}: {problem}" for problem in tried.problems]
+                    print(f"| {name} | {' | '.join(marks)} |", flush=True)
+                    if kind == "bare" and level == levels[0] and tried.results.get("rewrite"):
+                        ways.append((name, tried.ways()))
+    print("\n| file | | way of a run |\n|---|---|---|")
+    for name, found in ways:
+        for when, way in found:
+            print(f"| {name if when == 'before' else ''} | {when} | {row_of(way, found[0][1])} |")
+    print(f"\n{len(notes)} problems")
+    for note in notes:
+        print(f"- {note[:400]}")
+    return len(notes)
+
+
+def main():
+    cache = os.path.join(os.environ.get("XDG_CACHE_HOME", os.path.expanduser("~/.cache")), "sudrepka")
+    words = argparse.ArgumentParser(description="all that is tried on real programs, in one table")
+    words.add_argument("--tool", default=os.path.join(ROOT, "sudrepka"), help="the command that takes `rewrite ..`")
+    words.add_argument("--sources", default=cache, help="where the sources of packages are, or go")
+    words.add_argument("--keep", help="a folder for all files")
+    words.add_argument("--levels", nargs="*", default=["-O2", "-Os"], type=lambda level: "-" + level.lstrip("-"))
+    words.add_argument("programs", nargs="*", default=[*PACKAGES, *own_programs()])
+    given = words.parse_args()
+    if not compilers():
+        sys.exit("there is no riscv64-unknown-elf-gcc")
+    fetch(given.sources, [name for name in given.programs if name in PACKAGES])
+    with tempfile.TemporaryDirectory() as room:
+        folder = given.keep or room
+        os.makedirs(folder, exist_ok=True)
+        problems = report(given.tool.split(), given.programs, folder, given.sources, given.levels)
+    sys.exit(1 if problems else 0)
+
+
+if __name__ == "__main__":
+    main()
