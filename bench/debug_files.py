@@ -1,5 +1,5 @@
-"""What scripts on debug data share: programs with all debug tables, the addresses of their instructions, and what the tool
-answers at each of them."""
+"""What scripts on debug data share: programs with all debug tables, the addresses of their instructions, and what
+the tool answers at each of them."""
 import concurrent.futures
 import os
 import re
@@ -9,16 +9,16 @@ import time
 
 from frames import mend_tables
 from profiles import CROSS, output
-from real_programs import (COMPILE, LAYOUTS, LINK, MACHINE, NO_DATA, OF_LINKER, OWN_TABLES, PICOLIBC, PROGRAMS, TABLES, UNWINDING,
-                           call, linker_of)
+from real_programs import (COMPILE, LAYOUTS, LINK, MACHINE, OF_LINKER, OWN_TABLES, PICOLIBC, PROGRAMS, TABLES,
+                           UNWINDING, call, linker_of)
 
 # GNU as writes frame tables that aren't as DWARF has them, so GCC writes its own.
 KINDS = {"gcc": [*OWN_TABLES, "-g"], "clang": [*TABLES, "-g"]}
 
 
 def bare_libraries(folder, libraries):
-    """The libraries of a link without their debug data: GNU as gives functions of assembly a high address in a form that can't be
-    changed in place, and its frame tables aren't as DWARF has them."""
+    """The libraries of a link without their debug data: GNU as gives functions of assembly a high address in a form
+    that can't be changed in place, and its frame tables aren't as DWARF has them."""
     found = []
     for word in libraries:
         paths = [word] if word.endswith(".a") else []
@@ -43,9 +43,11 @@ def build_with_tables(path, program, compiler, parts, level):
         objects.append(f"{path}.{source}.o")
         kind = ["-fno-rtti"] if source.endswith(".cc") else []
         compiled = [word for word in COMPILE if word != "-g0"]
-        call([*front, *MACHINE, *compiled, *KINDS[compiler], *kind, level, "-isystem", os.path.join(PICOLIBC, "include"), "-c",
+        include = ["-isystem", os.path.join(PICOLIBC, "include")]
+        call([*front, *MACHINE, *compiled, *KINDS[compiler], *kind, level, *include, "-c",
               os.path.join(PROGRAMS, source), "-o", objects[-1]])
-    layout = LAYOUTS["tables"] if program in UNWINDING else [*LAYOUTS["tables"], *OF_LINKER.get((compiler, "tables"), [])]
+    own_layout = OF_LINKER.get((compiler, "tables"), []) if program not in UNWINDING else []
+    layout = [*LAYOUTS["tables"], *own_layout]
     call([*front, *MACHINE, "-nostdlib", *LINK, *layout, *linker_of(folder, program, compiler), *objects,
           *bare_libraries(folder, libraries), "-o", path])
     mend_tables(path)  # also those of libraries
@@ -62,7 +64,8 @@ def instructions(path, section=".text"):
 def asked(tool, command, path, addresses):
     """What the tool prints of each address, in order."""
     def ask(address):
-        done = subprocess.run([*tool, command, path, f"{address:x}"], capture_output=True, text=True, errors="replace", check=False)
+        words = [*tool, command, path, f"{address:x}"]
+        done = subprocess.run(words, capture_output=True, text=True, errors="replace", check=False)
         return done.stdout if done.returncode == 0 else f"{done.returncode} {done.stdout}"
 
     with concurrent.futures.ThreadPoolExecutor(os.cpu_count()) as pool:
@@ -71,7 +74,10 @@ def asked(tool, command, path, addresses):
 
 # A function of a large program: with an inlined one, local variables, a loop and a switch.
 FUNCTION = """
-static inline int clamp_@(int value, int low) { int most = low + @; return value < low ? low : value > most ? most : value; }
+static inline int clamp_@(int value, int low) {
+    int most = low + @;
+    return value < low ? low : value > most ? most : value;
+}
 __attribute__((noinline)) int f@(int *values, int count) {
     int sum = @;
     for (int i = 0; i < count; i++) {
@@ -85,8 +91,8 @@ __attribute__((noinline)) int f@(int *values, int count) {
 
 
 def build_large(path, mib):
-    """Builds a program of about so many MiB with all tables, of units of 200 functions each by GCC, and gives an address in the
-    middle of its code, of an inlined function."""
+    """Builds a program of about so many MiB with all tables, of units of 200 functions each by GCC, and gives an
+    address in the middle of its code, of an inlined function."""
     folder = os.path.dirname(path)
     source, one = (os.path.join(folder, name) for name in ("unit.c", "unit.o"))
     with open(source, "w", encoding="ascii") as file:
@@ -102,18 +108,20 @@ def build_large(path, mib):
     with open(start, "w", encoding="ascii") as file:
         calls = "".join(f"int u{k}_f199(int *, int); " for k in range(count))
         sums = " + ".join(f"u{k}_f199(values, 4)" for k in range(count))
-        file.write(f"{calls}\nvoid _start(void) {{ int values[4] = {{1, 2, 3, 4}}; register int a0 __asm__(\"a0\") = {sums}; "
-                   "register int a7 __asm__(\"a7\") = 93; __asm__ volatile(\"ecall\" : : \"r\"(a0), \"r\"(a7)); __builtin_unreachable(); }\n")
-    call([CROSS + "gcc", *MACHINE, *OWN_TABLES, "-g", "-O2", "-nostdlib", "-nostartfiles", *LINK, "-Wl,-Ttext-segment=0x100000",
-          "-Wl,-z,max-page-size=0x100000", start, *objects, "-o", path])
+        file.write(f"{calls}\nvoid _start(void) {{ int values[4] = {{1, 2, 3, 4}};\n"
+                   f"register int a0 __asm__(\"a0\") = {sums};\n"
+                   "register int a7 __asm__(\"a7\") = 93; __asm__ volatile(\"ecall\" : : \"r\"(a0), \"r\"(a7));\n"
+                   "__builtin_unreachable(); }\n")
+    call([CROSS + "gcc", *MACHINE, *OWN_TABLES, "-g", "-O2", "-nostdlib", "-nostartfiles", *LINK,
+          "-Wl,-Ttext-segment=0x100000", "-Wl,-z,max-page-size=0x100000", start, *objects, "-o", path])
     for name in [*objects, one]:
         os.remove(name)
     names = [line.split() for line in output([CROSS + "nm", path]).splitlines()]
     low = next(int(row[0], 16) for row in names if row[-1] == f"u{count // 2}_f100")
-    text = output([CROSS + "objdump", "-d", "--no-show-raw-insn", f"--start-address={low}", f"--stop-address={low + 256}", path])
+    part = [f"--start-address={low}", f"--stop-address={low + 256}"]
+    text = output([CROSS + "objdump", "-d", "--no-show-raw-insn", *part, path])
     places = [int(row[1], 16) for row in re.finditer(r"^ *([0-9a-f]+):\t", text, re.M)]
-    inlined = subprocess.run(["llvm-symbolizer", "-e", path, *(f"0x{at:x}" for at in places)], capture_output=True, text=True, check=False)
-    parts = inlined.stdout.split("\n\n")
+    parts = output(["llvm-symbolizer", "-e", path, *(f"0x{at:x}" for at in places)]).split("\n\n")
     return next((at for at, part in zip(places, parts) if len(part.splitlines()) > 2), low)
 
 

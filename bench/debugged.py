@@ -1,14 +1,16 @@
 """What `gdb` says where a program and its rewritten file stop: lines, frames, arguments and locals."""
 import os
 import re
+import shutil
 import socket
 import subprocess
 import tempfile
 import time
 
-from profiles import output
+from profiles import CROSS, output
 
-GDB = ["gdb-multiarch", "-batch", "-nx", "-ex", "set confirm off", "-ex", "set width 0", "-ex", "set print frame-arguments all"]
+GDB = ["gdb-multiarch", "-batch", "-nx", "-ex", "set confirm off", "-ex", "set width 0",
+       "-ex", "set print frame-arguments all"]
 
 
 def free_port():
@@ -20,11 +22,13 @@ def free_port():
 def session(path, words, given, commands):
     """What gdb prints of commands in a program that `qemu-riscv64` runs, with its standard input."""
     port = free_port()
-    with tempfile.TemporaryFile() as file:
+    with tempfile.TemporaryFile() as file, tempfile.TemporaryDirectory() as folder:
         file.write(given)
         file.seek(0)
-        machine = subprocess.Popen(["qemu-riscv64", "-g", str(port), path, *words], stdin=file, stdout=subprocess.DEVNULL,
-                                   stderr=subprocess.DEVNULL)
+        # under names of one length, which stand on the stack, so that the stacks of both files are alike
+        program = shutil.copy(path, os.path.join(folder, "program"))
+        machine = subprocess.Popen(["qemu-riscv64", "-g", str(port), program, *words], stdin=file,
+                                   stdout=subprocess.DEVNULL, stderr=subprocess.DEVNULL)
         try:
             time.sleep(0.3)
             asked = [word for command in commands for word in ("-ex", command)]
@@ -35,10 +39,11 @@ def session(path, words, given, commands):
 
 
 def stops(path, words, given, places):
-    """Stops once at each of the places, and gives what gdb says at each stop: the address, and a text without addresses of code."""
+    """Stops once at each of the places. Gives what gdb says there: the address, and a text without addresses of code."""
     ask = [f"tbreak *{place:#x}" for place in places]
     for _ in places:
-        ask += ["continue", r'printf "\nSTOP %lx\n", $pc', "info line *$pc", "bt 12", "info args", "info locals", r"echo \nEND\n"]
+        ask += ["continue", r'printf "\nSTOP %lx\n", $pc', "info line *$pc", "bt 12", "info args", "info locals",
+                r"echo \nEND\n"]
     found = []
     for at, text in re.findall(r"\nSTOP ([0-9a-f]+)\n(.*?)\nEND\n", session(path, words, given, ask), re.S):
         # An address in a frame, of a line's range, or of a function in a variable, has moved.
@@ -49,8 +54,15 @@ def stops(path, words, given, places):
     return found
 
 
+def with_lines(path, places):
+    """The places but those at which the line table says line 0: there gdb takes the line of what stands before them."""
+    said = output([CROSS + "addr2line", "-e", path, *(f"{place:#x}" for place in places)]).splitlines()
+    return [place for place, line in zip(places, said) if line.startswith("??") or not line.endswith(":?")]
+
+
 def stop_problems(old, new, moved, places, words, given):
     """Where gdb says another thing of the rewritten program, both stopped at the same instructions."""
+    places = with_lines(old, places)
     before = stops(old, words, given, places)
     after = stops(new, words, given, [moved[place] for place in places])
     problems = []
@@ -73,4 +85,5 @@ def line_problems(old, new, places):
         text = output([*GDB, *asked, "-ex", "info breakpoints", path])
         # (a cold part is one of its function's places)
         said.append(set(re.findall(r" in (\w+)\S* at (\S+:\d+)", text)))
-    return [f"gdb: a breakpoint at {where} leads to {name} in one file alone" for name, where in sorted(said[0] ^ said[1])]
+    other = sorted(said[0] ^ said[1])
+    return [f"gdb: a breakpoint at {where} leads to {name} in one file alone" for name, where in other]

@@ -3,12 +3,12 @@
 
     python3 bench/frames.py FILE..
 
-GNU as begins each common entry by changing the register of a frame address that isn't given yet, which DWARF 5 doesn't
-allow (section 6.4.2.2). In all such entries of `.eh_frame` and `.debug_frame` of each FILE register and offset are given instead, in as
-many bytes. It wants `riscv64-unknown-elf-readelf`.
+GNU as begins each common entry by changing the register of a frame address that isn't given yet, which DWARF 5
+doesn't allow (section 6.4.2.2). In all such entries of `.eh_frame` and `.debug_frame` of each FILE register and
+offset are given instead, in as many bytes. It wants `riscv64-unknown-elf-readelf`.
 
-For other scripts `readelf` says for each address how the frame is unwound there, and `llvm-dwarfdump` what its entry says of
-exceptions; `gdb` unwinds a stopped program.
+For other scripts `readelf` says for each address how the frame is unwound there, and `llvm-dwarfdump` what its entry
+says of exceptions; `gdb` unwinds a stopped program.
 """
 import bisect
 import re
@@ -65,7 +65,7 @@ def defined(instructions):
 
 
 def mend_tables(path):
-    """Gives register and offset of the frame address in all common entries of an executable that GNU as made otherwise."""
+    """Gives register and offset of the frame address in all common entries that GNU as made otherwise."""
     with open(path, "r+b") as file:
         data = bytearray(file.read())
         for name, mark in ((".eh_frame", bytes(4)), (".debug_frame", b"\xff" * 4)):

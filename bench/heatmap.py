@@ -3,14 +3,16 @@
 
     python3 bench/heatmap.py [--svg FILE] [--cell BYTES] IN OUT MAP PROFILE
 
-IN, OUT and MAP are those of `rewrite`, and PROFILE the profile that it took, or any other of IN. The text that is printed
-has a sign for each 64 bytes of code, a cache line, or for each BYTES, 64 of them in a row: the darker the sign, the more
-often an instruction there ran, each step of the scale being eight times as often. Rows in which nothing ran are counted. Below each of
-both pictures stands how many lines and how many pages of 4096 bytes hold a half, nine tenths and all of what ran. The SVG
-has both pictures beside each other, with the function and the count of a cell where the pointer rests on it.
+IN, OUT and MAP are those of `rewrite`, and PROFILE the profile that it took, or any other of IN. The text that is
+printed has a sign for each 64 bytes of code, a cache line, or for each BYTES, 64 of them in a row: the darker the
+sign, the more often an instruction there ran, each step of the scale being eight times as often. Rows in which
+nothing ran are counted. Below each of both pictures stands how many lines and how many pages of 4096 bytes hold a
+half, nine tenths and all of what ran. The SVG has both pictures beside each other, with the function and the count of
+a cell where the pointer rests on it.
 
-How often an instruction ran is what the profile says: where control came to a place so many times, each instruction from there
-to the next place from which the profile has control go on ran as often. It wants `riscv64-unknown-elf-readelf`.
+How often an instruction ran is what the profile says: where control came to a place so many times, each instruction
+from there to the next place from which the profile has control go on ran as often. It wants
+`riscv64-unknown-elf-readelf`.
 """
 import argparse
 import bisect
@@ -146,7 +148,8 @@ class Picture:
 
     def svg(self, left, size):
         shown = [f'<text x="{left}" y="16">{html.escape(self.title)}</text>']
-        shown.append(f'<rect x="{left}" y="24" width="{COLUMNS * size}" height="{self.rows * size}" fill="{COLOURS[0]}"/>')
+        shown.append(f'<rect x="{left}" y="24" width="{COLUMNS * size}" height="{self.rows * size}" '
+                     f'fill="{COLOURS[0]}"/>')
         for number in sorted(self.cells):
             at = self.first + number * self.cell
             x, y = left + number % COLUMNS * size, 24 + number // COLUMNS * size

@@ -3,22 +3,22 @@
 
     python3 bench/inlined.py [--tool COMMAND] [--keep FOLDER] [--inputs] [PROGRAM..]
 
-Each program of `bench/programs` is compiled by GCC with GNU ld and by Clang with lld, at -O2 and -O3, with all debug tables of its
-own code, and linked with libraries that have none. COMMAND (`./sudrepka` where it isn't given) records a short run of it and
-rewrites it by that profile; with --inputs it doesn't. `frames` is asked for each instruction of the input, and for the first and the
-last byte of what each became in the output. Then
+Each program of `bench/programs` is compiled by GCC with GNU ld and by Clang with lld, at -O2 and -O3, with all
+debug tables of its own code, and linked with libraries that have none. COMMAND (`./sudrepka` where it isn't given)
+records a short run of it and rewrites it by that profile; with --inputs it doesn't. `frames` is asked for each
+instruction of the input, and for the first and the last byte of what each became in the output. Then
 
-- `llvm-symbolizer --inlines` has to say the same functions, files, lines and columns, and `addr2line -i -f` the same functions and
-  lines, of the input and of the output;
+- `llvm-symbolizer --inlines` has to say the same functions, files, lines and columns, and `addr2line -i -f` the
+  same functions and lines, of the input and of the output;
 - at the output `frames` has to say what it said of the owner in the input.
 
-Some differences are those of the tools (bench/README.md has the causes), and no problems: at a row with line 0, where they say
-what stands before it or nothing; functions that `addr2line` doesn't find, and names that it takes from symbols.
+Some differences are those of the tools (bench/README.md has the causes), and no problems: at a row with line 0,
+where they say what stands before it or nothing; functions that `addr2line` doesn't find, and names that it takes
+from symbols.
 
-A line for each file has the count of its instructions, of those with inlined functions, and of differences of each kind; a line
-for each of the first problems follows. The status is 0 where there is none. It wants what `real_programs.py` wants.
-FOLDER keeps all files.
-"""
+A line for each file has the count of its instructions, of those with inlined functions, and of differences of each
+kind; a line for each of the first problems follows. The status is 0 where there is none. It wants what
+`real_programs.py` wants. FOLDER keeps all files."""
 import argparse
 import collections
 import os
@@ -68,10 +68,12 @@ def by_addr2line(path, addresses):
     words = "".join(f"0x{address:x}\n" for address in addresses)
     command = [CROSS + "addr2line", "-a", "-i", "-f", "-e", path]
     text = subprocess.run(command, input=words, capture_output=True, text=True, check=False).stdout
-    parts = [part.splitlines() for part in re.split(r"^0x[0-9a-f]{16}\n", re.sub(r" \(discriminator \d+\)", "", text), flags=re.M)[1:]]
+    text = re.sub(r" \(discriminator \d+\)", "", text)
+    parts = [part.splitlines() for part in re.split(r"^0x[0-9a-f]{16}\n", text, flags=re.M)[1:]]
     names = plain_names(sorted({name for lines in parts for name in lines[::2]}))
     places = lambda lines: (place.rsplit(":", 1) for place in lines[1::2])
-    return [[(names[name], file, int(line) if line.isdigit() else 0) for name, (file, line) in zip(lines[::2], places(lines))]
+    number = lambda line: int(line) if line.isdigit() else 0
+    return [[(names[name], file, number(line)) for name, (file, line) in zip(lines[::2], places(lines))]
             for lines in parts]
 
 
@@ -97,8 +99,8 @@ def kind_of(ours, theirs, fields):
 
 
 FIELDS = {"llvm-symbolizer": (0, 1, 2, 3), "addr2line": (0, 2)}
-# addr2line of binutils 2.40 doesn't find inlined functions with a list of ranges by its index, as Clang has them, and names an
-# inlined function of C++ that has no name for the linker by the symbol at its address.
+# addr2line of binutils 2.40 doesn't find inlined functions with a list of ranges by its index, as Clang has them, and
+# names an inlined function of C++ that has no name for the linker by the symbol at its address.
 PROBLEMS = {"llvm-symbolizer": ("other", "other names", "inner functions lack"), "addr2line": ("other",)}
 
 
@@ -119,8 +121,9 @@ def report(name, path, addresses, ours):
     """Prints what was found of a file, and gives the number of problems."""
     inlined = sum(len(frames) > 1 for frames in ours)
     found = compared(path, addresses, ours)
-    said = [f"{tool}: {', '.join(f'{kind} {count}' for kind, count in kinds.items()) or 'none'}" for tool, (kinds, _) in found.items()]
-    print(f"{name:30} {len(addresses)} addresses, {inlined} with inlined functions; differences of {'; of '.join(said)}", flush=True)
+    counts = lambda kinds: ", ".join(f"{kind} {count}" for kind, count in kinds.items()) or "none"
+    said = "; of ".join(f"{tool}: {counts(kinds)}" for tool, (kinds, _) in found.items())
+    print(f"{name:30} {len(addresses)} addresses, {inlined} with inlined functions; differences of {said}", flush=True)
     for tool, (_, others) in found.items():
         for at, a, b in others[:3]:
             print(f"    {tool} at {at:x} says {b}, and not {a}", flush=True)

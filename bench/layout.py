@@ -4,11 +4,12 @@
     python3 bench/layout.py [--tool COMMAND] [FUNCTIONS..]
     python3 bench/layout.py --files IN OUT [WORDS..]
 
-With --files it follows a run of IN and one of OUT, both with WORDS as arguments and with standard input, where that is no
-terminal. Else the programs are those of `bench/programs`, and a program of many functions of which a few run often, each with much in it
-that seldom runs; it is made for so many functions (400 and 3,000 where none are given). Each is built by GCC with
-picolibc, as `real_programs.py` builds it; COMMAND (`./sudrepka` where it isn't given) records a run of it, and rewrites it
-by that profile. Then `qemu-riscv64` runs both files and says each instruction's address, from which this counts
+With --files it follows a run of IN and one of OUT, both with WORDS as arguments and with standard input, where that
+is no terminal. Else the programs are those of `bench/programs`, and a program of many functions of which a few run
+often, each with much in it that seldom runs; it is made for so many functions (400 and 3,000 where none are given).
+Each is built by GCC with picolibc, as `real_programs.py` builds it; COMMAND (`./sudrepka` where it isn't given)
+records a run of it, and rewrites it by that profile. Then `qemu-riscv64` runs both files and says each instruction's
+address, from which this counts
 
 - instructions, and those that went elsewhere than on (taken branches, jumps, calls and returns);
 - pages of 4096 bytes of code that were touched;

@@ -4,22 +4,25 @@
     python3 bench/lookups.py [--tool COMMAND] [--keep FOLDER] [--inputs] [--every N] [PROGRAM..]
     python3 bench/lookups.py --large [--tool COMMAND] [--keep FOLDER] [MIB..]
 
-Each program of `bench/programs` is compiled by GCC with GNU ld and by Clang with lld, at -O2, with all debug tables and unwind tables
-of its own code, and linked with libraries that have no debug data. COMMAND (`./sudrepka` where it isn't given) records a short
-run of it and rewrites it by that profile; with --inputs it doesn't. `lookup` is asked for each instruction of the input, or for each
-Nth one, and for the first and the last byte of what each became in the output. Of the input
+Each program of `bench/programs` is compiled by GCC with GNU ld and by Clang with lld, at -O2, with all debug tables
+and unwind tables of its own code, and linked with libraries that have no debug data. COMMAND (`./sudrepka` where it
+isn't given) records a short run of it and rewrites it by that profile; with --inputs it doesn't. `lookup` is asked
+for each instruction of the input, or for each Nth one, and for the first and the last byte of what each became in
+the output. Of the input
 
-- `readelf` and `llvm-dwarfdump` have to find the same rows of lines in force, `addr2line`, `llvm-symbolizer` and `gdb` the same
-  line;
-- `llvm-dwarfdump` has to find the same entries with ranges that cover the address, and `readelf` the same row of unwind tables.
+- `readelf` and `llvm-dwarfdump` have to find the same rows of lines in force, `addr2line`, `llvm-symbolizer` and
+  `gdb` the same line;
+- `llvm-dwarfdump` has to find the same entries with ranges that cover the address, and `readelf` the same row of
+  unwind tables.
 
-At the output `lookup` has to say what it said of the owner in the input, but that a handler that was moved has its new address. A
-line for each file has the count of addresses and of lines that were compared; a line for each of the first problems follows.
-The status is 0 where there is none. It wants what `real_programs.py` wants. FOLDER keeps all files.
+At the output `lookup` has to say what it said of the owner in the input, but that a handler that was moved has its
+new address. A line for each file has the count of addresses and of lines that were compared; a line for each of the
+first problems follows. The status is 0 where there is none. It wants what `real_programs.py` wants. FOLDER keeps
+all files.
 
-With --large a program of so many MiB (27 and 64 where it isn't said) is looked up at one address by `lookup` and `frames`, and by
-`addr2line -i`, `llvm-symbolizer` and `gdb -batch`: each line has the best seconds of the clock of five and the peak memory in MiB.
-"""
+With --large a program of so many MiB (27 and 64 where it isn't said) is looked up at one address by `lookup` and
+`frames`, and by `addr2line -i`, `llvm-symbolizer` and `gdb -batch`: each line has the best seconds of the clock of
+five and the peak memory in MiB."""
 import argparse
 import bisect
 import collections
@@ -59,7 +62,7 @@ class Said:
 
 
 def entries_by_llvm(path):
-    """The ranges of each entry that has some, by its place: an address ends a range where another is said to stay low."""
+    """The ranges of each entry that has some, by its place."""
     found, place, low = collections.defaultdict(list), None, None
     for line in output(["llvm-dwarfdump", "--debug-info", path]).splitlines():
         if row := re.match(r"0x([0-9a-f]{8}):\s+DW_TAG", line):
@@ -97,7 +100,9 @@ def as_unwind(row):
     said = [f"cfa {NUMBERS[base]}{sign}{offset}" if base else "cfa exp"]
     for register, rule in sorted((int(NUMBERS[name][1:]), rule) for name, rule in (rule.split("=") for rule in rules)):
         offset = re.fullmatch(r"([cv])([+-]\d+)", rule)
-        form = {"c": "[cfa{}]", "v": "cfa{}"}[offset[1]].format(offset[2]) if offset else {"s": "same"}.get(rule, NUMBERS.get(rule, rule))
+        form = {"s": "same", **NUMBERS}.get(rule, rule)
+        if offset:
+            form = {"c": "[cfa{}]", "v": "cfa{}"}[offset[1]].format(offset[2])
         said.append(f"r{register}={form}")
     return " ".join(said)
 
@@ -133,20 +138,26 @@ class Comparison:
             files = [row.split()[1] for row in rows]
             if any(not path.endswith(file) for (path, *_), file in zip(said.rows, files)):
                 self.say("llvm-dwarfdump", at, files, [row[0] for row in said.rows])
-            shown = [f"{os.path.basename(path)} {line}{' x' if 'is_stmt' in flags else ''}" for path, line, _, _, _, flags in said.rows]
+            shown = [f"{os.path.basename(path)} {line}{' x' if 'is_stmt' in flags else ''}"
+                     for path, line, _, _, _, flags in said.rows]
             self.same("readelf", at, by_readelf.get(at, []), shown)
 
     def asked(self):
-        """Tools are asked where the last row in force has a line: they take another row, or none, where it is 0."""
-        told = [(at, said.rows[-1]) for at, said in zip(self.addresses, self.said) if said.rows and said.rows[-1][1]]
-        places = [at for at, _ in told]
-        for (at, row), said in zip(told, by_addr2line(self.path, places)):
+        """Tools are asked where the last row in force has a line: they take another row, or none, where it is 0. gdb
+        takes the last row that begins a statement."""
+        told = [(at, said.rows[-1], said.rows) for at, said in zip(self.addresses, self.said)
+                if said.rows and said.rows[-1][1]]
+        places = [at for at, _, _ in told]
+        for (at, row, _), said in zip(told, by_addr2line(self.path, places)):
             self.same("addr2line", at, said.split()[0], str(row[1]))
-        for (at, row), said in zip(told, by_llvm(self.path, places)):
+        for (at, row, _), said in zip(told, by_llvm(self.path, places)):
             self.same("llvm-symbolizer", at, said.split(" (")[0], f"{row[0]}:{row[1]}")
-        for (at, row), said in zip(told, by_gdb(self.path, places)):
+        stated = [(at, [row for row in rows if "is_stmt" in row[5]]) for at, _, rows in told]
+        begun = [(at, rows[-1]) for at, rows in stated if rows and rows[-1][1]]
+        for (at, row), said in zip(begun, by_gdb(self.path, [at for at, _ in begun])):
             found = re.match(r'Line (\d+) of "(.*)"', said)
-            self.same("gdb", at, (found[1], os.path.basename(found[2])) if found else said, (str(row[1]), os.path.basename(row[0])))
+            wanted = (found[1], os.path.basename(found[2])) if found else said
+            self.same("gdb", at, wanted, (str(row[1]), os.path.basename(row[0])))
 
     def entries(self):
         covers = covering(entries_by_llvm(self.path), self.addresses)
@@ -157,7 +168,8 @@ class Comparison:
         tables = rows_by_readelf(self.path)
         for at, said in zip(self.addresses, self.said):
             rows = [row for name in (".eh_frame", ".debug_frame") if name in tables and (row := tables[name].at(at))]
-            self.same("readelf", at, as_unwind(rows[0]) if rows else None, own_unwind(said.unwind) if said.unwind else None)
+            own = own_unwind(said.unwind) if said.unwind else None
+            self.same("readelf", at, as_unwind(rows[0]) if rows else None, own)
 
     def all(self):
         refused = [(at, said.text) for at, said in zip(self.addresses, self.said) if said.text[:1].isdigit()]
@@ -183,7 +195,8 @@ def moved_problems(tool, name, path, folder, every):
     pairs = sorted({(at, old) for start, size, old in spans[::every] if size for at in (start, start + size - 1)})
 
     def carried(text):
-        return re.sub(r"(?<= handler )[0-9a-f]+", lambda found: f"{moved.get(int(found[0], 16), int(found[0], 16)):x}", text)
+        address = lambda found: int(found[0], 16)
+        return re.sub(r"(?<= handler )[0-9a-f]+", lambda found: f"{moved.get(address(found), address(found)):x}", text)
 
     after, before = (asked(tool, "lookup", file, places) for file, places in zip((new, path), zip(*pairs)))
     return len(pairs), [f"lookup says {a!r} at {at:x}, and {b!r} at its owner {old:x}"
@@ -198,7 +211,8 @@ def compare(tool, name, path, folder, given):
     if not given.inputs:
         moved, more = moved_problems(tool, name, path, folder, given.every)
         problems = problems + more
-    print(f"{name:30} {len(addresses)} addresses, {comparison.lines} lines compared, {moved} addresses of the output", flush=True)
+    counts = f"{len(addresses)} addresses, {comparison.lines} lines compared, {moved} addresses of the output"
+    print(f"{name:30} {counts}", flush=True)
     for problem in problems[:10]:
         print(f"    {problem}", flush=True)
     return len(problems)

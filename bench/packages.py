@@ -1,8 +1,8 @@
 """Programs of Debian's source packages: Lua, zlib, bzip2 and pugixml, built for a RISC-V processor without a system.
 
-`packages/` has what each of them wants beside its own code: a main function, standard input, and what is run. Their sources
-are fetched by `apt-get` from a mirror of Debian 12, which checks them by the archive's keys, and used as their authors
-wrote them, without Debian's patches.
+`packages/` has what each of them wants beside its own code: a main function, standard input, and what is run. Their
+sources are fetched by `apt-get` from a mirror of Debian 12, which checks them by the archive's keys, and used as
+their authors wrote them, without Debian's patches.
 """
 import dataclasses
 import glob
@@ -13,7 +13,8 @@ import sys
 BENCH = os.path.dirname(os.path.abspath(__file__))
 OWN = os.path.join(BENCH, "packages")
 PROGRAMS = os.path.join(BENCH, "programs")
-MIRROR = "deb-src [signed-by=/usr/share/keyrings/debian-archive-keyring.gpg] http://deb.debian.org/debian bookworm main\n"
+KEYS = "/usr/share/keyrings/debian-archive-keyring.gpg"
+MIRROR = f"deb-src [signed-by={KEYS}] http://deb.debian.org/debian bookworm main\n"
 
 
 @dataclasses.dataclass
@@ -70,8 +71,8 @@ def fetch(sources, names):
     os.makedirs(os.path.join(sources, "lists", "partial"), exist_ok=True)
     with open(os.path.join(sources, "sources.list"), "w", encoding="ascii") as file:
         file.write(MIRROR)
-    apt = ["apt-get", "-qq", "-o", f"Dir::Etc::sourcelist={sources}/sources.list", "-o", "Dir::Etc::sourceparts=/dev/null",
-           "-o", f"Dir::State::Lists={sources}/lists"]
+    apt = ["apt-get", "-qq", "-o", f"Dir::Etc::sourcelist={sources}/sources.list",
+           "-o", "Dir::Etc::sourceparts=/dev/null", "-o", f"Dir::State::Lists={sources}/lists"]
     for command in (["update"], ["source", "--download-only", *wanted]):
         if subprocess.run([*apt, *command], cwd=sources, check=False).returncode != 0:
             sys.exit(f"{' '.join([*apt, *command])} failed: the sources of {', '.join(wanted)} can't be had")

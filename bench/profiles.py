@@ -11,8 +11,8 @@ def output(command):
 
 
 def follow(path, words, go, given=b""):
-    """Runs a file, with its standard input, and calls `go` with the address of each instruction. Gives the status and what was
-    printed."""
+    """Runs a file, with its standard input, and calls `go` with the address of each instruction. Gives the status and
+    what was printed."""
     with tempfile.TemporaryFile() as printed, tempfile.TemporaryFile() as file:
         file.write(given)
         file.seek(0)

@@ -3,20 +3,22 @@
 
     python3 bench/report.py [--tool COMMAND] [--sources FOLDER] [--keep FOLDER] [--levels LEVEL..] [PROGRAM..]
 
-The programs are those of Debian's source packages Lua, zlib, bzip2 and pugixml (`packages.py`; fetched into FOLDER, or into
-the cache of the user) and those of `programs/` that don't unwind themselves. Each is built by GCC with GNU ld and by Clang with lld,
-with picolibc for RV64IMC: `bare` without debug data and unwind tables, `debug` with all that `-g` makes, and `tables` with
-unwind tables besides. Of each file the table says, step by step, `yes`, or a number that a line below the table explains:
+The programs are those of Debian's source packages Lua, zlib, bzip2 and pugixml (`packages.py`; fetched into FOLDER,
+or into the cache of the user) and those of `programs/` that don't unwind themselves. Each is built by GCC with GNU ld
+and by Clang with lld, with picolibc for RV64IMC: `bare` without debug data and unwind tables, `debug` with all that
+`-g` makes, and `tables` with unwind tables besides. Of each file the table says, step by step, `yes` or `no`; what
+failed stands below the table, with its cause:
 
-- `record`, `repair`, `rewrite`, `verify` by COMMAND (`./sudrepka` where it isn't given), and `run --symbols` to the end;
+- `record`, `repair`, `rewrite`, `verify` by COMMAND (`./sudrepka` where it isn't given), and `run --symbols` to the
+  end;
 - `alike`: both files run alike on `run` and on `qemu-riscv64`, and `readelf`, `eu-elflint`, `objdump`, `gdb` and
   `llvm-dwarfdump --verify` find nothing in the output that they don't find in the input;
 - `lookup`, and `frames` where COMMAND has it: the same at moved instructions as at their owners;
 - `gdb`: the same lines, frames, arguments and locals where both programs stop at one instruction, hot or cold, and
   breakpoints by line in the same functions.
 
-A second table has the way of a run through the code before and after, and that of `llvm-bolt-19`'s output, as `layout.py`
-counts it. It wants what `real_programs.py` wants.
+A second table has the way of a run through the code before and after, and that of `llvm-bolt-19`'s output, as
+`layout.py` counts it. It wants what `real_programs.py` wants.
 """
 import argparse
 import os
@@ -33,8 +35,8 @@ from frames import mend_tables  # noqa: E402
 from layout import bolt_profile, way_of  # noqa: E402
 from packages import OWN, PACKAGES, fetch  # noqa: E402
 from profiles import output  # noqa: E402
-from real_programs import COMPILE, LINES, LINK, LONGER, MACHINE, NO_TABLES, OWN_TABLES, PICOLIBC, PROGRAMS, ROOT  # noqa: E402
-from real_programs import UNWINDING, Checks, call, compilers, newest  # noqa: E402
+from real_programs import COMPILE, LINES, LINK, LONGER, MACHINE, NO_TABLES, OWN_TABLES, PICOLIBC  # noqa: E402
+from real_programs import PROGRAMS, ROOT, UNWINDING, Checks, call, compilers, newest  # noqa: E402
 
 KINDS = {"bare": NO_TABLES, "debug": [*LINES, "-fno-dwarf2-cfi-asm"], "tables": ["-g", *OWN_TABLES]}
 SCRIPTS = {"tables": "roomy_tables.ld"}
@@ -146,7 +148,8 @@ class Try:
         checks.runs(self.words, True)
         checks.readers()
         if dump := newest("llvm-dwarfdump"):
-            for line in checks.complaints([dump, "--verify"], r"(?i)error|warning"):
+            # (that of LLVM 19 doesn't come to an end with some files of GCC)
+            for line in checks.complaints(["timeout", "30", dump, "--verify"], r"(?i)error|warning"):
                 checks.say(f"llvm-dwarfdump: {line}")
         checks.debugger(checks.disassembly())
         self.note("alike", checks.problems)
@@ -174,15 +177,17 @@ class Try:
 
     def ways(self):
         """The way of the run before, after, and of llvm-bolt's output."""
-        found = [("before", way_of(self.path, self.words, self.given)), ("after", way_of(self.at("moved"), self.words, self.given))]
+        way = lambda path: way_of(path, self.words, self.given)
+        found = [("before", way(self.path)), ("after", way(self.at("moved")))]
         if shutil.which("llvm-bolt-19"):
             bolt_profile(self.at("profile"), self.path, self.at("named"))
-            options = ["--reorder-blocks=ext-tsp", "--reorder-functions=cdsort", "--split-functions", "--data", self.at("named")]
+            options = ["--reorder-blocks=ext-tsp", "--reorder-functions=cdsort", "--split-functions", "--data",
+                       self.at("named")]
             done = subprocess.run(["llvm-bolt-19", self.path, "-o", self.at("bolted"), *options], capture_output=True,
                                   text=True, errors="replace", check=False)
             said = re.findall(r"(?i)error: (.*)|(Emission failed.*)|(Assertion.*failed)|(UNREACHABLE.*)", done.stderr)
             why = next(("".join(words) for words in said), f"status {done.returncode}")
-            found.append(("llvm-bolt", way_of(self.at("bolted"), self.words, self.given) if os.path.exists(self.at("bolted")) else why))
+            found.append(("llvm-bolt", way(self.at("bolted")) if os.path.exists(self.at("bolted")) else why))
         return found
 
 

@@ -3,13 +3,15 @@
 
     python3 bench/tables.py [--tool COMMAND] [--runs N] [MIB..]
 
-The programs have units of 200 functions each, with inlined calls, local variables, loops and switches, made by GCC with `-g` and its
-own unwind tables, and as many of them as make a file of so many MiB (7, 14 and 27 where none are given). COMMAND (`./sudrepka` where
-it isn't given) records a run of each, and rewrites it by that profile. Each line has the tool, the median of the seconds of the
-processor of N runs (3), the greatest peak of memory, and both as parts of those of the size before it. Beside `rewrite` stand the
-same for the file without its debug tables, `objcopy`, which moves nothing, and `llvm-bolt-19`, with `--update-debug-sections` and without.
+The programs have units of 200 functions each, with inlined calls, local variables, loops and switches, made by GCC
+with `-g` and its own unwind tables, and as many of them as make a file of so many MiB (7, 14 and 27 where none are
+given). COMMAND (`./sudrepka` where it isn't given) records a run of each, and rewrites it by that profile. Each line
+has the tool, the median of the seconds of the processor of N runs (3), the greatest peak of memory, and both as parts
+of those of the size before it. Beside `rewrite` stand the same for the file without its debug tables, `objcopy`,
+which moves nothing, and `llvm-bolt-19`, with `--update-debug-sections` and without.
 
-A file of 27 MiB has to be rewritten in 3 seconds and in 12 times its size; where the tables double, neither may grow by more than 2.2.
+A file of 27 MiB has to be rewritten in 3 seconds and in 12 times its size; where the tables double, neither may grow
+by more than 2.2.
 """
 import argparse
 import os
@@ -31,7 +33,8 @@ def commands(tool, folder):
     """The tools with their words, of those that are there, and the file that each takes."""
     path = lambda name: os.path.join(folder, name)
     moved = [path("profile"), path("moved"), path("map")]
-    found = [("rewrite", [*tool, "rewrite", path("in"), *moved]), ("rewrite, no tables", [*tool, "rewrite", path("bare"), *moved]),
+    found = [("rewrite", [*tool, "rewrite", path("in"), *moved]),
+             ("rewrite, no tables", [*tool, "rewrite", path("bare"), *moved]),
              ("objcopy", [CROSS + "objcopy", path("in"), path("copy")])]
     if shutil.which("llvm-bolt-19"):
         bolt = ["llvm-bolt-19", path("in"), "-o", path("bolted"), *BOLT, "--data", path("named")]
@@ -67,7 +70,8 @@ def main():
                     continue
                 last = before.get(name)
                 grown = f", {seconds / last[0]:4.2f} and {peak / last[1]:4.2f} of before" if last else ""
-                print(f"      {name:20} {seconds:8.2f} s {peak / MIB:8.0f} MiB, {peak / MIB / mib:5.1f} for each MiB{grown}", flush=True)
+                print(f"      {name:20} {seconds:8.2f} s {peak / MIB:8.0f} MiB, {peak / MIB / mib:5.1f} for each MiB{grown}",
+                      flush=True)
                 before[name] = (seconds, peak)
 
 

@@ -13,9 +13,7 @@ cell or the line that was changed. These are no clause's matter, and are answere
 
 - of a return its long form changed into the short one: it is the same instruction, and nothing behind it is run;
 - in MAP a size that still holds the whole instruction and no byte of another span: no clause asks that the jump
-  behind an instruction lies in its span, nor that a span ends where the next one begins;
-- in MAP any size but 0 of a jump that saves nothing, where no bytes are shared: the jump itself may be left out, so
-  nothing is asked of its span.
+  behind an instruction lies in its span, nor that a span ends where the next one begins.
 
 Any other change that is answered so, and any answer that isn't the judge's, is reported. The status is 0 where none
 is.
@@ -378,11 +376,14 @@ class Judge:
 # Trying.
 
 
-def reason(judge, part, spans, file, place):
+def is_size_alone(before, after):
+    return before[0] == after[0] and before[1] != after[1] and before[2] == after[2]
+
+
+def reason(judge, part, spans, file, text, place):
     """Why no clause asks for what was changed; None where one should."""
     if part == "map":
-        new, size, a = spans[place]
-        return "a jump's size" if judge.program.insts[a][1] == "jump" else "a size that holds the instruction"
+        return "a size that holds the instruction" if is_size_alone(spans[place], judge.spans(text)[place]) else None
     out = Output(file)
     owner = next((a for new, size, a in spans if new <= place < new + size), None)
     if owner is None or judge.program.insts[owner][1] != "plain":
@@ -426,7 +427,9 @@ class Trial:
                     continue
                 changed[offset] = value
                 said, wanted = self.ask(folder, bytes(file), bytes(text)), self.judge.answer(bytes(file), bytes(text))
-                why = reason(self.judge, part, self.spans, bytes(file), place) if wanted == "faithful" else None
+                why = None
+                if wanted == "faithful":
+                    why = reason(self.judge, part, self.spans, bytes(file), bytes(text), place)
                 counts[part, f"faithful: {why}" if why else " ".join(said.split()[:2])] += 1
                 if said != wanted or wanted == "faithful" and not why:
                     wrong.append(f"{part} {place:x}, byte {offset:x} as {value:02x}: {said}, and by the judge {wanted}")

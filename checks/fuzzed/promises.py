@@ -14,8 +14,7 @@ NAMES = {
     8: "CompressedSection", 9: "RelocType", 10: "RelocMismatch", 11: "LoMismatch", 12: "NarrowDiff", 13: "IfuncOrPlt",
     14: "AlreadyMoved", 15: "BadEntry", 16: "BadInstruction|BareAuipc", 17: "BadTarget", 18: "UnitTooLong",
     19: "KeptBranch", 20: "RegisteredFrames", 21: "FrameFault", 22: "DwarfVersion", 23: "DwarfForm", 24: "HighPcForm",
-    25: "DwarfFault",
-    26: "LineFault", 27: "NoRoom", 28: "TooLarge", 29: "NotBuilt"}
+    25: "DwarfFault", 26: "LineFault", 27: "NoRoom", 28: "TooLarge"}
 IMAGE, CODE, TABLES = {*range(1, 9), 28}, {*range(1, 18), 28}, {*range(1, 9), *range(21, 27), 28}
 
 FORMS = {
