@@ -7,7 +7,7 @@ use Rattle.rb_bytes.specs.declared.fault.FaultKind.TheVariants.{HighAddress, Com
 use Rattle.rb_bytes.specs.declared.fault.FaultKind.TheVariants.{LoMismatch, NarrowDiff, IfuncOrPlt, AlreadyMoved, BadEntry}
 use Rattle.rb_bytes.specs.declared.fault.FaultKind.TheVariants.{BadInstruction, BareAuipc, BadTarget, UnitTooLong, KeptBranch}
 use Rattle.rb_bytes.specs.declared.fault.FaultKind.TheVariants.{RegisteredFrames, FrameFault, DwarfVersion, DwarfForm, HighPcForm}
-use Rattle.rb_bytes.specs.declared.fault.FaultKind.TheVariants.{DwarfFault, LineFault, NoRoom, TooLarge, NotBuilt}
+use Rattle.rb_bytes.specs.declared.fault.FaultKind.TheVariants.{DwarfFault, LineFault, NoRoom, TooLarge}
 
 -- the number of a kind; two kinds share the number 16
 abbrev pub number_of : FaultKind → ℕ
@@ -40,7 +40,6 @@ number_of DwarfFault = 25
 number_of LineFault = 26
 number_of NoRoom = 27
 number_of TooLarge = 28
-number_of NotBuilt = 29
 
 -- the name of a kind, in ASCII
 abbrev pub name_of : FaultKind → List ℕ
@@ -73,7 +72,6 @@ name_of DwarfFault = codes "DwarfFault"
 name_of LineFault = codes "LineFault"
 name_of NoRoom = codes "NoRoom"
 name_of TooLarge = codes "TooLarge"
-name_of NotBuilt = codes "NotBuilt"
 
 -- a fault of a kind that has no need and no room
 abbrev pub fault_at : FaultKind → ℕ → Fault

@@ -80,10 +80,9 @@ pub enum FaultKind {
     /// area starts. This kind alone has a need and a room, in bytes.
     NoRoom,
     /// A limit on sizes is passed. Place: which one: 0 the file, 1 the profile, 2 the code, 3
-    /// the functions, 5 the headers of sections or segments, 6 the tables or names to write.
+    /// the functions, 4 the text of a map, 5 the headers of sections or segments, 6 the tables or
+    /// names to write.
     TooLarge,
-    /// What the file asks for is not supported yet. Place: 0.
-    NotBuilt,
 }
 
 impl FaultKind {
@@ -121,7 +120,6 @@ impl FaultKind {
             FaultKind::LineFault => 26,
             FaultKind::NoRoom => 27,
             FaultKind::TooLarge => 28,
-            FaultKind::NotBuilt => 29,
         }
     }
 
@@ -159,7 +157,6 @@ impl FaultKind {
             FaultKind::LineFault => "LineFault",
             FaultKind::NoRoom => "NoRoom",
             FaultKind::TooLarge => "TooLarge",
-            FaultKind::NotBuilt => "NotBuilt",
         }
     }
 }
