@@ -9,12 +9,12 @@ use Rattle.addr_map.proofs.order.sort_by_line.Goals as goal
 pub returns : goal.returns
 returns c =
     let spans = c.args.spans.now.items in
-    let lines = c.sort_unstable_by_key.new.self.items in
-    let same = c.sort_unstable_by_key.ensures.permutation in
+    let lines = c.sort_by_key.new.self.items in
+    let same = c.in_ok-sort_by_key.ensures.permutation in
     record {
       same = same;
       ordered = line_order lines
-          (c.sort_unstable_by_key.ensures.sorted line_key (answers_always _ _ _ (λ f a r g q. search rules)))
+          (c.in_ok-sort_by_key.ensures.sorted line_key (answers_always _ _ _ (λ f a r g q. search rules)))
           (AllPairs-permutation AreApart apart_flip spans lines same c.requires.once)
           (AllPairs-permutation ShareNoByte disjoint_flip spans lines same c.requires.disjoint);
     }
