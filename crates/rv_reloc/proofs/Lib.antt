@@ -30,7 +30,7 @@ mod LabelOrder
 mod LabelsAt
 mod Lebs
 mod Lexicographic
-mod LowFiles
+pub mod LowFiles
 mod LowLists
 mod MisfitCases
 mod NamedLists

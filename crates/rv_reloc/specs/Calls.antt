@@ -16,6 +16,10 @@ pub record IsCallAt (elf : Elf) (a : ℕ) (c : CallInsts) : Type 0 where
   pub link : ℕ
   pub jalr : HasInst elf start end (a + 4) (Jalr link c.jalr.base c.jalr.imm) 4
 
+-- the one call at an address
+abbrev pub IsTheCallAt : Elf → ℕ → CallInsts → Type 0
+IsTheCallAt elf a c = IsCallAt elf a c × ((d : CallInsts) → IsCallAt elf a d → c ≡ d)
+
 -- a part has this JALR after the instruction at an address
 pub record IsJumpAfter (elf : Elf) (start end a : ℕ) (j : Jump) : Type 0 where
   pub link : ℕ

@@ -89,6 +89,7 @@ pub fn code_field(elf: &Elf, starts: &Starts, place: u64, width: u8) -> Option<C
     }
 }
 
+/// How many bytes an address has that a relocation of a whole one sets.
 pub fn address_width(kind: u32) -> u8
     ensures { result ≡ address_width kind }
 {

@@ -1,9 +1,9 @@
 // All claims to roles, and the roles that count.
-ghost use Rattle.std.specs.Prelude.{◌≡◌, ◌+◌, ℕ, IfOk, OnOk, IfSome, IsSomeAnd, Contains, AllPairs, All};
+ghost use Rattle.std.specs.Prelude.{◌≡◌, ◌+◌, ℕ, IfOk, OnOk, IfSome, IsSomeAnd, IsTrue, Contains, AllPairs, All};
 ghost use Rattle.std.specs.List.Sorted.{IsPermutation};
 ghost use Rattle.rv_code.specs.declared.placed.Role.{Role};
 ghost use Rattle.elf_code.specs.FileCode.{AreStarts, AreRoles};
-ghost use Rattle.elf_code.specs.Relocations.{Relocation, relocations};
+ghost use Rattle.elf_code.specs.Relocations.{Relocation, relocations, is_call_pair};
 ghost use Rattle.elf_code.specs.Roles.{Claims};
 ghost use Rattle.elf_code.specs.ReferenceFaults.{IsMisfit, IsLoMismatch};
 ghost use Rattle.rv_reloc.specs.Claims.{IsClaimOf, IsClaimUpTo, AreClaimsOf, AreClaims};
@@ -11,7 +11,7 @@ ghost use Rattle.rv_reloc.specs.Lows.{AreLows};
 ghost use Rattle.code_starts.specs.Parts.{AreCodeParts};
 ghost use Rattle.rv_reloc.specs.Records.{seen, AreRecords};
 
-use crate::claims::{absolute_claim, call_claim, call_low_claim, lower_claim, upper_claim};
+use crate::claims::{absolute_claim, call_claims, lower_claim, upper_claim};
 use crate::lows::Low;
 use crate::records::Record;
 use crate::roles::{Claim, first_roles};
@@ -24,8 +24,8 @@ use rb_bytes::lists::push_some;
 use rv_code::Role;
 use std::alloc::Global;
 
-// The claim of a relocation to the instruction at its place.
-fn claim_at(
+// The claim of a relocation that is for no call.
+fn other_claim(
     elf: &Elf,
     starts: &Starts,
     parts: &[Part],
@@ -36,15 +36,13 @@ fn claim_at(
     requires parts { AreCodeParts elf.now parts.now }
     requires lows { AreLows elf.now lows.now }
     requires counts { Contains (relocations elf.now) (seen relocation.now) }
+    requires kind { IsTrue (is_call_pair relocation.now.kind) → ⊥ }
     requires fits { (r : Relocation) → Contains (relocations elf.now) r → IsMisfit elf.now r → ⊥ }
     requires alike { (place : ℕ) → IsLoMismatch elf.now place → ⊥ }
     ensures is { IfSome result (IsClaimOf elf.now (seen relocation.now) relocation.now.place) }
     ensures each { (key : ℕ) (role : Role) → Claims elf.now (seen relocation.now) relocation.now.place key role →
         IsSomeAnd result (λ c. c.key ≡ key) }
 {
-    if is_call_pair(relocation.kind) {
-        return call_claim(elf, starts, parts, relocation);
-    }
     if is_pcrel_hi(relocation.kind) {
         return upper_claim(elf, starts, parts, lows, relocation);
     }
@@ -57,20 +55,31 @@ fn claim_at(
     None
 }
 
-// The claim of a relocation to the instruction after that at its place.
-fn claim_after(elf: &Elf, starts: &Starts, parts: &[Part], relocation: &Record) -> Option<Claim>
+// The claims of a relocation, to the instruction at its place and to the one after that.
+fn claims_at(
+    elf: &Elf,
+    starts: &Starts,
+    parts: &[Part],
+    lows: &[Low],
+    relocation: &Record,
+) -> (Option<Claim>, Option<Claim>)
     requires starts { AreStarts elf.now starts.now }
     requires parts { AreCodeParts elf.now parts.now }
+    requires lows { AreLows elf.now lows.now }
     requires counts { Contains (relocations elf.now) (seen relocation.now) }
     requires fits { (r : Relocation) → Contains (relocations elf.now) r → IsMisfit elf.now r → ⊥ }
-    ensures is { IfSome result (IsClaimOf elf.now (seen relocation.now) (relocation.now.place + 4)) }
-    ensures each { (key : ℕ) (role : Role) → Claims elf.now (seen relocation.now) (relocation.now.place + 4) key role →
-        IsSomeAnd result (λ c. c.key ≡ key) }
+    requires alike { (place : ℕ) → IsLoMismatch elf.now place → ⊥ }
+    ensures is { IfSome result.0 (IsClaimOf elf.now (seen relocation.now) relocation.now.place) }
+    ensures each { (key : ℕ) (role : Role) → Claims elf.now (seen relocation.now) relocation.now.place key role →
+        IsSomeAnd result.0 (λ c. c.key ≡ key) }
+    ensures after_is { IfSome result.1 (IsClaimOf elf.now (seen relocation.now) (relocation.now.place + 4)) }
+    ensures after_each { (key : ℕ) (role : Role) → Claims elf.now (seen relocation.now) (relocation.now.place + 4) key role →
+        IsSomeAnd result.1 (λ c. c.key ≡ key) }
 {
-    if !is_call_pair(relocation.kind) {
-        return None;
+    if is_call_pair(relocation.kind) {
+        return call_claims(elf, starts, parts, relocation);
     }
-    call_low_claim(elf, starts, parts, relocation)
+    (other_claim(elf, starts, parts, lows, relocation), None)
 }
 
 // The claims of relocations, one relocation after another.
@@ -92,8 +101,9 @@ fn read_claims(
 {
     let mut claims = Vec::new(alloc);
     for relocation in records {
-        push_some(&mut claims, claim_at(elf, starts, parts, lows, relocation))?;
-        push_some(&mut claims, claim_after(elf, starts, parts, relocation))?;
+        let (claim, after) = claims_at(elf, starts, parts, lows, relocation);
+        push_some(&mut claims, claim)?;
+        push_some(&mut claims, after)?;
     }
     Ok(claims)
 }

@@ -1,17 +1,19 @@
 // The claims to roles that relocations make.
-ghost use Rattle.std.specs.Prelude.{◌≡◌, ◌+◌, ℕ, IfSome, IsSomeAnd, IsTrue, Contains};
+ghost use Rattle.std.specs.Prelude.{◌≡◌, ◌+◌, ◌<◌, ◌^◌, ℕ, IfSome, IsSomeAnd, IsTrue, Contains};
 ghost use Rattle.rv_code.specs.declared.placed.Role.{Role};
+ghost use Rattle.elf_image.specs.declared.elf.Elf.{Elf};
 ghost use Rattle.elf_code.specs.FileCode.{AreStarts};
 ghost use Rattle.elf_code.specs.Relocations.{Relocation, relocations, is_call_pair, is_pcrel_hi, is_pcrel_lo, is_absolute};
 ghost use Rattle.elf_code.specs.Roles.{Claims};
 ghost use Rattle.elf_code.specs.ReferenceFaults.{IsMisfit, IsLoMismatch};
+ghost use Rattle.rv_reloc.specs.Calls.{IsTheCallAt};
 ghost use Rattle.rv_reloc.specs.Claims.{IsClaimOf, absolute_role};
 ghost use Rattle.rv_reloc.specs.Lows.{AreLows};
 ghost use Rattle.code_starts.specs.Parts.{AreCodeParts};
 ghost use Rattle.rv_reloc.specs.Records.{seen};
 
 use crate::absolute::{absolute_target, has_absolute};
-use crate::calls::call_at;
+use crate::calls::{CallInsts, call_at};
 use crate::lows::{Low, first_low, low_of};
 use crate::pairs::low_address;
 use crate::records::Record;
@@ -22,61 +24,78 @@ use elf_image::Elf;
 use elf_image::relocation::R_RISCV_HI20;
 use rv_code::Role;
 
-/// The claim of a call to its AUIPC.
-pub fn call_claim(elf: &Elf, starts: &Starts, parts: &[Part], relocation: &Record) -> Option<Claim>
-    requires starts { AreStarts elf.now starts.now }
-    requires parts { AreCodeParts elf.now parts.now }
-    requires counts { Contains (relocations elf.now) (seen relocation.now) }
+// The claim of a call to its AUIPC.
+fn call_claim(relocation: &Record, call: &CallInsts) -> Option<Claim>
     requires kind { IsTrue (is_call_pair relocation.now.kind) }
-    requires fits { IsMisfit elf.now (seen relocation.now) → ⊥ }
-    ensures is { IfSome result (IsClaimOf elf.now (seen relocation.now) relocation.now.place) }
-    ensures each { (key : ℕ) (role : Role) → Claims elf.now (seen relocation.now) relocation.now.place key role →
+    ensures is { (elf : Elf) → Contains (relocations elf) (seen relocation.now) →
+        IsTheCallAt elf relocation.now.place call.now → IfSome result (IsClaimOf elf (seen relocation.now) relocation.now.place) }
+    ensures each { (elf : Elf) → Contains (relocations elf) (seen relocation.now) →
+        IsTheCallAt elf relocation.now.place call.now → (IsMisfit elf (seen relocation.now) → ⊥) →
+        (key : ℕ) (role : Role) → Claims elf (seen relocation.now) relocation.now.place key role →
         IsSomeAnd result (λ c. c.key ≡ key) }
 {
-    match call_at(elf, starts, parts, relocation.place) {
-        Some(call) => match call.named(relocation.place) {
-            Some(target) => Some(Claim {
-                at: relocation.place,
-                kind: relocation.kind,
-                key: relocation.place,
-                role: Role::CallHi { target },
-            }),
-            None => None,
-        },
+    match call.named(relocation.place) {
+        Some(target) => Some(Claim {
+            at: relocation.place,
+            kind: relocation.kind,
+            key: relocation.place,
+            role: Role::CallHi { target },
+        }),
         None => None,
     }
 }
 
-/// The claim of a call to its JALR.
-pub fn call_low_claim(
+// The claim of a call to its JALR.
+fn call_low_claim(relocation: &Record, call: &CallInsts) -> Option<Claim>
+    requires kind { IsTrue (is_call_pair relocation.now.kind) }
+    requires room { relocation.now.place + 4 < 2 ^ 64 }
+    ensures is { (elf : Elf) → Contains (relocations elf) (seen relocation.now) →
+        IsTheCallAt elf relocation.now.place call.now →
+        IfSome result (IsClaimOf elf (seen relocation.now) (relocation.now.place + 4)) }
+    ensures each { (elf : Elf) → IsTheCallAt elf relocation.now.place call.now → (IsMisfit elf (seen relocation.now) → ⊥) →
+        (key : ℕ) (role : Role) → Claims elf (seen relocation.now) (relocation.now.place + 4) key role →
+        IsSomeAnd result (λ c. c.key ≡ key) }
+{
+    match call.target(relocation.place) {
+        Some(target) => Some(Claim {
+            at: relocation.place + 4,
+            kind: relocation.kind,
+            key: relocation.place,
+            role: Role::CallLo {
+                hi: relocation.place,
+                target,
+            },
+        }),
+        None => None,
+    }
+}
+
+/// The claims of a call to its AUIPC and to its JALR.
+pub fn call_claims(
     elf: &Elf,
     starts: &Starts,
     parts: &[Part],
     relocation: &Record,
-) -> Option<Claim>
+) -> (Option<Claim>, Option<Claim>)
     requires starts { AreStarts elf.now starts.now }
     requires parts { AreCodeParts elf.now parts.now }
     requires counts { Contains (relocations elf.now) (seen relocation.now) }
     requires kind { IsTrue (is_call_pair relocation.now.kind) }
     requires fits { IsMisfit elf.now (seen relocation.now) → ⊥ }
-    ensures is { IfSome result (IsClaimOf elf.now (seen relocation.now) (relocation.now.place + 4)) }
-    ensures each { (key : ℕ) (role : Role) → Claims elf.now (seen relocation.now) (relocation.now.place + 4) key role →
-        IsSomeAnd result (λ c. c.key ≡ key) }
+    ensures is { IfSome result.0 (IsClaimOf elf.now (seen relocation.now) relocation.now.place) }
+    ensures each { (key : ℕ) (role : Role) → Claims elf.now (seen relocation.now) relocation.now.place key role →
+        IsSomeAnd result.0 (λ c. c.key ≡ key) }
+    ensures low_is { IfSome result.1 (IsClaimOf elf.now (seen relocation.now) (relocation.now.place + 4)) }
+    ensures low_each { (key : ℕ) (role : Role) → Claims elf.now (seen relocation.now) (relocation.now.place + 4) key role →
+        IsSomeAnd result.1 (λ c. c.key ≡ key) }
 {
     match call_at(elf, starts, parts, relocation.place) {
-        Some(call) => match call.target(relocation.place) {
-            Some(target) => Some(Claim {
-                at: relocation.place + 4,
-                kind: relocation.kind,
-                key: relocation.place,
-                role: Role::CallLo {
-                    hi: relocation.place,
-                    target,
-                },
-            }),
-            None => None,
-        },
-        None => None,
+        Some(call) => {
+            let upper = call_claim(relocation, &call);
+            let lower = call_low_claim(relocation, &call);
+            (upper, lower)
+        }
+        None => (None, None),
     }
 }
 

@@ -137,12 +137,12 @@ fn has_key_at(records: &[Record], index: usize, place: u64, at: u64) -> bool
     index < records.len() && records[index].place == place && class(records[index].kind) == at
 }
 
-/// Whether there is one of a class at a place.
-pub fn has(records: &[Record], place: u64, at: u64) -> bool
+// Whether there is one of a class at a place. Here and below, `near` is an index about which those of the place may stand.
+fn has(records: &[Record], near: usize, place: u64, at: u64) -> bool
     requires { AreInOrder records.now }
     ensures { IsTrue result ↔ Any (λ r. IsTrue (has_key place at r)) records.now }
 {
-    has_key_at(records, count_below(records, place, at), place, at)
+    has_key_at(records, count_near(records, near, place, at), place, at)
 }
 
 /// The only one of a class at a place, if there is exactly one. `near` is an index about which those of the place may stand.
@@ -161,22 +161,23 @@ pub fn only<'a>(records: &[Record<'a>], near: usize, place: u64, at: u64) -> Opt
     Some(records[from])
 }
 
-/// Whether a relocation for a call applies to a place.
-pub fn has_call(records: &[Record], place: u64) -> bool
+/// Whether a relocation for a call applies to a place. `near` is an index about which those of the place may stand.
+pub fn has_call(records: &[Record], near: usize, place: u64) -> bool
     requires { AreInOrder records.now }
     ensures { (elf : Elf) → AreRecords elf records.now →
         IsTrue result ↔ HasRelocation elf (λ r. IsTrue (is_call_pair r.kind)) place }
 {
-    has(records, place, CALL_CLASS)
+    has(records, near, place, CALL_CLASS)
 }
 
-/// Whether a relocation for an upper part that is not a call's applies to a place.
-pub fn has_upper(records: &[Record], place: u64) -> bool
+/// Whether a relocation for an upper part that is not a call's applies to a place. `near` is an index about which those of the
+/// place may stand.
+pub fn has_upper(records: &[Record], near: usize, place: u64) -> bool
     requires { AreInOrder records.now }
     ensures { (elf : Elf) → AreRecords elf records.now →
         IsTrue result ↔ HasRelocation elf (λ r. IsTrue (is_pcrel_hi r.kind)) place }
 {
-    has(records, place, UPPER_CLASS)
+    has(records, near, place, UPPER_CLASS)
 }
 
 /// The only relocation that adds or sets a label of a width at a place.

@@ -47,13 +47,14 @@ fn is_either(one: bool, other: bool) -> bool
     one || other
 }
 
-/// Whether a relocation is not on the instructions that it is for, or these say something else.
+/// Whether a relocation is not on the instructions that it is for, or these say something else. `near` is about where it stands.
 pub fn is_misplaced(
     elf: &Elf,
     starts: &Starts,
     parts: &[Part],
     named: &[u64],
     records: &[Record],
+    near: usize,
     relocation: &Record,
 ) -> bool
     requires starts { AreStarts elf.now starts.now }
@@ -65,7 +66,7 @@ pub fn is_misplaced(
 {
     let call = is_bad_call(elf, starts, parts, relocation);
     let upper = is_bad_upper(elf, starts, parts, named, relocation);
-    let lower = is_bad_lower(elf, starts, parts, records, relocation);
+    let lower = is_bad_lower(elf, starts, parts, records, near, relocation);
     let absolute = is_bad_absolute(elf, starts, parts, relocation);
     is_either(is_either(call, upper), is_either(lower, absolute))
 }
@@ -102,7 +103,7 @@ fn is_unfit(
     ensures { IsTrue result ↔ IsUnfit elf.now (seen relocation.now) }
 {
     let field = has_bad_field(elf, known, relocation);
-    let misplaced = is_misplaced(elf, starts, parts, named, records, relocation);
+    let misplaced = is_misplaced(elf, starts, parts, named, records, near, relocation);
     let far_target = is_far(elf, far, relocation);
     let difference = is_bad_difference(elf, starts, known, records, near, relocation);
     is_either(

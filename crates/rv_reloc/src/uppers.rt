@@ -39,8 +39,16 @@ pub fn is_bad_upper(
     }
 }
 
-// Whether an address is that of an AUIPC with an upper part that is not a call's.
-fn is_upper(elf: &Elf, starts: &Starts, parts: &[Part], records: &[Record], address: u64) -> bool
+// Whether an address is that of an AUIPC with an upper part that is not a call's. `near` is an index about which its
+// relocation may stand.
+fn is_upper(
+    elf: &Elf,
+    starts: &Starts,
+    parts: &[Part],
+    records: &[Record],
+    near: usize,
+    address: u64,
+) -> bool
     requires starts { AreStarts elf.now starts.now }
     requires parts { AreCodeParts elf.now parts.now }
     requires records { AreRecords elf.now records.now }
@@ -48,20 +56,22 @@ fn is_upper(elf: &Elf, starts: &Starts, parts: &[Part], records: &[Record], addr
 {
     match auipc_at(elf, starts, parts, address) {
         Some(_) => {
-            let upper = has_upper(records, address);
-            let call = has_call(records, address);
+            let upper = has_upper(records, near, address);
+            let call = has_call(records, near, address);
             upper && !call
         }
         None => false,
     }
 }
 
-/// Whether a relocation for a lower part is on no instruction that can have one, or names no upper part.
+/// Whether a relocation for a lower part is on no instruction that can have one, or names no upper part. `near` is an index
+/// about which the relocation for the upper part may stand.
 pub fn is_bad_lower(
     elf: &Elf,
     starts: &Starts,
     parts: &[Part],
     records: &[Record],
+    near: usize,
     relocation: &Record,
 ) -> bool
     requires starts { AreStarts elf.now starts.now }
@@ -70,7 +80,7 @@ pub fn is_bad_lower(
     ensures { IsTrue result ↔ IsBadLower elf.now (seen relocation.now) }
 {
     match low_of(elf, starts, parts, relocation) {
-        Some(low) => !is_upper(elf, starts, parts, records, low.hi),
+        Some(low) => !is_upper(elf, starts, parts, records, near, low.hi),
         None => is_pcrel_lo(relocation.kind),
     }
 }
