@@ -22,7 +22,7 @@ use Rattle.dw_unit.specs.Walking.{unit_bounds, walked_entry}
 use Rattle.dw_unit.proofs.Entries.{More, attrs_less, behind_attrs, behind_declaration, behind_code}
 use Rattle.dw_unit.proofs.Forms.{uleb_forward}
 use Rattle.dw_unit.proofs.Headers.{IsHeader, header_front}
-use Rattle.dw_unit.proofs.NamedOffsets.{Ascends}
+use Rattle.table_core.proofs.Ascending.{Ascends}
 use Rattle.dw_unit.proofs.NewSections.{sound_units, units_behind}
 use Rattle.dw_unit.proofs.UnitsRead.{IsRead, IsGoodUnit, unit_read}
 
@@ -103,7 +103,7 @@ entries_rise u (suc n) depth (b ∷ left) es h e =
     (omega (arith, h, l)) f)
     (b ∷ left) (uleb_at (b ∷ left)) es refl refl e
 
-unit_rises : (abbrevs : List ℕ) (w : Walked) (u : Unit) → IsRead abbrevs w u → Rise w.place (end_of w) u.entries
+pub unit_rises : (abbrevs : List ℕ) (w : Walked) (u : Unit) → IsRead abbrevs w u → Rise w.place (end_of w) u.entries
 unit_rises abbrevs w u r =
     let i : IsHeader r.bytes r.left = header_front r.bytes r.left u.abbrev_offset r.header in
     let size : end_of w ≡ w.place + 4 + length r.bytes = ap (λ o. w.place + 4 + option_map_or length o 0) r.is in

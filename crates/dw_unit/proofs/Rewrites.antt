@@ -454,6 +454,25 @@ module _ (m : Moves) (own first : Bool) (e : Entry) (s : Spec) (a : Attr) where
   sized end v left rest i f = sized_by end left rest i (a.form == 1) (a.form == 23) (new_address m own e a)
       (new_list m first e a) v refl refl f
 
+  high8_by : (end form : ℕ) (left rest : List ℕ) → length left ≤ end → IsAttr end s a left rest → IsChangeable m own first e s a →
+      s.form ≡ form → (form == 22) ≡ false → shape_of form ≡ Some (Number 8) → ranges_specs form ≡ ranges_specs 7 →
+      IsRewritten NoneStays end (ranges_specs s.form) (ranges_attrs m e a) (map number_patch (ranges_attrs m e a)) left rest
+  high8_by end form left rest h i c is direct shaped specs =
+      let high : IsHigh 8 end a left rest =
+      high_at 8 end s a left rest i (ap (λ (x : ℕ). x == 22) is ∙ direct) (ap shape_of is ∙ shaped) in
+      let v : ℕ = unwrap_or (new_list_offset m.lists e.place DW_AT_ranges) 0 in
+      let done = high8_rewritten end v a left rest (little_bytes 4 v) (little_bytes 4 0) h high (written_number 4 v c.ranges)
+      (written_number 4 0 (omega arith)) in
+      subst (λ (l : List Spec). IsRewritten NoneStays end l (ranges_attrs m e a) (map number_patch (ranges_attrs m e a)) left rest)
+      (sym (ap ranges_specs is ∙ specs))
+      (subst (λ (n : ℕ). IsRewritten NoneStays end (ranges_specs 7)
+      (record { name = DW_AT_ranges; form = 23; place = a.place; len = 4; value = v }
+      ∷ (if n == 8 then record { name = DW_AT_unused_high; form = 6; place = a.place + 4; len = 4; value = 0 } ∷ [] else []))
+      (map number_patch (record { name = DW_AT_ranges; form = 23; place = a.place; len = 4; value = v }
+      ∷ (if n == 8 then record { name = DW_AT_unused_high; form = 6; place = a.place + 4; len = 4; value = 0 } ∷ [] else []))) left
+      rest)
+      (sym high.len) done)
+
   high_by : (end : ℕ) (left rest : List ℕ) → length left ≤ end → IsAttr end s a left rest → IsChangeable m own first e s a →
       (s.form ≡ 6) ⊎ ((s.form ≡ 7) ⊎ (s.form ≡ 1)) → (nv : Option ℕ) →
       IsRewritten NoneStays end (ranges_specs s.form) (ranges_attrs m e a) (map number_patch (ranges_attrs m e a)) left rest
@@ -471,34 +490,8 @@ module _ (m : Moves) (own first : Bool) (e : Entry) (s : Spec) (a : Attr) where
       ∷ (if n == 8 then record { name = DW_AT_unused_high; form = 6; place = a.place + 4; len = 4; value = 0 } ∷ [] else []))) left
       rest)
       (sym high.len) done)
-  high_by end left rest h i c (inr (inl f)) nv =
-      let high : IsHigh 8 end a left rest = high_at 8 end s a left rest i (ap (λ (x : ℕ). x == 22) f) (ap shape_of f) in
-      let v : ℕ = unwrap_or (new_list_offset m.lists e.place DW_AT_ranges) 0 in
-      let done = high8_rewritten end v a left rest (little_bytes 4 v) (little_bytes 4 0) h high (written_number 4 v c.ranges)
-      (written_number 4 0 (omega arith)) in
-      subst (λ (x : ℕ). IsRewritten NoneStays end (ranges_specs x) (ranges_attrs m e a) (map number_patch (ranges_attrs m e a)) left rest)
-      (sym f)
-      (subst (λ (n : ℕ). IsRewritten NoneStays end (ranges_specs 7)
-      (record { name = DW_AT_ranges; form = 23; place = a.place; len = 4; value = v }
-      ∷ (if n == 8 then record { name = DW_AT_unused_high; form = 6; place = a.place + 4; len = 4; value = 0 } ∷ [] else []))
-      (map number_patch (record { name = DW_AT_ranges; form = 23; place = a.place; len = 4; value = v }
-      ∷ (if n == 8 then record { name = DW_AT_unused_high; form = 6; place = a.place + 4; len = 4; value = 0 } ∷ [] else []))) left
-      rest)
-      (sym high.len) done)
-  high_by end left rest h i c (inr (inr f)) nv =
-      let high : IsHigh 8 end a left rest = high_at 8 end s a left rest i (ap (λ (x : ℕ). x == 22) f) (ap shape_of f) in
-      let v : ℕ = unwrap_or (new_list_offset m.lists e.place DW_AT_ranges) 0 in
-      let done = high8_rewritten end v a left rest (little_bytes 4 v) (little_bytes 4 0) h high (written_number 4 v c.ranges)
-      (written_number 4 0 (omega arith)) in
-      subst (λ (x : ℕ). IsRewritten NoneStays end (ranges_specs x) (ranges_attrs m e a) (map number_patch (ranges_attrs m e a)) left rest)
-      (sym f)
-      (subst (λ (n : ℕ). IsRewritten NoneStays end (ranges_specs 1)
-      (record { name = DW_AT_ranges; form = 23; place = a.place; len = 4; value = v }
-      ∷ (if n == 8 then record { name = DW_AT_unused_high; form = 6; place = a.place + 4; len = 4; value = 0 } ∷ [] else []))
-      (map number_patch (record { name = DW_AT_ranges; form = 23; place = a.place; len = 4; value = v }
-      ∷ (if n == 8 then record { name = DW_AT_unused_high; form = 6; place = a.place + 4; len = 4; value = 0 } ∷ [] else []))) left
-      rest)
-      (sym high.len) done)
+  high_by end left rest h i c (inr (inl f)) nv = high8_by end 7 left rest h i c f refl refl refl
+  high_by end left rest h i c (inr (inr f)) nv = high8_by end 1 left rest h i c f refl refl refl
 
   renamed : (P : Attr → Type 0) (end : ℕ) (attrs : List Attr → List Patch) (value : ℕ) (left rest : List ℕ) → a.name ≡ s.name →
       IsRewritten P end (spec_by false) (record {

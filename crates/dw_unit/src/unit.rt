@@ -13,6 +13,12 @@ use crate::walk::next_entry;
 use rb_bytes::cursor::Cursor;
 use std::alloc::Global;
 
+// How many attributes of a unit are listed at most, for each of its bytes and beside that: those of some forms, as
+// DW_FORM_flag_present, take no bytes, so that a declaration of many would have entries of one byte take much memory each.
+const ATTRS_A_BYTE: usize = 4;
+
+const ATTRS_BESIDE: usize = 256;
+
 /// The entries in the bytes left of a unit at a place, which ends at another.
 pub fn read_entries<'a>(
     alloc: Global,
@@ -28,10 +34,18 @@ pub fn read_entries<'a>(
 {
     let mut entries = Vec::new(alloc);
     let mut depth = 0;
+    let mut room = cursor
+        .left()
+        .saturating_mul(ATTRS_A_BYTE)
+        .saturating_add(ATTRS_BESIDE);
     'entries: loop {
         let mut attrs = Vec::new(alloc);
         match next_entry(cursor, unit, end, &mut depth, table, &mut attrs)? {
             Some(head) => {
+                if room < attrs.len() {
+                    return Err(Stop::Memory);
+                }
+                room -= attrs.len();
                 entries.push(Entry {
                     place: head.place,
                     unit,

@@ -10,3 +10,4 @@ pub mod Numbers
 pub mod SameLists
 pub mod Pigeonhole
 pub mod RunStarts
+pub mod Ascending

@@ -9,7 +9,8 @@ use Rattle.std.proofs.lemmas.Grind.{common_steps}
 use Rattle.std.proofs.lemmas.List.{drop_at, take_at}
 use Rattle.byteorder.specs.Endian.{little_number, little_bytes}
 use Rattle.byteorder.specs.Numbers.{little_number-reads_back, length-bytes_low_first}
-use Rattle.table_core.specs.DebugUnits.{Walked, units_from}
+use Rattle.table_core.specs.DebugUnits.{units_from}
+use Rattle.table_core.specs.WrittenUnits.{units_bytes, walked_units, IsUnit}
 
 -- the tests of a unit at the front, by the numbers that they are of
 tests_whole : (d size : ℕ) → d + 4 ≤ size → d < 2 ^ 32 - 1 → (leb 4 size && not (d == 2 ^ 32 - 1) && leb (d + 4) size) ≡ true
@@ -63,21 +64,6 @@ pub unit-back : (b rest : List ℕ) (n version place : ℕ) → little_number 2 
 unit-back b rest n version place other some small =
     behind (little_bytes 4 (length b)) b rest n version place (length-bytes_low_first 0 4 (length b))
     (little_number-reads_back 4 (length b) (b ++ rest) (omega (arith, small))) other some small
-
--- Units that are written one after another, each behind its length, as they are walked to.
-
-unfoldable pub units_bytes : List (List ℕ) → List ℕ
-units_bytes [] = []
-units_bytes (b ∷ bs) = little_bytes 4 (length b) ++ (b ++ units_bytes bs)
-
-unfoldable pub walked_units : ℕ → List (List ℕ) → List Walked
-walked_units place [] = []
-walked_units place (b ∷ bs) = record { place = place; bytes = Some b; is_other = false } ∷ walked_units (place + (length b + 4)) bs
-
-pub record IsUnit (version : ℕ) (b : List ℕ) : Type 0 where
-  pub is_version : little_number 2 b ≡ version
-  pub some : 2 ≤ length b
-  pub small : length b < 2 ^ 32 - 1
 
 pub two-front : (xs ys : List ℕ) → 2 ≤ length xs → little_number 2 (xs ++ ys) ≡ little_number 2 xs
 two-front [] ys some = absurd (omega arith)

@@ -1,6 +1,6 @@
 use Rattle.std.proofs.Common.{arith, ◌≡◌, ◌<◌, ◌+◌, ◌^◌, length, vec_len, refl}
 use Rattle.table_core.proofs.Grown.{get-last, set-longer}
-use Rattle.table_core.proofs.carrying.lengthen.Goals as goal
+use Rattle.table_core.proofs.last_run.lengthen.Goals as goal
 
 pub overflow_add-last : goal.overflow_add-last
 overflow_add-last g c =

@@ -1,7 +1,7 @@
 use Rattle.std.proofs.Common.{arith, ◌≤◌, ◌+◌, sym}
 use Rattle.std.proofs.lemmas.Option.{get_or_from_slice_get, slice_get_within}
 use Rattle.table_core.proofs.Grown.{ends-get, get-last, last-within}
-use Rattle.table_core.proofs.carrying.ends_at.Goals as goal
+use Rattle.table_core.proofs.last_run.ends_at.Goals as goal
 
 pub overflow_add-result : goal.overflow_add-result
 overflow_add-result g c =
