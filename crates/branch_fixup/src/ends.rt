@@ -36,7 +36,12 @@ pub fn ends(
         let block = planned(funcs, blocks, order, k);
         let form = shortest_form(&block, begins_of(funcs, blocks, order, k + 1));
         let start = first_address(&block);
-        let (to, offset) = find(&starts, &places, lead_of(&block, form).unwrap_or(start));
+        let (to, offset) = find(
+            &starts,
+            &places,
+            order[k],
+            lead_of(&block, form).unwrap_or(start),
+        );
         block_ends.push(BlockEnd {
             before: block.last.addr - start,
             len: block.last.len,

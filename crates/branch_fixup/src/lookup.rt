@@ -2,6 +2,7 @@
 ghost use Rattle.std.specs.Prelude.{◌≡◌, ◌≢◌, ◌<◌, ◌≤◌, ℕ, IfOk, All, AllPairs, length, slice_index, slice_index_or};
 ghost use Rattle.branch_fixup.specs.Lookup.{ArePlaces, Finds};
 
+use rb_lanes::count_below;
 use std::alloc::{AllocError, Global};
 
 /// The place in an order of each of the numbers below its length.
@@ -18,25 +19,30 @@ pub fn places_in(alloc: Global, order: &[usize]) -> Result<Vec<usize>, AllocErro
     Ok(places)
 }
 
-/// The block that holds an address, by its place in the plan, and how far into it that is.
-pub fn find(starts: &[u64], places: &[usize], address: u64) -> (usize, u64)
+/// The block that holds an address, by its place in the plan, and how far into it that is. Blocks are looked at first from
+/// that of the index `near` on.
+pub fn find(starts: &[u64], places: &[usize], near: usize, address: u64) -> (usize, u64)
     requires ascending { AllPairs (λ a b. a < b) starts.now }
     requires one_each { length places.now ≡ length starts.now }
     ensures { Finds starts.now places.now address result.0 result.1 }
 {
-    let above = count_up_to(starts, address);
+    let above = count_up_to(starts, near, address);
     if above == 0 {
         return (0, 0);
     }
     (places[above - 1], address - starts[above - 1])
 }
 
-// How many of ascending numbers are at most an address.
-fn count_up_to(starts: &[u64], address: u64) -> usize
+// How many of ascending numbers are at most an address, where about `near` are below it.
+fn count_up_to(starts: &[u64], near: usize, address: u64) -> usize
     requires { AllPairs (λ a b. a < b) starts.now }
     ensures bound { result ≤ length starts.now }
     ensures below { (k : ℕ) (d : ℕ) → k < result → slice_index_or starts.now k d ≤ address }
     ensures above { (k : ℕ) (d : ℕ) → result ≤ k → k < length starts.now → address < slice_index_or starts.now k d }
 {
-    starts.partition_point(|start| *start <= address)
+    let below = count_below(starts, near, address);
+    if below == starts.len() || starts[below] != address {
+        return below;
+    }
+    below + 1
 }
