@@ -9,7 +9,8 @@ abbrev pub address_patch : Moves → ℕ → List ℕ → Patch
 address_patch m place left =
     record { place = place; bytes = little_bytes 8 (unwrap_or (moved_address m (little_number 8 left)) (little_number 8 left)) }
 
-step : (m : Moves) (n place : ℕ) (left : List ℕ) → address_patches m (suc n) place left ≡ address_patch m place left ∷ address_patches m n (place + 8) (drop 8 left)
+step : (m : Moves) (n place : ℕ) (left : List ℕ) → address_patches m (suc n) place left ≡ address_patch m place left
+    ∷ address_patches m n (place + 8) (drop 8 left)
 unfolding address_patches
 step m n place left = refl
 

@@ -1,5 +1,6 @@
 -- What is read of the tables that are written.
-use Rattle.std.proofs.Common.{◌≡◌, ◌∙◌, ◌<◌, ◌≤◌, ◌-◌, ◌+◌, ◌*◌, ◌^◌, ◌==◌, ◌++◌, ℕ, zero, suc, Bool, true, false, cond, List, [], ◌∷◌, Option, Some}
+use Rattle.std.proofs.Common.{◌≡◌, ◌∙◌, ◌<◌, ◌≤◌, ◌-◌, ◌+◌, ◌*◌, ◌^◌, ◌==◌, ◌++◌, ℕ, zero, suc, Bool, true, false, cond, List, [], ◌∷◌}
+use Rattle.std.proofs.Common.{Option, Some}
 use Rattle.std.proofs.Common.{None, Ok, Err, Result, refl, sym, ap, arith, length, take, drop, map, append_assoc, option_map}
 use Rattle.std.specs.Prelude.{All, find, if◌then◌else◌, not}
 use Rattle.std.specs.List.{list_any}
@@ -7,7 +8,8 @@ use Rattle.std.proofs.lemmas.Bool.Decides.{nat_tests}
 use Rattle.std.proofs.lemmas.Grind.{common_steps}
 use Rattle.std.proofs.lemmas.List.{map-append, take-append-drop}
 use Rattle.byteorder.specs.Endian.{little_bytes}
-use Rattle.table_core.proofs.UnitsBack.{units_bytes, units-back, walked_units}
+use Rattle.table_core.specs.WrittenUnits.{units_bytes, walked_units}
+use Rattle.table_core.proofs.UnitsBack.{units-back}
 use Rattle.table_core.specs.AddressRanges.{holds_address}
 use Rattle.table_core.specs.DebugUnits.{Walked, first_place, other_version, walked}
 use Rattle.table_core.specs.ReadSteps.{is_ok, oks}
@@ -72,7 +74,8 @@ same_unit : (u : ℕ) (ss : List Stretch) →
 same_unit u [] = refl
 same_unit u (s ∷ ss) = by (s.unit == u) refl (same_unit u ss) where
   by : (b : Bool) → (s.unit == u) ≡ b → as_entries u (take (count_of u ss) ss) ≡ map entry_of (take (count_of u ss) ss) →
-      as_entries u (take (if b then suc (count_of u ss) else 0) (s ∷ ss)) ≡ map entry_of (take (if b then suc (count_of u ss) else 0) (s ∷ ss))
+      as_entries u (take (if b then suc (count_of u ss) else 0) (s ∷ ss)) ≡ map entry_of
+      (take (if b then suc (count_of u ss) else 0) (s ∷ ss))
   by true e more =
       let same : u ≡ s.unit = grind (arith, nat_tests) in
       λ i. record { range = range_of s; unit = same i } ∷ more i
@@ -115,7 +118,8 @@ module _ (n : ℕ) (ss : List Stretch) (few : 28 + 16 * length ss < 2 ^ 32 - 1) 
 
   pub unit_written : (a : ℕ) → length ss ≤ n → unit_at bytes a ≡ unit_of a (find (holds a) (map entry_of ss))
   unit_written a enough =
-      ap (λ (ts : List AddressTable). option_map (λ (t : AddressTable). t.unit) (find (λ (t : AddressTable). list_any (holds_address a) t.ranges) ts))
+      ap (λ (ts : List AddressTable). option_map (λ (t : AddressTable). t.unit)
+      (find (λ (t : AddressTable). list_any (holds_address a) t.ranges) ts))
       tables_are
       ∙ sym (unit_found a (told_tables n ss))
       ∙ ap (λ (es : List UnitRange). unit_of a (find (holds a) es)) (all_flat n ss enough)

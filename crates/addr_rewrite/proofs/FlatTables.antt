@@ -22,17 +22,21 @@ module _ (a : ℕ) where
   among unit (r ∷ rs) more = by_test (holds_address a r) (among unit rs more) where
     by_test : (b : Bool) → unit_of (find holds (map (λ (r : Range). record { range = r; unit = unit }) rs ++ more))
         ≡ (if list_any (holds_address a) rs then Some unit else unit_of (find holds more)) →
-        unit_of (if b then Some (record { range = r; unit = unit }) else find holds (map (λ (r : Range). record { range = r; unit = unit }) rs ++ more))
+        unit_of (if b then Some (record { range = r; unit = unit }) else find holds
+        (map (λ (r : Range). record { range = r; unit = unit }) rs ++ more))
         ≡ (if b || list_any (holds_address a) rs then Some unit else unit_of (find holds more))
     by_test true ih = refl
     by_test false ih = ih
 
   pub unit_found : (ts : List AddressTable) →
-      unit_of (find holds (all_entries ts)) ≡ option_map (λ (t : AddressTable). t.unit) (find (λ (t : AddressTable). list_any (holds_address a) t.ranges) ts)
+      unit_of (find holds (all_entries ts)) ≡ option_map (λ (t : AddressTable). t.unit)
+      (find (λ (t : AddressTable). list_any (holds_address a) t.ranges) ts)
   unit_found [] = refl
   unit_found (t ∷ ts) = among t.unit t.ranges (all_entries ts) ∙ by_test (list_any (holds_address a) t.ranges) (unit_found ts) where
-    by_test : (b : Bool) → unit_of (find holds (all_entries ts)) ≡ option_map (λ (t : AddressTable). t.unit) (find (λ (t : AddressTable). list_any (holds_address a) t.ranges) ts) →
+    by_test : (b : Bool) → unit_of (find holds (all_entries ts)) ≡ option_map (λ (t : AddressTable). t.unit)
+        (find (λ (t : AddressTable). list_any (holds_address a) t.ranges) ts) →
         (if b then Some t.unit else unit_of (find holds (all_entries ts)))
-        ≡ option_map (λ (t : AddressTable). t.unit) (if b then Some t else find (λ (t : AddressTable). list_any (holds_address a) t.ranges) ts)
+        ≡ option_map (λ (t : AddressTable). t.unit) (if b then Some t else find (λ (t : AddressTable). list_any (holds_address a) t.ranges)
+        ts)
     by_test true ih = refl
     by_test false ih = ih

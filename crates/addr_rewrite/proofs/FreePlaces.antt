@@ -1,5 +1,5 @@
 -- What it says that none of some places of faults is there.
-use Rattle.std.proofs.Common.{◌≡◌, ℕ, List, [], ◌∷◌, Option, Some, None}
+use Rattle.std.proofs.Common.{◌≡◌, ◌∙◌, ℕ, List, [], ◌∷◌, Option, Some, None}
 use Rattle.std.specs.Option.{option_or}
 use Rattle.rb_bytes.specs.FirstFault.{IsFree}
 use Rattle.table_core.specs.DebugUnits.{other_version}
@@ -13,7 +13,8 @@ use Rattle.addr_rewrite.specs.Tables.{places_by}
 pub answers_free : (p : FaultPlaces) (x : ℕ → Option ℕ) → IsFree (HasDwarfFault p) → answers_if_free p x ≡ Some x
 answers_free p x free = let a = absent p free in λ i. unless_any (a.version i ∷ a.form i ∷ a.high i ∷ a.bad i ∷ []) x
 
-pub places_free : (p : FaultPlaces) (section : List ℕ) → IsFree (HasDwarfFault p) → other_version 2 section ≡ None → bad_table section ≡ None →
+pub places_free : (p : FaultPlaces) (section : List ℕ) → IsFree (HasDwarfFault p) → other_version 2 section ≡ None →
+    bad_table section ≡ None →
     IsFree (HasDwarfFault (places_by p section))
 places_free p section free version bad =
     let a = absent p free in
@@ -23,3 +24,14 @@ places_free p section free version bad =
       high = a.high;
       bad = λ i. option_or (a.bad i) (bad i);
     })
+
+-- the places that reading joins to those of units
+pub places_joined : (units read : FaultPlaces) (section : List ℕ) (version bad other bad_read : Option ℕ) → read ≡ units →
+    version ≡ option_or read.version other → other ≡ other_version 2 section →
+    bad ≡ option_or read.bad bad_read → bad_read ≡ bad_table section →
+    record { version = version; form = read.form; high = read.high; bad = bad } ≡ places_by units section
+places_joined units read section version bad other bad_read same joined is_other bad_joined is_bad =
+    let first : version ≡ option_or units.version (other_version 2 section) =
+    joined ∙ (λ i. option_or (same i).version (is_other i)) in
+    let worst : bad ≡ option_or units.bad (bad_table section) = bad_joined ∙ (λ i. option_or (same i).bad (is_bad i)) in
+    λ i. record { version = first i; form = (same i).form; high = (same i).high; bad = worst i }

@@ -1,5 +1,6 @@
 -- Pairs of a table of ranges of addresses, read one by one.
-use Rattle.std.proofs.Common.{◌≡◌, ◌<◌, ◌≤◌, ◌+◌, ◌-◌, ◌++◌, ◌∙◌, ℕ, zero, suc, List, [], ◌∷◌, Bool, true, false, cond, Option, Some, None, Ok, Err, Result, refl, ap, sym, arith, length, drop, nat_lt, length-drop, append_assoc}
+use Rattle.std.proofs.Common.{◌≡◌, ◌<◌, ◌≤◌, ◌+◌, ◌-◌, ◌++◌, ◌∙◌, ℕ, zero, suc, List, [], ◌∷◌, Bool, true, false, cond, Option, Some, None}
+use Rattle.std.proofs.Common.{Ok, Err, Result, refl, ap, sym, arith, length, drop, nat_lt, length-drop, append_assoc}
 use Rattle.std.specs.Prelude.{◌==◌, ◌&&◌, if◌then◌else◌}
 use Rattle.std.proofs.lemmas.Bool.Decides.{nat_tests}
 use Rattle.rb_bytes.specs.declared.gap.Gap.{Gap}
@@ -30,13 +31,16 @@ pub unfold_pairs : (n : ℕ) (left : List ℕ) → pairs_within (suc n) left ≡
 unfolding pairs_within
 unfold_pairs n left = by_address (number_read 8 left) where
   by_zeros : (b : Bool) (r : Range) (rest : List ℕ) →
-      ◌≡◌ {A = Ranges} (if b then Ok [] else with_head r (pairs_within n rest)) (by_pair (pairs_within n) (Ok ((if b then None else Some r), rest)))
+      ◌≡◌ {A = Ranges} (if b then Ok [] else with_head r (pairs_within n rest))
+      (by_pair (pairs_within n) (Ok ((if b then None else Some r), rest)))
   by_zeros true r rest = refl
   by_zeros false r rest = refl
 
   by_size : (a : ℕ) (found : Result (ℕ × List ℕ) Gap) →
-      ◌≡◌ {A = Ranges} (and_then (whole found) (λ size rest. if a == 0 && size == 0 then Ok [] else with_head (record { low = a; high = a + size }) (pairs_within n rest)))
-      (by_pair (pairs_within n) (and_then (whole found) (λ size rest. Ok ((if a == 0 && size == 0 then None else Some (record { low = a; high = a + size })), rest))))
+      ◌≡◌ {A = Ranges} (and_then (whole found) (λ size rest. if a == 0 && size == 0 then Ok [] else with_head
+      (record { low = a; high = a + size }) (pairs_within n rest)))
+      (by_pair (pairs_within n) (and_then (whole found) (λ size rest. Ok
+      ((if a == 0 && size == 0 then None else Some (record { low = a; high = a + size })), rest))))
   by_size a (Err gap) = refl
   by_size a (Ok read) = by_zeros (a == 0 && read.0 == 0) (record { low = a; high = a + read.0 }) read.1
 
@@ -63,7 +67,8 @@ number_forward x bytes rest e = number_forward_by (nat_lt (length bytes) 8) _ x 
 pub pair_forward : (left rest : List ℕ) (o : Option Range) → pair_at left ≡ Ok (o, rest) → length rest < length left
 pair_forward left rest o e = by_address (number_read 8 left) refl e where
   by_size : (a : ℕ) (left1 : List ℕ) (found : Result (ℕ × List ℕ) Gap) → length left1 < length left → number_read 8 left1 ≡ found →
-      ◌≡◌ {A = Read (Option Range)} (and_then (whole found) (λ size rest. Ok ((if a == 0 && size == 0 then None else Some (record { low = a; high = a + size })), rest))) (Ok (o, rest)) →
+      ◌≡◌ {A = Read (Option Range)} (and_then (whole found) (λ size rest. Ok
+      ((if a == 0 && size == 0 then None else Some (record { low = a; high = a + size })), rest))) (Ok (o, rest)) →
       length rest < length left
   by_size a left1 (Err gap) h is f = absurd (cc)
   by_size a left1 (Ok read) h is f =
@@ -73,7 +78,8 @@ pair_forward left rest o e = by_address (number_read 8 left) refl e where
 
   by_address : (found : Result (ℕ × List ℕ) Gap) → number_read 8 left ≡ found →
       ◌≡◌ {A = Read (Option Range)} (and_then (whole found) (λ a left1. and_then (whole (number_read 8 left1)) (λ size rest.
-      Ok ((if a == 0 && size == 0 then None else Some (record { low = a; high = a + size })), rest)))) (Ok (o, rest)) → length rest < length left
+      Ok ((if a == 0 && size == 0 then None else Some (record { low = a; high = a + size })), rest)))) (Ok (o, rest)) →
+      length rest < length left
   by_address (Err gap) is f = absurd (cc)
   by_address (Ok read) is f = by_size read.0 read.1 (number_read 8 read.1) (number_forward read.0 left read.1 is) refl f
 
@@ -88,8 +94,10 @@ pairs_enough : (n m : ℕ) (left : List ℕ) → length left ≤ n → length le
 pairs_enough zero m left h k = none_there zero left h ∙ sym (none_there m left h)
 pairs_enough (suc n) zero left h k = none_there (suc n) left k ∙ sym (none_there zero left k)
 pairs_enough (suc n) (suc m) left h k =
-    unfold_pairs n left ∙ step (pair_at left) refl (λ rest i. pairs_enough n m rest (omega arith) (omega arith)) ∙ sym (unfold_pairs m left) where
-      step : (r : Read (Option Range)) → pair_at left ≡ r → ((rest : List ℕ) → length rest < length left → pairs_within n rest ≡ pairs_within m rest) →
+    unfold_pairs n left ∙ step (pair_at left) refl (λ rest i. pairs_enough n m rest (omega arith) (omega arith))
+    ∙ sym (unfold_pairs m left) where
+      step : (r : Read (Option Range)) → pair_at left ≡ r → ((rest : List ℕ) → length rest < length left →
+          pairs_within n rest ≡ pairs_within m rest) →
           by_pair (pairs_within n) r ≡ by_pair (pairs_within m) r
       step (Err t) is ih = refl
       step (Ok (None, rest)) is ih = refl
@@ -97,13 +105,15 @@ pairs_enough (suc n) (suc m) left h k =
 
 -- one step, at the bytes left themselves
 pairs_step : (left : List ℕ) (r : Read (Option Range)) → pair_at left ≡ r → all_pairs left ≡ by_pair all_pairs r
-pairs_step left r is = pairs_enough (length left) (suc (length left)) left (omega arith) (omega arith) ∙ unfold_pairs (length left) left ∙ enough r is where
-  enough : (r : Read (Option Range)) → pair_at left ≡ r → by_pair (pairs_within (length left)) (pair_at left) ≡ by_pair all_pairs r
-  enough (Err t) is = ap (by_pair (pairs_within (length left))) is
-  enough (Ok (None, rest)) is = ap (by_pair (pairs_within (length left))) is
-  enough (Ok (Some r, rest)) is =
-      let h = pair_forward left rest (Some r) is in
-      ap (by_pair (pairs_within (length left))) is ∙ ap (with_head r) (pairs_enough (length left) (length rest) rest (omega arith) (omega arith))
+pairs_step left r is = pairs_enough (length left) (suc (length left)) left (omega arith) (omega arith) ∙ unfold_pairs (length left) left
+    ∙ enough r is where
+      enough : (r : Read (Option Range)) → pair_at left ≡ r → by_pair (pairs_within (length left)) (pair_at left) ≡ by_pair all_pairs r
+      enough (Err t) is = ap (by_pair (pairs_within (length left))) is
+      enough (Ok (None, rest)) is = ap (by_pair (pairs_within (length left))) is
+      enough (Ok (Some r, rest)) is =
+          let h = pair_forward left rest (Some r) is in
+          ap (by_pair (pairs_within (length left))) is ∙ ap (with_head r)
+          (pairs_enough (length left) (length rest) rest (omega arith) (omega arith))
 
 -- pairs that were read, and then those that are left
 abbrev pub with_pairs : List Range → Ranges → Ranges

@@ -1,5 +1,6 @@
 -- The units that runs say, whatever order their stretches stand in.
-use Rattle.std.proofs.Common.{◌≡◌, ◌∙◌, ◌<◌, ◌≤◌, ◌-◌, ◌+◌, ◌^◌, ℕ, suc, Bool, true, false, cond, List, [], ◌∷◌, Option, Some, None, refl, sym, ap, subst}
+use Rattle.std.proofs.Common.{◌≡◌, ◌∙◌, ◌<◌, ◌≤◌, ◌-◌, ◌+◌, ◌^◌, ℕ, suc, Bool, true, false, cond, List, [], ◌∷◌, Option, Some, None, refl}
+use Rattle.std.proofs.Common.{sym, ap, subst}
 use Rattle.std.proofs.Common.{arith, length, map, nat_le, nat_lt, option_map}
 use Rattle.std.specs.Prelude.{◌&&◌, ◌||◌, All, find, if◌then◌else◌, option_and_then}
 use Rattle.std.specs.List.{list_any}
@@ -79,12 +80,13 @@ runs_none a (r ∷ rs) e = by (has a (stretch_of r)) refl (runs_none a rs) e whe
 find_says : (a : ℕ) (v : Option ℕ) (ss : List Stretch) → All (λ (s : Stretch). has a s ≡ true → v ≡ Some s.unit) ss →
     (list_any (has a) ss ≡ false → v ≡ None) → unit_of a (find (holds a) (map entry_of ss)) ≡ v
 find_says a v [] says none = sym (none refl)
-find_says a v (s ∷ ss) says none = by (has a s) refl none (find_says a v ss (All-tail (λ (s : Stretch). has a s ≡ true → v ≡ Some s.unit) s ss says)) where
-  by : (b : Bool) → has a s ≡ b → ((b || list_any (has a) ss) ≡ false → v ≡ None) →
-      ((list_any (has a) ss ≡ false → v ≡ None) → unit_of a (find (holds a) (map entry_of ss)) ≡ v) →
-      unit_of a (cond b (Some (entry_of s)) (find (holds a) (map entry_of ss))) ≡ v
-  by true e none more = sym (All-head (λ (s : Stretch). has a s ≡ true → v ≡ Some s.unit) s ss says e)
-  by false e none more = more none
+find_says a v (s ∷ ss) says none = by (has a s) refl none (find_says a v ss
+    (All-tail (λ (s : Stretch). has a s ≡ true → v ≡ Some s.unit) s ss says)) where
+      by : (b : Bool) → has a s ≡ b → ((b || list_any (has a) ss) ≡ false → v ≡ None) →
+          ((list_any (has a) ss ≡ false → v ≡ None) → unit_of a (find (holds a) (map entry_of ss)) ≡ v) →
+          unit_of a (cond b (Some (entry_of s)) (find (holds a) (map entry_of ss))) ≡ v
+      by true e none more = sym (All-head (λ (s : Stretch). has a s ≡ true → v ≡ Some s.unit) s ss says e)
+      by false e none more = more none
 
 any_map : (p : Stretch → Bool) (rs : List (Run ℕ)) → list_any p (map stretch_of rs) ≡ list_any (λ (r : Run ℕ). p (stretch_of r)) rs
 any_map p [] = refl

@@ -1,5 +1,6 @@
 -- Stretches that ascend by their units give each unit one table.
-use Rattle.std.proofs.Common.{◌≡◌, ◌∙◌, ◌<◌, ◌≤◌, ◌+◌, ◌==◌, ℕ, zero, suc, Bool, true, false, cond, List, [], ◌∷◌, refl, subst, sym, arith, drop, get_or, length, map, take}
+use Rattle.std.proofs.Common.{◌≡◌, ◌∙◌, ◌<◌, ◌≤◌, ◌+◌, ◌==◌, ℕ, zero, suc, Bool, true, false, cond, List, [], ◌∷◌, refl, subst, sym, arith}
+use Rattle.std.proofs.Common.{drop, get_or, length, map, take}
 use Rattle.std.specs.Prelude.{All, AllPairs, if◌then◌else◌}
 use Rattle.std.specs.List.Sorted.{IsNonDecreasingBy}
 use Rattle.std.proofs.lemmas.Bool.Decides.{nat_tests}
@@ -47,13 +48,15 @@ all_above lo [] up = All-nil (λ (t : AddressTable). lo ≤ t.unit)
 all_above lo (t ∷ ts) up =
     let le : lo ≤ t.unit = up.0 in
     All-cons (λ (t : AddressTable). lo ≤ t.unit) t ts le
-    (All-weaker (λ (x : AddressTable). suc t.unit ≤ x.unit) (λ (x : AddressTable). lo ≤ x.unit) (λ x h. omega arith) ts (all_above (suc t.unit) ts up.1))
+    (All-weaker (λ (x : AddressTable). suc t.unit ≤ x.unit) (λ (x : AddressTable). lo ≤ x.unit) (λ x h. omega arith) ts
+    (all_above (suc t.unit) ts up.1))
 
 pairs_above : (lo : ℕ) (ts : List AddressTable) → Above lo ts → AllPairs (λ (t u : AddressTable). t.unit < u.unit) ts
 pairs_above lo [] up = λ i j d less within. absurd (omega arith)
 pairs_above lo (t ∷ ts) up =
     AllPairs-cons (λ (t u : AddressTable). t.unit < u.unit) t ts
-    (All-weaker (λ (x : AddressTable). suc t.unit ≤ x.unit) (λ (x : AddressTable). t.unit < x.unit) (λ x h. omega arith) ts (all_above (suc t.unit) ts up.1))
+    (All-weaker (λ (x : AddressTable). suc t.unit ≤ x.unit) (λ (x : AddressTable). t.unit < x.unit) (λ x h. omega arith) ts
+    (all_above (suc t.unit) ts up.1))
     (pairs_above (suc t.unit) ts up.1)
 
 pub told_once : (n : ℕ) (ss : List Stretch) → IsNonDecreasingBy (λ (s : Stretch). s.unit) ss →

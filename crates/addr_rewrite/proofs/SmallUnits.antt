@@ -51,9 +51,11 @@ all_have (suc n) version place (b ∷ rest) bytes =
     (λ l e. unit_has (is_whole_unit (b ∷ rest) && nat_le 2 (unit_length (b ∷ rest))) (unit_length (b ∷ rest)) (b ∷ rest) l bytes e)
     (rest_has (is_whole_unit (b ∷ rest)) (λ p l h. all_have n version p l h)) where
       rest_has : (whole : Bool) → ((p : ℕ) (l : List ℕ) → Bytes l → All HasBytes (units_from n version p l)) →
-          All HasBytes (if whole then units_from n version (place + (unit_length (b ∷ rest) + 4)) (drop (unit_length (b ∷ rest) + 4) (b ∷ rest)) else [])
+          All HasBytes (if whole then units_from n version (place + (unit_length (b ∷ rest) + 4))
+          (drop (unit_length (b ∷ rest) + 4) (b ∷ rest)) else [])
       rest_has true ih =
-          ih (place + (unit_length (b ∷ rest) + 4)) (drop (unit_length (b ∷ rest) + 4) (b ∷ rest)) (behind (unit_length (b ∷ rest) + 4) (b ∷ rest) bytes)
+          ih (place + (unit_length (b ∷ rest) + 4)) (drop (unit_length (b ∷ rest) + 4) (b ∷ rest))
+          (behind (unit_length (b ∷ rest) + 4) (b ∷ rest) bytes)
       rest_has false ih = All-nil HasBytes
 
 -- the unit of a table
@@ -72,21 +74,24 @@ small_pairs unit (Ok ranges) t h is =
     subst IsSmall same h
 
 small_behind : (unit : ℕ) (test : Bool) (left : List ℕ) (t : AddressTable) → unit < 2 ^ 32 →
-    ◌≡◌ {A = Tables} (if test then and_so (pairs_within (length left) left) (λ ranges. Ok (record { unit = unit; ranges = ranges })) else Err Unsound) (Ok t) →
+    ◌≡◌ {A = Tables} (if test then and_so (pairs_within (length left) left) (λ ranges. Ok (record { unit = unit; ranges = ranges })) else
+    Err Unsound) (Ok t) →
     IsSmall t
 small_behind unit true left t h is = small_pairs unit (pairs_within (length left) left) t h is
 small_behind unit false left t h is = absurd (cc)
 
 small_padded : (unit sizes : ℕ) (r : Result (List ℕ × List ℕ) Gap) (t : AddressTable) → unit < 2 ^ 32 →
     ◌≡◌ {A = Tables} (and_then (whole r) (λ _ left4.
-    if sizes == 8 then and_so (pairs_within (length left4) left4) (λ ranges. Ok (record { unit = unit; ranges = ranges })) else Err Unsound)) (Ok t) →
+    if sizes == 8 then and_so (pairs_within (length left4) left4) (λ ranges. Ok (record { unit = unit; ranges = ranges })) else Err
+    Unsound)) (Ok t) →
     IsSmall t
 small_padded unit sizes (Err gap) t h is = absurd (cc)
 small_padded unit sizes (Ok read) t h is = small_behind unit (sizes == 8) read.1 t h is
 
 small_sized : (unit : ℕ) (r : Result (ℕ × List ℕ) Gap) (t : AddressTable) → unit < 2 ^ 32 →
     ◌≡◌ {A = Tables} (and_then (whole r) (λ sizes left3. and_then (whole (bytes_at 4 left3)) (λ _ left4.
-    if sizes == 8 then and_so (pairs_within (length left4) left4) (λ ranges. Ok (record { unit = unit; ranges = ranges })) else Err Unsound))) (Ok t) →
+    if sizes == 8 then and_so (pairs_within (length left4) left4) (λ ranges. Ok (record { unit = unit; ranges = ranges })) else Err
+    Unsound))) (Ok t) →
     IsSmall t
 small_sized unit (Err gap) t h is = absurd (cc)
 small_sized unit (Ok read) t h is = small_padded unit read.0 (bytes_at 4 read.1) t h is
@@ -94,7 +99,8 @@ small_sized unit (Ok read) t h is = small_padded unit read.0 (bytes_at 4 read.1)
 small_number : (short : Bool) (left : List ℕ) (t : AddressTable) → Bytes left →
     ◌≡◌ {A = Tables} (and_then (whole (cond short (Err Short) (Ok (little_number 4 left, drop 4 left)))) (λ unit left2.
     and_then (whole (number_read 2 left2)) (λ sizes left3. and_then (whole (bytes_at 4 left3)) (λ _ left4.
-    if sizes == 8 then and_so (pairs_within (length left4) left4) (λ ranges. Ok (record { unit = unit; ranges = ranges })) else Err Unsound)))) (Ok t) →
+    if sizes == 8 then and_so (pairs_within (length left4) left4) (λ ranges. Ok (record { unit = unit; ranges = ranges })) else Err
+    Unsound)))) (Ok t) →
     IsSmall t
 small_number true left t bytes is = absurd (cc)
 small_number false left t bytes is =
@@ -105,7 +111,8 @@ small_in : (short : Bool) (left : List ℕ) (t : AddressTable) → Bytes left �
     ◌≡◌ {A = Tables} (and_then (whole (cond short (Err Short) (Ok (little_number 2 left, drop 2 left)))) (λ version left1.
     and_then (whole (number_read 4 left1)) (λ unit left2.
     and_then (whole (number_read 2 left2)) (λ sizes left3. and_then (whole (bytes_at 4 left3)) (λ _ left4.
-    if sizes == 8 then and_so (pairs_within (length left4) left4) (λ ranges. Ok (record { unit = unit; ranges = ranges })) else Err Unsound))))) (Ok t) →
+    if sizes == 8 then and_so (pairs_within (length left4) left4) (λ ranges. Ok (record { unit = unit; ranges = ranges })) else Err
+    Unsound))))) (Ok t) →
     IsSmall t
 small_in true left t bytes is = absurd (cc)
 small_in false left t bytes is =

@@ -32,12 +32,15 @@ in_order zero version place size left h = omega arith
 in_order (suc n) version place size [] h = omega arith
 in_order (suc n) version place size (b ∷ rest) h =
     by_whole (is_whole_unit (b ∷ rest)) refl (λ p l k. in_order n version p size l k) where
-      by_whole : (whole : Bool) → is_whole_unit (b ∷ rest) ≡ whole → ((p : ℕ) (l : List ℕ) → p + length l ≤ size → AreInOrder p size (units_from n version p l)) →
+      by_whole : (whole : Bool) → is_whole_unit (b ∷ rest) ≡ whole →
+          ((p : ℕ) (l : List ℕ) → p + length l ≤ size → AreInOrder p size (units_from n version p l)) →
           (place ≤ place)
           × (option_map_or (λ (bytes : List ℕ). place + 4 + length bytes)
-          (if whole && nat_le 2 (unit_length (b ∷ rest)) then Some (take (unit_length (b ∷ rest)) (drop 4 (b ∷ rest))) else None) place ≤ size)
+          (if whole && nat_le 2 (unit_length (b ∷ rest)) then Some (take (unit_length (b ∷ rest)) (drop 4 (b ∷ rest))) else None) place ≤
+          size)
           × AreInOrder (option_map_or (λ (bytes : List ℕ). place + 4 + length bytes)
-          (if whole && nat_le 2 (unit_length (b ∷ rest)) then Some (take (unit_length (b ∷ rest)) (drop 4 (b ∷ rest))) else None) place) size
+          (if whole && nat_le 2 (unit_length (b ∷ rest)) then Some (take (unit_length (b ∷ rest)) (drop 4 (b ∷ rest))) else None) place)
+          size
           (if whole then units_from n version (place + (unit_length (b ∷ rest) + 4)) (drop (unit_length (b ∷ rest) + 4) (b ∷ rest)) else [])
       by_whole true e ih =
           let w = whole_fits (b ∷ rest) e in

@@ -1,5 +1,6 @@
 -- Steps of the functions that write tables of ranges of addresses.
-use Rattle.std.proofs.Common.{◌≡◌, ◌∙◌, ◌<◌, ◌≤◌, ◌-◌, ◌+◌, ◌*◌, ◌++◌, ℕ, zero, suc, List, [], ◌∷◌, refl, sym, ap, arith, append_assoc, append-nil}
+use Rattle.std.proofs.Common.{◌≡◌, ◌∙◌, ◌<◌, ◌≤◌, ◌-◌, ◌+◌, ◌*◌, ◌++◌, ℕ, zero, suc, List, [], ◌∷◌, refl, sym, ap, arith, append_assoc}
+use Rattle.std.proofs.Common.{append-nil}
 use Rattle.std.proofs.Common.{drop, get_or, length, take}
 use Rattle.std.proofs.lemmas.Grind.{common_steps}
 use Rattle.std.proofs.lemmas.List.{drop_more}
@@ -51,7 +52,8 @@ table_parts unit size ss out o1 o2 o3 o4 o5 new is p q r s t u =
 
 -- Tables
 
-pub no_tables : (n : ℕ) (rest : List Stretch) (out whole : List ℕ) → length rest ≡ 0 → out ++ spelled_tables (tables_of n rest) ≡ whole → out ≡ whole
+pub no_tables : (n : ℕ) (rest : List Stretch) (out whole : List ℕ) → length rest ≡ 0 → out ++ spelled_tables (tables_of n rest) ≡ whole →
+    out ≡ whole
 unfolding tables_of
 no_tables n rest out whole e inv =
     sym (append-nil out) ∙ sym (ap (λ (l : List ℕ). out ++ l) (none n rest e)) ∙ inv where
@@ -65,7 +67,8 @@ pub tables_end : (n count : ℕ) (rest : List Stretch) (out whole : List ℕ) �
 unfolding tables_of
 tables_end n count rest out whole h inv =
     let done : n - count ≡ 0 = omega arith in
-    sym (append-nil out) ∙ sym (ap (λ (m : ℕ). out ++ spelled_tables (tables_of m rest)) done ∙ ap (λ (l : List ℕ). out ++ l) (none rest)) ∙ inv where
+    sym (append-nil out) ∙ sym (ap (λ (m : ℕ). out ++ spelled_tables (tables_of m rest)) done ∙ ap (λ (l : List ℕ). out ++ l) (none rest))
+    ∙ inv where
       none : (rest : List Stretch) → spelled_tables (tables_of 0 rest) ≡ []
       none [] = refl
       none (s ∷ rest) = refl

@@ -9,7 +9,7 @@ use Rattle.std.proofs.lemmas.List.Elements.{All-cons, All-nil, All-head, All-tai
 use Rattle.byteorder.specs.Endian.{little_number, little_bytes}
 use Rattle.byteorder.specs.Numbers.{little_number-reads_back, length-bytes_low_first}
 use Rattle.rb_bytes.specs.Readers.{and_then, bytes_at, number_read}
-use Rattle.table_core.proofs.UnitsBack.{IsUnit}
+use Rattle.table_core.specs.WrittenUnits.{IsUnit}
 use Rattle.table_core.specs.ReadSteps.{and_so, with_head}
 use Rattle.table_core.specs.declared.range.Range.{Range}
 use Rattle.dw_unit.specs.declared.trouble.Trouble.{Trouble}
@@ -181,6 +181,7 @@ all_told (suc n) [] are = refl
 all_told zero (s ∷ ss) are = refl
 all_told (suc n) (s ∷ ss) are =
     let k : ℕ = count_of s.unit ss in
-    let here = table_back s.unit (s ∷ take k ss) (All-head IsWritten s ss are).1 (all_stretches (s ∷ take k ss) (front_written k s ss are)) in
+    let here = table_back s.unit (s ∷ take k ss) (All-head IsWritten s ss are).1 (all_stretches (s ∷ take k ss) (front_written k s ss are))
+    in
     let more = all_told n (drop k ss) (All-drop IsWritten k ss (All-tail IsWritten s ss are)) in
     λ i. here i ∷ more i

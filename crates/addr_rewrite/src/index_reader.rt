@@ -1,13 +1,11 @@
 // The units of addresses, or the first fault.
 ghost use Rattle.std.specs.Prelude.{◌≡◌, IfOk, OnOk, IfErr};
 ghost use Rattle.rb_bytes.specs.FirstFault.{IsFree, IsRefusalBy};
-ghost use Rattle.dw_unit.specs.Faults.{HasDwarfFault, unit_fault_places};
-ghost use Rattle.dw_unit.specs.ListedUnits.{sections};
+ghost use Rattle.dw_unit.specs.Faults.{FaultPlaces as Places, HasDwarfFault};
 ghost use Rattle.addr_rewrite.specs.ArangesReading.{AreKept};
 ghost use Rattle.addr_rewrite.specs.Tables.{places_by};
 
 use crate::table_list::read_tables;
-use crate::unit_faults::unit_places;
 use crate::unit_index::UnitIndex;
 use dw_unit::address_table::other_version;
 use dw_unit::fault_places::{FaultPlaces, refused};
@@ -18,23 +16,18 @@ use table_core::debug_units;
 /// The version of tables of ranges of addresses.
 const VERSION: u16 = 2;
 
-/// Reads a section of tables, or refuses it for its first fault and that of the units.
-pub fn read_index(
-    alloc: Global,
-    info: &[u8],
-    abbrevs: &[u8],
-    addr: &[u8],
-    section: &[u8],
-) -> Result<UnitIndex, Refusal>
+/// Reads a section of tables, or refuses it for the first of its faults and of those of units, which come before its own.
+pub fn read_index(alloc: Global, units: FaultPlaces, section: &[u8]) -> Result<UnitIndex, Refusal>
     ensures kept { IfOk result (AreKept section.now) }
-    ensures free { OnOk result (IsFree (HasDwarfFault
-        (places_by (unit_fault_places (sections info.now abbrevs.now addr.now)) section.now))) }
-    ensures fault { IfErr result (IsRefusalBy (HasDwarfFault
-        (places_by (unit_fault_places (sections info.now abbrevs.now addr.now)) section.now))) }
+    ensures free { OnOk result ((p : Places) →
+        record { version = units.version; form = units.form; high = units.high; bad = units.bad } ≡ p →
+        IsFree (HasDwarfFault (places_by p section.now))) }
+    ensures fault { IfErr result (λ e. (p : Places) →
+        record { version = units.version; form = units.form; high = units.high; bad = units.bad } ≡ p →
+        IsRefusalBy (HasDwarfFault (places_by p section.now)) e) }
 {
     let tables = debug_units(alloc, VERSION, section)?;
     let read = read_tables(alloc, &tables)?;
-    let units = unit_places(alloc, info, abbrevs, addr)?;
     let other = other_version(&tables);
     let version = units.version.or(other);
     let bad = units.bad.or(read.bad);

@@ -31,7 +31,7 @@ fn bounds_of(alloc: Global, ranges: &[UnitRange]) -> Result<Vec<Range>, NoMemory
 impl UnitIndex {
     ghost use Rattle.addr_rewrite.specs.ArangesReading.{unit_found};
 
-    /// That of some ranges, of which the first that holds an address counts.
+    /// An index of some ranges, of which the first that holds an address counts.
     pub fn new(alloc: Global, ranges: &[UnitRange]) -> Result<UnitIndex, NoMemory>
         ensures { IfOk result (λ index. (a : ℕ) → unit_found index a
             ≡ option_map (λ r. r.unit) (find (λ r. holds_address a r.range) ranges.now)) }

@@ -12,8 +12,8 @@ use Rattle.dw_unit.specs.Changes.{is_own, is_first_of, new_value}
 use Rattle.dw_unit.specs.ChangedEntries.{IsChangedEntry}
 use Rattle.dw_unit.specs.EntryMoves.{Moves, new_list_offset}
 use Rattle.dw_unit.proofs.SoundEntries.{IsSoundEntry}
-use Rattle.range_loc_rewrite.specs.Faults.{ListSections}
-use Rattle.range_loc_rewrite.specs.UnitLists.{own_place}
+use Rattle.dw_lists.specs.Faults.{ListSections}
+use Rattle.dw_lists.specs.UnitLists.{own_place}
 use Rattle.range_loc_rewrite.proofs.ChangedAttrs.{IsOther, changed, from_other}
 use Rattle.range_loc_rewrite.proofs.RangesStay.{found_name, SoundTests, tests_of, new_base}
 

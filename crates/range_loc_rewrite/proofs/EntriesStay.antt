@@ -1,49 +1,49 @@
 -- Each entry of a written file has ranges where the entry that it was made of has them, and names a list that can be read.
 use Rattle.std.proofs.Common.{◌≡◌, ◌∙◌, ◌+◌, ◌*◌, ◌<◌, ◌==◌, ◌&&◌, ◌||◌, ◌∷◌, [], ℕ, Bool, true, false, List, Option, Some, None}
-use Rattle.std.proofs.Common.{refl, sym, ap, subst, arith, length, map, All, ⊎_elim}
+use Rattle.std.proofs.Common.{refl, sym, ap, subst, length, map, All, ⊎_elim}
 use Rattle.std.specs.Prelude.{flat_map, Contains, option_and_then, option_map, if◌then◌else◌, is_some, unwrap_or}
 use Rattle.std.specs.Global.{Vec}
 use Rattle.std.specs.List.{AllZip}
-use Rattle.std.specs.Option.{option_map_or}
 use Rattle.std.proofs.lemmas.Bool.{eqb-true, eq-eqb}
-use Rattle.rb_bytes.proofs.Members.{Contains-nil}
 use Rattle.addr_map.specs.declared.span.Span.{Span}
 use Rattle.addr_map.specs.Spans.{owner}
 use Rattle.table_core.specs.declared.range.Range.{Range}
 use Rattle.table_core.specs.declared.run.Run.{Run}
 use Rattle.table_core.specs.declared.written.ListAt.{ListAt}
 use Rattle.table_core.specs.AnswerRuns.{run_at}
-use Rattle.table_core.proofs.UnitsBack.{IsUnit, units_bytes}
+use Rattle.table_core.specs.WrittenUnits.{IsUnit, units_bytes}
 use Rattle.dw_unit.specs.declared.entry.Attr.{Attr}
 use Rattle.dw_unit.specs.CompUnits.{Entry, Unit, attr, base, number_in, low_pc, may_repeat}
 use Rattle.dw_unit.specs.Changes.{is_own, is_first_of}
 use Rattle.dw_unit.specs.ChangedEntries.{IsChangedEntry}
 use Rattle.dw_unit.specs.EntryMoves.{Moves, new_list_offset}
-use Rattle.dw_unit.proofs.NamedOffsets.{Ascends}
+use Rattle.table_core.proofs.Ascending.{Ascends}
 use Rattle.dw_unit.proofs.SoundEntries.{IsSoundEntry, AreSoundUnits}
-use Rattle.range_loc_rewrite.specs.declared.cover_tree.Cover.{Cover}
-use Rattle.range_loc_rewrite.specs.declared.groups.RangedEntry.{RangedEntry}
-use Rattle.range_loc_rewrite.specs.declared.list_kind.ListKind.TheVariants as kind
-use Rattle.range_loc_rewrite.specs.Faults.{ListSections}
-use Rattle.range_loc_rewrite.specs.GroupRuns.{runs_in, holds_some, if_held}
-use Rattle.range_loc_rewrite.specs.Groups.{group_holds, ranges_in}
-use Rattle.range_loc_rewrite.specs.KnownLists.{range_list}
-use Rattle.range_loc_rewrite.specs.ListBytes.{IsWritable}
-use Rattle.range_loc_rewrite.specs.Lists.{Located, ranges_kind, has_list, list_offset}
-use Rattle.range_loc_rewrite.specs.Ranges.{ranges_of, hold, up_to}
-use Rattle.range_loc_rewrite.specs.UnitLists.{own_place}
-use Rattle.range_loc_rewrite.specs.WrittenRanges.{bounded}
-use Rattle.range_loc_rewrite.specs.WrittenTables.{StandsAt}
+use Rattle.cover_lists.specs.declared.cover_tree.Cover.{Cover}
+use Rattle.cover_lists.specs.declared.groups.RangedEntry.{RangedEntry}
+use Rattle.dw_lists.specs.declared.list_kind.ListKind.TheVariants as kind
+use Rattle.dw_lists.specs.Faults.{ListSections}
+use Rattle.cover_lists.specs.GroupRuns.{runs_in, if_held}
+use Rattle.cover_lists.specs.Groups.{group_holds}
+use Rattle.cover_lists.specs.Located.{ranges_in, Located, hold}
+use Rattle.dw_lists.specs.KnownLists.{range_list}
+use Rattle.list_writer.specs.ListBytes.{IsWritable}
+use Rattle.dw_lists.specs.Lists.{ranges_kind, has_list, list_offset}
+use Rattle.dw_lists.specs.Ranges.{ranges_of, up_to}
+use Rattle.dw_lists.specs.UnitLists.{own_place}
+use Rattle.list_writer.specs.WrittenRanges.{bounded}
+use Rattle.list_writer.specs.WrittenTables.{StandsAt}
 use Rattle.range_loc_rewrite.proofs.NamedRanges.{group_list, IsNamed}
 use Rattle.range_loc_rewrite.proofs.BasesStay.{base_stays}
 use Rattle.range_loc_rewrite.proofs.ChangedAttrs.{changed, for_high, new_high, from_high, from_ranges, range_base}
 use Rattle.range_loc_rewrite.proofs.KeptLookups.{IsFound, kept_entry, same_index, sound_at, no_bounds, all_of, place_of}
 use Rattle.range_loc_rewrite.proofs.KeptPairs.{AllPaired}
-use Rattle.range_loc_rewrite.proofs.ListsThere.{list_inside, offset_there}
-use Rattle.range_loc_rewrite.proofs.OwnRanges.{listed_ranges, of_offset, own_bounds}
-use Rattle.range_loc_rewrite.proofs.PutEntries.{flat_has}
-use Rattle.range_loc_rewrite.proofs.RangesStay.{found_name, found_there, held_by, fine_by, SoundTests, tests_of, new_offset, kept_index, new_base, plain_offset, index_offset}
+use Rattle.list_writer.proofs.ListsThere.{list_inside, offset_there}
+use Rattle.dw_lists.proofs.OwnRanges.{listed_ranges, of_offset, own_bounds}
+use Rattle.list_writer.proofs.PutEntries.{flat_has}
+use Rattle.range_loc_rewrite.proofs.RangesStay.{found_name, found_there, held_by, fine_by, SoundTests, tests_of, new_offset, kept_index, plain_offset, index_offset}
 use Rattle.range_loc_rewrite.proofs.SoundLists.{IsFine, AreFine}
+use Rattle.range_loc_rewrite.proofs.RangeWeights.{holds_some}
 
 pub record Stays (s t : ListSections) (spans : List Span) (u v : Unit) (d e : Entry) : Type 0 where
   pub held : (p o : ℕ) → owner spans p ≡ Some o → hold (ranges_of t v e) p ≡ hold (ranges_of s u d) o

@@ -1,39 +1,40 @@
 -- What is kept of locations answers what is said of them.
-use Rattle.std.proofs.Common.{◌≡◌, ◌∙◌, ◌++◌, ◌∷◌, [], ℕ, zero, suc, Bool, false, List, Option, Some, None, refl, sym, ap, subst, arith}
+use Rattle.std.proofs.Common.{◌≡◌, ◌∙◌, ◌++◌, ℕ, false, List, Option, Some, None, refl, sym, ap, subst}
 use Rattle.std.proofs.Common.{length, map, filter, nat_le, All}
-use Rattle.std.specs.Prelude.{flat_map, filter_map, option_map, slice_get}
+use Rattle.std.specs.Prelude.{flat_map, option_map, slice_get}
 use Rattle.std.specs.List.{range_with_len}
 use Rattle.std.specs.List.Sorted.{IsNonDecreasing, IsPermutation}
 use Rattle.std.specs.Option.{option_map_or}
 use Rattle.std.proofs.lemmas.List.{length-map}
-use Rattle.std.proofs.lemmas.List.Elements.{All-cons, All-head, All-tail}
 use Rattle.std.proofs.lemmas.List.Sorted.{All-permutation, IsPermutation-sym}
 use Rattle.std.proofs.lemmas.Option.{slice_get-map}
 use Rattle.elf_image.specs.declared.elf.Elf.{Elf}
 use Rattle.rb_bytes.specs.FirstFault.{IsFree}
 use Rattle.dw_unit.specs.Faults.{HasDwarfFault}
-use Rattle.range_loc_rewrite.specs.declared.cover_index.CoverIndex.{CoverIndex}
-use Rattle.range_loc_rewrite.specs.declared.cover_tree.Cover.{Cover}
-use Rattle.range_loc_rewrite.specs.declared.groups.Groups.{Groups}
-use Rattle.range_loc_rewrite.specs.declared.groups.RangedEntry.{RangedEntry}
-use Rattle.range_loc_rewrite.specs.declared.kept_list.KeptList.{KeptList}
-use Rattle.range_loc_rewrite.specs.declared.located_attr.LocatedAttr.{LocatedAttr}
-use Rattle.range_loc_rewrite.specs.declared.located_attr.Locations.{Locations}
-use Rattle.range_loc_rewrite.specs.declared.located_attr.Source.{Source}
-use Rattle.range_loc_rewrite.specs.declared.located_attr.Source.TheVariants.{Direct, Listed}
-use Rattle.range_loc_rewrite.specs.Bounds.{bounds_in}
-use Rattle.range_loc_rewrite.specs.CoverIndex.{IsCoverIndex, held_numbers}
-use Rattle.range_loc_rewrite.specs.Faults.{ListSections, location_places}
-use Rattle.range_loc_rewrite.specs.Groups.{group_holds}
-use Rattle.range_loc_rewrite.specs.KeptLists.{list_says, items_in, unless_none, expression_of}
-use Rattle.range_loc_rewrite.specs.KeptPlaces.{ranged_of, said_by_number, list_bounds, ArePlacesKept}
-use Rattle.range_loc_rewrite.specs.ListTables.{place_says}
-use Rattle.range_loc_rewrite.specs.Locations.{attr_says, places_said}
-use Rattle.range_loc_rewrite.specs.PlaceReading.{ArePlacesOf}
-use Rattle.range_loc_rewrite.specs.Tables.{list_sections, place_answers}
-use Rattle.range_loc_rewrite.specs.UnitLocations.{all_located, located_says, source_says}
-use Rattle.range_loc_rewrite.proofs.AlikeAddresses.{alike_groups}
-use Rattle.range_loc_rewrite.proofs.ByNumbers.{listed_by_number}
+use Rattle.cover_lists.specs.declared.cover_index.CoverIndex.{CoverIndex}
+use Rattle.cover_lists.specs.declared.cover_tree.Cover.{Cover}
+use Rattle.cover_lists.specs.declared.groups.Groups.{Groups}
+use Rattle.cover_lists.specs.declared.groups.RangedEntry.{RangedEntry}
+use Rattle.cover_lists.specs.declared.kept_list.KeptList.{KeptList}
+use Rattle.list_units.specs.declared.located_attr.LocatedAttr.{LocatedAttr}
+use Rattle.list_units.specs.declared.located_attr.Locations.{Locations}
+use Rattle.list_units.specs.declared.located_attr.Source.{Source}
+use Rattle.list_units.specs.declared.located_attr.Source.TheVariants.{Direct, Listed}
+use Rattle.cover_lists.specs.Bounds.{bounds_in}
+use Rattle.cover_lists.specs.CoverIndex.{IsCoverIndex, held_numbers}
+use Rattle.dw_lists.specs.declared.named_list.NamedList.{NamedList}
+use Rattle.dw_lists.specs.Faults.{ListSections, location_places}
+use Rattle.cover_lists.specs.Groups.{group_holds}
+use Rattle.cover_lists.specs.KeptLists.{list_bounds}
+use Rattle.range_loc_rewrite.specs.KeptPlaces.{ranged_of, said_by_number, ArePlacesKept}
+use Rattle.dw_lists.specs.ListTables.{place_says}
+use Rattle.dw_lists.specs.Locations.{places_said, attr_says}
+use Rattle.list_units.specs.PlaceReading.{ArePlacesOf}
+use Rattle.dw_lists.specs.Tables.{list_sections, place_answers}
+use Rattle.list_units.specs.UnitLocations.{all_located, located_says, source_says}
+use Rattle.cover_lists.proofs.AlikeAddresses.{alike_groups}
+use Rattle.cover_lists.proofs.AlikeLists.{All-left, All-right, numbered_alike}
+use Rattle.cover_lists.proofs.ByNumbers.{listed_by_number}
 use Rattle.range_loc_rewrite.proofs.FreeRanges.{answers_free}
 
 -- the numbers of those whose ranges hold an address
@@ -52,37 +53,15 @@ numbers_are covers located a = λ i. filter (λ k. tested k i) (range_with_len 0
     tested k = ap (λ (o : Option RangedEntry). option_map_or (λ (r : RangedEntry). group_holds covers r.group a) o false)
         (slice_get-map ranged_of located k) ∙ of_option (slice_get located k)
 
-pub found_places : (s : ListSections) (kept : Locations) (index : CoverIndex) (bounds : List ℕ) (weight a : ℕ) (numbers : List ℕ) →
-    ArePlacesKept s kept index bounds weight → numbers ≡ held_numbers index.tree (map ranged_of kept.located.items) a →
+pub found_places : (s : ListSections) (kept : Locations) (named : List NamedList) (index : CoverIndex) (bounds : List ℕ) (weight a : ℕ) (numbers : List ℕ) →
+    ArePlacesKept s kept named index bounds weight → numbers ≡ held_numbers index.tree (map ranged_of kept.located.items) a →
     flat_map (said_by_number kept a) numbers ≡ places_said s a
-found_places s kept index bounds weight a numbers are e =
+found_places s kept named index bounds weight a numbers are e =
     ap (flat_map (said_by_number kept a)) (e ∙ numbers_are index.tree kept.located.items a)
     ∙ listed_by_number (located_says kept.lists.items a) (λ (l : LocatedAttr). group_holds index.tree l.group a) kept.located.items
     ∙ are.says a
 
 -- no range of an entry or of a list starts or ends between two addresses
-
-All-left : {X : Type 0} (P : X → Type 0) (xs ys : List X) → All P (xs ++ ys) → All P xs
-All-left P [] ys all = λ k d h. absurd (omega arith)
-All-left P (x ∷ xs) ys all = All-cons P x xs (All-head P x (xs ++ ys) all) (All-left P xs ys (All-tail P x (xs ++ ys) all))
-
-All-right : {X : Type 0} (P : X → Type 0) (xs ys : List X) → All P (xs ++ ys) → All P ys
-All-right P [] ys all = all
-All-right P (x ∷ xs) ys all = All-right P xs ys (All-tail P x (xs ++ ys) all)
-
-list_alike : (l : KeptList) (a b : ℕ) → All (λ x. nat_le x a ≡ nat_le x b) (bounds_in l.tree) → list_says l a ≡ list_says l b
-list_alike l a b same =
-    ap (λ (t : ℕ → Bool). unless_none (filter_map (expression_of l.expressions.items)
-    (filter t (range_with_len 0 (length l.expressions.items))))
-    (items_in l.defaults.items)) (λ i k. alike_groups l.tree a b k same i)
-
-pub numbered_alike : (lists : List KeptList) (n a b : ℕ) → All (λ x. nat_le x a ≡ nat_le x b) (list_bounds lists) →
-    option_map_or (λ l. list_says l a) (slice_get lists n) [] ≡ option_map_or (λ l. list_says l b) (slice_get lists n) []
-numbered_alike [] n a b same = refl
-numbered_alike (l ∷ lists) zero a b same = list_alike l a b
-    (All-left (λ x. nat_le x a ≡ nat_le x b) (bounds_in l.tree) (list_bounds lists) same)
-numbered_alike (l ∷ lists) (suc n) a b same =
-    numbered_alike lists n a b (All-right (λ x. nat_le x a ≡ nat_le x b) (bounds_in l.tree) (list_bounds lists) same)
 
 source_alike : (lists : List KeptList) (x : Source) (a b : ℕ) → All (λ x. nat_le x a ≡ nat_le x b) (list_bounds lists) →
     source_says lists a x ≡ source_says lists b x
@@ -96,15 +75,16 @@ all_alike covers lists located a b same listed =
     (λ i. flat_map (λ (l : LocatedAttr). attr_says l.place l.attr (source_alike lists l.source a b listed i))
     (filter (λ (l : LocatedAttr). alike_groups covers a b l.group same i) located))
 
-pub places_kept : (s : ListSections) (groups : Groups) (kept : Locations) (index : CoverIndex) (bounds : List ℕ) (weight : ℕ) →
-    ArePlacesOf s groups kept weight →
+pub places_kept : (s : ListSections) (groups : Groups) (kept : Locations) (named : List NamedList) (index : CoverIndex) (bounds : List ℕ) (weight : ℕ) →
+    ArePlacesOf s groups kept named weight →
     IsCoverIndex groups.covers.items (map ranged_of kept.located.items) index → IsNonDecreasing bounds →
-    IsPermutation (bounds_in groups.covers.items ++ list_bounds kept.lists.items) bounds → ArePlacesKept s kept index bounds weight
-places_kept s groups kept index bounds weight are is rising all = record {
+    IsPermutation (bounds_in groups.covers.items ++ list_bounds kept.lists.items) bounds → ArePlacesKept s kept named index bounds weight
+places_kept s groups kept named index bounds weight are is rising all = record {
   free = are.free;
   index_is = record { held = λ g a. refl; members = is.members };
   says = λ a. same_covers a ∙ are.says a;
   listed = are.listed;
+  names = are.names;
   indexes = are.indexes;
   rising = rising;
   apart = λ a b same.

@@ -6,9 +6,9 @@ use Rattle.elf_image.specs.declared.elf.Elf.{Elf}
 use Rattle.table_core.specs.ReadSteps.{unless_any}
 use Rattle.dw_unit.specs.Faults.{FaultPlaces, HasDwarfFault}
 use Rattle.dw_unit.specs.Tables.{answers_if_free}
-use Rattle.range_loc_rewrite.specs.Faults.{ListSections, range_places}
-use Rattle.range_loc_rewrite.specs.ListTables.{range_says}
-use Rattle.range_loc_rewrite.specs.Tables.{list_sections, range_answers}
+use Rattle.dw_lists.specs.Faults.{ListSections, range_places}
+use Rattle.dw_lists.specs.ListTables.{range_says}
+use Rattle.dw_lists.specs.Tables.{list_sections, range_answers}
 
 none_is : (o : Option ℕ) → ((n : ℕ) → o ≡ Some n → ⊥) → o ≡ None
 none_is None h = refl

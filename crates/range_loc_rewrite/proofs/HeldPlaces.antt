@@ -1,22 +1,22 @@
 -- The places of the entries that hold an address, by their numbers.
 use Rattle.std.proofs.Common.{sym, All, nat_le, ◌≡◌, ◌∙◌, ◌∷◌, [], ℕ, Bool, true, false, List, refl, ap, map, filter}
 use Rattle.std.specs.Prelude.{if◌then◌else◌, filter_map}
-use Rattle.range_loc_rewrite.specs.declared.cover_tree.Cover.{Cover}
-use Rattle.range_loc_rewrite.specs.declared.groups.RangedEntry.{RangedEntry}
-use Rattle.range_loc_rewrite.specs.declared.cover_index.CoverIndex.{CoverIndex}
-use Rattle.range_loc_rewrite.specs.declared.groups.Groups.{Groups}
-use Rattle.range_loc_rewrite.specs.CoverIndex.{IsCoverIndex, held_numbers, place_at}
-use Rattle.range_loc_rewrite.specs.Faults.{ListSections}
-use Rattle.range_loc_rewrite.specs.Gathering.{seen_kept}
-use Rattle.range_loc_rewrite.specs.Groups.{group_holds, held_places}
+use Rattle.cover_lists.specs.declared.cover_tree.Cover.{Cover}
+use Rattle.cover_lists.specs.declared.groups.RangedEntry.{RangedEntry}
+use Rattle.cover_lists.specs.declared.cover_index.CoverIndex.{CoverIndex}
+use Rattle.cover_lists.specs.declared.groups.Groups.{Groups}
+use Rattle.cover_lists.specs.CoverIndex.{IsCoverIndex, held_numbers, place_at}
+use Rattle.dw_lists.specs.Faults.{ListSections}
+use Rattle.list_units.specs.Gathering.{seen_kept}
+use Rattle.cover_lists.specs.Groups.{group_holds, held_places}
 use Rattle.range_loc_rewrite.specs.KeptRanges.{AreKept}
-use Rattle.range_loc_rewrite.specs.RangeReading.{AreRangesOf}
-use Rattle.range_loc_rewrite.specs.Ranges.{covering}
+use Rattle.list_units.specs.RangeReading.{AreRangesOf}
+use Rattle.dw_lists.specs.Ranges.{covering}
 use Rattle.std.specs.List.Sorted.{IsNonDecreasing, IsPermutation}
 use Rattle.std.proofs.lemmas.List.Sorted.{All-permutation, IsPermutation-sym}
-use Rattle.range_loc_rewrite.specs.Bounds.{bounds_in}
-use Rattle.range_loc_rewrite.proofs.AlikeAddresses.{alike_groups, held_alike_at}
-use Rattle.range_loc_rewrite.proofs.ByNumbers.{mapped_by_number}
+use Rattle.cover_lists.specs.Bounds.{bounds_in}
+use Rattle.cover_lists.proofs.AlikeAddresses.{alike_groups, held_alike_at}
+use Rattle.cover_lists.proofs.ByNumbers.{mapped_by_number}
 
 pub places_are : (covers : List Cover) (ranged : List RangedEntry) (a : ℕ) →
     filter_map (place_at ranged) (held_numbers covers ranged a) ≡ held_places covers ranged a

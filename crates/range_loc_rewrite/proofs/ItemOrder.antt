@@ -1,21 +1,22 @@
 -- Attributes that name location lists stand in the order of their entries, and there are none without a section.
-use Rattle.std.proofs.Common.{◌≡◌, ◌∙◌, ◌+◌, ◌*◌, ◌≤◌, ◌==◌, ◌++◌, ◌∷◌, [], ℕ, Bool, true, false, List, Option, Some, None, refl, sym, ap, subst, arith, map}
+use Rattle.std.proofs.Common.{◌≡◌, ◌∙◌, ◌+◌, ◌*◌, ◌≤◌, ◌==◌, ◌++◌, ◌∷◌, [], ℕ, List, Option, Some, None, refl, sym, ap, subst, arith, map}
 use Rattle.std.specs.Prelude.{flat_map, Contains, option_and_then, if◌then◌else◌}
 use Rattle.std.specs.List.{AllZip}
 use Rattle.dw_unit.specs.declared.entry.Attr.{Attr}
 use Rattle.dw_unit.specs.CompUnits.{Entry, Unit, units, attr}
-use Rattle.dw_unit.proofs.NamedOffsets.{Ascends}
-use Rattle.range_loc_rewrite.specs.declared.kept_list.KeptList.{KeptList}
-use Rattle.range_loc_rewrite.specs.declared.list_kind.ListKind.TheVariants.{Locations}
-use Rattle.range_loc_rewrite.specs.declared.named_list.NamedList.{NamedList}
-use Rattle.range_loc_rewrite.specs.Faults.{ListSections}
-use Rattle.range_loc_rewrite.specs.Listing.{ListItem, list_index, list_named, item_of, attr_items, entry_items, unit_items, all_items, IsNameOf}
-use Rattle.range_loc_rewrite.specs.Lists.{Located, locations_kind, only_within, offset_of_index}
-use Rattle.range_loc_rewrite.specs.UnitLists.{own_place}
-use Rattle.range_loc_rewrite.specs.WrittenTables.{key, IsNaming, AreInOrder, OwnsRise}
+use Rattle.table_core.proofs.Ascending.{Ascends}
+use Rattle.cover_lists.specs.declared.kept_list.KeptList.{KeptList}
+use Rattle.dw_lists.specs.declared.list_kind.ListKind.TheVariants.{Locations}
+use Rattle.dw_lists.specs.declared.named_list.NamedList.{NamedList}
+use Rattle.dw_lists.specs.Faults.{ListSections}
+use Rattle.list_units.specs.Listing.{ListItem, list_index, list_named, item_of, attr_items, entry_items, unit_items, all_items, IsNameOf}
+use Rattle.dw_lists.specs.Lists.{locations_kind, only_within, offset_of_index}
+use Rattle.cover_lists.specs.Located.{Located}
+use Rattle.dw_lists.specs.UnitLists.{own_place}
+use Rattle.list_writer.specs.WrittenTables.{key, IsNaming, AreInOrder, OwnsRise}
 use Rattle.range_loc_rewrite.proofs.KeptLookups.{place_of, all_of, entries_end, ascends_behind, end_least, own_below, own_least}
 use Rattle.range_loc_rewrite.proofs.KeptOrder.{nowhere}
-use Rattle.range_loc_rewrite.proofs.ListingFacts.{lacks_offset}
+use Rattle.list_units.proofs.ListingFacts.{lacks_offset}
 
 -- by their keys
 

@@ -1,19 +1,17 @@
 -- The entries that were kept, by those of the sections: their places ascend.
-use Rattle.std.proofs.Common.{◌≡◌, ◌∙◌, ◌+◌, ◌≤◌, ◌++◌, ◌∷◌, [], ℕ, Bool, true, false, List, Option, Some, None, refl, sym, ap, subst, arith, map, filter}
-use Rattle.std.specs.Prelude.{if◌then◌else◌, flat_map, Contains}
-use Rattle.std.proofs.Common.{⊎_elim}
+use Rattle.std.proofs.Common.{◌≡◌, ◌∙◌, ◌+◌, ◌≤◌, ◌++◌, ◌∷◌, [], ℕ, List, Option, Some, None, refl, sym, ap, subst, arith, map}
+use Rattle.std.specs.Prelude.{flat_map}
 use Rattle.std.proofs.lemmas.List.{map-append}
-use Rattle.rb_bytes.proofs.Members.{Contains-nil, Contains-cons_cases}
 use Rattle.table_core.specs.declared.range.Range.{Range}
 use Rattle.dw_unit.specs.CompUnits.{Entry, Unit, units, entries}
-use Rattle.dw_unit.proofs.NamedOffsets.{Ascends}
-use Rattle.range_loc_rewrite.specs.declared.cover_tree.Cover.{Cover}
-use Rattle.range_loc_rewrite.specs.declared.groups.RangedEntry.{RangedEntry}
-use Rattle.range_loc_rewrite.specs.Faults.{ListSections}
-use Rattle.range_loc_rewrite.specs.Gathering.{SeenEntry, seen_of, seen_in, seen_kept, ranges_index}
-use Rattle.range_loc_rewrite.specs.RangeReading.{all_seen}
-use Rattle.range_loc_rewrite.specs.Ranges.{ranges_of}
-use Rattle.range_loc_rewrite.specs.UnitLists.{own_place}
+use Rattle.table_core.proofs.Ascending.{Ascends}
+use Rattle.cover_lists.specs.declared.cover_tree.Cover.{Cover}
+use Rattle.cover_lists.specs.declared.groups.RangedEntry.{RangedEntry}
+use Rattle.dw_lists.specs.Faults.{ListSections}
+use Rattle.list_units.specs.Gathering.{SeenEntry, seen_of, seen_in, seen_kept, ranges_index}
+use Rattle.list_units.specs.RangeReading.{all_seen}
+use Rattle.dw_lists.specs.Ranges.{ranges_of}
+use Rattle.dw_lists.specs.UnitLists.{own_place}
 
 abbrev place_of : Entry → ℕ
 place_of e = e.place
@@ -62,48 +60,3 @@ pub kept_ascend : (s : ListSections) (covers : List Cover) (kept : List RangedEn
     Ascends 0 (map (λ (e : Entry). e.place) (entries s.units)) → Ascends 0 (map kept_place kept)
 kept_ascend s covers kept seen up =
     subst (Ascends 0) (sym (ap (map seen_place) (seen 0)) ∙ kept_places covers kept 0) (units_ascend s 0 (units s.units) 0 up)
-
--- Of entries whose places ascend, those that pass two tests at the same places pass both alike.
-
-filter_ascends : (test : RangedEntry → Bool) (lo : ℕ) (xs : List RangedEntry) → Ascends lo (map kept_place xs) → Ascends lo (map kept_place (filter test xs))
-filter_ascends test lo [] up = tt
-filter_ascends test lo (x ∷ xs) up = step (test x) (filter_ascends test (x.place + 1) xs up.1)
-  where
-    step : (b : Bool) → Ascends (x.place + 1) (map kept_place (filter test xs)) → Ascends lo (map kept_place (if b then x ∷ filter test xs else filter test xs))
-    step true more = (up.0, more)
-    step false more = ascends_less lo (x.place + 1) (map kept_place (filter test xs)) (let h = up.0 in omega arith) more
-
-same_tail : (n m : ℕ) (ns ms : List ℕ) → n ∷ ns ≡ m ∷ ms → ns ≡ ms
-same_tail n m ns ms e = cc
-
-module _ (p q : RangedEntry → Bool) where
-  clash : (test : RangedEntry → Bool) (x : RangedEntry) (xs : List RangedEntry) (ns : List ℕ) → Ascends (x.place + 1) (map kept_place xs) →
-      x.place ∷ ns ≡ map kept_place (filter test xs) → ⊥
-  clash test x xs ns up e = let h = subst (Ascends (x.place + 1)) (sym e) (filter_ascends test (x.place + 1) xs up) in absurd (past x.place h.0)
-    where
-      past : (n : ℕ) → n + 1 ≤ n → ⊥
-      past n h = omega arith
-
-  pub same_tests : (lo : ℕ) (xs : List RangedEntry) → Ascends lo (map kept_place xs) → map kept_place (filter p xs) ≡ map kept_place (filter q xs) →
-      (r : RangedEntry) → Contains xs r → p r ≡ q r
-  same_tests lo [] up e r c = absurd (Contains-nil r c)
-  same_tests lo (x ∷ xs) up e r c = step (p x) (q x) refl refl e (λ more there. same_tests (x.place + 1) xs up.1 more r there)
-    where
-      here : p x ≡ q x → map kept_place (filter p xs) ≡ map kept_place (filter q xs) → (map kept_place (filter p xs) ≡ map kept_place (filter q xs) → Contains xs r → p r ≡ q r) → p r ≡ q r
-      here same more ih = ⊎_elim (λ (is : x ≡ r). subst (λ (y : RangedEntry). p y ≡ q y) is same) (λ (there : Contains xs r). ih more there)
-          (Contains-cons_cases x xs r c)
-
-      step : (b d : Bool) → p x ≡ b → q x ≡ d → map kept_place (if b then x ∷ filter p xs else filter p xs) ≡ map kept_place (if d then x ∷ filter q xs else filter q xs) →
-          (map kept_place (filter p xs) ≡ map kept_place (filter q xs) → Contains xs r → p r ≡ q r) → p r ≡ q r
-      step true true f g e ih = here (f ∙ sym g) (same_tail x.place x.place _ _ e) ih
-      step false false f g e ih = here (f ∙ sym g) e ih
-      step true false f g e ih = absurd (clash q x xs (map kept_place (filter p xs)) up.1 e)
-      step false true f g e ih = absurd (clash p x xs (map kept_place (filter q xs)) up.1 (sym e))
-
-pub none_pass : (p : RangedEntry → Bool) (xs : List RangedEntry) → map kept_place (filter p xs) ≡ [] → (r : RangedEntry) → Contains xs r → p r ≡ false
-none_pass p [] e r c = absurd (Contains-nil r c)
-none_pass p (x ∷ xs) e r c = step (p x) refl e (λ e there. none_pass p xs e r there)
-  where
-    step : (b : Bool) → p x ≡ b → map kept_place (if b then x ∷ filter p xs else filter p xs) ≡ [] → (map kept_place (filter p xs) ≡ [] → Contains xs r → p r ≡ false) → p r ≡ false
-    step true f e ih = absurd (cc)
-    step false f e ih = ⊎_elim (λ (is : x ≡ r). subst (λ (y : RangedEntry). p y ≡ false) is f) (λ (there : Contains xs r). ih e there) (Contains-cons_cases x xs r c)

@@ -5,20 +5,21 @@ use Rattle.rb_bytes.proofs.Members.{Contains-nil, Contains-cons_cases, Contains-
 use Rattle.table_core.specs.declared.range.Range.{Range}
 use Rattle.dw_unit.specs.declared.entry.Attr.{Attr}
 use Rattle.dw_unit.specs.CompUnits.{Entry, Unit, attr, low_pc}
-use Rattle.dw_unit.proofs.NamedOffsets.{Ascends}
+use Rattle.table_core.proofs.Ascending.{Ascends}
 use Rattle.dw_unit.proofs.SoundEntries.{IsSoundEntry, AreSoundEntries, AreSoundUnits}
-use Rattle.range_loc_rewrite.specs.declared.cover_tree.Cover.{Cover}
-use Rattle.range_loc_rewrite.specs.declared.groups.RangedEntry.{RangedEntry}
-use Rattle.range_loc_rewrite.specs.Faults.{ListSections}
-use Rattle.range_loc_rewrite.specs.Gathering.{ranges_index}
-use Rattle.range_loc_rewrite.specs.Groups.{group_holds, ranges_in}
-use Rattle.range_loc_rewrite.specs.KnownLists.{range_list}
-use Rattle.range_loc_rewrite.specs.Lists.{ranges_kind, only_within, offset_of_index}
-use Rattle.range_loc_rewrite.specs.Ranges.{ranges_of, hold, up_to}
-use Rattle.range_loc_rewrite.specs.UnitLists.{own_place}
+use Rattle.cover_lists.specs.declared.cover_tree.Cover.{Cover}
+use Rattle.cover_lists.specs.declared.groups.RangedEntry.{RangedEntry}
+use Rattle.dw_lists.specs.Faults.{ListSections}
+use Rattle.list_units.specs.Gathering.{ranges_index}
+use Rattle.cover_lists.specs.Groups.{group_holds}
+use Rattle.cover_lists.specs.Located.{ranges_in, hold}
+use Rattle.dw_lists.specs.KnownLists.{range_list}
+use Rattle.dw_lists.specs.Lists.{ranges_kind, only_within, offset_of_index}
+use Rattle.dw_lists.specs.Ranges.{ranges_of, up_to}
+use Rattle.dw_lists.specs.UnitLists.{own_place}
 use Rattle.range_loc_rewrite.proofs.KeptPairs.{IsKeptAs, Paired, AllPaired}
-use Rattle.range_loc_rewrite.proofs.OwnRanges.{listed_ranges, own_list}
-use Rattle.range_loc_rewrite.proofs.PutEntries.{contains_split, contains_still, contains_behind}
+use Rattle.dw_lists.proofs.OwnRanges.{listed_ranges, own_list}
+use Rattle.list_writer.proofs.PutEntries.{contains_split, contains_still, contains_behind}
 
 abbrev pub place_of : Entry → ℕ
 place_of e = e.place

@@ -7,24 +7,24 @@ use Rattle.std.proofs.lemmas.List.Elements.{All-head, All-tail}
 use Rattle.rb_bytes.proofs.Members.{Contains-there}
 use Rattle.dw_unit.specs.declared.entry.Attr.{Attr}
 use Rattle.dw_unit.specs.CompUnits.{Entry, Unit, attr, units}
-use Rattle.dw_unit.proofs.NamedOffsets.{Ascends}
-use Rattle.range_loc_rewrite.specs.declared.cover_tree.Cover.{Cover}
-use Rattle.range_loc_rewrite.specs.declared.groups.RangedEntry.{RangedEntry}
-use Rattle.range_loc_rewrite.specs.declared.named_list.NamedList.{NamedList}
-use Rattle.range_loc_rewrite.specs.Faults.{ListSections}
-use Rattle.range_loc_rewrite.specs.Gathering.{seen_of, seen_in, seen_kept, ranges_index}
-use Rattle.range_loc_rewrite.specs.Groups.{ranges_in}
-use Rattle.range_loc_rewrite.specs.KnownLists.{range_list}
-use Rattle.range_loc_rewrite.specs.Lists.{ranges_kind, only_within, offset_of_index}
-use Rattle.range_loc_rewrite.specs.ListTables.{AreWithoutHighAddresses}
-use Rattle.range_loc_rewrite.specs.RangeReading.{all_seen}
-use Rattle.range_loc_rewrite.specs.Ranges.{ranges_of}
-use Rattle.range_loc_rewrite.specs.UnitLists.{own_place}
-use Rattle.range_loc_rewrite.specs.WrittenRanges.{named_of}
-use Rattle.range_loc_rewrite.specs.WrittenTables.{OwnsRise}
+use Rattle.table_core.proofs.Ascending.{Ascends}
+use Rattle.cover_lists.specs.declared.cover_tree.Cover.{Cover}
+use Rattle.cover_lists.specs.declared.groups.RangedEntry.{RangedEntry}
+use Rattle.dw_lists.specs.declared.named_list.NamedList.{NamedList}
+use Rattle.dw_lists.specs.Faults.{ListSections}
+use Rattle.list_units.specs.Gathering.{seen_of, seen_in, seen_kept, ranges_index}
+use Rattle.cover_lists.specs.Located.{ranges_in}
+use Rattle.dw_lists.specs.KnownLists.{range_list}
+use Rattle.dw_lists.specs.Lists.{ranges_kind, only_within, offset_of_index}
+use Rattle.dw_lists.specs.ListTables.{AreWithoutHighAddresses}
+use Rattle.list_units.specs.RangeReading.{all_seen}
+use Rattle.dw_lists.specs.Ranges.{ranges_of}
+use Rattle.dw_lists.specs.UnitLists.{own_place}
+use Rattle.list_writer.specs.WrittenRanges.{named_of}
+use Rattle.list_writer.specs.WrittenTables.{OwnsRise}
 use Rattle.range_loc_rewrite.proofs.KeptLookups.{place_of, all_of, entries_end, ascends_behind, end_least, own_below, own_least, entry_of, no_bounds}
 use Rattle.range_loc_rewrite.proofs.KeptPairs.{AllPaired, no_more}
-use Rattle.range_loc_rewrite.proofs.OwnRanges.{listed_ranges}
+use Rattle.dw_lists.proofs.OwnRanges.{listed_ranges}
 
 owns_less : (less lo : ℕ) (rs : List NamedList) → less ≤ lo → OwnsRise lo rs → OwnsRise less rs
 owns_less less lo [] h rise = tt

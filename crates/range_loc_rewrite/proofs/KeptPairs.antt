@@ -5,13 +5,14 @@ use Rattle.std.specs.List.{list_any}
 use Rattle.table_core.specs.declared.range.Range.{Range}
 use Rattle.table_core.specs.AddressRanges.{holds_address}
 use Rattle.dw_unit.specs.CompUnits.{Entry, Unit}
-use Rattle.range_loc_rewrite.specs.declared.cover_tree.Cover.{Cover}
-use Rattle.range_loc_rewrite.specs.declared.groups.RangedEntry.{RangedEntry}
-use Rattle.range_loc_rewrite.specs.Faults.{ListSections}
-use Rattle.range_loc_rewrite.specs.Gathering.{SeenEntry, seen_of, seen_in, seen_kept, ranges_index}
-use Rattle.range_loc_rewrite.specs.Groups.{group_holds}
-use Rattle.range_loc_rewrite.specs.Ranges.{ranges_of, hold}
-use Rattle.range_loc_rewrite.specs.UnitLists.{own_place}
+use Rattle.cover_lists.specs.declared.cover_tree.Cover.{Cover}
+use Rattle.cover_lists.specs.declared.groups.RangedEntry.{RangedEntry}
+use Rattle.dw_lists.specs.Faults.{ListSections}
+use Rattle.list_units.specs.Gathering.{SeenEntry, seen_of, seen_in, seen_kept, ranges_index}
+use Rattle.cover_lists.specs.Groups.{group_holds}
+use Rattle.dw_lists.specs.Ranges.{ranges_of}
+use Rattle.cover_lists.specs.Located.{hold}
+use Rattle.dw_lists.specs.UnitLists.{own_place}
 
 -- an entry is kept as another
 pub record IsKeptAs (s : ListSections) (covers : List Cover) (u : Unit) (e : Entry) (r : RangedEntry) : Type 0 where

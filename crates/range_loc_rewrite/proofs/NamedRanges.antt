@@ -7,20 +7,20 @@ use Rattle.byteorder.specs.Endian.{little_bytes}
 use Rattle.rb_bytes.proofs.Members.{Contains-nil, Contains-cons_cases, Contains-there}
 use Rattle.table_core.specs.declared.run.Run.{Run}
 use Rattle.table_core.specs.declared.written.ListAt.{ListAt}
-use Rattle.table_core.proofs.UnitsBack.{IsUnit, units_bytes}
+use Rattle.table_core.specs.WrittenUnits.{IsUnit, units_bytes}
 use Rattle.dw_unit.specs.EntryMoves.{new_list_offset}
-use Rattle.dw_unit.proofs.NamedOffsets.{Ascends}
-use Rattle.range_loc_rewrite.specs.declared.groups.RangedEntry.{RangedEntry}
-use Rattle.range_loc_rewrite.specs.declared.list_kind.ListKind.TheVariants.{Ranges}
-use Rattle.range_loc_rewrite.specs.declared.named_list.NamedList.{NamedList}
-use Rattle.range_loc_rewrite.specs.Faults.{is_list_table}
-use Rattle.range_loc_rewrite.specs.GroupRuns.{runs_in, list_of}
-use Rattle.range_loc_rewrite.specs.ListBytes.{list_bytes}
-use Rattle.range_loc_rewrite.specs.WrittenRanges.{bounded, group_bytes, named_of}
-use Rattle.range_loc_rewrite.specs.WrittenTables.{bytes_in, key, AreInOrder, StandsAt, AreWritten}
-use Rattle.range_loc_rewrite.specs.WrittenTables as tables
+use Rattle.table_core.proofs.Ascending.{Ascends}
+use Rattle.cover_lists.specs.declared.groups.RangedEntry.{RangedEntry}
+use Rattle.dw_lists.specs.declared.list_kind.ListKind.TheVariants.{Ranges}
+use Rattle.dw_lists.specs.declared.named_list.NamedList.{NamedList}
+use Rattle.dw_lists.specs.Faults.{is_list_table}
+use Rattle.cover_lists.specs.GroupRuns.{runs_in}
+use Rattle.list_writer.specs.ListBytes.{list_bytes}
+use Rattle.list_writer.specs.WrittenRanges.{bounded, group_bytes, named_of}
+use Rattle.list_writer.specs.WrittenTables.{bytes_in, key, AreInOrder, StandsAt, AreWritten}
+use Rattle.list_writer.specs.WrittenTables as tables
 use Rattle.range_loc_rewrite.proofs.KeptEntries.{kept_place}
-use Rattle.range_loc_rewrite.proofs.WrittenLists.{bytes_at}
+use Rattle.list_writer.proofs.WrittenLists.{bytes_at}
 
 -- the list of the group of a number
 abbrev pub group_list : List (Vec (Run Bool)) → ℕ → List ℕ

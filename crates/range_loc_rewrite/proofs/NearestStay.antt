@@ -5,8 +5,9 @@ use Rattle.std.specs.List.{AllZip, cons_option}
 use Rattle.table_core.specs.declared.range.Range.{Range}
 use Rattle.table_core.specs.ReadSteps.{first_of}
 use Rattle.dw_unit.specs.CompUnits.{Entry, enclosing}
-use Rattle.dw_unit.proofs.NamedOffsets.{Ascends}
-use Rattle.range_loc_rewrite.specs.Ranges.{Ranged, ranged_from, hold}
+use Rattle.table_core.proofs.Ascending.{Ascends}
+use Rattle.dw_lists.specs.Ranges.{Ranged, ranged_from}
+use Rattle.cover_lists.specs.Located.{hold}
 
 abbrev pub place_in : Ranged → ℕ
 place_in r = r.entry.place

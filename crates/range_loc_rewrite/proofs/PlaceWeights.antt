@@ -12,19 +12,20 @@ use Rattle.table_core.specs.Weights.{IsWeightOf}
 use Rattle.dw_unit.specs.CompUnits.{Unit, units}
 use Rattle.dw_unit.specs.Faults.{HasDwarfFault, is_bad, bad_address_table}
 use Rattle.dw_unit.proofs.NoFaults.{absent, none_least, both_nil}
-use Rattle.range_loc_rewrite.specs.declared.cover_index.CoverIndex.{CoverIndex}
-use Rattle.range_loc_rewrite.specs.declared.located_attr.Locations.{Locations}
-use Rattle.range_loc_rewrite.specs.Faults.{ListSections, location_places, has_bad_offsets, list_offsets, table_place, bad_list_tables, bad_table}
-use Rattle.range_loc_rewrite.specs.KeptLists.{location_list}
+use Rattle.cover_lists.specs.declared.cover_index.CoverIndex.{CoverIndex}
+use Rattle.list_units.specs.declared.located_attr.Locations.{Locations}
+use Rattle.dw_lists.specs.declared.named_list.NamedList.{NamedList}
+use Rattle.dw_lists.specs.Faults.{ListSections, location_places, has_bad_offsets, list_offsets, table_place, bad_list_tables, bad_table}
+use Rattle.dw_lists.specs.KnownLists.{location_list}
 use Rattle.range_loc_rewrite.specs.KeptPlaces.{ArePlacesKept}
-use Rattle.range_loc_rewrite.specs.Lists.{Located, ranges_kind, locations_kind}
-use Rattle.range_loc_rewrite.specs.ListWeights.{IsSaidWeight, IsListsWeight}
-use Rattle.range_loc_rewrite.specs.Locations.{in_force}
-use Rattle.range_loc_rewrite.specs.ReadLists.{firsts, said_at, can_read, unit_lists}
-use Rattle.range_loc_rewrite.specs.Weights.{IsSumOf, IsListWeight, IsUnitWeight, IsPlacesWeight, expressions_at, expressions_weight, index_weights}
-use Rattle.range_loc_rewrite.specs.Weights.IsSumOf.{none, more}
-use Rattle.range_loc_rewrite.proofs.FirstOffsets.{all_pass}
-use Rattle.range_loc_rewrite.proofs.PlaceFaults.{of_tables}
+use Rattle.dw_lists.specs.Lists.{ranges_kind, locations_kind}
+use Rattle.cover_lists.specs.Located.{Located, in_force}
+use Rattle.cover_lists.specs.ListWeights.{IsSaidWeight, IsListsWeight, IsSumOf, expressions_weight}
+use Rattle.list_units.specs.ReadLists.{firsts, said_at, can_read, unit_lists}
+use Rattle.dw_lists.specs.Weights.{IsListWeight, IsUnitWeight, IsPlacesWeight, expressions_at, index_weights}
+use Rattle.cover_lists.specs.ListWeights.IsSumOf.{none, more}
+use Rattle.list_units.proofs.FirstOffsets.{all_pass}
+use Rattle.list_units.proofs.PlaceFaults.{of_tables}
 use Rattle.range_loc_rewrite.proofs.WeightSums.{of_two, sum_map, by_firsts}
 
 -- sections without a fault have lists that can be read
@@ -75,9 +76,10 @@ module _ (s : ListSections) (spans : List Span) where
       subst (IsSumOf (IsUnitWeight s spans) (u ∷ us)) (sym two.sum)
       (more u us two.first two.second (unit_weight u two.first both.0 two.of_first) (units_weight us two.second both.1 two.of_second))
 
-  pub places_weight : (kept : Locations) (index : CoverIndex) (bounds : List ℕ) (weight n : ℕ) → ArePlacesKept s kept index bounds weight →
+  pub places_weight : (kept : Locations) (named : List NamedList) (index : CoverIndex) (bounds : List ℕ) (weight n : ℕ) →
+      ArePlacesKept s kept named index bounds weight →
       IsListsWeight kept.lists.items spans n → IsPlacesWeight s spans (index_weights locations_kind.index_form s + n)
-  places_weight kept index bounds weight n are w = record {
+  places_weight kept named index bounds weight n are w = record {
     runs = n;
     of_runs = units_weight (units s.units) n (none_bad s are.free)
         (subst (λ (l : List (ℕ → List (List ℕ))). IsSumOf (IsSaidWeight spans) l n) are.listed w);

@@ -14,7 +14,7 @@ use Rattle.table_core.specs.declared.range.Range.{Range}
 use Rattle.table_core.specs.declared.run.Run.{Run}
 use Rattle.table_core.specs.declared.written.ListAt.{ListAt}
 use Rattle.table_core.specs.DebugUnits.{other_version}
-use Rattle.table_core.proofs.UnitsBack.{units_bytes}
+use Rattle.table_core.specs.WrittenUnits.{units_bytes}
 use Rattle.dw_unit.specs.declared.entry.Attr.{Attr}
 use Rattle.dw_unit.specs.CompUnits.{Entry, Unit, units, attr, may_repeat}
 use Rattle.dw_unit.specs.Changes.{is_first_of, is_own}
@@ -22,31 +22,31 @@ use Rattle.dw_unit.specs.ChangedEntries.{IsChangedEntry, IsChangedUnit, AreChang
 use Rattle.dw_unit.specs.EntryMoves.{Moves, new_list_offset}
 use Rattle.dw_unit.specs.Faults.{HasDwarfFault}
 use Rattle.dw_unit.proofs.EntryPlaces.{places_ascend}
-use Rattle.dw_unit.proofs.NamedOffsets.{Ascends}
+use Rattle.table_core.proofs.Ascending.{Ascends}
 use Rattle.dw_unit.proofs.SoundEntries.{IsSoundEntry, AreSoundUnits, all_sound}
-use Rattle.range_loc_rewrite.specs.declared.kept_list.KeptList.{KeptList}
-use Rattle.range_loc_rewrite.specs.declared.list_kind.ListKind.TheVariants.{Locations}
-use Rattle.range_loc_rewrite.specs.declared.named_list.NamedList.{NamedList}
-use Rattle.range_loc_rewrite.specs.Faults.{ListSections, range_places, location_places}
-use Rattle.range_loc_rewrite.specs.Listing.{all_items, IsNameOf}
-use Rattle.range_loc_rewrite.specs.Lists.{ranges_kind, locations_kind, has_list}
-use Rattle.range_loc_rewrite.specs.Locations.{attr_says, entry_says, places_said}
-use Rattle.range_loc_rewrite.specs.Ranges.{Ranged, ranged_from, ranged_in, ranged, ranges_of, covering}
-use Rattle.range_loc_rewrite.specs.WrittenTables.{AreWritten}
+use Rattle.cover_lists.specs.declared.kept_list.KeptList.{KeptList}
+use Rattle.dw_lists.specs.declared.list_kind.ListKind.TheVariants.{Locations}
+use Rattle.dw_lists.specs.declared.named_list.NamedList.{NamedList}
+use Rattle.dw_lists.specs.Faults.{ListSections, range_places, location_places}
+use Rattle.list_units.specs.Listing.{all_items, IsNameOf}
+use Rattle.dw_lists.specs.Lists.{ranges_kind, locations_kind, has_list}
+use Rattle.dw_lists.specs.Locations.{entry_says, places_said, attr_says}
+use Rattle.dw_lists.specs.Ranges.{Ranged, ranged_from, ranged_in, ranged, ranges_of, covering}
+use Rattle.list_writer.specs.WrittenTables.{AreWritten}
 use Rattle.range_loc_rewrite.proofs.ChangedAttrs.{changed, for_high, new_high, from_high, from_ranges}
 use Rattle.range_loc_rewrite.proofs.EntriesStay.{high_some, list_some}
 use Rattle.range_loc_rewrite.proofs.KeptLookups.{sound_at, no_bounds, all_of, place_of}
 use Rattle.range_loc_rewrite.proofs.NearestStay.{place_in, HoldAlike, hold_alike, AlikeRanges, IsRangedAlike, ranged_alike, Split, zip_split}
-use Rattle.range_loc_rewrite.proofs.OwnRanges.{listed_ranges}
+use Rattle.dw_lists.proofs.OwnRanges.{listed_ranges}
 use Rattle.range_loc_rewrite.proofs.PlacesStay.{AreSpelled, Same, same}
 use Rattle.range_loc_rewrite.proofs.RangesLaw.{given_by}
-use Rattle.range_loc_rewrite.proofs.PutEntries.{flat_has}
+use Rattle.list_writer.proofs.PutEntries.{flat_has}
 use Rattle.range_loc_rewrite.proofs.RangesStay.{found_name, found_there, SoundTests, tests_of}
 use Rattle.range_loc_rewrite.proofs.SoundLists.{IsThere, AreThere, AreFine, lists_fine}
 use Rattle.range_loc_rewrite.proofs.SoundPlaces.{ArePlacesFine, places_fine, fine_places, bad_of}
 use Rattle.range_loc_rewrite.proofs.TableFaults.{no_other, no_bad}
 use Rattle.range_loc_rewrite.proofs.UnitsFree.{units_free}
-use Rattle.range_loc_rewrite.proofs.Zips.{zip_with, zip_right}
+use Rattle.list_units.proofs.Zips.{zip_with, zip_right}
 
 -- Entries have ranges where they had some.
 

@@ -1,5 +1,5 @@
 -- The locations of an entry of a written file are those of the entry that it was made of, and each list that it names is there.
-use Rattle.std.proofs.Common.{◌≡◌, ◌∙◌, ◌+◌, ◌-◌, ◌*◌, ◌^◌, ◌<◌, ◌==◌, ◌&&◌, ◌||◌, ◌⊎◌, ◌++◌, ◌∷◌, [], ℕ, Bool, true, false, List, Option, Some, None}
+use Rattle.std.proofs.Common.{◌≡◌, ◌∙◌, ◌+◌, ◌-◌, ◌*◌, ◌<◌, ◌==◌, ◌&&◌, ◌||◌, ◌⊎◌, ◌∷◌, [], ℕ, Bool, true, false, List, Option, Some, None}
 use Rattle.std.proofs.Common.{refl, sym, ap, subst, arith, length, map, All, ⊎_elim}
 use Rattle.std.specs.Prelude.{flat_map, Contains, option_and_then, option_map, if◌then◌else◌, is_some, unwrap_or}
 use Rattle.std.specs.Global.{Vec}
@@ -14,38 +14,39 @@ use Rattle.table_core.specs.declared.written.ListAt.{ListAt}
 use Rattle.table_core.specs.AnswerRuns.{run_at, carried, IsWithin}
 use Rattle.table_core.specs.AttributeForms.{is_block, shape_of}
 use Rattle.table_core.specs.ReadSteps.{unless_empty, and_so}
-use Rattle.table_core.proofs.UnitsBack.{IsUnit, units_bytes}
+use Rattle.table_core.specs.WrittenUnits.{IsUnit, units_bytes}
 use Rattle.dw_unit.specs.declared.entry.Attr.{Attr}
 use Rattle.dw_unit.specs.CompUnits.{Entry, Unit, units, attr, base, number_in, value_bytes}
 use Rattle.dw_unit.specs.Changes.{is_own, is_first_of, new_value, new_address, new_list}
 use Rattle.dw_unit.specs.ChangedEntries.{IsChangedEntry}
 use Rattle.dw_unit.specs.EntryMoves.{Moves, new_list_offset}
 use Rattle.dw_unit.specs.Trouble.{sound_if}
-use Rattle.dw_unit.proofs.NamedOffsets.{Ascends}
+use Rattle.table_core.proofs.Ascending.{Ascends}
 use Rattle.dw_unit.proofs.SoundEntries.{IsSoundEntry, AreSoundUnits}
-use Rattle.range_loc_rewrite.specs.declared.kept_list.KeptList.{KeptList}
-use Rattle.range_loc_rewrite.specs.declared.list_kind.ListKind.TheVariants.{Locations}
-use Rattle.range_loc_rewrite.specs.declared.named_list.NamedList.{NamedList}
-use Rattle.range_loc_rewrite.specs.Faults.{ListSections}
-use Rattle.range_loc_rewrite.specs.KeptLists.{number_says}
-use Rattle.range_loc_rewrite.specs.ListBytes.{IsWritable, list_bytes, located_at}
-use Rattle.range_loc_rewrite.specs.Listing.{ListItem, list_index, list_named, item_of, attr_items, entry_items, unit_items, all_items, IsNameOf}
-use Rattle.range_loc_rewrite.specs.ListRuns.{list_answer}
-use Rattle.range_loc_rewrite.specs.Lists.{Located, locations_kind, has_list, list_offset, list_at, list_of, only_within, offset_of_index}
-use Rattle.range_loc_rewrite.specs.Locations.{content_at, content_read, block_of, expressions_of, in_force}
-use Rattle.range_loc_rewrite.specs.UnitLists.{own_place}
-use Rattle.range_loc_rewrite.specs.WrittenLocations.{bounded}
-use Rattle.range_loc_rewrite.specs.WrittenTables.{bytes_in, StandsAt, IsNamed}
+use Rattle.cover_lists.specs.declared.kept_list.KeptList.{KeptList}
+use Rattle.dw_lists.specs.declared.list_kind.ListKind.TheVariants.{Locations}
+use Rattle.dw_lists.specs.declared.named_list.NamedList.{NamedList}
+use Rattle.dw_lists.specs.Faults.{ListSections}
+use Rattle.cover_lists.specs.KeptLists.{number_says}
+use Rattle.list_writer.specs.ListBytes.{IsWritable, list_bytes, located_at}
+use Rattle.list_units.specs.Listing.{ListItem, list_index, list_named, item_of, attr_items, entry_items, unit_items, all_items, IsNameOf}
+use Rattle.cover_lists.specs.ListRuns.{list_answer}
+use Rattle.dw_lists.specs.Lists.{locations_kind, has_list, list_offset, list_at, list_of, only_within, offset_of_index}
+use Rattle.cover_lists.specs.Located.{Located, in_force}
+use Rattle.dw_lists.specs.Locations.{content_at, content_read, block_of, expressions_of}
+use Rattle.dw_lists.specs.UnitLists.{own_place}
+use Rattle.list_writer.specs.WrittenLocations.{bounded}
+use Rattle.list_writer.specs.WrittenTables.{bytes_in, StandsAt, IsNamed}
 use Rattle.range_loc_rewrite.proofs.BasesStay.{base_stays}
 use Rattle.range_loc_rewrite.proofs.ChangedAttrs.{IsOther, changed, from_other, location, frame_base, location_base}
-use Rattle.range_loc_rewrite.proofs.ForcedRuns.{forced_runs}
+use Rattle.list_writer.proofs.ForcedRuns.{forced_runs}
 use Rattle.range_loc_rewrite.proofs.KeptLookups.{sound_at, all_of, place_of, own_unique}
-use Rattle.range_loc_rewrite.proofs.ListsThere.{list_there, list_inside, offset_there}
-use Rattle.range_loc_rewrite.proofs.LocationFacts.{listed_expressions}
-use Rattle.range_loc_rewrite.proofs.PutEntries.{by_either, contains_split, contains_still, contains_behind, flat_has, flat_from}
+use Rattle.list_writer.proofs.ListsThere.{list_there, list_inside, offset_there}
+use Rattle.list_units.proofs.LocationFacts.{listed_expressions}
+use Rattle.list_writer.proofs.PutEntries.{by_either, contains_split, contains_still, contains_behind, flat_has, flat_from}
 use Rattle.range_loc_rewrite.proofs.RangesStay.{found_name, found_there, SoundTests, tests_of, plain_offset, index_offset}
 use Rattle.range_loc_rewrite.proofs.SoundLists.{IsThere, AreThere}
-use Rattle.range_loc_rewrite.proofs.Zips.{zip_left, zip_right}
+use Rattle.list_units.proofs.Zips.{zip_left, zip_right}
 
 -- What an item is of
 

@@ -1,40 +1,36 @@
 -- The weight of ranges, by the runs of the groups of entries.
-use Rattle.std.proofs.Common.{◌≡◌, ◌∙◌, ◌+◌, ◌*◌, ◌-◌, ◌^◌, ◌<◌, ◌++◌, ◌∷◌, [], ℕ, Bool, true, List, Option, Some, None, refl, sym, ap, subst, arith, length, map, ⊎_elim}
-use Rattle.std.specs.Prelude.{if◌then◌else◌, flat_map, option_and_then, option_map, sum_by, Contains, min}
+use Rattle.std.proofs.Common.{◌≡◌, ◌∙◌, ◌+◌, ◌*◌, ◌-◌, ◌<◌, ◌++◌, ◌∷◌, [], ℕ, Bool, true, false, List, Option, Some, None, refl, sym, ap, subst, arith, length, map, ⊎_elim}
+use Rattle.std.specs.Prelude.{if◌then◌else◌, flat_map, option_and_then, sum_by, Contains, min}
 use Rattle.std.specs.Global.{Vec}
 use Rattle.std.specs.List.{list_any}
+use Rattle.std.specs.Option.{option_map_or}
 use Rattle.std.proofs.lemmas.List.{map-append}
 use Rattle.std.proofs.lemmas.List.Sums.{sum_by-cons}
 use Rattle.std.proofs.lemmas.List.Elements.{All-head, All-tail}
 use Rattle.rb_bytes.proofs.Members.{Contains-nil, Contains-cons_cases, Contains-there}
-use Rattle.rb_bytes.specs.FirstFault.{IsFree}
 use Rattle.addr_map.specs.declared.span.Span.{Span}
 use Rattle.addr_map.specs.Spans.{owner}
 use Rattle.table_core.specs.declared.range.Range.{Range}
 use Rattle.table_core.specs.declared.run.Run.{Run}
 use Rattle.table_core.specs.AddressRanges.{holds_address}
-use Rattle.table_core.specs.AnswerRuns.{run_at, carried, IsWithin}
+use Rattle.table_core.specs.AnswerRuns.{run_at, carried, AreRunsOf}
 use Rattle.table_core.specs.Weights.{IsWeightOf, run_weight}
 use Rattle.dw_unit.specs.CompUnits.{Entry, Unit, units}
-use Rattle.dw_unit.specs.Faults.{HasDwarfFault}
-use Rattle.dw_unit.proofs.EntryPlaces.{places_ascend}
-use Rattle.range_loc_rewrite.specs.declared.cover_tree.Cover.{Cover}
-use Rattle.range_loc_rewrite.specs.declared.cover_index.CoverIndex.{CoverIndex}
-use Rattle.range_loc_rewrite.specs.declared.groups.RangedEntry.{RangedEntry}
-use Rattle.range_loc_rewrite.specs.Faults.{ListSections, range_places}
-use Rattle.range_loc_rewrite.specs.Gathering.{SeenEntry, seen_of, seen_in, seen_kept, ranges_index}
-use Rattle.range_loc_rewrite.specs.GroupRuns.{IsGroupRuns, runs_in, runs_end, holds_some, if_held}
-use Rattle.range_loc_rewrite.specs.Groups.{AreWithin, group_holds, held_places}
+use Rattle.cover_lists.specs.declared.cover_tree.Cover.{Cover}
+use Rattle.cover_lists.specs.declared.cover_index.CoverIndex.{CoverIndex}
+use Rattle.cover_lists.specs.declared.groups.RangedEntry.{RangedEntry}
+use Rattle.dw_lists.specs.Faults.{ListSections}
+use Rattle.list_units.specs.Gathering.{SeenEntry, seen_of, seen_in, seen_kept, ranges_index}
+use Rattle.cover_lists.specs.GroupRuns.{runs_in, held_by, if_held}
+use Rattle.cover_lists.specs.Groups.{AreWithin, group_holds}
 use Rattle.range_loc_rewrite.specs.KeptRanges.{AreKept}
-use Rattle.range_loc_rewrite.specs.Lists.{ranges_kind}
-use Rattle.range_loc_rewrite.specs.ListTables.{range_says}
-use Rattle.range_loc_rewrite.specs.RangeReading.{all_seen}
-use Rattle.range_loc_rewrite.specs.Ranges.{Ranged, ranged_from, ranged_in, ranged, ranges_of, hold, covering}
-use Rattle.range_loc_rewrite.specs.UnitLists.{own_place}
-use Rattle.range_loc_rewrite.specs.Weights.{IsSumOf, IsRangesWeight, covered_by, index_weights}
-use Rattle.range_loc_rewrite.proofs.HeldOwners.{group_owner}
-use Rattle.range_loc_rewrite.proofs.KeptEntries.{kept_ascend}
-use Rattle.range_loc_rewrite.proofs.UnitsFree.{units_free}
+use Rattle.dw_lists.specs.Lists.{ranges_kind}
+use Rattle.list_units.specs.RangeReading.{all_seen}
+use Rattle.dw_lists.specs.Ranges.{Ranged, ranged_from, ranged_in, ranged, ranges_of}
+use Rattle.cover_lists.specs.Located.{hold}
+use Rattle.dw_lists.specs.UnitLists.{own_place}
+use Rattle.dw_lists.specs.Weights.{IsRangesWeight, covered_by, index_weights}
+use Rattle.cover_lists.specs.ListWeights.{IsSumOf}
 
 -- which of the entries that have ranges hold an address
 
@@ -102,13 +98,8 @@ module _ (s : ListSections) (spans : List Span) (covers : List Cover) (lists : L
   abbrev weight_of : RangedEntry → ℕ
   weight_of r = run_weight * length (runs_in lists r.group)
 
-  -- what a group's runs say of the bytes of new code
-  abbrev pub Says : RangedEntry → Type 0
-  Says r = (p : ℕ) → run_at (runs_in lists r.group) p ≡ if_held (holds_some covers r.group (owner spans p))
-
-  module _ {A : Type 0} (runs : List (Run A)) (kept : List RangedEntry)
-      (grouped : (r : RangedEntry) → Contains kept r → IsGroupRuns spans covers r.group runs (runs_in lists r.group))
-      (says : (r : RangedEntry) → Contains kept r → Says r) where
+  module _ (kept : List RangedEntry)
+      (each : (r : RangedEntry) → Contains kept r → AreRunsOf (carried (held_by covers r.group) spans) (runs_in lists r.group)) where
     abbrev Weighs : Ranged → ℕ → Type 0
     Weighs r n = IsWeightOf (λ (b : Bool). 0) (carried (covered_by r) spans) n
 
@@ -120,20 +111,20 @@ module _ (s : ListSections) (spans : List Span) (covers : List Cover) (lists : L
     }
 
     carried_some : (r : RangedEntry) (x : Ranged) → ((a : ℕ) → group_holds covers r.group a ≡ hold x.own a) → (o : Option ℕ) →
-        if_held (holds_some covers r.group o) ≡ option_and_then (covered_by x) o
+        option_and_then (held_by covers r.group) o ≡ option_and_then (covered_by x) o
     carried_some r x same None = refl
     carried_some r x same (Some a) = ap if_held (same a)
 
     some_weighs : (r : RangedEntry) (x : Ranged) → Contains kept r → ((a : ℕ) → group_holds covers r.group a ≡ hold x.own a) → Weighs x (weight_of r)
     some_weighs r x there same =
-        let g = grouped r there in
+        let g = each r there in
         record {
           runs = runs_in lists r.group;
           are_runs = record {
-            end = runs_end 0 runs;
-            within = g.are.within;
-            answered = λ p. says r there p ∙ carried_some r x same (owner spans p);
-            longest = g.are.longest;
+            end = g.end;
+            within = g.within;
+            answered = λ p. g.answered p ∙ carried_some r x same (owner spans p);
+            longest = g.longest;
           };
           sum = run_sum (runs_in lists r.group);
         }
@@ -167,15 +158,13 @@ module _ (s : ListSections) (spans : List Span) (covers : List Cover) (lists : L
         sums (ranged s) kept (λ r c. c)
         (λ a. sym (kept_held covers kept a) ∙ ap (map (λ (x : SeenEntry). x.held)) (seen a) ∙ all_held s a (units s.units))
 
--- Of runs of the answers of the entries that are kept, the runs of groups say at each byte whether they hold its owner.
-pub group_says : (s : ListSections) (spans : List Span) (covers : List Cover) (kept : List RangedEntry) (runs : List (Run (Vec ℕ))) (held : List (Run Bool)) →
-    IsFree (HasDwarfFault (range_places s)) → ((a : ℕ) → seen_kept covers kept a ≡ all_seen s a) → ((a : ℕ) → held_places covers kept a ≡ covering s a) →
-    IsWithin 0 runs (2 ^ 64 - 1) → ((p : ℕ) → option_map (λ v. v.items) (run_at runs p) ≡ carried (range_says s) spans p) →
-    (r : RangedEntry) → Contains kept r → IsGroupRuns spans covers r.group runs held →
-    (p : ℕ) → run_at held p ≡ if_held (holds_some covers r.group (owner spans p))
-group_says s spans covers kept runs held free seen holds within answers r there are p =
-    are.answers p
-    ∙ ap if_held (group_owner s spans covers kept runs holds (kept_ascend s covers kept seen (places_ascend s.units (units_free s free))) within answers r there p)
+-- a group holds an address, if there is one
+abbrev pub holds_some : List Cover → ℕ → Option ℕ → Bool
+holds_some covers g o = option_map_or (group_holds covers g) o false
+
+group_says : (covers : List Cover) (g : ℕ) (o : Option ℕ) → option_and_then (held_by covers g) o ≡ if_held (holds_some covers g o)
+group_says covers g None = refl
+group_says covers g (Some a) = refl
 
 pub within_there : (n : ℕ) (xs : List RangedEntry) (r : RangedEntry) → AreWithin n xs → Contains xs r → r.group < n
 within_there n [] r w c = absurd (Contains-nil r c)
@@ -186,18 +175,17 @@ within_there n (x ∷ xs) r w c = ⊎_elim
 
 -- What is kept, and the runs of its groups.
 module _ (s : ListSections) (spans : List Span) (kept : List RangedEntry) (count : ℕ) (index : CoverIndex) (bounds : List ℕ) (weight : ℕ)
-    (are : AreKept s kept count index bounds weight) (runs : List (Run (Vec ℕ))) (lists : List (Vec (Run Bool))) (within : IsWithin 0 runs (2 ^ 64 - 1))
-    (answers : (p : ℕ) → option_map (λ v. v.items) (run_at runs p) ≡ carried (range_says s) spans p)
-    (grouped : (g : ℕ) → g < count → IsGroupRuns spans index.tree g runs (runs_in lists g)) where
-  pub kept_says : (r : RangedEntry) → Contains kept r → Says s spans index.tree lists r
-  kept_says r there =
-      group_says s spans index.tree kept runs (runs_in lists r.group) are.free are.seen are.held within answers r there
-      (grouped r.group (within_there count kept r are.within there))
+    (are : AreKept s kept count index bounds weight) (lists : List (Vec (Run Bool)))
+    (each : (g : ℕ) → g < count → AreRunsOf (carried (held_by index.tree g) spans) (runs_in lists g)) where
+  pub kept_says : (r : RangedEntry) → Contains kept r → (p : ℕ) →
+      run_at (runs_in lists r.group) p ≡ if_held (holds_some index.tree r.group (owner spans p))
+  kept_says r there p =
+      (each r.group (within_there count kept r are.within there)).answered p ∙ group_says index.tree r.group (owner spans p)
 
   pub kept_weight : IsRangesWeight s spans (index_weights ranges_kind.index_form s + sum_by (λ r. run_weight * length (runs_in lists r.group)) kept)
   kept_weight = record {
     runs = sum_by (λ r. run_weight * length (runs_in lists r.group)) kept;
-    of_runs = ranged_weight s spans index.tree lists runs kept (λ r there. grouped r.group (within_there count kept r are.within there)) kept_says are.seen;
+    of_runs = ranged_weight s spans index.tree lists kept (λ r there. each r.group (within_there count kept r are.within there)) are.seen;
     sum = refl;
   }
 

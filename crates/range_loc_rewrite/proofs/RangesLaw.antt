@@ -1,5 +1,5 @@
 -- In each file in which written tables stand, entries cover the new code as they covered the old, and no list is bad.
-use Rattle.std.proofs.Common.{◌≡◌, ◌∙◌, ◌+◌, ◌≤◌, ◌==◌, ◌&&◌, ◌++◌, ◌∷◌, [], ℕ, Bool, true, false, List, Option, Some, None, refl, sym, ap, subst, arith, map, filter, All, ⊎_elim}
+use Rattle.std.proofs.Common.{◌≡◌, ◌∙◌, ◌+◌, ◌==◌, ◌&&◌, ◌++◌, ◌∷◌, [], ℕ, Bool, true, false, List, Option, Some, None, refl, sym, ap, subst, arith, map, filter, All}
 use Rattle.std.specs.Prelude.{flat_map, Contains, option_map, option_and_then, if◌then◌else◌, IsSome, not, filter_map}
 use Rattle.std.specs.Global.{Vec}
 use Rattle.std.specs.List.{find, AllZip}
@@ -14,11 +14,11 @@ use Rattle.addr_map.specs.Spans.{owner}
 use Rattle.table_core.specs.declared.range.Range.{Range}
 use Rattle.table_core.specs.declared.run.Run.{Run}
 use Rattle.table_core.specs.declared.written.ListAt.{ListAt}
-use Rattle.table_core.specs.AnswerRuns.{run_at, carried, IsWithin}
+use Rattle.table_core.specs.AnswerRuns.{run_at, carried}
 use Rattle.table_core.specs.CarriedAnswers.{Agree, IsCarried}
 use Rattle.table_core.specs.DebugUnits.{Walked, walked, other_version}
 use Rattle.table_core.specs.ReadSteps.{first_of, unless_empty}
-use Rattle.table_core.proofs.UnitsBack.{units_bytes}
+use Rattle.table_core.specs.WrittenUnits.{units_bytes}
 use Rattle.dw_unit.specs.CompUnits.{Entry, Unit, units, enclosing}
 use Rattle.dw_unit.specs.Changes.{is_first_of}
 use Rattle.dw_unit.specs.ChangedEntries.{IsChangedEntry, IsChangedUnit, AreChangedUnits}
@@ -26,16 +26,17 @@ use Rattle.dw_unit.specs.EntryMoves.{Moves, is_list_of, new_list_offset}
 use Rattle.dw_unit.specs.Faults.{HasDwarfFault, unit_fault_places}
 use Rattle.dw_unit.proofs.EntryPlaces.{places_ascend}
 use Rattle.dw_unit.proofs.SoundEntries.{all_sound}
-use Rattle.range_loc_rewrite.specs.declared.cover_tree.Cover.{Cover}
-use Rattle.range_loc_rewrite.specs.declared.groups.RangedEntry.{RangedEntry}
-use Rattle.range_loc_rewrite.specs.declared.list_kind.ListKind.TheVariants as kind
-use Rattle.range_loc_rewrite.specs.Faults.{ListSections, range_places, is_list_table}
-use Rattle.range_loc_rewrite.specs.Gathering.{seen_kept}
-use Rattle.range_loc_rewrite.specs.GroupRuns.{runs_in, runs_end, holds_some, if_held}
-use Rattle.range_loc_rewrite.specs.ListBytes.{IsWritable}
-use Rattle.range_loc_rewrite.specs.RangeReading.{all_seen}
-use Rattle.range_loc_rewrite.specs.Ranges.{Ranged, ranged_from, ranged_in, ranges_of, hold, covering}
-use Rattle.range_loc_rewrite.specs.WrittenRanges.{bounded}
+use Rattle.cover_lists.specs.declared.cover_tree.Cover.{Cover}
+use Rattle.cover_lists.specs.declared.groups.RangedEntry.{RangedEntry}
+use Rattle.dw_lists.specs.declared.list_kind.ListKind.TheVariants as kind
+use Rattle.dw_lists.specs.Faults.{ListSections, range_places, is_list_table}
+use Rattle.list_units.specs.Gathering.{seen_kept}
+use Rattle.cover_lists.specs.GroupRuns.{runs_in, if_held}
+use Rattle.list_writer.specs.ListBytes.{IsWritable}
+use Rattle.list_units.specs.RangeReading.{all_seen}
+use Rattle.dw_lists.specs.Ranges.{Ranged, ranged_from, ranged_in, ranges_of, covering}
+use Rattle.cover_lists.specs.Located.{hold}
+use Rattle.list_writer.specs.WrittenRanges.{bounded}
 use Rattle.range_loc_rewrite.proofs.EntriesStay.{Stays, stays}
 use Rattle.range_loc_rewrite.proofs.KeptLookups.{sound_at}
 use Rattle.range_loc_rewrite.proofs.KeptPairs.{all_paired}
@@ -43,7 +44,8 @@ use Rattle.range_loc_rewrite.proofs.NamedRanges.{AreNamed}
 use Rattle.range_loc_rewrite.proofs.SoundLists.{AreFine, lists_fine, fine_free}
 use Rattle.range_loc_rewrite.proofs.TableFaults.{no_other, no_bad}
 use Rattle.range_loc_rewrite.proofs.UnitsFree.{units_free}
-use Rattle.range_loc_rewrite.proofs.Zips.{zip_with, zip_right}
+use Rattle.list_units.proofs.Zips.{zip_with, zip_right}
+use Rattle.range_loc_rewrite.proofs.RangeWeights.{holds_some}
 
 -- Entries that hold two addresses alike cover them at the same places.
 
@@ -187,8 +189,3 @@ is_carried old new spans wanted answers same p some = by_owner (owner spans p) r
     by_owner (Some o) e f =
         let is : wanted p ≡ unless_empty (new p) = answers p ∙ ap (option_and_then (λ a. unless_empty (old a))) e ∙ ap unless_empty (sym (same p o e)) in
         subst (λ x. Agree (λ a b. a ≡ b) x (unless_empty (new p))) (sym is) (agree_same (unless_empty (new p)))
-
--- runs of groups can be written
-pub runs_end_le : {A : Type 0} (lo : ℕ) (rs : List (Run A)) (hi : ℕ) → IsWithin lo rs hi → runs_end lo rs ≤ hi
-runs_end_le lo [] hi w = w
-runs_end_le lo (r ∷ rs) hi w = runs_end_le (r.start + r.len) rs hi w.2

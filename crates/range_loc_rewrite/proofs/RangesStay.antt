@@ -10,7 +10,7 @@ use Rattle.rb_bytes.proofs.Members.{Contains-nil, Contains-cons_cases, Contains-
 use Rattle.table_core.specs.declared.range.Range.{Range}
 use Rattle.table_core.specs.declared.run.Run.{Run}
 use Rattle.table_core.specs.AnswerRuns.{run_at}
-use Rattle.table_core.proofs.UnitsBack.{IsUnit, units_bytes}
+use Rattle.table_core.specs.WrittenUnits.{IsUnit, units_bytes}
 use Rattle.dw_unit.specs.declared.entry.Attr.{Attr}
 use Rattle.dw_unit.specs.CompUnits.{Entry, Unit, attr, base, number_in, may_repeat, address_of}
 use Rattle.dw_unit.specs.Changes.{new_value}
@@ -18,21 +18,21 @@ use Rattle.dw_unit.specs.EntryMoves.{Moves, new_list_offset}
 use Rattle.table_core.specs.AttributeForms.{is_block, is_address_index, is_text_index}
 use Rattle.dw_unit.specs.Faults.{is_sound_attr, is_located, implies}
 use Rattle.dw_unit.proofs.SoundEntries.{IsSoundEntry}
-use Rattle.range_loc_rewrite.specs.declared.list_kind.ListKind.TheVariants as kind
-use Rattle.range_loc_rewrite.specs.Faults.{ListSections}
-use Rattle.range_loc_rewrite.specs.GroupRuns.{runs_in}
-use Rattle.range_loc_rewrite.specs.Groups.{ranges_in}
-use Rattle.range_loc_rewrite.specs.ListBytes.{IsWritable, located_at}
-use Rattle.range_loc_rewrite.specs.Lists.{Kind, Located, ranges_kind, has_list, list_offset, list_at, only_within, offset_of_index}
-use Rattle.range_loc_rewrite.specs.Ranges.{ranges_of, hold}
-use Rattle.range_loc_rewrite.specs.WrittenRanges.{bounded}
-use Rattle.range_loc_rewrite.specs.WrittenTables.{StandsAt}
+use Rattle.dw_lists.specs.declared.list_kind.ListKind.TheVariants as kind
+use Rattle.dw_lists.specs.Faults.{ListSections}
+use Rattle.cover_lists.specs.GroupRuns.{runs_in}
+use Rattle.cover_lists.specs.Located.{ranges_in, Located, hold}
+use Rattle.list_writer.specs.ListBytes.{IsWritable, located_at}
+use Rattle.dw_lists.specs.Lists.{Kind, ranges_kind, has_list, list_offset, list_at, only_within, offset_of_index}
+use Rattle.dw_lists.specs.Ranges.{ranges_of}
+use Rattle.list_writer.specs.WrittenRanges.{bounded}
+use Rattle.list_writer.specs.WrittenTables.{StandsAt}
 use Rattle.range_loc_rewrite.proofs.NamedRanges.{group_list}
 use Rattle.range_loc_rewrite.proofs.ChangedAttrs.{named, changed}
-use Rattle.range_loc_rewrite.proofs.HeldRuns.{ranges_hold}
+use Rattle.list_writer.proofs.HeldRuns.{ranges_hold}
 use Rattle.range_loc_rewrite.proofs.KeptLookups.{no_bounds}
-use Rattle.range_loc_rewrite.proofs.ListsThere.{list_there}
-use Rattle.range_loc_rewrite.proofs.OwnRanges.{listed_ranges, of_offset}
+use Rattle.list_writer.proofs.ListsThere.{list_there}
+use Rattle.dw_lists.proofs.OwnRanges.{listed_ranges, of_offset}
 use Rattle.range_loc_rewrite.proofs.SoundLists.{IsFine, AreFine}
 
 -- what an attribute that names ranges is

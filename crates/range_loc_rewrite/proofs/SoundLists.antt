@@ -15,10 +15,10 @@ use Rattle.dw_unit.specs.Faults.{HasDwarfFault, unit_fault_places, is_bad, bad_a
 use Rattle.dw_unit.proofs.NewSections.{sound_units}
 use Rattle.dw_unit.proofs.NoFaults.{AreAbsent, absent, free_of, none_least, both_nil, no_first}
 use Rattle.dw_unit.proofs.UnitsRead.{IsGoodUnit}
-use Rattle.range_loc_rewrite.specs.Faults.{ListSections, range_places, has_bad_offset, lacks_offset, bad_list_tables, bad_table, table_place}
-use Rattle.range_loc_rewrite.specs.Lists.{Kind, ranges_kind, has_list, list_offset, list_at}
-use Rattle.range_loc_rewrite.proofs.PutEntries.{flat_from}
-use Rattle.range_loc_rewrite.proofs.RangeFaults.{of_tables}
+use Rattle.dw_lists.specs.Faults.{ListSections, range_places, has_bad_offset, lacks_offset, bad_list_tables, bad_table, table_place}
+use Rattle.dw_lists.specs.Lists.{Kind, ranges_kind, has_list, list_offset, list_at}
+use Rattle.list_writer.proofs.PutEntries.{flat_from}
+use Rattle.list_units.proofs.RangeFaults.{of_tables}
 use Rattle.range_loc_rewrite.proofs.UnitsFree.{units_free}
 
 -- an attribute names a list that can be read

@@ -11,8 +11,8 @@ use Rattle.dw_unit.specs.CompUnits.{Entry, Unit, units, unit_of}
 use Rattle.dw_unit.specs.Faults.{HasDwarfFault, unit_fault_places, is_bad, bad_address_table}
 use Rattle.dw_unit.proofs.NewSections.{sound_units}
 use Rattle.dw_unit.proofs.NoFaults.{AreAbsent, absent, free_of, none_least, both_nil, no_first}
-use Rattle.range_loc_rewrite.specs.Faults.{ListSections, range_places, location_places, has_bad_offset, has_bad_offsets, lacks_offset, bad_list_tables, bad_table, is_list_table}
-use Rattle.range_loc_rewrite.specs.Lists.{Kind, ranges_kind, locations_kind}
+use Rattle.dw_lists.specs.Faults.{ListSections, range_places, location_places, has_bad_offset, has_bad_offsets, lacks_offset, bad_list_tables, bad_table, is_list_table}
+use Rattle.dw_lists.specs.Lists.{Kind, ranges_kind, locations_kind}
 use Rattle.range_loc_rewrite.proofs.SoundLists.{AreThere, none_found, found_none, units_there, there_units}
 use Rattle.range_loc_rewrite.proofs.UnitsFree.{units_free, none_less}
 

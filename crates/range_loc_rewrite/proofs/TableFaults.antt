@@ -5,8 +5,9 @@ use Rattle.std.specs.List.{find}
 use Rattle.std.specs.Option.{option_map_or}
 use Rattle.std.proofs.lemmas.List.Elements.{All-head, All-tail}
 use Rattle.table_core.specs.DebugUnits.{Walked, walked, first_place, other_version}
-use Rattle.table_core.proofs.UnitsBack.{units_bytes, walked_units, units-back, IsUnit}
-use Rattle.range_loc_rewrite.specs.Faults.{is_list_table}
+use Rattle.table_core.specs.WrittenUnits.{units_bytes, walked_units, IsUnit}
+use Rattle.table_core.proofs.UnitsBack.{units-back}
+use Rattle.dw_lists.specs.Faults.{is_list_table}
 
 none_other : (place : ℕ) (bs : List (List ℕ)) → find (λ (w : Walked). w.is_other) (walked_units place bs) ≡ None
 unfolding walked_units

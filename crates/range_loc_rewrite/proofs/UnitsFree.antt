@@ -9,8 +9,8 @@ use Rattle.table_core.specs.DebugUnits.{Walked, walked, first_place, other_versi
 use Rattle.dw_unit.specs.CompUnits.{unit_of}
 use Rattle.dw_unit.specs.Faults.{HasDwarfFault, unit_fault_places, is_bad, bad_address_table}
 use Rattle.dw_unit.proofs.NoFaults.{AreAbsent, absent, free_of, no_first}
-use Rattle.range_loc_rewrite.specs.Faults.{ListSections, range_places, has_bad_offset, bad_table}
-use Rattle.range_loc_rewrite.specs.Lists.{ranges_kind}
+use Rattle.dw_lists.specs.Faults.{ListSections, range_places, has_bad_offset, bad_table}
+use Rattle.dw_lists.specs.Lists.{ranges_kind}
 
 pub none_less : (p q : Walked → Bool) (ws : List Walked) → find (λ w. p w || q w) ws ≡ None → find p ws ≡ None
 none_less p q [] e = refl

@@ -1,12 +1,12 @@
 -- Sums of weights over lists.
-use Rattle.std.proofs.Common.{◌≡◌, ◌∙◌, ◌+◌, ◌==◌, ◌++◌, ◌∷◌, [], ℕ, Bool, true, false, List, refl, sym, ap, subst, arith, map, filter}
+use Rattle.std.proofs.Common.{◌≡◌, ◌+◌, ◌==◌, ◌++◌, ◌∷◌, [], ℕ, Bool, true, false, List, refl, sym, subst, arith, map, filter}
 use Rattle.std.specs.Prelude.{if◌then◌else◌, flat_map, not}
 use Rattle.std.specs.List.{list_any}
 use Rattle.table_core.specs.Weights.{distinct}
-use Rattle.range_loc_rewrite.specs.Weights.{IsSumOf}
-use Rattle.range_loc_rewrite.specs.Weights.IsSumOf.{none, more}
-use Rattle.range_loc_rewrite.specs.ReadLists.{firsts}
-use Rattle.range_loc_rewrite.proofs.FirstOffsets.{IsOnce, once, absent}
+use Rattle.cover_lists.specs.ListWeights.{IsSumOf}
+use Rattle.cover_lists.specs.ListWeights.IsSumOf.{none, more}
+use Rattle.list_units.specs.ReadLists.{firsts}
+use Rattle.list_units.proofs.FirstOffsets.{once, absent}
 
 -- a sum of two lists
 pub record IsSumOfTwo {X : Type 0} (W : X → ℕ → Type 0) (xs ys : List X) (n : ℕ) : Type 0 where

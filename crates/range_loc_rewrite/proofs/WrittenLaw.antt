@@ -1,6 +1,6 @@
 -- The law of written ranges, of a file in which they stand.
 use Rattle.std.proofs.Common.{◌≡◌, ◌-◌, ◌^◌, ◌<◌, ℕ, Bool, [], List, Option, refl, sym, ap, subst, arith, map, All, length}
-use Rattle.std.specs.Prelude.{option_map, Contains}
+use Rattle.std.specs.Prelude.{Contains}
 use Rattle.std.specs.Global.{Vec}
 use Rattle.rb_bytes.specs.FirstFault.{IsFree}
 use Rattle.elf_image.specs.declared.elf.Elf.{Elf}
@@ -8,31 +8,31 @@ use Rattle.addr_map.specs.declared.span.Span.{Span}
 use Rattle.addr_map.specs.Spans.{owner}
 use Rattle.table_core.specs.declared.run.Run.{Run}
 use Rattle.table_core.specs.declared.written.Written.{Written}
-use Rattle.table_core.specs.AnswerRuns.{run_at, carried, IsWithin}
-use Rattle.table_core.specs.CarriedAnswers.{IsCarried}
+use Rattle.table_core.specs.AnswerRuns.{run_at, carried, AreRunsOf, IsWithin}
+use Rattle.table_core.specs.CarriedAnswers.{IsCarriedFrom}
 use Rattle.dw_unit.specs.CompUnits.{units}
 use Rattle.dw_unit.specs.Faults.{HasDwarfFault}
 use Rattle.dw_unit.proofs.EntryPlaces.{places_ascend}
-use Rattle.range_loc_rewrite.specs.declared.cover_index.CoverIndex.{CoverIndex}
-use Rattle.range_loc_rewrite.specs.declared.groups.RangedEntry.{RangedEntry}
-use Rattle.range_loc_rewrite.specs.declared.list_kind.ListKind.TheVariants as kind
-use Rattle.range_loc_rewrite.specs.Faults.{ListSections, range_places}
-use Rattle.range_loc_rewrite.specs.GroupRuns.{IsGroupRuns, runs_in, runs_end, if_held, holds_some}
+use Rattle.cover_lists.specs.declared.cover_index.CoverIndex.{CoverIndex}
+use Rattle.cover_lists.specs.declared.groups.RangedEntry.{RangedEntry}
+use Rattle.dw_lists.specs.declared.list_kind.ListKind.TheVariants as kind
+use Rattle.dw_lists.specs.Faults.{ListSections, range_places}
+use Rattle.cover_lists.specs.GroupRuns.{held_by, runs_in, if_held}
 use Rattle.range_loc_rewrite.specs.KeptRanges.{AreKept}
-use Rattle.range_loc_rewrite.specs.ListBytes.{IsWritable}
-use Rattle.range_loc_rewrite.specs.ListTables.{range_says, RangesMade}
-use Rattle.range_loc_rewrite.specs.Ranges.{covering}
-use Rattle.range_loc_rewrite.specs.Tables.{list_sections, range_answers, StandsRanges}
-use Rattle.range_loc_rewrite.specs.WrittenRanges.{bounded, group_bytes, named_of}
-use Rattle.range_loc_rewrite.specs.WrittenTables.{AreInOrder, AreWritten, OwnsRise}
+use Rattle.list_writer.specs.ListBytes.{IsWritable}
+use Rattle.dw_lists.specs.ListTables.{range_says, RangesMade}
+use Rattle.dw_lists.specs.Ranges.{covering}
+use Rattle.dw_lists.specs.Tables.{list_sections, range_answers, StandsRanges}
+use Rattle.list_writer.specs.WrittenRanges.{bounded, group_bytes, named_of}
+use Rattle.list_writer.specs.WrittenTables.{AreInOrder, AreWritten, OwnsRise}
 use Rattle.range_loc_rewrite.proofs.FreeRanges.{ranges_free}
-use Rattle.range_loc_rewrite.proofs.HeldRuns.{runs_writable}
+use Rattle.list_writer.proofs.HeldRuns.{runs_writable}
 use Rattle.range_loc_rewrite.proofs.KeptEntries.{kept_ascend}
 use Rattle.range_loc_rewrite.proofs.KeptOrder.{owns_rise, none_kept}
 use Rattle.range_loc_rewrite.proofs.KeptPairs.{all_paired}
 use Rattle.range_loc_rewrite.proofs.NamedRanges.{AreNamed, are_named, group_at, ranges_in_order}
-use Rattle.range_loc_rewrite.proofs.RangesLaw.{new_covering, new_free, is_carried, runs_end_le}
-use Rattle.range_loc_rewrite.proofs.RangeWeights.{kept_says, within_there}
+use Rattle.range_loc_rewrite.proofs.RangesLaw.{new_covering, new_free, is_carried}
+use Rattle.range_loc_rewrite.proofs.RangeWeights.{holds_some, kept_says, within_there}
 use Rattle.range_loc_rewrite.proofs.UnitsFree.{units_free}
 
 module _ (s : ListSections) (kept : List RangedEntry) (count : ℕ) (index : CoverIndex) (bounds : List ℕ) (weight : ℕ) (are : AreKept s kept count index bounds weight) where
@@ -52,10 +52,9 @@ module _ (s : ListSections) (kept : List RangedEntry) (count : ℕ) (index : Cov
   }
 
 module _ (i f : Elf) (spans : List Span) (kept : List RangedEntry) (count : ℕ) (index : CoverIndex) (bounds : List ℕ) (weight : ℕ)
-    (are : AreKept (list_sections i) kept count index bounds weight) (runs : List (Run (Vec ℕ))) (lists : List (Vec (Run Bool)))
-    (within : IsWithin 0 runs (2 ^ 64 - 1))
-    (answers : (p : ℕ) → option_map (λ v. v.items) (run_at runs p) ≡ carried (range_says (list_sections i)) spans p)
-    (grouped : (g : ℕ) → g < count → IsGroupRuns spans index.tree g runs (runs_in lists g)) (counted : length lists ≡ count)
+    (are : AreKept (list_sections i) kept count index bounds weight) (lists : List (Vec (Run Bool)))
+    (each : (g : ℕ) → g < count → AreRunsOf (carried (held_by index.tree g) spans) (runs_in lists g))
+    (low : (g : ℕ) → g < count → IsWithin 0 (runs_in lists g) (2 ^ 64 - 1)) (counted : length lists ≡ count)
     (bs : List (Vec ℕ)) (spelled : map (λ (b : Vec ℕ). b.items) bs ≡ map group_bytes lists) (w : Written)
     (made : AreWritten kind.Ranges bs (map named_of kept) (map named_of kept) [] w.bytes.items w.lists.items) (stands : StandsRanges i spans w f) where
   abbrev s : ListSections
@@ -71,21 +70,19 @@ module _ (i f : Elf) (spans : List Span) (kept : List RangedEntry) (count : ℕ)
 
   writable : (r : RangedEntry) → Contains kept r → All (IsWritable kind.Ranges) (map bounded (runs_in lists r.group))
   writable r c =
-      let g = grouped r.group (within_there count kept r are.within c) in
-      runs_writable 0 (runs_in lists r.group) (runs_end 0 runs) g.are.within (runs_end_le 0 runs (2 ^ 64 - 1) within)
+      runs_writable 0 (runs_in lists r.group) (2 ^ 64 - 1) (low r.group (within_there count kept r are.within c)) (omega arith)
 
   says : (r : RangedEntry) → Contains kept r → (p : ℕ) → run_at (runs_in lists r.group) p ≡ if_held (holds_some index.tree r.group (owner spans p))
-  says r c = kept_says s spans kept count index bounds weight are runs lists within answers grouped r c
+  says r c = kept_says s spans kept count index bounds weight are lists each r c
 
-  pub law_of : IsCarried (λ x y. x ≡ y) spans (λ p. option_map (λ v. v.items) (run_at runs p)) (range_answers f) × IsFree (HasDwarfFault (range_places t)) × Unit {0}
+  pub law_of : IsCarriedFrom (λ x y. x ≡ y) spans (range_says s) (range_answers f) × IsFree (HasDwarfFault (range_places t))
   law_of =
       let c = stands.changed in
       let free : IsFree (HasDwarfFault (range_places t)) =
       new_free s t spans index.tree kept lists w.bytes.items w.lists.items c.moves are.free are.seen written stands.table stands.units c.units_are c.named says writable in
       let p = ranges_free f t refl free in (
-        subst (λ (x : Option (ℕ → Option (List ℕ))). IsCarried (λ x y. x ≡ y) spans (λ p. option_map (λ v. v.items) (run_at runs p)) x) (sym p.0)
-            (is_carried (covering s) (covering t) spans (λ p. option_map (λ v. v.items) (run_at runs p)) answers
+        subst (λ (x : Option (ℕ → Option (List ℕ))). IsCarriedFrom (λ x y. x ≡ y) spans (range_says s) x) (sym p.0)
+            (is_carried (covering s) (covering t) spans (carried (range_says s) spans) (λ p. refl)
             (new_covering s t spans index.tree kept lists w.bytes.items w.lists.items c.moves are.free are.seen written stands.table stands.units c.units_are c.named says writable)),
         free,
-        tt,
       )

@@ -5,19 +5,20 @@ use Rattle.std.specs.Option.{option_map_or}
 use Rattle.rb_bytes.specs.FirstFault.{IsFree}
 use Rattle.dw_unit.specs.CompUnits.{units}
 use Rattle.dw_unit.specs.Faults.{HasDwarfFault}
-use Rattle.range_loc_rewrite.specs.declared.cover_index.CoverIndex.{CoverIndex}
-use Rattle.range_loc_rewrite.specs.declared.groups.RangedEntry.{RangedEntry}
-use Rattle.range_loc_rewrite.specs.declared.kept_list.KeptList.{KeptList}
-use Rattle.range_loc_rewrite.specs.declared.located_attr.LocatedAttr.{LocatedAttr}
-use Rattle.range_loc_rewrite.specs.declared.located_attr.Locations.{Locations}
-use Rattle.range_loc_rewrite.specs.Bounds.{bounds_in}
-use Rattle.range_loc_rewrite.specs.CoverIndex.{IsCoverIndex}
-use Rattle.range_loc_rewrite.specs.Faults.{ListSections, location_places}
-use Rattle.range_loc_rewrite.specs.Lists.{locations_kind}
-use Rattle.range_loc_rewrite.specs.Locations.{PlaceSaid, places_said}
-use Rattle.range_loc_rewrite.specs.ReadLists.{all_say, unit_lists}
-use Rattle.range_loc_rewrite.specs.UnitLocations.{all_located, located_says}
-use Rattle.range_loc_rewrite.specs.Weights.{index_weights}
+use Rattle.cover_lists.specs.declared.cover_index.CoverIndex.{CoverIndex}
+use Rattle.cover_lists.specs.declared.groups.RangedEntry.{RangedEntry}
+use Rattle.list_units.specs.declared.located_attr.LocatedAttr.{LocatedAttr}
+use Rattle.list_units.specs.declared.located_attr.Locations.{Locations}
+use Rattle.cover_lists.specs.CoverIndex.{IsCoverIndex}
+use Rattle.dw_lists.specs.declared.named_list.NamedList.{NamedList}
+use Rattle.dw_lists.specs.Faults.{ListSections, location_places}
+use Rattle.dw_lists.specs.Lists.{locations_kind}
+use Rattle.dw_lists.specs.Locations.{places_said, PlaceSaid}
+use Rattle.list_units.specs.Listing.{AreNamesOf, all_items}
+use Rattle.list_units.specs.ReadLists.{unit_lists}
+use Rattle.cover_lists.specs.KeptLists.{all_say}
+use Rattle.list_units.specs.UnitLocations.{all_located, located_says}
+use Rattle.dw_lists.specs.Weights.{index_weights}
 
 abbrev pub ranged_of : LocatedAttr → RangedEntry
 ranged_of l = record { place = l.place; group = l.group; own = 0; index = None }
@@ -26,17 +27,15 @@ ranged_of l = record { place = l.place; group = l.group; own = 0; index = None }
 abbrev pub said_by_number : Locations → ℕ → ℕ → List PlaceSaid
 said_by_number kept a k = option_map_or (located_says kept.lists.items a) (slice_get kept.located.items k) []
 
--- the bounds of all lists
-abbrev pub list_bounds : List KeptList → List ℕ
-list_bounds lists = flat_map (λ (l : KeptList). bounds_in l.tree) lists
-
--- The attributes that say where something is, with the lists that each unit names, the index by which those are found whose
+-- The attributes that say where something is, with the lists that each unit names and their names, the index by which those are found whose
 -- ranges hold an address, numbers between which the same is said at all addresses, and what tables of offsets weigh.
-pub record ArePlacesKept (s : ListSections) (kept : Locations) (index : CoverIndex) (bounds : List ℕ) (weight : ℕ) : Type 0 where
+pub record ArePlacesKept (s : ListSections) (kept : Locations) (named : List NamedList) (index : CoverIndex) (bounds : List ℕ) (weight : ℕ) :
+    Type 0 where
   pub free : IsFree (HasDwarfFault (location_places s))
   pub index_is : IsCoverIndex index.tree (map ranged_of kept.located.items) index
   pub says : (a : ℕ) → all_located index.tree kept.lists.items kept.located.items a ≡ places_said s a
   pub listed : all_say kept.lists.items ≡ flat_map (unit_lists s) (units s.units)
+  pub names : AreNamesOf kept.lists.items named (all_items s)
   pub indexes : weight ≡ min (index_weights locations_kind.index_form s) (2 ^ 64 - 1)
   pub rising : IsNonDecreasing bounds
   pub apart : (a b : ℕ) → All (λ x. nat_le x a ≡ nat_le x b) bounds → places_said s a ≡ places_said s b

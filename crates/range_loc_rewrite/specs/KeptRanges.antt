@@ -3,16 +3,16 @@ use Rattle.std.specs.Prelude.{◌≡◌, ◌-◌, ◌^◌, ℕ, List, All, nat_l
 use Rattle.std.specs.List.Sorted.{IsNonDecreasing}
 use Rattle.rb_bytes.specs.FirstFault.{IsFree}
 use Rattle.dw_unit.specs.Faults.{HasDwarfFault}
-use Rattle.range_loc_rewrite.specs.declared.cover_index.CoverIndex.{CoverIndex}
-use Rattle.range_loc_rewrite.specs.declared.groups.RangedEntry.{RangedEntry}
-use Rattle.range_loc_rewrite.specs.CoverIndex.{IsCoverIndex}
-use Rattle.range_loc_rewrite.specs.Faults.{ListSections, range_places}
-use Rattle.range_loc_rewrite.specs.Gathering.{seen_kept}
-use Rattle.range_loc_rewrite.specs.Groups.{AreWithin, group_holds, held_places}
-use Rattle.range_loc_rewrite.specs.Lists.{ranges_kind}
-use Rattle.range_loc_rewrite.specs.RangeReading.{all_seen}
-use Rattle.range_loc_rewrite.specs.Ranges.{covering}
-use Rattle.range_loc_rewrite.specs.Weights.{index_weights}
+use Rattle.cover_lists.specs.declared.cover_index.CoverIndex.{CoverIndex}
+use Rattle.cover_lists.specs.declared.groups.RangedEntry.{RangedEntry}
+use Rattle.cover_lists.specs.CoverIndex.{IsCoverIndex}
+use Rattle.dw_lists.specs.Faults.{ListSections, range_places}
+use Rattle.list_units.specs.Gathering.{seen_kept}
+use Rattle.cover_lists.specs.Groups.{AreWithin, group_holds, held_places}
+use Rattle.dw_lists.specs.Lists.{ranges_kind}
+use Rattle.list_units.specs.RangeReading.{all_seen}
+use Rattle.dw_lists.specs.Ranges.{covering}
+use Rattle.dw_lists.specs.Weights.{index_weights}
 
 -- The entries that have ranges, of so many groups, the index by which those are found that cover an address, numbers
 -- between which the same cover all addresses, and what tables of offsets weigh.

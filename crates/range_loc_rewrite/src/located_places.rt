@@ -2,16 +2,16 @@
 ghost use Rattle.std.specs.Prelude.{◌≡◌, ◌++◌, ◌∷◌, [], IfOk, OnOk, flat_map, map, option_map, slice_get};
 ghost use Rattle.std.specs.Option.{option_copied};
 ghost use Rattle.table_core.specs.ReadSteps as steps;
-ghost use Rattle.range_loc_rewrite.specs.KeptLists.{items_in};
+ghost use Rattle.cover_lists.specs.KeptLists.{items_in};
 ghost use Rattle.range_loc_rewrite.specs.KeptPlaces.{said_by_number, ranged_of};
-ghost use Rattle.range_loc_rewrite.specs.Locations.{all_said, attr_says};
-ghost use Rattle.range_loc_rewrite.specs.UnitLocations.{source_says};
+ghost use Rattle.dw_lists.specs.Locations.{all_said, attr_says};
+ghost use Rattle.list_units.specs.UnitLocations.{source_says};
 
-use crate::groups::RangedEntry;
-use crate::kept_list::KeptList;
-use crate::kept_lists::in_force;
-use crate::located_attr::{LocatedAttr, Locations, Source};
 use crate::place_answer::PlaceAt;
+use cover_lists::groups::RangedEntry;
+use cover_lists::kept_list::KeptList;
+use cover_lists::kept_lists::in_force;
+use list_units::located_attr::{LocatedAttr, Locations, Source};
 use rb_bytes::fault::NoMemory;
 use std::alloc::Global;
 
@@ -24,8 +24,8 @@ fn only(alloc: Global, expression: &[u8]) -> Result<Vec<Vec<u8>>, NoMemory>
     Ok(only)
 }
 
-// The expressions of an attribute that are in force at an address.
-fn expressions_at(
+/// The expressions of an attribute that are in force at an address.
+pub fn expressions_at(
     alloc: Global,
     lists: &[KeptList],
     source: &Source,
@@ -42,8 +42,8 @@ fn expressions_at(
     }
 }
 
-// Adds what is said of an attribute, unless nothing is.
-fn put_place(
+/// Adds what is said of an attribute, unless nothing is.
+pub fn put_place(
     places: &mut Vec<PlaceAt>,
     place: u64,
     attr: u64,

@@ -1,30 +1,11 @@
 // What is said of locations at an address.
 ghost use Rattle.std.specs.Prelude.{◌≡◌, ◌↔◌, IsTrue, map};
-ghost use Rattle.range_loc_rewrite.specs.Locations.{place_said};
+ghost use Rattle.dw_lists.specs.Locations.{place_said};
+
+use cover_lists::expressions::same_expressions;
 
 /// The place of an entry, an attribute of it, and its expressions that are in force.
 pub type PlaceAt = (u64, u64, Vec<Vec<u8>>);
-
-fn same_bytes(x: &[u8], y: &[u8]) -> bool
-    ensures { IsTrue result ↔ (x.now ≡ y.now) }
-{
-    x == y
-}
-
-/// Whether two lists have the same expressions.
-pub fn same_expressions(x: &[Vec<u8>], y: &[Vec<u8>]) -> bool
-    ensures { IsTrue result ↔ (map (λ v. v.items) x.now ≡ map (λ v. v.items) y.now) }
-{
-    if x.len() != y.len() {
-        return false;
-    }
-    for i in 0..x.len() {
-        if !same_bytes(x[i].as_slice(), y[i].as_slice()) {
-            return false;
-        }
-    }
-    true
-}
 
 fn same_place(x: &PlaceAt, y: &PlaceAt) -> bool
     ensures { IsTrue result ↔ (place_said x.now ≡ place_said y.now) }

@@ -2,9 +2,9 @@
 ghost use Rattle.std.specs.Prelude.{◌≡◌, ◌++◌, [], IfOk, OnOk, filter_map, option_map};
 ghost use Rattle.std.specs.List.{cons_option};
 ghost use Rattle.table_core.specs.ReadSteps.{unless_empty};
-ghost use Rattle.range_loc_rewrite.specs.CoverIndex.{place_at};
+ghost use Rattle.cover_lists.specs.CoverIndex.{place_at};
 
-use crate::groups::RangedEntry;
+use cover_lists::groups::RangedEntry;
 use rb_bytes::fault::NoMemory;
 use std::alloc::Global;
 

@@ -20,5 +20,6 @@ returns c = λ m e.
 
 pub put_tables-requires-clause-order : goal.put_tables-requires-clause-order
 put_tables-requires-clause-order c =
-    subst (λ (ws : List Walked). AreInOrder 0 (length c.contents_of-section.result.now) ws) (sym (c.deref.ensures.value ∙ c.in_ok-tables.ensures))
+    subst (λ (ws : List Walked). AreInOrder 0 (length c.contents_of-section.result.now) ws)
+    (sym (c.deref.ensures.value ∙ c.in_ok-tables.ensures))
     (walked_order 5 c.contents_of-section.result.now)

@@ -1,52 +1,49 @@
-use Rattle.std.proofs.Common.{◌≡◌, ◌∙◌, ◌<◌, ℕ, List, Option, ap, arith, map, option_map, sym, subst}
-use Rattle.std.specs.Prelude.{find, not}
-use Rattle.std.specs.Option.{option_or}
+use Rattle.std.proofs.Common.{◌∙◌, ℕ, List, ap, arith, subst}
+use Rattle.std.specs.Prelude.{find}
 use Rattle.std.proofs.lemmas.Result.{err_from_is_err_and}
 use Rattle.rb_bytes.specs.FirstFault.{IsAnswered, IsFree}
-use Rattle.table_core.specs.DebugUnits.{Walked, first_place, other_version, walked}
-use Rattle.dw_unit.specs.Faults.{FaultPlaces, HasDwarfFault, unit_fault_places}
-use Rattle.dw_unit.specs.ListedUnits.{sections}
-use Rattle.addr_rewrite.specs.Aranges.{address_tables, bad_table}
+use Rattle.table_core.specs.DebugUnits.{Walked, first_place, walked}
+use Rattle.dw_unit.specs.Faults.{FaultPlaces, HasDwarfFault}
+use Rattle.addr_rewrite.specs.Aranges.{address_tables}
 use Rattle.addr_rewrite.specs.ArangesReading.{AreTables}
-use Rattle.addr_rewrite.specs.Tables.{places_by}
 use Rattle.addr_rewrite.specs.declared.unit_range.UnitRange.{UnitRange}
+use Rattle.addr_rewrite.proofs.FreePlaces.{places_joined}
 use Rattle.addr_rewrite.proofs.FlatTables.{holds, unit_of, unit_found}
 use Rattle.addr_rewrite.proofs.SmallUnits.{units_small}
 use Rattle.addr_rewrite.proofs.index_reader.read_index.Goals as goal
 
 pub returns-in_err-refused-clause-fault : goal.returns-in_err-refused-clause-fault
 returns-in_err-refused-clause-fault c =
-    let units : FaultPlaces = unit_fault_places (sections c.args.info.now c.args.abbrevs.now c.args.addr.now) in
     let section : List ℕ = c.args.section.now in
     let tables : AreTables (walked 2 section) c.in_ok-read.read =
     subst (λ (ws : List Walked). AreTables ws c.in_ok-read.read) (c.deref.ensures.value ∙ c.in_ok-tables.ensures) c.in_ok-read.ensures in
-    let other : c.other_version-other.result ≡ other_version 2 section =
-    c.other_version-other.ensures ∙ ap (first_place (λ (w : Walked). w.is_other)) (c.deref-2.ensures.value ∙ c.in_ok-tables.ensures) in
-    let version : c.or-version.result ≡ option_or units.version (other_version 2 section) =
-    c.or-version.ensures ∙ (λ i. option_or (c.in_ok-units.ensures i).version (other i)) in
-    let bad : c.or-bad.result ≡ option_or units.bad (bad_table section) =
-    c.or-bad.ensures ∙ (λ i. option_or (c.in_ok-units.ensures i).bad (tables.bad i)) in
-    let same : record { version = c.or-version.result; form = c.in_ok-units.units.form; high = c.in_ok-units.units.high; bad = c.or-bad.result }
-    ≡ places_by units section =
-    λ i. record { version = version i; form = (c.in_ok-units.ensures i).form; high = (c.in_ok-units.ensures i).high; bad = bad i } in
     let p = err_from_is_err_and c.from_residual-in_err-refused.result c.from_residual-in_err-refused.ensures.1 in
-    rw (p.1, p.2) (subst (λ (q : FaultPlaces). IsAnswered (HasDwarfFault q) c.in_err-refused.field-0.0) same c.in_err-refused.ensures.fault)
+    rw (p.1, p.2) (λ units are.
+    let same =
+    places_joined units (record {
+      version = c.args.units.version;
+      form = c.args.units.form;
+      high = c.args.units.high;
+      bad = c.args.units.bad;
+    }) section _ _ _ _ are c.or-version.ensures
+    (c.other_version-other.ensures ∙ ap (first_place (λ (w : Walked). w.is_other)) (c.deref-2.ensures.value ∙ c.in_ok-tables.ensures))
+    c.or-bad.ensures tables.bad in
+    subst (λ (q : FaultPlaces). IsAnswered (HasDwarfFault q) c.in_err-refused.field-0.0) same c.in_err-refused.ensures.fault)
 
 pub returns-clause-free : goal.returns-clause-free
-returns-clause-free c =
-    let units : FaultPlaces = unit_fault_places (sections c.args.info.now c.args.abbrevs.now c.args.addr.now) in
+returns-clause-free c = λ units are.
     let section : List ℕ = c.args.section.now in
     let tables : AreTables (walked 2 section) c.in_ok-read.read =
     subst (λ (ws : List Walked). AreTables ws c.in_ok-read.read) (c.deref.ensures.value ∙ c.in_ok-tables.ensures) c.in_ok-read.ensures in
-    let other : c.other_version-other.result ≡ other_version 2 section =
-    c.other_version-other.ensures ∙ ap (first_place (λ (w : Walked). w.is_other)) (c.deref-2.ensures.value ∙ c.in_ok-tables.ensures) in
-    let version : c.or-version.result ≡ option_or units.version (other_version 2 section) =
-    c.or-version.ensures ∙ (λ i. option_or (c.in_ok-units.ensures i).version (other i)) in
-    let bad : c.or-bad.result ≡ option_or units.bad (bad_table section) =
-    c.or-bad.ensures ∙ (λ i. option_or (c.in_ok-units.ensures i).bad (tables.bad i)) in
-    let same : record { version = c.or-version.result; form = c.in_ok-units.units.form; high = c.in_ok-units.units.high; bad = c.or-bad.result }
-    ≡ places_by units section =
-    λ i. record { version = version i; form = (c.in_ok-units.ensures i).form; high = (c.in_ok-units.ensures i).high; bad = bad i } in
+    let same =
+    places_joined units (record {
+      version = c.args.units.version;
+      form = c.args.units.form;
+      high = c.args.units.high;
+      bad = c.args.units.bad;
+    }) section _ _ _ _ are c.or-version.ensures
+    (c.other_version-other.ensures ∙ ap (first_place (λ (w : Walked). w.is_other)) (c.deref-2.ensures.value ∙ c.in_ok-tables.ensures))
+    c.or-bad.ensures tables.bad in
     subst (λ (q : FaultPlaces). IsFree (HasDwarfFault q)) same c.in_ok-refused.ensures.free
 
 pub returns-clause-kept : goal.returns-clause-kept

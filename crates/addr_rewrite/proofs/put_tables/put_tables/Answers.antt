@@ -29,7 +29,8 @@ loop-count-preserved c =
           ++ spelled_tables (tables_of (length c.args.stretches.now - (c.loop-count.count + 1)) l)) behind
           ∙ tables_more (length c.args.stretches.now) c.loop-count.count s others rest c.loop-count.out.items c.put_table.new.out.items _
           c.loop-count-test.true is
-          (c.in_ok-put_table-in-Some.ensures ∙ ap (λ (l : List Stretch). c.loop-count.out.items ++ spelled_table (table_bytes s.unit l)) table)
+          (c.in_ok-put_table-in-Some.ensures ∙ ap (λ (l : List Stretch). c.loop-count.out.items ++ spelled_table (table_bytes s.unit l))
+          table)
           c.loop-count.invariant.written;
       few = let less = fewer (c.count_of.result + 1) rest in
           let few = c.loop-count.invariant.few in

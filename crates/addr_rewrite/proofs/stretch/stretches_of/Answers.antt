@@ -7,7 +7,8 @@ use Rattle.addr_rewrite.proofs.stretch.stretches_of.Goals as goal
 
 pub overflow_cast-run : goal.overflow_cast-run
 overflow_cast-run c =
-    let small = All-get_or (λ (r : Run ℕ). r.answer < 2 ^ 32) c.args.runs.now c.loop-run.run-index (record { start = 0; len = 0; answer = 0 })
+    let small = All-get_or (λ (r : Run ℕ). r.answer < 2 ^ 32) c.args.runs.now c.loop-run.run-index
+    (record { start = 0; len = 0; answer = 0 })
     c.loop-run-test.true c.requires in
     omega (arith, small)
 

@@ -29,5 +29,6 @@ pub returns : goal.returns
 returns c =
     let r = c.args.reader.now in
     subst (λ (l : List Walked). AreNoted r.abbrevs r.addr l c.loop-number.faults)
-    (take_all c.loop-number.number r.units (subst (λ (l : List Walked). length l ≤ c.loop-number.number) c.units-units.ensures c.loop-number-test.false))
+    (take_all c.loop-number.number r.units (subst (λ (l : List Walked). length l ≤ c.loop-number.number) c.units-units.ensures
+    c.loop-number-test.false))
     c.loop-number.invariant

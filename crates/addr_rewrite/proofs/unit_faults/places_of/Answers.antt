@@ -14,11 +14,13 @@ pub returns : goal.returns
 returns c = λ s units tables noted.
     let p = unit_fault_places s in
     let ws : List Walked = walked 5 s.info in
-    let are : AreNoted s.abbrevs s.addr ws c.args.faults = subst (λ (us : List Walked). AreNoted s.abbrevs s.addr us c.args.faults) units noted in
+    let are : AreNoted s.abbrevs s.addr ws c.args.faults = subst (λ (us : List Walked). AreNoted s.abbrevs s.addr us c.args.faults) units
+    noted in
     let declared : List ℕ = places_with has_bad_form (declarations s) in
     let formless : List ℕ = flat_map (λ (w : Walked). unformed (unit_of s.abbrevs w)) ws in
     let version : c.or-version.result ≡ p.version = c.or-version.ensures
-    ∙ ap (λ (o : Option ℕ). option_or o c.other_version-table.result) (c.other_version-unit.ensures ∙ ap (first_place (λ (w : Walked). w.is_other)) units)
+    ∙ ap (λ (o : Option ℕ). option_or o c.other_version-table.result) (c.other_version-unit.ensures
+    ∙ ap (first_place (λ (w : Walked). w.is_other)) units)
     ∙ ap (option_or (other_version 5 s.info)) (c.other_version-table.ensures ∙ ap (first_place (λ (w : Walked). w.is_other)) tables) in
     let form : c.lower-form.result ≡ p.form = c.lower-form.ensures
     ∙ (λ i. lower (are.form i) (are.unformed_are i)) ∙ sym (least-append declared formless) in

@@ -1,7 +1,7 @@
 use Rattle.std.proofs.Common.{◌≡◌, take}
 use Rattle.std.specs.Prelude.{flat_map}
 use Rattle.range_loc_rewrite.specs.KeptPlaces.{said_by_number}
-use Rattle.range_loc_rewrite.specs.Locations.{all_said}
+use Rattle.dw_lists.specs.Locations.{all_said}
 use Rattle.range_loc_rewrite.proofs.located_places.places_at.Given as goal
 
 abbrev pub invariant-loop-number : goal.invariant-loop-number

@@ -1,8 +1,8 @@
 use Rattle.std.proofs.Common.{◌∙◌, ◌++◌, [], Option, ap, sym, append-nil}
 use Rattle.std.specs.Option.{option_map_or}
-use Rattle.range_loc_rewrite.specs.declared.located_attr.LocatedAttr.{LocatedAttr}
-use Rattle.range_loc_rewrite.specs.Locations.{all_said}
-use Rattle.range_loc_rewrite.specs.UnitLocations.{located_says}
+use Rattle.list_units.specs.declared.located_attr.LocatedAttr.{LocatedAttr}
+use Rattle.dw_lists.specs.Locations.{all_said}
+use Rattle.list_units.specs.UnitLocations.{located_says}
 use Rattle.range_loc_rewrite.proofs.located_places.put_number.Goals as goal
 
 pub returns-in-None : goal.returns-in-None

@@ -1,6 +1,6 @@
 use Rattle.std.proofs.Common.{◌<◌, ◌≤◌, ◌∙◌, ap, arith, length, refl, sym}
-use Rattle.range_loc_rewrite.specs.Locations.{place_said}
-use Rattle.range_loc_rewrite.proofs.SameMapped.{mapped_more, mapped_end, mapped_at}
+use Rattle.dw_lists.specs.Locations.{place_said}
+use Rattle.cover_lists.proofs.SameMapped.{mapped_more, mapped_end, mapped_at}
 use Rattle.range_loc_rewrite.proofs.place_answer.same_places.Goals as goal
 
 pub returns-then-not-same_place : goal.returns-then-not-same_place

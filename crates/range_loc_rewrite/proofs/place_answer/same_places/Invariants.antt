@@ -1,5 +1,5 @@
 use Rattle.std.proofs.Common.{◌≡◌, drop, map}
-use Rattle.range_loc_rewrite.specs.Locations.{place_said}
+use Rattle.dw_lists.specs.Locations.{place_said}
 use Rattle.range_loc_rewrite.proofs.place_answer.same_places.Given as goal
 
 abbrev pub invariant-loop-i : goal.invariant-loop-i

@@ -1,7 +1,7 @@
 use Rattle.std.proofs.Common.{◌∙◌, ◌++◌, [], ℕ, Option, ap}
 use Rattle.std.specs.List.{cons_option}
-use Rattle.range_loc_rewrite.specs.CoverIndex.{place_at}
-use Rattle.range_loc_rewrite.proofs.ByNumbers.{picked_more}
+use Rattle.cover_lists.specs.CoverIndex.{place_at}
+use Rattle.cover_lists.proofs.ByNumbers.{picked_more}
 use Rattle.range_loc_rewrite.proofs.places.places_of.Goals as goal
 
 pub loop-number-preserved : goal.loop-number-preserved

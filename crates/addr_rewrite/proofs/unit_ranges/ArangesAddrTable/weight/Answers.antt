@@ -13,5 +13,6 @@ returns c =
       sum_by (λ (r : Run ℕ). run_weight + 0) said,
       record { runs = said; are_runs = c.in_ok-runs.ensures.runs; sum = refl },
       c.weight_of.ensures
-          ∙ ap (λ (n : ℕ). min n (2 ^ 64 - 1)) (ap (λ (l : List (Run ℕ)). run_weight * length l) c.deref.ensures.value ∙ sym (weight_is runs)),
+          ∙ ap (λ (n : ℕ). min n (2 ^ 64 - 1)) (ap (λ (l : List (Run ℕ)). run_weight * length l) c.deref.ensures.value
+          ∙ sym (weight_is runs)),
     )

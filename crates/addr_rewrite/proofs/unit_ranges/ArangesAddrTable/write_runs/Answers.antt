@@ -26,4 +26,5 @@ returns-clause-made c =
     let small = subst (λ (s : List ℕ). (a u : ℕ) → unit_at s a ≡ Some u → u < 2 ^ 32) c.self.view_is c.self.invariant.small in
     let w = c.in_ok-put_runs.ensures in
     written_made c.args.self.now small c.args.map.now c.args.runs.now c.requires.within c.requires.answers c.requires.fitting
-    w.0 w.1 w.2 _ (w.3 ∙ ap (λ (l : List ℕ). l ++ spelled_tables (tables_of (length w.0) w.0)) c.in_ok-bytes.ensures.items) c.new.ensures.items
+    w.0 w.1 w.2 _ (w.3 ∙ ap (λ (l : List ℕ). l ++ spelled_tables (tables_of (length w.0) w.0)) c.in_ok-bytes.ensures.items)
+    c.new.ensures.items

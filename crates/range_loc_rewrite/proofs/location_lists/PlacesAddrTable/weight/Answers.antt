@@ -1,9 +1,9 @@
 use Rattle.std.proofs.Common.{◌∙◌, ◌+◌, ◌-◌, ◌^◌, ℕ, List, ap, subst, min}
-use Rattle.range_loc_rewrite.specs.declared.kept_list.KeptList.{KeptList}
-use Rattle.range_loc_rewrite.specs.Faults.{ListSections, list_sections_held}
-use Rattle.range_loc_rewrite.specs.Lists.{locations_kind}
-use Rattle.range_loc_rewrite.specs.ListWeights.{IsListsWeight}
-use Rattle.range_loc_rewrite.specs.Weights.{IsPlacesWeight, index_weights}
+use Rattle.cover_lists.specs.declared.kept_list.KeptList.{KeptList}
+use Rattle.dw_lists.specs.Faults.{ListSections, list_sections_held}
+use Rattle.dw_lists.specs.Lists.{locations_kind}
+use Rattle.cover_lists.specs.ListWeights.{IsListsWeight}
+use Rattle.dw_lists.specs.Weights.{IsPlacesWeight, index_weights}
 use Rattle.range_loc_rewrite.proofs.PlaceWeights.{places_weight}
 use Rattle.range_loc_rewrite.proofs.RangeWeights.{weights_joined}
 use Rattle.range_loc_rewrite.proofs.location_lists.PlacesAddrTable.weight.Goals as goal
@@ -18,7 +18,7 @@ returns c =
     let lists : IsListsWeight t.kept.lists.items spans n =
     subst (λ (ls : List KeptList). IsListsWeight ls spans n) c.deref.ensures.value of_lists.1 in
     let weighed : IsPlacesWeight s spans (index_weights locations_kind.index_form s + n) =
-    places_weight s spans t.kept t.index t.bounds.items t.index_weight n c.self.invariant lists in (
+    places_weight s spans t.kept t.named.items t.index t.bounds.items t.index_weight n c.self.invariant lists in (
       index_weights locations_kind.index_form s + n,
       subst (λ (x : ListSections). IsPlacesWeight x spans (index_weights locations_kind.index_form s + n)) c.self.view_is weighed,
       weights_joined c.saturating_add.result n t.index_weight (index_weights locations_kind.index_form s) (2 ^ 64 - 1)

@@ -1,7 +1,7 @@
 use Rattle.std.proofs.Common.{◌≡◌, ◌∙◌, ℕ, List, All, ap, sym, subst, nat_le}
 use Rattle.table_core.specs.ReadSteps.{unless_empty}
-use Rattle.range_loc_rewrite.specs.Faults.{ListSections}
-use Rattle.range_loc_rewrite.specs.ListTables.{place_says}
+use Rattle.dw_lists.specs.Faults.{ListSections}
+use Rattle.dw_lists.specs.ListTables.{place_says}
 use Rattle.range_loc_rewrite.proofs.location_lists.PlacesByAddress.alike.Goals as goal
 
 pub returns : goal.returns

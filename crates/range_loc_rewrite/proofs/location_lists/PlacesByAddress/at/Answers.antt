@@ -1,10 +1,10 @@
 use Rattle.std.proofs.Common.{◌≡◌, ◌∙◌, ap}
 use Rattle.std.specs.Prelude.{flat_map}
 use Rattle.table_core.specs.ReadSteps.{unless_empty}
-use Rattle.range_loc_rewrite.specs.Faults.{ListSections, list_sections_held}
+use Rattle.dw_lists.specs.Faults.{ListSections, list_sections_held}
 use Rattle.range_loc_rewrite.specs.KeptPlaces.{said_by_number, ranged_of}
-use Rattle.range_loc_rewrite.specs.ListTables.{place_says}
-use Rattle.range_loc_rewrite.specs.Locations.{all_said, places_said}
+use Rattle.dw_lists.specs.ListTables.{place_says}
+use Rattle.dw_lists.specs.Locations.{places_said, all_said}
 use Rattle.range_loc_rewrite.proofs.FoundPlaces.{found_places}
 use Rattle.std.proofs.Common.{map}
 use Rattle.range_loc_rewrite.proofs.location_lists.PlacesByAddress.at.Goals as goal
@@ -15,6 +15,6 @@ returns c =
     let s : ListSections = list_sections_held t.info.items t.abbrevs.items t.addr.items t.ranges.items t.locations.items in
     let found : all_said c.in_ok-places.places ≡ places_said s c.args.a =
     c.in_ok-places.ensures ∙ ap (flat_map (said_by_number t.kept c.args.a)) c.deref.ensures.value
-    ∙ found_places s t.kept t.index t.bounds.items t.index_weight c.args.a c.in_ok-numbers.numbers.items c.self.invariant
+    ∙ found_places s t.kept t.named.items t.index t.bounds.items t.index_weight c.args.a c.in_ok-numbers.numbers.items c.self.invariant
     (c.in_ok-numbers.ensures t.index.tree (map ranged_of t.kept.located.items) c.self.invariant.index_is) in
     c.unless_empty.ensures ∙ ap unless_empty found ∙ ap (λ (x : ListSections). place_says x c.args.a) c.self.view_is

@@ -1,67 +1,44 @@
-use Rattle.std.proofs.Common.{◌≡◌, ◌∙◌, [], ℕ, List, sym, subst}
+use Rattle.std.proofs.Common.{◌≡◌, ℕ, List, sym, subst}
 use Rattle.std.proofs.lemmas.Result.{err_from_is_err_and}
-use Rattle.rb_bytes.specs.FirstFault.{IsRefusalBy}
+use Rattle.rb_bytes.specs.FirstFault.{IsFree, IsRefusalBy}
 use Rattle.dw_unit.specs.Faults.{HasDwarfFault}
-use Rattle.range_loc_rewrite.specs.declared.groups.RangedEntry.{RangedEntry}
-use Rattle.std.specs.List.Sorted.{IsPermutation}
-use Rattle.range_loc_rewrite.specs.declared.cover_tree.Cover.{Cover}
-use Rattle.range_loc_rewrite.specs.Bounds.{bounds_in}
-use Rattle.range_loc_rewrite.specs.CoverIndex.{IsCoverIndex}
-use Rattle.range_loc_rewrite.specs.Faults.{ListSections, list_sections_held, range_places}
-use Rattle.range_loc_rewrite.specs.Groups.{AreWithin}
-use Rattle.range_loc_rewrite.specs.RangeReading.{AreRangesOf}
-use Rattle.range_loc_rewrite.specs.Tables.{list_sections}
+use Rattle.dw_lists.specs.Faults.{ListSections, list_sections_held, range_places}
+use Rattle.dw_lists.specs.Tables.{list_sections}
+use Rattle.list_units.specs.RangeReading.{AreRangesOf}
 use Rattle.range_loc_rewrite.proofs.FreeRanges.{ranges_free}
-use Rattle.range_loc_rewrite.proofs.HeldPlaces.{kept_are}
 use Rattle.range_loc_rewrite.proofs.range_lists.RangesAddrTable.read.Goals as goal
 
 pub returns-in_err-entries-clause-reads : goal.returns-in_err-entries-clause-reads
 returns-in_err-entries-clause-reads c =
-    let p = err_from_is_err_and c.from_residual-in_err-entries.result c.from_residual-in_err-entries.ensures.1 in
-    let locations : List ℕ = c.in_ok-locations.locations.items in
-    let same : list_sections_held c.deref.result.now c.deref-2.result.now c.deref-3.result.now c.deref-4.result.now locations
-    ≡ list_sections c.args.elf.now =
-    λ i. list_sections_held ((c.deref.ensures.value ∙ c.in_ok-info.ensures.items ∙ c.contents_of.ensures) i)
-    ((c.deref-2.ensures.value ∙ c.in_ok-abbrevs.ensures.items ∙ c.contents_of-2.ensures) i)
-    ((c.deref-3.ensures.value ∙ c.in_ok-addr.ensures.items ∙ c.contents_of-3.ensures) i)
-    ((c.deref-4.ensures.value ∙ c.in_ok-ranges.ensures.items ∙ c.contents_of-4.ensures) i)
-    ((c.in_ok-locations.ensures.items ∙ c.contents_of-5.ensures) i) in
+    let p = err_from_is_err_and c.from_residual.result c.from_residual.ensures.1 in
+    let locations : List ℕ = (list_sections c.args.elf.now).locations in
+    let same : list_sections_held c.contents_of-info.result.now c.contents_of-abbrevs.result.now c.contents_of-addr.result.now
+    c.contents_of-ranges.result.now locations ≡ list_sections c.args.elf.now =
+    λ i. list_sections_held (c.contents_of-info.ensures i) (c.contents_of-abbrevs.ensures i) (c.contents_of-addr.ensures i)
+    (c.contents_of-ranges.ensures i) locations in
     rw (p.1, p.2) (subst (λ (x : ListSections). IsRefusalBy (HasDwarfFault (range_places x)) c.in_err-entries.field-0.0) same
     (c.in_err-entries.ensures.fault locations))
 
-pub new-requires-clause-numbered : goal.new-requires-clause-numbered
-new-requires-clause-numbered c = (c.in_ok-entries.ensures.read []).numbered
-
-pub new-requires-clause-within : goal.new-requires-clause-within
-new-requires-clause-within c =
-    subst (AreWithin c.in_ok-entries.entries.groups.count) (sym c.deref-5.ensures.value) (c.in_ok-entries.ensures.read []).within
-
-pub invariant_of-result : goal.invariant_of-result
-invariant_of-result c =
-    let s : ListSections = list_sections_held c.in_ok-info.info.items c.in_ok-abbrevs.abbrevs.items c.in_ok-addr.addr.items
-    c.in_ok-ranges.ranges.items c.in_ok-locations.locations.items in
-    let locations : List ℕ = c.in_ok-locations.locations.items in
-    let held : list_sections_held c.deref.result.now c.deref-2.result.now c.deref-3.result.now c.deref-4.result.now locations ≡ s =
-    λ i. list_sections_held (c.deref.ensures.value i) (c.deref-2.ensures.value i) (c.deref-3.ensures.value i) (c.deref-4.ensures.value i) locations in
-    kept_are s c.in_ok-entries.entries.groups c.in_ok-entries.entries.ranged.items c.in_ok-index.index c.in_ok-bounds.bounds.items c.in_ok-entries.entries.index_weight
-    (subst (λ (x : ListSections). AreRangesOf x c.in_ok-entries.entries.groups c.in_ok-entries.entries.ranged.items c.in_ok-entries.entries.index_weight) held
-    (c.in_ok-entries.ensures.read locations))
-    (subst (λ (rs : List RangedEntry). IsCoverIndex c.in_ok-entries.entries.groups.covers.items rs c.in_ok-index.index)
-    c.deref-5.ensures.value c.in_ok-index.ensures)
-    c.in_ok-bounds.ensures.rising
-    (subst (λ (cs : List Cover). IsPermutation (bounds_in cs) c.in_ok-bounds.bounds.items) c.deref-6.ensures.value c.in_ok-bounds.ensures.all)
+pub keep-requires : goal.keep-requires
+keep-requires c =
+    let e = c.in_ok-entries.entries in
+    let locations : List ℕ = (list_sections c.args.elf.now).locations in
+    let same : list_sections_held c.contents_of-info.result.now c.contents_of-abbrevs.result.now c.contents_of-addr.result.now
+    c.contents_of-ranges.result.now locations ≡ list_sections c.args.elf.now =
+    λ i. list_sections_held (c.contents_of-info.ensures i) (c.contents_of-abbrevs.ensures i) (c.contents_of-addr.ensures i)
+    (c.contents_of-ranges.ensures i) locations in
+    subst (λ (x : ListSections). AreRangesOf x e.groups e.ranged.items e.index_weight) same (c.in_ok-entries.ensures.read locations)
 
 pub returns-clause-reads : goal.returns-clause-reads
 returns-clause-reads c =
-    let s : ListSections = list_sections_held c.in_ok-info.info.items c.in_ok-abbrevs.abbrevs.items c.in_ok-addr.addr.items
-    c.in_ok-ranges.ranges.items c.in_ok-locations.locations.items in
-    let locations : List ℕ = c.in_ok-locations.locations.items in
-    let held : list_sections_held c.deref.result.now c.deref-2.result.now c.deref-3.result.now c.deref-4.result.now locations ≡ s =
-    λ i. list_sections_held (c.deref.ensures.value i) (c.deref-2.ensures.value i) (c.deref-3.ensures.value i) (c.deref-4.ensures.value i) locations in
-    let same : s ≡ list_sections c.args.elf.now =
-    λ i. list_sections_held ((c.in_ok-info.ensures.items ∙ c.contents_of.ensures) i) ((c.in_ok-abbrevs.ensures.items ∙ c.contents_of-2.ensures) i)
-    ((c.in_ok-addr.ensures.items ∙ c.contents_of-3.ensures) i) ((c.in_ok-ranges.ensures.items ∙ c.contents_of-4.ensures) i)
-    ((c.in_ok-locations.ensures.items ∙ c.contents_of-5.ensures) i) in
-    ranges_free c.args.elf.now s same
-    (subst (λ (x : ListSections). AreRangesOf x c.in_ok-entries.entries.groups c.in_ok-entries.entries.ranged.items c.in_ok-entries.entries.index_weight) held
-    (c.in_ok-entries.ensures.read locations)).free
+    let e = c.in_ok-entries.entries in
+    let locations : List ℕ = (list_sections c.args.elf.now).locations in
+    let same : list_sections_held c.contents_of-info.result.now c.contents_of-abbrevs.result.now c.contents_of-addr.result.now
+    c.contents_of-ranges.result.now locations ≡ list_sections c.args.elf.now =
+    λ i. list_sections_held (c.contents_of-info.ensures i) (c.contents_of-abbrevs.ensures i) (c.contents_of-addr.ensures i)
+    (c.contents_of-ranges.ensures i) locations in
+    let free : IsFree (HasDwarfFault (range_places (list_sections c.args.elf.now))) =
+    (subst (λ (x : ListSections). AreRangesOf x e.groups e.ranged.items e.index_weight) same (c.in_ok-entries.ensures.read locations)).free
+    in
+    ranges_free c.args.elf.now c.in_ok-table.table c.in_ok-table.ensures
+    (subst (λ (x : ListSections). IsFree (HasDwarfFault (range_places x))) (sym c.in_ok-table.ensures) free)

@@ -1,73 +1,13 @@
-use Rattle.std.proofs.Common.{◌≡◌, ◌∙◌, ◌<◌, ℕ, List, [], ap, sym, subst, map, length}
-use Rattle.std.specs.Prelude.{option_map}
-use Rattle.std.specs.Global.{Vec}
-use Rattle.table_core.specs.declared.run.Run.{Run}
-use Rattle.table_core.specs.AnswerRuns.{run_at, carried}
-use Rattle.range_loc_rewrite.specs.declared.cover_tree.Cover.{Cover}
-use Rattle.range_loc_rewrite.specs.declared.groups.RangedEntry.{RangedEntry}
-use Rattle.range_loc_rewrite.specs.declared.list_kind.ListKind.TheVariants.{Ranges}
-use Rattle.range_loc_rewrite.specs.declared.named_list.NamedList.{NamedList}
-use Rattle.range_loc_rewrite.specs.Faults.{ListSections, list_sections_held}
-use Rattle.range_loc_rewrite.specs.GroupRuns.{IsGroupRuns, runs_in}
-use Rattle.range_loc_rewrite.specs.KeptRanges.{AreKept}
-use Rattle.range_loc_rewrite.specs.ListTables.{range_says, RangesMade}
-use Rattle.range_loc_rewrite.specs.Tables.{list_sections}
-use Rattle.range_loc_rewrite.specs.WrittenRanges.{group_bytes, named_of}
-use Rattle.range_loc_rewrite.specs.WrittenTables.{AreInOrder, AreWritten, OwnsRise}
-use Rattle.range_loc_rewrite.proofs.WrittenLaw.{kept_order, kept_owns, made_of, law_of}
+use Rattle.std.proofs.Common.{◌≡◌, ℕ, List, Option, sym, subst}
+use Rattle.table_core.specs.CarriedAnswers.{IsCarried}
+use Rattle.dw_lists.specs.Tables.{range_answers}
 use Rattle.range_loc_rewrite.proofs.range_lists.RangesAddrTable.write_runs.Goals as goal
-
-pub write_tables-requires-clause-order : goal.write_tables-requires-clause-order
-write_tables-requires-clause-order c =
-    let t = c.self.inside in
-    let s : ListSections = list_sections_held t.info.items t.abbrevs.items t.addr.items t.ranges.items t.locations.items in
-    subst (AreInOrder Ranges 0) (sym (c.deref-4.ensures.value ∙ c.in_ok-named.ensures ∙ ap (map named_of) c.deref-2.ensures.value))
-    (kept_order s t.ranged.items t.count t.index t.bounds.items t.index_weight c.self.invariant)
-
-pub write_tables-requires-clause-owns : goal.write_tables-requires-clause-owns
-write_tables-requires-clause-owns c =
-    let t = c.self.inside in
-    let s : ListSections = list_sections_held t.info.items t.abbrevs.items t.addr.items t.ranges.items t.locations.items in
-    subst (OwnsRise 0) (sym (c.deref-4.ensures.value ∙ c.in_ok-named.ensures ∙ ap (map named_of) c.deref-2.ensures.value))
-    (kept_owns s t.ranged.items t.count t.index t.bounds.items t.index_weight c.self.invariant)
 
 pub returns-clause-law : goal.returns-clause-law
 returns-clause-law c = λ i f from stands.
-    let t = c.self.inside in
-    let s : ListSections = list_sections_held t.info.items t.abbrevs.items t.addr.items t.ranges.items t.locations.items in
-    let same : s ≡ list_sections i = c.self.view_is ∙ from in
-    let spans = c.args.map.now in
-    let runs : List (Run (Vec ℕ)) = c.args.runs.now in
-    let lists = c.in_ok-lists.lists.items in
-    let bs = c.in_ok-bytes.bytes.items in
-    let w = c.in_ok-written.written in
-    let are = subst (λ (x : ListSections). AreKept x t.ranged.items t.count t.index t.bounds.items t.index_weight) same c.self.invariant in
-    let answers : (p : ℕ) → option_map (λ (v : Vec ℕ). v.items) (run_at runs p) ≡ carried (range_says (list_sections i)) spans p =
-    λ p. c.requires.answers p ∙ ap (λ (x : ListSections). carried (range_says x) spans p) from in
-    let grouped : (g : ℕ) → g < t.count → IsGroupRuns spans t.index.tree g runs (runs_in lists g) =
-    λ g below. subst (λ (cs : List Cover). IsGroupRuns spans cs g runs (runs_in lists g)) c.tree.ensures (c.in_ok-lists.ensures.each g below) in
-    let spelled : map (λ (b : Vec ℕ). b.items) bs ≡ map group_bytes lists = c.in_ok-bytes.ensures ∙ ap (map group_bytes) c.deref.ensures.value in
-    let named : c.deref-4.result.now ≡ map named_of t.ranged.items =
-    c.deref-4.ensures.value ∙ c.in_ok-named.ensures ∙ ap (map named_of) c.deref-2.ensures.value in
-    let written : AreWritten Ranges bs (map named_of t.ranged.items) (map named_of t.ranged.items) [] w.bytes.items w.lists.items =
-    subst (λ (ns : List NamedList). AreWritten Ranges bs ns ns [] w.bytes.items w.lists.items) named
-    (subst (λ (ls : List (Vec ℕ)). AreWritten Ranges ls c.deref-4.result.now c.deref-4.result.now [] w.bytes.items w.lists.items) c.deref-3.ensures.value
-    c.in_ok-written.ensures.written) in
-    law_of i f spans t.ranged.items t.count t.index t.bounds.items t.index_weight are runs lists c.requires.within answers grouped
-    c.in_ok-lists.ensures.count bs spelled w written stands
-
-pub returns-clause-made : goal.returns-clause-made
-returns-clause-made c =
-    let t = c.self.inside in
-    let s : ListSections = list_sections_held t.info.items t.abbrevs.items t.addr.items t.ranges.items t.locations.items in
-    let bs = c.in_ok-bytes.bytes.items in
-    let w = c.in_ok-written.written in
-    let named : c.deref-4.result.now ≡ map named_of t.ranged.items =
-    c.deref-4.ensures.value ∙ c.in_ok-named.ensures ∙ ap (map named_of) c.deref-2.ensures.value in
-    let written : AreWritten Ranges bs (map named_of t.ranged.items) (map named_of t.ranged.items) [] w.bytes.items w.lists.items =
-    subst (λ (ns : List NamedList). AreWritten Ranges bs ns ns [] w.bytes.items w.lists.items) named
-    (subst (λ (ls : List (Vec ℕ)). AreWritten Ranges ls c.deref-4.result.now c.deref-4.result.now [] w.bytes.items w.lists.items) c.deref-3.ensures.value
-    c.in_ok-written.ensures.written) in
-    subst (λ (x : ListSections). RangesMade x w) c.self.view_is
-    (made_of s t.ranged.items t.count t.index t.bounds.items t.index_weight c.self.invariant bs w written
-    (λ e. c.in_ok-written.ensures.none (ap length named ∙ e)))
+    let law = c.in_ok-written.ensures.law i f from stands in (
+      subst (λ (wanted : ℕ → Option (List ℕ)). IsCarried (λ x y. x ≡ y) c.args.map.now wanted (range_answers f)) (λ k p. sym (c.requires.answers p) k)
+          law.0,
+      law.1,
+      tt,
+    )

@@ -1,7 +1,7 @@
 use Rattle.std.proofs.Common.{◌≡◌, ◌∙◌, ℕ, List, All, ap, sym, subst, nat_le}
 use Rattle.table_core.specs.ReadSteps.{unless_empty}
-use Rattle.range_loc_rewrite.specs.Faults.{ListSections, list_sections_held}
-use Rattle.range_loc_rewrite.specs.ListTables.{range_says}
+use Rattle.dw_lists.specs.Faults.{ListSections, list_sections_held}
+use Rattle.dw_lists.specs.ListTables.{range_says}
 use Rattle.range_loc_rewrite.proofs.HeldPlaces.{covered_alike}
 use Rattle.range_loc_rewrite.proofs.range_lists.RangesByAddress.alike.Goals as goal
 

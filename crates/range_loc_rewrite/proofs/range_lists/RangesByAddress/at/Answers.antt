@@ -1,10 +1,10 @@
 use Rattle.std.proofs.Common.{◌≡◌, ◌∙◌, ap}
 use Rattle.std.specs.Prelude.{filter_map}
 use Rattle.table_core.specs.ReadSteps.{unless_empty}
-use Rattle.range_loc_rewrite.specs.CoverIndex.{place_at}
-use Rattle.range_loc_rewrite.specs.Faults.{ListSections, list_sections_held}
-use Rattle.range_loc_rewrite.specs.ListTables.{range_says}
-use Rattle.range_loc_rewrite.specs.Ranges.{covering}
+use Rattle.cover_lists.specs.CoverIndex.{place_at}
+use Rattle.dw_lists.specs.Faults.{ListSections, list_sections_held}
+use Rattle.dw_lists.specs.ListTables.{range_says}
+use Rattle.dw_lists.specs.Ranges.{covering}
 use Rattle.range_loc_rewrite.proofs.HeldPlaces.{found_are}
 use Rattle.range_loc_rewrite.proofs.range_lists.RangesByAddress.at.Goals as goal
 

@@ -1,0 +1,42 @@
+-- Addresses between which no range starts or ends.
+use Rattle.std.proofs.Common.{◌≡◌, ◌∙◌, ◌<◌, ◌≤◌, ◌==◌, ◌&&◌, ◌||◌, ◌∷◌, [], ℕ, Bool, not, List, All, refl, sym, ap, arith, length, get_or, map, filter, nat_le, nat_lt, ⊎_elim}
+use Rattle.std.proofs.lemmas.Bool.{cases_lt}
+use Rattle.std.proofs.lemmas.Bool.Decides.{nat_tests}
+use Rattle.std.proofs.lemmas.List.Elements.{All-head, All-tail}
+use Rattle.cover_lists.specs.declared.cover_tree.Cover.{Cover}
+use Rattle.cover_lists.specs.declared.groups.RangedEntry.{RangedEntry}
+use Rattle.cover_lists.specs.Bounds.{bounds_in}
+use Rattle.cover_lists.specs.Groups.{group_holds, held_places}
+
+-- as many bounds are at most the one as the other
+pub same_side : (bs : List ℕ) (m n a b : ℕ) → m ≡ n → ((k d : ℕ) → k < m → get_or bs k d ≤ a) →
+    ((k d : ℕ) → m ≤ k → k < length bs → a < get_or bs k d) → ((k d : ℕ) → k < n → get_or bs k d ≤ b) →
+    ((k d : ℕ) → n ≤ k → k < length bs → b < get_or bs k d) → All (λ x. nat_le x a ≡ nat_le x b) bs
+same_side bs m n a b same low high below above = λ k d h. ⊎_elim
+    (λ (l : k < m). both_at (get_or bs k d) a b (low k d l) (below k d (omega (arith, same))))
+    (λ (g : m ≤ k). both_past (get_or bs k d) a b (high k d g h) (above k d (omega (arith, same)) h))
+    (cases_lt k m)
+  where
+    both_at : (x a b : ℕ) → x ≤ a → x ≤ b → nat_le x a ≡ nat_le x b
+    both_at x a b p q = grind (arith, nat_tests)
+
+    both_past : (x a b : ℕ) → a < x → b < x → nat_le x a ≡ nat_le x b
+    both_past x a b p q = grind (arith, nat_tests)
+
+lt_not : (a x : ℕ) → nat_lt a x ≡ not (nat_le x a)
+lt_not a x = grind (arith, nat_tests)
+
+pub alike_groups : (cs : List Cover) (a b g : ℕ) → All (λ x. nat_le x a ≡ nat_le x b) (bounds_in cs) → group_holds cs g a ≡ group_holds cs g b
+alike_groups [] a b g same = refl
+alike_groups (c ∷ cs) a b g same =
+    let low : nat_le c.low a ≡ nat_le c.low b = All-head (λ x. nat_le x a ≡ nat_le x b) c.low (c.high ∷ bounds_in cs) same in
+    let more : All (λ x. nat_le x a ≡ nat_le x b) (c.high ∷ bounds_in cs) = All-tail (λ x. nat_le x a ≡ nat_le x b) c.low (c.high ∷ bounds_in cs) same in
+    let high : nat_lt a c.high ≡ nat_lt b c.high =
+    lt_not a c.high ∙ ap not (All-head (λ x. nat_le x a ≡ nat_le x b) c.high (bounds_in cs) more) ∙ sym (lt_not b c.high) in
+    let rest : group_holds cs g a ≡ group_holds cs g b = alike_groups cs a b g (All-tail (λ x. nat_le x a ≡ nat_le x b) c.high (bounds_in cs) more) in
+    λ i. ((c.group == g) && (low i && high i)) || rest i
+
+pub held_alike_at : (cs : List Cover) (rs : List RangedEntry) (a b : ℕ) → ((g : ℕ) → group_holds cs g a ≡ group_holds cs g b) →
+    held_places cs rs a ≡ held_places cs rs b
+held_alike_at cs rs a b same =
+    ap (λ (t : RangedEntry → Bool). map (λ (r : RangedEntry). r.place) (filter t rs)) (λ i r. same r.group i)

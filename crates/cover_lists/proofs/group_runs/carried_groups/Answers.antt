@@ -1,0 +1,29 @@
+use Rattle.std.proofs.Common.{◌≡◌, ◌≤◌, ◌-◌, ◌^◌, ℕ, List, All, ap, subst, sym, nat_le}
+use Rattle.table_core.specs.declared.run.Run.{Run}
+use Rattle.table_core.specs.AnswerRuns.{IsWithin}
+use Rattle.table_core.proofs.Grown.{within-up}
+use Rattle.cover_lists.specs.GroupRuns.{IsGroupRuns, held_by, if_held, runs_end, runs_in}
+use Rattle.cover_lists.proofs.CarriedLists.{carried_runs}
+use Rattle.cover_lists.proofs.StretchRuns.{runs_end_le}
+use Rattle.cover_lists.proofs.group_runs.carried_groups.Goals as goal
+
+pub returns-clause-each : goal.returns-clause-each
+returns-clause-each c = λ g below.
+    let ss : List (Run ℕ) = c.in_ok-stretches.stretches.items in
+    let runs = runs_in c.in_ok-lists.lists.items g in
+    let is : IsGroupRuns c.args.tree.now g ss runs =
+    subst (λ (l : List (Run ℕ)). IsGroupRuns c.args.tree.now g l runs) c.deref.ensures.value (c.in_ok-lists.ensures.each g below) in
+    carried_runs (held_by c.args.tree.now g) c.args.bounds.now (λ a b same. ap if_held (c.requires.apart a b same g))
+    c.args.map.now ss (runs_end 0 ss) runs c.in_ok-stretches.ensures.runs is.are.within is.are.longest is.answers
+
+pub returns-clause-within : goal.returns-clause-within
+returns-clause-within c = λ g below.
+    let ss : List (Run ℕ) = c.in_ok-stretches.stretches.items in
+    let runs = runs_in c.in_ok-lists.lists.items g in
+    let is : IsGroupRuns c.args.tree.now g ss runs =
+    subst (λ (l : List (Run ℕ)). IsGroupRuns c.args.tree.now g l runs) c.deref.ensures.value (c.in_ok-lists.ensures.each g below) in
+    within-up 0 runs (runs_end 0 ss) (2 ^ 64 - 1) is.are.within (runs_end_le 0 ss (2 ^ 64 - 1) c.in_ok-stretches.ensures.within)
+
+pub group_runs-requires : goal.group_runs-requires
+group_runs-requires c =
+    subst (λ (l : List (Run ℕ)). IsWithin 0 l (2 ^ 64 - 1)) (sym c.deref.ensures.value) c.in_ok-stretches.ensures.within

@@ -1,0 +1,69 @@
+-- What is kept of location lists: which of their expressions are in force at an address.
+use Rattle.std.specs.Prelude.{◌≡◌, ◌+◌, ◌<◌, ◌≤◌, ℕ, List, [], ◌∷◌, ◌++◌, length, map, filter, filter_map, Option, Some, flat_map}
+use Rattle.std.specs.Prelude.{option_map, is_some, slice_get}
+use Rattle.std.specs.Global.{Vec}
+use Rattle.std.specs.List.{range_with_len}
+use Rattle.std.specs.Option.{option_map_or}
+use Rattle.std.specs.Ordering.{nat_cmp}
+use Rattle.std.specs.BTreeMap.{BTreeMap, get}
+use Rattle.cover_lists.specs.declared.cover_tree.Cover.{Cover}
+use Rattle.cover_lists.specs.declared.kept_list.KeptList.{KeptList}
+use Rattle.cover_lists.specs.Groups.{group_holds, covers_for}
+use Rattle.cover_lists.specs.Located.{Located, in_force}
+use Rattle.cover_lists.specs.Bounds.{bounds_in}
+
+abbrev pub items_in : List (Vec ℕ) → List (List ℕ)
+items_in vs = map (λ (v : Vec ℕ). v.items) vs
+
+-- The ranges of a list's items, each of the group of its item's number; the first has a given one.
+abbrev pub numbered_covers : ℕ → List Located → List Cover
+numbered_covers n [] = []
+numbered_covers n (l ∷ ls) = covers_for n l.range ++ numbered_covers (n + 1) ls
+
+-- the expression of the item of a number
+abbrev pub expression_of : List (Vec ℕ) → ℕ → Option (List ℕ)
+expression_of xs k = option_map (λ (v : Vec ℕ). v.items) (slice_get xs k)
+
+-- the numbers of the items whose ranges hold an address
+abbrev pub bounded_numbers : List Cover → ℕ → ℕ → List ℕ
+bounded_numbers tree n a = filter (λ k. group_holds tree k a) (range_with_len 0 n)
+
+abbrev pub unless_none : List (List ℕ) → List (List ℕ) → List (List ℕ)
+unless_none [] ys = ys
+unless_none (x ∷ xs) ys = x ∷ xs
+
+-- the expressions of a list that are in force at an address
+abbrev pub list_says : KeptList → ℕ → List (List ℕ)
+list_says l a = unless_none (filter_map (expression_of l.expressions.items)
+    (bounded_numbers l.tree (length l.expressions.items) a))
+    (items_in l.defaults.items)
+
+abbrev pub Says : KeptList → List Located → Type 0
+Says l ls = (a : ℕ) → list_says l a ≡ in_force ls a
+
+-- what lists say, by addresses
+abbrev pub all_say : List KeptList → List (ℕ → List (List ℕ))
+all_say lists = map list_says lists
+
+-- the bounds of all lists
+abbrev pub list_bounds : List KeptList → List ℕ
+list_bounds lists = flat_map (λ (l : KeptList). bounds_in l.tree) lists
+
+-- of the list of a number
+abbrev pub number_says : List KeptList → ℕ → ℕ → List (List ℕ)
+number_says lists n a = option_map_or (λ l. list_says l a) (slice_get lists n) []
+
+-- more lists are kept, and each has its number still
+pub record AreMore (olds news : List KeptList) : Type 0 where
+  pub count : length olds ≤ length news
+  pub same : (n : ℕ) → n < length olds → slice_get news n ≡ slice_get olds n
+
+-- the number of a list, or of none that can't be read
+pub record IsNumberOf (lists : List KeptList) (number : Option ℕ) (said : Option (List Located)) : Type 0 where
+  pub some : is_some number ≡ is_some said
+  pub within : (n : ℕ) → number ≡ Some n → n < length lists
+  pub says : (a : ℕ) → option_map_or (λ n. number_says lists n a) number []
+      ≡ option_map_or (λ ls. in_force ls a) said []
+
+abbrev pub AreNumbersOf : (ℕ → Option (List Located)) → List KeptList → BTreeMap ℕ (Option ℕ) → Type 0
+AreNumbersOf says lists known = (at : ℕ) (o : Option ℕ) → get nat_cmp known at ≡ Some o → IsNumberOf lists o (says at)

@@ -1,0 +1,13 @@
+pub mod Located
+pub mod ListPlaces
+pub mod CoverTree
+pub mod CoverTreeDepth
+pub mod Groups
+pub mod CoverIndex
+pub mod Bounds
+pub mod KeptLists
+pub mod GroupRuns
+pub mod ListRuns
+pub mod ListFinder
+pub mod Stretches
+pub mod ListWeights

@@ -1,0 +1,59 @@
+-- The runs of new code at each of whose bytes a location list says the same.
+use Rattle.std.specs.Prelude.{◌≡◌, ◌+◌, ◌<◌, ◌==◌, ℕ, Bool, true, false, List, [], All, Option, Some, None, length, option_and_then, slice_get}
+use Rattle.std.specs.Global.{Vec}
+use Rattle.std.specs.List.{list_any}
+use Rattle.std.specs.List.Sorted.{IsStrictlyIncreasing}
+use Rattle.std.specs.Option.{option_or}
+use Rattle.table_core.specs.declared.run.Run.{Run}
+use Rattle.table_core.specs.AnswerRuns.{answer_over, run_at, said_runs, IsWithin, AreLongest}
+use Rattle.table_core.specs.ReadSteps.{unless_empty}
+use Rattle.cover_lists.specs.declared.kept_list.KeptList.{KeptList}
+use Rattle.cover_lists.specs.KeptLists.{items_in, number_says}
+
+abbrev pub said : Vec (Vec ℕ) → List (List ℕ)
+said v = items_in v.items
+
+-- what the list of a number says, unless nothing
+abbrev pub list_answer : List KeptList → ℕ → ℕ → Option (List (List ℕ))
+list_answer lists n a = unless_empty (number_says lists n a)
+
+abbrev pub runs_of : Option (Vec (Run (Vec (Vec ℕ)))) → List (Run (List (List ℕ)))
+runs_of None = []
+runs_of (Some v) = said_runs said v.items
+
+-- the runs of the list of a number
+abbrev pub said_in : List (Vec (Run (Vec (Vec ℕ)))) → ℕ → List (Run (List (List ℕ)))
+said_in runs n = runs_of (slice_get runs n)
+
+-- longest runs with a stretch more, if something is said there
+pub record IsExtended {A : Type 0} (start len : ℕ) (answer : Option A) (old new : List (Run A)) : Type 0 where
+  pub within : IsWithin 0 new (start + len)
+  pub longest : AreLongest new
+  pub answers : (p : ℕ) → run_at new p
+      ≡ option_or (run_at old p) (option_and_then (λ x. answer_over start len x p) answer)
+
+-- the longest runs of the list of a number, by old addresses that stand for stretches of new code
+pub record IsListRuns (lists : List KeptList) (n : ℕ) (stretches : List (Run ℕ)) (end : ℕ) (runs : List (Run (List (List ℕ)))) :
+    Type 0 where
+  pub within : IsWithin 0 runs end
+  pub longest : AreLongest runs
+  pub answers : (p : ℕ) → run_at runs p ≡ option_and_then (list_answer lists n) (run_at stretches p)
+
+abbrev pub is_among : List ℕ → ℕ → Bool
+is_among ns n = list_any (λ m. m == n) ns
+
+-- The numbers of lists, ascending, behind which no other says anything at an address.
+pub record AreCandidates (lists : List KeptList) (a : ℕ) (numbers : List ℕ) : Type 0 where
+  pub rising : IsStrictlyIncreasing numbers
+  pub within : All (λ n. n < length lists) numbers
+  pub others : (n : ℕ) → is_among numbers n ≡ false → list_answer lists n a ≡ None
+
+abbrev pub IsExtendedIf : Bool → (start len : ℕ) → Option (List (List ℕ)) → (old new : List (Run (List (List ℕ)))) → Type 0
+IsExtendedIf true start len answer old new = IsExtended start len answer old new
+IsExtendedIf false start len answer old new = new ≡ old
+
+-- the runs of the lists of some numbers got a stretch more, and no other
+pub record AreExtended (lists : List KeptList) (a : ℕ) (numbers : List ℕ) (start len : ℕ)
+    (old new : List (Vec (Run (Vec (Vec ℕ))))) : Type 0 where
+  pub count : length new ≡ length old
+  pub each : (n : ℕ) → IsExtendedIf (is_among numbers n) start len (list_answer lists n a) (said_in old n) (said_in new n)

@@ -1,0 +1,36 @@
+-- The weights of the runs of location lists.
+use Rattle.std.specs.Prelude.{◌+◌, ℕ, List, length, sum_by, [], ◌∷◌}
+use Rattle.std.specs.Global.{Vec}
+use Rattle.addr_map.specs.declared.span.Span.{Span}
+use Rattle.table_core.specs.declared.run.Run.{Run}
+use Rattle.table_core.specs.AnswerRuns.{carried}
+use Rattle.table_core.specs.ReadSteps.{unless_empty}
+use Rattle.table_core.specs.Weights.{run_weight, IsWeightOf}
+use Rattle.cover_lists.specs.declared.kept_list.KeptList.{KeptList}
+use Rattle.cover_lists.specs.KeptLists.{all_say}
+
+-- a weight for each of some things, and their sum
+pub data IsSumOf {X : Type 0} (Weighs : X → ℕ → Type 0) : List X → ℕ → Type 0 where
+  none : IsSumOf Weighs [] 0
+  more : (x : X) (xs : List X) (n m : ℕ) → Weighs x n → IsSumOf Weighs xs m → IsSumOf Weighs (x ∷ xs) (n + m)
+
+-- an expression weighs its length, and 16
+abbrev pub expressions_weight : List (List ℕ) → ℕ
+expressions_weight xs = sum_by (λ x. 16 + length x) xs
+
+abbrev pub copies_weight : List (Vec ℕ) → ℕ
+copies_weight xs = sum_by (λ (v : Vec ℕ). 16 + length v.items) xs
+
+abbrev pub list_weight : List (Run (Vec (Vec ℕ))) → ℕ
+list_weight runs = sum_by (λ (r : Run (Vec (Vec ℕ))). run_weight + copies_weight r.answer.items) runs
+
+abbrev pub total_weight : List (Vec (Run (Vec (Vec ℕ)))) → ℕ
+total_weight lists = sum_by (λ (v : Vec (Run (Vec (Vec ℕ)))). list_weight v.items) lists
+
+-- the weight of what a list says at the owners of new bytes
+abbrev pub IsSaidWeight : List Span → (ℕ → List (List ℕ)) → ℕ → Type 0
+IsSaidWeight spans says weight = IsWeightOf expressions_weight (carried (λ a. unless_empty (says a)) spans) weight
+
+-- and of all lists
+abbrev pub IsListsWeight : List KeptList → List Span → ℕ → Type 0
+IsListsWeight lists spans weight = IsSumOf (IsSaidWeight spans) (all_say lists) weight

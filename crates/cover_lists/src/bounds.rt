@@ -1,0 +1,81 @@
+// Where the ranges that hold addresses change.
+ghost use Rattle.std.specs.Prelude.{◌≡◌, ◌<◌, ◌≤◌, ◌++◌, ◌∷◌, [], ℕ, All, IfOk, OnOk, IsTrue};
+ghost use Rattle.std.specs.Prelude.{length, nat_le, slice_index_or};
+ghost use Rattle.std.specs.List.Sorted.{IsNonDecreasing, IsPermutation};
+ghost use Rattle.cover_lists.specs.Bounds.{bounds_in};
+ghost use Rattle.cover_lists.specs.KeptLists.{list_bounds};
+
+use crate::cover_tree::Cover;
+use crate::kept_list::KeptList;
+use rb_bytes::fault::NoMemory;
+use std::alloc::Global;
+
+fn put_bounds(bounds: &mut Vec<u128>, cover: Cover) -> Result<(), NoMemory>
+    ensures { OnOk result (bounds.new.items ≡ bounds.old.items ++ (cover.low ∷ cover.high ∷ [])) }
+{
+    bounds.push(cover.low)?;
+    bounds.push(cover.high)?;
+    Ok(())
+}
+
+fn all_bounds(alloc: Global, covers: &[Cover]) -> Result<Vec<u128>, NoMemory>
+    ensures { IfOk result (λ bs. bs.items ≡ bounds_in covers.now) }
+{
+    let mut bounds = Vec::new(alloc);
+    for cover in covers {
+        put_bounds(&mut bounds, *cover)?;
+    }
+    Ok(bounds)
+}
+
+/// The starts and ends of some ranges, ascending.
+pub fn bounds_of(alloc: Global, covers: &[Cover]) -> Result<Vec<u128>, NoMemory>
+    ensures rising { IfOk result (λ bs. IsNonDecreasing bs.items) }
+    ensures all { IfOk result (λ bs. IsPermutation (bounds_in covers.now) bs.items) }
+{
+    let mut bounds = all_bounds(alloc, covers)?;
+    bounds.sort_unstable();
+    Ok(bounds)
+}
+
+// The bounds of location lists, behind others.
+fn put_list_bounds(bounds: &mut Vec<u128>, lists: &[KeptList]) -> Result<(), NoMemory>
+    ensures { OnOk result (bounds.new.items ≡ bounds.old.items ++ list_bounds lists.now) }
+{
+    for list in lists {
+        list.tree.put_bounds(bounds)?;
+    }
+    Ok(())
+}
+
+/// The starts and ends of some ranges and of those of location lists, ascending.
+pub fn place_bounds(
+    alloc: Global,
+    covers: &[Cover],
+    lists: &[KeptList],
+) -> Result<Vec<u128>, NoMemory>
+    ensures rising { IfOk result (λ bs. IsNonDecreasing bs.items) }
+    ensures all { IfOk result (λ bs. IsPermutation (bounds_in covers.now ++ list_bounds lists.now) bs.items) }
+{
+    let mut bounds = all_bounds(alloc, covers)?;
+    put_list_bounds(&mut bounds, lists)?;
+    bounds.sort_unstable();
+    Ok(bounds)
+}
+
+/// How many of some numbers that ascend are at most an address.
+pub fn count_up_to(bounds: &[u128], a: u64) -> usize
+    requires { IsNonDecreasing bounds.now }
+    ensures below { (k d : ℕ) → k < result → slice_index_or bounds.now k d ≤ a }
+    ensures above { (k d : ℕ) → result ≤ k → k < length bounds.now → a < slice_index_or bounds.now k d }
+{
+    bounds.partition_point(|bound| *bound <= a as u128)
+}
+
+/// Whether each of some numbers that ascend is at most both of two addresses, or none of them.
+pub fn are_alike(bounds: &[u128], a: u64, b: u64) -> bool
+    requires { IsNonDecreasing bounds.now }
+    ensures { IsTrue result → All (λ x. nat_le x a ≡ nat_le x b) bounds.now }
+{
+    count_up_to(bounds, a) == count_up_to(bounds, b)
+}

@@ -1,0 +1,35 @@
+// What location lists say at the owners of new bytes.
+ghost use Rattle.std.specs.Prelude.{◌≡◌, ℕ, AllPairs, IfOk, length};
+ghost use Rattle.addr_map.specs.MapText.{IsLineBefore};
+ghost use Rattle.addr_map.specs.Spans.{ShareNoByte};
+ghost use Rattle.table_core.specs.AnswerRuns.{carried, AreLow, AreRunsOf};
+ghost use Rattle.cover_lists.specs.ListRuns.{list_answer, said_in};
+
+use crate::bounds::place_bounds;
+use crate::kept_list::KeptList;
+use crate::list_finder::ListFinder;
+use crate::list_runs::{ListRun, list_runs};
+use crate::stretches::stretches_of;
+use addr_map::AddrMap;
+use rb_bytes::fault::NoMemory;
+use std::alloc::Global;
+
+/// Of each list, by its number, the longest runs of new code at the owners of whose bytes it says the same. A list is asked
+/// once for each stretch of new code in which no list changes, and only where one of its items holds the stretch's owner.
+pub fn carried_lists(
+    alloc: Global,
+    lists: &[KeptList],
+    map: &AddrMap,
+) -> Result<Vec<Vec<ListRun>>, NoMemory>
+    requires ordered { AllPairs IsLineBefore map.now }
+    requires disjoint { AllPairs ShareNoByte map.now }
+    requires low { AreLow map.now }
+    ensures count { IfOk result (λ rs. length rs.items ≡ length lists.now) }
+    ensures each { IfOk result (λ rs. (n : ℕ) → AreRunsOf (carried (list_answer lists.now n) map.now) (said_in rs.items n)) }
+{
+    let bounds = place_bounds(alloc, &[], lists)?;
+    let stretches = stretches_of(alloc, &bounds, map)?;
+    let finder = ListFinder::new(alloc, lists)?;
+    let runs = list_runs(alloc, lists, &finder, &stretches)?;
+    Ok(runs)
+}

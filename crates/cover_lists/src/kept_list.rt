@@ -1,0 +1,17 @@
+// A location list as it is kept.
+ghost use Rattle.std.specs.Prelude.{◌<◌, All, length};
+ghost use Rattle.cover_lists.specs.declared.cover_tree.Cover as spec;
+
+use crate::cover_tree::CoverTree;
+
+/// A location list, by whose bounds it is found which of its expressions are in force at an address.
+#[derive(Drop)]
+pub struct KeptList {
+    /// The bounds of its items, each with the number of its item.
+    pub tree: CoverTree,
+    /// The expression of each item.
+    pub expressions: Vec<Vec<u8>>,
+    /// The expressions that are in force where no bounds hold the address.
+    pub defaults: Vec<Vec<u8>>,
+    ghost numbered: { All (λ (c : spec.Cover). c.group < length expressions.items) tree },
+}

@@ -1,0 +1,18 @@
+//! Ranges and location lists by the addresses that they hold, and the runs of new code that they have.
+#![tactic(auto)]
+
+pub mod bounds;
+pub mod carried_lists;
+pub mod cover_index;
+pub mod cover_tree;
+pub mod expressions;
+pub mod group_runs;
+pub mod groups;
+pub mod kept_list;
+pub mod kept_lists;
+mod list_finder;
+pub mod list_place;
+pub mod list_runs;
+pub mod list_weight;
+pub mod range_weight;
+mod stretches;

@@ -1,0 +1,162 @@
+// The runs of new code at each of whose bytes a location list says the same.
+ghost use Rattle.std.specs.Prelude.{◌≡◌, ◌≢◌, ◌+◌, ◌-◌, ◌<◌, ◌^◌, [], ℕ, Some, IsTrue, IsFalse, IfOk, OnOk, length};
+ghost use Rattle.table_core.specs.AnswerRuns.{said_runs, IsWithin, AreLongest};
+ghost use Rattle.table_core.specs.LastRuns as last;
+ghost use Rattle.table_core.specs.ReadSteps.{unless_empty};
+ghost use Rattle.cover_lists.specs.KeptLists.{items_in};
+ghost use Rattle.cover_lists.specs.ListFinder.{IsFinder};
+ghost use Rattle.cover_lists.specs.ListRuns as spec;
+ghost use Rattle.cover_lists.specs.GroupRuns.{runs_end};
+ghost use Rattle.cover_lists.specs.ListRuns.{IsExtended, AreCandidates, AreExtended, IsListRuns, list_answer, said_in};
+
+use crate::expressions::same_expressions;
+use crate::kept_list::KeptList;
+use crate::kept_lists::in_force;
+use crate::list_finder::ListFinder;
+use rb_bytes::fault::NoMemory;
+use std::alloc::Global;
+use table_core::{Run, ends_at, lengthen};
+
+/// A stretch of new code at each byte of which a list has the same expressions in force.
+pub type ListRun = Run<Vec<Vec<u8>>>;
+
+// Whether the last run has an answer.
+fn ends_with(runs: &[ListRun], answer: &[Vec<u8>]) -> bool
+    ensures has { IsTrue result → last.IsAnswer (Some (items_in answer.now)) (said_runs spec.said runs.now) }
+    ensures lacks { IsFalse result → last.IfLast (λ r. r.answer ≢ items_in answer.now) (said_runs spec.said runs.now) }
+{
+    match runs.last() {
+        Some(last) => same_expressions(&last.answer, answer),
+        None => false,
+    }
+}
+
+// Adds a stretch of bytes with an answer to the runs.
+fn add(runs: &mut Vec<ListRun>, start: u64, len: u64, answer: Vec<Vec<u8>>) -> Result<(), NoMemory>
+    requires before { IsWithin 0 (said_runs spec.said runs.old.items) start }
+    requires longest { AreLongest (said_runs spec.said runs.old.items) }
+    requires some { 0 < len }
+    requires fits { start + len < 2 ^ 64 }
+    ensures { OnOk result (IsExtended start len (Some (items_in answer.items)) (said_runs spec.said runs.old.items)
+        (said_runs spec.said runs.new.items)) }
+{
+    if ends_at(runs, start) && ends_with(runs, &answer) {
+        lengthen(runs, len);
+    } else {
+        runs.push(Run { start, len, answer })?;
+    }
+    Ok(())
+}
+
+// Adds a stretch of bytes to the runs, if something is said there.
+fn put_answer(
+    runs: &mut Vec<ListRun>,
+    start: u64,
+    len: u64,
+    answer: Vec<Vec<u8>>,
+) -> Result<(), NoMemory>
+    requires before { IsWithin 0 (said_runs spec.said runs.old.items) start }
+    requires longest { AreLongest (said_runs spec.said runs.old.items) }
+    requires some { 0 < len }
+    requires fits { start + len < 2 ^ 64 }
+    ensures { OnOk result (IsExtended start len (unless_empty (items_in answer.items)) (said_runs spec.said runs.old.items)
+        (said_runs spec.said runs.new.items)) }
+{
+    match answer.first() {
+        Some(_) => {
+            add(runs, start, len, answer)?;
+            Ok(())
+        }
+        None => Ok(()),
+    }
+}
+
+// Adds a stretch of bytes to the runs of a list, if it says anything there.
+fn add_list(
+    alloc: Global,
+    lists: &[KeptList],
+    runs: &mut Vec<Vec<ListRun>>,
+    number: usize,
+    start: u64,
+    len: u64,
+    a: u64,
+) -> Result<(), NoMemory>
+    requires number { number < length lists.now }
+    requires count { length runs.old.items ≡ length lists.now }
+    requires before { IsWithin 0 (said_in runs.old.items number) start }
+    requires longest { AreLongest (said_in runs.old.items number) }
+    requires some { 0 < len }
+    requires fits { start + len < 2 ^ 64 }
+    ensures count { OnOk result (length runs.new.items ≡ length runs.old.items) }
+    ensures others { OnOk result ((n : ℕ) → n ≢ number → said_in runs.new.items n ≡ said_in runs.old.items n) }
+    ensures more { OnOk result (IsExtended start len (list_answer lists.now number a) (said_in runs.old.items number)
+        (said_in runs.new.items number)) }
+{
+    let answer = in_force(alloc, &lists[number], a)?;
+    put_answer(&mut runs[number], start, len, answer)
+}
+
+// Adds a stretch of bytes to the runs of some lists.
+fn add_lists(
+    alloc: Global,
+    lists: &[KeptList],
+    runs: &mut Vec<Vec<ListRun>>,
+    numbers: &[usize],
+    start: u64,
+    len: u64,
+    a: u64,
+) -> Result<(), NoMemory>
+    requires candidates { AreCandidates lists.now a numbers.now }
+    requires count { length runs.old.items ≡ length lists.now }
+    requires before { (n : ℕ) → IsWithin 0 (said_in runs.old.items n) start }
+    requires longest { (n : ℕ) → AreLongest (said_in runs.old.items n) }
+    requires some { 0 < len }
+    requires fits { start + len < 2 ^ 64 }
+    ensures { OnOk result (AreExtended lists.now a numbers.now start len runs.old.items runs.new.items) }
+{
+    for number in numbers {
+        add_list(alloc, lists, runs, *number, start, len, a)?;
+    }
+    Ok(())
+}
+
+fn no_runs(alloc: Global, count: usize) -> Result<Vec<Vec<ListRun>>, NoMemory>
+    ensures count { IfOk result (λ ls. length ls.items ≡ count) }
+    ensures none { IfOk result (λ ls. (n : ℕ) → said_in ls.items n ≡ []) }
+{
+    let mut runs = Vec::new(alloc);
+    for number in 0..count {
+        runs.push(Vec::new(alloc))?;
+    }
+    Ok(runs)
+}
+
+/// Of each list, by its number, the longest runs at whose bytes it says the same, by stretches of new code, each with an
+/// old address that stands for it.
+pub fn list_runs(
+    alloc: Global,
+    lists: &[KeptList],
+    finder: &ListFinder,
+    stretches: &[Run<u64>],
+) -> Result<Vec<Vec<ListRun>>, NoMemory>
+    requires finder { IsFinder lists.now finder.now }
+    requires within { IsWithin 0 stretches.now (2 ^ 64 - 1) }
+    ensures count { IfOk result (λ rs. length rs.items ≡ length lists.now) }
+    ensures each { IfOk result (λ rs. (n : ℕ) → IsListRuns lists.now n stretches.now (runs_end 0 stretches.now) (said_in rs.items n)) }
+{
+    let mut runs = no_runs(alloc, lists.len())?;
+    for stretch in stretches {
+        let a = stretch.answer;
+        let numbers = finder.find(alloc, a)?;
+        add_lists(
+            alloc,
+            lists,
+            &mut runs,
+            &numbers,
+            stretch.start,
+            stretch.len,
+            a,
+        )?;
+    }
+    Ok(runs)
+}

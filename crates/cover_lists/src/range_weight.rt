@@ -1,0 +1,30 @@
+// The weight of the runs of entries that have ranges.
+ghost use Rattle.std.specs.Prelude.{◌≡◌, ◌*◌, ◌-◌, ◌^◌, length, min, sum_by};
+ghost use Rattle.table_core.specs.Weights.{run_weight};
+ghost use Rattle.cover_lists.specs.GroupRuns as spec;
+
+use crate::group_runs::runs_in;
+use crate::groups::RangedEntry;
+use table_core::Run;
+
+/// What a run weighs.
+pub const RUN_WEIGHT: u64 = 32;
+
+// The weight of the runs of an entry.
+fn entry_weight(entry: RangedEntry, lists: &[Vec<Run<bool>>]) -> u64
+    ensures { result ≡ min (run_weight * length (spec.runs_in lists.now entry.group)) (2 ^ 64 - 1) }
+{
+    let runs = runs_in(lists, entry.group);
+    (runs.len() as u64).saturating_mul(RUN_WEIGHT)
+}
+
+/// The weight of the runs of some entries, by those of their groups; where it is none of 64 bits, the greatest number.
+pub fn runs_weight(ranged: &[RangedEntry], lists: &[Vec<Run<bool>>]) -> u64
+    ensures { result ≡ min (sum_by (λ r. run_weight * length (spec.runs_in lists.now r.group)) ranged.now) (2 ^ 64 - 1) }
+{
+    let mut weight: u64 = 0;
+    for entry in ranged {
+        weight = weight.saturating_add(entry_weight(*entry, lists));
+    }
+    weight
+}

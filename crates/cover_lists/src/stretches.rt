@@ -1,0 +1,86 @@
+// Stretches of new code between whose owners no range starts or ends.
+ghost use Rattle.std.specs.Prelude.{◌≡◌, ◌≢◌, ◌<◌, ◌+◌, ◌-◌, ◌^◌, AllPairs, Some, IfOk, OnOk, IsTrue, IsFalse};
+ghost use Rattle.std.specs.List.Sorted.{IsNonDecreasing};
+ghost use Rattle.addr_map.specs.MapText.{IsLineBefore};
+ghost use Rattle.addr_map.specs.Spans.{ShareNoByte};
+ghost use Rattle.table_core.specs.AnswerRuns.{said_runs, carried, AreLow, AreLongest, AreRunsOf, IsWithin};
+ghost use Rattle.table_core.specs.LastRuns as last;
+ghost use Rattle.cover_lists.specs.ListRuns.{IsExtended};
+ghost use Rattle.cover_lists.specs.Stretches.{bounds_before};
+
+use crate::bounds::count_up_to;
+use addr_map::{AddrMap, Span};
+use rb_bytes::fault::NoMemory;
+use std::alloc::Global;
+use table_core::{Run, ends_at, lengthen};
+
+// How many of some bounds are at most an address.
+fn bounds_before(bounds: &[u128], a: u64) -> usize
+    requires { IsNonDecreasing bounds.now }
+    ensures { result ≡ bounds_before bounds.now a }
+{
+    count_up_to(bounds, a)
+}
+
+// Whether no bound is between an address and that of the last stretch.
+fn goes_on(bounds: &[u128], stretches: &[Run<u64>], a: u64) -> bool
+    requires { IsNonDecreasing bounds.now }
+    ensures has { IsTrue result → last.IsAnswer (Some (bounds_before bounds.now a)) (said_runs (bounds_before bounds.now) stretches.now) }
+    ensures lacks { IsFalse result → last.IfLast (λ r. r.answer ≢ bounds_before bounds.now a)
+        (said_runs (bounds_before bounds.now) stretches.now) }
+{
+    match stretches.last() {
+        Some(last) => bounds_before(bounds, last.answer) == bounds_before(bounds, a),
+        None => false,
+    }
+}
+
+fn add_span(bounds: &[u128], stretches: &mut Vec<Run<u64>>, span: Span) -> Result<(), NoMemory>
+    requires rising { IsNonDecreasing bounds.now }
+    requires before { IsWithin 0 (said_runs (bounds_before bounds.now) stretches.old.items) span.out }
+    requires longest { AreLongest (said_runs (bounds_before bounds.now) stretches.old.items) }
+    requires some { 0 < span.len }
+    requires fits { span.out + span.len < 2 ^ 64 }
+    ensures { OnOk result (IsExtended span.out span.len (Some (bounds_before bounds.now span.input))
+        (said_runs (bounds_before bounds.now) stretches.old.items) (said_runs (bounds_before bounds.now) stretches.new.items)) }
+{
+    if ends_at(stretches, span.out) && goes_on(bounds, stretches, span.input) {
+        lengthen(stretches, span.len as u64);
+    } else {
+        stretches.push(Run {
+            start: span.out,
+            len: span.len as u64,
+            answer: span.input,
+        })?;
+    }
+    Ok(())
+}
+
+/// The longest stretches of new code between the owners of whose bytes there are none of some bounds, each with the owner of
+/// a byte of it.
+pub fn stretches_of(
+    alloc: Global,
+    bounds: &[u128],
+    map: &AddrMap,
+) -> Result<Vec<Run<u64>>, NoMemory>
+    requires rising { IsNonDecreasing bounds.now }
+    requires ordered { AllPairs IsLineBefore map.now }
+    requires disjoint { AllPairs ShareNoByte map.now }
+    requires low { AreLow map.now }
+    ensures runs { IfOk result (λ ss. AreRunsOf (carried (λ a. Some (bounds_before bounds.now a)) map.now)
+        (said_runs (bounds_before bounds.now) ss.items)) }
+    ensures within { IfOk result (λ ss. IsWithin 0 ss.items (2 ^ 64 - 1)) }
+{
+    let mut stretches = Vec::new(alloc);
+    for i in 0..map.len() {
+        match map.span(i) {
+            Some(span) => {
+                if span.len > 0 {
+                    add_span(bounds, &mut stretches, span)?;
+                }
+            }
+            None => {}
+        }
+    }
+    Ok(stretches)
+}

@@ -1,0 +1,8 @@
+mod Examples
+mod ListSteps
+pub mod TablesBelow
+pub mod RangeLists
+mod BadTables
+pub mod OwnRanges
+pub mod NotedLists
+mod IndexWeights

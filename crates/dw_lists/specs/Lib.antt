@@ -1,0 +1,11 @@
+pub mod ListEntries
+pub mod Lists
+pub mod Faults
+pub mod Ranges
+pub mod Locations
+pub mod Tables
+pub mod Weights
+pub mod ListTables
+pub mod ListReading
+pub mod UnitLists
+pub mod KnownLists

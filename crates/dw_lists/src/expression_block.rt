@@ -1,0 +1,86 @@
+// Expressions that stand in attributes. DWARF 5, section 7.5.5.
+ghost use Rattle.std.specs.Prelude.{◌≡◌, Ok, Err, IfOk, IfErr, IsTrue};
+ghost use Rattle.rb_bytes.specs.Readers.{number_read};
+ghost use Rattle.table_core.specs.AttributeForms as forms;
+ghost use Rattle.table_core.specs.AttributeForms.{is_size, is_readable};
+ghost use Rattle.table_core.specs.declared.shape.Shape.TheVariants as shape;
+ghost use Rattle.dw_lists.specs.Locations.{block_of, content_at};
+
+use crate::list_item::block;
+use crate::list_section::bytes_between;
+use byteorder::{ByteOrder, LittleEndian};
+use dw_unit::Attr;
+use dw_unit::trouble::Trouble;
+use rb_bytes::cursor::Cursor;
+use rb_bytes::gap::Gap;
+use table_core::form::{
+    DW_FORM_block, DW_FORM_block1, DW_FORM_block2, DW_FORM_block4, DW_FORM_exprloc,
+};
+use table_core::shape::{Shape, shape_of};
+
+/// Whether a form is one of blocks of bytes.
+pub fn is_block(form: u64) -> bool
+    ensures { result ≡ forms.is_block form }
+{
+    form == DW_FORM_block
+        || form == DW_FORM_block1
+        || form == DW_FORM_block2
+        || form == DW_FORM_block4
+        || form == DW_FORM_exprloc
+}
+
+// A number of so many bytes.
+fn number<'a>(cursor: &mut Cursor<'a>, size: u8) -> Result<u64, Gap>
+    requires { IsTrue (is_size size) }
+    ensures read { IfOk result (λ n. number_read size cursor.old.left ≡ Ok (n, cursor.new.left)) }
+    ensures gap { IfErr result (λ gap. number_read size cursor.old.left ≡ Err gap) }
+{
+    let bytes = cursor.take(size as usize)?;
+    Ok(LittleEndian::read_uint(bytes, size as usize))
+}
+
+// Bytes behind their count, which is a number of so many bytes.
+fn counted<'a>(cursor: &mut Cursor<'a>, size: u8) -> Result<&'a [u8], Trouble>
+    requires { IsTrue (is_size size) }
+    ensures read { IfOk result (λ x. content_at (shape.Block size) cursor.old.left ≡ Ok (x.now, cursor.new.left)) }
+    ensures trouble { IfErr result (λ e. content_at (shape.Block size) cursor.old.left ≡ Err e) }
+{
+    let count = number(cursor, size)?;
+    let bytes = cursor.take(count as usize)?;
+    Ok(bytes)
+}
+
+fn content<'a>(cursor: &mut Cursor<'a>, shape: Shape) -> Result<&'a [u8], Trouble>
+    requires { IsTrue (is_readable shape) }
+    ensures read { IfOk result (λ x. content_at shape cursor.old.left ≡ Ok (x.now, cursor.new.left)) }
+    ensures trouble { IfErr result (λ e. content_at shape cursor.old.left ≡ Err e) }
+{
+    match shape {
+        Shape::Block(size) => counted(cursor, size),
+        Shape::LebBlock => block(cursor),
+        Shape::Number(_) => Err(Trouble::Unsound),
+        Shape::Leb => Err(Trouble::Unsound),
+        Shape::SignedLeb => Err(Trouble::Unsound),
+        Shape::Opaque(_) => Err(Trouble::Unsound),
+        Shape::Text => Err(Trouble::Unsound),
+        Shape::Implicit => Err(Trouble::Unsound),
+        Shape::Indirect => Err(Trouble::Unsound),
+    }
+}
+
+/// The expression that stands in an attribute; empty where none does.
+pub fn expression_in<'a>(info: &'a [u8], attr: Attr) -> &'a [u8]
+    ensures { result.now ≡ block_of info.now attr }
+{
+    let bytes = bytes_between(info, attr.place, attr.place as u128 + attr.len as u128);
+    match shape_of(attr.form) {
+        Some(shape) => {
+            let mut cursor = Cursor::new(bytes);
+            match content(&mut cursor, shape) {
+                Ok(content) => content,
+                Err(_) => &[],
+            }
+        }
+        None => &[],
+    }
+}

@@ -1,0 +1,8 @@
+// The two kinds of sections of lists. DWARF 5, sections 2.6.2 and 2.17.3.
+
+/// What the lists of a section say: ranges, or expressions by range.
+#[derive(Clone, Copy)]
+pub enum ListKind {
+    Ranges,
+    Locations,
+}

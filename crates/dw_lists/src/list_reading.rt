@@ -1,0 +1,154 @@
+// Whole lists. DWARF 5, sections 2.6.2 and 2.17.3.
+ghost use Rattle.std.specs.Prelude.{◌≡◌, ◌∷◌, ℕ, List, Option, Some, IfOk, length, map, option_map};
+ghost use Rattle.dw_lists.specs.ListEntries.{items_within};
+ghost use Rattle.dw_lists.specs.Lists.{bound_says};
+ghost use Rattle.cover_lists.specs.Located.{Located};
+ghost use Rattle.dw_lists.specs.ListReading.{looked_up, step_says, StepSays, FlowSays, item_of};
+ghost use Rattle.cover_lists.specs.ListPlaces.{located_of};
+ghost use Rattle.dw_lists.specs.ListReading.{said_from};
+
+use crate::addresses::Addresses;
+use crate::list_bound::Bound;
+use crate::list_item::{ListItem, item};
+use crate::list_kind::ListKind;
+use cover_lists::list_place::{Bounds, Place};
+use rb_bytes::cursor::Cursor;
+use rb_bytes::fault::NoMemory;
+use std::alloc::Global;
+
+// What an entry comes to.
+#[derive(Clone, Copy)]
+enum Step<'a> {
+    End,
+    Base(u64),
+    Placed(Place<'a>),
+}
+
+fn placed(low: u128, high: u128, expression: &[u8]) -> Step<'_>
+    ensures { (more : ℕ → Option (List Located)) (base : ℕ) → step_says more base (Some result)
+        ≡ option_map (λ ls. record { range = Some (record { low = low; high = high }); expression = expression.now } ∷
+        ls) (more base) }
+{
+    Step::Placed(Place {
+        bounds: Some(Bounds { low, high }),
+        expression,
+    })
+}
+
+fn step_of<'a>(item: ListItem<'a>, base: u64, addresses: &Addresses) -> Option<Step<'a>>
+    ensures { (more : ℕ → Option (List Located)) →
+        bound_says (looked_up addresses.now.section.now addresses.now.base) more base item.entry.expression.now
+        item.entry.bound
+        ≡ step_says more base result }
+{
+    match item.bound {
+        Bound::Base(a) => match addresses.resolve(a) {
+            Some(base) => Some(Step::Base(base)),
+            None => None,
+        },
+        Bound::Between(a, b) => match addresses.resolve(a) {
+            Some(low) => match addresses.resolve(b) {
+                Some(high) => Some(placed(low as u128, high as u128, item.expression)),
+                None => None,
+            },
+            None => None,
+        },
+        Bound::Onward(a, len) => match addresses.resolve(a) {
+            Some(low) => Some(placed(low as u128, low as u128 + len as u128, item.expression)),
+            None => None,
+        },
+        Bound::Offsets(m, n) => Some(placed(
+            base as u128 + m as u128,
+            base as u128 + n as u128,
+            item.expression,
+        )),
+        Bound::Default => Some(Step::Placed(Place {
+            bounds: None,
+            expression: item.expression,
+        })),
+    }
+}
+
+fn read_step<'a>(
+    list: ListKind,
+    base: u64,
+    addresses: &Addresses,
+    cursor: &mut Cursor<'a>,
+) -> Option<Step<'a>>
+    ensures { StepSays list (looked_up addresses.now.section.now addresses.now.base) base cursor.old.left
+        cursor.new.left result }
+{
+    let kind = match cursor.u8() {
+        Ok(kind) => kind,
+        Err(_) => return None,
+    };
+    if kind == 0 {
+        return Some(Step::End);
+    }
+    match item(cursor, list, kind as u64) {
+        Ok(item) => step_of(item, base, addresses),
+        Err(_) => None,
+    }
+}
+
+// Whether a list goes on behind an entry.
+#[derive(Clone, Copy)]
+enum Flow {
+    More,
+    End,
+    Bad,
+}
+
+// Takes the next entry of a list to what was read of it.
+fn take_step<'a>(
+    list: ListKind,
+    addresses: &Addresses,
+    base: &mut u64,
+    places: &mut Vec<Place<'a>>,
+    cursor: &mut Cursor<'a>,
+) -> Result<Flow, NoMemory>
+    ensures { IfOk result (λ flow. FlowSays list (looked_up addresses.now.section.now addresses.now.base) base.old
+        base.new
+        cursor.old.left cursor.new.left (map located_of places.old.items) (map located_of places.new.items) flow) }
+{
+    match read_step(list, *base, addresses, cursor) {
+        None => Ok(Flow::Bad),
+        Some(step) => match step {
+            Step::End => Ok(Flow::End),
+            Step::Base(next) => {
+                *base = next;
+                Ok(Flow::More)
+            }
+            Step::Placed(place) => {
+                places.push(place)?;
+                Ok(Flow::More)
+            }
+        },
+    }
+}
+
+/// What the list at the front of some bytes says, by a unit's base address and addresses; none where it isn't as the
+/// format has it, doesn't end in these bytes, or uses an index of no address.
+pub fn read_list<'a>(
+    alloc: Global,
+    list: ListKind,
+    bytes: &'a [u8],
+    base: u64,
+    addresses: &Addresses,
+) -> Result<Option<Vec<Place<'a>>>, NoMemory>
+    ensures { IfOk result (λ r. option_map (λ v. map located_of v.items) r
+        ≡ said_from (looked_up addresses.now.section.now addresses.now.base) base (items_within (item_of list) (length
+        bytes.now) bytes.now)) }
+{
+    let mut cursor = Cursor::new(bytes);
+    let mut base = base;
+    let mut places = Vec::new(alloc);
+    for i in 0..bytes.len() {
+        match take_step(list, addresses, &mut base, &mut places, &mut cursor)? {
+            Flow::More => {}
+            Flow::End => return Ok(Some(places)),
+            Flow::Bad => return Ok(None),
+        }
+    }
+    Ok(None)
+}

@@ -1,0 +1,101 @@
+// How units read lists. DWARF 5, sections 7.28 and 7.29.
+ghost use Rattle.std.specs.Prelude.{◌≡◌, ◌==◌, ℕ, option_map};
+ghost use Rattle.std.specs.List.{find};
+ghost use Rattle.std.specs.Option.{option_copied};
+ghost use Rattle.dw_unit.specs.CompUnits as units;
+ghost use Rattle.dw_unit.specs.CompUnits.{Unit};
+ghost use Rattle.dw_unit.specs.ListedUnits.{plain_unit};
+ghost use Rattle.dw_unit.specs.declared.attribute.TheConstants.{DW_AT_addr_base, DW_AT_low_pc};
+ghost use Rattle.dw_lists.specs.ListReading.{kind_of};
+ghost use Rattle.dw_lists.specs.Lists.{base_address};
+ghost use Rattle.dw_lists.specs.UnitLists.{ReadsLists, own_place};
+
+use crate::addresses::Addresses;
+use crate::list_kind::ListKind;
+use dw_unit::attribute::DW_AT_low_pc;
+use dw_unit::soundness::bases;
+use dw_unit::{Attr, Entry, is_address_index};
+use table_core::form::DW_FORM_addr;
+
+/// What a unit needs to read lists of a kind.
+#[derive(Clone, Copy)]
+pub struct UnitLists<'a> {
+    pub addresses: Addresses<'a>,
+    /// Where the offsets begin that its indexes count.
+    pub lists: Option<u64>,
+    /// The base address of its lists.
+    pub base: u64,
+    /// The offset of its own entry.
+    pub own: u64,
+}
+
+/// The attribute of a name.
+pub fn attr_named(name: u64, attrs: &[Attr]) -> Option<&Attr>
+    ensures { option_copied result ≡ find (λ a. a.name == name) attrs.now }
+{
+    attrs.iter().find(|attr| attr.name == name)
+}
+
+fn address_of(addresses: &Addresses, attr: &Attr) -> Option<u64>
+    ensures { (u : Unit) → addresses.now.base ≡ units.base DW_AT_addr_base u →
+        result ≡ units.address_of addresses.now.section.now u attr.now }
+{
+    if attr.form == DW_FORM_addr {
+        return Some(attr.value);
+    }
+    if is_address_index(attr.form) {
+        return addresses.at(attr.value);
+    }
+    None
+}
+
+/// The low address of an entry.
+pub fn low_pc(addresses: &Addresses, attrs: &[Attr]) -> Option<u64>
+    ensures { (u : Unit) (e : units.Entry) → addresses.now.base ≡ units.base DW_AT_addr_base u → e.attrs ≡ attrs.now →
+        result ≡ units.low_pc addresses.now.section.now u e }
+{
+    match attr_named(DW_AT_low_pc, attrs) {
+        Some(low) => address_of(addresses, low),
+        None => None,
+    }
+}
+
+fn base_address(addresses: &Addresses, entries: &[Entry]) -> u64
+    ensures { addresses.now.base ≡ units.base DW_AT_addr_base (plain_unit entries.now) →
+        result ≡ base_address addresses.now.section.now (plain_unit entries.now) }
+{
+    match entries.first() {
+        Some(own) => low_pc(addresses, &own.attrs).unwrap_or(0),
+        None => 0,
+    }
+}
+
+fn own_place(entries: &[Entry]) -> u64
+    ensures { result ≡ own_place (plain_unit entries.now) }
+{
+    match entries.first() {
+        Some(own) => own.place,
+        None => 0,
+    }
+}
+
+/// What the unit of some entries needs to read lists.
+pub fn unit_lists<'a>(addr: &'a [u8], kind: ListKind, entries: &[Entry]) -> UnitLists<'a>
+    ensures { ReadsLists (kind_of kind) addr.now (plain_unit entries.now) result }
+{
+    let bases = bases(entries);
+    let addresses = Addresses {
+        section: addr,
+        base: bases.addr,
+    };
+    let lists = match kind {
+        ListKind::Ranges => bases.rnglists,
+        ListKind::Locations => bases.loclists,
+    };
+    UnitLists {
+        addresses,
+        lists,
+        base: base_address(&addresses, entries),
+        own: own_place(entries),
+    }
+}

@@ -1,0 +1,90 @@
+// What the sections of a file say of locations, and the faults of the sections that they are read from.
+ghost use Rattle.std.specs.Prelude.{◌≡◌, []};
+ghost use Rattle.table_core.specs.DebugUnits.{walked};
+ghost use Rattle.dw_lists.specs.Faults.{ListSections, location_places};
+ghost use Rattle.list_units.specs.PlaceReading.{IsProgress};
+
+use crate::located_attr::Locations;
+use crate::place_reading::PlaceProgress;
+use cover_lists::groups::Groups;
+use dw_lists::list_section::bad_table;
+use dw_lists::named_list::NamedList;
+use dw_unit::address_table;
+use dw_unit::address_table::other_version;
+use dw_unit::fault_places::FaultPlaces;
+use dw_unit::lowest::lower;
+use std::alloc::Global;
+use table_core::DebugUnit;
+
+/// The attributes with expressions of all entries, and the groups of their nearest ranges.
+#[derive(Drop)]
+pub struct PlacedEntries {
+    pub groups: Groups,
+    pub kept: Locations,
+    /// The attributes that name location lists, in the order of their entries, DW_AT_location before DW_AT_frame_base.
+    pub named: Vec<NamedList>,
+    /// What the tables of offsets weigh, or the greatest number where that is none of 64 bits.
+    pub index_weight: u64,
+}
+
+/// Nothing, of no units.
+pub(crate) fn nothing(alloc: Global) -> PlaceProgress
+    ensures { (s : ListSections) → IsProgress s [] result }
+{
+    PlaceProgress {
+        groups: Groups {
+            covers: Vec::new(alloc),
+            count: 0,
+        },
+        kept: Locations {
+            lists: Vec::new(alloc),
+            located: Vec::new(alloc),
+        },
+        named: Vec::new(alloc),
+        bad_form: None,
+        bad_high: None,
+        unformed: None,
+        bad: None,
+        bad_ranges: None,
+        bad_locations: None,
+        index_weight: 0,
+    }
+}
+
+/// Of each fault the place that is answered.
+pub(crate) fn fault_places(
+    progress: &PlaceProgress,
+    units: &[DebugUnit<'_>],
+    address_tables: &[DebugUnit<'_>],
+    ranges: &[DebugUnit<'_>],
+    locations: &[DebugUnit<'_>],
+) -> FaultPlaces
+    ensures { (s : ListSections) → units.now ≡ walked 5 s.units.info → address_tables.now ≡ walked 5 s.units.addr →
+        ranges.now ≡ walked 5 s.ranges → locations.now ≡ walked 5 s.locations →
+        IsProgress s (walked 5 s.units.info) progress.now →
+        record { version = result.version; form = result.form; high = result.high; bad = result.bad }
+        ≡ location_places s }
+{
+    let unit = other_version(units);
+    let address = other_version(address_tables);
+    let range = other_version(ranges);
+    let location = other_version(locations);
+    let of_units = unit.or(address);
+    let of_lists = range.or(location);
+    let version = of_units.or(of_lists);
+    let form = lower(progress.bad_form, progress.unformed);
+    let broken = address_table::bad_table(address_tables);
+    let range_table = bad_table(ranges);
+    let location_table = bad_table(locations);
+    let bad_ranges = lower(range_table, progress.bad_ranges);
+    let bad_locations = lower(location_table, progress.bad_locations);
+    let lists = bad_ranges.or(bad_locations);
+    let later = broken.or(lists);
+    let bad = progress.bad.or(later);
+    FaultPlaces {
+        version,
+        form,
+        high: progress.bad_high,
+        bad,
+    }
+}

@@ -1,0 +1,142 @@
+// The entries of a file that have ranges, or the first fault of the sections that they are read from.
+ghost use Rattle.std.specs.Prelude.{◌≡◌, ◌<◌, [], ℕ, List, Some, IfOk, IfErr, length, slice_get};
+ghost use Rattle.std.specs.List.Sorted.{IsNonDecreasingBy};
+ghost use Rattle.rb_bytes.specs.FirstFault.{IsRefusalBy};
+ghost use Rattle.table_core.specs.DebugUnits.{Walked, walked};
+ghost use Rattle.dw_unit.specs.Faults.{HasDwarfFault};
+ghost use Rattle.dw_lists.specs.Faults.{ListSections, range_places, list_sections_held};
+ghost use Rattle.list_units.specs.RangeReading.{IsProgress, AreRangesOf};
+
+use crate::range_reading::{Progress, add_reading};
+use cover_lists::groups::{Groups, RangedEntry};
+use dw_lists::list_section::{ListSection, bad_table};
+use dw_unit::address_table::other_version;
+use dw_unit::fault_places::{FaultPlaces, refused};
+use dw_unit::lowest::lower;
+use dw_unit::{UnitReader, address_table};
+use rb_bytes::fault::{NoMemory, Refusal};
+use std::alloc::Global;
+use table_core::{DebugUnit, debug_units};
+
+/// The version of DWARF that is read.
+pub const VERSION: u16 = 5;
+
+/// The entries that have ranges, in order.
+#[derive(Drop)]
+pub struct RangedEntries {
+    pub groups: Groups,
+    pub ranged: Vec<RangedEntry>,
+    /// What the tables of offsets weigh, or the greatest number where that is none of 64 bits.
+    pub index_weight: u64,
+}
+
+/// Nothing, of no units.
+pub(crate) fn nothing(alloc: Global) -> Progress
+    ensures { (s : ListSections) → IsProgress s [] result }
+{
+    Progress {
+        groups: Groups {
+            covers: Vec::new(alloc),
+            count: 0,
+        },
+        ranged: Vec::new(alloc),
+        bad_form: None,
+        bad_high: None,
+        unformed: None,
+        bad: None,
+        bad_table: None,
+        index_weight: 0,
+    }
+}
+
+/// The place of the unit of a number.
+pub fn place_of(units: &[DebugUnit<'_>], number: usize) -> u64
+    requires { number < length units.now }
+    ensures { (w : Walked) → slice_get units.now number ≡ Some w → result ≡ w.place }
+{
+    let unit = &units[number];
+    unit.place
+}
+
+fn read_all(
+    alloc: Global,
+    reader: &UnitReader<'_, '_>,
+    section: ListSection<'_, '_>,
+    addr: &[u8],
+) -> Result<Progress, NoMemory>
+    requires rising { IsNonDecreasingBy (λ w. w.place) section.tables.now }
+    requires walked { section.tables.now ≡ walked 5 section.bytes.now }
+    ensures { (s : ListSections) → section.entry.bytes.now ≡ s.ranges → addr.now ≡ s.units.addr →
+        reader.now ≡ record { units = walked 5 s.units.info; abbrevs = s.units.abbrevs; addr = s.units.addr } →
+        IfOk result (IsProgress s (walked 5 s.units.info)) }
+{
+    let units = reader.units();
+    let mut progress = nothing(alloc);
+    for number in 0..units.len() {
+        let reading = reader.read(alloc, number)?;
+        let place = place_of(units, number);
+        add_reading(alloc, section, addr, &mut progress, place, &reading)?;
+    }
+    Ok(progress)
+}
+
+// Of each fault the place that is answered.
+fn fault_places(
+    progress: &Progress,
+    units: &[DebugUnit<'_>],
+    address_tables: &[DebugUnit<'_>],
+    tables: &[DebugUnit<'_>],
+) -> FaultPlaces
+    ensures { (s : ListSections) → units.now ≡ walked 5 s.units.info → address_tables.now ≡ walked 5 s.units.addr →
+        tables.now ≡ walked 5 s.ranges → IsProgress s (walked 5 s.units.info) progress.now →
+        record { version = result.version; form = result.form; high = result.high; bad = result.bad } ≡ range_places s }
+{
+    let unit = other_version(units);
+    let address = other_version(address_tables);
+    let list = other_version(tables);
+    let of_units = unit.or(address);
+    let version = of_units.or(list);
+    let form = lower(progress.bad_form, progress.unformed);
+    let broken = address_table::bad_table(address_tables);
+    let of_table = bad_table(tables);
+    let lists = lower(of_table, progress.bad_table);
+    let later = broken.or(lists);
+    let bad = progress.bad.or(later);
+    FaultPlaces {
+        version,
+        form,
+        high: progress.bad_high,
+        bad,
+    }
+}
+
+/// The entries that have ranges, or the first fault of the sections that they are read from.
+pub fn read_ranges(
+    alloc: Global,
+    info: &[u8],
+    abbrevs: &[u8],
+    addr: &[u8],
+    ranges: &[u8],
+) -> Result<RangedEntries, Refusal>
+    ensures read { IfOk result (λ r. (locations : List ℕ) →
+        AreRangesOf (list_sections_held info.now abbrevs.now addr.now ranges.now locations) r.groups r.ranged.items r.index_weight) }
+    ensures fault { IfErr result (λ e. (locations : List ℕ) →
+        IsRefusalBy
+        (HasDwarfFault (range_places (list_sections_held info.now abbrevs.now addr.now ranges.now locations))) e) }
+{
+    let address_tables = debug_units(alloc, VERSION, addr)?;
+    let tables = debug_units(alloc, VERSION, ranges)?;
+    let reader = UnitReader::new(alloc, info, abbrevs, addr)?;
+    let section = ListSection {
+        bytes: ranges,
+        tables: &tables,
+    };
+    let progress = read_all(alloc, &reader, section, addr)?;
+    let places = fault_places(&progress, reader.units(), &address_tables, &tables);
+    refused(places)?;
+    Ok(RangedEntries {
+        groups: progress.groups,
+        ranged: progress.ranged,
+        index_weight: progress.index_weight,
+    })
+}

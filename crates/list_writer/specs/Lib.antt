@@ -1,0 +1,4 @@
+pub mod ListBytes
+pub mod WrittenTables
+pub mod WrittenRanges
+pub mod WrittenLocations

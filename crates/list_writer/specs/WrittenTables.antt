@@ -1,0 +1,191 @@
+-- Tables of lists that are written anew, and where the attributes of units' entries find their lists in them. DWARF 5,
+-- sections 7.28 and 7.29.
+use Rattle.std.specs.Prelude.{◌≡◌, ◌<◌, ◌≤◌, ◌+◌, ◌-◌, ◌*◌, ◌^◌, ℕ, zero, suc, Bool, true, IsTrue, List, [], ◌∷◌, ◌++◌, All, Contains, length}
+use Rattle.std.specs.Prelude.{unwrap_or, slice_get, Option, Some, None, if◌then◌else◌}
+use Rattle.std.specs.BTreeMap.{BTreeMap, get, is_at}
+use Rattle.std.specs.Global.{Vec}
+use Rattle.std.specs.Ordering.{nat_cmp}
+use Rattle.byteorder.specs.Endian.{little_bytes}
+use Rattle.table_core.specs.declared.written.ListAt.{ListAt}
+use Rattle.table_core.specs.WrittenUnits.{IsUnit, units_bytes}
+use Rattle.dw_unit.specs.EntryMoves.{new_list_offset}
+use Rattle.dw_lists.specs.declared.list_kind.ListKind.{ListKind}
+use Rattle.dw_lists.specs.declared.list_kind.ListKind.TheVariants.{Ranges, Locations}
+use Rattle.dw_lists.specs.declared.named_list.NamedList.{NamedList}
+use Rattle.dw_lists.specs.Faults.{is_list_table}
+use Rattle.dw_lists.specs.ListReading.{kind_of}
+use Rattle.dw_lists.specs.ListTables.{is_of_ranges, is_of_locations}
+
+abbrev pub bytes_of : Option (Vec ℕ) → List ℕ
+bytes_of None = []
+bytes_of (Some v) = v.items
+
+-- the bytes of the list of a number
+abbrev pub bytes_in : List (Vec ℕ) → ℕ → List ℕ
+bytes_in lists n = bytes_of (slice_get lists n)
+
+-- the attribute that holds the base of indexes
+abbrev pub base_name : ListKind → ℕ
+base_name kind = (kind_of kind).base_name
+
+-- the attributes that get offsets
+abbrev pub is_of : ListKind → ℕ → Bool
+is_of Ranges = is_of_ranges
+is_of Locations = is_of_locations
+
+abbrev pub IsNaming : ListKind → ℕ → Type 0
+IsNaming kind attr = (kind_of kind).names_list attr ≡ true
+
+-- Attributes in the order of entries, and in that of their numbers, which are below 128.
+abbrev pub key : ℕ → ℕ → ℕ
+key place attr = 128 * place + attr
+
+-- Attributes that name lists, each once, in order.
+abbrev pub AreInOrder : ListKind → ℕ → List NamedList → Type 0
+AreInOrder kind lo [] = Unit {0}
+AreInOrder kind lo (r ∷ rs) = (lo ≤ key r.place r.attr) × IsNaming kind r.attr × AreInOrder kind (key r.place r.attr + 1) rs
+
+-- some bytes begin at an offset of others
+pub record Begins (bytes : List ℕ) (offset : ℕ) (part : List ℕ) : Type 0 where
+  pub before : List ℕ
+  pub more : List ℕ
+  pub is : bytes ≡ before ++ (part ++ more)
+  pub at : offset ≡ length before
+
+-- where the lists of numbers begin that stand in the body of a table
+abbrev pub AreListed : List (Vec ℕ) → List ℕ → BTreeMap ℕ ℕ → Type 0
+AreListed lists body known = (n o : ℕ) → get nat_cmp known n ≡ Some o → Begins body o (bytes_in lists n)
+
+-- bytes that were appended
+pub record IsLonger (old new : List ℕ) : Type 0 where
+  pub more : List ℕ
+  pub is : new ≡ old ++ more
+
+-- the list of a number stands in a body, which had it or got it
+pub record IsListed (lists : List (Vec ℕ)) (n offset : ℕ) (old new : List ℕ) (known : BTreeMap ℕ ℕ) : Type 0 where
+  pub longer : IsLonger old new
+  pub listed : AreListed lists new known
+  pub begins : Begins new offset (bytes_in lists n)
+
+-- Lists of attributes below a key, and bases of units below a place, each once, below 2 ^ 32.
+pub record AreNames (kind : ListKind) (lo own : ℕ) (names : List ListAt) : Type 0 where
+  pub attrs : All (λ l. IsTrue (is_of kind l.attr)) names
+  pub once : (l : ListAt) → Contains names l → new_list_offset names l.entry l.attr ≡ Some l.offset
+  pub low : All (λ l. l.offset < 2 ^ 32) names
+  pub lists : (e attr : ℕ) → IsNaming kind attr → lo ≤ key e attr → new_list_offset names e attr ≡ None
+  pub bases : (e : ℕ) → own ≤ e → new_list_offset names e (base_name kind) ≡ None
+
+-- No name is lost.
+abbrev pub Keeps : List ListAt → List ListAt → Type 0
+Keeps old new = (e attr o : ℕ) → new_list_offset old e attr ≡ Some o → new_list_offset new e attr ≡ Some o
+
+abbrev pub name_at : NamedList → ℕ → ListAt
+name_at r offset = record { entry = r.place; attr = r.attr; offset = offset }
+
+abbrev pub base_at : ListKind → ℕ → ℕ → ListAt
+base_at kind own offset = record { entry = own; attr = base_name kind; offset = offset }
+
+-- An attribute got the offset of its list in a body that begins at a place: by a name, or by its index.
+abbrev pub IsOffsetGiven : ℕ → ℕ → NamedList → List ListAt → List ListAt → BTreeMap ℕ ℕ → BTreeMap ℕ ℕ → Option ℕ → Type 0
+IsOffsetGiven start o r names more indexes now None =
+    (more ≡ names ++ name_at r (start + o) ∷ []) × (start + o < 2 ^ 32) × (now ≡ indexes)
+IsOffsetGiven start o r names more indexes now (Some i) =
+    (more ≡ names) × ((q : ℕ) → get nat_cmp now q ≡ (if is_at (nat_cmp i) q then Some o else get nat_cmp indexes q))
+
+pub record IsEntryPut (lists : List (Vec ℕ)) (start : ℕ) (r : NamedList) (old new : List ℕ) (known : BTreeMap ℕ ℕ)
+    (indexes now : BTreeMap ℕ ℕ) (names more : List ListAt) : Type 0 where
+  pub offset : ℕ
+  pub listed : IsListed lists r.list offset old new known
+  pub given : IsOffsetGiven start offset r names more indexes now r.index
+
+-- One of some attributes whose lists stand in a body that begins at a place: its list is named by its offset, or its index
+-- has that of an attribute with the same index.
+abbrev pub IsPut : List (Vec ℕ) → ℕ → List ℕ → BTreeMap ℕ ℕ → List ListAt → List NamedList → NamedList →
+    Option ℕ → Type 0
+IsPut lists start body indexes names all r None =
+    (o : ℕ) × (new_list_offset names r.place r.attr ≡ Some (start + o)) × Begins body o (bytes_in lists r.list)
+IsPut lists start body indexes names all r (Some i) =
+    (o : ℕ) × (like : NamedList) × (get nat_cmp indexes i ≡ Some o) × (like.index ≡ Some i) × Contains all like
+    × Begins body o (bytes_in lists like.list)
+
+-- behind the keys of some attributes
+abbrev pub keys_end : ℕ → List NamedList → ℕ
+keys_end lo [] = lo
+keys_end lo (r ∷ rs) = keys_end (key r.place r.attr + 1) rs
+
+pub record ArePut (kind : ListKind) (lists : List (Vec ℕ)) (start lo own : ℕ) (body : List ℕ) (indexes : BTreeMap ℕ ℕ)
+    (old names : List ListAt) (entries : List NamedList) : Type 0 where
+  pub names_are : AreNames kind (keys_end lo entries) own names
+  pub keeps : Keeps old names
+  pub each : (r : NamedList) → Contains entries r → IsPut lists start body indexes names entries r r.index
+
+-- Tables
+
+-- version, size of addresses, and how many offsets there are
+abbrev pub list_header : ℕ → List ℕ
+list_header count = little_bytes 2 5 ++ 8 ∷ 0 ∷ little_bytes 4 count
+
+-- Offsets count from the first of them, and lists begin behind them; an index that isn't used has the first list.
+abbrev pub offset_of : ℕ → BTreeMap ℕ ℕ → ℕ → ℕ
+offset_of size indexes i = size + unwrap_or (get nat_cmp indexes i) 0
+
+unfoldable pub list_offsets : (size : ℕ) → BTreeMap ℕ ℕ → ℕ → List ℕ
+list_offsets size indexes zero = []
+list_offsets size indexes (suc n) = list_offsets size indexes n ++ little_bytes 4 (offset_of size indexes n)
+
+abbrev pub list_table : ℕ → BTreeMap ℕ ℕ → List ℕ → List ℕ
+list_table count indexes body = list_header count ++ (list_offsets (4 * count) indexes count ++ body)
+
+-- a table was appended behind its length
+pub record IsTablePut (count : ℕ) (indexes : BTreeMap ℕ ℕ) (body old new : List ℕ) : Type 0 where
+  pub bytes : new ≡ old ++ (little_bytes 4 (8 + 4 * count + length body) ++ list_table count indexes body)
+  pub small : 8 + 4 * count + length body < 2 ^ 32 - 1
+  pub low : (i : ℕ) → i < count → offset_of (4 * count) indexes i < 2 ^ 32
+
+-- bytes stand in one of some tables, at an offset of their section
+pub record StandsAt (tables : List (List ℕ)) (at : ℕ) (part : List ℕ) : Type 0 where
+  pub before : List (List ℕ)
+  pub after : List (List ℕ)
+  pub head : List ℕ
+  pub more : List ℕ
+  pub are : tables ≡ before ++ (head ++ (part ++ more)) ∷ after
+  pub at_is : at ≡ length (units_bytes before) + 4 + length head
+
+-- An attribute's list is named by its offset, or by its index and the base of its unit, where that of an attribute with the
+-- same index stands.
+abbrev pub IsNamed : ListKind → List (Vec ℕ) → List (List ℕ) → List ListAt → List NamedList → NamedList → Option ℕ → Type 0
+IsNamed kind lists tables names all r None =
+    (at : ℕ) × (new_list_offset names r.place r.attr ≡ Some at) × StandsAt tables at (bytes_in lists r.list)
+IsNamed kind lists tables names all r (Some i) =
+    (base : ℕ) × (o : ℕ) × (like : NamedList) × (new_list_offset names r.own (base_name kind) ≡ Some base)
+    × StandsAt tables (base + 4 * i) (little_bytes 4 o) × (o < 2 ^ 32) × (like.own ≡ r.own) × (like.index ≡ Some i)
+    × Contains all like × StandsAt tables (base + o) (bytes_in lists like.list)
+
+-- A table more, in which the attributes of a unit's entries find their lists.
+pub record IsUnitWritten (kind : ListKind) (lists : List (Vec ℕ)) (lo own : ℕ) (entries : List NamedList) (tables : List (List ℕ))
+    (bytes : List ℕ) (old names : List ListAt) : Type 0 where
+  pub table : List ℕ
+  pub bytes_are : bytes ≡ units_bytes (tables ++ table ∷ [])
+  pub is_unit : IsUnit 5 table
+  pub is_table : is_list_table table ≡ true
+  pub names_are : AreNames kind (keys_end lo entries) (own + 1) names
+  pub keeps : Keeps old names
+  pub each : (r : NamedList) → Contains entries r → IsNamed kind lists (tables ++ table ∷ []) names entries r r.index
+
+-- Own entries of units stand at places that don't fall.
+abbrev pub OwnsRise : ℕ → List NamedList → Type 0
+OwnsRise lo [] = Unit {0}
+OwnsRise lo (r ∷ rs) = (lo ≤ r.own) × OwnsRise r.own rs
+
+-- Tables in which some attributes find their lists, of all attributes.
+pub record AreWritten (kind : ListKind) (lists : List (Vec ℕ)) (all entries rest : List NamedList) (bytes : List ℕ) (names : List ListAt) :
+    Type 0 where
+  pub tables : List (List ℕ)
+  pub bytes_are : bytes ≡ units_bytes tables
+  pub units : All (IsUnit 5) tables
+  pub sound : All (λ b. is_list_table b ≡ true) tables
+  pub own : ℕ
+  pub owns : OwnsRise own rest
+  pub order : AreInOrder kind (keys_end 0 entries) rest
+  pub names_are : AreNames kind (keys_end 0 entries) own names
+  pub each : (r : NamedList) → Contains entries r → IsNamed kind lists tables names all r r.index

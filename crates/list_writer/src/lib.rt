@@ -1,0 +1,7 @@
+//! Range lists and location lists written anew, in tables.
+#![tactic(auto)]
+
+pub mod list_tables;
+mod list_writing;
+pub mod location_spelling;
+pub mod range_tables;

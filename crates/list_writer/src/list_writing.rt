@@ -1,0 +1,84 @@
+// Lists written anew. DWARF 5, sections 7.7.3 and 7.25.
+ghost use Rattle.std.specs.Prelude.{◌≡◌, ◌++◌, ◌∷◌, [], ◌<◌, ◌^◌, OnOk, length};
+ghost use Rattle.byteorder.specs.Endian.{little_bytes};
+ghost use Rattle.list_writer.specs.ListBytes.{stretch_bytes, entry_bytes};
+ghost use Rattle.rb_bytes.specs.Leb.{uleb};
+ghost use Rattle.dw_lists.specs.declared.list_entry.TheConstants.{DW_RLE_end_of_list};
+
+use byteorder::{ByteOrder, LittleEndian};
+use dw_lists::list_entry::{DW_LLE_start_length, DW_RLE_end_of_list, DW_RLE_start_length};
+use dw_lists::list_kind::ListKind;
+use rb_bytes::fault::NoMemory;
+use rb_bytes::leb::put_uleb;
+
+/// Appends a number of four bytes, the lowest first.
+pub fn put_u32(out: &mut Vec<u8>, n: u32) -> Result<(), NoMemory>
+    ensures { OnOk result (out.new.items ≡ out.old.items ++ little_bytes 4 n) }
+{
+    let mut field = [0; 4];
+    LittleEndian::write_u32(&mut field, n);
+    out.extend_from_slice(&field)?;
+    Ok(())
+}
+
+fn put_u64(out: &mut Vec<u8>, n: u64) -> Result<(), NoMemory>
+    ensures { OnOk result (out.new.items ≡ out.old.items ++ little_bytes 8 n) }
+{
+    let mut field = [0; 8];
+    LittleEndian::write_u64(&mut field, n);
+    out.extend_from_slice(&field)?;
+    Ok(())
+}
+
+fn put_byte(out: &mut Vec<u8>, byte: u8) -> Result<(), NoMemory>
+    ensures { OnOk result (out.new.items ≡ out.old.items ++ byte ∷ []) }
+{
+    out.push(byte)?;
+    Ok(())
+}
+
+// A stretch of addresses, behind the kind of its entry.
+fn put_stretch(out: &mut Vec<u8>, kind: u64, start: u64, len: u64) -> Result<(), NoMemory>
+    requires { kind < 2 ^ 8 }
+    ensures { OnOk result (out.new.items ≡ out.old.items ++ kind ∷ stretch_bytes start len) }
+{
+    put_byte(out, kind as u8)?;
+    put_u64(out, start)?;
+    put_uleb(out, len)
+}
+
+// Bytes behind their count.
+fn put_block(out: &mut Vec<u8>, bytes: &[u8]) -> Result<(), NoMemory>
+    ensures { OnOk result (out.new.items ≡ out.old.items ++ (uleb (length bytes.now) ++ bytes.now)) }
+{
+    put_uleb(out, bytes.len() as u64)?;
+    out.extend_from_slice(bytes)?;
+    Ok(())
+}
+
+/// Appends an entry of a list for a stretch of addresses, with an expression in a list of locations.
+pub fn put_entry(
+    out: &mut Vec<u8>,
+    list: ListKind,
+    start: u64,
+    len: u64,
+    expression: &[u8],
+) -> Result<(), NoMemory>
+    ensures { OnOk result (out.new.items ≡ out.old.items
+        ++ entry_bytes list (record { start = start; len = len; expression = expression.now })) }
+{
+    match list {
+        ListKind::Ranges => put_stretch(out, DW_RLE_start_length, start, len),
+        ListKind::Locations => {
+            put_stretch(out, DW_LLE_start_length, start, len)?;
+            put_block(out, expression)
+        }
+    }
+}
+
+/// Appends the end of a list.
+pub fn put_end(out: &mut Vec<u8>) -> Result<(), NoMemory>
+    ensures { OnOk result (out.new.items ≡ out.old.items ++ DW_RLE_end_of_list ∷ []) }
+{
+    put_byte(out, DW_RLE_end_of_list as u8)
+}

@@ -1,6 +1,0 @@
-use Rattle.std.proofs.Common.{◌≡◌, take}
-use Rattle.range_loc_rewrite.specs.Bounds.{bounds_in}
-use Rattle.range_loc_rewrite.proofs.bounds.all_bounds.Given as goal
-
-abbrev pub invariant-loop-cover : goal.invariant-loop-cover
-invariant-loop-cover l = l.bounds.items ≡ bounds_in (take l.cover-index l.covers)

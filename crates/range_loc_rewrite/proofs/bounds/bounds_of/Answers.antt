@@ -1,5 +1,0 @@
-use Rattle.std.proofs.lemmas.List.Sorted.{IsNonDecreasingBy-from_sort}
-use Rattle.range_loc_rewrite.proofs.bounds.bounds_of.Goals as goal
-
-pub returns-clause-rising : goal.returns-clause-rising
-returns-clause-rising c = IsNonDecreasingBy-from_sort (λ n. n) _ c.sort_unstable.ensures.sorted

@@ -1,6 +1,0 @@
-use Rattle.std.proofs.Common.{◌≡◌, ◌++◌, take}
-use Rattle.range_loc_rewrite.specs.KeptPlaces.{list_bounds}
-use Rattle.range_loc_rewrite.proofs.bounds.put_list_bounds.Given as goal
-
-abbrev pub invariant-loop-list : goal.invariant-loop-list
-invariant-loop-list l = l.bounds.items ≡ l.fn.bounds.items ++ list_bounds (take l.list-index l.lists)

@@ -1,8 +1,0 @@
-use Rattle.std.proofs.Common.{◌≡◌, ◌++◌, take, map}
-use Rattle.range_loc_rewrite.specs.Groups.{covers_in}
-use Rattle.range_loc_rewrite.specs.ListReading.{located_of}
-use Rattle.range_loc_rewrite.proofs.groups.put_covers.Given as goal
-
-abbrev pub invariant-loop-place : goal.invariant-loop-place
-invariant-loop-place l =
-    l.covers.items ≡ l.fn.covers.items ++ covers_in l.group (map located_of (take l.place-index l.places))

@@ -1,9 +1,0 @@
-use Rattle.std.proofs.Common.{◌≡◌, take}
-use Rattle.std.specs.Prelude.{flat_map}
-use Rattle.dw_unit.specs.ListedEntries.{ListedEntry}
-use Rattle.range_loc_rewrite.specs.Weights as spec
-use Rattle.range_loc_rewrite.proofs.index_weight.index_weight.Given as goal
-
-abbrev pub invariant-loop-entry : goal.invariant-loop-entry
-invariant-loop-entry l =
-    l.greatest ≡ spec.greatest (spec.indexes_in l.form (flat_map (λ (e : ListedEntry). e.attrs) (take l.entry-index l.entries)))

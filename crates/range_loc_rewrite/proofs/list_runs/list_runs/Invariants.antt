@@ -1,9 +1,0 @@
-use Rattle.std.proofs.Common.{◌≡◌, ℕ, length, take}
-use Rattle.range_loc_rewrite.specs.GroupRuns.{runs_end}
-use Rattle.range_loc_rewrite.specs.ListRuns.{IsListRuns, said_in}
-use Rattle.range_loc_rewrite.proofs.list_runs.list_runs.Given as goal
-
-abbrev pub invariant-loop-stretch : goal.invariant-loop-stretch
-invariant-loop-stretch l =
-    (length l.runs.items ≡ length l.lists)
-    × ((n : ℕ) → IsListRuns l.lists n (take l.stretch-index l.stretches) (runs_end 0 (take l.stretch-index l.stretches)) (said_in l.runs.items n))

@@ -1,7 +1,0 @@
-use Rattle.std.proofs.Common.{◌≡◌, ◌-◌, ◌^◌, take}
-use Rattle.std.specs.Prelude.{min}
-use Rattle.range_loc_rewrite.specs.ListWeights.{copies_weight}
-use Rattle.range_loc_rewrite.proofs.list_weight.copies_weight.Given as goal
-
-abbrev pub invariant-loop-copy : goal.invariant-loop-copy
-invariant-loop-copy l = l.weight ≡ min (copies_weight (take l.copy-index l.copies)) (2 ^ 64 - 1)

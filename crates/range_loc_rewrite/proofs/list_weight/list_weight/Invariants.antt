@@ -1,7 +1,0 @@
-use Rattle.std.proofs.Common.{◌≡◌, ◌-◌, ◌^◌, take}
-use Rattle.std.specs.Prelude.{min}
-use Rattle.range_loc_rewrite.specs.ListWeights.{list_weight}
-use Rattle.range_loc_rewrite.proofs.list_weight.list_weight.Given as goal
-
-abbrev pub invariant-loop-run : goal.invariant-loop-run
-invariant-loop-run l = l.weight ≡ min (list_weight (take l.run-index l.runs)) (2 ^ 64 - 1)

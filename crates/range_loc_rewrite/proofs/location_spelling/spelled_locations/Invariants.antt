@@ -1,7 +1,0 @@
-use Rattle.std.proofs.Common.{◌≡◌, map, take, All}
-use Rattle.range_loc_rewrite.specs.KeptLists.{items_in}
-use Rattle.range_loc_rewrite.specs.WrittenLocations.{runs_bytes, CanBeWritten}
-use Rattle.range_loc_rewrite.proofs.location_spelling.spelled_locations.Given as goal
-
-abbrev pub invariant-loop-runs : goal.invariant-loop-runs
-invariant-loop-runs l = (items_in l.all.items ≡ map runs_bytes (take l.runs-index l.lists)) × All CanBeWritten (take l.runs-index l.lists)

@@ -1,6 +1,0 @@
-use Rattle.std.proofs.Common.{◌≡◌, map, take}
-use Rattle.range_loc_rewrite.specs.WrittenRanges.{named_of}
-use Rattle.range_loc_rewrite.proofs.range_tables.range_names.Given as goal
-
-abbrev pub invariant-loop-entry : goal.invariant-loop-entry
-invariant-loop-entry l = l.named.items ≡ map named_of (take l.entry-index l.ranged)

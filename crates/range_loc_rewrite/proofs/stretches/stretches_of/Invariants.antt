@@ -1,8 +1,0 @@
-use Rattle.std.proofs.Common.{Some}
-use Rattle.table_core.specs.AnswerRuns.{said_runs}
-use Rattle.table_core.proofs.NewCode.{AreMade}
-use Rattle.range_loc_rewrite.specs.Stretches.{bounds_before}
-use Rattle.range_loc_rewrite.proofs.stretches.stretches_of.Given as goal
-
-abbrev pub invariant-loop-i : goal.invariant-loop-i
-invariant-loop-i l = AreMade (λ a. Some (bounds_before l.bounds a)) l.map l.i (said_runs (bounds_before l.bounds) l.stretches.items)

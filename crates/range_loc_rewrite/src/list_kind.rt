@@ -1,7 +1,0 @@
-// The two kinds of sections of lists. DWARF 5, sections 2.6.2 and 2.17.3.
-
-#[derive(Clone, Copy)]
-pub enum ListKind {
-    Ranges,
-    Locations,
-}

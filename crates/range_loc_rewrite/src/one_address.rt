@@ -1,0 +1,150 @@
+// What units say of one address. Nothing is kept by which other addresses would be found.
+ghost use Rattle.std.specs.Prelude.{◌≡◌, ◌++◌, ◌||◌, ℕ, IfErr, IfOk, OnOk, flat_map};
+ghost use Rattle.std.specs.BTreeSet.{contains};
+ghost use Rattle.std.specs.Ordering.{nat_cmp};
+ghost use Rattle.rb_bytes.specs.FirstFault.{IsFree, IsRefusalBy};
+ghost use Rattle.dw_unit.specs.Faults.{HasDwarfFault};
+ghost use Rattle.cover_lists.specs.CoverTree as tree;
+ghost use Rattle.cover_lists.specs.Groups.{group_holds, is_in_group};
+ghost use Rattle.dw_lists.specs.Faults.{location_places};
+ghost use Rattle.dw_lists.specs.Locations.{all_said, places_said};
+ghost use Rattle.dw_lists.specs.Ranges as spec;
+ghost use Rattle.dw_lists.specs.Tables.{list_sections};
+ghost use Rattle.range_loc_rewrite.specs.OneAddress.{place_if, said_if};
+
+use crate::located_places::{expressions_at, put_place};
+use crate::place_answer::PlaceAt;
+use crate::reading::read_entries;
+use cover_lists::cover_tree::Cover;
+use cover_lists::groups::RangedEntry;
+use cover_lists::kept_list::KeptList;
+use elf_image::Elf;
+use list_units::located_attr::LocatedAttr;
+use rb_bytes::fault::{NoMemory, Refusal};
+use std::alloc::Global;
+use std::collections::BTreeSet;
+
+/// What the entries of a file say of an address.
+#[derive(Drop)]
+pub struct ListsAt {
+    /// The places of the entries whose ranges hold it, in order.
+    pub covers: Vec<u64>,
+    /// The expressions in force at it, by their entries and attributes.
+    pub places: Vec<PlaceAt>,
+}
+
+fn holds(cover: &Cover, a: u64) -> bool
+    ensures { result ≡ tree.holds a cover.now }
+{
+    cover.low <= a as u128 && (a as u128) < cover.high
+}
+
+// Adds the group of a range, if the range holds an address.
+fn put_group(found: &mut BTreeSet<usize>, cover: &Cover, a: u64) -> Result<(), NoMemory>
+    ensures { OnOk result ((g : ℕ) →
+        contains nat_cmp found.new g ≡ (contains nat_cmp found.old g || is_in_group g a cover.now)) }
+{
+    if !holds(cover, a) {
+        return Ok(());
+    }
+    found.insert(cover.group)?;
+    Ok(())
+}
+
+// The groups of ranges that hold an address.
+fn groups_at(alloc: Global, covers: &[Cover], a: u64) -> Result<BTreeSet<usize>, NoMemory>
+    ensures { IfOk result (λ found. (g : ℕ) → contains nat_cmp found g ≡ group_holds covers.now g a) }
+{
+    let mut found = BTreeSet::new(alloc);
+    for cover in covers {
+        put_group(&mut found, cover, a)?;
+    }
+    Ok(found)
+}
+
+// Adds the place of an entry, if its group was found.
+fn put_covering(
+    places: &mut Vec<u64>,
+    entry: &RangedEntry,
+    found: &BTreeSet<usize>,
+) -> Result<(), NoMemory>
+    ensures { OnOk result (places.new.items ≡ places.old.items ++ place_if found.now entry.now) }
+{
+    if !found.contains(&entry.group) {
+        return Ok(());
+    }
+    places.push(entry.place)?;
+    Ok(())
+}
+
+// The places of the entries whose groups were found.
+fn covering(
+    alloc: Global,
+    ranged: &[RangedEntry],
+    found: &BTreeSet<usize>,
+) -> Result<Vec<u64>, NoMemory>
+    ensures { IfOk result (λ places. places.items ≡ flat_map (place_if found.now) ranged.now) }
+{
+    let mut places = Vec::new(alloc);
+    for entry in ranged {
+        put_covering(&mut places, entry, found)?;
+    }
+    Ok(places)
+}
+
+// Adds what an attribute says at an address, if its group was found.
+fn put_said(
+    alloc: Global,
+    places: &mut Vec<PlaceAt>,
+    lists: &[KeptList],
+    located: &LocatedAttr,
+    found: &BTreeSet<usize>,
+    a: u64,
+) -> Result<(), NoMemory>
+    ensures { OnOk result (all_said places.new ≡ all_said places.old ++ said_if found.now lists.now a located.now) }
+{
+    if !found.contains(&located.group) {
+        return Ok(());
+    }
+    let expressions = expressions_at(alloc, lists, &located.source, a)?;
+    put_place(places, located.place, located.attr, expressions)?;
+    Ok(())
+}
+
+// What the attributes whose groups were found say at an address.
+fn said_at(
+    alloc: Global,
+    lists: &[KeptList],
+    located: &[LocatedAttr],
+    found: &BTreeSet<usize>,
+    a: u64,
+) -> Result<Vec<PlaceAt>, NoMemory>
+    ensures { IfOk result (λ places. all_said places ≡ flat_map (said_if found.now lists.now a) located.now) }
+{
+    let mut places = Vec::new(alloc);
+    for attr in located {
+        put_said(alloc, &mut places, lists, attr, found, a)?;
+    }
+    Ok(places)
+}
+
+/// What the entries of a file say of an address, or the first fault of the sections that they are read from. Units are
+/// walked once.
+pub fn lists_at(alloc: Global, elf: &Elf, a: u64) -> Result<ListsAt, Refusal>
+    ensures covers { IfOk result (λ t. t.covers.items ≡ spec.covering (list_sections elf.now) a) }
+    ensures places { IfOk result (λ t. all_said t.places ≡ places_said (list_sections elf.now) a) }
+    ensures free { OnOk result (IsFree (HasDwarfFault (location_places (list_sections elf.now)))) }
+    ensures fault { IfErr result (IsRefusalBy (HasDwarfFault (location_places (list_sections elf.now)))) }
+{
+    let entries = read_entries(alloc, elf)?;
+    let ranges = &entries.ranges;
+    let found = groups_at(alloc, &ranges.groups.covers, a)?;
+    let covers = covering(alloc, &ranges.ranged, &found)?;
+    let places = &entries.places;
+    let held = groups_at(alloc, &places.groups.covers, a)?;
+    let said = said_at(alloc, &places.kept.lists, &places.kept.located, &held, a)?;
+    Ok(ListsAt {
+        covers,
+        places: said,
+    })
+}
