@@ -1,5 +1,5 @@
 -- The program headers that follow from what was read of a written file are those that it must have.
-use Rattle.std.proofs.Common.{◌≡◌, ◌∙◌, sym, subst, ℕ, List, Option, Some, String, Vec, length}
+use Rattle.std.proofs.Common.{◌≡◌, sym, subst, ℕ, List, Option, Some, String, Vec, length}
 use Rattle.std.specs.Prelude.{IfSome, codes, map, unwrap_or}
 use Rattle.elf_image.specs.declared.elf.Elf.{Elf}
 use Rattle.elf_image.specs.declared.segment.Segment.{Segment}

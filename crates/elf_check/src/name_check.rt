@@ -1,7 +1,8 @@
 // Whether the tables of names of a file that was written are what they must be, as they are read back. gABI, "String
 // Table".
-ghost use Rattle.std.specs.Prelude.{◌≡◌, ◌++◌, IfOk, IfSome, IsTrue, flat_map};
+ghost use Rattle.std.specs.Prelude.{◌≡◌, ◌++◌, IfSome, IsTrue, flat_map};
 ghost use Rattle.rv_code.specs.layout.FunctionLists.{AreLaidOut};
+ghost use Rattle.elf_plan.specs.FirstNames.{AreFirstNames};
 ghost use Rattle.elf_check.specs.NewNames as spec;
 ghost use Rattle.elf_check.specs.NewNames.{HaveNewNames};
 
@@ -10,14 +11,12 @@ use crate::section_tables::SectionTables;
 use elf_image::named::{EH_FRAME, EH_FRAME_HDR};
 use elf_image::{Elf, Section, Symbol};
 use elf_plan::area::Area;
-use elf_plan::first_names::{first_names, named_around};
+use elf_plan::first_names::named_around;
 use elf_plan::given_tables::DEBUG_RNGLISTS;
 use elf_plan::name_tables::{place_of_names, place_of_section_names};
 use elf_plan::old_name::{is_renamed, old_prefix};
 use elf_plan::section_bytes::bytes_of;
-use rb_bytes::fault::NoMemory;
 use rv_code::Func;
-use std::alloc::Global;
 use std::collections::BTreeMap;
 
 // What follows a name of two parts, which ends with a zero byte, in bytes that begin with it.
@@ -252,20 +251,20 @@ impl<'a> NewNames<'a> {
 
 /// Whether the tables of names are what they must be.
 pub fn has_names(
-    alloc: Global,
+    names: &BTreeMap<u64, Symbol>,
     tables: &SectionTables,
     funcs: &[Func],
     cold: &[u64],
-) -> Result<bool, NoMemory>
-    requires { AreLaidOut funcs.now }
-    ensures { IfOk result (λ holds. IsTrue holds →
-        HaveNewNames tables.now.elf.now tables.now.new.now tables.now.tables.now tables.now.area funcs.now cold.now) }
+) -> bool
+    requires laid_out { AreLaidOut funcs.now }
+    requires names { AreFirstNames tables.now.elf.now.symbols.items names.now }
+    ensures { IsTrue result →
+        HaveNewNames tables.now.elf.now tables.now.new.now tables.now.tables.now tables.now.area funcs.now cold.now }
 {
-    let names = first_names(alloc, &tables.elf.symbols)?;
     let tables = NewNames {
         tables,
         funcs,
         cold,
     };
-    Ok(tables.are_new(&names))
+    tables.are_new(names)
 }

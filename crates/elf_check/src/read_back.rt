@@ -4,6 +4,7 @@ ghost use Rattle.std.specs.Prelude.{◌≡◌, IfOk, IsTrue, length};
 ghost use Rattle.rv_code.specs.layout.FunctionLists.{AreLaidOut};
 ghost use Rattle.elf_image.specs.faults.FileFaults.{IsSound};
 ghost use Rattle.elf_image.specs.file.Header.{e_shstrndx};
+ghost use Rattle.elf_plan.specs.FirstNames.{AreFirstNames};
 ghost use Rattle.elf_plan.specs.FragmentLists.{AreFragments};
 ghost use Rattle.elf_plan.specs.AreaStands.{AreaStands};
 ghost use Rattle.elf_check.specs.EntryNames.{WasRead};
@@ -130,6 +131,7 @@ fn has_symbols_of(
     requires new { WasRead new.now }
     requires laid_out { AreLaidOut source.now.funcs.now }
     requires fragments { AreFragments source.now.funcs.now source.now.map.now source.now.fragments.now }
+    requires firsts { AreFirstNames source.now.elf.now.symbols.items source.now.names.now }
     ensures { IfOk result (λ holds. IsTrue holds →
         AreNewSymbols source.now.elf.now.symbols.items new.now.symbols.items source.now.funcs.now source.now.map.now
         source.now.cold.now (length source.now.elf.now.sections.items) table.now new_table.now) }
@@ -148,7 +150,7 @@ fn has_symbols_of(
         cold: source.cold,
     };
     let names = KeptNames::of_symbols(elf, new);
-    symbols.are_new(alloc, &names, table, new_table)
+    symbols.are_new(alloc, &names, source.names, table, new_table)
 }
 
 // Whether the symbols are those that the file must have.
@@ -157,6 +159,7 @@ fn has_symbols(alloc: Global, source: &SectionSource, new: &Elf) -> Result<bool,
     requires new { WasRead new.now }
     requires laid_out { AreLaidOut source.now.funcs.now }
     requires fragments { AreFragments source.now.funcs.now source.now.map.now source.now.fragments.now }
+    requires firsts { AreFirstNames source.now.elf.now.symbols.items source.now.names.now }
     ensures { IfOk result (λ holds. IsTrue holds →
         HaveNewSymbols source.now.elf.now new.now source.now.funcs.now source.now.map.now source.now.cold.now) }
 {
@@ -183,6 +186,7 @@ fn has_names_and_symbols(
     requires new { WasRead tables.now.new.now }
     requires laid_out { AreLaidOut source.now.funcs.now }
     requires fragments { AreFragments source.now.funcs.now source.now.map.now source.now.fragments.now }
+    requires firsts { AreFirstNames source.now.elf.now.symbols.items source.now.names.now }
     requires input { tables.now.elf.now ≡ source.now.elf.now }
     ensures names { IfOk result (λ holds. IsTrue holds →
         HaveNewNames source.now.elf.now tables.now.new.now tables.now.tables.now tables.now.area source.now.funcs.now
@@ -190,7 +194,7 @@ fn has_names_and_symbols(
     ensures symbols { IfOk result (λ holds. IsTrue holds →
         HaveNewSymbols source.now.elf.now tables.now.new.now source.now.funcs.now source.now.map.now source.now.cold.now) }
 {
-    if !has_names(alloc, tables, source.funcs, source.cold)? {
+    if !has_names(source.names, tables, source.funcs, source.cold) {
         return Ok(false);
     }
     has_symbols(alloc, source, tables.new)
@@ -210,6 +214,7 @@ fn has_new_tables(
     requires names { e_shstrndx new.now.file.now ≡ e_shstrndx source.now.elf.now.file.now }
     requires laid_out { AreLaidOut source.now.funcs.now }
     requires fragments { AreFragments source.now.funcs.now source.now.map.now source.now.fragments.now }
+    requires firsts { AreFirstNames source.now.elf.now.symbols.items source.now.names.now }
     ensures sections { IfOk result (λ holds. IsTrue holds →
         AreaStands plan.now.area source.now.tables.now code.now new.now.file.now →
         AreNewSections source.now.elf.now new.now source.now.tables.now
@@ -254,6 +259,7 @@ pub fn is_accepted(
     requires names { e_shstrndx file.now ≡ e_shstrndx source.now.elf.now.file.now }
     requires laid_out { AreLaidOut source.now.funcs.now }
     requires fragments { AreFragments source.now.funcs.now source.now.map.now source.now.fragments.now }
+    requires firsts { AreFirstNames source.now.elf.now.symbols.items source.now.names.now }
     ensures sound { IfOk result (λ holds. IsTrue holds → IsSound file.now) }
     ensures tables { IfOk result (λ holds. IsTrue holds →
         AreaStands plan.now.area source.now.tables.now code.now file.now →

@@ -5,9 +5,9 @@ ghost use Rattle.elf_check.specs.NewSymbols as spec;
 use crate::entry_names::KeptNames;
 use crate::symbol_check::CodeSymbols;
 use elf_image::{Section, Symbol};
-use elf_plan::first_names::first_names;
 use elf_plan::unwritable::Unwritable;
 use std::alloc::Global;
+use std::collections::BTreeMap;
 
 // How many symbols are local by the header of their table.
 fn local_count(symbols: &[Symbol], table: &Section) -> usize
@@ -34,7 +34,7 @@ fn first<'a, 'b>(symbols: &'b [Symbol<'a>], count: usize) -> &'b [Symbol<'a>]
     &symbols[..count.min(symbols.len())]
 }
 
-// Those behind so many.
+// What stands behind so many items.
 fn behind<'a, 'b>(symbols: &'b [Symbol<'a>], count: usize) -> &'b [Symbol<'a>]
     ensures { result.now ≡ drop count symbols.now }
 {
@@ -55,6 +55,7 @@ impl<'a> SymbolTables<'a> {
     ghost use Rattle.std.specs.Prelude.{IfOk, IsTrue};
     ghost use Rattle.rv_code.specs.layout.FunctionLists.{AreLaidOut};
     ghost use Rattle.elf_check.specs.EntryNames.{AreNamed};
+    ghost use Rattle.elf_plan.specs.FirstNames.{AreFirstNames};
     ghost use Rattle.elf_plan.specs.FragmentLists.{AreFragments};
     ghost use Rattle.elf_check.specs.NewSymbols.{AreNewSymbols};
 
@@ -63,19 +64,20 @@ impl<'a> SymbolTables<'a> {
         &self,
         alloc: Global,
         names: &KeptNames,
+        firsts: &BTreeMap<u64, Symbol>,
         table: &Section,
         new_table: &Section,
     ) -> Result<bool, Unwritable>
         requires old { AreNamed (λ s. s.name.now) names.now.old 0 self.now.old.now }
         requires new { AreNamed (λ s. s.name.now) names.now.new 0 self.now.new.now }
+        requires firsts { AreFirstNames self.now.old.now firsts.now }
         requires laid_out { AreLaidOut self.now.code.funcs.now }
         requires fragments { AreFragments self.now.code.funcs.now self.now.code.map.now self.now.code.fragments.now }
         ensures { IfOk result (λ holds. IsTrue holds →
             AreNewSymbols self.now.old.now self.now.new.now self.now.code.funcs.now self.now.code.map.now self.now.cold.now
             self.now.code.text table.now new_table.now) }
     {
-        let firsts = first_names(alloc, self.old)?;
-        let parts = self.code.named_parts(alloc, &firsts, self.cold)?;
+        let parts = self.code.named_parts(alloc, firsts, self.cold)?;
         let local = local_count(self.old, table);
         if !has_info(self.old, parts.len(), table, new_table) {
             return Ok(false);
@@ -88,10 +90,7 @@ impl<'a> SymbolTables<'a> {
             return Ok(false);
         }
         let rest = behind(self.new, local);
-        if !self
-            .code
-            .are_cold(&firsts, &parts, first(rest, parts.len()))
-        {
+        if !self.code.are_cold(firsts, &parts, first(rest, parts.len())) {
             return Ok(false);
         }
         let last = behind(rest, parts.len());

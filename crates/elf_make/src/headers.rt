@@ -19,6 +19,11 @@ use elf_plan::sections::Contents;
 use elf_plan::unwritable::Unwritable;
 use std::alloc::Global;
 
+// How many times the bytes of the input an output may have, beside so many zeros.
+const MOST_TIMES: u64 = 32;
+
+const MOST_ZEROS: u64 = 4 << 20;
+
 /// The contents that are written anew.
 #[derive(Clone, Copy)]
 pub struct NewContents<'a> {
@@ -172,7 +177,7 @@ fn place_bytes(
 }
 
 /// Where contents that are written from an offset on will end, in an order of their indices. No file is so large that they
-/// would be written for nothing.
+/// would be written for nothing, and none is many times as large as the input: such a file has zeros before a huge alignment.
 pub fn contents_end<'a>(
     elf: &Elf<'a>,
     contents: &[Contents],
@@ -188,6 +193,10 @@ pub fn contents_end<'a>(
                 end = end_behind(end, section.align, bytes.len())?;
             }
         }
+    }
+    let most = (elf.file.len() as u64).saturating_mul(MOST_TIMES);
+    if end > most.saturating_add(MOST_ZEROS) {
+        return Err(Unwritable::TooLarge);
     }
     Ok(end)
 }

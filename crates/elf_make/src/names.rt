@@ -32,6 +32,7 @@ impl NameTable {
         Ok(index as u32)
     }
 
+    /// The names that were added, each with its zero byte.
     pub fn bytes(&self) -> &[u8] {
         &self.bytes
     }

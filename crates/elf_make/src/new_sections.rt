@@ -23,7 +23,7 @@ use elf_plan::section_bytes::bytes_of;
 use elf_plan::sections::{Contents, index_called};
 use elf_plan::source::SectionSource;
 use elf_plan::unwritable::Unwritable;
-use elf_plan::weights::name_weight;
+use elf_plan::weights::weight_by;
 use std::alloc::Global;
 
 // How many times the bytes of the input the tables of names and the copied contents may take together. Where no bytes are
@@ -119,8 +119,8 @@ fn added_symbols(
         return Ok(Vec::new(alloc));
     }
     match &mut names.symbols {
-        Some(table) => cold_symbols(alloc, source.elf, code, source.cold, table),
-        None => cold_symbols(alloc, source.elf, code, source.cold, &mut names.sections),
+        Some(table) => cold_symbols(alloc, source.names, code, source.cold, table),
+        None => cold_symbols(alloc, source.names, code, source.cold, &mut names.sections),
     }
 }
 
@@ -155,14 +155,10 @@ fn new_symbols(
 
 // Before names are made and contents copied: whether they fit a file. Names may be ends of one text and many headers
 // name the same bytes, so what a small file asks for may grow with its square; such a file isn't written.
-fn check_sizes(
-    alloc: Global,
-    source: &SectionSource,
-    contents: &[Contents],
-) -> Result<(), Unwritable>
+fn check_sizes(source: &SectionSource, contents: &[Contents]) -> Result<(), Unwritable>
     requires { AreLaidOut source.now.funcs.now }
 {
-    let mut size = name_weight(alloc, source.elf, source.funcs, source.cold)?;
+    let mut size = weight_by(source.names, source.elf, source.funcs, source.cold);
     for (section, contents) in source.elf.sections.iter().zip(contents) {
         if matches!(contents, Contents::Copied) {
             size = size.saturating_add(section.size);
@@ -188,7 +184,7 @@ pub fn put(
     ensures names { IfOk result (λ new. new.names ≡ e_shstrndx source.now.elf.now.file.now) }
     ensures base { IfOk result (λ new. tail.new.base ≡ tail.old.base) }
 {
-    check_sizes(alloc, source, &plan.contents)?;
+    check_sizes(source, &plan.contents)?;
     let mut names = NewNames::new(alloc, source.elf, &plan.own)?;
     let mut headers = old_headers(alloc, source.elf, &mut names.sections)?;
     let text = u16::try_from(headers.len()).map_err(|_| Unwritable::Layout)?;
@@ -216,19 +212,32 @@ pub fn put(
         &mut headers,
         tail,
     )?;
-    if let (Some(header), Some(table)) = (ranges, table_called(source.tables, DEBUG_RNGLISTS)) {
-        headers.push(SectionHeader {
-            offset: tail.add(1, &table.1)?,
-            size: table.1.len() as u64,
-            ..header
-        })?;
-    }
+    put_ranges(ranges, source.tables, &mut headers, tail)?;
     let table_at = put_table(alloc, &mut headers, tail)?;
     Ok(NewSections {
         headers,
         names: plan.own.section_names,
         table_at,
     })
+}
+
+// Writes the table of ranges behind all other contents, where the input has none, with its header.
+fn put_ranges(
+    header: Option<SectionHeader>,
+    tables: &[Table],
+    headers: &mut Vec<SectionHeader>,
+    tail: &mut Tail,
+) -> Result<(), Unwritable>
+    ensures { IfOk result (λ _. tail.new.base ≡ tail.old.base) }
+{
+    if let (Some(header), Some(table)) = (header, table_called(tables, DEBUG_RNGLISTS)) {
+        headers.push(SectionHeader {
+            offset: tail.add(1, &table.1)?,
+            size: table.1.len() as u64,
+            ..header
+        })?;
+    }
+    Ok(())
 }
 
 // Sets what headers say of their contents, but for the places of those that are written.

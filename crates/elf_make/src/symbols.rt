@@ -7,7 +7,7 @@ use elf_image::number::u32_at;
 use elf_image::symbol::{STT_FUNC, SYM_SIZE};
 use elf_image::{Elf, Section, Symbol};
 use elf_parts::spell::{SymbolEntry, put_symbol};
-use elf_plan::first_names::{first_names, named_around};
+use elf_plan::first_names::named_around;
 use elf_plan::fragments::{Fragment, bytes_left};
 use elf_plan::section_bytes::bytes_of;
 use elf_plan::unwritable::Unwritable;
@@ -15,6 +15,7 @@ use rb_bytes::fault::NoMemory;
 use rv_code::Func;
 use rv_code::functions::function_at;
 use std::alloc::Global;
+use std::collections::BTreeMap;
 
 /// The new code as symbols see it.
 #[derive(Clone, Copy)]
@@ -79,17 +80,16 @@ impl<'a> NewCode<'a> {
 /// The symbols of cold parts, with their names added to a table.
 pub fn cold_symbols(
     alloc: Global,
-    elf: &Elf,
+    names: &BTreeMap<u64, Symbol>,
     code: &NewCode,
     cold: &[u64],
     table: &mut NameTable,
 ) -> Result<Vec<SymbolEntry>, Unwritable>
     requires { AreLaidOut code.now.funcs.now }
 {
-    let names = first_names(alloc, &elf.symbols)?;
     let mut entries = Vec::new(alloc);
     for address in cold {
-        if let Some(symbol) = named_around(&names, code.funcs, *address) {
+        if let Some(symbol) = named_around(names, code.funcs, *address) {
             let name = table.add(symbol.name, b".cold")?;
             if let Some(entry) = code.cold_entry(*address, name) {
                 entries.push(entry)?;

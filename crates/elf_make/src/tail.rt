@@ -37,6 +37,7 @@ pub struct Tail {
 impl Tail {
     ghost use Rattle.std.specs.Prelude.{◌≡◌, ◌+◌, ◌≤◌, IfOk, length};
 
+    /// No bytes, from an offset of the file on.
     pub fn new(alloc: Global, base: u64) -> Tail
         ensures { result.base ≡ base }
     {

@@ -1,5 +1,5 @@
 -- Fragments of new code, and the bytes that are left of one.
-use Rattle.std.proofs.Common.{◌≡◌, ◌≢◌, sym, ap, subst, ℕ, ◌+◌, ◌-◌, ◌<◌, ◌≤◌, ⊎_elim, inl, inr, ◌⊎◌, Some, List, [], ◌∷◌, ◌++◌}
+use Rattle.std.proofs.Common.{◌≡◌, ◌≢◌, sym, ap, subst, ℕ, ◌+◌, ◌-◌, ◌<◌, ◌≤◌, ⊎_elim, inl, inr, ◌⊎◌, Some, List, [], ◌∷◌, ◌++◌, true}
 use Rattle.std.proofs.Common.{length, get_or, take, arith, ◌∙◌, refl}
 use Rattle.std.specs.Prelude.{All, AllPairs, Contains, slice_get}
 use Rattle.std.specs.List.Sorted.{IsNonDecreasingBy}
@@ -12,8 +12,30 @@ use Rattle.addr_map.specs.declared.span.Span.{Span}
 use Rattle.rv_code.specs.declared.placed.Func.{Func}
 use Rattle.elf_plan.specs.declared.fragments.Fragment.{Fragment}
 use Rattle.elf_plan.specs.FragmentLists.{Apart, AreFragments, AreSorted, Grows, HasBytes, HasSpan}
-use Rattle.rv_code.specs.layout.FunctionMembers.{function_at}
+use Rattle.rv_code.specs.layout.FunctionLists.{AreLaidOut}
+use Rattle.rv_code.specs.layout.FunctionMembers.{function_at, func_holds}
+use Rattle.rv_code.proofs.lists.FunctionAt.{ends_rise, function_at-found, held_bounds}
 use Rattle.elf_plan.specs.Fragments.{HasByte, IsFragment}
+
+-- the function that holds an address is the one that is found
+pub function_held : (funcs : List Func) (a k : ℕ) (d : Func) → AreLaidOut funcs → k < length funcs →
+    func_holds a (get_or funcs k d) ≡ true → function_at funcs a ≡ Some k
+function_held funcs a k d are inside holds =
+    let bounds = held_bounds a (get_or funcs k d).start (get_or funcs k d).end holds in
+    let same : (e : Func) → get_or funcs k e ≡ get_or funcs k d = λ e. get_or_default funcs k e d inside in
+    function_at-found funcs a k d
+    (record {
+      within = omega arith;
+      low = λ j e less.
+          let apart = are.apart j k e less inside in
+          let start = ap (λ (f : Func). f.start) (same e) in
+          omega arith;
+      high = λ j e from within.
+          let up = ends_rise funcs are k j e from within in
+          let end = ap (λ (f : Func). f.end) (same e) in
+          omega arith;
+    })
+    inside bounds.0
 
 -- a list without its last element
 

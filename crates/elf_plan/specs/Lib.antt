@@ -22,6 +22,5 @@ pub mod PlacedHeaders
 pub mod Plans
 pub mod RangeTree
 pub mod RangeTreeDepth
-pub mod RangesWithNew
 pub mod TableSizes
 pub mod WrittenSections

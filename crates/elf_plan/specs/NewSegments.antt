@@ -3,13 +3,11 @@ use Rattle.std.specs.Prelude.{◌≡◌, ◌⊎◌, ℕ, ◌+◌, ◌-◌, ◌<�
 use Rattle.std.specs.Prelude.{length, IsTrue, slice_index_or}
 use Rattle.elf_image.specs.declared.segment.Segment.{Segment}
 use Rattle.elf_image.specs.declared.segment.TheConstants.{PT_LOAD, PF_R, PF_X, PT_GNU_EH_FRAME}
-use Rattle.elf_image.specs.file.Header.{e_phnum}
 use Rattle.elf_image.specs.memory.Image.{is_load, end_of}
 use Rattle.elf_plan.specs.declared.area.Area.{Area}
 use Rattle.elf_plan.specs.declared.segments.TheConstants.{PT_PHDR}
 use Rattle.elf_plan.specs.Area.{moved_by}
 use Rattle.file_room.specs.Room.{greatest_align}
-use Rattle.elf_plan.specs.RangesWithNew.{Loads}
 
 -- no bytes of a header begin before an offset and end behind it
 abbrev pub CrossesNot : ℕ → Segment → Type 0
@@ -93,7 +91,3 @@ pub record AreNewHeaders (file_end step : ℕ) (area : Area) (code : ℕ) (ps qs
   pub behind : area.tight ≡ true → (k : ℕ) (d : Segment) → at ≤ k → k < length ps → is_load (slice_index_or ps k d) ≡ false
   pub last : area.tight ≡ true → 0 < at → (d : Segment) → is_load (slice_index_or ps (at - 1) d) ≡ true
   pub more : area.tight ≡ true → qs ≡ inserted at (area_segment area (greatest_align ps)) renewed
-
--- no segment of a file loads an address of a range
-abbrev pub IsFreeRange : List ℕ → ℕ → ℕ → Type 0
-IsFreeRange file low high = (i a : ℕ) → i < e_phnum file → Loads file i a → low ≤ a → a < high → ⊥

@@ -1,6 +1,6 @@
 // Fragments: stretches of new code whose bytes belong to one function.
 ghost use Rattle.std.specs.Prelude.{◌≡◌, ◌≤◌, ◌<◌, ◌++◌, ◌∷◌, [], ℕ, IfOk, List, OnOk, length, option_map, slice_get};
-ghost use Rattle.std.specs.Prelude.{slice_index_or};
+ghost use Rattle.std.specs.Prelude.{IsTrue, Some, slice_index_or};
 ghost use Rattle.addr_map.specs.declared.span.Span.{Span};
 ghost use Rattle.rv_code.specs.declared.placed.Func.{Func};
 ghost use Rattle.rv_code.specs.layout.FunctionLists.{AreLaidOut};
@@ -13,7 +13,7 @@ use crate::round::sum;
 use crate::unwritable::Unwritable;
 use addr_map::{AddrMap, Span};
 use rv_code::Func;
-use rv_code::functions::function_at;
+use rv_code::functions::{func_holds, function_at};
 use std::alloc::Global;
 
 /// A stretch of new code that belongs to one function, whose place in the list of functions is given.
@@ -65,11 +65,41 @@ fn add_span(fragments: &mut Vec<Fragment>, funcs: &[Func], span: &Span) -> Resul
     if span.len == 0 {
         return Ok(());
     }
-    let func = function_at(funcs, span.input).ok_or(Unwritable::Layout)?;
+    let func = function_near(funcs, last_func(fragments), span.input).ok_or(Unwritable::Layout)?;
     let end = sum(span.out, span.len as u64)?;
     let start = span.out;
     add_fragment(fragments, Fragment { start, end, func })?;
     Ok(())
+}
+
+// The function of the last fragment, or the first one.
+fn last_func(fragments: &[Fragment]) -> usize {
+    match fragments.last() {
+        Some(last) => last.func,
+        None => 0,
+    }
+}
+
+// The function in which an address lies. That of an index is looked at first: mostly the next span is of the same one.
+fn function_near(funcs: &[Func], near: usize, address: u64) -> Option<usize>
+    requires { AreLaidOut funcs.now }
+    ensures { result ≡ function_at funcs.now address }
+{
+    if is_in(funcs, near, address) {
+        return Some(near);
+    }
+    function_at(funcs, address)
+}
+
+// Whether an address lies in the function of an index.
+fn is_in(funcs: &[Func], index: usize, address: u64) -> bool
+    requires { AreLaidOut funcs.now }
+    ensures { IsTrue result → function_at funcs.now address ≡ Some index }
+{
+    if funcs.len() <= index {
+        return false;
+    }
+    func_holds(&funcs[index], address)
 }
 
 // Adds a fragment behind others, or its bytes to the last of them.

@@ -28,7 +28,7 @@ impl KeptBytes {
     ghost use Rattle.std.specs.Prelude.{◌+◌, ◌<◌, ◌↔◌, IfOk, IsTrue};
     ghost use Rattle.elf_plan.specs.KeptBytes.{IsKeptBy, Keeps};
 
-    /// Those beside an area.
+    /// The bytes that stay loaded beside an area: those in front of it, and ranges that move.
     pub fn new(
         alloc: Global,
         segments: &[Segment],

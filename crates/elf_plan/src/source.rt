@@ -2,18 +2,21 @@
 use crate::fragments::Fragment;
 use crate::given_tables::Table;
 use addr_map::AddrMap;
-use elf_image::Elf;
+use elf_image::{Elf, Symbol};
 use rv_code::Func;
+use std::collections::BTreeMap;
 
 /// What the sections of a written file are made of.
 #[derive(Clone, Copy)]
-pub struct SectionSource<'a> {
-    pub elf: &'a Elf<'a>,
+pub struct SectionSource<'a, 'file> {
+    pub elf: &'a Elf<'file>,
     pub funcs: &'a [Func],
     /// The addresses of cold parts in the input.
     pub cold: &'a [u64],
     pub map: &'a AddrMap,
     /// The fragments of functions in the new code.
     pub fragments: &'a [Fragment],
+    /// The symbols by which functions are called, by the addresses where these start.
+    pub names: &'a BTreeMap<u64, Symbol<'file>>,
     pub tables: &'a [Table],
 }

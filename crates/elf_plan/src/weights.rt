@@ -57,21 +57,16 @@ fn cold_weight(names: &BTreeMap<u64, Symbol>, funcs: &[Func], address: u64) -> u
 }
 
 // The names of cold parts.
-fn cold_weights(
-    alloc: Global,
-    symbols: &[Symbol],
-    funcs: &[Func],
-    cold: &[u64],
-) -> Result<u64, NoMemory>
+fn cold_weights(names: &BTreeMap<u64, Symbol>, funcs: &[Func], cold: &[u64]) -> u64
     requires { AreLaidOut funcs.now }
-    ensures { IfOk result (λ n. n ≡ capped (sum_by (spec.cold_weight symbols.now funcs.now) cold.now)) }
+    ensures { (symbols : List Symbol) → AreFirstNames symbols names.now →
+        result ≡ capped (sum_by (spec.cold_weight symbols funcs.now) cold.now) }
 {
-    let names = first_names(alloc, symbols)?;
     let mut sum: u64 = 0;
     for address in cold {
-        sum = sum.saturating_add(cold_weight(&names, funcs, *address));
+        sum = sum.saturating_add(cold_weight(names, funcs, *address));
     }
-    Ok(sum)
+    sum
 }
 
 // The section with the names of sections.
@@ -103,6 +98,19 @@ fn size_of(section: Option<&Section>) -> u64
     }
 }
 
+/// The bound of `name_weight`, by the symbols by which functions are called.
+pub fn weight_by(names: &BTreeMap<u64, Symbol>, elf: &Elf, funcs: &[Func], cold: &[u64]) -> u64
+    requires { AreLaidOut funcs.now }
+    ensures { AreFirstNames elf.now.symbols.items names.now → result ≡ spec.name_weight elf.now funcs.now cold.now }
+{
+    let cold = cold_weights(names, funcs, cold);
+    let tables = size_of(names_of_sections(elf)).saturating_add(size_of(names_of_symbols(elf)));
+    tables
+        .saturating_add(64)
+        .saturating_add(sections_weight(&elf.sections))
+        .saturating_add(cold)
+}
+
 /// A bound on the bytes of the tables of names that are written: the old tables, the new names, and 64 for those of new
 /// sections. `cold` has the addresses of the first instructions of cold parts. A sum that doesn't fit is given as the
 /// greatest number of 64 bits.
@@ -110,12 +118,6 @@ pub fn name_weight(alloc: Global, elf: &Elf, funcs: &[Func], cold: &[u64]) -> Re
     requires { AreLaidOut funcs.now }
     ensures { IfOk result (λ n. n ≡ spec.name_weight elf.now funcs.now cold.now) }
 {
-    let cold = cold_weights(alloc, &elf.symbols, funcs, cold)?;
-    let tables = size_of(names_of_sections(elf)).saturating_add(size_of(names_of_symbols(elf)));
-    Ok(
-        tables
-            .saturating_add(64)
-            .saturating_add(sections_weight(&elf.sections))
-            .saturating_add(cold),
-    )
+    let names = first_names(alloc, &elf.symbols)?;
+    Ok(weight_by(&names, elf, funcs, cold))
 }

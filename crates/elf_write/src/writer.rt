@@ -13,6 +13,7 @@ use addr_map::AddrMap;
 use elf_check::is_accepted;
 use elf_image::Elf;
 use elf_make::{is_above, made};
+use elf_plan::first_names::first_names;
 use elf_plan::fragments::fragments;
 use elf_plan::given_tables::Table;
 use elf_plan::plan::Plan;
@@ -47,12 +48,14 @@ fn written(
 {
     check_places(elf, tables)?;
     let fragments = fragments(alloc, funcs, map)?;
+    let names = first_names(alloc, &elf.symbols)?;
     let source = SectionSource {
         elf,
         funcs,
         cold,
         map,
         fragments: &fragments,
+        names: &names,
         tables,
     };
     let tight = is_above(elf, map)?;

@@ -1,6 +1,7 @@
 use Rattle.std.proofs.Common.{sym, subst, ℕ, List, IsTrue}
 use Rattle.std.specs.Prelude.{IfOk}
 use Rattle.elf_image.specs.declared.symbol.Symbol.{Symbol}
+use Rattle.elf_plan.specs.FirstNames.{AreFirstNames}
 use Rattle.elf_check.specs.EntryNames.{AreNamed}
 use Rattle.elf_check.specs.NewSymbols.{AreNewSymbols}
 use Rattle.elf_check.proofs.read_back.has_symbols_of.Goals as goal
@@ -9,6 +10,11 @@ pub are_new-requires-clause-old : goal.are_new-requires-clause-old
 are_new-requires-clause-old c =
     subst (λ (symbols : List Symbol). AreNamed (λ s. s.name.now) c.of_symbols-names.result.old 0 symbols)
     (sym c.deref.ensures.value) c.of_symbols-names.ensures.old
+
+pub are_new-requires-clause-firsts : goal.are_new-requires-clause-firsts
+are_new-requires-clause-firsts c =
+    subst (λ (symbols : List Symbol). AreFirstNames symbols c.args.source.now.names.now) (sym c.deref.ensures.value)
+    c.requires.firsts
 
 pub are_new-requires-clause-new : goal.are_new-requires-clause-new
 are_new-requires-clause-new c =

@@ -5,6 +5,8 @@ use Rattle.elf_image.specs.declared.elf.Elf.{Elf}
 use Rattle.elf_plan.specs.declared.area.Area.{Area}
 use Rattle.elf_plan.specs.declared.fragments.Fragment.{Fragment}
 use Rattle.elf_plan.specs.declared.plan.Plan.{Plan}
+use Rattle.elf_image.specs.declared.symbol.Symbol.{Symbol}
+use Rattle.elf_plan.specs.FirstNames.{AreFirstNames}
 use Rattle.elf_plan.specs.FragmentLists.{AreFragments}
 use Rattle.elf_plan.specs.AreaStands.{AreaStands}
 use Rattle.elf_make.specs.CellNumbers.{in_pieces}
@@ -33,13 +35,13 @@ pub made-requires-clause-plan : goal.made-requires-clause-plan
 made-requires-clause-plan c =
     above_tight c.args.elf.now c.args.tables.now c.args.emitted.now.code.items c.in_ok-tight.tight c.in_ok-plan.plan
     (subst (λ (bs : List ℕ). IsPlanOf c.args.elf.now c.args.tables.now bs c.in_ok-tight.tight c.in_ok-plan.plan)
-    c.deref-2.ensures.value c.in_ok-plan.ensures)
+    c.deref-3.ensures.value c.in_ok-plan.ensures)
 
 pub is_accepted-requires-clause-plan : goal.is_accepted-requires-clause-plan
 is_accepted-requires-clause-plan c =
-    above_tight c.args.elf.now c.args.tables.now c.deref-3.result.now c.in_ok-tight.tight c.in_ok-plan.plan
+    above_tight c.args.elf.now c.args.tables.now c.deref-4.result.now c.in_ok-tight.tight c.in_ok-plan.plan
     (subst (λ (bs : List ℕ). IsPlanOf c.args.elf.now c.args.tables.now bs c.in_ok-tight.tight c.in_ok-plan.plan)
-    (c.deref-2.ensures.value ∙ sym c.deref-3.ensures.value) c.in_ok-plan.ensures)
+    (c.deref-3.ensures.value ∙ sym c.deref-4.ensures.value) c.in_ok-plan.ensures)
 
 pub is_accepted-requires-clause-old : goal.is_accepted-requires-clause-old
 is_accepted-requires-clause-old c = was_read (readable c.args.elf.now.file.now c.requires.sound) c.requires.read
@@ -47,11 +49,15 @@ is_accepted-requires-clause-old c = was_read (readable c.args.elf.now.file.now c
 pub is_accepted-requires-clause-fragments : goal.is_accepted-requires-clause-fragments
 is_accepted-requires-clause-fragments c =
     subst (λ (fragments : List Fragment). AreFragments c.args.funcs.now c.args.map.now fragments)
-    (sym c.deref.ensures.value) c.in_ok-fragments.ensures
+    (sym c.deref-2.ensures.value) c.in_ok-fragments.ensures
+
+pub is_accepted-requires-clause-firsts : goal.is_accepted-requires-clause-firsts
+is_accepted-requires-clause-firsts c =
+    subst (λ (symbols : List Symbol). AreFirstNames symbols c.in_ok-names.names) c.deref.ensures.value c.in_ok-names.ensures
 
 pub is_accepted-requires-clause-names : goal.is_accepted-requires-clause-names
 is_accepted-requires-clause-names c =
-    ap e_shstrndx c.deref-4.ensures.value
+    ap e_shstrndx c.deref-5.ensures.value
     ∙ e_shstrndx-written
     (in_pieces (source_of c.args.elf.now c.args.emitted.now c.args.map.now c.args.tables.now)) c.in_ok-plan.plan.area.tight
     c.in_ok-file.file.items c.in_ok-file.ensures.made
@@ -64,7 +70,7 @@ returns-clause-written c = λ tight placed.
     written_in_pieces s tight w c.requires.cells
     (all-written (in_pieces s) c.in_ok-plan.plan.area.tight w c.requires.read c.requires.sound c.requires.bytes
     (pieces_can elf s.cells c.requires.cells) (pieces_apart elf.segments.items s.cells c.requires.apart) c.in_ok-file.ensures.made
-    (subst IsSound c.deref-4.ensures.value (c.in_ok-is_accepted.ensures.sound c.if-not-branch.false))
+    (subst IsSound c.deref-5.ensures.value (c.in_ok-is_accepted.ensures.sound c.if-not-branch.false))
     (ap (λ (a : Area). a.tight) c.in_ok-plan.ensures.area ∙ c.in_ok-tight.ensures)
     tight (placed_in_pieces s tight placed))
 
@@ -83,7 +89,7 @@ returns-clause-tables c = λ tight placed.
     let apart = pieces_apart elf.segments.items c.args.emitted.now.cells.items c.requires.apart in
     let in_place = placed_in_pieces (source_of elf c.args.emitted.now spans tables) tight placed in
     let made = c.in_ok-file.ensures in
-    let sound_w : IsSound w = subst IsSound c.deref-4.ensures.value (c.in_ok-is_accepted.ensures.sound c.if-not-branch.false) in
+    let sound_w : IsSound w = subst IsSound c.deref-5.ensures.value (c.in_ok-is_accepted.ensures.sound c.if-not-branch.false) in
     let there : above ≡ tight = placed-there s above w c.requires.read c.requires.sound c.requires.bytes can apart made.made
     sound_w (ap (λ (a : Area). a.tight) c.in_ok-plan.ensures.area ∙ c.in_ok-tight.ensures) tight in_place in
     let stands =
@@ -92,12 +98,12 @@ returns-clause-tables c = λ tight placed.
     let plan = c.in_ok-plan.plan in
     let planned : IsPlanOf elf tables code plan.area.tight plan =
     above_tight elf tables code c.in_ok-tight.tight plan
-    (subst (λ (bs : List ℕ). IsPlanOf elf tables bs c.in_ok-tight.tight plan) c.deref-2.ensures.value c.in_ok-plan.ensures) in
+    (subst (λ (bs : List ℕ). IsPlanOf elf tables bs c.in_ok-tight.tight plan) c.deref-3.ensures.value c.in_ok-plan.ensures) in
     let found = c.in_ok-is_accepted.ensures.tables c.if-not-branch.false in
     subst (λ (t : Bool). HasNewTables elf tables code funcs cold spans t w) there
     (subst (λ (f : List ℕ). AreaStands plan.area tables code f → HasNewTables elf tables code funcs cold spans above f)
-    c.deref-4.ensures.value
-    (subst (λ (bs : List ℕ). AreaStands plan.area tables bs c.deref-4.result.now →
-    HasNewTables elf tables bs funcs cold spans above c.deref-4.result.now)
-    c.deref-3.ensures.value found)
+    c.deref-5.ensures.value
+    (subst (λ (bs : List ℕ). AreaStands plan.area tables bs c.deref-5.result.now →
+    HasNewTables elf tables bs funcs cold spans above c.deref-5.result.now)
+    c.deref-4.ensures.value found)
     (subst (λ (a : Area). AreaStands a tables code w) (sym planned.area) stands))

@@ -49,7 +49,7 @@ returns c = λ holds.
     let New = IsNewSymbol funcs self.code.map.now self.code.text in
     let Cold = IsColdSymbol old funcs self.code.map.now self.code.text in
     let named : List ℕ = named_parts old funcs self.cold.now in
-    let parts : c.in_ok-parts.parts.items ≡ named = c.in_ok-parts.ensures old c.in_ok-firsts.ensures in
+    let parts : c.in_ok-parts.parts.items ≡ named = c.in_ok-parts.ensures old c.requires.firsts in
     let local : c.local_count-local.result ≡ local_count old table = c.local_count-local.ensures in
     let count : c.len.result ≡ length named = let n : c.len.result ≡ length c.in_ok-parts.parts.items = search rules in n
     ∙ ap length parts in
@@ -70,7 +70,7 @@ returns c = λ holds.
           (c.deref.ensures.value ∙ parts)
           (c.first-2.ensures ∙ ap (λ (n : ℕ). take n c.behind-rest.result.now) count2
           ∙ ap (λ (xs : List Symbol). take (length named) xs) rest)
-          (c.are_cold.ensures c.if-not-are_cold.false old c.in_ok-firsts.ensures);
+          (c.are_cold.ensures c.if-not-are_cold.false old c.requires.firsts);
       behind = together-at New _ (drop (local_count old table) old) _ (drop (length named) (drop (local_count old table) new))
           (c.behind.ensures ∙ ap (λ (n : ℕ). drop n old) local)
           (c.behind-last.ensures ∙ ap (λ (n : ℕ). drop n c.behind-rest.result.now) count3
