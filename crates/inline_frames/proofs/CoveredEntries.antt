@@ -8,11 +8,12 @@ use Rattle.std.proofs.lemmas.Bool.{and_right}
 use Rattle.rb_bytes.specs.FirstFault.{IsFree}
 use Rattle.table_core.specs.declared.range.Range.{Range}
 use Rattle.dw_unit.proofs.EntryPlaces.{places_ascend}
-use Rattle.dw_unit.proofs.NamedOffsets.{Ascends}
+use Rattle.table_core.proofs.Ascending.{Ascends}
 use Rattle.dw_unit.specs.CompUnits.{Entry, Unit, units}
 use Rattle.dw_unit.specs.Faults.{HasDwarfFault, unit_fault_places}
 use Rattle.range_loc_rewrite.specs.Faults.{ListSections}
-use Rattle.range_loc_rewrite.specs.Ranges.{Ranged, ranges_of, ranged_from, ranged_in, ranged, hold, covers}
+use Rattle.range_loc_rewrite.specs.Ranges.{Ranged, ranges_of, ranged_from, ranged_in, ranged, covers}
+use Rattle.range_loc_rewrite.specs.Located.{hold}
 use Rattle.inline_frames.proofs.Pairs.{AllOf, map_all}
 
 -- Entries that ascend by their places

@@ -17,7 +17,8 @@ use Rattle.dw_unit.specs.Faults.{HasDwarfFault, unit_fault_places}
 use Rattle.dw_unit.specs.ListedEntries.{ListedEntry, listed}
 use Rattle.dw_unit.specs.ListedUnits.{plain}
 use Rattle.range_loc_rewrite.specs.Faults.{ListSections}
-use Rattle.range_loc_rewrite.specs.Ranges.{covers, hold, ranges_of}
+use Rattle.range_loc_rewrite.specs.Ranges.{covers, ranges_of}
+use Rattle.range_loc_rewrite.specs.Located.{hold}
 use Rattle.inline_frames.specs.Chains.{chain, chain_in, is_function_at, last_chain, outward}
 use Rattle.inline_frames.specs.FileChains.{file_links, or_before, unit_links}
 use Rattle.inline_frames.specs.Following as following

@@ -1,11 +1,12 @@
 -- The units of a file, one after another.
-use Rattle.std.proofs.Common.{◌≡◌, ◌∙◌, ◌<◌, ◌≤◌, ◌+◌, ℕ, zero, suc, Bool, true, false, List, [], ◌∷◌, Option, Some, None, Ok, Err, Result, refl, sym, ap, subst, arith, drop, get_or, length, map}
+use Rattle.std.proofs.Common.{◌≡◌, ◌∙◌, ◌<◌, ◌≤◌, ◌+◌, ℕ, Bool, true, false, List, [], ◌∷◌, Option, Some, None, Ok, Err, Result, refl, sym}
+use Rattle.std.proofs.Common.{ap, subst, drop, get_or, length, map}
 use Rattle.std.specs.Prelude.{MatchOption, if◌then◌else◌, slice_get}
-use Rattle.std.specs.BTreeSet.{BTreeSet}
+use Rattle.std.specs.BTreeSet.{BTreeSet, contains}
 use Rattle.std.specs.Global.{Vec}
 use Rattle.std.specs.Option.{option_or}
-use Rattle.std.proofs.lemmas.Grind.{common_steps}
-use Rattle.std.proofs.lemmas.List.{drop_more}
+use Rattle.std.specs.Ordering.{nat_cmp}
+use Rattle.std.proofs.lemmas.List.{drop_all, drop_more, get_or_default}
 use Rattle.std.proofs.lemmas.Option.{slice_get-get_or}
 use Rattle.table_core.specs.DebugUnits.{Walked}
 use Rattle.table_core.specs.ReadSteps.{oks}
@@ -16,19 +17,15 @@ use Rattle.dw_unit.specs.ListedUnits.{listed_unit}
 use Rattle.dw_unit.specs.UnitReadings.{IsReading}
 use Rattle.dw_unit.specs.declared.trouble.Trouble.{Trouble}
 use Rattle.dw_unit.specs.declared.unit_reading.UnitReading.{UnitReading}
-use Rattle.inline_frames.specs.FileChains.{AreReadable, file_links, listed_units, or_before, unit_links}
+use Rattle.inline_frames.specs.FileChains.{AreReadable, LacksPlaces, file_links, listed_units, or_before, unit_links}
 use Rattle.inline_frames.specs.Following.{file_naming, unit_naming}
 use Rattle.inline_frames.specs.declared.link.Link.{Link}
 use Rattle.inline_frames.specs.declared.naming.Naming.{Naming}
+use Rattle.inline_frames.proofs.LackingUnits.{IsElsewhere, is_elsewhere, no_links, no_naming}
 
 -- stands where no unit is needed
 no_walked : Walked
 no_walked = record { place = 0; bytes = None; is_other = false }
-
-get_same : {X : Type 0} (xs : List X) (i : ℕ) (d e : X) → i < length xs → get_or xs i d ≡ get_or xs i e
-get_same [] i d e h = absurd (omega arith)
-get_same (x ∷ xs) zero d e h = refl
-get_same (x ∷ xs) (suc i) d e h = get_same xs i d e (omega arith)
 
 pub walked_at : List Walked → ℕ → Walked
 walked_at ws n = get_or ws n no_walked
@@ -37,12 +34,14 @@ pub walked_there : (ws : List Walked) (n : ℕ) → n < length ws → slice_get 
 unfolding walked_at
 walked_there ws n h = slice_get-get_or ws n no_walked h
 
+-- by its number in an equal list
+pub walked_same : (ws us : List Walked) (n : ℕ) (w : Walked) → us ≡ ws → n < length ws → w ≡ get_or us n w → w ≡ walked_at ws n
+unfolding walked_at
+walked_same ws us n w same h is = is ∙ ap (λ (l : List Walked). get_or l n w) same ∙ get_or_default ws n w no_walked h
+
 pub walked_is : (ws : List Walked) (n : ℕ) → n < length ws → walked_at ws n ≡ get_or ws n (walked_at ws n)
 unfolding walked_at
-walked_is ws n h = get_same ws n no_walked (get_or ws n no_walked) h
-
-none_left : {X : Type 0} (xs : List X) (i : ℕ) → length xs ≤ i → drop i xs ≡ []
-none_left xs i h = grind (arith, common_steps)
+walked_is ws n h = get_or_default ws n no_walked (get_or ws n no_walked) h
 
 module _ (abbrevs addr : List ℕ) where
   -- what can be read, and what was read of it
@@ -69,23 +68,28 @@ module _ (abbrevs addr : List ℕ) where
   one_listed (Err t) es rs e = absurd (cc)
 
   -- one unit more
-  pub next_listed : (ws : List Walked) (n : ℕ) (w : Walked) (r : UnitReading) (es : Vec ListedEntry) → n < length ws →
-      w ≡ get_or ws n w → IsReading abbrevs addr w r → r.entries ≡ Some es →
-      listed_units abbrevs (drop n ws) ≡ es.items ∷ listed_units abbrevs (drop (n + 1) ws)
-  next_listed ws n w r es h there is some =
+  next_is : (ws : List Walked) (n : ℕ) (w : Walked) (es : List ListedEntry) → n < length ws → w ≡ get_or ws n w →
+      listed_unit (unit_of abbrevs w) ≡ Ok es → listed_units abbrevs (drop n ws) ≡ es ∷ listed_units abbrevs (drop (n + 1) ws)
+  next_is ws n w es h there is =
       ap (listed_units abbrevs) (drop_more ws n w h)
       ∙ ap (λ (x : Walked). listed_units abbrevs (x ∷ drop (n + 1) ws)) (sym there)
-      ∙ one_listed (unit_of abbrevs w) es.items (map (unit_of abbrevs) (drop (n + 1) ws)) (behind w r (Some es) some is).1
+      ∙ one_listed (unit_of abbrevs w) es (map (unit_of abbrevs) (drop (n + 1) ws)) is
+
+  next_listed : (ws : List Walked) (n : ℕ) (w : Walked) (r : UnitReading) (es : Vec ListedEntry) → n < length ws →
+      w ≡ get_or ws n w → IsReading abbrevs addr w r → r.entries ≡ Some es →
+      listed_units abbrevs (drop n ws) ≡ es.items ∷ listed_units abbrevs (drop (n + 1) ws)
+  next_listed ws n w r es h there is some = next_is ws n w es.items h there (behind w r (Some es) some is).1
 
   pub no_more : (ws : List Walked) (n : ℕ) → length ws ≤ n → listed_units abbrevs (drop n ws) ≡ []
-  no_more ws n h = ap (listed_units abbrevs) (none_left ws n h)
+  no_more ws n h = ap (listed_units abbrevs) (drop_all n ws h)
 
   -- The links of all
 
   module _ (str_offsets : List ℕ) (covering : BTreeSet ℕ) where
     abbrev pub AreFound : List Walked → ℕ → List Link → Type 0
     AreFound ws n links =
-        file_links str_offsets covering links (listed_units abbrevs (drop n ws)) ≡ file_links str_offsets covering [] (listed_units abbrevs ws)
+        file_links str_offsets covering links (listed_units abbrevs (drop n ws)) ≡ file_links str_offsets covering []
+        (listed_units abbrevs ws)
 
     pub found_more : (ws : List Walked) (n : ℕ) (w : Walked) (r : UnitReading) (es : Vec ListedEntry) (links these new : List Link) →
         n < length ws → w ≡ get_or ws n w → IsReading abbrevs addr w r → r.entries ≡ Some es → AreFound ws n links →
@@ -94,6 +98,15 @@ module _ (abbrevs addr : List ℕ) where
         ap (λ (l : List Link). file_links str_offsets covering l (listed_units abbrevs (drop (n + 1) ws)))
         (e ∙ ap (λ (l : List Link). or_before l links) t)
         ∙ sym (ap (file_links str_offsets covering links) (next_listed ws n w r es h there is some)) ∙ inv
+
+    -- a unit in which none of the places lies has none
+    pub found_same : (ws : List Walked) (n : ℕ) (w : Walked) (links : List Link) → n < length ws → slice_get ws n ≡ Some w →
+        w ≡ get_or ws n w → AreReadable abbrevs addr ws → LacksPlaces covering w → AreFound ws n links → AreFound ws (n + 1) links
+    found_same ws n w links h at there are lacks inv =
+        let unit : IsElsewhere covering w lacks abbrevs = is_elsewhere covering w lacks abbrevs (is_sound_unit addr) (are n w at) in
+        sym (ap (λ (ls : List Link). file_links str_offsets covering (or_before ls links) (listed_units abbrevs (drop (n + 1) ws)))
+        (no_links covering str_offsets unit.entries unit.elsewhere))
+        ∙ sym (ap (file_links str_offsets covering links) (next_is ws n w (map listed unit.entries) h there unit.listed_is)) ∙ inv
 
     pub found_all : (ws : List Walked) (n : ℕ) (links : List Link) → length ws ≤ n → AreFound ws n links →
         links ≡ file_links str_offsets covering [] (listed_units abbrevs ws)
@@ -124,13 +137,41 @@ module _ (abbrevs addr : List ℕ) where
         n < length ws → w ≡ get_or ws n w → IsReading abbrevs addr w r → r.entries ≡ Some es → IsNamed ws n old →
         new ≡ option_or old (if wanted then unit_naming str_offsets es.items q else None) → IsNamed ws (n + 1) new
     named_more ws n w r es old new h there is some inv e =
-        ap (λ (o : Option Naming). option_or o (if wanted then file_naming str_offsets (listed_units abbrevs (drop (n + 1) ws)) q else None)) e
+        ap (λ (o : Option Naming). option_or o (if wanted then file_naming str_offsets (listed_units abbrevs (drop (n + 1) ws)) q else
+        None)) e
         ∙ choose wanted old (unit_naming str_offsets es.items q) (file_naming str_offsets (listed_units abbrevs (drop (n + 1) ws)) q)
         ∙ sym (ap (λ (us : List (List ListedEntry)). option_or old (if wanted then file_naming str_offsets us q else None))
         (next_listed ws n w r es h there is some)) ∙ inv
+
+    -- a unit without an entry at the place
+    not_named : (ws : List Walked) (n : ℕ) (w : Walked) (es : List ListedEntry) (old : Option Naming) → n < length ws →
+        w ≡ get_or ws n w → listed_unit (unit_of abbrevs w) ≡ Ok es → (wanted ≡ true → unit_naming str_offsets es q ≡ None) →
+        IsNamed ws n old → IsNamed ws (n + 1) old
+    not_named ws n w es old h there is none inv = by wanted none inv
+      where
+        by : (b : Bool) → (b ≡ true → unit_naming str_offsets es q ≡ None) →
+            option_or old (if b then file_naming str_offsets (listed_units abbrevs (drop n ws)) q else None)
+            ≡ (if b then file_naming str_offsets (listed_units abbrevs ws) q else None) →
+            option_or old (if b then file_naming str_offsets (listed_units abbrevs (drop (n + 1) ws)) q else None)
+            ≡ (if b then file_naming str_offsets (listed_units abbrevs ws) q else None)
+        by false absent kept = kept
+        by true absent kept =
+            sym (ap (option_or old) (ap (λ (us : List (List ListedEntry)). file_naming str_offsets us q) (next_is ws n w es h there is)
+            ∙ ap (λ (o : Option Naming). option_or o (file_naming str_offsets (listed_units abbrevs (drop (n + 1) ws)) q)) (absent refl)))
+            ∙ kept
 
     pub named_all : (ws : List Walked) (n : ℕ) (found : Option Naming) → length ws ≤ n → IsNamed ws n found →
         found ≡ (if wanted then file_naming str_offsets (listed_units abbrevs ws) q else None)
     named_all ws n found h inv =
         sym (or_nothing wanted found)
-        ∙ sym (ap (λ (us : List (List ListedEntry)). option_or found (if wanted then file_naming str_offsets us q else None)) (no_more ws n h)) ∙ inv
+        ∙ sym (ap (λ (us : List (List ListedEntry)). option_or found (if wanted then file_naming str_offsets us q else None))
+        (no_more ws n h)) ∙ inv
+
+  -- a unit in which none of the wanted places lies
+  pub named_same : (str_offsets : List ℕ) (wanted : BTreeSet ℕ) (q : ℕ) (ws : List Walked) (n : ℕ) (w : Walked) (found : Option Naming) →
+      n < length ws → slice_get ws n ≡ Some w → w ≡ get_or ws n w → AreReadable abbrevs addr ws → LacksPlaces wanted w →
+      IsNamed str_offsets (contains nat_cmp wanted q) q ws n found → IsNamed str_offsets (contains nat_cmp wanted q) q ws (n + 1) found
+  named_same str_offsets wanted q ws n w found h at there are lacks inv =
+      let unit : IsElsewhere wanted w lacks abbrevs = is_elsewhere wanted w lacks abbrevs (is_sound_unit addr) (are n w at) in
+      not_named str_offsets (contains nat_cmp wanted q) q ws n w (map listed unit.entries) found h there unit.listed_is
+      (λ t. no_naming wanted str_offsets q unit.entries t unit.elsewhere) inv

@@ -15,7 +15,7 @@ use Rattle.inline_frames.specs.Following.{file_naming, followed_by, followed_tim
 use Rattle.inline_frames.specs.Naming.{naming_or_none}
 use Rattle.inline_frames.specs.declared.naming.Naming.{Naming}
 use Rattle.inline_frames.specs.declared.naming.Naming.TheVariants.{Named, Refers}
-use Rattle.inline_frames.proofs.Sets.{at_key}
+use Rattle.range_loc_rewrite.proofs.NumberSets.{at_key}
 
 -- The namings of a unit's entries
 

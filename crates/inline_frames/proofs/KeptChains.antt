@@ -1,7 +1,8 @@
 -- What a written file keeps of debug data, as far as chains of inlined calls depend on it: units and entries pair by pair,
 -- the texts that names are, and the files that line units name.
-use Rattle.std.specs.Prelude.{◌≡◌, ◌==◌, ◌&&◌, ℕ, false, true, not, List, Option, option_map}
-use Rattle.std.specs.List.{AllZip}
+use Rattle.std.specs.Prelude.{◌≡◌, ◌==◌, ◌&&◌, ℕ, false, true, not, List, [], ◌∷◌, Option, option_map}
+use Rattle.std.specs.List.{AllZip, list_any}
+use Rattle.std.proofs.lemmas.Bool.{or_parts}
 use Rattle.elf_image.specs.declared.elf.Elf.{Elf}
 use Rattle.table_core.specs.CarriedAnswers.{Agree}
 use Rattle.table_core.specs.declared.form.TheConstants.{DW_FORM_addr, DW_FORM_string, DW_FORM_sec_offset}
@@ -38,6 +39,54 @@ pub record IsPlain (name : ℕ) : Type 0 where
   pub frame_base : (at.DW_AT_frame_base == name) ≡ false
   pub rnglists : (at.DW_AT_rnglists_base == name) ≡ false
   pub loclists : (at.DW_AT_loclists_base == name) ≡ false
+
+-- the names that a rewrite changes or gives, and those whose attributes get lists
+abbrev pub changed_names : List ℕ
+changed_names = at.DW_AT_low_pc ∷ at.DW_AT_high_pc ∷ at.DW_AT_entry_pc ∷ at.DW_AT_ranges ∷ at.DW_AT_macros ∷ at.DW_AT_GNU_locviews
+    ∷ at.DW_AT_unused_high ∷ at.DW_AT_unused_low ∷ at.DW_AT_unused_table ∷ []
+
+abbrev pub listed_names : List ℕ
+listed_names = DW_AT_stmt_list ∷ at.DW_AT_location ∷ at.DW_AT_frame_base ∷ at.DW_AT_rnglists_base ∷ at.DW_AT_loclists_base ∷ []
+
+pub stable_name : (name : ℕ) → list_any (λ x. x == name) changed_names ≡ false → IsStable name
+stable_name name other =
+    let low = or_parts (at.DW_AT_low_pc == name) _ other in
+    let high = or_parts (at.DW_AT_high_pc == name) _ low.1 in
+    let entry = or_parts (at.DW_AT_entry_pc == name) _ high.1 in
+    let ranges = or_parts (at.DW_AT_ranges == name) _ entry.1 in
+    let macros = or_parts (at.DW_AT_macros == name) _ ranges.1 in
+    let views = or_parts (at.DW_AT_GNU_locviews == name) _ macros.1 in
+    let unused_high = or_parts (at.DW_AT_unused_high == name) _ views.1 in
+    let unused_low = or_parts (at.DW_AT_unused_low == name) _ unused_high.1 in
+    let unused_table = or_parts (at.DW_AT_unused_table == name) _ unused_low.1 in
+    record {
+      low = low.0;
+      high = high.0;
+      entry = entry.0;
+      ranges = ranges.0;
+      macros = macros.0;
+      views = views.0;
+      unused_high = unused_high.0;
+      unused_low = unused_low.0;
+      unused_table = unused_table.0;
+    }
+
+pub plain_name : (name : ℕ) → list_any (λ x. x == name) changed_names ≡ false → list_any (λ x. x == name) listed_names ≡ false →
+    IsPlain name
+plain_name name other unlisted =
+    let stmt = or_parts (DW_AT_stmt_list == name) _ unlisted in
+    let location = or_parts (at.DW_AT_location == name) _ stmt.1 in
+    let frame_base = or_parts (at.DW_AT_frame_base == name) _ location.1 in
+    let rnglists = or_parts (at.DW_AT_rnglists_base == name) _ frame_base.1 in
+    let loclists = or_parts (at.DW_AT_loclists_base == name) _ rnglists.1 in
+    record {
+      stable = stable_name name other;
+      stmt = stmt.0;
+      location = location.0;
+      frame_base = frame_base.0;
+      rnglists = rnglists.0;
+      loclists = loclists.0;
+    }
 
 -- An attribute of such a name is kept, but for an address that is one of code. A text that stands in the entry is kept
 -- too: `i` and `f` are the bytes of `.debug_info`.

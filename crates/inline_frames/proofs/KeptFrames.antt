@@ -21,71 +21,11 @@ use Rattle.inline_frames.specs.Frames.{Frame, frames, frames_of, callers, frame_
 use Rattle.inline_frames.specs.Frames.{or_unknown, row_of, last_row}
 use Rattle.line_rewrite.specs.FilePaths.{file_path, line_unit_at, path_at}
 use Rattle.line_rewrite.specs.KeptLineUnits.{Files, files_of}
-use Rattle.inline_frames.proofs.KeptChains.{IsKeptEntry, IsKeptUnit, IsKeptOwn, IsKeptAttr, IsPlain, NamesSameFiles, files_at}
-use Rattle.inline_frames.proofs.KeptChains.{IsCarriedEntry, IsCarriedUnit, IsChainKept}
+use Rattle.inline_frames.proofs.KeptChains.{IsKeptEntry, IsKeptUnit, IsKeptOwn, IsKeptAttr, NamesSameFiles, files_at}
+use Rattle.inline_frames.proofs.KeptChains.{IsCarriedEntry, IsCarriedUnit, IsChainKept, plain_name}
 use Rattle.inline_frames.proofs.Pairs.{map_each, then_each}
 use Rattle.inline_frames.proofs.AlikeChains.{IsAlike, chain_in_each}
 use Rattle.inline_frames.proofs.KeptNames.{AreNamesKept, name_each, unit_each, value_of}
-
-plain_file : IsPlain DW_AT_call_file
-plain_file = record {
-  stable = record {
-    low = refl;
-    high = refl;
-    entry = refl;
-    ranges = refl;
-    macros = refl;
-    views = refl;
-    unused_high = refl;
-    unused_low = refl;
-    unused_table = refl;
-  };
-  stmt = refl;
-  location = refl;
-  frame_base = refl;
-  rnglists = refl;
-  loclists = refl;
-}
-
-plain_line : IsPlain DW_AT_call_line
-plain_line = record {
-  stable = record {
-    low = refl;
-    high = refl;
-    entry = refl;
-    ranges = refl;
-    macros = refl;
-    views = refl;
-    unused_high = refl;
-    unused_low = refl;
-    unused_table = refl;
-  };
-  stmt = refl;
-  location = refl;
-  frame_base = refl;
-  rnglists = refl;
-  loclists = refl;
-}
-
-plain_column : IsPlain DW_AT_call_column
-plain_column = record {
-  stable = record {
-    low = refl;
-    high = refl;
-    entry = refl;
-    ranges = refl;
-    macros = refl;
-    views = refl;
-    unused_high = refl;
-    unused_low = refl;
-    unused_table = refl;
-  };
-  stmt = refl;
-  location = refl;
-  frame_base = refl;
-  rnglists = refl;
-  loclists = refl;
-}
 
 abbrev Infos : Elf → Elf → Entry → Entry → Type 0
 Infos i f = IsKeptEntry (name_sections i).units.info (name_sections f).units.info
@@ -237,7 +177,7 @@ module _ (i f : Elf) (p o : ℕ) (kept : IsChainKept i f p o) where
   call_path_each : (x y : Entry) → Infos i f x y → call_path f y ≡ call_path i x
   call_path_each x y h = call_path_is f y
       ∙ ap (λ u. path_by u (unsigned_of DW_AT_call_file y)) (entry_files_each x y h)
-      ∙ ap (λ n. path_by (entry_files i x) n) (unsigned_each DW_AT_call_file x y (h.attrs DW_AT_call_file plain_file))
+      ∙ ap (λ n. path_by (entry_files i x) n) (unsigned_each DW_AT_call_file x y (h.attrs DW_AT_call_file (plain_name DW_AT_call_file refl refl)))
       ∙ sym (call_path_is i x)
 
   -- The frames.
@@ -256,9 +196,9 @@ module _ (i f : Elf) (p o : ℕ) (kept : IsChainKept i f p o) where
       ∙ ap (λ q. made_at_call (name_of (name_sections i) x) q (unsigned_of DW_AT_call_line d) (unsigned_of DW_AT_call_column d))
       (call_path_each c d hc)
       ∙ ap (λ n. made_at_call (name_of (name_sections i) x) (call_path i c) n (unsigned_of DW_AT_call_column d))
-      (unsigned_each DW_AT_call_line c d (hc.attrs DW_AT_call_line plain_line))
+      (unsigned_each DW_AT_call_line c d (hc.attrs DW_AT_call_line (plain_name DW_AT_call_line refl refl)))
       ∙ ap (λ n. made_at_call (name_of (name_sections i) x) (call_path i c) (unsigned_of DW_AT_call_line c) n)
-      (unsigned_each DW_AT_call_column c d (hc.attrs DW_AT_call_column plain_column))
+      (unsigned_each DW_AT_call_column c d (hc.attrs DW_AT_call_column (plain_name DW_AT_call_column refl refl)))
 
   callers_each : (c d : Entry) → Infos i f c d → (xs ys : List Entry) → AllZip (Infos i f) xs ys →
       callers f d ys ≡ callers i c xs

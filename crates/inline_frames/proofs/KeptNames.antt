@@ -17,7 +17,7 @@ use Rattle.dw_unit.specs.Changes.{names_base}
 use Rattle.dw_unit.specs.CompUnits.{Entry, Unit, units, entries, attr, base, number_in, value_bytes}
 use Rattle.inline_frames.specs.Names.{name_sections, unit_of_entry, text_of_index, text_of, target_of, referred}
 use Rattle.inline_frames.specs.Names.{name_or, name_within, name_of, own_name_or, reference_limit}
-use Rattle.inline_frames.proofs.KeptChains.{IsKeptAttr, IsPlain, IsKeptEntry, IsKeptUnit}
+use Rattle.inline_frames.proofs.KeptChains.{IsKeptAttr, IsKeptEntry, IsKeptUnit, plain_name}
 use Rattle.inline_frames.proofs.Pairs.{find_each, then_each, flat_each}
 
 -- a form that is another one isn't that of addresses
@@ -76,66 +76,6 @@ choose_text form t1 t2 t3 t4 u1 u2 u3 u4 e1 e2 e3 e4 =
     by false false true b4 f1 f2 f3 f4 = f3 refl
     by false false false true f1 f2 f3 f4 = f4 refl
     by false false false false f1 f2 f3 f4 = refl
-
-plain_name : IsPlain DW_AT_name
-plain_name = record {
-  stable = record {
-    low = refl;
-    high = refl;
-    entry = refl;
-    ranges = refl;
-    macros = refl;
-    views = refl;
-    unused_high = refl;
-    unused_low = refl;
-    unused_table = refl;
-  };
-  stmt = refl;
-  location = refl;
-  frame_base = refl;
-  rnglists = refl;
-  loclists = refl;
-}
-
-plain_origin : IsPlain DW_AT_abstract_origin
-plain_origin = record {
-  stable = record {
-    low = refl;
-    high = refl;
-    entry = refl;
-    ranges = refl;
-    macros = refl;
-    views = refl;
-    unused_high = refl;
-    unused_low = refl;
-    unused_table = refl;
-  };
-  stmt = refl;
-  location = refl;
-  frame_base = refl;
-  rnglists = refl;
-  loclists = refl;
-}
-
-plain_specification : IsPlain DW_AT_specification
-plain_specification = record {
-  stable = record {
-    low = refl;
-    high = refl;
-    entry = refl;
-    ranges = refl;
-    macros = refl;
-    views = refl;
-    unused_high = refl;
-    unused_low = refl;
-    unused_table = refl;
-  };
-  stmt = refl;
-  location = refl;
-  frame_base = refl;
-  rnglists = refl;
-  loclists = refl;
-}
 
 abbrev Infos : Elf → Elf → Entry → Entry → Type 0
 Infos i f = IsKeptEntry (name_sections i).units.info (name_sections f).units.info
@@ -234,11 +174,11 @@ module _ (i f : Elf) (kept : AreNamesKept i f) where
       (option_or (attr DW_AT_abstract_origin x) (attr DW_AT_specification x))
       (option_or (attr DW_AT_abstract_origin y) (attr DW_AT_specification y))
       (or_kept (attr DW_AT_abstract_origin x) (attr DW_AT_abstract_origin y) (attr DW_AT_specification x)
-      (attr DW_AT_specification y) (h.attrs DW_AT_abstract_origin plain_origin) (h.attrs DW_AT_specification plain_specification)))
+      (attr DW_AT_specification y) (h.attrs DW_AT_abstract_origin (plain_name DW_AT_abstract_origin refl refl)) (h.attrs DW_AT_specification (plain_name DW_AT_specification refl refl))))
 
   own_name : (x y : Entry) → Infos i f x y → (more more' : Option (List ℕ)) → more' ≡ more →
       name_or (name_sections f) y more' ≡ name_or (name_sections i) x more
-  own_name x y h more more' same = by (attr DW_AT_name x) (attr DW_AT_name y) (h.attrs DW_AT_name plain_name)
+  own_name x y h more more' same = by (attr DW_AT_name x) (attr DW_AT_name y) (h.attrs DW_AT_name (plain_name DW_AT_name refl refl))
     where
       by : (a b : Option Attr) → Agree (KeptIn i f) a b →
           own_name_or (name_sections f) y b more' ≡ own_name_or (name_sections i) x a more

@@ -23,7 +23,8 @@ use Rattle.dw_unit.specs.Faults.{HasDwarfFault, is_located, unit_fault_places}
 use Rattle.dw_unit.specs.Tables.{sections_of}
 use Rattle.line_rewrite.specs.KeptLineUnits.{unit_number}
 use Rattle.line_rewrite.specs.Tables.{line, line_fault, line_sections}
-use Rattle.range_loc_rewrite.specs.Ranges.{covers, hold, ranges_of}
+use Rattle.range_loc_rewrite.specs.Ranges.{covers, ranges_of}
+use Rattle.range_loc_rewrite.specs.Located.{hold}
 use Rattle.range_loc_rewrite.specs.Tables.{list_sections}
 use Rattle.table_set.specs.AllAnswers.{AnswersCarried}
 use Rattle.table_set.specs.KeptData.{IsDebugKept, new_line_offset}
@@ -33,43 +34,10 @@ use Rattle.inline_frames.specs.declared.tag.TheConstants.{DW_TAG_subprogram, DW_
 use Rattle.inline_frames.proofs.ChangedAttrs.{IsChanged, KeepsText, find_kept, found_changed}
 use Rattle.inline_frames.proofs.CoveredEntries.{Covered, all_covered}
 use Rattle.inline_frames.proofs.KeptChains.{IsCarriedEntry, IsCarriedUnit, IsKeptAttr, IsKeptEntry, IsKeptOwn, IsKeptUnit}
-use Rattle.inline_frames.proofs.KeptChains.{IsPlain, IsStable, NamesSameFiles}
+use Rattle.inline_frames.proofs.KeptChains.{NamesSameFiles, plain_name, stable_name}
 use Rattle.inline_frames.proofs.KeptFrames.{frames_are_kept}
 use Rattle.inline_frames.proofs.LineFiles.{same_files}
 use Rattle.inline_frames.proofs.Pairs.{AllOf, agree_to, first_each, map_each, with_all}
-
-plain_base : IsPlain DW_AT_str_offsets_base
-plain_base = record {
-  stable = record {
-    low = refl;
-    high = refl;
-    entry = refl;
-    ranges = refl;
-    macros = refl;
-    views = refl;
-    unused_high = refl;
-    unused_low = refl;
-    unused_table = refl;
-  };
-  stmt = refl;
-  location = refl;
-  frame_base = refl;
-  rnglists = refl;
-  loclists = refl;
-}
-
-stable_lines : IsStable DW_AT_stmt_list
-stable_lines = record {
-  low = refl;
-  high = refl;
-  entry = refl;
-  ranges = refl;
-  macros = refl;
-  views = refl;
-  unused_high = refl;
-  unused_low = refl;
-  unused_table = refl;
-}
 
 -- a text that stands in an entry gets no new value
 no_new : (m : Moves) (own first : Bool) (e : Entry) (a : Attr) → (a.form == DW_FORM_string) ≡ true → new_value m own first e a ≡ None
@@ -159,7 +127,7 @@ module _ (spans : List Span) (lists : List ListAt) (i f : Elf) (kept : IsDebugKe
       by None (Some y) k = absurd k
       by (Some x) None k = absurd k
       by (Some x) (Some y) k = base_of (attr DW_AT_str_offsets_base x) (attr DW_AT_str_offsets_base y)
-          ((entry_kept u x y k).attrs DW_AT_str_offsets_base plain_base) (is_base x)
+          ((entry_kept u x y k).attrs DW_AT_str_offsets_base (plain_name DW_AT_str_offsets_base refl refl)) (is_base x)
 
   -- what the own entry of a unit names
   names_same : (own first : Bool) (e : Entry) (a b : Attr) →
@@ -181,7 +149,7 @@ module _ (spans : List Span) (lists : List ListAt) (i f : Elf) (kept : IsDebugKe
         (sections_of i).info (sections_of f).info DW_AT_stmt_list) (NamesSameFiles i f)
         (names_same (is_own (sections_of i) x.declaration) (is_first_of u x) x) (attr DW_AT_stmt_list x) _
         (found_changed kept.units.changed.moves (is_own (sections_of i) x.declaration) (is_first_of u x) x (sections_of i).info
-        (sections_of f).info DW_AT_stmt_list stable_lines x.attrs (texts_of u x y h)));
+        (sections_of f).info DW_AT_stmt_list (stable_name DW_AT_stmt_list refl) x.attrs (texts_of u x y h)));
   }
 
   abbrev ChangedUnit : Unit → Unit → Type 0

@@ -1,16 +1,15 @@
 -- Sets of numbers, with one more.
-use Rattle.std.proofs.Common.{◌≡◌, ◌≢◌, ◌∙◌, ◌<◌, ◌≤◌, ◌+◌, ℕ, Bool, true, false, cond, List, refl, sym, ap, arith, get_or, length, nat_cmp, take, ⊎_elim}
+use Rattle.std.proofs.Common.{◌≡◌, ◌∙◌, ◌<◌, ◌≤◌, ◌+◌, ℕ, Bool, true, false, cond, List, refl, sym, ap, arith, get_or, length, nat_cmp}
+use Rattle.std.proofs.Common.{take}
 use Rattle.std.specs.Prelude.{◌==◌, ◌||◌}
 use Rattle.std.specs.List.{list_any}
 use Rattle.std.specs.BTreeMap.{is_at}
-use Rattle.std.proofs.lemmas.Bool.{cases_eq}
 use Rattle.std.proofs.lemmas.Grind.{common_steps}
 use Rattle.std.proofs.lemmas.List.Folds.{list_any_more}
+use Rattle.range_loc_rewrite.proofs.NumberSets.{at_key}
 
-pub at_key : (k q : ℕ) → is_at (nat_cmp k) q ≡ (k == q)
-at_key k q = ⊎_elim (λ (e : k ≡ q). grind (arith, common_steps)) (λ (ne : k ≢ q). grind (arith, common_steps)) (cases_eq k q)
-
-module _ {X : Type 0} (test : X → Bool) (xs : List X) (i : ℕ) (d : X) (old : Bool) (h : i < length xs) (inv : old ≡ list_any test (take i xs)) where
+module _ {X : Type 0} (test : X → Bool) (xs : List X) (i : ℕ) (d : X) (old : Bool) (h : i < length xs)
+    (inv : old ≡ list_any test (take i xs)) where
   abbrev here : X
   here = get_or xs i d
 
@@ -18,7 +17,8 @@ module _ {X : Type 0} (test : X → Bool) (xs : List X) (i : ℕ) (d : X) (old :
   more = list_any_more test xs i d h ∙ sym (ap (λ (b : Bool). b || test here) inv)
 
   -- whether a number is in a set, which got another
-  pub has_more : (q k : ℕ) (new : Bool) → test here ≡ (k == q) → new ≡ cond (is_at (nat_cmp k) q) true old → new ≡ list_any test (take (i + 1) xs)
+  pub has_more : (q k : ℕ) (new : Bool) → test here ≡ (k == q) → new ≡ cond (is_at (nat_cmp k) q) true old →
+      new ≡ list_any test (take (i + 1) xs)
   has_more q k new t e = e ∙ ap (λ (b : Bool). cond b true old) (at_key k q ∙ sym t) ∙ or_is (test here) old ∙ sym more where
     or_is : (b c : Bool) → cond b true c ≡ (c || b)
     or_is true true = refl

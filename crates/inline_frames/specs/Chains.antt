@@ -3,7 +3,8 @@
 use Rattle.std.specs.Prelude.{◌==◌, ◌&&◌, ◌||◌, ℕ, Bool, List, [], ◌∷◌, if◌then◌else◌}
 use Rattle.dw_unit.specs.CompUnits.{Entry, Unit, units, enclosing}
 use Rattle.range_loc_rewrite.specs.Faults.{ListSections}
-use Rattle.range_loc_rewrite.specs.Ranges.{ranges_of, hold}
+use Rattle.range_loc_rewrite.specs.Ranges.{ranges_of}
+use Rattle.range_loc_rewrite.specs.Located.{hold}
 use Rattle.inline_frames.specs.declared.tag.TheConstants.{DW_TAG_subprogram, DW_TAG_inlined_subroutine}
 
 -- a function, or an inlined instance of one, that holds an address

@@ -1,9 +1,10 @@
 -- The chain of a file, unit by unit.
-use Rattle.std.specs.Prelude.{◌≡◌, ℕ, false, List, [], ◌∷◌, map, slice_get, Some}
-use Rattle.std.specs.BTreeSet.{BTreeSet}
+use Rattle.std.specs.Prelude.{◌≡◌, ◌<◌, ◌≤◌, ℕ, false, List, [], ◌∷◌, map, slice_get, Some}
+use Rattle.std.specs.BTreeSet.{BTreeSet, contains}
+use Rattle.std.specs.Ordering.{nat_cmp}
 use Rattle.table_core.specs.DebugUnits.{Walked}
 use Rattle.table_core.specs.ReadSteps.{oks}
-use Rattle.dw_unit.specs.CompUnits.{Unit, unit_of}
+use Rattle.dw_unit.specs.CompUnits.{Unit, end_of, unit_of}
 use Rattle.dw_unit.specs.Faults.{fails, is_sound_unit}
 use Rattle.dw_unit.specs.ListedEntries.{ListedEntry, listed}
 use Rattle.inline_frames.specs.UnitChains.{link_in, unit_chain}
@@ -12,6 +13,10 @@ use Rattle.inline_frames.specs.declared.link.Link.{Link}
 -- each unit can be read, and is sound
 abbrev pub AreReadable : (abbrevs addr : List ℕ) → List Walked → Type 0
 AreReadable abbrevs addr ws = (n : ℕ) (w : Walked) → slice_get ws n ≡ Some w → fails (is_sound_unit addr) (unit_of abbrevs w) ≡ false
+
+-- none of some places lies in a unit
+abbrev pub LacksPlaces : BTreeSet ℕ → Walked → Type 0
+LacksPlaces places w = (q : ℕ) → w.place ≤ q → q < end_of w → contains nat_cmp places q ≡ false
 
 -- the entries of each unit
 abbrev pub listed_units : List ℕ → List Walked → List (List ListedEntry)

@@ -1,7 +1,7 @@
 // The functions that an address belongs to.
 ghost use Rattle.std.specs.Prelude.{◌≡◌, IfOk, IfErr, OnOk, length, map};
 ghost use Rattle.rb_bytes.specs.FirstFault.{IsFree, IsRefusalBy};
-ghost use Rattle.table_set.specs.AllTables.{DebugTablesComeFrom};
+ghost use Rattle.table_set.specs.AllTables.{IsDebugReadAt};
 ghost use Rattle.table_set.specs.TableFaults.{HasDebugFault};
 ghost use Rattle.inline_frames.specs.Faults.{HasChainFault};
 ghost use Rattle.inline_frames.specs.Frames as spec;
@@ -13,7 +13,7 @@ use crate::link::Link;
 use crate::naming::Naming;
 use crate::position::{Position, call_position, or_unknown, row_position};
 use crate::text::{Texts, text_named};
-use crate::walk::{covering_places, file_links};
+use crate::walk::{file_links, place_set};
 use dw_unit::UnitReader;
 use elf_image::Elf;
 use line_rewrite::Lines;
@@ -21,7 +21,7 @@ use rb_bytes::fault::{NoMemory, Refusal};
 use std::alloc::Global;
 use std::marker::Model;
 use table_core::section::contents_of;
-use table_set::{DebugTables, read_debug};
+use table_set::{DebugAt, read_debug_at};
 
 /// A function, and where control is in it.
 #[derive(Drop)]
@@ -96,13 +96,8 @@ fn frames_from(
     Ok(frames)
 }
 
-fn frames_in(
-    alloc: Global,
-    elf: &Elf<'_>,
-    tables: &DebugTables,
-    a: u64,
-) -> Result<Vec<Frame>, NoMemory>
-    requires comes { DebugTablesComeFrom tables.now elf.now }
+fn frames_in(alloc: Global, elf: &Elf<'_>, debug: &DebugAt, a: u64) -> Result<Vec<Frame>, NoMemory>
+    requires read { IsDebugReadAt debug.now elf.now a }
     requires free { IsFree (HasDebugFault elf.now) }
     ensures { IfOk result (λ fs. fs.items ≡ spec.frames elf.now a) }
 {
@@ -111,7 +106,7 @@ fn frames_in(
     let addr = contents_of(elf, b".debug_addr");
     let str_offsets = contents_of(elf, b".debug_str_offsets");
     let reader = UnitReader::new(alloc, info, abbrevs, addr)?;
-    let covering = covering_places(alloc, &tables.ranges, a)?;
+    let covering = place_set(alloc, &debug.lists.covers)?;
     let links = file_links(alloc, &reader, str_offsets, &covering)?;
     let own = namings_of(alloc, &links)?;
     let namings = resolved(alloc, &reader, str_offsets, own)?;
@@ -120,8 +115,8 @@ fn frames_in(
         str: contents_of(elf, b".debug_str"),
         line_str: contents_of(elf, b".debug_line_str"),
     };
-    let first = row_position(alloc, &tables.lines, a)?;
-    let frames = frames_from(alloc, &tables.lines, texts, first, &links, &namings)?;
+    let first = row_position(alloc, &debug.lines, a)?;
+    let frames = frames_from(alloc, &debug.lines, texts, first, &links, &namings)?;
     Ok(frames)
 }
 
@@ -131,7 +126,7 @@ pub fn frames(alloc: Global, elf: &Elf<'_>, a: u64) -> Result<Vec<Frame>, Refusa
     ensures sound { OnOk result (IsFree (HasChainFault elf.now)) }
     ensures fault { IfErr result (IsRefusalBy (HasChainFault elf.now)) }
 {
-    let tables = read_debug(alloc, elf)?;
-    let frames = frames_in(alloc, elf, &tables, a)?;
+    let debug = read_debug_at(alloc, elf, a)?;
+    let frames = frames_in(alloc, elf, &debug, a)?;
     Ok(frames)
 }

@@ -8,6 +8,7 @@ ghost use Rattle.std.specs.BTreeSet.{contains};
 ghost use Rattle.inline_frames.specs.FileChains.{AreReadable, listed_units};
 ghost use Rattle.inline_frames.specs.Following as spec;
 
+use crate::holding::has_place;
 use crate::link::own_says;
 use crate::naming::{Naming, naming_of};
 use dw_unit::{Entry, UnitReader};
@@ -94,6 +95,9 @@ fn namings_at(
     let mut found = BTreeMap::new(alloc);
     let units = reader.units();
     for number in 0..units.len() {
+        if !has_place(wanted, &units[number]) {
+            continue;
+        }
         let reading = reader.read(alloc, number)?;
         let Some(entries) = reading.entries else {
             unreachable!();

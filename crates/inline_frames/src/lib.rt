@@ -3,6 +3,7 @@
 
 mod chain;
 mod follow;
+mod holding;
 mod link;
 mod naming;
 mod position;

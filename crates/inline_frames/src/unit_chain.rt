@@ -11,11 +11,11 @@ use std::alloc::Global;
 use std::collections::BTreeSet;
 
 // Whether an entry is a function, or an inlined instance of one, that stands at one of some places.
-fn is_function(entry: &Entry, covering: &BTreeSet<u64>) -> bool
+fn is_function(entry: &Entry, covering: &BTreeSet<u128>) -> bool
     ensures { result ≡ spec.is_function covering.now entry.now }
 {
     (entry.tag == DW_TAG_subprogram || entry.tag == DW_TAG_inlined_subroutine)
-        && covering.contains(&entry.place)
+        && covering.contains(&(entry.place as u128))
 }
 
 // A number, where it counts; else the one before it.
@@ -26,7 +26,7 @@ fn later(counts: bool, number: usize, before: Option<usize>) -> Option<usize>
 }
 
 // The number of the last function among some entries.
-fn innermost(entries: &[Entry], covering: &BTreeSet<u64>) -> Option<usize>
+fn innermost(entries: &[Entry], covering: &BTreeSet<u128>) -> Option<usize>
     ensures chain { spec.chain_from covering.now entries.now result ≡ spec.unit_chain covering.now entries.now }
     ensures within { IfSome result (λ n. n < length entries.now) }
 {
@@ -52,7 +52,7 @@ pub fn links_in(
     alloc: Global,
     str_offsets: &[u8],
     entries: &[Entry],
-    covering: &BTreeSet<u64>,
+    covering: &BTreeSet<u128>,
 ) -> Result<Vec<Link>, NoMemory>
     ensures { IfOk result (λ links. links.items ≡ map (spec.link_in str_offsets.now entries.now) (spec.unit_chain covering.now entries.now)) }
 {

@@ -3,37 +3,24 @@ ghost use Rattle.std.specs.Prelude.{◌≡◌, ◌==◌, [], ℕ, IfOk};
 ghost use Rattle.std.specs.List.{list_any};
 ghost use Rattle.std.specs.Ordering.{nat_cmp};
 ghost use Rattle.std.specs.BTreeSet.{contains};
-ghost use Rattle.range_loc_rewrite.specs.Ranges.{covers};
 ghost use Rattle.inline_frames.specs.FileChains as spec;
 
+use crate::holding::has_place;
 use crate::link::Link;
 use crate::unit_chain::links_in;
 use dw_unit::UnitReader;
-use range_loc_rewrite::Ranges;
 use rb_bytes::fault::NoMemory;
 use std::alloc::Global;
 use std::collections::BTreeSet;
-use table_core::ByAddress;
 
-// Some places as a set.
-fn place_set(alloc: Global, places: &[u64]) -> Result<BTreeSet<u64>, NoMemory>
+/// Some places as a set.
+pub fn place_set(alloc: Global, places: &[u64]) -> Result<BTreeSet<u128>, NoMemory>
     ensures { IfOk result (λ set. (q : ℕ) → contains nat_cmp set q ≡ list_any (λ m. m == q) places.now) }
 {
     let mut set = BTreeSet::new(alloc);
     for place in places {
-        set.insert(*place)?;
+        set.insert(*place as u128)?;
     }
-    Ok(set)
-}
-
-/// The places of the entries that hold an address.
-pub fn covering_places(alloc: Global, ranges: &Ranges, a: u64) -> Result<BTreeSet<u64>, NoMemory>
-    ensures { IfOk result (λ set. (q : ℕ) → contains nat_cmp set q ≡ covers ranges.now q a) }
-{
-    let Some(places) = ranges.at(alloc, a)? else {
-        return Ok(BTreeSet::new(alloc));
-    };
-    let set = place_set(alloc, &places)?;
     Ok(set)
 }
 
@@ -49,7 +36,7 @@ pub fn file_links(
     alloc: Global,
     reader: &UnitReader<'_, '_>,
     str_offsets: &[u8],
-    covering: &BTreeSet<u64>,
+    covering: &BTreeSet<u128>,
 ) -> Result<Vec<Link>, NoMemory>
     requires { spec.AreReadable reader.now.abbrevs reader.now.addr reader.now.units }
     ensures { IfOk result (λ links. links.items
@@ -58,6 +45,9 @@ pub fn file_links(
     let mut found = Vec::new(alloc);
     let units = reader.units();
     for number in 0..units.len() {
+        if !has_place(covering, &units[number]) {
+            continue;
+        }
         let reading = reader.read(alloc, number)?;
         let Some(entries) = reading.entries else {
             unreachable!();

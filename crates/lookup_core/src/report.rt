@@ -4,10 +4,10 @@ ghost use Rattle.rb_bytes.specs.FirstFault.{IsFree, IsRefusalBy};
 ghost use Rattle.lookup_core.specs.Report.{report, report_of};
 ghost use Rattle.range_loc_rewrite.specs.Locations.{place_said};
 ghost use Rattle.elf_image.specs.declared.elf.Elf.{Elf};
-ghost use Rattle.table_set.specs.AllTables.{AllComeFrom};
+ghost use Rattle.table_set.specs.AllTables.{AreReadAt};
 ghost use Rattle.table_set.specs.TableFaults.{HasTableFault};
 
-use crate::answers::{covers_at, places_at, unwind_at};
+use crate::answers::unwind_at;
 use crate::covers::put_covers;
 use crate::lines::put_line;
 use crate::places::put_places;
@@ -18,7 +18,7 @@ use line_rewrite::LineAt;
 use rb_bytes::fault::{NoMemory, Refusal};
 use std::alloc::Global;
 use table_core::ByAddress;
-use table_set::{AllTables, read_all};
+use table_set::{TablesAt, read_all_at};
 
 /// What the tables of a file say at an address.
 #[derive(Drop)]
@@ -56,15 +56,15 @@ pub fn report_text(
     Ok(text)
 }
 
-// The text of the report on an address, of tables that were read.
-fn text_of(alloc: Global, tables: &AllTables, a: u64) -> Result<Vec<u8>, NoMemory>
-    ensures { IfOk result (λ text. (elf : Elf) → AllComeFrom tables.now elf → text.items ≡ report elf a) }
+// The text of the report on an address, of what was read for it.
+fn text_of(alloc: Global, tables: &TablesAt, a: u64) -> Result<Vec<u8>, NoMemory>
+    ensures { IfOk result (λ text. (elf : Elf) → AreReadAt tables.now elf a → text.items ≡ report elf a) }
 {
-    let line = tables.lines.at(alloc, a)?;
-    let covers = covers_at(alloc, &tables.ranges, a)?;
-    let places = places_at(alloc, &tables.places, a)?;
+    let debug = &tables.debug;
+    let line = debug.lines.at(alloc, a)?;
     let unwind = unwind_at(alloc, &tables.eh, &tables.df, a)?;
-    report_text(alloc, &line, &covers, &places, &unwind)
+    let lists = &debug.lists;
+    report_text(alloc, &line, &lists.covers, &lists.places, &unwind)
 }
 
 /// The report on an address, or the fault of the file's tables with the lowest number.
@@ -73,7 +73,7 @@ pub fn look(alloc: Global, elf: &Elf<'_>, a: u64) -> Result<Report, Refusal>
     ensures sound { OnOk result (IsFree (HasTableFault elf.now)) }
     ensures fault { IfErr result (IsRefusalBy (HasTableFault elf.now)) }
 {
-    let tables = read_all(alloc, elf)?;
+    let tables = read_all_at(alloc, elf, a)?;
     let text = text_of(alloc, &tables, a)?;
     Ok(Report { text })
 }

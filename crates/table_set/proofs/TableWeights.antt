@@ -7,11 +7,13 @@ use Rattle.table_core.proofs.OnlyWeights.{only_weight}
 use Rattle.dw_unit.specs.CompUnits.{Unit, units}
 use Rattle.line_rewrite.specs.LineAnswers.{LineSaid}
 use Rattle.line_rewrite.specs.Tables.{IsLineWeight, LineSections, line_at, row_weight}
-use Rattle.range_loc_rewrite.specs.Faults.{ListSections, list_offsets}
+use Rattle.range_loc_rewrite.specs.Faults.{ListSections}
 use Rattle.range_loc_rewrite.specs.Lists.{locations_kind, ranges_kind}
 use Rattle.range_loc_rewrite.specs.Ranges.{Ranged, ranged}
-use Rattle.range_loc_rewrite.specs.Weights.{IsListWeight, IsPlacesWeight, IsRangesWeight, IsSumOf, IsUnitWeight, covered_by}
-use Rattle.range_loc_rewrite.specs.Weights.{expressions_weight, index_weights, none, more}
+use Rattle.range_loc_rewrite.specs.Weights.{IsListWeight, IsPlacesWeight, IsRangesWeight, IsUnitWeight, covered_by}
+use Rattle.range_loc_rewrite.specs.ListWeights.{IsSumOf}
+use Rattle.range_loc_rewrite.specs.Weights.{index_weights}
+use Rattle.range_loc_rewrite.specs.ListWeights.{expressions_weight, none, more}
 use Rattle.addr_rewrite.specs.Aranges.{unit_at}
 use Rattle.addr_rewrite.specs.Tables.{IsArangesWeight}
 

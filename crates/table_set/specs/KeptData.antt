@@ -1,6 +1,6 @@
 -- What is kept of the debug data of a file whose code moves: units and entries, line units, and the sections without code
 -- addresses.
-use Rattle.std.specs.Prelude.{◌≡◌, ℕ, Bool, false, IsTrue, List, [], ◌∷◌, codes, unwrap_or}
+use Rattle.std.specs.Prelude.{◌≡◌, ℕ, Bool, false, IsTrue, List, [], ◌∷◌, codes, length, unwrap_or}
 use Rattle.std.specs.List.{list_any}
 use Rattle.std.specs.Str.{bytes_eq}
 use Rattle.elf_image.specs.declared.elf.Elf.{Elf}
@@ -12,7 +12,7 @@ use Rattle.table_core.specs.Sections.{bytes_of}
 use Rattle.dw_unit.specs.Changes.{no_line_unit}
 use Rattle.dw_unit.specs.EntryMoves.{new_list_offset}
 use Rattle.dw_unit.specs.Tables.{AreChangedWith}
-use Rattle.line_rewrite.specs.KeptLineUnits.{AreKeptUnits, unit_number}
+use Rattle.line_rewrite.specs.KeptLineUnits.{AreKeptUnits, unit_number, unit_places}
 use Rattle.line_rewrite.specs.Tables.{line_sections}
 
 -- the offset of a line unit that is written for another: that of the unit's list, or one that names none
@@ -27,6 +27,8 @@ pub record AreUnitsKept (spans : List Span) (lists : List ListAt) (i f : Elf) : 
   -- that of units, of which both files have as many.
   pub line_offsets : (n : ℕ) →
       unit_number (line_sections f) (new_line_offset lists n) ≡ unit_number (line_sections i) n
+  pub other_offsets : (n : ℕ) → unit_number (line_sections i) n ≡ length (unit_places (line_sections i)) →
+      new_line_offset lists n ≡ no_line_unit
 
 -- the debug sections that are written anew, and those that are left out
 abbrev pub written_names : List (List ℕ)

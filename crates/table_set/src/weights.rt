@@ -11,6 +11,7 @@ ghost use Rattle.table_set.specs.TableLimits.{IsTooHeavy};
 
 use crate::all::AllTables;
 use addr_map::AddrMap;
+use cfi_rows::frame_table::Frames;
 use dw_unit::abbrev_weight;
 use elf_image::Elf;
 use rb_bytes::fault::NoMemory;
@@ -20,7 +21,25 @@ use table_core::AddrTable;
 // The greatest weight of a table that is written.
 const WEIGHT_LIMIT: u64 = 4_000_000_000;
 
-/// Whether a table would weigh too much, written for a map; or the declarations of its units.
+// How many registers have rules in a row at most, where these aren't counted: more than any processor has.
+const USUAL_REGISTERS: u64 = 128;
+
+// How many rules of more registers the rows of new code may have together.
+const MOST_RULES: u64 = 1 << 24;
+
+// Whether rows of a frame table may have too many rules to be held, one row for each instruction: nothing else limits how
+// many there are, since few bytes of an entry that is for much code can give rules to many registers.
+fn has_many_rules(frames: &Frames, map: &AddrMap) -> bool {
+    let mut most = 0;
+    for fde in &frames.list {
+        most = fde.registers.max(most);
+    }
+    let more = most.saturating_sub(USUAL_REGISTERS);
+    more.saturating_mul(map.len() as u64) > MOST_RULES
+}
+
+/// Whether a table would weigh too much, written for a map; or the declarations of its units. Memory is wanting too where rows of
+/// frames would have too many rules.
 pub fn is_too_heavy(
     alloc: Global,
     elf: &Elf<'_>,
@@ -35,6 +54,9 @@ pub fn is_too_heavy(
     ensures heavy { IfOk result (λ heavy. IsTrue heavy → IsTooHeavy elf.now map.now) }
     ensures light { IfOk result (λ heavy. heavy ≡ false → IsTooHeavy elf.now map.now → ⊥) }
 {
+    if has_many_rules(&tables.eh.frames, map) || has_many_rules(&tables.df.frames, map) {
+        return Err(NoMemory);
+    }
     let lines = tables.lines.weight(alloc, map)?;
     if lines > WEIGHT_LIMIT {
         return Ok(true);

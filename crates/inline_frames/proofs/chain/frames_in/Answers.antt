@@ -1,10 +1,13 @@
-use Rattle.std.proofs.Common.{◌≡◌, ◌∙◌, [], ap, length, map, subst, sym}
+use Rattle.std.proofs.Common.{◌≡◌, ◌∙◌, ℕ, [], ap, length, map, subst, sym}
+use Rattle.std.specs.Prelude.{◌==◌}
+use Rattle.std.specs.List.{list_any}
 use Rattle.std.proofs.lemmas.List.{length-map}
 use Rattle.table_core.specs.DebugUnits.{walked}
 use Rattle.dw_unit.specs.ReaderSections.{ReaderSections}
 use Rattle.line_rewrite.specs.Tables.{LineSections, line_sections}
-use Rattle.range_loc_rewrite.specs.Faults.{ListSections}
-use Rattle.range_loc_rewrite.specs.Ranges.{covers}
+use Rattle.range_loc_rewrite.specs.Ranges.{ranged}
+use Rattle.range_loc_rewrite.specs.Tables.{list_sections}
+use Rattle.table_set.proofs.Carried.{covers_listed}
 use Rattle.table_set.proofs.ElfReading.{units_free}
 use Rattle.inline_frames.specs.FileChains.{AreReadable, file_links, listed_units}
 use Rattle.inline_frames.specs.Following.{followed_times}
@@ -42,8 +45,8 @@ frames_from-requires c =
     let namings = c.in_ok-namings.namings.items in
     let own = c.in_ok-own.own.items in
     let same : length namings ≡ length own = ap length c.in_ok-namings.ensures ∙ length-map own _ in
-    let also : length own ≡ length c.deref.result.now = ap length c.in_ok-own.ensures ∙ length-map c.deref.result.now _ in
-    ap length c.deref-3.ensures.value ∙ same ∙ also ∙ ap length c.deref.ensures.value ∙ sym (ap length c.deref-2.ensures.value)
+    let also : length own ≡ length c.deref-2.result.now = ap length c.in_ok-own.ensures ∙ length-map c.deref-2.result.now _ in
+    ap length c.deref-4.ensures.value ∙ same ∙ also ∙ ap length c.deref-2.ensures.value ∙ sym (ap length c.deref-3.ensures.value)
 
 pub returns : goal.returns
 returns c =
@@ -59,14 +62,15 @@ returns c =
       addr = c.contents_of-addr.ensures i;
     }) in
     let own : c.in_ok-own.own.items ≡ map (λ (l : Link). l.naming) c.in_ok-links.links.items =
-    c.in_ok-own.ensures ∙ ap (map (λ (l : Link). l.naming)) c.deref.ensures.value in
+    c.in_ok-own.ensures ∙ ap (map (λ (l : Link). l.naming)) c.deref-2.ensures.value in
     let first : c.in_ok-first.first ≡ row_position (line_sections elf) a =
-    c.in_ok-first.ensures ∙ ap (λ (t : LineSections). row_position t a) c.requires.comes.lines in
+    c.in_ok-first.ensures ∙ ap (λ (t : LineSections). row_position t a) c.requires.read.lines in
     frames_found elf (units_free elf c.requires.free) a covering c.in_ok-links.links.items c.in_ok-namings.namings.items
     c.in_ok-frames.frames.items
-    (λ q. c.in_ok-covering.ensures q ∙ ap (λ (t : ListSections). covers t q a) c.requires.comes.ranges)
+    (λ q. c.in_ok-covering.ensures q ∙ ap (list_any (λ (m : ℕ). m == q)) (c.deref.ensures.value ∙ c.requires.read.covers)
+    ∙ sym (covers_listed (ranged (list_sections elf)) q a))
     (c.in_ok-links.ensures ∙ (λ i. file_links (texts i) covering [] (listed_units (reader i).abbrevs (reader i).units)))
     (c.in_ok-namings.ensures
     ∙ (λ i. map (λ (n : Naming). followed_times (texts i) (listed_units (reader i).abbrevs (reader i).units) 16 n) (own i)))
     (c.in_ok-frames.ensures s (sym c.contents_of-info.ensures) (sym c.contents_of.ensures) (sym c.contents_of-2.ensures)
-    ∙ (λ i. link_frames (c.requires.comes.lines i) s (first i) (c.deref-2.ensures.value i) (c.deref-3.ensures.value i)))
+    ∙ (λ i. link_frames (c.requires.read.lines i) s (first i) (c.deref-3.ensures.value i) (c.deref-4.ensures.value i)))

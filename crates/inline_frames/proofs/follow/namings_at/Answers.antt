@@ -5,8 +5,9 @@ use Rattle.std.specs.BTreeSet.{contains}
 use Rattle.std.specs.Option.{option_or}
 use Rattle.table_core.specs.DebugUnits.{Walked}
 use Rattle.dw_unit.specs.ListedEntries.{ListedEntry}
+use Rattle.inline_frames.specs.FileChains.{LacksPlaces}
 use Rattle.inline_frames.specs.Following.{unit_naming}
-use Rattle.inline_frames.proofs.FileUnits.{is_read, named_more, walked_at, walked_is, walked_there}
+use Rattle.inline_frames.proofs.FileUnits.{is_read, named_more, named_same, walked_at, walked_is, walked_same, walked_there}
 use Rattle.inline_frames.proofs.follow.namings_at.Goals as goal
 
 pub unreachable-requires : goal.unreachable-requires
@@ -32,3 +33,14 @@ loop-number-preserved c = λ q.
     (c.in_ok-reading.ensures (walked_at s.units n) there) c.in-Some.is (c.loop-number.invariant q)
     (c.in_ok-add_namings.ensures q ∙ ap (λ (es : List ListedEntry).
     option_or old (if contains nat_cmp c.args.wanted.now q then unit_naming texts es q else None)) items)
+
+pub loop-number-preserved-then-not-has_place : goal.loop-number-preserved-then-not-has_place
+loop-number-preserved-then-not-has_place c = λ q.
+    let s = c.args.reader.now in
+    let n = c.loop-number.number in
+    let within = subst (λ (us : List Walked). n < length us) c.units-units.ensures c.loop-number-test.true in
+    let is = walked_same s.units c.units-units.result.now n c.index-units-number.result c.units-units.ensures within c.index-units-number.is
+    in
+    named_same s.abbrevs s.addr c.args.str_offsets.now c.args.wanted.now q s.units n (walked_at s.units n)
+    (get nat_cmp c.loop-number.found q) within (walked_there s.units n within) (walked_is s.units n within) c.requires
+    (subst (LacksPlaces c.args.wanted.now) is (c.has_place.ensures c.if-not-has_place.true)) (c.loop-number.invariant q)

@@ -1,7 +1,7 @@
 use Rattle.std.proofs.Common.{rules, ◌≡◌, ◌∙◌, ◌<◌, List, ap, length, subst}
 use Rattle.table_core.specs.DebugUnits.{Walked}
-use Rattle.inline_frames.specs.FileChains.{unit_links}
-use Rattle.inline_frames.proofs.FileUnits.{found_more, is_read, walked_at, walked_is, walked_there}
+use Rattle.inline_frames.specs.FileChains.{LacksPlaces, unit_links}
+use Rattle.inline_frames.proofs.FileUnits.{found_more, found_same, is_read, walked_at, walked_is, walked_same, walked_there}
 use Rattle.inline_frames.proofs.walk.file_links.Goals as goal
 
 pub unreachable-requires : goal.unreachable-requires
@@ -26,3 +26,14 @@ loop-number-preserved c =
     c.loop-number.found.items c.in_ok-links.links.items c.or_before-found.result.items within
     (walked_is s.units n within) (c.in_ok-reading.ensures (walked_at s.units n) there) c.in-Some.is
     c.loop-number.invariant (c.in_ok-links.ensures ∙ ap (unit_links texts covering) items) c.or_before-found.ensures
+
+pub loop-number-preserved-then-not-has_place : goal.loop-number-preserved-then-not-has_place
+loop-number-preserved-then-not-has_place c =
+    let s = c.args.reader.now in
+    let n = c.loop-number.number in
+    let within = subst (λ (us : List Walked). n < length us) c.units-units.ensures c.loop-number-test.true in
+    let is = walked_same s.units c.units-units.result.now n c.index-units-number.result c.units-units.ensures within c.index-units-number.is
+    in
+    found_same s.abbrevs s.addr c.args.str_offsets.now c.args.covering.now s.units n (walked_at s.units n) c.loop-number.found.items within
+    (walked_there s.units n within) (walked_is s.units n within) c.requires
+    (subst (LacksPlaces c.args.covering.now) is (c.has_place.ensures c.if-not-has_place.true)) c.loop-number.invariant
