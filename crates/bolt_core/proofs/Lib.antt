@@ -19,7 +19,7 @@ mod ShortReach
 mod SomeCode
 mod SoundCode
 mod TableNeeds
-mod TableRefusals
+pub mod TableRefusals
 mod TableRoom
 mod TableSections
 mod TablesCarried

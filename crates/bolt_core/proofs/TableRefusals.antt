@@ -40,6 +40,10 @@ module _ (elf : Elf) where
     }
     tables_refused refusal.Memory is = tt
 
+  -- those of debug data are among them
+  pub debug_free : IsFree (HasTableFault elf) → IsFree (tables.HasDebugFault elf)
+  debug_free free kind place has = free kind place (from_tables kind place has.1)
+
   -- its units can be read
   pub sound_units : IsFree (HasTableFault elf) → IsFree (HasDwarfFault (unit_fault_places (sections_of elf)))
   sound_units free = units_sound elf (λ kind place has. free kind place (from_tables kind place has))

@@ -41,6 +41,7 @@ use Rattle.table_set.specs.KeptData.{dropped_names, is_one_of, written_names}
 use Rattle.table_set.specs.declared.all.AllTables.{AllTables}
 use Rattle.dw_unit.specs.Tables.{sections_of}
 use Rattle.range_loc_rewrite.specs.Faults.{ListSections}
+use Rattle.range_loc_rewrite.specs.ListTables.{AreWithoutHighAddresses}
 use Rattle.table_set.proofs.EmptySections.{no_abbrevs, no_addr, no_info}
 use Rattle.table_set.proofs.NoFaults.{no_fault}
 use Rattle.table_set.proofs.Standing.{all_carried, all_sound, units_kept}
@@ -122,6 +123,9 @@ module _ (elf : Elf) (t : AllTables) (comes : AllComeFrom t elf) (spans : List S
     frames = listed_frames;
     index = made.are_listed.index;
     ranges = made.written.ranges.bytes.items;
+    no_ranges = λ none without. made.are_carried.ranges_made.nothing
+        (ap (λ (s : ListSections). s.ranges) comes.ranges ∙ none)
+        (subst (λ (s : ListSections). AreWithoutHighAddresses s.units) (sym comes.ranges) without);
     debug = debug;
     are = made.are_listed.are;
     frames_there = is_there (has_frames elf) eh;

@@ -4,6 +4,9 @@ use Rattle.std.specs.Prelude.{codes, if◌then◌else◌, length, map}
 use Rattle.std.specs.declared.alloc.Global.{Global}
 use Rattle.elf_image.specs.declared.elf.Elf.{Elf}
 use Rattle.elf_image.specs.file.SectionNames.{section_called}
+use Rattle.table_core.specs.Sections.{bytes_of}
+use Rattle.dw_unit.specs.Tables.{sections_of}
+use Rattle.range_loc_rewrite.specs.ListTables.{AreWithoutHighAddresses}
 use Rattle.frame_rewrite.specs.Index.{has_frames, has_index}
 
 -- a table as the code keeps it
@@ -49,6 +52,8 @@ pub record AreGivenFor (elf : Elf) (tables : List ReadTable) : Type 0 where
   pub frames : Option (List ℕ)
   pub index : Option (List ℕ)
   pub ranges : List ℕ
+  -- without a table of them, ranges are written only for entries with a high address
+  pub no_ranges : bytes_of elf (codes ".debug_rnglists") ≡ [] → AreWithoutHighAddresses (sections_of elf) → ranges ≡ []
   pub debug : DebugContents
   pub are : map table_seen tables ≡ listed frames index (ranges_given elf ranges) debug
   pub frames_there : is_some frames ≡ has_frames elf

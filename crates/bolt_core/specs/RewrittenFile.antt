@@ -109,7 +109,7 @@ pub record IsRewritten (file profile written : List ℕ) (spans : List Span) (co
   -- the new area takes no more than was asked for
   pub needed : (area_for program.elf given code (is_tight_program program)).end
       - (area_for program.elf given code (is_tight_program program)).start ≤ needed_bytes program
-  -- at each byte of the new code, lines and unwinding are as they were at the byte's owner
+  -- at each byte of the new code all tables answer as they did at the byte's owner, and other debug data is kept
   pub answers : CarriesTables spans program.elf tables.new
   -- up to where no byte moves, bytes that no segment loads are as they were, and those of a table that is replaced
   pub front : KeepsFront program.elf (is_tight_program program) written

@@ -35,8 +35,9 @@ pub struct Rewritten {
     pub file: Vec<u8>,
     /// Where each instruction of the input went.
     pub map: AddrMap,
-    /// How many functions and instructions were moved.
+    /// How many functions were moved.
     pub functions: u64,
+    /// How many instructions were moved.
     pub instructions: u64,
     /// How many bytes the new code has.
     pub bytes: u64,

@@ -1,6 +1,7 @@
 mod Answering
 mod CommandLineExamples
 mod Completing
+mod FramesLaw
 mod GivenRuns
 mod OptionTokens
 mod RunArguments

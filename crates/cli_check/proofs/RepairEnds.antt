@@ -31,7 +31,7 @@ module _ (names : RepairNames) (written printed : List ℕ) (old mid new : World
   ends answer (all_written is file taken) = done is written printed made (holds file)
       (subst (λ (s : SinkSeen). TakesAll s.taken new.output.taken printed) between.output_is taken)
   ends answer (fails_at_file is rose quiet others) =
-      at_out is (rose_after _ _ _ (between.go_on.writes.each names.out) rose)
+      at_out is written printed made (rose_after _ _ _ (between.go_on.writes.each names.out) rose)
       (quiet ∙ ap (λ (s : SinkSeen). s.taken) between.output_is)
       (record { others = λ name apart. others.others name apart ∙ between.contents.each name })
   ends answer (fails_at_lines is file print) =
@@ -45,7 +45,7 @@ completes : (names : RepairNames) (old new : World) (answer : Status) → Repair
     IsTrue old.files.told → OfInputs old names.inputs (IsAccepted CannotRepair) → NoneRoseRepairing names old new →
     IsOkOrNoMemory answer
 completes names old new answer (done is written printed made file taken) told accepted quiet = subst IsOkOrNoMemory (sym is) tt
-completes names old new answer (at_out is rose silent others) told accepted quiet = absurd (quiet.out rose)
+completes names old new answer (at_out is written printed made rose silent others) told accepted quiet = absurd (quiet.out rose)
 completes names old new answer (at_lines is written printed made file print) told accepted quiet = absurd (quiet.others.line print.cause)
 completes names old new answer (stopped stops) told accepted quiet =
     stopped_completes CannotRepair names.inputs old new answer stops told accepted quiet.others

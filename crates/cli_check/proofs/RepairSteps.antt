@@ -121,10 +121,11 @@ module _ (p : Program) (is : IsFileProgram p.elf.file.now (program_seen p)) wher
             fits = change_fits (code_of funcs p.refs p.elf.entry) blocks edges (pairs_of counts) flow laid blocks_of links_ordered
                 repaired (subst (λ (ps : List Counted). total_count ps < 2 ^ 100) value few)
 
-            pub whole : (links : List Link) → links ≡ flow.links.items → (written printed : List ℕ)
+            pub whole : length profile ≤ file_limit → (links : List Link) → links ≡ flow.links.items → (written printed : List ℕ)
                 → IsEdgeText p.elf funcs (repaired_count funcs blocks links pairs) written → printed ≡ report funcs blocks flow
                 → IsRepairOf p.elf.file.now profile written printed
-            whole links links_are written printed said shown = record {
+            whole short links links_are written printed said shown = record {
+              profile_fits = short;
               program = program_seen p;
               program_is = is;
               edges = edges;

@@ -26,7 +26,8 @@ pub data RepairAnswers (names : RepairNames) (old new : World) (answer : Status)
   done : answer ≡ status.Ok → (written printed : List ℕ) → IsMadeOf names.inputs old.files written printed
       → HoldsFile names.out written old new → TakesAll old.output.taken new.output.taken printed
       → RepairAnswers names old new answer
-  at_out : answer ≡ status.WriteFault → WriteRose old new names.out → new.output.taken ≡ old.output.taken
+  at_out : answer ≡ status.WriteFault → (written printed : List ℕ) → IsMadeOf names.inputs old.files written printed
+      → WriteRose old new names.out → new.output.taken ≡ old.output.taken
       → UnchangedBut names.out old.files.content new.files.content → RepairAnswers names old new answer
   at_lines : answer ≡ status.WriteFault → (written printed : List ℕ) → IsMadeOf names.inputs old.files written printed
       → HoldsFile names.out written old new → FailsToPrint printed old new → RepairAnswers names old new answer

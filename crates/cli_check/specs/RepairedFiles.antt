@@ -22,6 +22,7 @@ pub data CannotRepair (file profile : List ℕ) (fault : Fault) : Type 0 where
 -- counts least. Read as a profile of the file, what is written has the flow of each edge, and the old count of each
 -- other pair; and the lines are those of these flows and prices.
 pub record IsRepairOf (file profile written printed : List ℕ) : Type 0 where
+  pub profile_fits : length profile ≤ file_limit
   pub program : Program
   pub program_is : IsFileProgram file program
   pub edges : List (ℕ × ℕ)

@@ -86,5 +86,5 @@ returns c =
     c.as_slice-edges.result.now c.as_slice-edges.ensures.value c.in_ok-found.ensures c.args.profile.now
     c.in_ok-counts.counts c.pairs-pairs.result.now c.in_ok-counts.ensures.counts c.pairs-pairs.ensures.exact
     c.pairs-pairs.ensures.value c.pairs-pairs.ensures.few c.in_ok-flow.flow c.in_ok-flow.ensures
-    c.deref.result.now c.deref.ensures.value c.in_ok-profile.profile.items c.in_ok-lines.lines.items
+    c.requires.profile c.deref.result.now c.deref.ensures.value c.in_ok-profile.profile.items c.in_ok-lines.lines.items
     (c.in_ok-profile.ensures c.args.program.now.elf) c.in_ok-lines.ensures
