@@ -3,10 +3,12 @@ use crate::sessions::play_rows;
 use std::test::Fail;
 
 const FRAMES: &str = "\
-# The third sample: the second line of f0, and an address without code. Frame tables aren't asked: the common entry of the
-# second file has version 2. The unit of the third has version 4, and lines of the last go in 0 steps.
+# The third sample: the second line of f0, also where that went, and an address without code. Frame tables aren't asked:
+# the common entry of the second file has version 2. The unit of the third has version 4, and lines of the last go in 0
+# steps.
 like exit7
 - => $ sample 3 out map | $ frames out 11010 | 0 Ok f0 /s/sample.c:2:0/ | $ frames out 0 | 0 Ok none/
+     | $ rewrite out map moved spans | $ frames moved 111dc | 0 Ok f0 /s/sample.c:2:0/
 - => $ sample 3 out map | patch out 10b0 02 | $ frames out 0x11018 | 0 Ok f0 /s/sample.c:3:0/
 - => $ sample 3 out map | patch out 20c7 04 | $ frames out 11010 | 221 DwarfVersion 0 0 0 refused 22 DwarfVersion at 0/
 - => $ sample 3 out map | patch out 2140 00 | $ frames out 11010 | 221 LineFault 0 0 0 refused 26 LineFault at 0/
@@ -20,6 +22,10 @@ unloaded .debug_info 0 470000000500010800000000010000000078000100000000001800000
 - => $ frames in 10078 | 0 Ok main /s/a.c:1:0/ | $ frames in 10080 | 0 Ok step /s/a.c:20:0/main /s/a.c:7:3/
      | $ frames in 10087 | 0 Ok step /s/a.c:20:0/main /s/a.c:7:3/ | $ frames in 10088 | 0 Ok main /s/a.c:3:0/
      | $ frames in 10090 | 0 Ok none/
+- profile 1 @10078 c 1 @10078 4 0 3
+  profile 1 @10078 4 1 @10078 10 0 1
+  => $ rewrite in profile out map | $ frames out 10098 | 0 Ok step /s/a.c:20:0/main /s/a.c:7:3/
+     | $ frames out 1009c | 0 Ok main /s/a.c:1:0/ | $ frames out 10080 | 0 Ok none/
 - fail files 1 => $ frames in 10080 | 222 ReadFault
 - room printed 9 => $ frames in 10080 | 223 WriteFault step /s/a";
 

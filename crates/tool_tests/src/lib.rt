@@ -5,11 +5,15 @@
 #[cfg(test)]
 mod arguments;
 #[cfg(test)]
+mod failing;
+#[cfg(test)]
 mod framed;
 #[cfg(test)]
 mod limits;
 #[cfg(test)]
 mod looked_up;
+#[cfg(test)]
+mod malformed;
 #[cfg(test)]
 mod moved_tables;
 #[cfg(test)]

@@ -18,13 +18,7 @@ like exit7
 # The first one, as its run is recorded.
 like exit7
 - => $ sample 0001 out map | 0 Ok sample 1/ | $ record out map | 5 Ended(5) [ended 5 after 15 steps]/
-     | text map 1 @11000 c 1 @11000 18 0 1/1 @11000 18 1 @11000 1c 0 1/1 @11000 2c 1 @11030 c 0 1/1 @11030 8 1 @11000 0 0 1/
-
-# A write fails: of the file, of the profile, or of the line.
-like exit7
-- fail files 1 => $ sample 3 out map | 223 WriteFault | none out | none map
-- fail files 2 => $ sample 3 out map | 223 WriteFault | bytes out 0 7f454c46 | none map
-- room printed 5 => $ sample 3 out map | 223 WriteFault sampl | bytes out 0 7f454c46 | ends map /1 _start 8 1 f0 0 0 1/";
+     | text map 1 @11000 c 1 @11000 18 0 1/1 @11000 18 1 @11000 1c 0 1/1 @11000 2c 1 @11030 c 0 1/1 @11030 8 1 @11000 0 0 1/";
 
 #[test]
 fn samples_are_made(rt: HostRuntime) -> Result<(), Fail> {
@@ -32,11 +26,9 @@ fn samples_are_made(rt: HostRuntime) -> Result<(), Fail> {
 }
 
 const LOOKED_UP: &str = "\
-# A file without tables, one that can't be read, and a report that isn't printed whole.
+# A file without tables.
 like exit7
 - => $ lookup in 10078 | 0 Ok none/
-- fail files 1 => $ lookup in 10078 | 222 ReadFault
-- room printed 2 => $ lookup in 10078 | 223 WriteFault no
 
 # Faults of the third sample's tables, for which it isn't rewritten either: version 2 of the common entry of frames; version 4 of
 # the unit of entries; form 2d of a name, and form 0f of an end, in the second declaration, at d; a unit longer by 1; and lines in

@@ -53,7 +53,21 @@ unloaded .debug_loclists 0 11000000050008000000000004000c015005015100
      | $ rewrite in profile out map
      | 0 Ok moved 1 functions, 6 instructions, 24 bytes; 3 hot blocks; 0 profile lines ignored/
      | $ lookup out 10097 | 0 Ok covers c/ | $ lookup out 10098 | 0 Ok covers c/covers 19/places 26 2 50/
-     | $ lookup out 1009b | 0 Ok covers c/covers 19/places 26 2 50/ | $ lookup out 1009c | 0 Ok covers c/";
+     | $ lookup out 1009b | 0 Ok covers c/covers 19/places 26 2 50/ | $ lookup out 1009c | 0 Ok covers c/
+
+# Three entries, at d, 12 and 17, that name one list of the 8 bytes from 10080 on. The output has it once, and all three name it.
+like countdown
+profile 1 @10078 c 1 @10078 4 0 3
+profile 1 @10078 4 1 @10078 10 0 1
+unloaded .debug_abbrev 0 0111010000022e005517000000
+unloaded .debug_info 0 19000000050001080000000001020c000000020c000000020c00000000
+unloaded .debug_rnglists 0 1000000005000800000000000480810488810400
+- => $ rewrite in profile out map
+     | 0 Ok moved 1 functions, 6 instructions, 24 bytes; 3 hot blocks; 0 profile lines ignored/
+     | bytes out b5 19000000050001080000000001020c000000020c000000020c00000000130000000500080000000000079800010000000000\
+0400
+     | $ lookup out 10097 | 0 Ok none/ | $ lookup out 10098 | 0 Ok covers d/covers 12/covers 17/
+     | $ lookup out 1009b | 0 Ok covers d/covers 12/covers 17/ | $ lookup out 1009c | 0 Ok none/";
 
 #[test]
 fn ranges_and_locations_move(rt: HostRuntime) -> Result<(), Fail> {

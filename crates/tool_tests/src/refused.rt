@@ -22,19 +22,6 @@ like exit7
 like exit7
 - patch 129 08 => 221 CompressedSection 2 0 0 refused 8 CompressedSection at 2/
 
-# Prefixes of the example; from 120 bytes on the segment's bytes are looked for, from 0 on.
-like exit7
-- size 0 => 221 NotElf 0 0 0 refused 1 NotElf at 0/
-- size 6 => 221 NotElf 0 0 0 refused 1 NotElf at 0/
-- size 7 => 221 Truncated 0 0 0 refused 2 Truncated at 0/
-- size 3f => 221 Truncated 0 0 0 refused 2 Truncated at 0/
-- size 40 => 221 Truncated 40 0 0 refused 2 Truncated at 40/
-- size 77 => 221 Truncated 40 0 0 refused 2 Truncated at 40/
-- size 78 => 221 Truncated 0 0 0 refused 2 Truncated at 0/
-- size 87 => 221 Truncated 0 0 0 refused 2 Truncated at 0/
-- size 88 => 221 Truncated a0 0 0 refused 2 Truncated at a0/
-- size 15f => 221 Truncated a0 0 0 refused 2 Truncated at a0/
-
 # Files of other machines, also cut.
 like exit7
 - patch 12 00 => 221 NotElf 0 0 0 refused 1 NotElf at 0/

@@ -57,34 +57,3 @@ like countdown
 fn counts_are_balanced(rt: HostRuntime) -> Result<(), Fail> {
     play_rows(&rt, rt.alloc(), REPAIRED)
 }
-
-const FAILING: &str = "\
-# The profile has room, and the lines have not, or only some.
-like countdown
-profile 1 @10078 4 1 @10078 8 0 2
-- room printed 0
-  => $ repair in profile out | 223 WriteFault | text out 
-- room printed 8
-  => $ repair in profile out | 223 WriteFault price 10 | text out 
-
-# There is no room for the profile: no line is printed.
-like countdown
-- profile 1 @10078 0 1 @10078 8 0 7
-  room files 8
-  => $ repair in profile out | 223 WriteFault | none out
-
-# Files that can't be read, or written.
-like countdown
-- => $ repair nothing profile out | 222 ReadFault | none out
-- => $ repair in nothing out | 222 ReadFault | none out
-- fail files 1
-  => $ repair in profile out | 222 ReadFault | none out
-- fail files 2
-  => $ repair in profile out | 222 ReadFault | none out
-- fail files 3
-  => $ repair in profile out | 223 WriteFault | none out";
-
-#[test]
-fn reads_and_writes_that_fail(rt: HostRuntime) -> Result<(), Fail> {
-    play_rows(&rt, rt.alloc(), FAILING)
-}

@@ -1,4 +1,4 @@
-// Runs on both machines: how they end, sources, sinks and files that fail, and profiles of runs.
+// Runs on both machines: how they end, and profiles of runs.
 use crate::sessions::play_rows;
 use std::test::Fail;
 
@@ -25,25 +25,14 @@ like countdown
 # A long program.
 - code .text 10078 .rept 249997 nop; exit => $ run in | 0 Ended(0) [ended 0 after 249999 steps]/
 
-# A program that copies its input byte by byte, and sources that fail, also in mid-stream.
+# A program that copies its input byte by byte.
 code .text 10078 addi sp,sp,-16; addi a0,zero,0; addi a1,sp,0; addi a2,zero,1; addi a7,zero,63; ecall; beq a0,zero,20; \
 addi a0,zero,1; addi a7,zero,64; ecall; jal zero,-36; exit
 input abc
 - => $ run in | 0 Ended(0) abc[ended 0 after 39 steps]/
-- fail input 1 => $ run in | 222 ReadFault
-- fail input 3 => $ run in | 222 ReadFault ab
 
-# Sinks that are full.
-like greeting
-- room printed 0 => $ run in | 223 WriteFault
-- room printed 1 => $ run in | 223 WriteFault h
-- room printed 2 => $ run in | 223 WriteFault hi
-- room printed 3 => $ run in | 223 WriteFault hi[
-- room printed 19 => $ run in | 223 WriteFault hi[ended 0 after 9 steps]
-
-# Files that are missing or refused.
+# Files that are refused.
 like exit7
-- => $ run nowhere | 222 ReadFault
 - size 0 => $ run in | 221 NotElf 0 0 0 refused 1 NotElf at 0/
 - size 3f => $ run in | 221 Truncated 0 0 0 refused 2 Truncated at 0/";
 
@@ -109,18 +98,7 @@ code .text 10078 jal ra,12; exit; addi a0,zero,1; jalr zero,0(ra)
 
 # A jump to the next instruction, and one out of the code, which is not counted. The step after it traps.
 code .text 10078 jal zero,4; jalr zero,256(zero)
-- => $ record in out | 225 Trapped 100 Fetch [trapped Fetch at 100 after 2 steps]/ | text out 1 @10078 0 1 @10078 4 0 1/
-
-# A jump, and then a read of one byte, which fails.
-code .text 10078 jal zero,4; addi a1,sp,-16; addi a2,zero,1; addi a7,zero,63; ecall
-- fail input 1 => $ record in out | 222 ReadFault | none out
-
-# The first call of the files reads the input, and the second writes the profile; and sinks that are full.
-like countdown
-- fail files 1 => $ record in out | 222 ReadFault | none out
-- fail files 2 => $ record in out | 223 WriteFault | none out
-- room printed 0 => $ record in out | 223 WriteFault | starts out 1 @10078 0 1 @10078 4 0 1/
-- room printed a => $ record in out | 223 WriteFault [ended 0 a | starts out 1 @10078 0 1 @10078 4 0 1/";
+- => $ record in out | 225 Trapped 100 Fetch [trapped Fetch at 100 after 2 steps]/ | text out 1 @10078 0 1 @10078 4 0 1/";
 
 #[test]
 fn runs_are_recorded(rt: HostRuntime) -> Result<(), Fail> {

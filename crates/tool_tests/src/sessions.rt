@@ -108,7 +108,8 @@ fn answer(alloc: Global, files: &mut MemFiles, words: &str, line: &str) -> Resul
     let fail = number_said(words, "fail input ", 0)?;
     let mut input = MemSource::new(bytes, Vec::from_slice(alloc, &[fail])?);
     let room = number_said(words, "room printed ", 400)? as usize;
-    let mut out = MemSink::new(alloc, room, Vec::new(alloc))?;
+    let fail = number_said(words, "fail printed ", 0)?;
+    let mut out = MemSink::new(alloc, room, Vec::from_slice(alloc, &[fail])?)?;
     let status = tool(alloc, &args, files, &mut input, &mut out);
     let mut shown = show_status(alloc, status)?;
     if !out.taken().is_empty() {

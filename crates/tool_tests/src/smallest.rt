@@ -1,4 +1,4 @@
-// The smallest example: rewritten, and under files and a sink that fail.
+// The smallest example, rewritten to a file that is written out; maps that are printed; and files that aren't rewritten.
 use crate::sessions::{files_with, play, play_rows};
 use std::alloc::Global;
 use std::test::Fail;
@@ -87,30 +87,10 @@ fn the_example_is_rewritten(rt: HostRuntime) -> Result<(), Fail> {
     Ok(())
 }
 
-const FAILING: &str = "\
-# The first call of the files reads the input, and the second the profile.
-like exit7
-- fail files 1 => $ rewrite in profile out map | 222 ReadFault | none out | none map
-- fail files 2 => $ rewrite in profile out map | 222 ReadFault | none out | none map
-- fail files 1 => $ map in profile | 222 ReadFault
-- fail files 2 => $ map in profile | 222 ReadFault
-
-# The third call writes the output, and the fourth the map.
-like exit7
-- fail files 3 => $ rewrite in profile out map | 223 WriteFault | none out | none map
-- fail files 4 => $ rewrite in profile out map | 223 WriteFault | bytes out 0 7f454c46 | none map
-
-# The files are written whole, and the summary isn't.
-like exit7
-- room printed 0 => $ rewrite in profile out map | 223 WriteFault | bytes out 0 7f454c46 | starts map 10090 4 10078/
-- room printed a => $ rewrite in profile out map | 223 WriteFault moved 1 fu | bytes out 0 7f454c46
-     | starts map 10090 4 10078/
-
-# A map that is printed, and not whole.
+const MAPS: &str = "\
+# A map that is printed.
 like exit7
 - => $ map in profile | 0 Ok 10090 4 10078/10094 4 1007c/10098 4 10080/1009c 4 10084/ | none out
-- room printed 0 => $ map in profile | 223 WriteFault
-- room printed 15 => $ map in profile | 223 WriteFault 10090 4 10078/10094 4
 
 # A map of a loop.
 like countdown
@@ -124,6 +104,6 @@ like exit7
 - patch 150 0000000000010000 => $ rewrite in profile out map | 224 NoMemory | none out";
 
 #[test]
-fn files_and_sinks_that_fail(rt: HostRuntime) -> Result<(), Fail> {
-    play_rows(&rt, rt.alloc(), FAILING)
+fn maps_are_printed(rt: HostRuntime) -> Result<(), Fail> {
+    play_rows(&rt, rt.alloc(), MAPS)
 }

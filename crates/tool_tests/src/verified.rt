@@ -16,7 +16,6 @@ profile 10078 4 10078
 profile 10080 4 10080
 profile 1007c 4 1007c
 - => $ verify in in profile | 0 Ok faithful/ | none out
-- room printed 8 => $ verify in in profile | 223 WriteFault faithful
 
 # Texts that are no maps, or not of this code.
 like exit7
@@ -30,13 +29,10 @@ like exit7
   profile 1007c 4 1007a
   => $ verify in in profile | 228 Unfaithful(MapSpan, 65658) unfaithful MapSpan at 1007a/
 
-# Files that are refused, and files that can't be read.
+# Files that are refused.
 like exit7
 - => $ verify profile in profile | 221 NotElf 0 0 0 refused 1 NotElf at 0/
-- => $ verify in profile profile | 221 NotElf 0 0 0 refused 1 NotElf at 0 in OUT/
-- => $ verify nothing in profile | 222 ReadFault
-- => $ verify in nothing profile | 222 ReadFault
-- => $ verify in in nothing | 222 ReadFault";
+- => $ verify in profile profile | 221 NotElf 0 0 0 refused 1 NotElf at 0 in OUT/";
 
 #[test]
 fn files_are_judged(rt: HostRuntime) -> Result<(), Fail> {
