@@ -25,7 +25,7 @@ impl EdgeCounts {
         }
     }
 
-    /// One move more.
+    /// Counts one move more.
     pub fn add(&mut self, from: u64, to: u64) -> Result<(), NoMemory>
         requires { count_among from to (said_of self.old) < 2 ^ 64 - 1 }
         ensures { OnOk result ((x y : ℕ) → count_among x y (said_of self.new)

@@ -57,7 +57,7 @@ const JOINED_TIGHT: Places = Places {
     ..JOINED
 };
 
-// The same, with data that follows the code in the file, and is loaded pages above it.
+// Data follows the code in the file, and is loaded pages above it; all else is as in `JOINED`.
 const FOLLOWING: Places = Places {
     data: Some(Place {
         addr: 0x11_0428,

@@ -19,7 +19,7 @@ pub fn refused(alloc: Global, file: &[u8]) -> Option<(FaultKind, u64)> {
     }
 }
 
-// The same as text, or `read`.
+// The kind and place of what refuses a file, as text; or `read`.
 fn shown(alloc: Global, file: &[u8]) -> Result<String, Fail> {
     let shown = match refused(alloc, file) {
         Some((kind, place)) => format!(in alloc; "{kind:?} {place:x}")?,

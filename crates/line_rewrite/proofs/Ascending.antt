@@ -51,7 +51,8 @@ sequences_more : (sound : Option ℕ → Registers → Bool) (others : Bool) (fi
     → sound_behind sound others files last e o ≡ true → AllFollow files (sequences_behind list next rows e o)
 sequences_more sound others files list next rows last e None up more rest h = All-nil (λ (s : Sequence). Follow files None s.rows)
 sequences_more sound others files list next rows last Appends (Some r) up more rest h =
-    more (Some r.address) (after_row r) (and_parts (follows last r.address && nat_lt r.file files) (sound (Some r.address) (after_row r)) h).1
+    more (Some r.address) (after_row r) (and_parts (follows last r.address && nat_lt r.file files) (sound (Some r.address) (after_row r))
+    h).1
 sequences_more sound others files list next rows last Ends (Some r) up more rest h =
     All-cons (λ (s : Sequence). Follow files None s.rows) (record { rows = rows; end = r.address }) next up
     (rest (and_parts (follows last r.address) others h).1)

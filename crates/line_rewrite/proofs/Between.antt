@@ -18,7 +18,7 @@ use Rattle.rb_bytes.specs.declared.gap.Gap.{Gap}
 use Rattle.line_rewrite.specs.Walks.{Ascends, none_between}
 use Rattle.line_rewrite.proofs.InForce.{at_address, none_reached}
 use Rattle.line_rewrite.proofs.Lookups.{Before, kept_get, from_below, drop_none, row_rises, next_past}
-use Rattle.line_rewrite.proofs.Steps.{rows_step, rows_gap, rows_end, take_none}
+use Rattle.line_rewrite.proofs.Steps.{over_step, rows_gap, rows_end, take_none}
 
 -- Of rows that ascend, those up to either address.
 
@@ -143,12 +143,7 @@ module _ (coding : Coding) (r : Registers) (lengths bytes : List ℕ) (a b n : �
     between_step : (e : Effect) (o : Option Registers) → e ≡ effect_of op → o ≡ after_op coding op r
         → none_between a b (take n (rows_behind (λ r. rows_from coding r (operations coding.opcode_base lengths rest)) e o)) ≡ whole
     between_step e o is after =
-        ap (λ (e : Effect). none_between a b
-        (take n (rows_behind (λ r. rows_from coding r (operations coding.opcode_base lengths rest)) e o))) is
-        ∙ ap (λ (o : Option Registers). none_between a b
-        (take n (rows_behind (λ r. rows_from coding r (operations coding.opcode_base lengths rest))
-        (effect_of op) o))) after
-        ∙ sym (ap (λ (l : List Registers). none_between a b (take n l)) (rows_step coding r lengths bytes rest op read)) ∙ inv
+        over_step (λ l. none_between a b (take n l)) coding r lengths bytes rest op e o read is after ∙ inv
 
     pub between_stops : None ≡ after_op coding op r → true ≡ whole
     between_stops after = sym (none_taken a b n) ∙ between_step (effect_of op) None refl after

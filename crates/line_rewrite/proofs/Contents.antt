@@ -7,7 +7,8 @@ use Rattle.std.specs.Option.{option_or}
 use Rattle.rb_bytes.specs.Options.{only_if}
 use Rattle.line_rewrite.specs.declared.entry.Text.{Text}
 use Rattle.line_rewrite.specs.declared.content.TheConstants.{DW_LNCT_path, DW_LNCT_directory_index}
-use Rattle.line_rewrite.specs.Entries.{◌>>=◌, Value, Contents, Format, Named, Strings, text_of, index_of, form_here, read_value, contents_at, named, last_of, is_sound_content}
+use Rattle.line_rewrite.specs.Entries.{◌>>=◌, Value, Contents, Format, Named, Strings, text_of, index_of, form_here, read_value}
+use Rattle.line_rewrite.specs.Entries.{contents_at, named, last_of, is_sound_content}
 use Rattle.line_rewrite.specs.KeptEntries.{told_name}
 use Rattle.line_rewrite.specs.EntrySteps.{entry_at, Found, nothing_found, with_path, with_directory, found_more, found_at, found_named}
 
@@ -48,7 +49,8 @@ abbrev found_from : Strings → ℕ → Format → Found → ℕ × List ℕ →
 found_from strings type format f form = read_value form.0 form.1 >>= found_after strings type format f
 
 -- the contents behind one, where it says g
-behind_some : (strings : Strings) (type : ℕ) (v : Value) (f g : Found) (r : Option (Contents × List ℕ)) → found_more strings type v f ≡ Some g
+behind_some : (strings : Strings) (type : ℕ) (v : Value) (f g : Found) (r : Option (Contents × List ℕ)) →
+    found_more strings type v f ≡ Some g
     → (r >>= taken strings g) ≡ ((r >>= put_content type v) >>= taken strings f)
 behind_some strings type v f g None e = refl
 behind_some strings type v f g (Some more) e =
@@ -63,7 +65,8 @@ behind_not strings type v f (Some more) e =
 abbrev Reads : Strings → Format → Type 0
 Reads strings format = (g : Found) (left : List ℕ) → found_at strings format g left ≡ found_over strings format g left
 
-more_then : (strings : Strings) (type : ℕ) (format : Format) (f : Found) (v : Value) (left : List ℕ) (m : Option Found) → found_more strings type v f ≡ m
+more_then : (strings : Strings) (type : ℕ) (format : Format) (f : Found) (v : Value) (left : List ℕ) (m : Option Found) →
+    found_more strings type v f ≡ m
     → Reads strings format
     → (m >>= found_behind strings format left) ≡ ((contents_at format left >>= put_content type v) >>= taken strings f)
 more_then strings type format f v left None is e = sym (behind_not strings type v f (contents_at format left) is)
@@ -79,7 +82,8 @@ form_then : (strings : Strings) (type : ℕ) (format : Format) (f : Found) (o : 
 form_then strings type format f None e = refl
 form_then strings type format f (Some form) e = value_then strings type format f (read_value form.0 form.1) e
 
-found_is : (strings : Strings) (format : Format) (f : Found) (left : List ℕ) → found_at strings format f left ≡ found_over strings format f left
+found_is : (strings : Strings) (format : Format) (f : Found) (left : List ℕ) →
+    found_at strings format f left ≡ found_over strings format f left
 unfolding found_at
 found_is strings [] f left = refl
 found_is strings (field ∷ format) f left = form_then strings field.0 format f (form_here field.1 left) (found_is strings format)
@@ -106,7 +110,8 @@ path_more : (strings : Strings) (name text : Option (List ℕ)) (v : Value) (las
 path_more strings name text v None e = e
 path_more strings name text v (Some w) e = refl
 
-directory_more : (n m : Option ℕ) (v : Value) (last : Option Value) → index_of (Some v) ≡ m → directory_or n (option_or last (Some v)) ≡ directory_or m last
+directory_more : (n m : Option ℕ) (v : Value) (last : Option Value) → index_of (Some v) ≡ m →
+    directory_or n (option_or last (Some v)) ≡ directory_or m last
 directory_more n m v None e = e
 directory_more n m v (Some w) e = refl
 
@@ -122,7 +127,8 @@ abbrev all_say : Strings → Contents → Found → Option Value → Option Valu
 all_say strings cs f path directory sound = only_if (sound && list_all (is_sound_content strings) cs)
     (found_of strings f (option_or (last_of DW_LNCT_path cs) path) (option_or (last_of DW_LNCT_directory_index cs) directory))
 
-path_content : (strings : Strings) (v : Value) (f : Found) (cs : Contents) (text : Option (List ℕ)) → text_of strings v ≡ text → Joins strings cs
+path_content : (strings : Strings) (v : Value) (f : Found) (cs : Contents) (text : Option (List ℕ)) → text_of strings v ≡ text →
+    Joins strings cs
     → (with_path f text >>= from_here strings cs) ≡ all_say strings cs f (Some v) None (is_some text)
 path_content strings v f cs None e j = refl
 path_content strings v f cs (Some name) e j =
@@ -168,7 +174,8 @@ apart t e = grind (arith, nat_tests)
 
 joins : (strings : Strings) (cs : Contents) → Joins strings cs
 joins strings [] f = refl
-joins strings (c ∷ cs) f = one_content strings c.1 f cs (c.0 == DW_LNCT_path) (c.0 == DW_LNCT_directory_index) (apart c.0) (joins strings cs)
+joins strings (c ∷ cs) f = one_content strings c.1 f cs (c.0 == DW_LNCT_path) (c.0 == DW_LNCT_directory_index) (apart c.0)
+    (joins strings cs)
 
 -- the definition's last steps
 abbrev with_index : List ℕ → ℕ → Option Named
@@ -210,32 +217,42 @@ end : (rest : List ℕ) (o : Option Found) → ((o >>= with_left rest) >>= as_en
 end rest None = refl
 end rest (Some g) = refl
 
-entry_by : (strings : Strings) (o : Option (Contents × List ℕ)) → ((o >>= taken strings nothing_found) >>= as_entry) ≡ (o >>= entry_from strings)
+entry_by : (strings : Strings) (o : Option (Contents × List ℕ)) →
+    ((o >>= taken strings nothing_found) >>= as_entry) ≡ (o >>= entry_from strings)
 entry_by strings None = refl
 entry_by strings (Some c) =
     end c.1 (over strings nothing_found c.0) ∙ ap (λ (o : Option Named). o >>= with_rest c.1) (named_is strings c.0)
 
-pub entry_is : (strings : Strings) (format : Format) (left : List ℕ) → (found_at strings format nothing_found left >>= as_entry) ≡ entry_at strings format left
+pub entry_is : (strings : Strings) (format : Format) (left : List ℕ) →
+    (found_at strings format nothing_found left >>= as_entry) ≡ entry_at strings format left
 entry_is strings format left =
     ap (λ (o : Option (Found × List ℕ)). o >>= as_entry) (found_is strings format nothing_found left)
     ∙ entry_by strings (contents_at format left)
 
 -- where the contents can be read, and where they say a path
-pub entry_of : (strings : Strings) (format : Format) (left rest : List ℕ) (f : Found) → found_at strings format nothing_found left ≡ Some (f, rest)
+pub entry_of : (strings : Strings) (format : Format) (left rest : List ℕ) (f : Found) →
+    found_at strings format nothing_found left ≡ Some (f, rest)
     → entry_at strings format left ≡ (found_named f >>= with_rest rest)
 entry_of strings format left rest f e = sym (entry_is strings format left) ∙ ap (λ (o : Option (Found × List ℕ)). o >>= as_entry) e
 
-pub no_entry : (strings : Strings) (format : Format) (left : List ℕ) → found_at strings format nothing_found left ≡ None → entry_at strings format left ≡ None
+pub no_entry : (strings : Strings) (format : Format) (left : List ℕ) → found_at strings format nothing_found left ≡ None →
+    entry_at strings format left ≡ None
 no_entry strings format left e = sym (entry_is strings format left) ∙ ap (λ (o : Option (Found × List ℕ)). o >>= as_entry) e
 
 pub entry_read : (strings : Strings) (format : Format) (left rest : List ℕ) (path : Option Text) (text : Text) (directory : ℕ)
-    → found_at strings format nothing_found left ≡ Some (record { path = option_map (told_name strings) path; directory = Some directory }, rest) → path ≡ Some text
+    → found_at strings format nothing_found left ≡ Some (
+      record { path = option_map (told_name strings) path; directory = Some directory },
+      rest,
+    ) → path ≡ Some text
     → entry_at strings format left ≡ Some (record { name = told_name strings text; directory = directory }, rest)
 entry_read strings format left rest path text directory e is =
     entry_of strings format left rest (record { path = option_map (told_name strings) path; directory = Some directory }) e ∙ rw is refl
 
 pub entry_pathless : (strings : Strings) (format : Format) (left rest : List ℕ) (path : Option Text) (directory : ℕ)
-    → found_at strings format nothing_found left ≡ Some (record { path = option_map (told_name strings) path; directory = Some directory }, rest) → path ≡ None
+    → found_at strings format nothing_found left ≡ Some (
+      record { path = option_map (told_name strings) path; directory = Some directory },
+      rest,
+    ) → path ≡ None
     → entry_at strings format left ≡ None
 entry_pathless strings format left rest path directory e is =
     entry_of strings format left rest (record { path = option_map (told_name strings) path; directory = Some directory }) e ∙ rw is refl

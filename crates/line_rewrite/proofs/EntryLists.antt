@@ -1,5 +1,6 @@
 -- Lists of fields and of entries, read one at a time.
-use Rattle.std.proofs.Common.{◌≡◌, ◌<◌, ◌≤◌, ◌+◌, ◌-◌, ◌++◌, ℕ, zero, suc, Bool, true, false, List, [], ◌∷◌, refl, sym, ap, arith, length, drop, get_or, append_assoc, add-one, drop-cons, Option, Some, None, Ok, Err}
+use Rattle.std.proofs.Common.{◌≡◌, ◌<◌, ◌≤◌, ◌+◌, ◌-◌, ◌++◌, ℕ, zero, suc, Bool, true, false, List, [], ◌∷◌, refl, sym, ap, arith, length}
+use Rattle.std.proofs.Common.{drop, get_or, append_assoc, add-one, drop-cons, Option, Some, None, Ok, Err}
 use Rattle.std.specs.Prelude.{◌&&◌, nat_le}
 use Rattle.std.proofs.lemmas.Grind.{common_steps}
 use Rattle.rb_bytes.specs.declared.gap.Gap.{Gap}
@@ -12,7 +13,8 @@ use Rattle.line_rewrite.specs.declared.content.TheConstants.{DW_LNCT_path, DW_LN
 use Rattle.line_rewrite.specs.declared.trouble.Trouble.{Trouble}
 use Rattle.line_rewrite.specs.declared.trouble.Trouble.TheVariants.{Malformed, Memory}
 use Rattle.line_rewrite.specs.Troubles.{Tells}
-use Rattle.line_rewrite.specs.Entries.{◌>>=◌, ok, Value, Contents, Format, Named, Strings, form_here, read_value, format_at, entries_at, table_at, contents_at, named}
+use Rattle.line_rewrite.specs.Entries.{◌>>=◌, ok, Value, Contents, Format, Named, Strings, form_here, read_value, format_at, entries_at}
+use Rattle.line_rewrite.specs.Entries.{table_at, contents_at, named}
 use Rattle.line_rewrite.specs.KeptEntries.{told_field, told_format}
 use Rattle.line_rewrite.specs.EntrySteps.{times, field_at, entry_at, Found, found_more, found_at}
 
@@ -125,7 +127,8 @@ contents_then : (strings : Strings) (format : Format) (n : ℕ) (o : Option (Con
 contents_then strings format n None e = refl
 contents_then strings format n (Some contents) e = entry_then strings format n contents.1 (named strings contents.0) (e contents.1)
 
-pub entries_times : (strings : Strings) (format : Format) (n : ℕ) (left : List ℕ) → entries_at strings format n left ≡ times (entry_at strings format) n left
+pub entries_times : (strings : Strings) (format : Format) (n : ℕ) (left : List ℕ) →
+    entries_at strings format n left ≡ times (entry_at strings format) n left
 entries_times strings format zero left = refl
 entries_times strings format (suc n) left = contents_then strings format n (contents_at format left) (entries_times strings format n)
 
@@ -133,10 +136,12 @@ entries_times strings format (suc n) left = contents_then strings format n (cont
 
 fields_left : (format : List Field) (i : ℕ) (d : Field) → i < length format
     → told_format (drop i format) ≡ told_field (get_or format i d) ∷ told_format (drop (i + 1) format)
-fields_left format i d h = let e : drop i format ≡ get_or format i d ∷ drop (i + 1) format = rw (add-one, drop-cons format i d) refl in ap told_format e
+fields_left format i d h = let e : drop i format ≡ get_or format i d ∷ drop (i + 1) format = rw (add-one, drop-cons format i d) refl in
+    ap told_format e
 
 module _ (strings : Strings) (format : List Field) (i : ℕ) (d : Field) (h : i < length format) (f : Found) (left : List ℕ) where
-  pub found_step : (form : ℕ) (l1 l2 : List ℕ) (v : Value) (more : Found) → form_here (get_or format i d).form left ≡ Some (form, l1) → read_value form l1 ≡ Some (v, l2)
+  pub found_step : (form : ℕ) (l1 l2 : List ℕ) (v : Value) (more : Found) → form_here (get_or format i d).form left ≡ Some (form, l1) →
+      read_value form l1 ≡ Some (v, l2)
       → found_more strings (get_or format i d).content v f ≡ Some more
       → found_at strings (told_format (drop i format)) f left ≡ found_at strings (told_format (drop (i + 1) format)) more l2
   unfolding found_at
@@ -151,7 +156,8 @@ module _ (strings : Strings) (format : List Field) (i : ℕ) (d : Field) (h : i 
   unfolding found_at
   found_no_value form l1 a b = rw (fields_left format i d h, a, b) refl
 
-  pub found_no_more : (form : ℕ) (l1 l2 : List ℕ) (v : Value) → form_here (get_or format i d).form left ≡ Some (form, l1) → read_value form l1 ≡ Some (v, l2)
+  pub found_no_more : (form : ℕ) (l1 l2 : List ℕ) (v : Value) → form_here (get_or format i d).form left ≡ Some (form, l1) →
+      read_value form l1 ≡ Some (v, l2)
       → found_more strings (get_or format i d).content v f ≡ None → found_at strings (told_format (drop i format)) f left ≡ None
   unfolding found_at
   found_no_more form l1 l2 v a b m = rw (fields_left format i d h, a, b, m) refl

@@ -23,7 +23,8 @@ IsUnitKept u k = IsKept u.header.coding u.header.lengths.items u.program.items k
 abbrev pub numbered_said : Strings → ℕ → Numbered → LineSaid
 numbered_said strings a x = record { unit = x.number; rows = rows_said (told_unit strings x.unit) a (unit_sequence x.unit x.sequence) }
 
-pub map_cond : {X Y : Type 0} (f : X → Y) (b : Bool) (x : X) (o : Option X) → option_map f (cond b (Some x) o) ≡ cond b (Some (f x)) (option_map f o)
+pub map_cond : {X Y : Type 0} (f : X → Y) (b : Bool) (x : X) (o : Option X) →
+    option_map f (cond b (Some x) o) ≡ cond b (Some (f x)) (option_map f o)
 map_cond f true x o = refl
 map_cond f false x o = refl
 
@@ -41,10 +42,14 @@ module _ (strings : Strings) (a n : ℕ) (u : kept.Unit) where
       let x : Numbered = record { number = n; index = i; unit = u; sequence = k } in
       let same : holds_address a (range_of (unit_sequence u k)) ≡ holds_address a (kept_range x) =
       ap (λ (l : ℕ). holds_address a (record { low = l; high = k.end })) (sym low) in
-      map_cond say (holds_address a (range_of (unit_sequence u k))) (unit_sequence u k) (find (λ s. holds_address a (range_of s)) (map (unit_sequence u) ks))
-      ∙ ap (λ (b : Bool). cond b (Some (say (unit_sequence u k))) (option_map say (find (λ s. holds_address a (range_of s)) (map (unit_sequence u) ks)))) same
-      ∙ ap (cond (holds_address a (kept_range x)) (Some (say (unit_sequence u k)))) (unit_found (i + 1) ks (All-tail (IsUnitKept u) k ks are))
-      ∙ sym (map_cond (numbered_said strings a) (holds_address a (kept_range x)) x (find (λ x. holds_address a (kept_range x)) (numbered n u (i + 1) ks)))
+      map_cond say (holds_address a (range_of (unit_sequence u k))) (unit_sequence u k)
+      (find (λ s. holds_address a (range_of s)) (map (unit_sequence u) ks))
+      ∙ ap (λ (b : Bool). cond b (Some (say (unit_sequence u k)))
+      (option_map say (find (λ s. holds_address a (range_of s)) (map (unit_sequence u) ks)))) same
+      ∙ ap (cond (holds_address a (kept_range x)) (Some (say (unit_sequence u k))))
+      (unit_found (i + 1) ks (All-tail (IsUnitKept u) k ks are))
+      ∙ sym (map_cond (numbered_said strings a) (holds_address a (kept_range x)) x
+      (find (λ x. holds_address a (kept_range x)) (numbered n u (i + 1) ks)))
 
   pub unit_said : option_map (λ s. record { unit = n; rows = rows_said (told_unit strings u) a s })
       (find (λ s. holds_address a (range_of s)) (told_unit strings u).sequences)
@@ -61,9 +66,12 @@ unfolding all_numbered
 said_found strings a n [] = refl
 said_found strings a n (u ∷ us) =
     ap (λ (o : Option LineSaid). option_or o (said_at (n + 1) (map (told_unit strings) us) a)) (unit_said strings a n u)
-    ∙ ap (option_or (option_map (numbered_said strings a) (find (λ x. holds_address a (kept_range x)) (unit_numbered n u)))) (said_found strings a (n + 1) us)
-    ∙ sym (mapped_or (numbered_said strings a) (find (λ x. holds_address a (kept_range x)) (unit_numbered n u)) (find (λ x. holds_address a (kept_range x)) (all_numbered (n + 1) us)))
-    ∙ sym (ap (option_map (numbered_said strings a)) (find-append (λ x. holds_address a (kept_range x)) (unit_numbered n u) (all_numbered (n + 1) us)))
+    ∙ ap (option_or (option_map (numbered_said strings a) (find (λ x. holds_address a (kept_range x)) (unit_numbered n u))))
+    (said_found strings a (n + 1) us)
+    ∙ sym (mapped_or (numbered_said strings a) (find (λ x. holds_address a (kept_range x)) (unit_numbered n u))
+    (find (λ x. holds_address a (kept_range x)) (all_numbered (n + 1) us)))
+    ∙ sym (ap (option_map (numbered_said strings a)) (find-append (λ x. holds_address a (kept_range x)) (unit_numbered n u)
+    (all_numbered (n + 1) us)))
 
 -- where a numbered sequence stands
 
@@ -72,7 +80,8 @@ pub record Stands (us : List kept.Unit) (n : ℕ) (x : Numbered) : Type 0 where
   pub unit : slice_get us (x.number - n) ≡ Some x.unit
   pub sequence : slice_get x.unit.sequences.items x.index ≡ Some x.sequence
 
-front_of : {X : Type 0} (xs : List X) (i : ℕ) (x : X) (rest : List X) → drop i xs ≡ x ∷ rest → (slice_get xs i ≡ Some x) × (drop (suc i) xs ≡ rest)
+front_of : {X : Type 0} (xs : List X) (i : ℕ) (x : X) (rest : List X) → drop i xs ≡ x ∷ rest →
+    (slice_get xs i ≡ Some x) × (drop (suc i) xs ≡ rest)
 front_of [] zero x rest e = absurd (cc)
 front_of [] (suc i) x rest e = absurd (cc)
 front_of (y ∷ xs) zero x rest e = (cc, cc)
@@ -110,5 +119,6 @@ found_has : {X : Type 0} (P : X → Type 0) (p : X → Bool) (xs : List X) (x : 
 found_has P p [] x are e = absurd (cc)
 found_has P p (y ∷ xs) x are e = found_here P y x (p y) (find p xs) (All-head P y xs are) (found_has P p xs x (All-tail P y xs are)) e
 
-pub found_stands : (us : List kept.Unit) (a : ℕ) (x : Numbered) → find (λ x. holds_address a (kept_range x)) (all_numbered 0 us) ≡ Some x → Stands us 0 x
+pub found_stands : (us : List kept.Unit) (a : ℕ) (x : Numbered) → find (λ x. holds_address a (kept_range x)) (all_numbered 0 us) ≡ Some x →
+    Stands us 0 x
 found_stands us a x e = found_has (Stands us 0) (λ x. holds_address a (kept_range x)) (all_numbered 0 us) x (all_stand 0 us) e

@@ -1,5 +1,6 @@
 -- Headers and units, read in parts.
-use Rattle.std.proofs.Common.{◌≡◌, ◌∙◌, ◌<◌, ◌-◌, ℕ, Bool, true, false, List, [], ◌∷◌, Option, Some, None, Ok, Err, Result, refl, sym, ap, arith, length, take, drop, ◌⊎◌, inl, inr}
+use Rattle.std.proofs.Common.{◌≡◌, ◌∙◌, ◌<◌, ◌-◌, ℕ, Bool, true, false, List, [], ◌∷◌, Option, Some, None, Ok, Err, Result, refl, sym, ap}
+use Rattle.std.proofs.Common.{arith, length, take, drop, ◌⊎◌, inl, inr}
 use Rattle.std.specs.Prelude.{◌==◌, ◌&&◌, nat_lt, if◌then◌else◌}
 use Rattle.std.specs.List.{list_all}
 use Rattle.std.proofs.lemmas.List.{length-map}
@@ -22,7 +23,8 @@ use Rattle.line_rewrite.specs.KeptUnits.{are_filed, told_header, tables_at, Oute
 use Rattle.line_rewrite.specs.SoundPrograms.{is_sound}
 
 -- what is read first, in a part of its own
-split : {A B C : Type 0} (o : Option A) (f : A → Option B) (k : B → Option C) (h : A → Option C) → ((a : A) → (f a >>= k) ≡ h a) → ((o >>= f) >>= k) ≡ (o >>= h)
+split : {A B C : Type 0} (o : Option A) (f : A → Option B) (k : B → Option C) (h : A → Option C) → ((a : A) → (f a >>= k) ≡ h a) →
+    ((o >>= f) >>= k) ≡ (o >>= h)
 split None f k h e = refl
 split (Some a) f k h e = e a
 
@@ -50,22 +52,26 @@ unit_split strings bytes =
 told_filed : (strings : Strings) (n m : ℕ) (files : List Entry) → n ≡ m
     → list_all (λ f. nat_lt f.directory n) (told_entries strings files) ≡ are_filed m files
 told_filed strings n m [] e = refl
-told_filed strings n m (f ∷ files) e = ap (λ (k : ℕ). nat_lt f.directory k && list_all (λ g. nat_lt g.directory n) (told_entries strings files)) e
+told_filed strings n m (f ∷ files) e = ap (λ (k : ℕ). nat_lt f.directory k && list_all (λ g. nat_lt g.directory n)
+    (told_entries strings files)) e
     ∙ ap (λ (b : Bool). nat_lt f.directory m && b) (told_filed strings n m files e)
 
 pub told_count : (strings : Strings) (es : List Entry) → length (told_entries strings es) ≡ length es
 told_count strings es = length-map es (told_entry strings)
 
 pub filed_is : (strings : Strings) (directories files : List Entry)
-    → list_all (λ f. nat_lt f.directory (length (told_entries strings directories))) (told_entries strings files) ≡ are_filed (length directories) files
-filed_is strings directories files = told_filed strings (length (told_entries strings directories)) (length directories) files (told_count strings directories)
+    → list_all (λ f. nat_lt f.directory (length (told_entries strings directories))) (told_entries strings files) ≡ are_filed
+    (length directories) files
+filed_is strings directories files = told_filed strings (length (told_entries strings directories)) (length directories) files
+    (told_count strings directories)
 
 -- a header, by the parts that were read
 
 module _ (strings : Strings) (bytes : List ℕ) where
   pub header_from : (coding : Coding) (maximum : ℕ) (left : List ℕ) → coding_at bytes ≡ Some ((coding, maximum), left)
       → header_in strings bytes ≡ header_behind strings coding maximum left
-  header_from coding maximum left e = sym (header_split strings bytes) ∙ ap (λ (o : Option ((Coding × ℕ) × List ℕ)). o >>= header_then strings) e
+  header_from coding maximum left e = sym (header_split strings bytes)
+      ∙ ap (λ (o : Option ((Coding × ℕ) × List ℕ)). o >>= header_then strings) e
 
   pub header_lacks : coding_at bytes ≡ None → header_in strings bytes ≡ None
   header_lacks e = sym (header_split strings bytes) ∙ ap (λ (o : Option ((Coding × ℕ) × List ℕ)). o >>= header_then strings) e
@@ -103,10 +109,18 @@ module _ (strings : Strings) (coding : Coding) (maximum : ℕ) (left : List ℕ)
         → header_behind strings coding maximum left ≡ None
     no_files directories l d e = rw (here, d, e) refl
 
-    module _ (directories files : List Named) (l m : List ℕ) (d : table_at strings rest ≡ Some (directories, l)) (f : table_at strings l ≡ Some (files, m)) where
+    module _ (directories files : List Named) (l m : List ℕ) (d : table_at strings rest ≡ Some (directories, l))
+        (f : table_at strings l ≡ Some (files, m)) where
       pub header_is : header_behind strings coding maximum left
           ≡ only_if (are_numbers coding maximum && filed directories files)
-          (record { coding = coding; lengths = lengths; tables = take (length rest - length m) rest; directories = directories; files = files })
+          (record {
+            coding = coding;
+            lengths = lengths;
+            tables = take (length rest - length m) rest;
+            directories = directories;
+            files =
+                files;
+          })
       header_is = rw (here, d, f) refl
 
       pub tables_are : tables_at strings rest ≡ Some (directories, files, length rest - length m)
@@ -132,9 +146,12 @@ all_taken n left taken after is e =
     first f = sym (ap front f)
 
 -- what is kept of a header, by its fields
-pub header_made : (strings : Strings) (bytes left lengths ls behind rest l m : List ℕ) (coding : Coding) (maximum n : ℕ) (ds fs : List Entry)
-    → coding_at bytes ≡ Some ((coding, maximum), left) → are_numbers coding maximum ≡ true → bytes_at (coding.opcode_base - 1) left ≡ Ok (lengths, behind)
-    → ls ≡ lengths → rest ≡ behind → table_at strings behind ≡ Some (told_entries strings ds, l) → table_at strings l ≡ Some (told_entries strings fs, m)
+pub header_made : (strings : Strings) (bytes left lengths ls behind rest l m : List ℕ) (coding : Coding) (maximum n : ℕ)
+    (ds fs : List Entry)
+    → coding_at bytes ≡ Some ((coding, maximum), left) → are_numbers coding maximum ≡ true →
+    bytes_at (coding.opcode_base - 1) left ≡ Ok (lengths, behind)
+    → ls ≡ lengths → rest ≡ behind → table_at strings behind ≡ Some (told_entries strings ds, l) →
+    table_at strings l ≡ Some (told_entries strings fs, m)
     → are_filed (length ds) fs ≡ true → n ≡ length behind - length m
     → header_in strings bytes ≡ Some (record {
       coding = coding;
@@ -149,7 +166,8 @@ header_made strings bytes left lengths ls behind rest l m coding maximum n ds fs
     ∙ rw (good, filed_is strings ds fs ∙ filed, es, er, size) refl
 
 pub tables_made : (strings : Strings) (behind rest l m : List ℕ) (n : ℕ) (ds fs : List Entry) → rest ≡ behind
-    → table_at strings behind ≡ Some (told_entries strings ds, l) → table_at strings l ≡ Some (told_entries strings fs, m) → n ≡ length behind - length m
+    → table_at strings behind ≡ Some (told_entries strings ds, l) → table_at strings l ≡ Some (told_entries strings fs, m) →
+    n ≡ length behind - length m
     → tables_at strings rest ≡ Some (told_entries strings ds, told_entries strings fs, n)
 unfolding tables_at
 tables_made strings behind rest l m n ds fs er d f size = rw (er, d, f, size) refl
@@ -173,18 +191,21 @@ sound_is : (strings : Strings) (h : code.Header) (program : List ℕ)
     → is_sound_program (told_header strings h) program ≡ is_sound h.coding (length h.files.items) h.lengths.items program
 sound_is strings h program =
     ap (λ (n : ℕ). is_whole h.coding.opcode_base h.lengths.items program
-    && sound_from h.coding n None (start h.coding) (operations h.coding.opcode_base h.lengths.items program)) (told_count strings h.files.items)
+    && sound_from h.coding n None (start h.coding) (operations h.coding.opcode_base h.lengths.items program))
+    (told_count strings h.files.items)
 
 module _ (strings : Strings) (bytes : List ℕ) (o : Outer) (outer : outer_at bytes ≡ Some o) where
   pub unit_headless : header_in strings o.fields ≡ None → unit_of strings bytes ≡ None
   unit_headless e = unit_from strings bytes o outer ∙ rw e refl
 
   module _ (h : code.Header) (header : header_in strings o.fields ≡ Some (told_header strings h)) where
-    by_tests : (sizes sound : Bool) → (o.address_size == 8 && o.segment_size == 0) ≡ sizes → is_sound h.coding (length h.files.items) h.lengths.items o.program ≡ sound
+    by_tests : (sizes sound : Bool) → (o.address_size == 8 && o.segment_size == 0) ≡ sizes →
+        is_sound h.coding (length h.files.items) h.lengths.items o.program ≡ sound
         → unit_of strings bytes ≡ only_if (sizes && sound) (unit_with (told_header strings h) o.program)
     by_tests sizes sound a b =
         unit_from strings bytes o outer ∙ rw header refl
-        ∙ ap (λ (t : Bool). only_if (t && is_sound_program (told_header strings h) o.program) (unit_with (told_header strings h) o.program)) a
+        ∙ ap (λ (t : Bool). only_if (t && is_sound_program (told_header strings h) o.program) (unit_with (told_header strings h) o.program))
+        a
         ∙ ap (λ (t : Bool). only_if (sizes && t) (unit_with (told_header strings h) o.program)) (sound_is strings h o.program ∙ b)
 
     pub unit_sized : (o.address_size == 8 && o.segment_size == 0) ≡ false → unit_of strings bytes ≡ None
@@ -197,14 +218,16 @@ module _ (strings : Strings) (bytes : List ℕ) (o : Outer) (outer : outer_at by
         none true = refl
         none false = refl
 
-    pub unit_made : (program : List ℕ) → o.address_size ≡ 8 → o.segment_size ≡ 0 → is_sound h.coding (length h.files.items) h.lengths.items o.program ≡ true → program ≡ o.program
+    pub unit_made : (program : List ℕ) → o.address_size ≡ 8 → o.segment_size ≡ 0 →
+        is_sound h.coding (length h.files.items) h.lengths.items o.program ≡ true → program ≡ o.program
         → unit_of strings bytes ≡ Some (unit_with (told_header strings h) program)
     unit_made program a b s e =
         by_tests true true (rw (a, b) refl) s ∙ ap (λ (p : List ℕ). Some (unit_with (told_header strings h) p)) (sym e)
 
 -- what the tests of the numbers and sizes tell
 
-pub numbers_true : (coding : Coding) (maximum : ℕ) → maximum ≡ 1 → 0 < coding.line_range → 0 < coding.opcode_base → are_numbers coding maximum ≡ true
+pub numbers_true : (coding : Coding) (maximum : ℕ) → maximum ≡ 1 → 0 < coding.line_range → 0 < coding.opcode_base →
+    are_numbers coding maximum ≡ true
 numbers_true coding maximum a b d =
     let t : nat_lt 0 coding.line_range ≡ true = grind (arith, nat_tests) in
     let u : nat_lt 0 coding.opcode_base ≡ true = grind (arith, nat_tests) in
@@ -231,12 +254,17 @@ not_nothing n f = by (n == 0) refl
     by true e = absurd (f (grind (arith, nat_tests)))
     by false e = e
 
-pub numbers_false : (coding : Coding) (maximum : ℕ) → (maximum ≡ 1 → ⊥) ⊎ (((maximum ≡ 1) × (coding.line_range ≡ 0)) ⊎ ((maximum ≡ 1) × (coding.line_range ≡ 0 → ⊥) × (coding.opcode_base ≡ 0))) → are_numbers coding maximum ≡ false
+pub numbers_false : (coding : Coding) (maximum : ℕ) → (maximum ≡ 1 → ⊥)
+    ⊎ (((maximum ≡ 1) × (coding.line_range ≡ 0)) ⊎ ((maximum ≡ 1) × (coding.line_range ≡ 0 → ⊥) × (coding.opcode_base ≡ 0))) →
+    are_numbers coding maximum ≡ false
 numbers_false coding maximum (inl f) =
-    and_left (maximum == 1 && nat_lt 0 coding.line_range) (nat_lt 0 coding.opcode_base) (and_left (maximum == 1) (nat_lt 0 coding.line_range) (not_one maximum f))
+    and_left (maximum == 1 && nat_lt 0 coding.line_range) (nat_lt 0 coding.opcode_base)
+    (and_left (maximum == 1) (nat_lt 0 coding.line_range) (not_one maximum f))
 numbers_false coding maximum (inr (inl e)) =
-    and_left (maximum == 1 && nat_lt 0 coding.line_range) (nat_lt 0 coding.opcode_base) (and_right (maximum == 1) (nat_lt 0 coding.line_range) (ap (nat_lt 0) e.1))
-numbers_false coding maximum (inr (inr e)) = and_right (maximum == 1 && nat_lt 0 coding.line_range) (nat_lt 0 coding.opcode_base) (ap (nat_lt 0) e.2)
+    and_left (maximum == 1 && nat_lt 0 coding.line_range) (nat_lt 0 coding.opcode_base)
+    (and_right (maximum == 1) (nat_lt 0 coding.line_range) (ap (nat_lt 0) e.1))
+numbers_false coding maximum (inr (inr e)) = and_right (maximum == 1 && nat_lt 0 coding.line_range) (nat_lt 0 coding.opcode_base)
+    (ap (nat_lt 0) e.2)
 
 pub sizes_false : (a b : ℕ) → (a ≡ 8 → ⊥) ⊎ ((a ≡ 8) × (b ≡ 0 → ⊥)) → (a == 8 && b == 0) ≡ false
 sizes_false a b (inl f) = and_left (a == 8) (b == 0) (not_eight a f)
@@ -257,7 +285,8 @@ taken_length n left taken after e = by (nat_lt (length left) n) refl e
     first : {xs ys : List ℕ} → read_as xs ys ≡ Ok (taken, after) → xs ≡ taken
     first f = ap front f
 
-    by : (b : Bool) → nat_lt (length left) n ≡ b → (if b then Err Short else read_as (take n left) (drop n left)) ≡ Ok (taken, after) → length taken ≡ n
+    by : (b : Bool) → nat_lt (length left) n ≡ b → (if b then Err Short else read_as (take n left) (drop n left)) ≡ Ok (taken, after) →
+        length taken ≡ n
     by true t f = absurd (cc)
     by false t f =
         let size : length (take n left) ≡ n = grind (arith, nat_tests, common_steps) in

@@ -1,5 +1,6 @@
 -- The rows in force, of rows that ascend.
-use Rattle.std.proofs.Common.{◌≡◌, ◌<◌, ◌≤◌, ◌==◌, ◌++◌, ℕ, List, [], ◌∷◌, refl, arith, sym, ◌∙◌, ap, append_assoc, Bool, true, false, cond, nat_le, max, subst, ◌⊎◌, inl, inr}
+use Rattle.std.proofs.Common.{◌≡◌, ◌<◌, ◌≤◌, ◌==◌, ◌++◌, ℕ, List, [], ◌∷◌, refl, arith, sym, ◌∙◌, ap, append_assoc, Bool, true, false, cond}
+use Rattle.std.proofs.Common.{nat_le, max, subst, ◌⊎◌, inl, inr}
 use Rattle.std.specs.Prelude.{filter}
 use Rattle.std.proofs.lemmas.Grind.{common_steps}
 use Rattle.std.proofs.lemmas.Bool.Decides.{nat_tests}
@@ -26,11 +27,13 @@ kept_append false x xs ys zs e = e
 
 greatest_append : (xs ys : List Registers) → greatest_address (xs ++ ys) ≡ max (greatest_address xs) (greatest_address ys)
 greatest_append [] ys = grind (arith, nat_tests)
-greatest_append (x ∷ xs) ys = let h : greatest_address (xs ++ ys) ≡ max (greatest_address xs) (greatest_address ys) = greatest_append xs ys in grind (arith, nat_tests)
+greatest_append (x ∷ xs) ys = let h : greatest_address (xs ++ ys) ≡ max (greatest_address xs) (greatest_address ys) = greatest_append xs ys
+    in grind (arith, nat_tests)
 
 greatest_below : (m : ℕ) (xs : List Registers) → AllBelow m xs → greatest_address xs ≤ m
 greatest_below m [] b = omega arith
-greatest_below m (x ∷ xs) b = let h : greatest_address xs ≤ m = greatest_below m xs b.1 in let i : x.address < m = b.0 in grind (arith, nat_tests)
+greatest_below m (x ∷ xs) b = let h : greatest_address xs ≤ m = greatest_below m xs b.1 in let i : x.address < m = b.0 in
+    grind (arith, nat_tests)
 
 none_at : (m g : ℕ) (xs : List Registers) → AllBelow m xs → m ≤ g → at_address g xs ≡ []
 none_at m g [] b h = refl
@@ -47,7 +50,8 @@ reached_below m a [] b = tt
 reached_below m a (x ∷ xs) b = below_kept m (nat_le x.address a) x (reached a xs) b.0 (reached_below m a xs b.1)
 
 -- rows before all that are in force don't matter
-pub front_drop : (m a : ℕ) (front rows : List Registers) → AllBelow m front → m ≤ greatest_address (reached a rows) → in_force a (front ++ rows) ≡ in_force a rows
+pub front_drop : (m a : ℕ) (front rows : List Registers) → AllBelow m front → m ≤ greatest_address (reached a rows) →
+    in_force a (front ++ rows) ≡ in_force a rows
 unfolding in_force
 front_drop m a front rows b h =
     let split : reached a (front ++ rows) ≡ reached a front ++ reached a rows = filter-append (λ r. nat_le r.address a) front rows in
@@ -58,7 +62,8 @@ front_drop m a front rows b h =
     ap (λ (l : List Registers). at_address (greatest_address l) l) split
     ∙ ap (λ (g : ℕ). at_address g (reached a front ++ reached a rows)) same
     ∙ filter-append (λ r. r.address == greatest_address (reached a rows)) (reached a front) (reached a rows)
-    ∙ ap (λ (l : List Registers). l ++ at_address (greatest_address (reached a rows)) (reached a rows)) (none_at m (greatest_address (reached a rows)) (reached a front) below h)
+    ∙ ap (λ (l : List Registers). l ++ at_address (greatest_address (reached a rows)) (reached a rows))
+    (none_at m (greatest_address (reached a rows)) (reached a front) below h)
 
 pub none_reached : (from a : ℕ) (rows : List Registers) → Ascends from rows → a < from → reached a rows ≡ []
 none_reached from a [] w h = refl
@@ -76,7 +81,8 @@ all_reached m a (r ∷ rows) w h =
 
 greatest_at : (m : ℕ) (r : Registers) (rows : List Registers) → AllAt m (r ∷ rows) → greatest_address (r ∷ rows) ≡ m
 greatest_at m r [] w = let i : r.address ≡ m = w.0 in grind (arith, nat_tests)
-greatest_at m r (s ∷ rows) w = let i : r.address ≡ m = w.0 in let k : greatest_address (s ∷ rows) ≡ m = greatest_at m s rows w.1 in grind (arith, nat_tests)
+greatest_at m r (s ∷ rows) w = let i : r.address ≡ m = w.0 in let k : greatest_address (s ∷ rows) ≡ m = greatest_at m s rows w.1 in
+    grind (arith, nat_tests)
 
 all_at : (m : ℕ) (rows : List Registers) → AllAt m rows → at_address m rows ≡ rows
 all_at m [] w = refl
@@ -86,11 +92,13 @@ all_at m (r ∷ rows) w =
     rw t (ap (λ (l : List Registers). r ∷ l) (all_at m rows w.1))
 
 -- rows at one address are in force together, also before others that aren't reached
-pub found_stay : (m a : ℕ) (f : Registers) (found rows : List Registers) → AllAt m (f ∷ found) → m ≤ a → reached a rows ≡ [] → in_force a ((f ∷ found) ++ rows) ≡ f ∷ found
+pub found_stay : (m a : ℕ) (f : Registers) (found rows : List Registers) → AllAt m (f ∷ found) → m ≤ a → reached a rows ≡ [] →
+    in_force a ((f ∷ found) ++ rows) ≡ f ∷ found
 unfolding in_force
 found_stay m a f found rows w h none =
     let split : reached a ((f ∷ found) ++ rows) ≡ f ∷ found =
-    filter-append (λ r. nat_le r.address a) (f ∷ found) rows ∙ ap (λ (l : List Registers). reached a (f ∷ found) ++ l) none ∙ grind (arith, common_steps) ∙ all_reached m a (f ∷ found) w h in
+    filter-append (λ r. nat_le r.address a) (f ∷ found) rows ∙ ap (λ (l : List Registers). reached a (f ∷ found) ++ l) none
+    ∙ grind (arith, common_steps) ∙ all_reached m a (f ∷ found) w h in
     ap (λ (l : List Registers). at_address (greatest_address l) l) split
     ∙ ap (λ (g : ℕ). at_address g (f ∷ found)) (greatest_at m f found w)
     ∙ all_at m (f ∷ found) w
@@ -103,10 +111,12 @@ at-snoc : (m : ℕ) (rows : List Registers) (r : Registers) → AllAt m rows →
 at-snoc m [] r w h = (h, tt)
 at-snoc m (x ∷ rows) r w h = (w.0, at-snoc m rows r w.1 h)
 
-mutual_cases : (m x a : ℕ) → m ≤ x → ((a < x) × (nat_le x a ≡ false)) ⊎ (((m ≡ x) × (x ≤ a) × (nat_le x a ≡ true) × ((m == x) ≡ true)) ⊎ ((m < x) × (x ≤ a) × (nat_le x a ≡ true) × ((m == x) ≡ false)))
+mutual_cases : (m x a : ℕ) → m ≤ x → ((a < x) × (nat_le x a ≡ false))
+    ⊎ (((m ≡ x) × (x ≤ a) × (nat_le x a ≡ true) × ((m == x) ≡ true)) ⊎ ((m < x) × (x ≤ a) × (nat_le x a ≡ true) × ((m == x) ≡ false)))
 mutual_cases m x a h = grind (arith, nat_tests)
 
-latest_from : (m a : ℕ) (f : Registers) (found rows : List Registers) → AllAt m (f ∷ found) → m ≤ a → Ascends m rows → latest (f ∷ found) a rows ≡ in_force a ((f ∷ found) ++ rows)
+latest_from : (m a : ℕ) (f : Registers) (found rows : List Registers) → AllAt m (f ∷ found) → m ≤ a → Ascends m rows →
+    latest (f ∷ found) a rows ≡ in_force a ((f ∷ found) ++ rows)
 unfolding latest
 latest_from m a f found [] w h up = sym (found_stay m a f found [] w h refl)
 latest_from m a f found (r ∷ rows) w h up =
@@ -116,7 +126,8 @@ latest_from m a f found (r ∷ rows) w h up =
       | inr on ↦ elim on [
         | inl same ↦
             let test : (f.address == r.address) ≡ true = grind (arith, nat_tests) in
-            rw (same.2, test) (latest_from m a f (found ++ r ∷ []) rows (w.0, at-snoc m found r w.1 (sym same.0)) h (subst (λ (n : ℕ). Ascends n rows) (sym same.0) up.1)
+            rw (same.2, test) (latest_from m a f (found ++ r ∷ []) rows (w.0, at-snoc m found r w.1 (sym same.0)) h
+            (subst (λ (n : ℕ). Ascends n rows) (sym same.0) up.1)
             ∙ ap (in_force a) (ap (λ (l : List Registers). f ∷ l) (append_assoc found (r ∷ []) rows)))
         | inr more ↦
             let test : (f.address == r.address) ≡ false = grind (arith, nat_tests) in
@@ -126,7 +137,8 @@ latest_from m a f found (r ∷ rows) w h up =
       ]
     ]
 
-latest_first : (n a : ℕ) (r : Registers) (rows : List Registers) → r.address ≤ a → nat_le r.address a ≡ true → Ascends r.address rows → latest [] a (r ∷ rows) ≡ in_force a (r ∷ rows)
+latest_first : (n a : ℕ) (r : Registers) (rows : List Registers) → r.address ≤ a → nat_le r.address a ≡ true → Ascends r.address rows →
+    latest [] a (r ∷ rows) ≡ in_force a (r ∷ rows)
 unfolding latest
 latest_first n a r rows h t up = rw t (latest_from r.address a r [] rows (refl, tt) h up)
 

@@ -1,5 +1,6 @@
 -- Sequences numbered one after another, and ranges of units.
-use Rattle.std.proofs.Common.{◌≡◌, ◌∙◌, ◌<◌, ◌≤◌, ◌+◌, ◌++◌, ℕ, List, [], ◌∷◌, sym, ap, arith, Option, Some, None, length, map, take, drop, get_or, append_assoc}
+use Rattle.std.proofs.Common.{◌≡◌, ◌∙◌, ◌<◌, ◌≤◌, ◌+◌, ◌++◌, ℕ, List, [], ◌∷◌, sym, ap, arith, Option, Some, None, length, map, take, drop}
+use Rattle.std.proofs.Common.{get_or, append_assoc}
 use Rattle.std.specs.List.{filter_map, cons_option}
 use Rattle.std.specs.Option.{option_to_list}
 use Rattle.std.proofs.lemmas.List.{append-nil, map-append, take_more, drop_more}
@@ -16,7 +17,8 @@ none_of xs i h = grind (arith, common_steps)
 
 module _ {X : Type 0} (f : Numbered → X) where
   pub numbered_more : (xs new whole : List X) (n i : ℕ) (u : kept.Unit) (ks : List KeptSequence) (d : KeptSequence) → i < length ks
-      → xs ++ map f (numbered n u i (drop i ks)) ≡ whole → new ≡ xs ++ f (record { number = n; index = i; unit = u; sequence = get_or ks i d }) ∷ []
+      → xs ++ map f (numbered n u i (drop i ks)) ≡ whole → new ≡ xs
+      ++ f (record { number = n; index = i; unit = u; sequence = get_or ks i d }) ∷ []
       → new ++ map f (numbered n u (i + 1) (drop (i + 1) ks)) ≡ whole
   unfolding numbered
   numbered_more xs new whole n i u ks d h inv e =
@@ -42,12 +44,14 @@ module _ {X : Type 0} (f : Numbered → X) where
       ∙ ap (λ (l : List X). xs ++ l) (sym (map-append f here rest))
       ∙ sym (ap (λ (l : List kept.Unit). xs ++ map f (all_numbered i l)) (drop_more us i d h)) ∙ inv
 
-  pub all_done : (xs whole : List X) (i : ℕ) (us : List kept.Unit) → length us ≤ i → xs ++ map f (all_numbered i (drop i us)) ≡ whole → xs ≡ whole
+  pub all_done : (xs whole : List X) (i : ℕ) (us : List kept.Unit) → length us ≤ i → xs ++ map f (all_numbered i (drop i us)) ≡ whole →
+      xs ≡ whole
   unfolding all_numbered
   all_done xs whole i us h inv =
       sym (append-nil xs) ∙ sym (ap (λ (l : List kept.Unit). xs ++ map f (all_numbered i l)) (none_of us i h)) ∙ inv
 
-pub ranges_more : (ws : List Walked) (i : ℕ) (w v : Walked) (rs new : List Range) → i < length ws → rs ≡ map place_range (take i ws) → v ≡ w → w ≡ get_or ws i w
+pub ranges_more : (ws : List Walked) (i : ℕ) (w v : Walked) (rs new : List Range) → i < length ws → rs ≡ map place_range (take i ws) →
+    v ≡ w → w ≡ get_or ws i w
     → new ≡ rs ++ place_range v ∷ [] → new ≡ map place_range (take (i + 1) ws)
 ranges_more ws i w v rs new h e vw wi n =
     n ∙ ap (λ (l : List Range). l ++ place_range v ∷ []) e
@@ -61,12 +65,14 @@ after_option None xs rest = ap (λ (l : List _). l ++ rest) (append-nil xs)
 after_option (Some y) xs rest = append_assoc xs (y ∷ []) rest
 
 pub said_more : {X Y : Type 0} (f : X → Option Y) (xs : List X) (i : ℕ) (d : X) (said new whole : List Y) → i < length xs
-    → said ++ filter_map f (drop i xs) ≡ whole → new ≡ said ++ option_to_list (f (get_or xs i d)) → new ++ filter_map f (drop (i + 1) xs) ≡ whole
+    → said ++ filter_map f (drop i xs) ≡ whole → new ≡ said ++ option_to_list (f (get_or xs i d)) →
+    new ++ filter_map f (drop (i + 1) xs) ≡ whole
 said_more {X} {Y} f xs i d said new whole h inv e =
     let rest : List Y = filter_map f (drop (i + 1) xs) in
     ap (λ (l : List Y). l ++ rest) e ∙ after_option (f (get_or xs i d)) said rest
     ∙ sym (ap (λ (l : List X). said ++ filter_map f l) (drop_more xs i d h)) ∙ inv
 
-pub said_done : {X Y : Type 0} (f : X → Option Y) (xs : List X) (i : ℕ) (said whole : List Y) → length xs ≤ i → said ++ filter_map f (drop i xs) ≡ whole → said ≡ whole
+pub said_done : {X Y : Type 0} (f : X → Option Y) (xs : List X) (i : ℕ) (said whole : List Y) → length xs ≤ i →
+    said ++ filter_map f (drop i xs) ≡ whole → said ≡ whole
 said_done {X} f xs i said whole h inv =
     sym (append-nil said) ∙ sym (ap (λ (l : List X). said ++ filter_map f l) (none_of xs i h)) ∙ inv

@@ -1,5 +1,6 @@
 -- Line units that are read, and the first that can't be.
-use Rattle.std.proofs.Common.{◌≡◌, ◌∙◌, ◌≤◌, ◌<◌, ◌+◌, ◌++◌, ℕ, zero, suc, List, [], ◌∷◌, Option, Some, None, refl, sym, ap, arith, map, length, take, get_or, subst, inl, inr, option_map, Result, Ok, Err}
+use Rattle.std.proofs.Common.{◌≡◌, ◌∙◌, ◌≤◌, ◌<◌, ◌+◌, ◌++◌, ℕ, zero, suc, List, [], ◌∷◌, Option, Some, None, refl, sym, ap, arith, map}
+use Rattle.std.proofs.Common.{length, take, get_or, subst, inl, inr, option_map, Result, Ok, Err}
 use Rattle.std.specs.Prelude.{MatchResult, sum_by, not, is_some, find, filter_map, slice_get, option_and_then}
 use Rattle.std.proofs.lemmas.List.{take_more, map-append}
 use Rattle.std.proofs.lemmas.List.Elements.{All-nil, All-push}
@@ -31,7 +32,8 @@ module _ {X U Y : Type 0} (f : X → Option Y) (g : U → Y) where
   head_is : (x : X) (xs : List X) (u : U) (us : List U) → map f (x ∷ xs) ≡ map (λ u. Some (g u)) (u ∷ us) → f x ≡ Some (g u)
   head_is x xs u us e = cc
 
-  tail_is : (x : X) (xs : List X) (u : U) (us : List U) → map f (x ∷ xs) ≡ map (λ u. Some (g u)) (u ∷ us) → map f xs ≡ map (λ u. Some (g u)) us
+  tail_is : (x : X) (xs : List X) (u : U) (us : List U) → map f (x ∷ xs) ≡ map (λ u. Some (g u)) (u ∷ us) →
+      map f xs ≡ map (λ u. Some (g u)) us
   tail_is x xs u us e = cc
 
   pub all_there : (xs : List X) (us : List U) → map f xs ≡ map (λ u. Some (g u)) us → filter_map f xs ≡ map g us
@@ -67,7 +69,8 @@ pub units_are : (strings : Strings) (section : List ℕ) (us : List kept.Unit) �
 units_are strings section us a = all_there (unit_in strings) (told_unit strings) (walked 5 section) us a.are
 
 pub no_line_fault : (s : LineSections) (us : List kept.Unit) → AreUnits s.strings (walked 5 s.line) us → line_fault s ≡ None
-no_line_fault s us a = ap (option_map (λ (w : Walked). w.place)) (none_fails (unit_in s.strings) (told_unit s.strings) (walked 5 s.line) us a.are)
+no_line_fault s us a = ap (option_map (λ (w : Walked). w.place))
+    (none_fails (unit_in s.strings) (told_unit s.strings) (walked 5 s.line) us a.are)
 
 pub line_free : (s : LineSections) → line_version s ≡ None → line_fault s ≡ None → IsFree (HasLineFault s)
 line_free s v l kind place (inl has) = absurd (cc (v, has.1))
@@ -90,7 +93,8 @@ line_apart kind h e = let less : number_of LineFault ≤ 25 = subst (λ (k : Fau
 line_first : (kind : FaultKind) → number_of kind < 26 → kind ≡ LineFault → ⊥
 line_first kind h e = line_apart kind (omega arith) e
 
-pub version_refusal : (s : LineSections) (place : ℕ) → line_version s ≡ Some place → IsAnswered (HasLineFault s) (fault_at DwarfVersion place)
+pub version_refusal : (s : LineSections) (place : ℕ) → line_version s ≡ Some place →
+    IsAnswered (HasLineFault s) (fault_at DwarfVersion place)
 version_refusal s place e = record {
   present = inl (refl, e);
   first = λ kind h q has. elim has [
@@ -104,7 +108,8 @@ version_refusal s place e = record {
   alone = refl;
 }
 
-pub line_refusal : (s : LineSections) (place : ℕ) → line_version s ≡ None → line_fault s ≡ Some place → IsAnswered (HasLineFault s) (fault_at LineFault place)
+pub line_refusal : (s : LineSections) (place : ℕ) → line_version s ≡ None → line_fault s ≡ Some place →
+    IsAnswered (HasLineFault s) (fault_at LineFault place)
 line_refusal s place v e = record {
   present = inr (refl, e);
   first = λ kind h q has. elim has [
@@ -118,14 +123,17 @@ line_refusal s place v e = record {
   alone = refl;
 }
 
-pub refusal_is : (s : LineSections) (r : Refusal) → line_version s ≡ None → IsLineFault s.strings (walked 5 s.line) r → IsRefusalBy (HasLineFault s) r
+pub refusal_is : (s : LineSections) (r : Refusal) → line_version s ≡ None → IsLineFault s.strings (walked 5 s.line) r →
+    IsRefusalBy (HasLineFault s) r
 refusal_is s (refusal.Fault fault) v e = subst (IsAnswered (HasLineFault s)) (sym e.0) (line_refusal s fault.place v e.1)
 refusal_is s refusal.Memory v e = tt
 
 -- one unit more
 
-pub units_more : (strings : Strings) (ws : List Walked) (us new : List kept.Unit) (u : kept.Unit) (i : ℕ) (d : Walked) → i < length ws → AreUnits strings (take i ws) us
-    → unit_in strings (get_or ws i d) ≡ Some (told_unit strings u) → HasTables strings u.header → kept_size u ≤ walked_size (get_or ws i d) → new ≡ us ++ u ∷ [] → AreUnits strings (take (i + 1) ws) new
+pub units_more : (strings : Strings) (ws : List Walked) (us new : List kept.Unit) (u : kept.Unit) (i : ℕ) (d : Walked) → i < length ws →
+    AreUnits strings (take i ws) us
+    → unit_in strings (get_or ws i d) ≡ Some (told_unit strings u) → HasTables strings u.header →
+    kept_size u ≤ walked_size (get_or ws i d) → new ≡ us ++ u ∷ [] → AreUnits strings (take (i + 1) ws) new
 units_more strings ws us new u i d h a e t s n =
     subst (AreUnits strings (take (i + 1) ws)) (sym n) (record {
       are =
@@ -140,13 +148,15 @@ units_more strings ws us new u i d h a e t s n =
           omega (arith, s, sum, sum_by_push kept_size us u, sum_by_more walked_size ws i d h);
     })
 
-pub units_all : (strings : Strings) (ws : List Walked) (us : List kept.Unit) (i : ℕ) → length ws ≤ i → AreUnits strings (take i ws) us → AreUnits strings ws us
+pub units_all : (strings : Strings) (ws : List Walked) (us : List kept.Unit) (i : ℕ) → length ws ≤ i → AreUnits strings (take i ws) us →
+    AreUnits strings ws us
 units_all strings ws us i h a = subst (λ (l : List Walked). AreUnits strings l us) (all) a
   where
     all : take i ws ≡ ws
     all = grind (arith, common_steps)
 
-pub units_fail : (strings : Strings) (ws : List Walked) (us : List kept.Unit) (i : ℕ) (d : Walked) → i < length ws → AreUnits strings (take i ws) us
+pub units_fail : (strings : Strings) (ws : List Walked) (us : List kept.Unit) (i : ℕ) (d : Walked) → i < length ws →
+    AreUnits strings (take i ws) us
     → unit_in strings (get_or ws i d) ≡ None → IsLineFault strings ws (refusal.Fault (fault_at LineFault (get_or ws i d).place))
 units_fail strings ws us i d h a e =
     (refl, ap (option_map (λ (w : Walked). w.place)) (first_fails (unit_in strings) (told_unit strings) i ws us d a.are h e))
@@ -159,11 +169,14 @@ says_all s us v a =
     (rw (v, f) refl, line_free s v f)
 
 pub units_nothing : (strings : Strings) (us : List kept.Unit) → us ≡ [] → AreUnits strings [] us
-units_nothing strings us e = subst (AreUnits strings []) (sym e) (record { are = refl; tables = All-nil (λ (u : kept.Unit). HasTables strings u.header); sizes = omega arith })
+units_nothing strings us e = subst (AreUnits strings []) (sym e)
+    (record { are = refl; tables = All-nil (λ (u : kept.Unit). HasTables strings u.header); sizes = omega arith })
 
 -- the fault of a unit that was looked at
-pub units_fault : (strings : Strings) (ws : List Walked) (us : List kept.Unit) (i : ℕ) (w : Walked) (trouble : Trouble) (fault : Fault) → i < length ws
-    → AreUnits strings (take i ws) us → w ≡ get_or ws i w → trouble ≡ Malformed → Tells trouble (unit_in strings w ≡ None) → fault ≡ fault_at LineFault w.place
+pub units_fault : (strings : Strings) (ws : List Walked) (us : List kept.Unit) (i : ℕ) (w : Walked) (trouble : Trouble) (fault : Fault) →
+    i < length ws
+    → AreUnits strings (take i ws) us → w ≡ get_or ws i w → trouble ≡ Malformed → Tells trouble (unit_in strings w ≡ None) →
+    fault ≡ fault_at LineFault w.place
     → (fault ≡ fault_at LineFault fault.place) × (first_place (λ w. not (is_some (unit_in strings w))) ws ≡ Some fault.place)
 units_fault strings ws us i w trouble fault h are at is told e =
     let none : unit_in strings w ≡ None = subst (λ (t : Trouble). Tells t (unit_in strings w ≡ None)) is told in

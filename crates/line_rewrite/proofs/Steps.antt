@@ -76,6 +76,16 @@ pub rows_end : (coding : Coding) (r : Registers) (lengths bytes : List ℕ) → 
 unfolding rows_from
 rows_end coding r lengths bytes e = ap (rows_from coding r) (operations_end coding.opcode_base lengths bytes e)
 
+-- what is said of the rows, over one operation more
+pub over_step : {B : Type 0} (of : List Registers → B) (coding : Coding) (r : Registers) (lengths bytes rest : List ℕ) (op : LineOp)
+    (e : Effect) (o : Option Registers)
+    → op_at coding.opcode_base lengths bytes ≡ Ok (op, rest) → e ≡ effect_of op → o ≡ after_op coding op r
+    → of (rows_behind (λ r. rows_from coding r (operations coding.opcode_base lengths rest)) e o)
+    ≡ of (rows_from coding r (operations coding.opcode_base lengths bytes))
+over_step of coding r lengths bytes rest op e o read is after =
+    ap of ((λ i. rows_behind (λ r. rows_from coding r (operations coding.opcode_base lengths rest)) (is i) (after i))
+    ∙ sym (rows_step coding r lengths bytes rest op read))
+
 -- The rows in force, over one operation more: `found` is what was reached, n how many rows are still to be, `whole` what is sought.
 
 pub take_none : (n : ℕ) → take {A = Registers} n [] ≡ []
@@ -106,12 +116,7 @@ module _ (coding : Coding) (r : Registers) (lengths bytes : List ℕ) (found : L
     walk_step : (e : Effect) (o : Option Registers) → e ≡ effect_of op → o ≡ after_op coding op r
         → latest found a (take n (rows_behind (λ r. rows_from coding r (operations coding.opcode_base lengths rest)) e o)) ≡ whole
     walk_step e o is after =
-        ap (λ (e : Effect). latest found a
-        (take n (rows_behind (λ r. rows_from coding r (operations coding.opcode_base lengths rest)) e o))) is
-        ∙ ap (λ (o : Option Registers). latest found a
-        (take n (rows_behind (λ r. rows_from coding r (operations coding.opcode_base lengths rest))
-        (effect_of op) o))) after
-        ∙ sym (ap (λ (l : List Registers). latest found a (take n l)) (rows_step coding r lengths bytes rest op read)) ∙ inv
+        over_step (λ l. latest found a (take n l)) coding r lengths bytes rest op e o read is after ∙ inv
 
     pub walk_stops : None ≡ after_op coding op r → found ≡ whole
     walk_stops after = sym (found_none found a n) ∙ walk_step (effect_of op) None refl after

@@ -14,7 +14,8 @@ use Rattle.table_core.specs.ReadSteps.{unless_any}
 use Rattle.table_core.specs.declared.first_range.FirstRange.{FirstRange}
 use Rattle.table_core.specs.declared.run.Run.{Run}
 use Rattle.table_core.specs.declared.written.Written.{Written}
-use Rattle.table_core.proofs.UnitsBack.{units_bytes, walked_units, units-back}
+use Rattle.table_core.specs.WrittenUnits.{units_bytes, walked_units}
+use Rattle.table_core.proofs.UnitsBack.{units-back}
 use Rattle.line_rewrite.specs.declared.sequence_index.SequenceIndex.{SequenceIndex}
 use Rattle.line_rewrite.specs.declared.unit.Unit as kept
 use Rattle.line_rewrite.specs.Entries.{Strings}

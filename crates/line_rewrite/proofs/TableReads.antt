@@ -14,14 +14,16 @@ use Rattle.line_rewrite.specs.Tables.{LineSections, HasLineFault, line_sections,
 use Rattle.line_rewrite.specs.UnitLists.{AreUnits}
 use Rattle.line_rewrite.proofs.LineFaults.{says_all}
 
-pub read_says : (elf : Elf) (s : LineSections) (us : List kept.Unit) → s ≡ line_sections elf → line_version s ≡ None → AreUnits s.strings (walked 5 s.line) us
+pub read_says : (elf : Elf) (s : LineSections) (us : List kept.Unit) → s ≡ line_sections elf → line_version s ≡ None →
+    AreUnits s.strings (walked 5 s.line) us
     → (line_answers elf ≡ Some (line_at s)) × IsFree (HasLineFault (line_sections elf))
 read_says elf s us same v a =
     subst (λ (t : LineSections). (line_answers elf ≡ Some (line_at t)) × IsFree (HasLineFault (line_sections elf))) (sym same)
     (says_all (line_sections elf) us (subst (λ (t : LineSections). line_version t ≡ None) same v)
     (subst (λ (t : LineSections). AreUnits t.strings (walked 5 t.line) us) same a))
 
-pub read_refused : (elf : Elf) (s : LineSections) (e : Refusal) → s ≡ line_sections elf → IsRefusalBy (HasLineFault s) e → IsRefusalBy (HasLineFault (line_sections elf)) e
+pub read_refused : (elf : Elf) (s : LineSections) (e : Refusal) → s ≡ line_sections elf → IsRefusalBy (HasLineFault s) e →
+    IsRefusalBy (HasLineFault (line_sections elf)) e
 read_refused elf s e same r = subst (λ (t : LineSections). IsRefusalBy (HasLineFault t) e) same r
 
 abbrev pub weight_in : Run LineSaid → ℕ

@@ -12,7 +12,7 @@ use Rattle.addr_map.specs.declared.span.Span.{Span}
 use Rattle.table_core.specs.AnswerRuns.{IsWithin}
 use Rattle.table_core.specs.DebugUnits.{Walked}
 use Rattle.table_core.specs.declared.run.Run.{Run}
-use Rattle.table_core.proofs.UnitsBack.{units_bytes, walked_units, IsUnit}
+use Rattle.table_core.specs.WrittenUnits.{units_bytes, walked_units, IsUnit}
 use Rattle.line_rewrite.specs.declared.registers.Registers.{Registers}
 use Rattle.line_rewrite.specs.declared.header.Header.{Header}
 use Rattle.line_rewrite.specs.declared.unit.Unit as kept

@@ -1,5 +1,6 @@
 -- Where the texts of a section end.
-use Rattle.std.proofs.Common.{◌≡◌, ◌≤◌, ◌<◌, ◌+◌, ◌-◌, ◌==◌, ◌∙◌, ℕ, Bool, true, false, List, refl, sym, arith, length, drop, get_or, length-drop, ⊎_elim}
+use Rattle.std.proofs.Common.{◌≡◌, ◌≤◌, ◌<◌, ◌+◌, ◌-◌, ◌==◌, ◌∙◌, ℕ, Bool, true, false, List, refl, sym, arith, length, drop, get_or}
+use Rattle.std.proofs.Common.{length-drop, ⊎_elim}
 use Rattle.std.specs.Prelude.{is_some, nat_lt}
 use Rattle.std.specs.List.{position_or_len}
 use Rattle.std.proofs.lemmas.Bool.{cases_lt, eqb-true, eq-eqb, false_from_ne_true}
@@ -19,17 +20,21 @@ text_some xs offset = split (nat_lt (first_zero (drop offset xs)) (length (drop 
     split true e = rw e refl
     split false e = rw e refl
 
-no_zero : (xs : List ℕ) (offset : ℕ) → ((k : ℕ) → offset ≤ k → k < length xs → get_or xs k 0 ≡ 0 → ⊥) → nat_lt (first_zero (drop offset xs)) (length (drop offset xs)) ≡ false
+no_zero : (xs : List ℕ) (offset : ℕ) → ((k : ℕ) → offset ≤ k → k < length xs → get_or xs k 0 ≡ 0 → ⊥) →
+    nat_lt (first_zero (drop offset xs)) (length (drop offset xs)) ≡ false
 no_zero xs offset none =
     let n : length (drop offset xs) ≡ length xs - offset = length-drop offset xs in
-    let e : first_zero (drop offset xs) ≡ length (drop offset xs) = position_or_len_is (λ b. b == 0) (drop offset xs) (length (drop offset xs)) 0 (omega arith)
-    (λ k lt. false_from_ne_true _ (λ zero. none (offset + k) (omega arith) (omega arith) (moved k (eqb-true _ _ zero)))) (λ lt. absurd (omega arith)) in
+    let e : first_zero (drop offset xs) ≡ length (drop offset xs) = position_or_len_is (λ b. b == 0) (drop offset xs)
+    (length (drop offset xs)) 0 (omega arith)
+    (λ k lt. false_from_ne_true _ (λ zero. none (offset + k) (omega arith) (omega arith) (moved k (eqb-true _ _ zero))))
+    (λ lt. absurd (omega arith)) in
     grind (arith, nat_tests)
   where
     moved : (k : ℕ) → get_or (drop offset xs) k 0 ≡ 0 → get_or xs (offset + k) 0 ≡ 0
     moved k e = grind (arith, common_steps)
 
-a_zero : (xs : List ℕ) (offset i : ℕ) → offset ≤ i → i < length xs → get_or xs i 0 ≡ 0 → nat_lt (first_zero (drop offset xs)) (length (drop offset xs)) ≡ true
+a_zero : (xs : List ℕ) (offset i : ℕ) → offset ≤ i → i < length xs → get_or xs i 0 ≡ 0 →
+    nat_lt (first_zero (drop offset xs)) (length (drop offset xs)) ≡ true
 a_zero xs offset i le lt zero =
     ⊎_elim
     (λ (h : first_zero (drop offset xs) < length (drop offset xs)). small h)
@@ -48,7 +53,8 @@ a_zero xs offset i le lt zero =
     not_far : length (drop offset xs) ≤ first_zero (drop offset xs) → ⊥
     not_far h =
         let n : length (drop offset xs) ≡ length xs - offset = length-drop offset xs in
-        differ (get_or (drop offset xs) (i - offset) 0 == 0) (eq-eqb _ _ here) (fails_before_first (λ b. b == 0) (drop offset xs) (i - offset) 0 (omega arith))
+        differ (get_or (drop offset xs) (i - offset) 0 == 0) (eq-eqb _ _ here)
+        (fails_before_first (λ b. b == 0) (drop offset xs) (i - offset) 0 (omega arith))
 
 -- the last zero byte ends the last text
 pub ends_some : (xs : List ℕ) (i : ℕ) → i < length xs → get_or xs i 0 ≡ 0 → ((k : ℕ) → i < k → k < length xs → get_or xs k 0 ≡ 0 → ⊥)
@@ -65,7 +71,8 @@ ends_some xs i lt zero after offset =
     above : i + 1 ≤ offset → nat_lt offset (i + 1) ≡ false
     above h = grind (arith, nat_tests)
 
-pub ends_none : (xs : List ℕ) → ((k : ℕ) → k < length xs → get_or xs k 0 ≡ 0 → ⊥) → (offset : ℕ) → is_some (text_in xs offset) ≡ nat_lt offset 0
+pub ends_none : (xs : List ℕ) → ((k : ℕ) → k < length xs → get_or xs k 0 ≡ 0 → ⊥) → (offset : ℕ) →
+    is_some (text_in xs offset) ≡ nat_lt offset 0
 ends_none xs none offset = text_some xs offset ∙ no_zero xs offset (λ k le within z. none k within z) ∙ sym below
   where
     below : nat_lt offset 0 ≡ false

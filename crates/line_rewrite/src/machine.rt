@@ -80,49 +80,30 @@ pub fn after_op(coding: &Coding, op: LineOp, registers: Registers) -> Option<Reg
     requires { 0 < coding.now.line_range }
     ensures { result ≡ after_op coding.now op registers }
 {
+    let mut after = registers;
     match op {
         LineOp::Special(adjusted) => {
             let by = address_advance(coding, adjusted);
-            advanced(by, lined(line_advance(coding, adjusted), registers))
+            return advanced(by, lined(line_advance(coding, adjusted), registers));
         }
-        LineOp::AdvancePc(n) => advanced_by(coding, n, registers),
-        LineOp::AdvanceLine(by) => Some(lined(by, registers)),
-        LineOp::SetFile(file) => Some(Registers { file, ..registers }),
-        LineOp::SetColumn(column) => Some(Registers {
-            column,
-            ..registers
-        }),
-        LineOp::NegateStmt => Some(Registers {
-            is_stmt: !registers.is_stmt,
-            ..registers
-        }),
-        LineOp::SetBasicBlock => Some(Registers {
-            basic_block: true,
-            ..registers
-        }),
+        LineOp::AdvancePc(n) => return advanced_by(coding, n, registers),
         LineOp::ConstAddPc => {
-            advanced(address_advance(coding, 255 - coding.opcode_base), registers)
+            return advanced(address_advance(coding, 255 - coding.opcode_base), registers);
         }
-        LineOp::FixedAdvancePc(n) => advanced(n as u64, registers),
-        LineOp::SetPrologueEnd => Some(Registers {
-            prologue_end: true,
-            ..registers
-        }),
-        LineOp::SetEpilogueBegin => Some(Registers {
-            epilogue_begin: true,
-            ..registers
-        }),
-        LineOp::SetIsa(isa) => Some(Registers { isa, ..registers }),
-        LineOp::SetAddress(address) => Some(Registers {
-            address,
-            ..registers
-        }),
-        LineOp::SetDiscriminator(discriminator) => Some(Registers {
-            discriminator,
-            ..registers
-        }),
-        LineOp::Copy | LineOp::EndSequence | LineOp::Unknown => Some(registers),
+        LineOp::FixedAdvancePc(n) => return advanced(n as u64, registers),
+        LineOp::SetAddress(address) => after.address = address,
+        LineOp::AdvanceLine(by) => after = lined(by, registers),
+        LineOp::SetFile(file) => after.file = file,
+        LineOp::SetColumn(column) => after.column = column,
+        LineOp::NegateStmt => after.is_stmt = !registers.is_stmt,
+        LineOp::SetBasicBlock => after.basic_block = true,
+        LineOp::SetPrologueEnd => after.prologue_end = true,
+        LineOp::SetEpilogueBegin => after.epilogue_begin = true,
+        LineOp::SetIsa(isa) => after.isa = isa,
+        LineOp::SetDiscriminator(discriminator) => after.discriminator = discriminator,
+        LineOp::Copy | LineOp::EndSequence | LineOp::Unknown => {}
     }
+    Some(after)
 }
 
 /// What an operation does to the table.

@@ -58,8 +58,7 @@ pub fn sequence_at(
     ensures next { IfOk result (λ o. MatchOption o (Unit {0}) (λ found. (place < found.1)
         × (found.1 ≤ length bytes.now))) }
 {
-    let (_, from) = bytes.split_at(place);
-    let mut cursor = Cursor::new(from);
+    let mut cursor = Cursor::new(bytes.split_at(place).1);
     let mut present = start(coding);
     let mut count: usize = 0;
     let mut due = Due { row: 0, place: 0 };

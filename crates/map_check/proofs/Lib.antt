@@ -20,7 +20,6 @@ mod LowestItems
 mod MadeAgain
 mod MapTexts
 mod NamedSpans
-mod NextInFunction
 mod NextInsts
 mod NumberTexts
 mod NumeralTexts

@@ -18,7 +18,7 @@ use Rattle.addr_map.specs.declared.span.Span.{Span}
 use Rattle.addr_map.specs.Spans.{is_of}
 use Rattle.rv_code.specs.layout.Flow.{next_of}
 use Rattle.sym_machine.specs.internal.FunctionOrder.{addr_at}
-use Rattle.map_check.proofs.NextInFunction.{searchable, next_of-found}
+use Rattle.sym_machine.proofs.Functions.{searchable, next_of-found}
 use Rattle.move_law.specs.Rewrite.{Rewrite}
 use Rattle.move_law.specs.FaithfulRewrite.{IsMapOf, next}
 use Rattle.map_check.specs.internal.InstRows.{IsChecked}

@@ -46,7 +46,7 @@ fn entry_address(elf: &Elf) -> Option<u64>
 }
 
 impl Headers {
-    /// Those of a file.
+    /// What is asked of the headers of a file.
     pub fn of(elf: &Elf, tight: bool) -> Headers
         requires { IsLow elf.now }
         ensures { AreHeadersOf elf.now tight result }

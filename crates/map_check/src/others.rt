@@ -126,7 +126,7 @@ fn made_anew(table: &[Span], p: &Placed) -> Inst
     }
 }
 
-// Whether an instruction that is no JAL and no branch is kept.
+/// Whether an instruction that is no JAL and no branch is kept.
 pub fn keeps_other(output: &Elf, table: &[Span], p: &Placed) -> bool
     requires low { IsLow output.now }
     requires sorted { IsNonDecreasingBy (λ s. s.input) table.now }

@@ -104,7 +104,7 @@ fn branch_of(inst: &Inst, test: Test, rs1: u8, rs2: u8) -> Option<(bool, i64)>
     }
 }
 
-// Whether a branch is kept.
+/// Whether a branch is kept: it, or one of opposite sense with a jump behind it, leads where it led.
 pub fn keeps_branch(
     output: &Elf,
     table: &[Span],

@@ -11,9 +11,10 @@ pub const CODE: u64 = 0x11000;
 /// Where the writable segment starts.
 pub const DATA: u64 = 0x800000;
 
-/// The bytes of a function's code, and those of the code at the entry point.
+/// The bytes of a function's code.
 pub const FUNCTION_SIZE: u64 = 48;
 
+/// The bytes of the code at the entry point.
 pub const START_SIZE: u64 = 20;
 
 /// Where function `k` starts. Behind the last one is the entry point.

@@ -21,7 +21,7 @@ fn put_relocation(table: &mut Vec<u8>, place: u64, k: u64, kind: u32) -> Result<
     put_u64(table, 0)
 }
 
-/// Those of the calls.
+/// The relocations of the calls.
 pub fn calls(alloc: Global, n: u64) -> Result<Vec<u8>, NoMemory>
     requires { n ≤ 1000 }
 {
@@ -33,7 +33,7 @@ pub fn calls(alloc: Global, n: u64) -> Result<Vec<u8>, NoMemory>
     Ok(table)
 }
 
-/// Those of the pointers.
+/// The relocations of the pointers.
 pub fn pointers(alloc: Global, n: u64) -> Result<Vec<u8>, NoMemory>
     requires { n ≤ 1000 }
 {

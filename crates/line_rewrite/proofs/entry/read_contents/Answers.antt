@@ -12,7 +12,8 @@ returns-in_err-form-clause-malformed c =
     let found : Found = told_found strings c.loop-field.found in
     let p = err_from_is_err_and c.from_residual.result c.from_residual.ensures.1 in
     rw (p.1, p.2) (tells_map c.in_err-form.field-0.0 _ _
-    (λ e. sym c.loop-field.invariant ∙ found_no_form strings c.args.format.now c.loop-field.field-index _ c.loop-field-test.true found c.loop-field.cursor.left e)
+    (λ e. sym c.loop-field.invariant ∙ found_no_form strings c.args.format.now c.loop-field.field-index _ c.loop-field-test.true found
+    c.loop-field.cursor.left e)
     c.in_err-form.ensures.malformed)
 
 pub returns-in_err-value-clause-malformed : goal.returns-in_err-value-clause-malformed
@@ -21,7 +22,8 @@ returns-in_err-value-clause-malformed c =
     let found : Found = told_found strings c.loop-field.found in
     let p = err_from_is_err_and c.from_residual-in_err-value.result c.from_residual-in_err-value.ensures.1 in
     rw (p.1, p.2) (tells_map c.in_err-value.field-0.0 _ _
-    (λ e. sym c.loop-field.invariant ∙ found_no_value strings c.args.format.now c.loop-field.field-index _ c.loop-field-test.true found c.loop-field.cursor.left
+    (λ e. sym c.loop-field.invariant ∙ found_no_value strings c.args.format.now c.loop-field.field-index _ c.loop-field-test.true found
+    c.loop-field.cursor.left
     _ _ c.in_ok-form.ensures.read e)
     c.in_err-value.ensures.malformed)
 
@@ -31,7 +33,8 @@ returns-in_err-found-clause-malformed c =
     let found : Found = told_found strings c.loop-field.found in
     let p = err_from_is_err_and c.from_residual-in_err-found.result c.from_residual-in_err-found.ensures.1 in
     rw (p.1, p.2) (tells_map c.in_err-found.field-0.0 _ _
-    (λ e. sym c.loop-field.invariant ∙ found_no_more strings c.args.format.now c.loop-field.field-index _ c.loop-field-test.true found c.loop-field.cursor.left
+    (λ e. sym c.loop-field.invariant ∙ found_no_more strings c.args.format.now c.loop-field.field-index _ c.loop-field-test.true found
+    c.loop-field.cursor.left
     _ _ _ _ c.in_ok-form.ensures.read c.in_ok-value.ensures.read e)
     c.in_err-found.ensures.malformed)
 
@@ -47,4 +50,5 @@ pub returns-clause-read : goal.returns-clause-read
 returns-clause-read c =
     let strings : Strings = texts_strings c.args.texts.now in
     sym c.loop-field.invariant
-    ∙ found_end strings c.args.format.now c.loop-field.field-index (told_found strings c.loop-field.found) c.loop-field.cursor.left c.loop-field-test.false
+    ∙ found_end strings c.args.format.now c.loop-field.field-index (told_found strings c.loop-field.found) c.loop-field.cursor.left
+    c.loop-field-test.false

@@ -12,7 +12,8 @@ returns-in_err-path-clause-malformed c =
     let strings : Strings = texts_strings c.args.texts.now in
     let format : Format = told_format c.args.format.now in
     let p = err_from_is_err_and c.from_residual.result c.from_residual.ensures.1 in
-    rw (p.1, p.2) (tells_map c.in_err-path.field-0.0 (found_at strings format nothing_found c.args.cursor.now.left ≡ None) (entry_at strings format c.args.cursor.now.left ≡ None)
+    rw (p.1, p.2) (tells_map c.in_err-path.field-0.0 (found_at strings format nothing_found c.args.cursor.now.left ≡ None)
+    (entry_at strings format c.args.cursor.now.left ≡ None)
     (no_entry strings format c.args.cursor.now.left) c.in_err-path.ensures.malformed)
 
 pub returns-in-Some-clause-read : goal.returns-in-Some-clause-read

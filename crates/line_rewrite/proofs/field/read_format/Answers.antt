@@ -19,14 +19,17 @@ loop-init c =
 pub returns-in_err-field-clause-malformed : goal.returns-in_err-field-clause-malformed
 returns-in_err-field-clause-malformed c =
     let p = err_from_is_err_and c.from_residual.result c.from_residual.ensures.1 in
-    rw (p.1, p.2) (tells_map c.in_err-field.field-0.0 (field_at c.loop.cursor.left ≡ None) (format_at c.args.count c.args.cursor.now.left ≡ None)
-    (λ e. sym c.loop.invariant ∙ times_none field_at c.args.count c.loop.counter c.loop.cursor.left (told_format c.loop.fields.items) (omega arith) e)
+    rw (p.1, p.2) (tells_map c.in_err-field.field-0.0 (field_at c.loop.cursor.left ≡ None)
+    (format_at c.args.count c.args.cursor.now.left ≡ None)
+    (λ e. sym c.loop.invariant ∙ times_none field_at c.args.count c.loop.counter c.loop.cursor.left (told_format c.loop.fields.items)
+    (omega arith) e)
     c.in_err-field.ensures.malformed)
 
 pub loop-preserved : goal.loop-preserved
 loop-preserved c =
     ap (λ (fs : List (ℕ × ℕ)). with_front fs (times field_at (c.args.count - (c.loop.counter + 1)) c.read_field.new.cursor.left))
     (ap told_format c.in_ok-push.ensures.items ∙ map-append told_field c.loop.fields.items (c.in_ok-field.field ∷ []))
-    ∙ sym (times_more field_at c.args.count c.loop.counter c.loop.cursor.left c.read_field.new.cursor.left (told_field c.in_ok-field.field) (told_format c.loop.fields.items)
+    ∙ sym (times_more field_at c.args.count c.loop.counter c.loop.cursor.left c.read_field.new.cursor.left (told_field c.in_ok-field.field)
+    (told_format c.loop.fields.items)
     (omega arith) c.in_ok-field.ensures.read)
     ∙ c.loop.invariant

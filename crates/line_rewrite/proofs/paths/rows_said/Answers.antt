@@ -8,7 +8,8 @@ use Rattle.line_rewrite.proofs.paths.rows_said.Goals as goal
 
 pub loop-row-preserved : goal.loop-row-preserved
 loop-row-preserved c =
-    said_more (row_said (told_unit (strings_held c.args.str.now c.args.line_str.now) c.args.unit.now)) c.args.rows.now c.loop-row.row-index _
+    said_more (row_said (told_unit (strings_held c.args.str.now c.args.line_str.now) c.args.unit.now)) c.args.rows.now c.loop-row.row-index
+    _
     c.loop-row.said.items c.push_row.new.said.items _ c.loop-row-test.true c.loop-row.invariant
     (c.in_ok-push_row.ensures ∙ ap (λ o. c.loop-row.said.items ++ option_to_list o) c.in_ok-row.ensures)
 

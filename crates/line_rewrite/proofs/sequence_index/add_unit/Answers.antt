@@ -17,9 +17,11 @@ loop-index-preserved c =
     let h : i < length ks = omega (arith, size, c.loop-index-test.true) in
     let item : k ≡ get_or ks i k = c.sequence-item.is ∙ ap (λ (l : List KeptSequence). get_or l i k) c.deref-sequence-items.ensures.value in
     record {
-      placed = numbered_more place_of c.loop-index.places.items c.push.new.self.items _ c.args.number i c.args.unit.now ks k h c.loop-index.invariant.placed
+      placed = numbered_more place_of c.loop-index.places.items c.push.new.self.items _ c.args.number i c.args.unit.now ks k h
+          c.loop-index.invariant.placed
           c.in_ok-push.ensures.items;
-      ranged = numbered_more kept_range c.loop-index.ranges.items c.push-in-loop-index.new.self.items _ c.args.number i c.args.unit.now ks k h c.loop-index.invariant.ranged
+      ranged = numbered_more kept_range c.loop-index.ranges.items c.push-in-loop-index.new.self.items _ c.args.number i c.args.unit.now ks k
+          h c.loop-index.invariant.ranged
           (c.in_ok-push-2.ensures.items ∙ ap (λ (s : KeptSequence). c.loop-index.ranges.items ++ range s ∷ []) item);
     }
 

@@ -6,7 +6,8 @@ use Rattle.line_rewrite.proofs.sound.is_sound.Given as goal
 
 abbrev pub invariant-ops : goal.invariant-ops
 invariant-ops l =
-    (sound_from l.coding l.files l.last l.present (operations l.coding.opcode_base l.lengths l.cursor.left) && is_whole l.coding.opcode_base l.lengths l.cursor.left)
+    (sound_from l.coding l.files l.last l.present (operations l.coding.opcode_base l.lengths l.cursor.left)
+    && is_whole l.coding.opcode_base l.lengths l.cursor.left)
     ≡ is_sound l.coding l.files l.lengths l.bytes
 
 abbrev pub decreases-ops : goal.decreases-ops

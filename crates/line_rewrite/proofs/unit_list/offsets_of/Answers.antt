@@ -14,12 +14,15 @@ loop-unit-init c = c.new-ranges.ensures.items
 
 pub loop-unit-preserved : goal.loop-unit-preserved
 loop-unit-preserved c =
-    ranges_more c.deref-unit-items.result.now c.loop-unit.unit-index c.unit-item.result _ c.loop-unit.ranges.items c.push.new.self.items c.loop-unit-test.true
+    ranges_more c.deref-unit-items.result.now c.loop-unit.unit-index c.unit-item.result _ c.loop-unit.ranges.items c.push.new.self.items
+    c.loop-unit-test.true
     c.loop-unit.invariant c.unit.view_is c.unit-item.is c.in_ok-push.ensures.items
 
 pub returns : goal.returns
 returns c =
     let all : c.deref.result.now ≡ map place_range (walked 5 c.args.line.now) =
     c.deref.ensures.value ∙ c.loop-unit.invariant
-    ∙ ap (map place_range) (take_all c.loop-unit.unit-index c.deref-unit-items.result.now c.loop-unit-test.false ∙ c.deref-unit-items.ensures.value ∙ c.in_ok-walked.ensures) in
-    subst (λ (rs : List Range). IfOk c.new.result (λ index. (a : ℕ) → first_range index a ≡ position (holds_address a) rs)) all c.new.ensures
+    ∙ ap (map place_range) (take_all c.loop-unit.unit-index c.deref-unit-items.result.now c.loop-unit-test.false
+    ∙ c.deref-unit-items.ensures.value ∙ c.in_ok-walked.ensures) in
+    subst (λ (rs : List Range). IfOk c.new.result (λ index. (a : ℕ) → first_range index a ≡ position (holds_address a) rs)) all
+    c.new.ensures

@@ -19,4 +19,5 @@ returns c =
     let e : line_version s ≡ None =
     sym (c.in_default.ensures ∙ ap (first_place (λ (w : Walked). w.is_other)) (c.deref.ensures.value ∙ c.in_ok-walked.ensures)) in
     units_read s (texts_strings c.new-texts.result) c.deref-2.result.now c.units_in.result (λ us. us.items)
-    (λ i. strings_held (c.new-texts.ensures.str i) (c.new-texts.ensures.line_str i)) (c.deref-2.ensures.value ∙ c.in_ok-walked.ensures) e c.units_in.ensures
+    (λ i. strings_held (c.new-texts.ensures.str i) (c.new-texts.ensures.line_str i)) (c.deref-2.ensures.value ∙ c.in_ok-walked.ensures) e
+    c.units_in.ensures

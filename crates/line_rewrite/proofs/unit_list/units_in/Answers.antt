@@ -15,17 +15,21 @@ loop-unit-init c =
 
 pub returns-in-Err-Malformed : goal.returns-in-Err-Malformed
 returns-in-Err-Malformed c =
-    units_fault (texts_strings c.args.texts.now) c.args.walked.now c.loop-unit.units.items c.loop-unit.unit-index c.unit-item.result c.in-Err-Malformed.field-0
-    c.at.result c.loop-unit-test.true c.loop-unit.invariant c.unit-item.is c.in-Err-Malformed.field-0-is c.in-Err-Malformed.ensures.malformed
+    units_fault (texts_strings c.args.texts.now) c.args.walked.now c.loop-unit.units.items c.loop-unit.unit-index c.unit-item.result
+    c.in-Err-Malformed.field-0
+    c.at.result c.loop-unit-test.true c.loop-unit.invariant c.unit-item.is c.in-Err-Malformed.field-0-is
+    c.in-Err-Malformed.ensures.malformed
     (c.at.ensures ∙ ap (λ (w : Walked). fault_at LineFault w.place) c.unit.view_is)
 
 pub loop-unit-preserved : goal.loop-unit-preserved
 loop-unit-preserved c =
     let strings : Strings = texts_strings c.args.texts.now in
-    units_more strings c.args.walked.now c.loop-unit.units.items c.push.new.self.items c.in-Ok.unit c.loop-unit.unit-index c.unit-item.result c.loop-unit-test.true
+    units_more strings c.args.walked.now c.loop-unit.units.items c.push.new.self.items c.in-Ok.unit c.loop-unit.unit-index
+    c.unit-item.result c.loop-unit-test.true
     c.loop-unit.invariant (ap (unit_in strings) (sym c.unit-item.is) ∙ c.in-Ok.ensures.read) c.in-Ok.ensures.tables
     (subst (λ (w : Walked). kept_size c.in-Ok.unit ≤ walked_size w) c.unit-item.is c.in-Ok.ensures.size) c.in_ok-push-in-Ok.ensures.items
 
 pub returns : goal.returns
 returns c =
-    units_all (texts_strings c.args.texts.now) c.args.walked.now c.loop-unit.units.items c.loop-unit.unit-index c.loop-unit-test.false c.loop-unit.invariant
+    units_all (texts_strings c.args.texts.now) c.args.walked.now c.loop-unit.units.items c.loop-unit.unit-index c.loop-unit-test.false
+    c.loop-unit.invariant

@@ -11,7 +11,8 @@ use Rattle.line_rewrite.proofs.unit_reader.read_unit.Goals as goal
 pub returns-in_err-outer-clause-malformed : goal.returns-in_err-outer-clause-malformed
 returns-in_err-outer-clause-malformed c =
     let p = err_from_is_err_and c.from_residual.result c.from_residual.ensures.1 in
-    rw (p.1, p.2) (tells_map c.in_err-outer.field-0.0 _ _ (λ e. unit_lacks (texts_strings c.args.texts.now) c.args.bytes.now e) c.in_err-outer.ensures.malformed)
+    rw (p.1, p.2) (tells_map c.in_err-outer.field-0.0 _ _ (λ e. unit_lacks (texts_strings c.args.texts.now) c.args.bytes.now e)
+    c.in_err-outer.ensures.malformed)
 
 pub returns-in_err-header-clause-malformed : goal.returns-in_err-header-clause-malformed
 returns-in_err-header-clause-malformed c =
@@ -21,7 +22,8 @@ returns-in_err-header-clause-malformed c =
 
 pub returns-then-outer-ne8-clause-malformed : goal.returns-then-outer-ne8-clause-malformed
 returns-then-outer-ne8-clause-malformed c =
-    unit_sized (texts_strings c.args.texts.now) c.args.bytes.now _ c.in_ok-outer.ensures.read c.in_ok-header.header c.in_ok-header.ensures.read
+    unit_sized (texts_strings c.args.texts.now) c.args.bytes.now _ c.in_ok-outer.ensures.read c.in_ok-header.header
+    c.in_ok-header.ensures.read
     (sizes_false c.in_ok-outer.outer.address_size c.in_ok-outer.outer.segment_size c.then-outer-ne8.either)
 
 pub returns-then-not-is_sound-clause-malformed : goal.returns-then-not-is_sound-clause-malformed
@@ -29,7 +31,8 @@ returns-then-not-is_sound-clause-malformed c =
     let h : code.Header = c.in_ok-header.header in
     let count : c.len-files.result ≡ length h.files.items = search rules in
     let sound : is_sound h.coding (length h.files.items) h.lengths.items c.in_ok-outer.outer.program.now ≡ false =
-    sym (c.is_sound.ensures ∙ (λ i. is_sound h.coding (count i) (c.deref.ensures.value i) c.in_ok-outer.outer.program.now)) ∙ c.if-not-is_sound.true in
+    sym (c.is_sound.ensures ∙ (λ i. is_sound h.coding (count i) (c.deref.ensures.value i) c.in_ok-outer.outer.program.now))
+    ∙ c.if-not-is_sound.true in
     unit_unsound (texts_strings c.args.texts.now) c.args.bytes.now _ c.in_ok-outer.ensures.read h c.in_ok-header.ensures.read sound
 
 pub invariant_of-result : goal.invariant_of-result
@@ -37,11 +40,14 @@ invariant_of-result c =
     let h : code.Header = c.in_ok-header.header in
     let count : c.len-files.result ≡ length h.files.items = search rules in
     let sound : is_sound h.coding (length h.files.items) h.lengths.items c.in_ok-outer.outer.program.now ≡ true =
-    sym (c.is_sound.ensures ∙ (λ i. is_sound h.coding (count i) (c.deref.ensures.value i) c.in_ok-outer.outer.program.now)) ∙ c.if-not-is_sound.false in
+    sym (c.is_sound.ensures ∙ (λ i. is_sound h.coding (count i) (c.deref.ensures.value i) c.in_ok-outer.outer.program.now))
+    ∙ c.if-not-is_sound.false in
     record {
       sound = ap (is_sound h.coding (length h.files.items) h.lengths.items) c.in_ok-program.ensures ∙ sound;
-      listed = subst (λ (l : List ℕ). AreSequences h.coding l c.in_ok-program.program.items c.in_ok-sequences.sequences.items) c.deref-2.ensures.value
-          (subst (λ (p : List ℕ). AreSequences h.coding c.deref-2.result.now p c.in_ok-sequences.sequences.items) c.deref-3.ensures.value c.in_ok-sequences.ensures);
+      listed = subst (λ (l : List ℕ). AreSequences h.coding l c.in_ok-program.program.items c.in_ok-sequences.sequences.items)
+          c.deref-2.ensures.value
+          (subst (λ (p : List ℕ). AreSequences h.coding c.deref-2.result.now p c.in_ok-sequences.sequences.items) c.deref-3.ensures.value
+          c.in_ok-sequences.ensures);
     }
 
 pub returns-clause-read : goal.returns-clause-read
@@ -49,8 +55,10 @@ returns-clause-read c =
     let h : code.Header = c.in_ok-header.header in
     let count : c.len-files.result ≡ length h.files.items = search rules in
     let sound : is_sound h.coding (length h.files.items) h.lengths.items c.in_ok-outer.outer.program.now ≡ true =
-    sym (c.is_sound.ensures ∙ (λ i. is_sound h.coding (count i) (c.deref.ensures.value i) c.in_ok-outer.outer.program.now)) ∙ c.if-not-is_sound.false in
-    unit_made (texts_strings c.args.texts.now) c.args.bytes.now _ c.in_ok-outer.ensures.read h c.in_ok-header.ensures.read c.in_ok-program.program.items
+    sym (c.is_sound.ensures ∙ (λ i. is_sound h.coding (count i) (c.deref.ensures.value i) c.in_ok-outer.outer.program.now))
+    ∙ c.if-not-is_sound.false in
+    unit_made (texts_strings c.args.texts.now) c.args.bytes.now _ c.in_ok-outer.ensures.read h c.in_ok-header.ensures.read
+    c.in_ok-program.program.items
     (omega arith) (omega arith) sound c.in_ok-program.ensures
 
 pub returns-clause-size : goal.returns-clause-size

@@ -19,11 +19,13 @@ ops-preserved-in-Sets c = walk_sets _ _ _ _ _ _ _ _ c.ops.invariant _ _ c.in-Ok.
 
 pub returns-then-next-a : goal.returns-then-next-a
 returns-then-next-a c =
-    walk_past _ _ _ _ _ _ _ _ c.ops.invariant _ _ c.in-Ok.ensures.read _ c.if-left-eq0.false c.in-Appends.ensures c.in-Some.ensures (omega arith)
+    walk_past _ _ _ _ _ _ _ _ c.ops.invariant _ _ c.in-Ok.ensures.read _ c.if-left-eq0.false c.in-Appends.ensures c.in-Some.ensures
+    (omega arith)
 
 pub ops-preserved : goal.ops-preserved
 ops-preserved c =
-    walk_appends _ _ _ _ _ _ _ _ c.ops.invariant _ _ c.in-Ok.ensures.read _ _ _ _ c.if-left-eq0.false c.in-Appends.ensures c.in-Some.ensures (omega arith)
+    walk_appends _ _ _ _ _ _ _ _ c.ops.invariant _ _ c.in-Ok.ensures.read _ _ _ _ c.if-left-eq0.false c.in-Appends.ensures c.in-Some.ensures
+    (omega arith)
     c.in_ok-join-in-Appends.ensures c.after_row-present.ensures refl
 
 pub returns : goal.returns

@@ -20,16 +20,19 @@ ops-preserved-in-Sets c = between_sets _ _ _ _ _ _ _ _ c.ops.invariant _ _ c.in-
 
 pub returns-then-next-b : goal.returns-then-next-b
 returns-then-next-b c =
-    between_past _ _ _ _ _ _ _ _ c.ops.invariant _ _ c.in-Ok.ensures.read _ c.if-left-eq0.false c.in-Appends.ensures c.in-Some.ensures (omega arith)
+    between_past _ _ _ _ _ _ _ _ c.ops.invariant _ _ c.in-Ok.ensures.read _ c.if-left-eq0.false c.in-Appends.ensures c.in-Some.ensures
+    (omega arith)
 
 pub returns-then-next-a : goal.returns-then-next-a
 returns-then-next-a c =
-    between_there _ _ _ _ _ _ _ _ c.ops.invariant _ _ c.in-Ok.ensures.read _ c.if-left-eq0.false c.in-Appends.ensures c.in-Some.ensures (omega arith)
+    between_there _ _ _ _ _ _ _ _ c.ops.invariant _ _ c.in-Ok.ensures.read _ c.if-left-eq0.false c.in-Appends.ensures c.in-Some.ensures
+    (omega arith)
     (omega arith)
 
 pub ops-preserved : goal.ops-preserved
 ops-preserved c =
-    between_more _ _ _ _ _ _ _ _ c.ops.invariant _ _ c.in-Ok.ensures.read _ _ _ c.if-left-eq0.false c.in-Appends.ensures c.in-Some.ensures (omega arith)
+    between_more _ _ _ _ _ _ _ _ c.ops.invariant _ _ c.in-Ok.ensures.read _ _ _ c.if-left-eq0.false c.in-Appends.ensures c.in-Some.ensures
+    (omega arith)
     (omega arith) c.after_row-present.ensures refl
 
 pub returns : goal.returns

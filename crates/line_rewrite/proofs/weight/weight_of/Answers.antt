@@ -21,7 +21,9 @@ loop-run-preserved c =
     c.saturating_add-weight.ensures
     ∙ ap (λ (n : ℕ). min (n + c.saturating_add.result) limit) c.loop-run.invariant
     ∙ ap (λ (n : ℕ). min (min sum limit + n) limit)
-    (c.saturating_add.ensures ∙ ap (λ (n : ℕ). min (n + 32) limit) (c.saturating_mul-rows.ensures ∙ ap (λ (n : ℕ). min (n * 96) limit) rows))
+    (c.saturating_add.ensures ∙ ap (λ (n : ℕ). min (n + 32) limit) (c.saturating_mul-rows.ensures
+    ∙ ap (λ (n : ℕ). min (n * 96) limit) rows))
     ∙ summed sum (length run.answer.rows) limit
     ∙ ap (λ (n : ℕ). min n limit)
-    (sym (sum_by_more weight c.args.runs.now c.loop-run.run-index run c.loop-run-test.true ∙ ap (λ (r : Run LineSaid). sum + weight r) item))
+    (sym (sum_by_more weight c.args.runs.now c.loop-run.run-index run c.loop-run-test.true
+    ∙ ap (λ (r : Run LineSaid). sum + weight r) item))

@@ -34,7 +34,8 @@ invariant_of-result c =
       version = version;
       units = units;
       indexed = subst (λ (us : List kept.Unit). IsIndexOf us c.in_ok-sequences.sequences) c.deref-4.ensures.value c.in_ok-sequences.ensures;
-      placed = subst (λ (l : List ℕ). (a : ℕ) → first_range c.in_ok-offsets.offsets a ≡ position (holds_address a) (map place_range (walked 5 l)))
+      placed = subst (λ (l : List ℕ). (a : ℕ) → first_range c.in_ok-offsets.offsets a ≡ position (holds_address a)
+          (map place_range (walked 5 l)))
           c.deref-5.ensures.value c.in_ok-offsets.ensures;
     }
 

@@ -14,17 +14,23 @@ loop-number-preserved c =
     let i = c.loop-number.number in
     let u : kept.Unit = c.index-units-number.result in
     record {
-      placed = all_more place_of c.loop-number.places.items c.add_unit.new.places.items _ i us u c.loop-number-test.true c.loop-number.invariant.placed
-          (c.in_ok-add_unit.ensures.placed ∙ ap (λ (v : kept.Unit). c.loop-number.places.items ++ map place_of (unit_numbered i v)) c.index-units-number.is);
-      ranged = all_more kept_range c.loop-number.ranges.items c.add_unit.new.ranges.items _ i us u c.loop-number-test.true c.loop-number.invariant.ranged
-          (c.in_ok-add_unit.ensures.ranged ∙ ap (λ (v : kept.Unit). c.loop-number.ranges.items ++ map kept_range (unit_numbered i v)) c.index-units-number.is);
+      placed = all_more place_of c.loop-number.places.items c.add_unit.new.places.items _ i us u c.loop-number-test.true
+          c.loop-number.invariant.placed
+          (c.in_ok-add_unit.ensures.placed ∙ ap (λ (v : kept.Unit). c.loop-number.places.items ++ map place_of (unit_numbered i v))
+          c.index-units-number.is);
+      ranged = all_more kept_range c.loop-number.ranges.items c.add_unit.new.ranges.items _ i us u c.loop-number-test.true
+          c.loop-number.invariant.ranged
+          (c.in_ok-add_unit.ensures.ranged ∙ ap (λ (v : kept.Unit). c.loop-number.ranges.items ++ map kept_range (unit_numbered i v))
+          c.index-units-number.is);
     }
 
 pub returns : goal.returns
 returns c = record {
-  places = all_done place_of c.loop-number.places.items _ c.loop-number.number c.args.units.now c.loop-number-test.false c.loop-number.invariant.placed;
+  places = all_done place_of c.loop-number.places.items _ c.loop-number.number c.args.units.now c.loop-number-test.false
+      c.loop-number.invariant.placed;
   first = subst (λ (rs : List Range). (a : ℕ) → first_range c.in_ok-first.first a ≡ position (holds_address a) rs)
       (c.deref.ensures.value
-      ∙ all_done kept_range c.loop-number.ranges.items _ c.loop-number.number c.args.units.now c.loop-number-test.false c.loop-number.invariant.ranged)
+      ∙ all_done kept_range c.loop-number.ranges.items _ c.loop-number.number c.args.units.now c.loop-number-test.false
+      c.loop-number.invariant.ranged)
       c.in_ok-first.ensures;
 }
