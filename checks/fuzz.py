@@ -1,28 +1,35 @@
 #!/usr/bin/env python3
 """Gives every command files and words that are wrong, and reports what it doesn't keep of what is promised.
 
-    python3 checks/fuzz.py PROGRAM COUNT SEED [--jobs N] [--keep FOLDER] [--only KIND] [--command COMMAND]
+    python3 checks/fuzz.py PROGRAM FIRST [COUNT] [--jobs N] [--minutes M] [--runs FILE] [--keep FOLDER] [--only KIND]
+                           [--command COMMAND]
 
-PROGRAM is a command, as `./sudrepka`. COUNT inputs are made, the same ones for the same SEED: an input is a command
-with its files. A file is a program with unwind and debug tables of every kind, of which none, one or a few things are
-changed: a field of the file's headers, of a symbol or a relocation (`headers`, `symbols`), of a table (`tables`), an
-instruction (`code`), data, or any bytes. A table is kept as a list of fields: one gets another value, is left out,
-doubled or put elsewhere, while lengths and offsets follow unless they are what is changed; and a part may stand there a
-thousand times. Texts, as profiles and maps, are changed by words and lines; some commands are words at random, and some have a
-standard output that takes nothing.
+PROGRAM is a command, as `./sudrepka`. Inputs have numbers: COUNT of them are made from the number FIRST on, or just
+that one. An input is a command with its files, and a number is the same input wherever a run begins. A file is a
+program with unwind and debug tables of every kind, of which none, one or a few things are changed: a field of the
+file's headers, of a symbol or a relocation (`headers`, `symbols`), of a table (`tables`), an instruction (`code`),
+data, or any bytes. A table is kept as a list of fields: one gets another value, is left out, doubled or put elsewhere,
+while lengths and offsets follow unless they are what is changed; and a part may stand there a thousand times. Texts,
+as profiles and maps, are changed by words and lines; some commands are words at random, and some have a standard
+output that takes nothing.
 
 What is reported (`fuzzed/promises.py`): a status or a text that isn't one of the command's, a fault that it doesn't
 look for, a signal, a file that is written where none should be or isn't where it should, seconds of the processor that
-aren't near-linear in the size of the files (0.25 and 4 millionths a byte), memory of more than 64 times their size (and
-16 MiB) or more than 1 GiB; and, of some: a rewrite that `verify` doesn't call faithful, that `map` prints otherwise,
-that ends otherwise than the input does on the symbol machine, or of which `lookup` says something else than of the
-input. With --keep the files of what is reported stay in FOLDER, in a folder each, with the words. The last lines count
-the answers of each command. `out of memory`, where the same command isn't so with all the memory there is, is reported;
-else it is only counted, with the first such input of each command. The status is 0 where nothing was reported.
+aren't near-linear in the size of the files (0.25 and 4 millionths a byte), memory of more than 64 times their size
+(and 16 MiB) or more than 1 GiB; and, of some: a rewrite that `verify` doesn't call faithful, that `map` prints
+otherwise, that ends otherwise than the input does on the symbol machine, or of which `lookup` or `frames` says
+something else than of the input. With --keep the files of what is reported, or of a single input, stay in FOLDER, in a
+folder each, with the words. The last lines count the answers of each command. `out of memory`, where the same command
+isn't so with all the memory there is, is reported; else it is only counted, with the first such input of each command.
+With --minutes no input is begun after that time. With --runs a line on the run is added to FILE: which inputs of which
+program were tried (the first digits of its SHA-256), and what came of them. The status is 0 where nothing was
+reported.
 """
 from __future__ import annotations
 import argparse
 import collections
+import datetime
+import hashlib
 import multiprocessing
 import os
 import random
@@ -31,6 +38,7 @@ import shlex
 import shutil
 import sys
 import tempfile
+import time
 from dataclasses import dataclass, field
 
 from fuzzed import texts
@@ -38,7 +46,7 @@ from fuzzed.programs import KINDS, Program
 from fuzzed.promises import (
     BYTES_A_BYTE, ENDED, MIB, MOST_BYTES, NO_MEMORY, OK, READ_FAULT, WRITE_FAULT, WRITES, Answer, complaints)
 
-CHUNK = 200                             # inputs that share a program
+CHUNK = 200                             # inputs that share a program, from a multiple of this number on
 COMMANDS = {"rewrite": 24, "map": 4, "run": 8, "symbols": 12, "record": 6, "lookup": 24, "frames": 12, "repair": 6,
             "verify": 10, "sample": 1, "words": 3, "full": 2}
 STEPS, SLACK, LONGEST, FILES = 3000, 16 * MIB, 64 * MIB, ("in", "profile", "out", "map")
@@ -50,9 +58,19 @@ FILLED = ["rewrite in profile out map", "map in profile", "run --steps 900 in", 
 
 @dataclass
 class Report:
+    """What came of the inputs from one on up to another."""
+    first: int
+    end: int
     counts: collections.Counter = field(default_factory=collections.Counter)
     found: list[str] = field(default_factory=list)
     memory: dict[str, str] = field(default_factory=dict)    # the first input of a command that was out of memory
+
+    def add(self, other: Report) -> None:
+        """Those that follow these."""
+        self.end = other.end
+        self.counts += other.counts
+        self.found += other.found
+        self.memory = other.memory | self.memory
 
 
 class Tool:
@@ -122,17 +140,19 @@ class Worker:
         os.chdir(tempfile.mkdtemp(dir=given.folder))
         put("input", b"some input\n" * 20)
         self.tool = Tool(shlex.split(given.program))
-        known = self.tool.run([], UNLIMITED).printed
-        self.commands = {name: often for name, often in COMMANDS.items() if name != "frames" or b"frames FILE" in known}
+        self.commands = COMMANDS
         if given.command:
             self.commands = {given.command: 1}
 
-    def chunk(self, number: int) -> Report:
-        """The inputs of a chunk."""
-        self.report, self.program = Report(), Program(random.Random(f"program {number}"))
+    def chunk(self, number: int) -> Report | None:
+        """Those inputs of a program that are wanted; None where there is no time left."""
+        if time.time() > self.given.until:
+            return None
+        given = self.given
+        first, end = max(number * CHUNK, given.first), min((number + 1) * CHUNK, given.first + given.count)
+        self.report, self.program = Report(first, end), Program(random.Random(f"program {number}"))
         self.moved = None
-        first = self.given.seed + number * CHUNK
-        for seed in range(first, min(first + CHUNK, self.given.seed + self.given.count)):
+        for seed in range(first, end):
             self.input(seed, random.Random(f"input {seed}"))
         return self.report
 
@@ -170,17 +190,24 @@ class Worker:
         self.report.counts[command, answer.kind()] += 1
         if found:
             self.complain(command, words, found)
+        elif self.given.count == 1:
+            self.keep(words)
         return answer
 
     def complain(self, command: str, words: list[str], found: list[str]) -> None:
         self.report.found.append(f"input {self.seed} ({', '.join(self.changes)}): {command}: {'; '.join(found)}")
-        if self.given.keep:
-            place = os.path.join(self.given.keep, str(self.seed))
-            os.makedirs(place, exist_ok=True)
-            for name in FILES:
-                if os.path.exists(name):
-                    shutil.copy(name, place)
-            put(os.path.join(place, "words"), shlex.join(words).encode())
+        self.keep(words)
+
+    def keep(self, words: list[str]) -> None:
+        """Keeps the files as they are, where that is wanted."""
+        if not self.given.keep:
+            return
+        place = os.path.join(self.given.keep, str(self.seed))
+        os.makedirs(place, exist_ok=True)
+        for name in FILES:
+            if os.path.exists(name):
+                shutil.copy(name, place)
+        put(os.path.join(place, "words"), shlex.join(words).encode())
 
     # Commands.
 
@@ -209,17 +236,18 @@ class Worker:
         self.compare_answers(rng, spans)
 
     def compare_answers(self, rng: random.Random, spans: bytes) -> None:
-        """What `lookup` says of an instruction before and after."""
+        """What `lookup` or `frames` says of an instruction before and after."""
         lines = [line.split(b" ") for line in spans.splitlines()]
         lines = [line for line in lines if len(line) == 3 and line[1] != b"0"]
         if not lines:
             return
         new, _, old = rng.choice(lines)
-        asked = (["lookup", "in", old.decode()], ["lookup", "out", new.decode()])
+        command = rng.choice(["lookup", "frames"])
+        asked = ([command, "in", old.decode()], [command, "out", new.decode()])
         before, after = (self.tool.run(words, UNLIMITED) for words in asked)
         said = [answer.printed.split(b" handler ")[0] for answer in (before, after)]
         if before.status == OK and (after.status != OK or said[0] != said[1]):
-            self.complain("lookup", asked[0], [f"{said[0]!r} becomes {said[1]!r}"])
+            self.complain(command, asked[0], [f"{said[0]!r} becomes {said[1]!r}"])
 
     def map(self, rng: random.Random, kinds: tuple) -> None:
         self.file(rng, kinds)
@@ -323,49 +351,83 @@ def changed_output(rng: random.Random, data: bytes) -> bytes:
     return bytes(out)
 
 
+GIVEN: argparse.Namespace | None = None
 WORKER: Worker | None = None
 
 
 def begin(given: argparse.Namespace) -> None:
+    global GIVEN
+    GIVEN = given
+
+
+def chunk(number: int) -> Report | None:
     global WORKER
-    WORKER = Worker(given)
-
-
-def chunk(number: int) -> Report:
+    WORKER = WORKER or Worker(GIVEN)
     return WORKER.chunk(number)
 
 
-def show(counts: collections.Counter, memory: dict[str, str]) -> None:
-    for command in sorted({command for command, _ in counts}):
-        mine = [(kind, count) for (name, kind), count in counts.most_common() if name == command]
+def tried(given: argparse.Namespace) -> Report:
+    """What came of all inputs, or of the first ones where there was no time for more."""
+    whole = Report(given.first, given.first)
+    numbers = range(given.first // CHUNK, -(-(given.first + given.count) // CHUNK))
+    with tempfile.TemporaryDirectory(dir="/dev/shm" if os.path.isdir("/dev/shm") else None) as given.folder:
+        with multiprocessing.Pool(given.jobs, begin, (given,)) as pool:
+            for report in pool.imap(chunk, numbers):
+                if report is None:
+                    break
+                whole.add(report)
+                for line in report.found:
+                    print(line, flush=True)
+    return whole
+
+
+def show(report: Report) -> None:
+    for command in sorted({command for command, _ in report.counts}):
+        mine = [(kind, count) for (name, kind), count in report.counts.most_common() if name == command]
         print(f"{command} {sum(count for _, count in mine)}: " + ", ".join(f"{count} {kind}" for kind, count in mine))
-    for command, first in sorted(memory.items()):
+    for command, first in sorted(report.memory.items()):
         print(f"{command} is out of memory: first at input {first}")
 
 
-def main() -> int:
+def summary(given: argparse.Namespace, report: Report, seconds: float) -> str:
+    """A line on a run."""
+    with open(shlex.split(given.program)[0], "rb") as file:
+        digest = hashlib.sha256(file.read()).hexdigest()[:12]
+    ways = "".join(f", {word} alone" for word in (given.command, given.only) if word)
+    runs, wanting = report.counts.total(), sum(n for (_, kind), n in report.counts.items() if kind == "out of memory")
+    return (f"{datetime.date.today()} {digest}: inputs {report.first} to {report.end - 1}{ways}, {runs} answers in "
+            f"{seconds:.0f} seconds with {given.jobs} jobs; {len(report.found)} reported, {wanting} out of memory")
+
+
+def arguments() -> argparse.Namespace:
     parser = argparse.ArgumentParser()
     parser.add_argument("program")
-    parser.add_argument("count", type=int)
-    parser.add_argument("seed", type=int)
+    parser.add_argument("first", type=int)
+    parser.add_argument("count", type=int, nargs="?", default=1)
     parser.add_argument("--jobs", type=int, default=1)
+    parser.add_argument("--minutes", type=float, default=float("inf"))
+    parser.add_argument("--runs")
     parser.add_argument("--keep", type=os.path.abspath)
     parser.add_argument("--only", choices=KINDS)
     parser.add_argument("--command", choices=list(COMMANDS))
     given = parser.parse_args()
     program = shlex.split(given.program)
-    given.program = shlex.join([shutil.which(program[0]) or os.path.abspath(program[0]), *program[1:]])
-    counts, memory, reported = collections.Counter(), {}, 0
-    with tempfile.TemporaryDirectory(dir="/dev/shm" if os.path.isdir("/dev/shm") else None) as given.folder:
-        with multiprocessing.Pool(given.jobs, begin, (given,)) as pool:
-            for report in pool.imap_unordered(chunk, range(-(-given.count // CHUNK))):
-                counts += report.counts
-                reported += len(report.found)
-                memory = report.memory | memory
-                for line in report.found:
-                    print(line, flush=True)
-    show(counts, memory)
-    return 1 if reported else 0
+    given.program = shlex.join([os.path.abspath(shutil.which(program[0]) or program[0]), *program[1:]])
+    return given
+
+
+def main() -> int:
+    given = arguments()
+    begun = time.time()
+    given.until = begun + 60 * given.minutes
+    report = tried(given)
+    show(report)
+    line = summary(given, report, time.time() - begun)
+    print(line)
+    if given.runs:
+        with open(given.runs, "a", encoding="utf-8") as file:
+            file.write(line + "\n")
+    return 1 if report.found else 0
 
 
 if __name__ == "__main__":

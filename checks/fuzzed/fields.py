@@ -90,57 +90,57 @@ def fixed(width: int, value: int) -> bytes:
     return (value & (1 << 8 * width) - 1).to_bytes(width, "little")
 
 
-def pieces(fields: list, address: int | None = None) -> list:
-    """The fields of a table, which may be loaded, with bytes in place of all that don't depend on marks."""
-    found, out, length = [], bytearray(), 0
+@dataclass(frozen=True, slots=True)
+class Piece:
+    """The bytes of a table, with zeros for lengths and offsets, which follow from the marks of all tables."""
+    data: bytes
+    marks: dict[object, int]
+    later: list[tuple[int, Length | Offset]]
+
+
+def piece(fields: list, address: int | None = None) -> Piece:
+    """The fields of a table, which may be loaded."""
+    out, marks, later = bytearray(), {}, []
     for field in fields:
         kind = type(field)
         if kind is Number:
-            data = fixed(field.width, field.value)
+            out += fixed(field.width, field.value)
         elif kind is Raw:
-            data = field.data
+            out += field.data
+        elif kind is Mark:
+            marks[field.name] = len(out)
         elif kind is Leb:
-            data = leb(field.value, field.signed, field.more)
+            out += leb(field.value, field.signed, field.more)
         elif kind is Address:
-            here = (address or 0) + length if field.relative else 0
-            data = fixed(field.width, field.value - here)
+            here = (address or 0) + len(out) if field.relative else 0
+            out += fixed(field.width, field.value - here)
         else:
-            found += [bytes(out), field]
-            out.clear()
-            length += 0 if kind is Mark else field.width or 5
-            continue
-        out += data
-        length += len(data)
-    return [*found, bytes(out)]
+            later.append((len(out), field))
+            out += bytes(field.width or 5)
+    return Piece(bytes(out), marks, later)
 
 
-def joined(tables: dict[str, list]) -> dict[str, bytes]:
-    """Tables of pieces, with lengths and offsets."""
-    marks, later, made = {}, [], {}
-    for name, parts in tables.items():
-        out = made[name] = bytearray()
-        for part in parts:
-            kind = type(part)
-            if kind is bytes:
-                out += part
-            elif kind is Mark:
-                marks[part.name] = len(out)
+def joined(tables: dict[str, Piece]) -> dict[str, bytes]:
+    """The tables with lengths and offsets."""
+    marks, made = {}, {}
+    for part in tables.values():
+        marks.update(part.marks)
+    for name, part in tables.items():
+        out = bytearray(part.data)
+        for place, field in part.later:
+            width = field.width or 5
+            marks[HERE] = place
+            if type(field) is Length:
+                value = marks.get(field.end, 0) - place - width
             else:
-                later.append((out, len(out), part))
-                out += bytes(part.width or 5)
-    for out, place, part in later:
-        width = part.width or 5
-        marks[HERE] = place
-        if type(part) is Length:
-            value = marks.get(part.end, 0) - place - width
-        else:
-            value = marks.get(part.to, 0) - marks.get(part.base, 0)
-        out[place:place + width] = fixed(part.width, value + part.more)
-    return {name: bytes(out) for name, out in made.items()}
+                value = marks.get(field.to, 0) - marks.get(field.base, 0)
+            out[place:place + width] = fixed(field.width, value + field.more)
+        made[name] = bytes(out)
+    return made
 
 
 def written(tables: Tables, addresses: dict[str, int]) -> dict[str, bytes]:
-    return joined({name: pieces(fields, addresses.get(name)) for name, fields in tables.items()})
+    return joined({name: piece(fields, addresses.get(name)) for name, fields in tables.items()})
 
 
 def odd_number(rng: random.Random, old: int, bits: int, pool: list[int]) -> int:

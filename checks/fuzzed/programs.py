@@ -5,7 +5,7 @@ import struct
 from dataclasses import dataclass
 
 from fuzzed import frames, lines, units
-from fuzzed.fields import FORMATS, Mark, Raw, joined, mutate, odd_number, pieces, written
+from fuzzed.fields import FORMATS, Mark, Raw, joined, mutate, odd_number, piece, written
 from odd import code as odd_code
 from odd.builder import PF_R, PT_LOAD, SHF_ALLOC, SHT_PROGBITS, SHT_RELA, SHT_SYMTAB
 from odd.shape import Shape
@@ -97,7 +97,7 @@ class Program:
         text, data = self.shape.code_section, self.shape.data_section
         self.places["code"] = places(text.place(), text.length() // 2, (2,))
         self.places["data"] = places(data.place(), data.length() // 4, (4,))
-        self.parts = {name: pieces(fields, self.addresses.get(name)) for name, fields in self.tables.items()}
+        self.parts = {name: piece(fields, self.addresses.get(name)) for name, fields in self.tables.items()}
         tables = joined(self.parts)
         for name in self.addresses:
             place = self.sections[name].place()
@@ -146,7 +146,7 @@ class Program:
 
     def put_tables(self, file: bytearray, tables: dict) -> None:
         """Tables that aren't loaded go behind the file; the others stay where they are."""
-        parts = {name: self.parts[name] if fields is self.tables[name] else pieces(fields, self.addresses.get(name))
+        parts = {name: self.parts[name] if fields is self.tables[name] else piece(fields, self.addresses.get(name))
                  for name, fields in tables.items()}
         for name, data in joined(parts).items():
             header = self.headers_at + 64 * self.shape.elf.index(self.sections[name])
