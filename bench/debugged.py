@@ -1,51 +1,18 @@
 """What `gdb` says where a program and its rewritten file stop: lines, frames, arguments and locals."""
 import os
 import re
-import shutil
-import socket
-import subprocess
-import tempfile
-import time
 
-from profiles import CROSS, output
-
-GDB = ["gdb-multiarch", "-batch", "-nx", "-ex", "set confirm off", "-ex", "set width 0",
-       "-ex", "set print frame-arguments all"]
-
-
-def free_port():
-    with socket.socket() as free:
-        free.bind(("127.0.0.1", 0))
-        return free.getsockname()[1]
-
-
-def session(path, words, given, commands):
-    """What gdb prints of commands in a program that `qemu-riscv64` runs, with its standard input."""
-    port = free_port()
-    with tempfile.TemporaryFile() as file, tempfile.TemporaryDirectory() as folder:
-        file.write(given)
-        file.seek(0)
-        # under names of one length, which stand on the stack, so that the stacks of both files are alike
-        program = shutil.copy(path, os.path.join(folder, "program"))
-        machine = subprocess.Popen(["qemu-riscv64", "-g", str(port), program, *words], stdin=file,
-                                   stdout=subprocess.DEVNULL, stderr=subprocess.DEVNULL)
-        try:
-            time.sleep(0.3)
-            asked = [word for command in commands for word in ("-ex", command)]
-            return output([*GDB, "-ex", f"target remote 127.0.0.1:{port}", *asked, path])
-        finally:
-            machine.kill()
-            machine.wait()
+from profiles import CROSS, GDB, debug, output
 
 
 def stops(path, words, given, places):
     """Stops once at each of the places. Gives what gdb says there: the address, and a text without addresses of code."""
-    ask = [f"tbreak *{place:#x}" for place in places]
+    ask = ["set print frame-arguments all", *(f"tbreak *{place:#x}" for place in places)]
     for _ in places:
         ask += ["continue", r'printf "\nSTOP %lx\n", $pc', "info line *$pc", "bt 12", "info args", "info locals",
                 r"echo \nEND\n"]
     found = []
-    for at, text in re.findall(r"\nSTOP ([0-9a-f]+)\n(.*?)\nEND\n", session(path, words, given, ask), re.S):
+    for at, text in re.findall(r"\nSTOP ([0-9a-f]+)\n(.*?)\nEND\n", debug(path, words, ask, given), re.S):
         # An address in a frame, of a line's range, or of a function in a variable, has moved.
         text = re.sub(r"0x[0-9a-f]+ in ", "", text)
         text = re.sub(r"0x[0-9a-f]+ <([\w.]+)(?:\+\d+)?>", r"<\1>", text)

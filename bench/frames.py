@@ -13,12 +13,10 @@ says of exceptions; `gdb` unwinds a stopped program.
 import bisect
 import re
 import shutil
-import socket
 import subprocess
 import sys
-import time
 
-from profiles import CROSS, output
+from profiles import CROSS, debug, output
 
 NOP, DEF_CFA, DEF_CFA_REGISTER, DEF_CFA_OFFSET, SP = 0x00, 0x0C, 0x0D, 0x0E, 2
 
@@ -176,19 +174,8 @@ def table_problems(old, new, spans):
 
 def backtrace(path, place, words):
     """The addresses and stack pointers of all frames where a program first comes to a place, by gdb."""
-    with socket.socket() as free:
-        free.bind(("127.0.0.1", 0))
-        port = free.getsockname()[1]
-    machine = subprocess.Popen(["qemu-riscv64", "-g", str(port), path, *words], stdout=subprocess.DEVNULL,
-                               stderr=subprocess.DEVNULL)
-    try:
-        time.sleep(0.5)
-        steps = ["-ex", r'printf "frame %lx %lx\n", $pc, $sp', "-ex", "up"] * 40
-        text = output(["gdb-multiarch", "-batch", "-nx", "-ex", f"target remote 127.0.0.1:{port}",
-                       "-ex", f"break *{place}", "-ex", "continue", *steps, path])
-    finally:
-        machine.kill()
-        machine.wait()
+    asked = [r'printf "frame %lx %lx\n", $pc, $sp', "up"] * 40
+    text = debug(path, words, [f"break *{place}", "continue", *asked])
     frames = [(int(found[1], 16), int(found[2], 16)) for found in re.finditer(r"frame ([0-9a-f]+) ([0-9a-f]+)", text)]
     return [frame for i, frame in enumerate(frames) if i == 0 or frame != frames[i - 1]]
 

@@ -1,476 +1,46 @@
 #!/usr/bin/env python3
 """Seconds and memory of files that are made to be slow, and how both grow with the file.
 
-    python3 bench/hostile.py [--tool COMMAND] [--kib KIB] [--command rewrite|lookup] [KIND..]
+    python3 bench/hostile.py [--tool COMMAND] [--kib KIB] [--large] [--command NAME].. [KIND..]
 
 Each kind is a small file in which few bytes name much: names that are ends of one text, headers of sections over one
 table, an entry of an unwind table with a row for each instruction. A file of about KIB, one of twice and one of four
-times the size are made in a temporary folder; COMMAND (`sudrepka` where it isn't given) rewrites each, and of those with
-debug tables looks up an address. Each line has the kind, the command, the size, the seconds of the processor and the peak
-memory in MiB of the best of three runs, and by how much both grew since the file of half the size. Where a file takes less
-than 0.05 seconds or 32 MiB, its growth says nothing and is left out. No more is given than 4 GiB and 300 seconds. All growth
-has to be below 2.5: the script ends with status 1 where some isn't. The kinds of SLOW are run only where they are named.
+times the size are made in a temporary folder, and COMMAND (`sudrepka` where it isn't given) does with each what NAME
+says, or all of COMMANDS: it rewrites it, verifies that, runs it on the symbol machine, repairs its profile, and of
+those with debug tables looks up an address, and the functions there. Each line has the kind, the command, the size,
+the seconds of the processor and the peak memory in MiB of the best of three runs, and by how much both grew since the
+file of half the size. Where a file takes less than 0.05 seconds or 32 MiB, its growth says nothing and is left out. No
+more is given than 4 GiB and 300 seconds. All growth has to be below 2.5: the script ends with status 1 where some
+isn't. What is known to be slow is run only where it is named. With --large those of LARGE are run, the last one at the
+size that is named there: 60,000 units over one table of declarations, a million lists that overlap, 64 MiB of rows at
+one address, a million entries for one range.
 """
 import argparse
 import os
-import random
 import resource
-import struct
 import subprocess
 import sys
 import tempfile
 
-BASE, TEXT = 0x10000, 64 + 56  # the address of the file's first byte, and where in the file its code begins
+from hostile_files import BASE, FILES, SLOW_FILES, SLOW_TABLES, TABLES, TEXT
+
 MOST, LEAST_SECONDS, LEAST_MIB = 2.5, 0.05, 32
 MOST_MEMORY, MOST_SECONDS = 4 << 30, 300
-SHT_PROGBITS, SHT_SYMTAB, SHT_STRTAB, SHT_RELA, STT_FUNC = 1, 2, 3, 4, 0x12
-R_RISCV_64, R_RISCV_BRANCH, R_RISCV_RELAX = 2, 16, 51
-MOST_SECTIONS = 65_000
-RETURN = bytes.fromhex("67800000")  # ret
-NOP = bytes.fromhex("13000000")
-CHOICE = bytes.fromhex("630c0500") + RETURN  # beqz a0, past the ret; ret
 
-
-def section(name, kind, flags, addr, offset, size, link=0, info=0, align=1, entsize=0):
-    return struct.pack("<IIQQQQIIQQ", name, kind, flags, addr, offset, size, link, info, align, entsize)
-
-
-def symbol(name, value, size):
-    return struct.pack("<IBBHQQ", name, STT_FUNC, 0, 1, value, size)
-
-
-def relocation(place, kind, name=0, addend=0):
-    return struct.pack("<QQq", place, name << 32 | kind, addend)
-
-
-class File:
-    """A file with one segment of code, in which sections are put one behind another. The section 1 is the code, 2 the
-    names of sections."""
-
-    def __init__(self, code, section_names=b"\0"):
-        self.body = bytearray(TEXT) + code
-        self.headers = [bytes(64), section(0, SHT_PROGBITS, 6, BASE + TEXT, TEXT, len(code), align=4)]
-        self.loaded = len(self.body)
-        self.add(SHT_STRTAB, section_names)
-
-    def put(self, contents):
-        """Puts bytes into the file, and says where."""
-        self.body += bytes(-len(self.body) % 8)
-        self.body += contents
-        return len(self.body) - len(contents)
-
-    def add(self, kind, contents, name=0, link=0, info=0, entsize=0):
-        """A section with these contents, and its index."""
-        return self.add_header(kind, self.put(contents), len(contents), name, link, info, entsize)
-
-    def add_header(self, kind, offset, size, name=0, link=0, info=0, entsize=0):
-        self.headers.append(section(name, kind, 0, 0, offset, size, link, info, 1, entsize))
-        return len(self.headers) - 1
-
-    def add_symbols(self, entries, names):
-        """A symbol table and its names: each entry is a place in the names, a value and a size."""
-        table = bytes(24) + b"".join(symbol(*entry) for entry in entries)
-        strings = len(self.headers) + 1
-        self.add(SHT_SYMTAB, table, link=strings, info=1, entsize=24)
-        self.add(SHT_STRTAB, names)
-
-    def bytes(self):
-        headers_at = self.put(b"".join(self.headers))
-        fields = (2, 243, 1, BASE + TEXT, 64, headers_at, 1, 64, 56, 1, 64, len(self.headers), 2)
-        struct.pack_into("<16sHHIQQQIHHHHHH", self.body, 0, b"\x7fELF\2\1\1", *fields)
-        segment = (1, 5, 0, BASE, BASE, self.loaded, self.loaded, 0x1000)
-        struct.pack_into("<IIQQQQQQ", self.body, 64, *segment)
-        return bytes(self.body)
-
-
-def long_name(size):
-    """A text of letters in which no two ends are alike for long."""
-    return bytes(random.Random(1).choices(b"abcdefghijklmnopqrstuvwxyz", k=size))
-
-
-def function_symbols(size, text_of):
-    """Functions of one instruction, whose names are ends of a text; half of the file is the text."""
-    count = size // 2 // 32
-    text = text_of(size // 2)
-    starts = [1 + k * (len(text) // count) for k in range(count)]
-    file = File(RETURN * count)
-    file.add_symbols([(starts[k], BASE + TEXT + 4 * k, 4) for k in range(count)], b"\0" + text + b"\0")
-    return file, [text[start - 1 :] for start in starts]
-
-
-def symbol_names(size):
-    return function_symbols(size, long_name)[0].bytes(), b""
-
-
-def like_names(size):
-    """All letters are alike, so that names differ in their lengths alone."""
-    return function_symbols(size, lambda length: b"a" * length)[0].bytes(), b""
-
-
-def named_names(size):
-    """The profile names some of them, as many as its own size allows; and half of the symbols have the longest name."""
-    count = size // 2 // 32
-    text = long_name(size // 2)
-    starts = [1 + max(k - count // 2, 0) * (2 * len(text) // count) for k in range(count)]
-    file = File(RETURN * count)
-    file.add_symbols([(starts[k], BASE + TEXT, 4) for k in range(count)], b"\0" + text + b"\0")
-    lines, left, length = [], size // 2, len(text)
-    while left > 2 * length and length > 0:
-        name = text[len(text) - length :]
-        lines.append(b"1 %s 0 1 %s 0 0 1\n" % (name, name))
-        left -= 2 * length
-        length //= 2
-    lines += [b"1 %s 0 1 %s 0 0 1\n" % (text[-k:], text[-k:]) for k in range(1, int((size / 2) ** 0.5))]
-    return file.bytes(), b"".join(lines)
-
-
-def cold_names(size, most=1 << 32):
-    """Each function has a part that didn't run, which gets a symbol of its own with the name of the function."""
-    count = min(size // 2 // 80, most)
-    text = long_name(size // 2)
-    code = (CHOICE + 4 * NOP + RETURN) * count
-    file = File(code)
-    each = len(code) // count
-    starts = [1 + k * (len(text) // count) for k in range(count)]
-    file.add_symbols([(starts[k], BASE + TEXT + each * k, each) for k in range(count)], b"\0" + text + b"\0")
-    lines = [b"1 @%x 0 1 @%x 4 0 9\n" % (2 * (BASE + TEXT + each * k,)) for k in range(count)]
-    return file.bytes(), b"".join(lines)
-
-
-def few_cold_names(size):
-    """As many as are written: their names have 13 times the bytes of the file."""
-    return cold_names(size, 26)
-
-
-def section_names(size):
-    """Sections without contents, whose names are ends of one text."""
-    count = min(size // 2 // 64, MOST_SECTIONS)
-    text = long_name(size // 2)
-    file = File(RETURN, b"\0" + text + b"\0")
-    file.add_symbols([(0, BASE + TEXT, 4)], b"\0")
-    for k in range(count):
-        file.add_header(SHT_PROGBITS, 0, 0, name=1 + k * (len(text) // count))
-    return file.bytes(), b""
-
-
-def headers_over(size, kind, table, entsize, step=0, infos=(1,), most=MOST_SECTIONS):
-    """Many section headers over one table, half of the file each; each begins so many bytes after the one before."""
-    file = File(RETURN)
-    file.add_symbols([(0, BASE + TEXT, 4)], b"\0")
-    names = len(file.headers) - 1
-    offset = file.put(table)
-    for k in range(min(size // 2 // 64, most)):
-        info = infos[k % len(infos)]
-        file.add_header(kind, offset + step * k, len(table) - step * k, link=names, info=info, entsize=entsize)
-    return file.bytes(), b""
-
-
-def relocation_headers(size):
-    return headers_over(size, SHT_RELA, relocation(BASE + TEXT, R_RISCV_RELAX) * (size // 2 // 24), 24)
-
-
-def relocation_ends(size):
-    """Each header begins one relocation after the one before."""
-    return headers_over(size, SHT_RELA, relocation(BASE + TEXT, R_RISCV_RELAX) * (size // 2 // 24), 24, step=24)
-
-
-def relocation_targets(size):
-    """As many sections over the code as tables over one list of relocations: each table is for a section of its own."""
-    file = File(RETURN)
-    file.add_symbols([(0, BASE + TEXT, 4)], b"\0")
-    names = len(file.headers) - 1
-    table = relocation(BASE + TEXT, R_RISCV_RELAX) * (size // 2 // 24)
-    offset = file.put(table)
-    for _ in range(min(size // 2 // 128, MOST_SECTIONS // 2)):
-        file.headers.append(section(0, SHT_PROGBITS, 2, BASE + TEXT, TEXT, len(RETURN)))
-        file.add_header(SHT_RELA, offset, len(table), link=names, info=len(file.headers) - 1, entsize=24)
-    return file.bytes(), b""
-
-
-def symbol_headers(size):
-    return headers_over(size, SHT_SYMTAB, symbol(0, BASE + TEXT, 4) * (size // 2 // 24), 24)
-
-
-def text_headers(size):
-    return headers_over(size, SHT_PROGBITS, bytes(size // 2), 0)
-
-
-def few_text_headers(size):
-    """As many as are written: their contents have 15 times the bytes of the file."""
-    return headers_over(size, SHT_PROGBITS, bytes(size // 2), 0, most=15)
-
-
-def frame_entry(fields):
-    """An entry of `.debug_frame`: its length, and its fields filled to 4 bytes by DW_CFA_nop."""
-    fields += bytes(-len(fields) % 4)
-    return struct.pack("<I", len(fields)) + fields
-
-
-def frame_rows(count):
-    """A row for each instruction, which differs from the one before it in the offset of the frame's address:
-    DW_CFA_advance_loc by one unit of code, and DW_CFA_def_cfa_offset."""
-    return b"".join(bytes([0x41, 0x0E, k % 100]) for k in range(1, count))
-
-
-def framed_functions(size, length, in_one):
-    """Functions of so many instructions, with a row for each in `.debug_frame`: one entry for all, or one for each."""
-    count = size // (24 + 4 * length + (3 * length if in_one else 24 + 3 * length))
-    file = File(((length - 1) * NOP + RETURN) * count, b"\0.debug_frame\0")
-    starts = [BASE + TEXT + 4 * length * k for k in range(count)]
-    file.add_symbols([(0, start, 4 * length) for start in starts], b"\0")
-    # version 4, no augmentation, addresses of 8 bytes; code in units of 4 bytes, data of -8; register 1
-    head = struct.pack("<I", 0xFFFFFFFF) + bytes.fromhex("04000800047801")
-    table = [frame_entry(head + bytes.fromhex("0c0200"))]  # DW_CFA_def_cfa 2, 0
-    rows = length * count if in_one else length
-    for start in starts[:1] if in_one else starts:
-        table.append(frame_entry(struct.pack("<IQQ", 0, start, 4 * rows) + frame_rows(rows)))
-    file.add(SHT_PROGBITS, b"".join(table), name=1)
-    return file.bytes(), b""
-
-
-def long_frame_entry(size):
-    return framed_functions(size, 16, True)
-
-
-def frame_entries(size):
-    return framed_functions(size, 4, False)
-
-
-def line_unit(program, files=b"\2\1\x08\2\x0b\2a.c\0\0a.c\0\0"):
-    """A unit of `.debug_line` of version 5, with one file."""
-    numbers = bytes.fromhex("010101fb0e0d000101010100000001000001") + b"\1\1\x08\1/s\0" + files
-    unit = struct.pack("<HBBI", 5, 8, 0, len(numbers)) + numbers + program
-    return struct.pack("<I", len(unit)) + unit
-
-
-def line_sequence(start, operations):
-    """DW_LNE_set_address, operations and DW_LNE_end_sequence."""
-    return bytes.fromhex("000902") + struct.pack("<Q", start) + operations + bytes.fromhex("000101")
-
-
-def lined_functions(count, length, program):
-    """Functions of so many instructions, with a line table of one unit, whose program follows from their starts."""
-    file = File(((length - 1) * NOP + RETURN) * count, b"\0.debug_line\0")
-    starts = [BASE + TEXT + 4 * length * k for k in range(count)]
-    file.add_symbols([(0, start, 4 * length) for start in starts], b"\0")
-    file.add(SHT_PROGBITS, line_unit(program(starts)), name=1)
-    return file.bytes(), b""
-
-
-def line_rows(size):
-    """Each instruction has a row, of a special opcode."""
-    rows = b"".join(bytes([13 + 5 + 14 * 4 * (k > 0) + k % 3]) for k in range(16)) + b"\2\4"
-    return lined_functions(size // 130, 16, lambda starts: b"".join(line_sequence(start, rows) for start in starts))
-
-
-def line_sequences(size):
-    """All sequences cover the same functions, the first of which answers."""
-    count = min(size // 40, 20_000)
-    sequence = line_sequence(BASE + TEXT, b"\x12\2" + uleb(4 * count))
-    return lined_functions(count, 1, lambda _: sequence * ((size - 28 * count) // len(sequence)))
-
-
-def line_operations(size):
-    """Operations without rows between two rows, under which all functions lie."""
-    count = size // 200
-    operations = b"\x12" + b"\3\0" * ((size - 40 * count) // 2) + b"\2\4\x12\2" + uleb(4 * count - 4)
-    return lined_functions(count, 1, lambda starts: line_sequence(starts[0], operations))
-
-
-def line_address(size):
-    """Many rows at one address, under which all functions lie."""
-    count = size // 200
-    operations = b"\x12\x13" * ((size - 40 * count) // 2) + b"\2" + uleb(4 * count)
-    return lined_functions(count, 1, lambda starts: line_sequence(starts[0], operations))
-
-
-def debug_file(tables, code=NOP + RETURN):
-    """One function, and tables that aren't loaded, by their names."""
-    names = b"\0" + b"".join(name.encode() + b"\0" for name in tables)
-    file = File(code, names)
-    file.add_symbols([(0, BASE + TEXT, len(code))], b"\0")
-    for name, contents in tables.items():
-        file.add(SHT_PROGBITS, contents, name=names.index(b"\0" + name.encode() + b"\0") + 1)
-    return file.bytes(), b""
-
-
-def unit(entries, declarations=0):
-    """A compile unit of version 5, whose declarations stand there."""
-    contents = struct.pack("<HBBI", 5, 1, 8, declarations) + entries
-    return struct.pack("<I", len(contents)) + contents
-
-
-def declaration(code, tag, children, *attributes):
-    """The declaration of a code, with pairs of an attribute and a form."""
-    fields = uleb(code) + uleb(tag) + bytes([children]) + b"".join(uleb(name) + uleb(form) for name, form in attributes)
-    return fields + b"\0\0"
-
-
-def units_over_declarations(size):
-    """Units of one entry, all over the same declarations, of which each uses the last; these are half of the file."""
-    least = 25
-    count = max(1, size // 2 // 8)
-    fields = ((0x11, 0x01), (0x12, 0x06))  # DW_AT_low_pc by DW_FORM_addr, DW_AT_high_pc by DW_FORM_data4
-    declarations = b"".join(declaration(code, 0x11, 0) for code in range(1, count)) + declaration(count, 0x11, 0, *fields)
-    entry = uleb(count) + struct.pack("<QI", BASE + TEXT, 8)
-    units = unit(entry) * (size // 2 // (least + len(uleb(count)) - 1))
-    return debug_file({".debug_info": units, ".debug_abbrev": declarations + b"\0"})
-
-
-def nested_entries(size):
-    """Each entry is the child of the one before it."""
-    declarations = declaration(1, 0x0B, 1) + b"\0"  # DW_TAG_lexical_block
-    return debug_file({".debug_info": unit(b"\1" * (size // 2) + bytes(size // 2)), ".debug_abbrev": declarations})
-
-
-def lists_that_overlap(size):
-    """As many entries as ranges stand one behind another: the list of each begins one range after that of the entry before it,
-    and all end together."""
-    count = size // 8
-    declarations = declaration(1, 0x11, 1, (0x11, 0x01)) + declaration(2, 0x2E, 0, (0x55, 0x17)) + b"\0"
-    entries = b"".join(struct.pack("<BI", 2, 12 + 3 * k) for k in range(count))
-    info = unit(b"\1" + struct.pack("<Q", BASE + TEXT) + entries + b"\0")
-    ranges = b"\4\0\4" * count + b"\0"  # DW_RLE_offset_pair 0, 4
-    head = struct.pack("<IHBBI", 8 + len(ranges), 5, 8, 0, 0)
-    return debug_file({".debug_info": info, ".debug_abbrev": declarations, ".debug_rnglists": head + ranges})
-
-
-def one_list(size):
-    """Entries that all name one list of locations; it is half of the file."""
-    declarations = declaration(1, 0x11, 1, (0x11, 0x01), (0x12, 0x06)) + declaration(2, 0x34, 0, (0x02, 0x17)) + b"\0"
-    entries = struct.pack("<BI", 2, 12) * (size // 2 // 5)
-    info = unit(b"\1" + struct.pack("<QI", BASE + TEXT, 8) + entries + b"\0")
-    places = b"\4\0\0\1\x50" * (size // 2 // 5) + b"\4\0\4\1\x50\0"  # DW_LLE_offset_pair, and DW_OP_reg0
-    head = struct.pack("<IHBBI", 8 + len(places), 5, 8, 0, 0)
-    return debug_file({".debug_info": info, ".debug_abbrev": declarations, ".debug_loclists": head + places})
-
-
-def frames_of_one_range(size):
-    """Entries of `.debug_frame` that are all for the same code: the first answers."""
-    head = struct.pack("<I", 0xFFFFFFFF) + bytes.fromhex("04000800047801")
-    table = frame_entry(head + bytes.fromhex("0c0200"))
-    entry = frame_entry(struct.pack("<IQQ", 0, BASE + TEXT, 8) + b"\x41\x0e\x10")
-    return debug_file({".debug_frame": table + entry * (size // len(entry))})
-
-
-def line_long_path(size):
-    """Each instruction has a row, and all rows the same path, which is half of the file."""
-    count = size // 2 // 6
-    code, rows = NOP * (count - 1) + RETURN, b"\x12" + b"\x4b" * (count - 1) + b"\2\4"  # special opcodes, by 4 bytes each
-    files = b"\2\1\x08\2\x0b\2" + 2 * (long_name(size // 4) + b"\0\0")
-    return debug_file({".debug_line": line_unit(line_sequence(BASE + TEXT, rows), files)}, code)
-
-
-def line_paths(size):
-    """Many files, whose paths are ends of one text by DW_FORM_line_strp; it is half of the file."""
-    count = size // 2 // 5
-    entries = b"".join(struct.pack("<IB", k * (size // 2) // count, 0) for k in range(count))
-    program = line_sequence(BASE + TEXT, b"\x12\2\x08")
-    unit = line_unit(program, b"\2\1\x1f\2\x0b" + uleb(count) + entries)
-    return debug_file({".debug_line": unit, ".debug_line_str": long_name(size // 2) + b"\0"})
-
-
-def entry_attributes(size):
-    """As many attributes of a declaration as entries that have it; none takes bytes in an entry."""
-    count = size // 2 // 4
-    attributes = ((0x2200 + k, 0x19) for k in range(count))  # DW_FORM_flag_present
-    declarations = declaration(1, 0x34, 0, *attributes) + declaration(2, 0x11, 1) + b"\0"
-    return debug_file({".debug_info": unit(b"\2" + b"\1" * (size // 2) + b"\0"), ".debug_abbrev": declarations})
-
-
-def nested_ranges(count):
-    """Ranges of the first instructions, each inside the one behind it."""
-    return [(BASE + TEXT + 4 * k, 4 * (count - 2 * k)) for k in reversed(range(count // 2))]
-
-
-def frames_of_nested_ranges(size):
-    """Entries of `.debug_frame` for ranges each inside the next one, so that each answers for two instructions."""
-    count = size // 22
-    head = struct.pack("<I", 0xFFFFFFFF) + bytes.fromhex("04000800047801")
-    table = [frame_entry(head + bytes.fromhex("0c0200"))]
-    table += [frame_entry(struct.pack("<IQQ", 0, *bounds) + b"\x41\x0e\x10") for bounds in nested_ranges(count)]
-    return debug_file({".debug_frame": b"".join(table)}, NOP * (count - 1) + RETURN)
-
-
-def tables_of_nested_ranges(size):
-    """Two units, whose ranges in `.debug_aranges` are each inside the next one."""
-    count = size // 12
-    table = b"".join(struct.pack("<QQ", *bounds) for bounds in nested_ranges(count)) + bytes(16)
-    units = [unit(b"\1")] * 2
-    tables = []
-    for k, part in enumerate((table[: len(table) // 32 * 16] + bytes(16), table[len(table) // 32 * 16 :])):
-        contents = struct.pack("<HIBBI", 2, k * len(units[0]), 8, 0, 0) + part
-        tables.append(struct.pack("<I", len(contents)) + contents)
-    declarations = declaration(1, 0x11, 0) + b"\0"
-    names = {".debug_info": b"".join(units), ".debug_abbrev": declarations, ".debug_aranges": b"".join(tables)}
-    return debug_file(names, NOP * (count - 1) + RETURN)
-
-
-def frames_of_many_rules(size):
-    """Entries of `.debug_frame` for an instruction each, all with the rules of one CIE, which are half of the file."""
-    count = size // 2 // 32
-    head = struct.pack("<I", 0xFFFFFFFF) + bytes.fromhex("040008000478010c0200")
-    rules = b"".join(b"\x07" + uleb(128 + k) for k in range(size // 2 // 4))  # DW_CFA_undefined
-    table = [frame_entry(head + rules)]
-    table += [frame_entry(struct.pack("<IQQ", 0, BASE + TEXT + 4 * k, 4) + b"\x0e" + uleb(k % 100)) for k in range(count)]
-    return debug_file({".debug_frame": b"".join(table)}, NOP * (count - 1) + RETURN)
-
-
-def frame_of_growing_rules(size):
-    """One entry of `.debug_frame` with a rule more at each instruction."""
-    count = size // 9
-    head = struct.pack("<I", 0xFFFFFFFF) + bytes.fromhex("040008000478010c0200")
-    rows = b"".join(b"\x41\x07" + uleb(128 + k) for k in range(count - 1))
-    table = frame_entry(head) + frame_entry(struct.pack("<IQQ", 0, BASE + TEXT, 4 * count) + rows)
-    return debug_file({".debug_frame": table}, NOP * (count - 1) + RETURN)
-
-
-def uleb(number):
-    """A number as ULEB128."""
-    out = bytearray()
-    while number >= 128:
-        out.append(number % 128 + 128)
-        number //= 128
-    return bytes(out) + bytes([number])
-
-
-KINDS = {
-    "symbol-names": symbol_names,
-    "like-names": like_names,
-    "named-names": named_names,
-    "cold-names": cold_names,
-    "few-cold-names": few_cold_names,
-    "section-names": section_names,
-    "relocation-headers": relocation_headers,
-    "relocation-ends": relocation_ends,
-    "relocation-targets": relocation_targets,
-    "symbol-headers": symbol_headers,
-    "text-headers": text_headers,
-    "few-text-headers": few_text_headers,
-    "long-frame-entry": long_frame_entry,
-    "frame-entries": frame_entries,
-    "line-rows": line_rows,
-    "line-sequences": line_sequences,
-    "line-operations": line_operations,
-    "line-address": line_address,
-    "line-paths": line_paths,
-    "one-range": frames_of_one_range,
-    "nested-ranges": frames_of_nested_ranges,
-    "aranges": tables_of_nested_ranges,
-    "declarations": units_over_declarations,
-    "nested": nested_entries,
-    "one-list": one_list,
+# Sizes in KiB of files whose tables are as large as any, or nearly so.
+LARGE = {"declarations": 3328, "lists": 8192, "line-address": 65500, "one-range": 28672}
+# The commands, with the words behind the tool's.
+COMMANDS = {
+    "rewrite": "rewrite {file} {profile} {out} {map}",
+    "verify": "verify {file} {out} {map}",
+    "symbols": "run --symbols --steps 100000 {file}",
+    "repair": "repair {file} {profile} {repaired}",
+    "lookup": "lookup {file} {address:x}",
+    "frames": "frames {file} {address:x}",
 }
-# What is known to take longer than in the size of the file: run where it is named alone.
-SLOW = {
-    "lists": lists_that_overlap,
-    "attributes": entry_attributes,
-    "line-long-path": line_long_path,
-    "cie-rules": frames_of_many_rules,
-    "growing-rules": frame_of_growing_rules,
-}
-# Those with debug tables, in which an address is looked up too.
-LOOKED_UP = list(KINDS)[list(KINDS).index("long-frame-entry") :] + list(SLOW)
+# Those that look at tables.
+LOOKING = ["lookup", "frames"]
+KINDS = FILES | TABLES | SLOW_FILES | SLOW_TABLES
 
 
 def limit():
@@ -504,28 +74,36 @@ def arguments():
     words = argparse.ArgumentParser(description="seconds and memory of files that are made to be slow")
     words.add_argument("--tool", default="sudrepka", help="the command that takes `rewrite ..`")
     words.add_argument("--kib", type=int, default=512)
-    words.add_argument("--command", choices=["rewrite", "lookup"], help="one of the two")
+    words.add_argument("--large", action="store_true", help="the kinds and sizes of LARGE")
+    words.add_argument("--command", choices=list(COMMANDS), action="append", help="one of those that are run")
     words.add_argument("--make", help="writes the smallest file of each kind into this folder, and runs nothing")
-    words.add_argument("kinds", nargs="*", choices=[[], *KINDS, *SLOW], default=[])
+    words.add_argument("kinds", nargs="*", choices=[[], *KINDS], default=[])
     return words.parse_args()
 
 
-def measure_growth(given, kind, command, folder):
-    """Whether what a command takes grows as it should: prints a line a size."""
+def make(given, kind, times, folder):
+    """Makes a file of so many times the least size, and says what its files are called."""
+    parts = ("file", "profile", "out", "map", "repaired")
+    names = {name: os.path.join(folder, f"{kind}.{times}.{name}") for name in parts}
+    size = (LARGE[kind] // 4 if given.large else given.kib) * 1024 * times
+    # in a process of its own, since a child's peak counts what its parent had when it began
+    maker = [sys.executable, os.path.abspath(__file__), "--write", kind, str(size), names["file"], names["profile"]]
+    subprocess.run(maker, check=True)
+    return names | {"address": BASE + TEXT}
+
+
+def measure_growth(given, kind, command, files):
+    """Whether what a command takes grows as it should: prints a line a file."""
     before, well = (None, None), True
-    names = [os.path.join(given.make or folder, name) for name in (f"{kind}.in", f"{kind}.profile", "out", "map")]
-    words = ["rewrite", *names] if command == "rewrite" else ["lookup", names[0], f"{BASE + TEXT:x}"]
-    for times in (1, 2, 4):
-        # in a process of its own, since a child's peak counts what its parent had when it began
-        maker = [sys.executable, os.path.abspath(__file__), "--write", kind, str(given.kib * 1024 * times), *names[:2]]
-        subprocess.run(maker, check=True)
-        if given.make:
-            break
+    for names in files:
+        if command == "verify" and not os.path.exists(names["map"]):
+            continue
+        words = COMMANDS[command].format(**names).split()
         seconds, peak, last = measure([*given.tool.split(), *words])
         grew = growth(seconds, before[0], LEAST_SECONDS), growth(peak, before[1], LEAST_MIB)
         before = (seconds, peak)
         well = well and all(each is None or each < MOST for each in grew)
-        kib = os.path.getsize(names[0]) // 1024
+        kib = os.path.getsize(names["file"]) // 1024
         figures = f"{kib:6} KiB {seconds:8.3f} s {show(grew[0]):5} {peak:8.1f} MiB {show(grew[1]):5}"
         print(f"{kind:18} {command:7} {figures} {last[-60:]}", flush=True)
     return well
@@ -534,16 +112,20 @@ def measure_growth(given, kind, command, folder):
 def main():
     given = arguments()
     well = True
-    with tempfile.TemporaryDirectory() as folder:
-        for kind in given.kinds or KINDS:
-            for command in ["rewrite"] + ["lookup"] * (kind in LOOKED_UP):
-                if given.command in (None, command):
-                    well = measure_growth(given, kind, command, folder) and well
+    for kind in given.kinds or (LARGE if given.large else FILES | TABLES):
+        if given.make:
+            make(given, kind, 1, given.make)
+            continue
+        with tempfile.TemporaryDirectory() as folder:
+            files = [make(given, kind, times, folder) for times in (1, 2, 4)]
+            for command in given.command or COMMANDS:
+                if kind in TABLES | SLOW_TABLES or command not in LOOKING:
+                    well = measure_growth(given, kind, command, files) and well
     sys.exit(0 if well else 1)
 
 
 def write(kind, size, file_path, profile_path):
-    contents, profile = (KINDS | SLOW)[kind](size)
+    contents, profile = KINDS[kind](size)
     for path, data in ((file_path, contents), (profile_path, profile)):
         with open(path, "wb") as file:
             file.write(data)

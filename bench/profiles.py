@@ -1,9 +1,12 @@
-"""What other scripts share: runs on `qemu-riscv64` by the addresses of instructions, and profiles by `record`."""
+"""What other scripts share: runs on `qemu-riscv64`, by the addresses of instructions or under `gdb`, and profiles by `record`."""
 import os
+import shutil
 import subprocess
 import tempfile
+import time
 
 CROSS = "riscv64-unknown-elf-"
+GDB = ["gdb-multiarch", "-batch", "-nx", "-ex", "set confirm off", "-ex", "set width 0"]
 
 
 def output(command):
@@ -28,6 +31,25 @@ def follow(path, words, go, given=b""):
         process.wait()
         printed.seek(0)
         return process.returncode, printed.read()
+
+
+def debug(path, words, commands, given=b""):
+    """What gdb prints of commands in a program that `qemu-riscv64` runs, with its standard input."""
+    with tempfile.TemporaryFile() as file, tempfile.TemporaryDirectory() as folder:
+        file.write(given)
+        file.seek(0)
+        # under names of one length, which stand on the stack, so that the stacks of an input and its output are alike
+        program, door = shutil.copy(path, os.path.join(folder, "program")), os.path.join(folder, "door")
+        machine = subprocess.Popen(["qemu-riscv64", "-g", door, program, *words], stdin=file, stdout=subprocess.DEVNULL,
+                                   stderr=subprocess.DEVNULL)
+        try:
+            while not os.path.exists(door) and machine.poll() is None:
+                time.sleep(0.02)
+            asked = [word for command in commands for word in ("-ex", command)]
+            return output([*GDB, "-ex", f"target remote {door}", *asked, path])
+        finally:
+            machine.kill()
+            machine.wait()
 
 
 def record(tool, path, words, profile):

@@ -12,7 +12,8 @@ them all. COMMAND (`./sudrepka` where it isn't given) records a short run of eac
 - `run` and `qemu-riscv64` have to say the same of both files, for a short and for a longer run, and `run --symbols`
   has to follow the input to its end, but where it unwinds itself: it then reads the program header of its table, which
   a rewrite changes, so that run is stuck;
-- `readelf -aW` and `eu-elflint` may not complain of the output where they don't of the input;
+- `readelf -aW`, `eu-elflint` and `llvm-dwarfdump --verify` may not complain of the output where they don't of the
+  input;
 - `objdump` has to find an instruction at each line of the map, with the same operation but for branches and jumps;
 - `gdb` has to find the functions at their new addresses, and to read the same instructions there;
 - `readelf` has to find the same rows of unwind tables at the bytes of the new code as at their owners, `llvm-dwarfdump`
@@ -35,6 +36,7 @@ import sys
 import tempfile
 
 sys.path.insert(0, os.path.dirname(os.path.abspath(__file__)))
+from dwarf_verify import verify_problems  # noqa: E402
 from frames import backtrace_problems, mend_tables, table_problems  # noqa: E402
 from line_rows import leave_lines, line_problems, table_size  # noqa: E402
 from profiles import CROSS, output, record  # noqa: E402
@@ -58,6 +60,8 @@ LINES = [*NO_TABLES, "-g"]
 # relaxations leave relocations of types of its own.
 LINK = ["-Wl,--emit-relocs", "-Wl,--no-relax", "-Wl,--gc-sections"]
 STRIP = ["-Wl,--strip-debug"]
+# Labels of assemblers in debug tables keep their values when these are written anew.
+LABELS = ["-X", "--wildcard", "--strip-symbol=$d*"]
 NO_DATA = ["-Wl,--defsym=__tdata_start=0,--defsym=__tdata_end=0"]  # no thread-local data with a first value
 LAYOUTS = {
     "roomy": ["-T", os.path.join(PROGRAMS, "roomy.ld")],
@@ -185,30 +189,40 @@ class Checks:
         if done.stdout != "faithful\n":
             self.say(f"verify says {done.stdout.strip()!r}")
 
-    def complaints(self, command, pattern, kept=lambda line: line):
-        """Lines that a tool prints of the output and not of the input, without numbers."""
+    def complaints(self, command, pattern, without=()):
+        """Lines that a tool prints of the output and not of the input, without numbers. Options of objcopy can take
+        something out of the output before."""
         found = []
-        for path in (self.old, self.new):
-            done = subprocess.run([*command, path], capture_output=True, text=True, errors="replace", check=False)
-            lines = [line for line in (done.stdout + done.stderr).splitlines() if re.search(pattern, line)]
-            found.append({re.sub(r"\[ *\d+\]|\b\d+\b", "N", kept(line)) for line in lines})
+        with tempfile.TemporaryDirectory() as folder:
+            copy = os.path.join(folder, "copy")
+            for path in (self.old, self.new):
+                if without and path == self.new:
+                    call([CROSS + "objcopy", *without, path, copy])
+                else:
+                    shutil.copy(path, copy)
+                done = subprocess.run([*command, copy], capture_output=True, text=True, errors="replace", check=False)
+                lines = [line for line in (done.stdout + done.stderr).splitlines() if re.search(pattern, line)]
+                found.append({re.sub(r"\[ *\d+\]|\b\d+\b", "N", line) for line in lines})
         return sorted(found[1] - found[0])
 
     def readers(self):
         for line in self.complaints([CROSS + "readelf", "-aW"], r"(?i)warning|error|corrupt|unknown section|overlap"):
             self.say(f"readelf: {line}")
         if shutil.which("eu-elflint"):
-            for line in self.complaints(["eu-elflint", "--gnu-ld"], r"."):
+            for line in self.complaints(["eu-elflint", "--gnu-ld"], r".", LABELS):
                 # Sections of relocations are left out: a header of type SHT_NULL stays, with the name.
                 if not re.search(r"expected RELA, is NULL|nonzero sh_name for NULL section|^No errors", line):
                     self.say(f"eu-elflint: {line}")
+        if dump := newest("llvm-dwarfdump"):
+            self.problems += verify_problems(dump, self.old, self.new)
 
     def instructions(self, path, section):
         """The instructions that objdump finds: by address the number of bytes, the operation and its operands."""
         found = {}
         # Without mapping symbols: binutils 2.40 takes one without an instruction set to keep that of the one before it.
         copy = path + ".plain"
-        output([CROSS + "objcopy", "--wildcard", "--strip-symbol=$*", path, copy])
+        # And without debug tables: it doesn't know all types of relocations of those by Clang 19.
+        output([CROSS + "objcopy", "-g", "--wildcard", "--strip-symbol=$*", path, copy])
         text = output([CROSS + "objdump", "-d", "-M", "no-aliases", "-j", section, copy])
         os.remove(copy)
         for line in text.splitlines():

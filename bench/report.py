@@ -1,19 +1,21 @@
 #!/usr/bin/env python3
 """All that is tried on real programs, in one table.
 
-    python3 bench/report.py [--tool COMMAND] [--sources FOLDER] [--keep FOLDER] [--levels LEVEL..] [PROGRAM..]
+    python3 bench/report.py [--tool COMMAND] [--sources FOLDER] [--keep FOLDER] [--jobs N] [--levels LEVEL..] \
+        [PROGRAM..]
 
 The programs are those of Debian's source packages Lua, zlib, bzip2 and pugixml (`packages.py`; fetched into FOLDER,
-or into the cache of the user) and those of `programs/` that don't unwind themselves. Each is built by GCC with GNU ld
-and by Clang with lld, with picolibc for RV64IMC: `bare` without debug data and unwind tables, `debug` with all that
-`-g` makes, and `tables` with unwind tables besides. Of each file the table says, step by step, `yes` or `no`; what
-failed stands below the table, with its cause:
+or into the cache of the user) and those of `programs/`. Each is built by GCC with GNU ld and by Clang with lld, with
+picolibc for RV64IMC: `debug` with all that `-g` makes, at each LEVEL (-O0 to -O3 and -Os where none is given); at -O2
+and -Os `bare` without debug data and unwind tables, and `tables` with unwind tables besides. Programs that unwind
+themselves are built in one way, `index`: with debug data, unwind tables and their index. N files are tried at a time.
+Of each file the table says, step by step, `yes` or `no`; what failed stands below the table, with its cause:
 
 - `record`, `repair`, `rewrite`, `verify` by COMMAND (`./sudrepka` where it isn't given), and `run --symbols` to the
-  end;
+  end, but where a program unwinds itself;
 - `alike`: both files run alike on `run` and on `qemu-riscv64`, and `readelf`, `eu-elflint`, `objdump`, `gdb` and
   `llvm-dwarfdump --verify` find nothing in the output that they don't find in the input;
-- `lookup`, and `frames` where COMMAND has it: the same at moved instructions as at their owners;
+- `lookup` and `frames`: the same at moved instructions as at their owners;
 - `gdb`: the same lines, frames, arguments and locals where both programs stop at one instruction, hot or cold, and
   breakpoints by line in the same functions.
 
@@ -21,6 +23,7 @@ A second table has the way of a run through the code before and after, and that 
 `layout.py` counts it. It wants what `real_programs.py` wants.
 """
 import argparse
+import concurrent.futures
 import os
 import re
 import shutil
@@ -30,22 +33,27 @@ import tempfile
 
 sys.path.insert(0, os.path.dirname(os.path.abspath(__file__)))
 import debugged  # noqa: E402
+from debug_files import bare_libraries, build_with_tables  # noqa: E402
 from heatmap import counts_of, edges_of, entry_of, functions_of  # noqa: E402
 from frames import mend_tables  # noqa: E402
 from layout import bolt_profile, way_of  # noqa: E402
 from packages import OWN, PACKAGES, fetch  # noqa: E402
 from profiles import output  # noqa: E402
 from real_programs import COMPILE, LINES, LINK, LONGER, MACHINE, NO_TABLES, OWN_TABLES, PICOLIBC  # noqa: E402
-from real_programs import PROGRAMS, ROOT, UNWINDING, Checks, call, compilers, newest  # noqa: E402
+from real_programs import PROGRAMS, ROOT, UNWINDING, Checks, call, compilers, linker_of  # noqa: E402
 
 KINDS = {"bare": NO_TABLES, "debug": [*LINES, "-fno-dwarf2-cfi-asm"], "tables": ["-g", *OWN_TABLES]}
 SCRIPTS = {"tables": "roomy_tables.ld"}
+LEVELS = ["-O0", "-O1", "-O2", "-O3", "-Os"]
+OF_KIND = {"bare": ["-O2", "-Os"], "tables": ["-O2", "-Os"], "debug": LEVELS, "index": LEVELS}
+# The tables of distances of switches are extended there by instructions that the symbol machine doesn't follow.
+OF_LEVEL = {"-O0": ["-fno-jump-tables"]}
 STEPS = ["record", "repair", "symbols", "rewrite", "verify", "alike", "lookup", "frames", "gdb"]
 ASKED = 24  # addresses that are looked up, and at which gdb stops
 
 
-def own_programs():
-    return [name for name in sorted(LONGER) if name not in UNWINDING]
+def kinds_of(program):
+    return ["index"] if program in UNWINDING else list(KINDS)
 
 
 class Builder:
@@ -64,6 +72,9 @@ class Builder:
                     call([strip, "-g", "-o", stripped[-1], path])
             group = ["-Wl,--start-group", *stripped, "-Wl,--end-group"]
             self.parts[compiler] = (front, group)
+            # what threads that build programs of kind `index` share
+            linker_of(folder, "exceptions", compiler)
+            bare_libraries(folder, group)
 
     def files(self, program):
         """The files of a program, the folders of its headers, and its own flags."""
@@ -74,33 +85,40 @@ class Builder:
         own = [os.path.join(OWN, name) for name in (*package.own, "standard_input.c")]
         return [*package.files(self.sources), *own, start], package.include(self.sources), package.flags
 
-    def objects(self, program, compiler, kind, level):
+    def objects(self, path, program, compiler, kind, level):
         front, _ = self.parts[compiler]
         files, folders, flags = self.files(program)
         include = [word for folder in folders for word in ("-I", folder)]
         made = []
         for number, source in enumerate(files):
-            made.append(os.path.join(self.folder, f"{program}.{number}.o"))
+            made.append(f"{path}.{number}.o")
             cxx = ["-fno-rtti"] if source.endswith((".cc", ".cpp")) else []
-            call([*front, *MACHINE, *COMPILE, *KINDS[kind], level, *flags, *cxx, *include, "-w",
-                  "-isystem", os.path.join(PICOLIBC, "include"), "-c", source, "-o", made[-1]])
+            own = [*KINDS[kind], level, *OF_LEVEL.get(level, []), *flags, *cxx]
+            call([*front, *MACHINE, *COMPILE, *own, *include, "-w", "-isystem", os.path.join(PICOLIBC, "include"),
+                  "-c", source, "-o", made[-1]])
         return made
 
     def build(self, path, program, compiler, kind, level):
         front, libraries = self.parts[compiler]
-        script = os.path.join(PROGRAMS, SCRIPTS.get(kind, "roomy.ld"))
-        made = self.objects(program, compiler, kind, level)
-        call([*front, *MACHINE, "-nostdlib", *LINK, "-T", script, *made, *libraries, "-o", path])
-        mend_tables(path)  # those of libraries, which GNU as made
-        for name in made:
-            os.remove(name)
+        if kind == "index":
+            build_with_tables(path, program, compiler, (front, libraries), level)
+        else:
+            script = os.path.join(PROGRAMS, SCRIPTS.get(kind, "roomy.ld"))
+            made = self.objects(path, program, compiler, kind, level)
+            call([*front, *MACHINE, "-nostdlib", *LINK, "-T", script, *made, *libraries, "-o", path])
+            mend_tables(path)  # those of libraries, which GNU as made
+            for name in made:
+                os.remove(name)
+        if compiler == "gcc" and kind not in ("bare", "index"):
+            # GNU ld leaves pairs of zeros in it for functions that it left out, at which a table ends.
+            call(["riscv64-unknown-elf-objcopy", "-R", ".debug_aranges", path])
 
 
 class Try:
     """All steps of one program."""
 
-    def __init__(self, tool, path, words, given):
-        self.tool, self.path, self.words, self.given = tool, path, words, given
+    def __init__(self, tool, path, words, given, unwinds):
+        self.tool, self.path, self.words, self.given, self.unwinds = tool, path, words, given, unwinds
         self.results, self.problems = {}, []
 
     def at(self, end):
@@ -129,7 +147,8 @@ class Try:
         if not self.ran("record", "record", *limit, self.path, self.at("profile"), "--", *self.words):
             return
         self.done("repair", "repair", self.path, self.at("profile"), self.at("repaired"))
-        self.ran("symbols", "run", "--symbols", *limit, self.path, "--", *self.words)
+        if not self.unwinds:
+            self.ran("symbols", "run", "--symbols", *limit, self.path, "--", *self.words)
         if not self.done("rewrite", "rewrite", self.path, self.at("profile"), self.at("moved"), self.at("map")):
             return
         os.chmod(self.at("moved"), 0o755)
@@ -138,8 +157,7 @@ class Try:
         self.compared(checks)
         places = self.places(checks)
         self.looked_up("lookup", places, checks.moved)
-        if "frames FILE" in self.command()[1]:
-            self.looked_up("frames", places, checks.moved)
+        self.looked_up("frames", places, checks.moved)
         if shutil.which("gdb-multiarch") and shutil.which("qemu-riscv64"):
             found = debugged.stop_problems(self.path, self.at("moved"), checks.moved, places, self.words, self.given)
             self.note("gdb", found + debugged.line_problems(self.path, self.at("moved"), places))
@@ -147,10 +165,6 @@ class Try:
     def compared(self, checks):
         checks.runs(self.words, True)
         checks.readers()
-        if dump := newest("llvm-dwarfdump"):
-            # (that of LLVM 19 doesn't come to an end with some files of GCC)
-            for line in checks.complaints(["timeout", "30", dump, "--verify"], r"(?i)error|warning"):
-                checks.say(f"llvm-dwarfdump: {line}")
         checks.debugger(checks.disassembly())
         self.note("alike", checks.problems)
 
@@ -201,35 +215,51 @@ def row_of(way, first):
     return " ".join(str(way[0]).split())
 
 
-def report(tool, names, folder, sources, levels):
-    builder, notes, ways = Builder(folder, sources), [], []
-    print(f"| file | {' | '.join(STEPS)} |\n|---|{'---|' * len(STEPS)}", flush=True)
-    for program in names:
+class Report:
+    """Builds files, tries each, and prints what came out."""
+
+    def __init__(self, tool, folder, sources):
+        self.tool, self.folder, self.sources = tool, folder, sources
+        self.builder = Builder(folder, sources)
+
+    def files(self, programs, levels):
+        return [(program, compiler, kind, level) for program in programs for compiler in self.builder.parts
+                for kind in kinds_of(program) for level in levels if level in OF_KIND[kind]]
+
+    def tried(self, file):
+        program, compiler, kind, level = file
         package = PACKAGES.get(program)
-        words = list(package.words) if package else []
-        given = package.input(sources) if package else b""
-        for compiler in builder.parts:
-            for kind in KINDS:
-                for level in levels:
-                    name = f"{program}.{compiler}.{kind}{level}"
-                    tried = Try(tool, os.path.join(folder, name), words, given)
-                    builder.build(tried.path, program, compiler, kind, level)
-                    tried.go()
-                    marks = []
-                    for step in STEPS:
-                        marks.append({True: "yes", False: "**no**", None: "-"}[tried.results.get(step)])
-                    notes += [f"{name}: {problem}" for problem in tried.problems]
-                    print(f"| {name} | {' | '.join(marks)} |", flush=True)
-                    if kind == "bare" and level == levels[0] and tried.results.get("rewrite"):
-                        ways.append((name, tried.ways()))
-    print("\n| file | | way of a run |\n|---|---|---|")
-    for name, found in ways:
-        for when, way in found:
-            print(f"| {name if when == 'before' else ''} | {when} | {row_of(way, found[0][1])} |")
-    print(f"\n{len(notes)} problems")
-    for note in notes:
-        print(f"- {note[:400]}")
-    return len(notes)
+        words, given = (list(package.words), package.input(self.sources)) if package else ([], b"")
+        path = os.path.join(self.folder, f"{program}.{compiler}.{kind}{level}")
+        found = Try(self.tool, path, words, given, program in UNWINDING)
+        self.builder.build(path, program, compiler, kind, level)
+        found.go()
+        ways = found.ways() if (kind, level) == ("bare", "-O2") and found.results.get("rewrite") else []
+        return os.path.basename(path), found, ways
+
+    def table(self, files, jobs):
+        """Prints a row for each file, in order. Gives their problems and ways."""
+        print(f"| file | {' | '.join(STEPS)} |\n|---|{'---|' * len(STEPS)}", flush=True)
+        notes, ways = [], []
+        with concurrent.futures.ThreadPoolExecutor(jobs) as pool:
+            for name, found, its_ways in pool.map(self.tried, files):
+                marks = [{True: "yes", False: "**no**", None: "-"}[found.results.get(step)] for step in STEPS]
+                print(f"| {name} | {' | '.join(marks)} |", flush=True)
+                notes += [f"{name}: {problem}" for problem in found.problems]
+                ways += [(name, its_ways)] if its_ways else []
+        return notes, ways
+
+    def all(self, programs, levels, jobs):
+        """Prints both tables and the problems. Gives the number of these."""
+        notes, ways = self.table(self.files(programs, levels), jobs)
+        print("\n| file | | way of a run |\n|---|---|---|")
+        for name, found in ways:
+            for when, way in found:
+                print(f"| {name if when == 'before' else ''} | {when} | {row_of(way, found[0][1])} |")
+        print(f"\n{len(notes)} problems")
+        for note in notes:
+            print(f"- {note[:400]}")
+        return len(notes)
 
 
 def main():
@@ -238,8 +268,9 @@ def main():
     words.add_argument("--tool", default=os.path.join(ROOT, "sudrepka"), help="the command that takes `rewrite ..`")
     words.add_argument("--sources", default=cache, help="where the sources of packages are, or go")
     words.add_argument("--keep", help="a folder for all files")
-    words.add_argument("--levels", nargs="*", default=["-O2", "-Os"], type=lambda level: "-" + level.lstrip("-"))
-    words.add_argument("programs", nargs="*", default=[*PACKAGES, *own_programs()])
+    words.add_argument("--jobs", type=int, default=1, help="how many files are tried at a time")
+    words.add_argument("--levels", nargs="*", default=LEVELS, type=lambda level: "-" + level.lstrip("-"))
+    words.add_argument("programs", nargs="*", default=[*PACKAGES, *sorted(LONGER)])
     given = words.parse_args()
     if not compilers():
         sys.exit("there is no riscv64-unknown-elf-gcc")
@@ -247,7 +278,8 @@ def main():
     with tempfile.TemporaryDirectory() as room:
         folder = given.keep or room
         os.makedirs(folder, exist_ok=True)
-        problems = report(given.tool.split(), given.programs, folder, given.sources, given.levels)
+        report = Report(given.tool.split(), folder, given.sources)
+        problems = report.all(given.programs, given.levels, given.jobs)
     sys.exit(1 if problems else 0)
 
 
