@@ -57,7 +57,8 @@ def complaints(dump, path, folder):
 
 def verify_problems(dump, old, new):
     """The complaints that are made of a rewritten file and not of its input. How often they are made isn't compared: an
-    expression that LLVM doesn't know, as DW_OP_implicit_pointer, is named for each of its ranges, which may be more by now."""
+    expression that LLVM does not know, as DW_OP_implicit_pointer, is named for each of its ranges, of which there may be
+    more by now."""
     with tempfile.TemporaryDirectory() as folder:
         before, after = (complaints(dump, path, folder) for path in (old, new))
     return [f"llvm-dwarfdump --verify: {line}" for line in sorted(set(after) - set(before))]

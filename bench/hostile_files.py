@@ -484,14 +484,11 @@ TABLES = {
     "declarations": units_over_declarations,
     "nested": nested_entries,
     "one-list": one_list,
-}
-# What is known to take longer than in the size of the file.
-SLOW_FILES = {"indirect-jumps": indirect_jumps}
-SLOW_TABLES = {
     "lists": lists_that_overlap,
     "attributes": entry_attributes,
-    "line-long-path": line_long_path,
-    "line-turns": alternating_rows,
     "cie-rules": frames_of_many_rules,
     "growing-rules": frame_of_growing_rules,
 }
+# What is known to take longer than in the size of the file.
+SLOW_FILES = {"indirect-jumps": indirect_jumps}
+SLOW_TABLES = {"line-long-path": line_long_path, "line-turns": alternating_rows}

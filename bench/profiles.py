@@ -33,6 +33,13 @@ def follow(path, words, go, given=b""):
         return process.returncode, printed.read()
 
 
+def is_open(door):
+    """Whether a program listens at a socket in the file system (proc(5), /proc/net/unix: __SO_ACCEPTCON in its flags)."""
+    with open("/proc/net/unix", encoding="utf-8", errors="replace") as sockets:
+        rows = [line.split() for line in sockets]
+    return any(row[-1] == door and row[3] == "00010000" for row in rows)
+
+
 def debug(path, words, commands, given=b""):
     """What gdb prints of commands in a program that `qemu-riscv64` runs, with its standard input."""
     with tempfile.TemporaryFile() as file, tempfile.TemporaryDirectory() as folder:
@@ -43,7 +50,7 @@ def debug(path, words, commands, given=b""):
         machine = subprocess.Popen(["qemu-riscv64", "-g", door, program, *words], stdin=file, stdout=subprocess.DEVNULL,
                                    stderr=subprocess.DEVNULL)
         try:
-            while not os.path.exists(door) and machine.poll() is None:
+            while not is_open(door) and machine.poll() is None:
                 time.sleep(0.02)
             asked = [word for command in commands for word in ("-ex", command)]
             return output([*GDB, "-ex", f"target remote {door}", *asked, path])

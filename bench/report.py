@@ -109,8 +109,8 @@ class Builder:
             mend_tables(path)  # those of libraries, which GNU as made
             for name in made:
                 os.remove(name)
-        if compiler == "gcc" and kind not in ("bare", "index"):
-            # GNU ld leaves pairs of zeros in it for functions that it left out, at which a table ends.
+        if compiler == "gcc" and kind != "bare":
+            # Linkers leave pairs of zeros in it for functions that they left out, at which a table ends.
             call(["riscv64-unknown-elf-objcopy", "-R", ".debug_aranges", path])
 
 
