@@ -13,7 +13,8 @@ IsInner blocks e = IsSomeAnd (slice_get blocks e.0) (λ s. IsSomeAnd (slice_get 
 
 -- an edge isn't taken after another
 abbrev pub IsKeyBefore : Edge → Edge → Type 0
-IsKeyBefore e f = (f.count < e.count) ⊎ ((e.count ≡ f.count) × ((e.from < f.from) ⊎ ((e.from ≡ f.from) × (e.to ≤ f.to))))
+IsKeyBefore e f = (f.count < e.count) ⊎ ((e.count ≡ f.count)
+    × ((e.from < f.from) ⊎ ((e.from ≡ f.from) × (e.to ≤ f.to))))
 
 -- two edges aren't between the same blocks, in the same direction
 abbrev pub HaveOtherEnds : Edge → Edge → Type 0
@@ -21,6 +22,7 @@ HaveOtherEnds e f = (e.from ≡ f.from) × (e.to ≡ f.to) → ⊥
 
 -- all edges of positive count, with their counts
 pub record AreCounted (count : ℕ × ℕ → ℕ) (edges : List (ℕ × ℕ)) (taken : List Edge) : Type 0 where
-  pub only : (e : Edge) → Contains taken e → Contains edges (e.from, e.to) × (0 < e.count) × (count (e.from, e.to) ≡ e.count)
+  pub only : (e : Edge) → Contains taken e → Contains edges (e.from, e.to) × (0 < e.count)
+      × (count (e.from, e.to) ≡ e.count)
   pub each : (s t : ℕ) → Contains edges (s, t) → 0 < count (s, t) →
       Contains taken (record { from = s; to = t; count = count (s, t) })

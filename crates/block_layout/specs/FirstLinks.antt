@@ -41,8 +41,10 @@ pub record IsLinked (es : List Edge) (n : ℕ) (IsFirst : ℕ → Type 0) (k : �
 abbrev pub told : List (Option ℕ) → List (Option ℕ) → Links
 told next prev = record { next = λ x. slice_index_or next x None; prev = λ x. slice_index_or prev x None }
 
--- head tells the first block of the chain that a last one ends, and tail the last block of the chain that a first one begins
+-- head tells the first block of the chain that a last one ends, and tail the last block of the chain that a first one
+-- begins
 pub record KnowsEnds (es : List Edge) (n k : ℕ) (p : Links) (head tail : ℕ → ℕ) : Type 0 where
   pub inside : (x : ℕ) → x < n → (head x < n) × (tail x < n)
-  pub ends : (e : ℕ) → e < n → p.next e ≡ None → (p.prev (head e) ≡ None) × (tail (head e) ≡ e) × LinksLead es p k (head e) e
+  pub ends : (e : ℕ) → e < n → p.next e ≡ None → (p.prev (head e) ≡ None) × (tail (head e) ≡ e)
+      × LinksLead es p k (head e) e
   pub starts : (h : ℕ) → h < n → p.prev h ≡ None → (p.next (tail h) ≡ None) × (head (tail h) ≡ h)

@@ -20,6 +20,7 @@ items_of lists = map (λ list. list.items) lists
 -- .. and a profile the parts: at most one answer to which blocks are hot and cold, and in which order.
 abbrev pub PartsLaw : Type 0
 PartsLaw =
-    (counts : ℕ → ℕ → ℕ) (pairs : List Counted) (funcs : List Func) (blocks : List Block) (edges : List (ℕ × ℕ)) (p q : Chains) →
+    (counts : ℕ → ℕ → ℕ) (pairs : List Counted) (funcs : List Func) (blocks : List Block) (edges : List (ℕ × ℕ))
+    (p q : Chains) →
     AreChains counts pairs funcs blocks edges p → AreChains counts pairs funcs blocks edges q →
     (items_of p.hot.items ≡ items_of q.hot.items) × (items_of p.cold.items ≡ items_of q.cold.items)

@@ -1,5 +1,5 @@
--- Chains of blocks: which block follows which. Edges are taken in their order, and each links two blocks, unless a link of
--- an earlier edge is in its way. (K. Pettis and R. C. Hansen, "Profile Guided Code Positioning", PLDI 1990.)
+-- Chains of blocks: which block follows which. Edges are taken in their order, and each links two blocks, unless a
+-- link of an earlier edge is in its way. (K. Pettis and R. C. Hansen, "Profile Guided Code Positioning", PLDI 1990.)
 use Rattle.std.specs.Prelude.{◌≡◌, ◌⊎◌, ◌+◌, ◌-◌, ◌<◌, ℕ, List, Option, Some, None, Contains, length, slice_index}
 use Rattle.block_layout.specs.EdgeCounts.{IsEarlier}
 
@@ -19,8 +19,8 @@ module _ (count : ℕ × ℕ → ℕ) (links : Links) where
     at_once : {x : ℕ} → LeadBefore e x x
     on : {x y z : ℕ} → LeadBefore e x y → IsLinkedBefore e y z → LeadBefore e x z
 
-  -- why an edge links nothing: an earlier one has its source or its target, its target is the first block of a function,
-  -- or its target begins the chain that the earlier ones end with its source
+  -- why an edge links nothing: an earlier one has its source or its target, its target is the first block of a
+  -- function, or its target begins the chain that the earlier ones end with its source
   pub data IsLeftOut (IsFirst : ℕ → Type 0) (s t : ℕ) : Type 0 where
     source_taken : (u : ℕ) → IsLinkedBefore (s, t) s u → IsLeftOut IsFirst s t
     target_taken : (u : ℕ) → IsLinkedBefore (s, t) u t → IsLeftOut IsFirst s t
@@ -43,7 +43,8 @@ pub data Lead (links : Links) : ℕ → ℕ → Type 0 where
 -- the links that the edges of positive count make
 pub record AreLinks (edges : List (ℕ × ℕ)) (count : ℕ × ℕ → ℕ) (IsFirst : ℕ → Type 0) (links : Links) : Type 0 where
   pub only : (s t : ℕ) → links.next s ≡ Some t → Contains edges (s, t) × (0 < count (s, t))
-  pub each : (s t : ℕ) → Contains edges (s, t) → 0 < count (s, t) → (links.next s ≡ Some t) ⊎ IsLeftOut count links IsFirst s t
+  pub each : (s t : ℕ) → Contains edges (s, t) → 0 < count (s, t) →
+      (links.next s ≡ Some t) ⊎ IsLeftOut count links IsFirst s t
   pub back : (s t : ℕ) → links.next s ≡ Some t → links.prev t ≡ Some s
   pub forth : (s t : ℕ) → links.prev t ≡ Some s → links.next s ≡ Some t
   pub first : (t : ℕ) → IsFirst t → links.prev t ≡ None

@@ -1,5 +1,6 @@
 -- The hot and the cold part of each function, from chains of blocks and their weights.
-use Rattle.std.specs.Prelude.{◌≡◌, ◌⊎◌, ◌<◌, ℕ, Bool, true, false, List, [], ◌++◌, Contains, IsSomeAnd, flat_map, fold, length}
+use Rattle.std.specs.Prelude.{◌≡◌, ◌⊎◌, ◌<◌, ℕ, Bool, true, false, List, [], ◌++◌, Contains, IsSomeAnd, flat_map, fold}
+use Rattle.std.specs.Prelude.{length}
 use Rattle.std.specs.Prelude.{max, slice_get}
 use Rattle.std.specs.Option.{option_map_or}
 use Rattle.rv_code.specs.declared.placed.Func.{Func}
@@ -50,7 +51,8 @@ pub record IsHotPart (blocks : List Block) (weight : ℕ → ℕ) (links : Links
   pub first_block : IsFirstBlock blocks first.0
   pub others_are : ListsAll (IsHotChain blocks weight links f) (IsChainBefore weight) others
 
--- The parts of each function. One that isn't hot has no hot part. What isn't in the hot part is the cold one, by address.
+-- The parts of each function. One that isn't hot has no hot part. What isn't in the hot part is the cold one, by
+-- address.
 pub record AreParts (hot_functions : ℕ → Bool) (count : ℕ) (blocks : List Block) (weight : ℕ → ℕ) (links : Links)
     (parts : Chains) : Type 0 where
   pub hot_count : length parts.hot.items ≡ count
@@ -65,8 +67,10 @@ abbrev pub weight_at : List Counted → List Func → List Block → ℕ → ℕ
 weight_at pairs funcs blocks k = option_map_or (block_weight pairs funcs) (slice_get blocks k) 0
 
 -- The hot and cold parts of the functions, by the counts of a profile's pairs.
-pub record AreChains (counts : ℕ → ℕ → ℕ) (pairs : List Counted) (funcs : List Func) (blocks : List Block) (edges : List (ℕ × ℕ))
+pub record AreChains (counts : ℕ → ℕ → ℕ) (pairs : List Counted) (funcs : List Func) (blocks : List Block)
+    (edges : List (ℕ × ℕ))
     (parts : Chains) : Type 0 where
   pub links : Links
   pub links_are : AreLinks edges (edge_count counts funcs blocks) (IsFirstBlock blocks) links
-  pub parts_are : AreParts (is_hot_function pairs funcs blocks) (length funcs) blocks (weight_at pairs funcs blocks) links parts
+  pub parts_are : AreParts (is_hot_function pairs funcs blocks) (length funcs) blocks
+      (weight_at pairs funcs blocks) links parts

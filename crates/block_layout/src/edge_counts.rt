@@ -41,8 +41,10 @@ pub fn counted_edges(
     ensures once { IfOk result (λ taken. AllPairs HaveOtherEnds taken.items) }
 {
     let mut taken = Vec::new(alloc);
+    // Edges ascend, as pairs do, and most lead on through the code: their pairs are near those of the edge before.
+    let mut near = 0;
     for edge in edges {
-        let count = count_along(funcs, &blocks[edge.0], &blocks[edge.1], profile);
+        let count = count_along(funcs, &blocks[edge.0], &blocks[edge.1], profile, &mut near);
         if count == 0 {
             continue;
         }
@@ -56,8 +58,15 @@ pub fn counted_edges(
     Ok(taken)
 }
 
-// How often control went from the end of a block to the start of another.
-fn count_along(funcs: &[Func], source: &Block, target: &Block, profile: &Profile) -> u128
+// How often control went from the end of a block to the start of another. `near` is about where the pairs of a profile
+// stand that are asked for.
+fn count_along(
+    funcs: &[Func],
+    source: &Block,
+    target: &Block,
+    profile: &Profile,
+    near: &mut usize,
+) -> u128
     requires source { IsOfFunction funcs.now source.now }
     requires target { IsOfFunction funcs.now target.now }
     ensures { result ≡ profile_counts profile.now (inst_address funcs.now source.now source.now.last)
@@ -65,7 +74,7 @@ fn count_along(funcs: &[Func], source: &Block, target: &Block, profile: &Profile
 {
     let last = inst_address(funcs, source, source.last);
     let first = inst_address(funcs, target, target.first);
-    profile.count(last, first)
+    profile.count_near(near, last, first)
 }
 
 // The address of an instruction of a block's function.

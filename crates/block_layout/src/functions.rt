@@ -93,7 +93,8 @@ fn hot_blocks(
     requires weights { length weights.now ≡ length links.now.next.items }
     requires inside { end ≤ length weights.now }
     requires first { start < end → slice_index_or links.now.prev.items start None ≡ None }
-    ensures { IfOk result (λ part. IsHotOrEmpty (links_of links.now) (λ k. slice_index weights.now k) start end part.items) }
+    ensures { IfOk result (λ part. IsHotOrEmpty (links_of links.now) (λ k. slice_index weights.now k) start end
+        part.items) }
 {
     if !is_hot(weights, start, end) {
         return Ok(Vec::new(alloc));

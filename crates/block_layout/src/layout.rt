@@ -32,7 +32,8 @@ pub fn chains(
     requires stretches { All (IsOfFunction funcs.now) blocks.now }
     requires edges { All (IsInner blocks.now) edges.now }
     requires ordered { AllPairs IsPairBefore edges.now }
-    ensures chains { IfOk result (AreChains (profile_counts profile.now) (pairs_of profile.now) funcs.now blocks.now edges.now) }
+    ensures chains { IfOk result (AreChains (profile_counts profile.now) (pairs_of profile.now) funcs.now blocks.now
+        edges.now) }
     ensures all { IfOk result (HaveAllBlocks funcs.now blocks.now) }
 {
     let weights = block_weights(alloc, funcs, blocks, profile)?;
@@ -53,7 +54,8 @@ pub fn chains_by(
     requires edges { All (IsInner blocks.now) edges.now }
     requires ordered { AllPairs IsPairBefore edges.now }
     requires weights { weights.now ≡ map (block_weight (pairs_of profile.now) funcs.now) blocks.now }
-    ensures chains { IfOk result (AreChains (profile_counts profile.now) (pairs_of profile.now) funcs.now blocks.now edges.now) }
+    ensures chains { IfOk result (AreChains (profile_counts profile.now) (pairs_of profile.now) funcs.now blocks.now
+        edges.now) }
     ensures all { IfOk result (HaveAllBlocks funcs.now blocks.now) }
 {
     let taken = counted_edges(alloc, funcs, blocks, edges, profile)?;

@@ -1,5 +1,6 @@
 // Chains of blocks, linked one edge after another.
-ghost use Rattle.std.specs.Prelude.{◌≡◌, ◌≢◌, ◌⊎◌, ◌↔◌, ◌<◌, ◌≤◌, ℕ, IfOk, IsTrue, MatchBool, None, Some, true, false, length};
+ghost use Rattle.std.specs.Prelude.{◌≡◌, ◌≢◌, ◌⊎◌, ◌↔◌, ◌<◌, ◌≤◌, ℕ, IfOk, IsTrue, MatchBool, None, Some, true, false};
+ghost use Rattle.std.specs.Prelude.{length};
 ghost use Rattle.std.specs.Prelude.{slice_index, slice_index_or, slice_set};
 ghost use Rattle.rv_code.specs.declared.placed.Block.{Block};
 ghost use Rattle.edge_profile.specs.BlockPlaces.{AreBlocksApart};
@@ -52,9 +53,11 @@ impl ChainLinks {
         requires to_prev { to < length self.now.prev.items }
         requires from_head { from < length self.now.head.items }
         ensures { MatchBool result
-            ((slice_index_or self.now.next.items from None ≡ None) × (slice_index_or self.now.prev.items to None ≡ None) ×
+            ((slice_index_or self.now.next.items from None ≡ None)
+            × (slice_index_or self.now.prev.items to None ≡ None) ×
             (is_first ≡ false) × (slice_index self.now.head.items from ≢ to))
-            ((slice_index_or self.now.next.items from None ≢ None) ⊎ ((slice_index_or self.now.prev.items to None ≢ None) ⊎
+            ((slice_index_or self.now.next.items from None ≢ None)
+            ⊎ ((slice_index_or self.now.prev.items to None ≢ None) ⊎
             ((is_first ≡ true) ⊎ (slice_index self.now.head.items from ≡ to)))) }
     {
         self.next[from].is_none() && self.prev[to].is_none() && !is_first && self.head[from] != to
@@ -89,9 +92,11 @@ pub fn link_edges(alloc: Global, blocks: &[Block], edges: &[Edge]) -> Result<Cha
     requires blocks { AreBlocksApart blocks.now }
     requires inside { (i : ℕ) → i < length edges.now →
         ((ends_of_edge edges.now i).0 < length blocks.now) × ((ends_of_edge edges.now i).1 < length blocks.now) }
-    ensures linked { IfOk result (λ l. IsLinked edges.now (length blocks.now) (IsFirstBlock blocks.now) (length edges.now)
+    ensures linked { IfOk result (λ l. IsLinked edges.now (length blocks.now) (IsFirstBlock blocks.now)
+        (length edges.now)
         (told l.next.items l.prev.items)) }
-    ensures sized { IfOk result (λ l. (length l.next.items ≡ length blocks.now) × (length l.prev.items ≡ length blocks.now)) }
+    ensures sized { IfOk result (λ l. (length l.next.items ≡ length blocks.now)
+        × (length l.prev.items ≡ length blocks.now)) }
 {
     let mut links = ChainLinks::new(alloc, blocks.len())?;
     for edge in edges {
@@ -103,8 +108,8 @@ pub fn link_edges(alloc: Global, blocks: &[Block], edges: &[Edge]) -> Result<Cha
     Ok(links)
 }
 
-/// Whether a block is the first of its function.
-pub fn is_first_block(blocks: &[Block], block: usize) -> bool
+// Whether a block is the first of its function.
+fn is_first_block(blocks: &[Block], block: usize) -> bool
     requires inside { block < length blocks.now }
     requires blocks { AreBlocksApart blocks.now }
     ensures { IsTrue result ↔ IsFirstBlock blocks.now block }

@@ -1,5 +1,6 @@
 // The hot and the cold part of a function.
-ghost use Rattle.std.specs.Prelude.{◌≡◌, ◌↔◌, ◌+◌, ◌-◌, ◌<◌, ◌≤◌, ℕ, All, Contains, IfOk, IsTrue, MatchBool, None, false, length};
+ghost use Rattle.std.specs.Prelude.{◌≡◌, ◌↔◌, ◌+◌, ◌-◌, ◌<◌, ◌≤◌, ℕ, All, Contains, IfOk, IsTrue, MatchBool, None};
+ghost use Rattle.std.specs.Prelude.{false, length};
 ghost use Rattle.std.specs.Prelude.{slice_index, slice_index_or};
 ghost use Rattle.rv_code.specs.layout.Lists.{ListsNumbers};
 ghost use Rattle.block_layout.specs.Walks.{AreKept, IsHotList, links_of};
@@ -10,8 +11,8 @@ use crate::walks::chain;
 use rb_bytes::fault::NoMemory;
 use std::alloc::Global;
 
-/// The hot part of a function whose blocks go from `start` to before `end`: the chain of the first, and then those with a
-/// hot block.
+/// The hot part of a function whose blocks go from `start` to before `end`: the chain of the first, and then those
+/// with a hot block.
 pub fn hot_part(
     alloc: Global,
     links: &ChainLinks,
@@ -24,7 +25,8 @@ pub fn hot_part(
     requires inside { end ≤ length weights.now }
     requires some { start < end }
     requires first { slice_index_or links.now.prev.items start None ≡ None }
-    ensures { IfOk result (λ part. IsHotList (links_of links.now) (λ k. slice_index weights.now k) start end part.items) }
+    ensures { IfOk result (λ part. IsHotList (links_of links.now) (λ k. slice_index weights.now k) start end
+        part.items) }
 {
     let mut part = chain(alloc, links, start)?;
     let others = hot_chains(alloc, links, weights, start, end)?;
@@ -43,7 +45,8 @@ pub fn cold_part(
 ) -> Result<Vec<usize>, NoMemory>
     requires hot { All (λ k. (start ≤ k) × (k < end)) hot.now }
     requires ascend { start ≤ end }
-    ensures { IfOk result (λ part. ListsNumbers (λ k. ((start ≤ k) × (k < end)) × (Contains hot.now k → ⊥)) part.items) }
+    ensures { IfOk result (λ part. ListsNumbers (λ k. ((start ≤ k) × (k < end)) × (Contains hot.now k → ⊥))
+        part.items) }
 {
     let marks = marks(alloc, hot, start, end)?;
     let mut part = Vec::new(alloc);

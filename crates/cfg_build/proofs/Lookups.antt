@@ -1,12 +1,11 @@
 -- Looking up numbers in lists that go up, blocks by the addresses at which they begin, and the pairs of a jump.
-use Rattle.std.proofs.Common.{◌≡◌, ◌∙◌, sym, ap, refl, ℕ, ◌+◌, ◌-◌, ◌<◌, ◌≤◌, ⊎_elim, inl, inr, true, false, nat_le, nat_lt, List}
-use Rattle.std.proofs.Common.{Option, Some, None, Result, Ok, Err, MatchResult, take, drop, length, slice_index_or, arith}
+use Rattle.std.proofs.Common.{◌≡◌, ◌∙◌, sym, ap, refl, ℕ, ◌+◌, ◌-◌, ◌<◌, ◌≤◌, ⊎_elim, true, false, nat_le, nat_lt, List}
+use Rattle.std.proofs.Common.{Option, Some, None, take, drop, length, slice_index_or, arith}
 use Rattle.std.specs.Prelude.{◌↔◌, AllPairs, Contains, slice_get}
 use Rattle.std.specs.List.Sorted.{IsNonDecreasingBy, IsPartitionPoint}
-use Rattle.std.specs.Result.{result_ok}
-use Rattle.std.proofs.lemmas.Bool.{cases_lt, cases_order, leb-true, leb-false, ltb-true, ltb-false}
-use Rattle.std.proofs.lemmas.List.{get_or-drop, get_or-take, get_or_default, length-drop, length-take}
-use Rattle.std.proofs.lemmas.Option.{get_or_from_slice_get, same_Some, slice_get_read, slice_get_within}
+use Rattle.std.proofs.lemmas.Bool.{cases_lt, leb-true, leb-false, ltb-true, ltb-false}
+use Rattle.std.proofs.lemmas.List.{get_or-drop, get_or-take, length-drop, length-take}
+use Rattle.std.proofs.lemmas.Option.{same_Some, slice_get_read}
 use Rattle.rv_code.specs.declared.placed.Block.{Block}
 use Rattle.rv_code.specs.layout.Lists.{IsPairBefore}
 use Rattle.cfg_build.specs.EdgeLists.{IsBlockAt}
@@ -15,51 +14,6 @@ use Rattle.rb_bytes.proofs.Options.{of_some, some_and}
 -- an element by its index, as a Vec gives it
 pub at_index : {A : Type 0} (xs : List A) (i : ℕ) (x : A) → i < length xs → x ≡ slice_index_or xs i x → slice_get xs i ≡ Some x
 at_index xs i x within is = slice_get_read xs (length xs) i x refl within is
-
--- Numbers.
-
-pub rising_at : (xs : List ℕ) → AllPairs (λ a b. a < b) xs → (i j : ℕ) → i ≤ j → j < length xs →
-    slice_index_or xs i 0 ≤ slice_index_or xs j 0
-rising_at xs up i j upto within =
-    ⊎_elim
-    (λ (less : i < j). let r = up i j 0 less within in omega arith)
-    (λ (more : j ≤ i). let e : i ≡ j = omega arith in let s = ap (λ (k : ℕ). slice_index_or xs k 0) e in omega arith)
-    (cases_lt i j)
-
-one_place : (xs : List ℕ) (i k a : ℕ) → AllPairs (λ a b. a < b) xs → i < length xs → k < length xs → slice_index_or xs i 0 ≡ a →
-    slice_index_or xs k 0 ≡ a → i ≡ k
-one_place xs i k a up within within' is is' = elim (cases_order i k) [
-  | inl same ↦ same
-  | inr apart ↦ elim apart [
-    | inl less ↦ absurd (let h = up i k 0 less within' in omega arith)
-    | inr more ↦ absurd (let h = up k i 0 more within in omega arith)
-  ]
-]
-
-pub found_place : (xs : List ℕ) (a : ℕ) (r : Result ℕ ℕ) (o : Option ℕ) → AllPairs (λ a b. a < b) xs → o ≡ result_ok r →
-    MatchResult r (λ i. (i < length xs) × (slice_index_or xs i 0 ≡ a))
-    (λ i. (i ≤ length xs) × ((k : ℕ) → k < i → slice_index_or xs k 0 < a) × ((k : ℕ) → i ≤ k → k < length xs →
-    a < slice_index_or xs k 0)) →
-    (k : ℕ) → (o ≡ Some k) ↔ (slice_get xs k ≡ Some a)
-found_place xs a (Ok i) o up is (within, there) k = (
-  (λ some.
-      let same : i ≡ k = same_Some i k (sym is ∙ some) in
-      ap (slice_get xs) (sym same) ∙ slice_get_read xs (length xs) i a refl within (sym (get_or_default xs i a 0 within
-      ∙ there))),
-  (λ at.
-      let within' = slice_get_within xs k a at in
-      is ∙ ap (λ (k : ℕ). Some k) (one_place xs i k a up within within' there (get_or_from_slice_get xs k a 0 at))),
-)
-found_place xs a (Err i) o up is (bound, below, above) k = (
-  (λ some. absurd (let none : None ≡ Some k = sym is ∙ some in cc)),
-  (λ at.
-      let within = slice_get_within xs k a at in
-      let there : slice_index_or xs k 0 ≡ a = get_or_from_slice_get xs k a 0 at in
-      ⊎_elim
-      (λ (less : k < i). absurd (let low = below k less in omega arith))
-      (λ (more : i ≤ k). absurd (let high = above k more within in omega arith))
-      (cases_lt k i)),
-)
 
 -- Blocks.
 

@@ -11,8 +11,8 @@ pub record AreStretches (funcs : List Func) (blocks : List Block) : Type 0 where
   pub each : All (IsOfFunction funcs) blocks
   pub ordered : AllPairs IsBefore blocks
 
--- The i-th instruction of a function leads to an address, where these are the pairs of an indirect jump and an address to
--- which a table leads it.
+-- The i-th instruction of a function leads to an address, where these are the pairs of an indirect jump and an
+-- address to which a table leads it.
 abbrev pub LeadsFrom : List (ℕ × ℕ) → Func → ℕ → ℕ → Type 0
 LeadsFrom targets func i a = IsSomeAnd (inst_at func i) (λ p. LeadsTo (Contains targets) func i p a)
 
@@ -22,6 +22,7 @@ pub record IsBlockAt (blocks : List Block) (starts : List ℕ) (func a t : ℕ) 
   pub one_function : IsSomeAnd (slice_get blocks t) (λ b. func ≡ b.func)
 
 -- an edge goes from a block of a function to a block of it that begins at one of some addresses
-pub record IsNextOf (blocks : List Block) (starts : List ℕ) (source func : ℕ) (leads : List ℕ) (e : ℕ × ℕ) : Type 0 where
+pub record IsNextOf (blocks : List Block) (starts : List ℕ) (source func : ℕ) (leads : List ℕ)
+    (e : ℕ × ℕ) : Type 0 where
   pub from : e.0 ≡ source
   pub to : Any (λ a. IsBlockAt blocks starts func a e.1) leads

@@ -5,10 +5,10 @@ ghost use Rattle.rv_code.specs.layout.ProgramCode.{ProgramCode};
 ghost use Rattle.cfg_build.specs.NamedAddresses.{code_of, AreEntered};
 ghost use Rattle.cfg_build.specs.BlockLists.{AreBlocksBefore, EndsAt};
 
-use crate::ends::ends_block;
 use crate::named::entered_addresses;
 use rb_bytes::fault::NoMemory;
 use rb_lanes::is_member_from;
+use rv_code::flow::ends_block;
 use rv_code::{Block, Func};
 use rv_reloc::Refs;
 use std::alloc::Global;
@@ -32,8 +32,8 @@ pub fn blocks(
     Ok(blocks)
 }
 
-// Appends the blocks of a function, which has this place in the list of functions. `near` is as `is_member_from` says: the
-// instructions of functions go up.
+// Appends the blocks of a function, which has this place in the list of functions. `near` is as `is_member_from` says:
+// the instructions of functions go up.
 fn push_blocks(
     blocks: &mut Vec<Block>,
     entered: &[u64],
@@ -42,7 +42,8 @@ fn push_blocks(
     func: &Func,
 ) -> Result<(), NoMemory>
     requires { AllPairs (λ a b. a < b) entered.now }
-    ensures { OnOk result ((code : ProgramCode) → slice_get code.funcs place ≡ Some func.now → AreEntered code entered.now →
+    ensures { OnOk result ((code : ProgramCode) → slice_get code.funcs place ≡ Some func.now →
+        AreEntered code entered.now →
         AreBlocksBefore code place 0 blocks.old.items → AreBlocksBefore code (place + 1) 0 blocks.new.items) }
 {
     let mut first = 0;

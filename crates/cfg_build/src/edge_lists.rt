@@ -1,5 +1,6 @@
 // The edges between blocks.
-ghost use Rattle.std.specs.Prelude.{◌≡◌, ◌+◌, ◌<◌, ◌≤◌, ◌⊎◌, ◌↔◌, ℕ, List, All, Any, AllPairs, Contains, IfOk, IfSome, OnOk};
+ghost use Rattle.std.specs.Prelude.{◌≡◌, ◌+◌, ◌<◌, ◌≤◌, ◌⊎◌, ◌↔◌, ℕ, List, All, Any, AllPairs, Contains, IfOk, IfSome};
+ghost use Rattle.std.specs.Prelude.{OnOk};
 ghost use Rattle.std.specs.Prelude.{Some, length, slice_get};
 ghost use Rattle.rv_code.specs.declared.cell.CodeCell.{CodeCell};
 ghost use Rattle.rv_code.specs.layout.Edges.{AreEdges, AreTablePairs};
@@ -12,13 +13,14 @@ use crate::ends::jump_target;
 use elf_image::function_bounds::make_ascending;
 use rb_bytes::fault::NoMemory;
 use rb_bytes::lists::push_some;
+use rb_lanes::count_below;
 use rv_code::flow::fall_target;
 use rv_code::functions::block_starts;
 use rv_code::{Block, Func};
 use std::alloc::Global;
 
-/// The edges between blocks of functions, as places in the list of blocks, by source and by target. `targets` are the pairs
-/// of an indirect jump and an address to which a table leads it, in order.
+/// The edges between blocks of functions, as places in the list of blocks, by source and by target. `targets` are the
+/// pairs of an indirect jump and an address to which a table leads it, in order.
 pub fn edges(
     alloc: Global,
     funcs: &[Func],
@@ -98,11 +100,12 @@ fn push_edges(
     requires leads { AllPairs (λ a b. a < b) leads.now }
     requires ordered { AllPairs IsPairBefore edges.old.items }
     requires before { All (λ e. e.0 < source) edges.old.items }
-    ensures { OnOk result (ListsPairs (λ e. Contains edges.old.items e ⊎ IsNextOf blocks.now starts.now source func leads.now e)
+    ensures { OnOk result (ListsPairs (λ e. Contains edges.old.items e
+        ⊎ IsNextOf blocks.now starts.now source func leads.now e)
         edges.new.items) }
 {
     for lead in leads {
-        match block_at(blocks, starts, func, *lead) {
+        match block_at(blocks, starts, source, func, *lead) {
             Some(target) => edges.push((source, target))?,
             None => {}
         }
@@ -110,24 +113,34 @@ fn push_edges(
     Ok(())
 }
 
-// The block of a function that begins at an address.
-fn block_at(blocks: &[Block], starts: &[u64], func: usize, address: u64) -> Option<usize>
+// The block of a function that begins at an address, which is mostly near the block that leads there.
+fn block_at(
+    blocks: &[Block],
+    starts: &[u64],
+    source: usize,
+    func: usize,
+    address: u64,
+) -> Option<usize>
     requires starts { AllPairs (λ a b. a < b) starts.now }
     requires all { length starts.now ≡ length blocks.now }
     ensures { (t : ℕ) → (result ≡ Some t) ↔ IsBlockAt blocks.now starts.now func address t }
 {
-    let place = index_of(starts, address)?;
+    let place = index_of(starts, source.saturating_add(1), address)?;
     if blocks[place].func != func {
         return None;
     }
     Some(place)
 }
 
-// The place of a number in a list that goes up.
-fn index_of(numbers: &[u64], number: u64) -> Option<usize>
+// The place of a number in a list that goes up, which is about `near`.
+fn index_of(numbers: &[u64], near: usize, number: u64) -> Option<usize>
     requires { AllPairs (λ a b. a < b) numbers.now }
     ensures inside { IfSome result (λ k. k < length numbers.now) }
     ensures is { (k : ℕ) → (result ≡ Some k) ↔ (slice_get numbers.now k ≡ Some number) }
 {
-    numbers.binary_search(&number).ok()
+    let place = count_below(numbers, near, number);
+    if place == numbers.len() || numbers[place] != number {
+        return None;
+    }
+    Some(place)
 }

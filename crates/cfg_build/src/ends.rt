@@ -1,17 +1,10 @@
 // Where control leaves a block.
-ghost use Rattle.std.specs.Prelude.{◌≡◌, ◌↔◌, ℕ, IsTrue, Some};
+ghost use Rattle.std.specs.Prelude.{◌≡◌, ◌↔◌, ℕ, Some};
 ghost use Rattle.rv_code.specs.layout.Blocks.{EndsBlock};
 ghost use Rattle.rv_code.specs.layout.Flow.{target_of};
 
 use rv_code::Placed;
-use rv_code::flow::{is_branch, is_plain_jump, target};
-
-/// Whether a block ends with an instruction: a conditional branch, or a jump that saves no return address.
-pub fn ends_block(inst: &Placed) -> bool
-    ensures { IsTrue result ↔ EndsBlock inst.now }
-{
-    is_branch(&inst.inst) || is_plain_jump(&inst.inst)
-}
+use rv_code::flow::{ends_block, target};
 
 /// Where the branch or jump goes that ends a block, unless a register says it.
 pub fn jump_target(inst: &Placed) -> Option<u64>

@@ -13,7 +13,8 @@ use rv_code::{Func, Placed};
 use rv_reloc::Refs;
 use std::alloc::Global;
 
-/// The addresses to which a branch or jump of a function goes, or that a role, a cell or the entry point holds, ascending.
+/// The addresses to which a branch or jump of a function goes, or that a role, a cell or the entry point holds,
+/// ascending.
 pub fn entered_addresses(
     alloc: Global,
     funcs: &[Func],
@@ -45,7 +46,8 @@ fn push_targets(addresses: &mut Vec<u64>, funcs: &[Func]) -> Result<(), NoMemory
 
 // Appends the addresses to which instructions go.
 fn push_targets_of(addresses: &mut Vec<u64>, insts: &[Placed]) -> Result<(), NoMemory>
-    ensures { OnOk result (Gains addresses.old.items addresses.new.items (λ a. Any (λ p. target_of p ≡ Some a) insts.now)) }
+    ensures { OnOk result (Gains addresses.old.items addresses.new.items
+        (λ a. Any (λ p. target_of p ≡ Some a) insts.now)) }
 {
     for inst in insts {
         push_some(addresses, target(inst.addr, &inst.inst))?;

@@ -44,6 +44,7 @@ all_three _ _ _ = None
 abbrev pub branch_line : List (List ℕ) → Option BranchLine
 branch_line (one ∷ from ∷ from_offset ∷ other ∷ to ∷ to_offset ∷ mispredictions ∷ count ∷ []) =
     if bytes_eq one (49 ∷ []) && bytes_eq other (49 ∷ []) && is_some (decimal_number mispredictions)
-    then all_three (named_place from (hex_number from_offset)) (named_place to (hex_number to_offset)) (decimal_number count)
+    then all_three (named_place from (hex_number from_offset)) (named_place to (hex_number to_offset))
+    (decimal_number count)
     else None
 branch_line _ = None

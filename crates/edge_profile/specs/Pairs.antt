@@ -1,5 +1,6 @@
 -- Lists of counts, merged.
-use Rattle.std.specs.Prelude.{◌≡◌, ◌⊎◌, ◌+◌, ◌*◌, ◌^◌, ◌<◌, ◌≤◌, ◌==◌, ◌&&◌, ◌||◌, ℕ, Bool, true, false, List, All, AllPairs}
+use Rattle.std.specs.Prelude.{◌≡◌, ◌⊎◌, ◌+◌, ◌*◌, ◌^◌, ◌<◌, ◌≤◌, ◌==◌, ◌&&◌, ◌||◌, ℕ, Bool, true, false, List, All}
+use Rattle.std.specs.Prelude.{AllPairs}
 use Rattle.std.specs.Prelude.{if◌then◌else◌, ◌-◌, not, nat_lt, length, slice_index_or}
 use Rattle.edge_profile.specs.PairCounts.{Counted, count_among, is_pair, total_count, IsCountedBefore}
 
@@ -19,11 +20,13 @@ IsAscending pairs = AllPairs (λ p q. is_before p q ≡ true) pairs
 pub record IsCountBelow (pairs : List Counted) (from to k : ℕ) : Type 0 where
   pub within : k ≤ length pairs
   pub below : (j : ℕ) (d : Counted) → j < k → is_before (slice_index_or pairs j d) (from, to, 0) ≡ true
-  pub above : (j : ℕ) (d : Counted) → k ≤ j → j < length pairs → is_before (slice_index_or pairs j d) (from, to, 0) ≡ false
+  pub above : (j : ℕ) (d : Counted) → k ≤ j → j < length pairs →
+      is_before (slice_index_or pairs j d) (from, to, 0) ≡ false
 
 -- a pair is the last of some
 abbrev pub is_last_pair : ℕ → ℕ → List Counted → Bool
-is_last_pair from to pairs = not (length pairs == 0) && is_pair from to (slice_index_or pairs (length pairs - 1) (0, 0, 0))
+is_last_pair from to pairs = not (length pairs == 0) && is_pair from to
+    (slice_index_or pairs (length pairs - 1) (0, 0, 0))
 
 -- the pairs of positive count of all that is said, in order, with the sums of their counts
 pub record AreMerged (said pairs : List Counted) : Type 0 where
@@ -34,7 +37,8 @@ pub record AreMerged (said pairs : List Counted) : Type 0 where
 
 -- the pairs after a count is added that comes after none of them
 pub record AddsCount (old new : List Counted) (p : Counted) : Type 0 where
-  pub counts : (from to : ℕ) → count_among from to new ≡ count_among from to old + (if is_pair from to p then p.2 else 0)
+  pub counts : (from to : ℕ) → count_among from to new ≡ count_among from to old +
+      (if is_pair from to p then p.2 else 0)
   pub total : total_count new ≡ total_count old + p.2
   pub positive : All (λ q. 0 < q.2) old → All (λ q. 0 < q.2) new
   pub ordered : AllPairs IsCountedBefore new

@@ -22,7 +22,7 @@ pub struct Line<'a> {
     pub count: u64,
 }
 
-// The eight fields of a line, in order.
+/// The eight fields of a line, in order.
 #[derive(Clone, Copy)]
 pub struct EightFields<'a> {
     pub one: &'a [u8],

@@ -156,10 +156,11 @@ pub fn next_known(known: Option<Option<u64>>, value: u64) -> Option<u64>
     }
 }
 
-/// The address that a name stands for.
-pub fn value_of_name(names: &FunctionNames, funcs: &[Func], name: &[u8]) -> Option<u64>
+// The address that a name stands for.
+fn value_of_name(names: &FunctionNames, funcs: &[Func], name: &[u8]) -> Option<u64>
     requires { AreLaidOut funcs.now }
-    ensures { (symbols : List Symbol) → AreNamesOf symbols names.now → result ≡ value_of_name symbols funcs.now name.now }
+    ensures { (symbols : List Symbol) → AreNamesOf symbols names.now →
+        result ≡ value_of_name symbols funcs.now name.now }
 {
     if name.is_empty() || name[0] != b'@' {
         return names.named_value(name);

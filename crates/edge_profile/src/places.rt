@@ -66,7 +66,8 @@ fn count_up_to(funcs: &[Func], address: u64, near: usize) -> usize
     requires { AreLaidOut funcs.now }
     ensures bound { result ≤ length funcs.now }
     ensures below { (k : ℕ) (d : Func) → k < result → (slice_index_or funcs.now k d).start ≤ address }
-    ensures above { (k : ℕ) (d : Func) → result ≤ k → k < length funcs.now → address < (slice_index_or funcs.now k d).start }
+    ensures above { (k : ℕ) (d : Func) → result ≤ k → k < length funcs.now →
+        address < (slice_index_or funcs.now k d).start }
 {
     if is_last_up_to(funcs, address, near) {
         return near + 1;
@@ -78,7 +79,8 @@ fn count_up_to(funcs: &[Func], address: u64, near: usize) -> usize
 fn is_last_up_to(funcs: &[Func], address: u64, index: usize) -> bool
     requires { AreLaidOut funcs.now }
     ensures within { IsTrue result → index < length funcs.now }
-    ensures below { IsTrue result → (k : ℕ) (d : Func) → k < index + 1 → (slice_index_or funcs.now k d).start ≤ address }
+    ensures below { IsTrue result → (k : ℕ) (d : Func) → k < index + 1 →
+        (slice_index_or funcs.now k d).start ≤ address }
     ensures above { IsTrue result → (k : ℕ) (d : Func) → index + 1 ≤ k → k < length funcs.now →
         address < (slice_index_or funcs.now k d).start }
 {
@@ -113,7 +115,8 @@ fn count_below(insts: &[Placed], address: u64) -> usize
     requires { AllPairs (λ p q. p.addr < q.addr) insts.now }
     ensures bound { result ≤ length insts.now }
     ensures below { (k : ℕ) (d : Placed) → k < result → (slice_index_or insts.now k d).addr < address }
-    ensures above { (k : ℕ) (d : Placed) → result ≤ k → k < length insts.now → address ≤ (slice_index_or insts.now k d).addr }
+    ensures above { (k : ℕ) (d : Placed) → result ≤ k → k < length insts.now →
+        address ≤ (slice_index_or insts.now k d).addr }
 {
     insts.partition_point(|p| p.addr < address)
 }

@@ -1,7 +1,10 @@
 // A profile that was read: counts of pairs of instructions.
-ghost use Rattle.std.specs.Prelude.{◌≡◌, ◌<◌, ◌^◌, All, if◌then◌else◌};
-ghost use Rattle.edge_profile.specs.PairCounts.{count_among, is_pair, total_count};
+ghost use Rattle.std.specs.Prelude.{◌≡◌, ◌<◌, ◌^◌, ℕ, All, IfSome, IsTrue, if◌then◌else◌, slice_index_or, true};
+ghost use Rattle.edge_profile.specs.PairCounts.{Counted, count_among, is_pair, total_count};
 ghost use Rattle.edge_profile.specs.Pairs.{IsAscending, IsCountBelow, is_before};
+
+// How many pairs from a guess on are looked at before all are searched.
+const NEARBY: usize = 16;
 
 /// How often control went from one instruction to another, for each pair of addresses.
 #[derive(Drop)]
@@ -23,6 +26,16 @@ impl Profile {
         ensures { result ≡ profile_counts self.now from to }
     {
         count_in(&self.pairs, from, to)
+    }
+
+    /// How often control went from one instruction to another. `near` is about how many pairs are before the one that
+    /// was asked for last: pairs that are asked for in order walk along.
+    pub fn count_near(&self, near: &mut usize, from: u64, to: u64) -> u128
+        ensures { result ≡ profile_counts self.now from to }
+    {
+        let below = count_near(&self.pairs, *near, from, to);
+        *near = below;
+        count_at(&self.pairs, below, from, to)
     }
 
     /// The pairs of positive count, with their counts, by the first address and then by the second.
@@ -48,6 +61,15 @@ fn count_in(pairs: &[(u64, u64, u128)], from: u64, to: u64) -> u128
     ensures { result ≡ count_among from to pairs.now }
 {
     let below = count_below(pairs, from, to);
+    count_at(pairs, below, from, to)
+}
+
+// The count of a pair among some in order, of which so many come before it.
+fn count_at(pairs: &[(u64, u64, u128)], below: usize, from: u64, to: u64) -> u128
+    requires ascending { IsAscending pairs.now }
+    requires below { IsCountBelow pairs.now from to below }
+    ensures { result ≡ count_among from to pairs.now }
+{
     if below == pairs.len() {
         return 0;
     }
@@ -71,6 +93,49 @@ fn count_below(pairs: &[(u64, u64, u128)], from: u64, to: u64) -> usize
     ensures { IsCountBelow pairs.now from to result }
 {
     pairs.partition_point(|p| is_before(p, from, to))
+}
+
+// How many pairs come before one: looked for from a guess on first.
+fn count_near(pairs: &[(u64, u64, u128)], near: usize, from: u64, to: u64) -> usize
+    requires { IsAscending pairs.now }
+    ensures { IsCountBelow pairs.now from to result }
+{
+    match count_beside(pairs, near, from, to) {
+        Some(count) => count,
+        None => count_below(pairs, from, to),
+    }
+}
+
+// Counts the pairs that come before one, where these are as many as a guess, or a few more.
+fn count_beside(pairs: &[(u64, u64, u128)], near: usize, from: u64, to: u64) -> Option<usize>
+    requires { IsAscending pairs.now }
+    ensures { IfSome result (IsCountBelow pairs.now from to) }
+{
+    if !are_before(pairs, near, from, to) {
+        return None;
+    }
+    let end = near.saturating_add(NEARBY).min(pairs.len());
+    for k in near..end {
+        if !is_before(&pairs[k], from, to) {
+            return Some(k);
+        }
+    }
+    None
+}
+
+// Whether there are so many pairs, and all of the first ones come before one.
+fn are_before(pairs: &[(u64, u64, u128)], count: usize, from: u64, to: u64) -> bool
+    requires { IsAscending pairs.now }
+    ensures { IsTrue result → (k : ℕ) (d : Counted) → k < count →
+        is_before (slice_index_or pairs.now k d) (from, to, 0) ≡ true }
+{
+    if count == 0 {
+        return true;
+    }
+    if pairs.len() < count {
+        return false;
+    }
+    is_before(&pairs[count - 1], from, to)
 }
 
 fn is_before(pair: &(u64, u64, u128), from: u64, to: u64) -> bool

@@ -21,10 +21,12 @@ use rb_bytes::fault::NoMemory;
 use rv_code::Func;
 use std::alloc::Global;
 
-// What the lines of a text say, and how many say nothing.
+/// What the lines of a text say.
 #[derive(Drop)]
 pub struct Said {
+    /// From where to where control went, and how often: one for each line that says so.
     pub counted: Vec<(u64, u64, u64)>,
+    /// How many lines say nothing.
     pub ignored: u64,
 }
 

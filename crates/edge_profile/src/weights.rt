@@ -1,9 +1,11 @@
 // How often blocks run.
-ghost use Rattle.std.specs.Prelude.{◌≡◌, ◌+◌, ◌*◌, ◌<◌, ◌≤◌, ◌^◌, ◌&&◌, ◌||◌, ℕ, IfOk, IfSome, Some, true, false, if◌then◌else◌};
+ghost use Rattle.std.specs.Prelude.{◌≡◌, ◌+◌, ◌*◌, ◌<◌, ◌≤◌, ◌^◌, ◌&&◌, ◌||◌, ℕ, IfOk, IfSome, Some, true, false};
+ghost use Rattle.std.specs.Prelude.{if◌then◌else◌};
 ghost use Rattle.std.specs.Prelude.{IsTrue, length, map, not, slice_index, slice_index_or, sum};
 ghost use Rattle.rv_code.specs.declared.placed.Block.{Block};
 ghost use Rattle.rv_code.specs.layout.FunctionLists.{AreLaidOut};
-ghost use Rattle.edge_profile.specs.BlockPlaces.{AreBlocksApart, IsHolder, begins_by, ends_from, has_inst, is_place, raised_at};
+ghost use Rattle.edge_profile.specs.BlockPlaces.{AreBlocksApart, IsHolder, begins_by, ends_from, has_inst, is_place};
+ghost use Rattle.edge_profile.specs.BlockPlaces.{raised_at};
 ghost use Rattle.edge_profile.specs.Profile.{pairs_of};
 ghost use Rattle.edge_profile.specs.Weights.{block_weight, insts_of_block, touches};
 
@@ -25,7 +27,8 @@ pub fn block_weights(
 ) -> Result<Vec<u128>, NoMemory>
     requires funcs { AreLaidOut funcs.now }
     requires blocks { AreBlocksApart blocks.now }
-    ensures weights { IfOk result (λ weights. weights.items ≡ map (block_weight (pairs_of profile.now) funcs.now) blocks.now) }
+    ensures weights { IfOk result (λ weights. weights.items ≡ map (block_weight (pairs_of profile.now) funcs.now)
+        blocks.now) }
     ensures few { IfOk result (λ weights. sum weights.items < 2 ^ 101) }
 {
     let mut weights = vec![in alloc; 0u128; blocks.len()]?;
@@ -36,8 +39,8 @@ pub fn block_weights(
     Ok(weights)
 }
 
-// Adds the count of a pair to the weights of the blocks that it touches, which may be near a block. Says where the first of
-// them is: pairs ascend, so those of the next are mostly near it.
+// Adds the count of a pair to the weights of the blocks that it touches, which may be near a block. Says where the
+// first of them is: pairs ascend, so those of the next are mostly near it.
 fn add(
     weights: &mut [u128],
     funcs: &[Func],
@@ -49,7 +52,8 @@ fn add(
     requires blocks { AreBlocksApart blocks.now }
     requires lengths { length weights.old ≡ length blocks.now }
     requires fits { (k : ℕ) → slice_index weights.old k + 2 * pair.now.2 < 2 ^ 128 }
-    ensures weights { (k : ℕ) (d : Block) → k < length blocks.now → slice_index weights.new k ≡ slice_index weights.old k +
+    ensures weights { (k : ℕ) (d : Block) → k < length blocks.now →
+        slice_index weights.new k ≡ slice_index weights.old k +
         (if touches (insts_of_block funcs.now (slice_index_or blocks.now k d)) pair.now then pair.now.2 else 0) }
     ensures total { sum weights.new ≤ sum weights.old + 2 * pair.now.2 }
 {

@@ -7,6 +7,7 @@ mod Folds
 pub mod LoadLemmas
 pub mod LowSegments
 pub mod LowestPlaces
+mod NearEnds
 pub mod NumberBytes
 pub mod ReachLemmas
 pub mod ReadLists

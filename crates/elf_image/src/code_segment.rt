@@ -1,7 +1,10 @@
 // The executable segment.
-ghost use Rattle.std.specs.Prelude.{◌≡◌, ◌&&◌, ◌||◌, ℕ, nat_lt};
+ghost use Rattle.std.specs.Prelude.{◌≡◌, ◌&&◌, ◌||◌, ℕ, List, nat_lt};
 ghost use Rattle.std.specs.List.{list_any};
-ghost use Rattle.elf_image.specs.memory.CodeSegment.{executable_segment};
+ghost use Rattle.elf_image.specs.declared.elf.Elf.{Elf};
+ghost use Rattle.elf_image.specs.declared.segment.Segment.{Segment};
+ghost use Rattle.elf_image.specs.memory.CodeSegment.{executable_end, executable_segment};
+ghost use Rattle.elf_image.specs.memory.HiddenFields.{is_executable_segment};
 ghost use Rattle.elf_image.specs.faults.SegmentLayout.{is_code_segment};
 ghost use Rattle.elf_image.specs.internal.LowestAddresses.{is_above};
 
@@ -51,4 +54,25 @@ pub fn executable_segment(segments: &[Segment]) -> Option<(usize, Segment)>
         }
     }
     None
+}
+
+/// The offset past the bytes of the executable segment, which is given with its index; 0 where there is none.
+pub fn executable_end(executable: Option<(usize, Segment)>) -> u128
+    ensures { (segments : List Segment) → executable ≡ executable_segment segments → result ≡ executable_end segments }
+{
+    match executable {
+        Some((_, p)) => p.offset as u128 + p.filesz as u128,
+        None => 0,
+    }
+}
+
+/// Whether an index is that of the executable segment.
+pub fn is_executable_segment(executable: Option<(usize, Segment)>, index: usize) -> bool
+    ensures { (elf : Elf) → executable ≡ executable_segment elf.segments.items →
+        result ≡ is_executable_segment elf index }
+{
+    match executable {
+        Some((at, _)) => at == index,
+        None => false,
+    }
 }

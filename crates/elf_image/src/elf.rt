@@ -30,7 +30,8 @@ pub struct Elf<'a> {
     ghost once: { LoadOnce loads.items },
     ghost same: { (a : ℕ) → segment_of loads.items a ≡ segment_of segments.items a },
     pub ghost header: { HasHeader file.now },
-    pub ghost tables: { All (λ s. s.kind ≡ SHT_RELA → 0 < s.size → s.offset + s.size ≤ length file.now) sections.items },
+    pub ghost tables: { All (λ s. s.kind ≡ SHT_RELA → 0 < s.size → s.offset + s.size ≤ length file.now)
+        sections.items },
 }
 
 impl<'a> Elf<'a> {

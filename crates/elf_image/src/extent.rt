@@ -2,7 +2,8 @@
 ghost use Rattle.std.specs.Prelude.{◌≡◌, ◌≤◌, ◌<◌, ◌↔◌, ◌+◌, ℕ, IsTrue, IfOk, OnOk, All, length, slice_index_or};
 ghost use Rattle.std.specs.List.Sorted.{IsNonDecreasingBy, IsPermutation};
 ghost use Rattle.elf_image.specs.faults.LowestPlace.{IsLowest};
-ghost use Rattle.elf_image.specs.internal.Extents.{HavePlaces, IsInOneExtent, IsReach, MeetsAnother, MeetsNext, SharesAnother};
+ghost use Rattle.elf_image.specs.internal.Extents.{HavePlaces, IsInOneExtent, IsReach, MeetsAnother, MeetsNext};
+ghost use Rattle.elf_image.specs.internal.Extents.{SharesAnother};
 
 use crate::lowest::{lower, place_if};
 use rb_bytes::fault::NoMemory;
@@ -98,7 +99,8 @@ pub fn count_from(extents: &[Extent], start: u64) -> usize
     requires { IsNonDecreasingBy (λ s. s.start) extents.now }
     ensures bound { result ≤ length extents.now }
     ensures below { (k : ℕ) (d : Extent) → k < result → (slice_index_or extents.now k d).start ≤ start }
-    ensures above { (k : ℕ) (d : Extent) → result ≤ k → k < length extents.now → start < (slice_index_or extents.now k d).start }
+    ensures above { (k : ℕ) (d : Extent) → result ≤ k → k < length extents.now →
+        start < (slice_index_or extents.now k d).start }
 {
     extents.partition_point(|s| s.start <= start)
 }

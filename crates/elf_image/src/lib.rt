@@ -22,6 +22,7 @@ pub mod start;
 pub mod symbol;
 mod tables;
 mod text;
+mod text_end;
 
 pub use elf::Elf;
 pub use faults::refuse_at;

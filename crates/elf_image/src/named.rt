@@ -3,9 +3,10 @@
 ghost use Rattle.std.specs.Prelude.{◌≡◌};
 ghost use Rattle.elf_image.specs.file.SectionNames.{names_frames, names_debug};
 
-/// The names of the unwind tables and of their index.
+/// The name of the unwind tables that are loaded.
 pub const EH_FRAME: &[u8] = b".eh_frame";
 
+/// The name of their index.
 pub const EH_FRAME_HDR: &[u8] = b".eh_frame_hdr";
 
 /// Whether a name is that of the unwind tables that are loaded, or of their index.

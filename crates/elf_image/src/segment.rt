@@ -1,6 +1,9 @@
 // Program headers.
-ghost use Rattle.std.specs.Prelude.{◌≡◌, ◌≤◌, ◌<◌, ◌+◌, ◌^◌, IfSome, length};
+ghost use Rattle.std.specs.Prelude.{◌≡◌, ◌≤◌, ◌<◌, ◌+◌, ◌^◌, IfSome, find, length, option_copied};
+ghost use Rattle.elf_image.specs.memory.HiddenFields.{e_entry_field};
+ghost use Rattle.elf_image.specs.memory.LoadedBytes.{loads_range};
 
+use crate::header::E_ENTRY;
 use crate::number::{is_set, u32_at, u64_at};
 
 /// The type of a segment that is loaded. gABI, "Program Header".
@@ -15,11 +18,13 @@ pub const PT_INTERP: u32 = 3;
 /// "Program Headers".
 pub const PT_GNU_EH_FRAME: u32 = 0x6474_e550;
 
-/// The flags of a segment that may be executed, written and read. gABI, "Segment Permissions".
+/// The flag of a segment that may be executed. gABI, "Segment Permissions".
 pub const PF_X: u32 = 1;
 
+/// The flag of a segment that may be written.
 pub const PF_W: u32 = 2;
 
+/// The flag of a segment that may be read.
 pub const PF_R: u32 = 4;
 
 /// The address below which all that is loaded lies.
@@ -133,4 +138,19 @@ impl Segment {
     {
         self.kind == PT_LOAD && self.has_flag(PF_X)
     }
+}
+
+/// The first segment that loads a range of the file.
+pub fn range_segment(segments: &[Segment], start: u64, size: u64) -> Option<&Segment>
+    ensures first { option_copied result ≡ find (loads_range (record { start = start; size = size })) segments.now }
+    ensures within { IfSome result (λ p. p.now.offset ≤ start) }
+{
+    segments.iter().find(|p| p.loads_range(start, size))
+}
+
+/// The first segment that loads the field `e_entry` whole.
+pub fn entry_segment(segments: &[Segment]) -> Option<&Segment>
+    ensures { option_copied result ≡ find (loads_range e_entry_field) segments.now }
+{
+    segments.iter().find(|p| p.loads_range(E_ENTRY as u64, 8))
 }

@@ -3,6 +3,7 @@ ghost use Rattle.std.specs.Prelude.{◌≡◌, IfOk};
 ghost use Rattle.elf_image.specs.file.Sections.{text_of};
 ghost use Rattle.memchr.specs.Find.{is_byte, places};
 
+use crate::text_end::near_end;
 use memchr::memchr_iter;
 use rb_bytes::fault::NoMemory;
 use std::alloc::Global;
@@ -27,14 +28,24 @@ impl<'a> Names<'a> {
         Ok(Names { table, zeros })
     }
 
-    // Where the text ends that begins at an index.
-    fn end(&self, index: usize) -> usize
+    // Where the text ends that begins at an index, by a search of all zero bytes.
+    fn far_end(&self, index: usize) -> usize
         ensures { IsTextEnd (name_bytes self.now) index result }
     {
         let next = self.zeros.partition_point(|zero| *zero < index);
         match self.zeros.get(next) {
             Some(end) => *end,
             None => self.table.len(),
+        }
+    }
+
+    // Where the text ends that begins at an index.
+    fn end(&self, index: usize) -> usize
+        ensures { IsTextEnd (name_bytes self.now) index result }
+    {
+        match near_end(self.table, index) {
+            Some(end) => end,
+            None => self.far_end(index),
         }
     }
 

@@ -20,12 +20,13 @@ LacksBelow Has number = (kind : FaultKind) → number_of kind < number → Lacks
 abbrev pub IsFree : (FaultKind → ℕ → Type 0) → Type 0
 IsFree Has = (kind : FaultKind) → Lacks Has kind
 
--- The answered fault is present, no fault of a lower number is, and none of its number has a lower place. Two kinds that
--- share a number are looked for together.
+-- The answered fault is present, no fault of a lower number is, and none of its number has a lower place. Two kinds
+-- that share a number are looked for together.
 pub record IsAnswered (Has : FaultKind → ℕ → Type 0) (fault : Fault) : Type 0 where
   pub present : Has fault.kind fault.place
   pub first : LacksBelow Has (number_of fault.kind)
-  pub lowest : (kind : FaultKind) (place : ℕ) → number_of kind ≡ number_of fault.kind → Has kind place → fault.place ≤ place
+  pub lowest : (kind : FaultKind) (place : ℕ) → number_of kind ≡ number_of fault.kind → Has kind place →
+      fault.place ≤ place
   pub alone : fault ≡ fault_at fault.kind fault.place
 
 -- a refusal names the fault that is answered; memory may be wanting at any time

@@ -33,8 +33,8 @@ abbrev pub text_at : List ℕ → Result (List ℕ × List ℕ) Gap
 text_at left = let n = position_or_len (λ b. b == 0) left in
     if nat_lt n (length left) then Ok (take n left, drop (n + 1) left) else Err Short
 
--- what `read` gives, and then what `next` makes of its value and the bytes after it: a format that
--- is read in steps is defined by this
+-- what `read` gives, and then what `next` makes of its value and the bytes after it: a format that is read in steps
+-- is defined by this
 abbrev pub and_then : {X Y E : Type 0} → Result (X × List ℕ) E → (X → List ℕ → Result Y E) → Result Y E
 and_then (Ok read) next = next read.0 read.1
 and_then (Err gap) next = Err gap

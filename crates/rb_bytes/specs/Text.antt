@@ -1,13 +1,14 @@
 -- Numbers as text.
-use Rattle.std.specs.Prelude.{ℕ, ◌^◌, ◌&&◌, ◌||◌, Bool, false, List, Option, Some, None, nat_lt, nat_le, length, if◌then◌else◌}
+use Rattle.std.specs.Prelude.{ℕ, ◌^◌, ◌&&◌, ◌||◌, Bool, false, List, Option, Some, None, nat_lt, nat_le, length}
+use Rattle.std.specs.Prelude.{if◌then◌else◌}
 use Rattle.std.specs.Char.{is_ascii_digit}
 use Rattle.std.specs.Fmt.{digits}
 use Rattle.std.specs.Int.{is_in_range}
 use Rattle.std.specs.List.{list_all}
 use Rattle.std.specs.Str.Parse.{digits_value}
 
--- a number of at most 64 digits in lower-case hexadecimal, the highest digit first and not zero, but
--- for zero, which is `0`; what `{:x}` prints
+-- a number of at most 64 digits in lower-case hexadecimal, the highest digit first and not zero, but for zero, which
+-- is `0`; what `{:x}` prints
 abbrev pub hexadecimal : ℕ → List ℕ
 hexadecimal n = digits 16 false n
 

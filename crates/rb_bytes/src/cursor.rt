@@ -1,5 +1,5 @@
 // A cursor over bytes.
-ghost use Rattle.std.specs.Prelude.{◌≡◌, ◌+◌, ◌<◌, ◌≤◌, length, take, drop, IfOk, IfErr, OnOk, OnErr};
+ghost use Rattle.std.specs.Prelude.{◌≡◌, ◌+◌, ◌<◌, ◌≤◌, length, take, drop, IfOk, IfErr, IfSome, OnOk, OnErr};
 ghost use Rattle.rb_bytes.specs.Readers.{Reading, Passes, whole_reading, number_read, bytes_at, text_at};
 ghost use Rattle.rb_bytes.specs.Leb.{leb_length, uleb_at, sleb_at};
 ghost use Rattle.rb_bytes.specs.declared.gap.Gap.TheVariants.{Short};
@@ -29,6 +29,7 @@ impl<'a> Model for Cursor<'a> {
 }
 
 impl<'a> Cursor<'a> {
+    /// A cursor at the front of some bytes.
     pub fn new(bytes: &'a [u8]) -> Cursor<'a>
         ensures { result ≡ whole_reading bytes.now }
     {
@@ -141,6 +142,11 @@ impl<'a> Cursor<'a> {
         ensures forward { OnOk result (self.old.place < self.new.place) }
         ensures unchanged { OnErr result (self.new ≡ self.old) }
     {
+        // Most numbers take one byte.
+        if let Some(number) = self.short_uleb() {
+            self.pass(1);
+            return Ok(number as u64);
+        }
         let spelling = self.leb_spelling()?;
         let number = leb::unsigned_value(spelling).ok_or(Gap::Wide)?;
         self.pass(spelling.len());
@@ -160,6 +166,16 @@ impl<'a> Cursor<'a> {
         let number = leb::signed_value(spelling).ok_or(Gap::Wide)?;
         self.pass(spelling.len());
         Ok(number)
+    }
+
+    // The unsigned LEB128 number at the front, where it takes one byte, which isn't passed.
+    fn short_uleb(&self) -> Option<u8>
+        ensures read { IfSome result (λ x. uleb_at self.now.left ≡ Ok (x, drop 1 self.now.left)) }
+        ensures one { IfSome result (λ _. leb_length self.now.left ≡ 1) }
+        ensures some { IfSome result (λ _. 1 ≤ length self.now.left) }
+    {
+        let byte = self.rest.first().copied()?;
+        if byte < leb::BASE { Some(byte) } else { None }
     }
 
     // The bytes of the LEB128 number at the front, none of which is passed. `Gap::Short` exactly where the bytes end

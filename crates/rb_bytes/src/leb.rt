@@ -2,13 +2,14 @@
 ghost use Rattle.std.specs.Prelude.{◌≡◌, ◌<◌, ◌^◌, ◌++◌, FitsSigned, length, OnOk, OnErr, position};
 ghost use Rattle.std.specs.Int.{w64};
 ghost use Rattle.std.specs.Option.{SomeIff};
-ghost use Rattle.rb_bytes.specs.Leb.{is_last, uleb_value, sleb_value, signed_bits, low_bits, high_bits, fits_seven_bits, uleb};
+ghost use Rattle.rb_bytes.specs.Leb.{is_last, uleb_value, sleb_value, signed_bits, low_bits, high_bits};
+ghost use Rattle.rb_bytes.specs.Leb.{fits_seven_bits, uleb};
 ghost use Rattle.rb_bytes.specs.Leb.{sleb, IsShortestUleb, IsShortestSleb};
 
 use crate::fault::NoMemory;
 
 /// Each byte carries one digit in this base, and is below it only if it is the last.
-const BASE: u8 = 128;
+pub(crate) const BASE: u8 = 128;
 
 /// As many bytes as a number of 64 bits takes at most.
 const MAX_LENGTH: usize = 10;

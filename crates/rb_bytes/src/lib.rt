@@ -7,5 +7,6 @@ pub mod fault;
 pub mod gap;
 pub mod leb;
 pub mod lists;
+pub mod little;
 pub mod number;
 pub mod text;

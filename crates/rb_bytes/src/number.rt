@@ -59,7 +59,8 @@ fn is_lower_hex_digit(c: u8) -> bool
 fn value(digits: &[u8], radix: u64) -> Option<u64>
     requires digits { IsTrue (list_all is_lower_hex_digit digits.now) }
     requires radix { 0 < radix }
-    ensures { result ≡ (if nat_lt (digits_value radix digits.now) (2 ^ 64) then Some (digits_value radix digits.now) else None) }
+    ensures { result ≡ (if nat_lt (digits_value radix digits.now) (2 ^ 64) then Some
+        (digits_value radix digits.now) else None) }
 {
     let mut value = 0;
     for c in digits {

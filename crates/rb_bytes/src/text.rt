@@ -20,8 +20,8 @@ fn hex_digit(digit: u8) -> u8
     }
 }
 
-/// Writes the number in lower-case hexadecimal, with no leading zeros, before the place `end`; zero is `0`. The answer is
-/// the place of its first digit.
+/// Writes the number in lower-case hexadecimal, with no leading zeros, before the place `end`; zero is `0`. The answer
+/// is the place of its first digit.
 #[tactic(auto, using(crate::proofs::HexDigits::hex_onto_start))]
 pub fn write_hex(v: u64, buf: &mut [u8], end: usize) -> usize
     requires room { 16 ≤ end }
@@ -60,5 +60,13 @@ pub fn put_decimal(out: &mut Vec<u8>, v: u64) -> Result<(), NoMemory>
     ensures err { OnErr result (out.new.items ≡ out.old.items) }
 {
     out.extend_from_slice(Buffer::new().format(v).as_bytes())?;
+    Ok(())
+}
+
+/// Appends a number of up to 128 bits in decimal, with no leading zeros; zero is `0`.
+pub fn put_count(out: &mut Vec<u8>, count: u128) -> Result<(), NoMemory>
+    ensures { OnOk result (out.new.items ≡ out.old.items ++ decimal count) }
+{
+    out.extend_from_slice(Buffer::new().format(count).as_bytes())?;
     Ok(())
 }

@@ -2,8 +2,8 @@
 use Rattle.std.specs.Prelude.{◌≡◌, ℕ, List, Option, Bool}
 use Rattle.rb_io.specs.Names.{NeverFalls}
 
--- Files: whether their contents are told (where they aren't, `content` means nothing), the bytes under each name that is
--- there, and each name's counts of read faults and of write faults.
+-- Files: whether their contents are told (where they aren't, `content` means nothing), the bytes under each name that
+-- is there, and each name's counts of read faults and of write faults.
 pub record FilesSeen : Type 0 where
   pub told : Bool
   pub content : List ℕ → Option (List ℕ)

@@ -50,7 +50,8 @@ pub trait Files {
 
     /// Makes `bytes` the whole content of `name`. After `Failed` that name alone may hold any bytes.
     fn write_all(&mut self, name: &str, bytes: &[u8]) -> Wrote
-        ensures done { result ≡ Wrote.Done → IsTrue (seen self.old).told → (seen self.new).content name.now ≡ Some bytes.now }
+        ensures done { result ≡ Wrote.Done → IsTrue (seen self.old).told →
+            (seen self.new).content name.now ≡ Some bytes.now }
         ensures failed { result ≡ Wrote.Failed →
             Rose ((seen self.old).write_faults name.now) ((seen self.new).write_faults name.now) }
         ensures others_kept { UnchangedBut name.now (seen self.old).content (seen self.new).content }

@@ -1,5 +1,6 @@
 // Files in memory.
-ghost use Rattle.std.specs.Prelude.{◌≡◌, ◌≢◌, ◌≤◌, ◌<◌, List, ℕ, Some, None, IsTrue, IsSomeAnd, [], IfOk, OnOk, OnErr, length};
+ghost use Rattle.std.specs.Prelude.{◌≡◌, ◌≢◌, ◌≤◌, ◌<◌, List, ℕ, Some, None, IsTrue, IsSomeAnd, [], IfOk, OnOk, OnErr};
+ghost use Rattle.std.specs.Prelude.{length};
 ghost use Rattle.std.specs.Prelude.{max, string_bytes, true, unwrap_or, is_none};
 ghost use Rattle.std.specs.Option.{option_copied};
 ghost use Rattle.rb_io.specs.CallResults.{read_failed, write_failed};
@@ -62,7 +63,8 @@ impl MemFiles {
     pub fn prepare(&mut self, name: String, room: usize) -> Result<(), NoMemory>
         ensures contents_kept { Unchanged (content self.old) (content self.new) }
         ensures room { OnOk result
-            (room_for self.new (string_bytes name) ≡ Some (max (unwrap_or (room_for self.old (string_bytes name)) 0) room)) }
+            (room_for self.new (string_bytes name) ≡ Some
+            (max (unwrap_or (room_for self.old (string_bytes name)) 0) room)) }
         ensures other_rooms { UnchangedBut (string_bytes name) (room_for self.old) (room_for self.new) }
         ensures err { OnErr result (Unchanged (room_for self.old) (room_for self.new)) }
         ensures calls_kept { calls_of self.new ≡ calls_of self.old }
@@ -85,7 +87,8 @@ impl Files for MemFiles {
     fn read_all(&mut self, name: &str, limit: usize, into: &mut Vec<u8>) -> ReadAll
         ensures done { result ≡ ReadAll.Done → content self.old name.now ≡ Some into.new.items }
         ensures within_limit { result ≡ ReadAll.Done → length into.new.items ≤ limit }
-        ensures too_long { result ≡ ReadAll.TooLong → IsSomeAnd (content self.old name.now) (λ bytes. limit < length bytes) }
+        ensures too_long { result ≡ ReadAll.TooLong → IsSomeAnd (content self.old name.now)
+            (λ bytes. limit < length bytes) }
         ensures failed { result ≡ ReadAll.Failed → Rose (calls_of self.old).faults (calls_of self.new).faults }
         ensures emptied { result ≢ ReadAll.Done → into.new.items ≡ [] }
         ensures contents_kept { Unchanged (content self.old) (content self.new) }
@@ -93,7 +96,8 @@ impl Files for MemFiles {
         // It fails exactly where its number is to fail or the name isn't there.
         ensures fails { read_failed result ≡ read_fails self.old name.now }
         // Memory is wanted only for a content within the limit.
-        ensures memory { result ≡ ReadAll.Memory → IsSomeAnd (content self.old name.now) (λ bytes. length bytes ≤ limit) }
+        ensures memory { result ≡ ReadAll.Memory → IsSomeAnd (content self.old name.now)
+            (λ bytes. length bytes ≤ limit) }
         ensures rooms_kept { Unchanged (room_for self.old) (room_for self.new) }
         ensures calls { calls_of self.new ≡ after_call (calls_of self.old) (read_failed result) }
     {
@@ -113,7 +117,8 @@ impl Files for MemFiles {
         ensures failed { result ≡ Wrote.Failed → Rose (calls_of self.old).faults (calls_of self.new).faults }
         ensures others_kept { UnchangedBut name.now (content self.old) (content self.new) }
         ensures goes_on { FilesGoOn (files_seen self.old) (files_seen self.new) }
-        // It fails exactly where its number is to fail or the name hasn't room for the bytes, and then changes no content.
+        // It fails exactly where its number is to fail or the name hasn't room for the bytes, and then changes no
+        // content.
         ensures fails { write_failed result ≡ write_fails self.old name.now (length bytes.now) }
         ensures contents_kept { result ≡ Wrote.Failed → Unchanged (content self.old) (content self.new) }
         ensures rooms_kept { Unchanged (room_for self.old) (room_for self.new) }
@@ -138,7 +143,8 @@ fn read_content(content: Option<&[u8]>, limit: usize, into: &mut Vec<u8>) -> Rea
     requires { into.old.items ≡ [] }
     ensures done { result ≡ ReadAll.Done → option_copied content.entry ≡ Some into.new.items }
     ensures within_limit { result ≡ ReadAll.Done → length into.new.items ≤ limit }
-    ensures too_long { result ≡ ReadAll.TooLong → IsSomeAnd (option_copied content.entry) (λ bytes. limit < length bytes) }
+    ensures too_long { result ≡ ReadAll.TooLong → IsSomeAnd (option_copied content.entry)
+        (λ bytes. limit < length bytes) }
     ensures failed { read_failed result ≡ is_none content.entry }
     ensures emptied { result ≢ ReadAll.Done → into.new.items ≡ [] }
     ensures memory { result ≡ ReadAll.Memory → IsSomeAnd (option_copied content.entry) (λ bytes. length bytes ≤ limit) }

@@ -49,7 +49,8 @@ impl Source for MemSource {
         ensures left_kept { result ≡ Got.Failed → Some (bytes_left self.new) ≡ Some (bytes_left self.old) }
         ensures failed { result ≡ Got.Failed → Rose (calls_of self.old).faults (calls_of self.new).faults }
         ensures never_falls { (calls_of self.old).faults ≤ (calls_of self.new).faults }
-        // It fails exactly where its number is to fail, and moves as many bytes as there are and the buffer has room for.
+        // It fails exactly where its number is to fail, and moves as many bytes as there are and the buffer has room
+        // for.
         ensures answer { result ≡ read_answer self.old (length buf.old) }
         ensures calls { calls_of self.new ≡ after_call (calls_of self.old) (got_failed result) }
         ensures rest_kept { IfBytes result (λ n. drop n buf.new ≡ drop n buf.old) }

@@ -22,7 +22,8 @@ pub trait Sink {
     /// Takes bytes from the front of `piece`: none only of an empty piece. To take none of another is a fault.
     fn write(&mut self, piece: &[u8]) -> Put
         ensures within { IfTook result (λ n. n ≤ length piece.now) }
-        ensures added { IfTook result (λ n. (seen self.new).taken ≡ append_known (seen self.old).taken (take n piece.now)) }
+        ensures added { IfTook result (λ n. (seen self.new).taken ≡ append_known (seen self.old).taken
+            (take n piece.now)) }
         ensures some { IfTook result (λ n. n ≡ 0 → piece.now ≡ []) }
         ensures taken_kept { result ≡ Put.Failed → (seen self.new).taken ≡ (seen self.old).taken }
         ensures failed { result ≡ Put.Failed → Rose (seen self.old).faults (seen self.new).faults }

@@ -1,5 +1,6 @@
 // The files in memory by name.
-ghost use Rattle.std.specs.Prelude.{◌≡◌, None, Some, IsTrue, IfOk, IsOk, OnOk, OnErr, length, max, unwrap_or, string_bytes, true};
+ghost use Rattle.std.specs.Prelude.{◌≡◌, None, Some, IsTrue, IfOk, IsOk, OnOk, OnErr, length, max, unwrap_or};
+ghost use Rattle.std.specs.Prelude.{string_bytes, true};
 ghost use Rattle.std.specs.Prelude.{false};
 ghost use Rattle.rb_io.specs.MemFiles.{has_room};
 ghost use Rattle.rb_io.specs.Names.{Unchanged, UnchangedBut};
@@ -35,7 +36,8 @@ pub(crate) fn make_room(
 ) -> Result<(), AllocError>
     ensures contents_kept { Unchanged (content_at slots.old) (content_at slots.new) }
     ensures ok { OnOk result
-        (room_at slots.new (string_bytes name) ≡ Some (max (unwrap_or (room_at slots.old (string_bytes name)) 0) room)) }
+        (room_at slots.new (string_bytes name) ≡ Some (max (unwrap_or (room_at slots.old (string_bytes name)) 0)
+        room)) }
     ensures others_kept { UnchangedBut (string_bytes name) (room_at slots.old) (room_at slots.new) }
     ensures err { OnErr result (Unchanged (room_at slots.old) (room_at slots.new)) }
 {

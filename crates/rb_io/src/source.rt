@@ -22,7 +22,8 @@ pub trait Source {
     /// Moves the first bytes left to the front of `buf`: none only at the end of input or for an empty `buf`.
     fn read(&mut self, buf: &mut [u8]) -> Got
         ensures within { IfBytes result (λ n. n ≤ length buf.new) }
-        ensures moved { IfBytes result (λ n. (seen self.old).left ≡ prepend_known (take n buf.new) (seen self.new).left) }
+        ensures moved { IfBytes result (λ n. (seen self.old).left ≡ prepend_known (take n buf.new)
+            (seen self.new).left) }
         ensures end { IfBytes result (λ n. n ≡ 0 → 0 < length buf.old → IsAtEnd (seen self.old).left) }
         ensures left_kept { result ≡ Got.Failed → (seen self.new).left ≡ (seen self.old).left }
         ensures failed { result ≡ Got.Failed → Rose (seen self.old).faults (seen self.new).faults }

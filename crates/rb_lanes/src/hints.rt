@@ -9,18 +9,19 @@ const MEMBERS: u64 = 8;
 /// As many members as a look-up goes over before it searches all.
 const WALK: usize = 32;
 
-/// The places of the first members in steps of values of one size. A matter of speed alone: a look-up begins there, and looks
-/// at the members.
+/// The places of the first members in steps of values of one size. A matter of speed alone: a look-up begins there,
+/// and looks at the members.
 #[derive(Drop)]
 pub struct Hints {
     base: u64,
     shift: u32,
     firsts: Vec<usize>,
+    count: usize,
     ghost shift_is_low: { shift < 64 },
 }
 
 impl Hints {
-    /// Those for a list, of which it takes an eighth of the memory.
+    /// The hints for a list, which take an eighth of its memory.
     pub fn new(alloc: Global, members: &[u64]) -> Result<Hints, AllocError> {
         let base = members.first().copied().unwrap_or(0);
         let shift = shift_for(members, base);
@@ -35,6 +36,7 @@ impl Hints {
             base,
             shift,
             firsts,
+            count: members.len(),
         })
     }
 
@@ -43,7 +45,7 @@ impl Hints {
         let step = x.saturating_sub(self.base) >> self.shift;
         match self.firsts.get(step as usize) {
             Some(first) => *first,
-            None => 0,
+            None => self.count,
         }
     }
 }
@@ -70,8 +72,8 @@ pub fn is_member(members: &[u64], hints: &Hints, x: u64) -> bool
     is_member_from(members, &mut near, x)
 }
 
-/// Whether `x` is a member of an ascending list. `near` is about how many members are below the number that was asked for
-/// last: numbers that go up walk along the list.
+/// Whether `x` is a member of an ascending list. `near` is about how many members are below the number that was asked
+/// for last: numbers that go up walk along the list.
 pub fn is_member_from(members: &[u64], near: &mut usize, x: u64) -> bool
     requires { AllPairs (λ a b. a < b) members.now }
     ensures { IsTrue result ↔ Contains members.now x }
@@ -92,10 +94,14 @@ pub fn count_below(members: &[u64], near: usize, x: u64) -> usize
     ensures above { (k : ℕ) (d : ℕ) → result ≤ k → k < length members.now → x ≤ slice_index_or members.now k d }
 {
     if are_below(members, near, x) {
-        for count in near..members.len().min(near.saturating_add(WALK)) {
+        let end = members.len().min(near.saturating_add(WALK));
+        for count in near..end {
             if x <= members[count] {
                 return count;
             }
+        }
+        if end == members.len() {
+            return end;
         }
     }
     search_below(members, x)

@@ -1,4 +1,5 @@
-//! Kernels on lanes: how many members of a list are at most a number, and which halfwords of code begin long instructions.
+//! Kernels on lanes: how many members of a list are at most a number, and which halfwords of code begin long
+//! instructions.
 #![tactic(auto)]
 
 mod hints;

@@ -1,7 +1,8 @@
 // Where control goes after an instruction. ISA manual, section 2.5.
-ghost use Rattle.std.specs.Prelude.{◌≡◌, ◌+◌, ◌<◌, ◌^◌, length};
+ghost use Rattle.std.specs.Prelude.{◌≡◌, ◌+◌, ◌<◌, ◌^◌, ◌↔◌, IsTrue, length};
 ghost use Rattle.rv_code.specs.isa.Action.{action_of};
 ghost use Rattle.rv_code.specs.isa.TwosComplement.{unsigned64};
+ghost use Rattle.rv_code.specs.layout.Blocks.{EndsBlock};
 ghost use Rattle.rv_code.specs.layout.Flow as flow;
 ghost use Rattle.rv_code.specs.machine.Machine.{plus};
 
@@ -25,10 +26,18 @@ pub fn target(address: u64, inst: &Inst) -> Option<u64>
     }
 }
 
-fn moved_by(address: u64, distance: i64) -> u64
+/// The address at a distance from another, modulo 2^64.
+pub fn moved_by(address: u64, distance: i64) -> u64
     ensures { result ≡ plus address (unsigned64 distance) }
 {
     address.wrapping_add(distance.cast_unsigned())
+}
+
+/// Whether a block ends with an instruction: a conditional branch, or a jump that saves no return address.
+pub fn ends_block(inst: &Placed) -> bool
+    ensures { IsTrue result ↔ EndsBlock inst.now }
+{
+    is_branch(&inst.inst) || is_plain_jump(&inst.inst)
 }
 
 /// Whether an instruction is a call: a jump that saves a return address.

@@ -34,7 +34,8 @@ pub fn starts_up_to(funcs: &[Func], address: u64) -> usize
     requires { IsNonDecreasingBy (λ f. f.start) funcs.now }
     ensures bound { result ≤ length funcs.now }
     ensures below { (k : ℕ) (d : Func) → k < result → (slice_index_or funcs.now k d).start ≤ address }
-    ensures above { (k : ℕ) (d : Func) → result ≤ k → k < length funcs.now → address < (slice_index_or funcs.now k d).start }
+    ensures above { (k : ℕ) (d : Func) → result ≤ k → k < length funcs.now →
+        address < (slice_index_or funcs.now k d).start }
 {
     funcs.partition_point(|f| f.start <= address)
 }

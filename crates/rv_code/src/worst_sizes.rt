@@ -2,8 +2,8 @@
 ghost use Rattle.std.specs.Prelude.{◌≡◌, ◌+◌, ◌-◌, ◌*◌, ◌≤◌, ◌^◌, take, drop, length, sum_by};
 ghost use Rattle.rv_code.specs.layout.WorstSizes as worst;
 
-use crate::action::Action;
 use crate::flow::falls;
+use crate::inst::Inst;
 use crate::placed::{Block, Func, Placed};
 
 /// The most bytes of worst size in which every JAL reaches.
@@ -70,18 +70,15 @@ fn worst_lengths(insts: &[Placed]) -> u128
 fn worst_length(inst: &Placed) -> u8
     ensures { result ≡ worst.worst_length inst.now }
 {
-    match inst.inst.action() {
-        Action::Branch { .. } => 8,
-        Action::Jump { .. } => 4,
-        Action::JumpTo { .. }
-        | Action::Compute { .. }
-        | Action::Upper { .. }
-        | Action::UpperPc { .. }
-        | Action::Load { .. }
-        | Action::Store { .. }
-        | Action::Fence
-        | Action::SystemCall
-        | Action::Breakpoint => inst.len,
+    match inst.inst {
+        Inst::Beq { .. }
+        | Inst::Bne { .. }
+        | Inst::Blt { .. }
+        | Inst::Bge { .. }
+        | Inst::Bltu { .. }
+        | Inst::Bgeu { .. } => 8,
+        Inst::Jal { .. } => 4,
+        _ => inst.len,
     }
 }
 

@@ -1,10 +1,12 @@
 -- At which places a file has a fault that its reader looks for, and what the reader answers.
-use Rattle.std.specs.Prelude.{◌≡◌, ◌≢◌, ◌≤◌, ◌<◌, ◌⊎◌, ◌||◌, ℕ, Bool, List, [], ◌∷◌, take, length, IsTrue, nat_eq, codes}
+use Rattle.std.specs.Prelude.{◌≡◌, ◌≢◌, ◌≤◌, ◌<◌, ◌⊎◌, ◌||◌, ℕ, Bool, List, [], ◌∷◌, take, length, IsTrue, nat_eq}
+use Rattle.std.specs.Prelude.{codes}
 use Rattle.std.specs.List.{starts_with}
 use Rattle.rb_bytes.specs.declared.fault.Fault.{Fault}
 use Rattle.rb_bytes.specs.declared.fault.Refusal.{Refusal}
 use Rattle.rb_bytes.specs.declared.fault.FaultKind.{FaultKind}
-use Rattle.rb_bytes.specs.declared.fault.FaultKind.TheVariants.{NotElf, Truncated, Flags, NotStatic, ExecSegments, WritableCode}
+use Rattle.rb_bytes.specs.declared.fault.FaultKind.TheVariants.{NotElf, Truncated, Flags, NotStatic, ExecSegments}
+use Rattle.rb_bytes.specs.declared.fault.FaultKind.TheVariants.{WritableCode}
 use Rattle.rb_bytes.specs.declared.fault.FaultKind.TheVariants.{HighAddress, CompressedSection}
 use Rattle.elf_image.specs.declared.section.TheConstants.{SHF_COMPRESSED}
 use Rattle.elf_image.specs.declared.segment.TheConstants.{PT_DYNAMIC, PT_INTERP}

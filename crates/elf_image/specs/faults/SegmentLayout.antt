@@ -55,11 +55,13 @@ ShareFileByte p q = (k : ℕ) × IsFileByte k p × IsFileByte k q
 -- a segment that shares so with another
 abbrev pub SharesAddress : List ℕ → ℕ → ℕ → Type 0
 SharesAddress file i place =
-    ((j : ℕ) × (j < e_phnum file) × (j ≢ i) × ShareAddress (segment file i) (segment file j)) × (place ≡ segment_place file i)
+    ((j : ℕ) × (j < e_phnum file) × (j ≢ i) × ShareAddress (segment file i) (segment file j))
+    × (place ≡ segment_place file i)
 
 abbrev pub SharesFileByte : List ℕ → ℕ → ℕ → Type 0
 SharesFileByte file i place =
-    ((j : ℕ) × (j < e_phnum file) × (j ≢ i) × ShareFileByte (segment file i) (segment file j)) × (place ≡ segment_place file i)
+    ((j : ℕ) × (j < e_phnum file) × (j ≢ i) × ShareFileByte (segment file i) (segment file j))
+    × (place ≡ segment_place file i)
 
 -- The executable segment of the lowest address, of n segments; the first in the table of those.
 abbrev pub IsLowestCodeBelow : List ℕ → ℕ → ℕ → Type 0
@@ -80,7 +82,8 @@ CrossesEnd file offset size =
 
 -- the bytes that any header takes from the file
 abbrev pub IsCrossing : List ℕ → ℕ → ℕ → Type 0
-IsCrossing file i place = CrossesEnd file (segment file i).offset (segment file i).filesz × (place ≡ segment_place file i)
+IsCrossing file i place = CrossesEnd file (segment file i).offset (segment file i).filesz
+    × (place ≡ segment_place file i)
 
 -- the table of program headers
 abbrev pub IsCrossingTable : List ℕ → ℕ → Type 0
@@ -94,22 +97,26 @@ LiesInCode file start end = (j : ℕ) × IsCode file j × ((segment file j).vadd
 abbrev pub IsStraySection : List ℕ → ℕ → ℕ → Type 0
 IsStraySection file i place =
     let s = section_header file i in
-    (IsTrue (holds_code s.flags) × (s.size ≢ 0) × (LiesInCode file s.addr (s.addr + s.size) → ⊥)) × (place ≡ section_place file i)
+    (IsTrue (holds_code s.flags) × (s.size ≢ 0) × (LiesInCode file s.addr (s.addr + s.size) → ⊥))
+    × (place ≡ section_place file i)
 
 -- the places where the segments don't lie so
 abbrev pub IsBadCode : List ℕ → ℕ → Type 0
 IsBadCode file place =
-    HasNoCode file place ⊎ (SomeBelow (e_phnum file) (IsOneTooMany file) place ⊎ SomeBelow (e_phnum file) (IsOddCode file) place)
+    HasNoCode file place ⊎ (SomeBelow (e_phnum file) (IsOneTooMany file) place
+    ⊎ SomeBelow (e_phnum file) (IsOddCode file) place)
 
 abbrev pub IsShared : List ℕ → ℕ → Type 0
-IsShared file place = SomeBelow (e_phnum file) (SharesAddress file) place ⊎ SomeBelow (e_phnum file) (SharesFileByte file) place
+IsShared file place = SomeBelow (e_phnum file) (SharesAddress file) place
+    ⊎ SomeBelow (e_phnum file) (SharesFileByte file) place
 
 abbrev pub IsCrossed : List ℕ → ℕ → Type 0
 IsCrossed file place = SomeBelow (e_phnum file) (IsCrossing file) place ⊎ IsCrossingTable file place
 
 abbrev pub IsBadLoading : List ℕ → ℕ → Type 0
 IsBadLoading file place =
-    IsBadCode file place ⊎ (IsShared file place ⊎ (IsCrossed file place ⊎ SomeBelow (e_shnum file) (IsStraySection file) place))
+    IsBadCode file place ⊎ (IsShared file place ⊎ (IsCrossed file place
+    ⊎ SomeBelow (e_shnum file) (IsStraySection file) place))
 
 -- an executable segment may be written
 abbrev pub IsWritableCode : List ℕ → ℕ → ℕ → Type 0

@@ -6,7 +6,8 @@ use Rattle.std.specs.Prelude.{◌≡◌, ◌≢◌, ◌≤◌, ◌<◌, ◌⊎�
 use Rattle.elf_image.specs.declared.section.SectionHeader.{SectionHeader}
 use Rattle.elf_image.specs.declared.section.TheConstants.{SHT_NOBITS, SHDR_SIZE}
 use Rattle.elf_image.specs.declared.segment.TheConstants.{PT_LOAD, PHDR_SIZE}
-use Rattle.elf_image.specs.file.Header.{header_size, number_at, e_phoff, e_phentsize, e_phnum, e_shoff, e_shentsize, e_shnum}
+use Rattle.elf_image.specs.file.Header.{header_size, number_at, e_phoff, e_phentsize, e_phnum, e_shoff, e_shentsize}
+use Rattle.elf_image.specs.file.Header.{e_shnum}
 use Rattle.elf_image.specs.file.Header.{e_shstrndx, segment}
 use Rattle.elf_image.specs.faults.LowestPlace.{SomeBelow}
 use Rattle.elf_image.specs.file.Sections.{section_header, section_place, section_names}
@@ -75,7 +76,8 @@ HasSymbolNames file table =
 
 abbrev pub IsUnnamedSymbol : List ℕ → SectionHeader → ℕ → ℕ → Type 0
 IsUnnamedSymbol file table index place =
-    IsUnended (symbol_names file table) (number_at file (symbol_place table index) 4) × (place ≡ symbol_place table index)
+    IsUnended (symbol_names file table) (number_at file (symbol_place table index) 4)
+    × (place ≡ symbol_place table index)
 
 abbrev pub IsUnnamedSymbolOf : List ℕ → Option SectionHeader → ℕ → Type 0
 IsUnnamedSymbolOf file None place = ⊥

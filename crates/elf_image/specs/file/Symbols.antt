@@ -20,7 +20,8 @@ symbol_place table index = table.offset + SYM_SIZE * index
 
 -- the names of a table's symbols: those of no section are an empty table
 abbrev pub symbol_names : List ℕ → SectionHeader → List ℕ
-symbol_names file table = if nat_lt table.link (e_shnum file) then contents file (section_header file table.link) else []
+symbol_names file table = if nat_lt table.link (e_shnum file) then contents file (section_header file table.link) else
+    []
 
 -- the name of the symbol at an offset
 abbrev pub symbol_name : List ℕ → SectionHeader → ℕ → List ℕ

@@ -22,12 +22,14 @@ Meet s t = (s.start < t.end) × (t.start < s.end)
 -- the range of an index meets another
 abbrev pub MeetsAnother : List Extent → ℕ → Type 0
 MeetsAnother extents k =
-    (m : ℕ) × (m < length extents) × (m ≢ k) × ((d : Extent) → Meet (slice_index_or extents k d) (slice_index_or extents m d))
+    (m : ℕ) × (m < length extents) × (m ≢ k) × ((d : Extent) →
+    Meet (slice_index_or extents k d) (slice_index_or extents m d))
 
 -- the range of an index meets the next
 abbrev pub MeetsNext : List Extent → ℕ → Type 0
 MeetsNext extents k =
-    (k + 1 < length extents) × ((d : Extent) → (slice_index_or extents (k + 1) d).start < (slice_index_or extents k d).end)
+    (k + 1 < length extents) × ((d : Extent) → (slice_index_or extents (k + 1) d).start <
+    (slice_index_or extents k d).end)
 
 -- the greatest end of the ranges below an index, 0 where there is none
 pub record IsReach (extents : List Extent) (k reach : ℕ) : Type 0 where

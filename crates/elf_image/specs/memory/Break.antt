@@ -34,7 +34,8 @@ break_room = 64 * 2 ^ 20
 -- the pages on which the segments above start
 abbrev pub pages_above : List Segment → List ℕ
 pages_above segments =
-    map (λ p. rounded_down page_size p.vaddr) (filter (λ p. has_memory p && nat_le (writable_end segments) p.vaddr) segments)
+    map (λ p. rounded_down page_size p.vaddr) (filter (λ p. has_memory p && nat_le (writable_end segments) p.vaddr)
+    segments)
 
 -- It ends below the next segment, and never before its start. Without a writable segment it stays 0.
 abbrev pub break_bound : List Segment → ℕ
@@ -48,4 +49,5 @@ abbrev pub table_range : List ℕ → Range
 table_range file = record { start = e_phoff file; size = PHDR_SIZE * e_phnum file }
 
 abbrev pub table_address : List ℕ → ℕ
-table_address file = option_map_or (address_in (table_range file)) (find (loads_range (table_range file)) (segments_of file)) 0
+table_address file = option_map_or (address_in (table_range file))
+    (find (loads_range (table_range file)) (segments_of file)) 0

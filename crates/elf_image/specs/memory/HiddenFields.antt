@@ -22,7 +22,8 @@ e_phnum_field = record { start = 0x38; size = 2 }
 
 -- e_shoff, e_shnum and e_shstrndx
 abbrev pub section_fields : List Range
-section_fields = record { start = 0x28; size = 8 } ∷ record { start = 0x3c; size = 2 } ∷ record { start = 0x3e; size = 2 } ∷ []
+section_fields = record { start = 0x28; size = 8 } ∷ record { start = 0x3c; size = 2 }
+    ∷ record { start = 0x3e; size = 2 } ∷ []
 
 -- of the program header at an offset: p_offset; p_filesz and p_memsz; and all but p_type, p_flags and p_align
 abbrev pub p_offset_field : ℕ → Range
@@ -71,4 +72,5 @@ hidden_fields elf tight =
 -- the byte at an address is one of a hidden field
 abbrev pub is_hidden_field : Elf → Bool → ℕ → Bool
 is_hidden_field elf tight a =
-    option_map_or (λ offset. list_any (is_in_range offset) (hidden_fields elf tight)) (file_offset elf.segments.items a) false
+    option_map_or (λ offset. list_any (is_in_range offset) (hidden_fields elf tight))
+    (file_offset elf.segments.items a) false

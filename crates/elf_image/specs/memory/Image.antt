@@ -1,7 +1,8 @@
 -- The memory that a file describes: its bytes, and what a program may do with them. gABI, "Program Header"
 -- and "Segment Permissions". Segments of a sound file share no address; of those that do, the first in the
 -- table counts.
-use Rattle.std.specs.Prelude.{ℕ, ◌≡◌, ◌+◌, ◌-◌, ◌&&◌, ◌==◌, nat_lt, nat_le, if◌then◌else◌, Bool, false, IsTrue, List, Contains}
+use Rattle.std.specs.Prelude.{ℕ, ◌≡◌, ◌+◌, ◌-◌, ◌&&◌, ◌==◌, nat_lt, nat_le, if◌then◌else◌, Bool, false, IsTrue, List}
+use Rattle.std.specs.Prelude.{Contains}
 use Rattle.std.specs.Prelude.{Option, slice_index, find}
 use Rattle.std.specs.Option.{option_map, option_map_or}
 use Rattle.elf_image.specs.declared.segment.Segment.{Segment}

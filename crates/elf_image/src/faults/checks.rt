@@ -1,5 +1,6 @@
 // The faults of a whole file that one field or one header shows by itself.
-ghost use Rattle.std.specs.Prelude.{◌≡◌, ◌≤◌, ◌<◌, ℕ, IsTrue, IsSomeAnd, if◌then◌else◌, Some, None, List, length, slice_get};
+ghost use Rattle.std.specs.Prelude.{◌≡◌, ◌≤◌, ◌<◌, ℕ, IsTrue, IsSomeAnd, if◌then◌else◌, Some, None, List, length};
+ghost use Rattle.std.specs.Prelude.{slice_get};
 ghost use Rattle.rb_bytes.specs.declared.fault.FaultKind.TheVariants as fault;
 ghost use Rattle.elf_image.specs.file.Header.{e_phnum, e_shnum};
 ghost use Rattle.elf_image.specs.declared.segment.TheConstants.{ADDRESS_END};

@@ -4,8 +4,10 @@ ghost use Rattle.std.specs.List.{starts_with};
 ghost use Rattle.rb_bytes.specs.declared.fault.FaultKind.TheVariants as fault;
 ghost use Rattle.elf_image.specs.faults.Truncation.{IsReadable};
 ghost use Rattle.elf_image.specs.file.Header.{e_phnum, e_shnum, segment};
-ghost use Rattle.elf_image.specs.faults.SegmentLayout.{HasNoCode, IsCode, IsSecondCode, IsTooMany, IsOneTooMany, IsOddCode};
-ghost use Rattle.elf_image.specs.faults.SegmentLayout.{IsBadCode, IsLowestCode, IsLowestCodeBelow, CrossesEnd, IsCrossing};
+ghost use Rattle.elf_image.specs.faults.SegmentLayout.{HasNoCode, IsCode, IsSecondCode, IsTooMany, IsOneTooMany};
+ghost use Rattle.elf_image.specs.faults.SegmentLayout.{IsOddCode};
+ghost use Rattle.elf_image.specs.faults.SegmentLayout.{IsBadCode, IsLowestCode, IsLowestCodeBelow, CrossesEnd};
+ghost use Rattle.elf_image.specs.faults.SegmentLayout.{IsCrossing};
 ghost use Rattle.elf_image.specs.faults.SegmentLayout.{IsCrossingTable, IsCrossed};
 ghost use Rattle.elf_image.specs.faults.LowestPlace.{IsLowest, SomeBelow};
 ghost use Rattle.elf_image.specs.faults.FileFaults.{HasFault};
@@ -159,7 +161,7 @@ fn lowest_code(segments: SegmentTable) -> Option<usize>
     }
 }
 
-// The same, where this is the first executable segment of the table.
+// The executable segment of the lowest address, where `first` is the first one of the table.
 fn lowest_code_from(segments: SegmentTable, first: usize) -> usize
     requires code { IsCode segments.file.now first }
     requires first { (k : ℕ) → IsCode segments.file.now k → first ≤ k }
@@ -207,10 +209,11 @@ fn crosses_end(segments: SegmentTable, code: usize, offset: u64, size: u64) -> b
     crosses(&segments.segment_of(code), offset, size)
 }
 
-// The same of a segment's bytes.
+// Whether a range of the file begins before the end of a segment's bytes, and ends after it.
 fn crosses(segment: &Segment, offset: u64, size: u64) -> bool
     ensures { IsTrue result
-        ↔ ((offset < segment.now.offset + segment.now.filesz) × (segment.now.offset + segment.now.filesz < offset + size)) }
+        ↔ ((offset < segment.now.offset + segment.now.filesz)
+        × (segment.now.offset + segment.now.filesz < offset + size)) }
 {
     let end = segment.offset as u128 + segment.filesz as u128;
     (offset as u128) < end && end < offset as u128 + size as u128

@@ -13,7 +13,8 @@ use std::alloc::Global;
 /// The place of a segment that shares an address with another.
 pub fn lowest_shared_address(alloc: Global, segments: SegmentTable) -> Result<Option<u64>, NoMemory>
     ensures { IfOk result
-        (λ lowest. IsLowest (SomeBelow (e_phnum segments.entry.file.now) (SharesAddress segments.entry.file.now)) lowest) }
+        (λ lowest. IsLowest (SomeBelow (e_phnum segments.entry.file.now) (SharesAddress segments.entry.file.now))
+        lowest) }
 {
     lowest_shared(segment_extents(alloc, segments, ExtentKind::Addresses)?)
 }
@@ -21,7 +22,8 @@ pub fn lowest_shared_address(alloc: Global, segments: SegmentTable) -> Result<Op
 /// The place of a segment that shares a byte of the file with another.
 pub fn lowest_shared_byte(alloc: Global, segments: SegmentTable) -> Result<Option<u64>, NoMemory>
     ensures { IfOk result
-        (λ lowest. IsLowest (SomeBelow (e_phnum segments.entry.file.now) (SharesFileByte segments.entry.file.now)) lowest) }
+        (λ lowest. IsLowest (SomeBelow (e_phnum segments.entry.file.now) (SharesFileByte segments.entry.file.now))
+        lowest) }
 {
     lowest_shared(segment_extents(alloc, segments, ExtentKind::FileBytes)?)
 }

@@ -1,7 +1,8 @@
 // The ranges that loaded segments take, of addresses or of the file.
 ghost use Rattle.std.specs.Prelude.{◌≡◌, ◌<◌, ◌+◌, ◌==◌, if◌then◌else◌, IfOk, IfSome, IfNone, Some, None};
 ghost use Rattle.elf_image.specs.file.Header.{e_phnum};
-ghost use Rattle.elf_image.specs.internal.SegmentExtents.{AreExtents, IsExtentOf, IsAddressExtent, IsFileExtent, IsCodeExtent};
+ghost use Rattle.elf_image.specs.internal.SegmentExtents.{AreExtents, IsExtentOf, IsAddressExtent, IsFileExtent};
+ghost use Rattle.elf_image.specs.internal.SegmentExtents.{IsCodeExtent};
 
 use crate::entries::{SegmentTable, segment_count, segment_place};
 use crate::extent::Extent;
@@ -15,7 +16,7 @@ use std::alloc::Global;
 pub enum ExtentKind {
     /// The addresses of loaded segments.
     Addresses,
-    /// Those of executable ones.
+    /// The addresses of loaded segments that may be executed.
     CodeAddresses,
     /// The bytes of the file that loaded segments take.
     FileBytes,
@@ -28,7 +29,8 @@ pub fn segment_extents(
     kind: ExtentKind,
 ) -> Result<Vec<Extent>, NoMemory>
     ensures { IfOk result
-        (λ extents. AreExtents (IsExtentOf kind segments.entry.file.now) (e_phnum segments.entry.file.now) extents.items) }
+        (λ extents. AreExtents (IsExtentOf kind segments.entry.file.now)
+        (e_phnum segments.entry.file.now) extents.items) }
 {
     let mut extents = Vec::new(alloc);
     for index in 0..segment_count(segments) {

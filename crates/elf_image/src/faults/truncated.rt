@@ -1,7 +1,8 @@
 // Where a file is truncated: the lowest place of each kind of structure.
 ghost use Rattle.std.specs.Prelude.{◌≡◌, ◌<◌, IfNone};
 ghost use Rattle.elf_image.specs.faults.Truncation.{HasContents, IsBadHeaderField, IsTruncatedTable};
-ghost use Rattle.elf_image.specs.faults.Truncation.{IsTruncatedSegment, IsTruncatedSection, IsUnnamedSection, AreUnnamedSections};
+ghost use Rattle.elf_image.specs.faults.Truncation.{IsTruncatedSegment, IsTruncatedSection, IsUnnamedSection};
+ghost use Rattle.elf_image.specs.faults.Truncation.{AreUnnamedSections};
 ghost use Rattle.elf_image.specs.faults.Truncation.{IsUnnamedSymbol, IsUnnamedSymbolOf, IsTruncatedBySegments};
 ghost use Rattle.elf_image.specs.faults.Truncation.{IsTruncatedBySections, IsTruncated, IsReadable};
 ghost use Rattle.elf_image.specs.internal.TextEnds.{IsLastEnd};
@@ -56,7 +57,8 @@ fn truncated_segment(segments: SegmentTable, index: usize) -> Option<u64>
 
 // The bytes of loaded segments.
 fn lowest_truncated_segment(segments: SegmentTable) -> Option<u64>
-    ensures { IsLowest (SomeBelow (e_phnum segments.entry.file.now) (IsTruncatedSegment segments.entry.file.now)) result }
+    ensures { IsLowest (SomeBelow (e_phnum segments.entry.file.now) (IsTruncatedSegment segments.entry.file.now))
+        result }
 {
     lowest_below(
         segment_count(segments),

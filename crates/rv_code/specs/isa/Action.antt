@@ -1,16 +1,22 @@
 -- What each instruction does, as one of eleven actions. ISA manual, chapters 2, 4 and 13.
 use Rattle.std.specs.Prelude.{true, false}
 use Rattle.rv_code.specs.declared.inst.Inst.{Inst}
-use Rattle.rv_code.specs.declared.inst.Inst.TheVariants.{Lui, Auipc, Jal, Jalr, Beq, Bne, Blt, Bge, Bltu, Bgeu, Lb, Lh, Lw, Ld}
-use Rattle.rv_code.specs.declared.inst.Inst.TheVariants.{Lbu, Lhu, Lwu, Sb, Sh, Sw, Sd, Addi, Slti, Sltiu, Xori, Ori, Andi, Slli}
-use Rattle.rv_code.specs.declared.inst.Inst.TheVariants.{Srli, Srai, Add, Sub, Sll, Slt, Sltu, Xor, Srl, Sra, Or, And, Mul, Mulh}
-use Rattle.rv_code.specs.declared.inst.Inst.TheVariants.{Mulhsu, Mulhu, Div, Divu, Rem, Remu, Addiw, Slliw, Srliw, Sraiw, Addw}
-use Rattle.rv_code.specs.declared.inst.Inst.TheVariants.{Subw, Sllw, Srlw, Sraw, Mulw, Divw, Divuw, Remw, Remuw, Fence, Ecall}
+use Rattle.rv_code.specs.declared.inst.Inst.TheVariants.{Lui, Auipc, Jal, Jalr, Beq, Bne, Blt, Bge, Bltu, Bgeu, Lb, Lh}
+use Rattle.rv_code.specs.declared.inst.Inst.TheVariants.{Lw, Ld}
+use Rattle.rv_code.specs.declared.inst.Inst.TheVariants.{Lbu, Lhu, Lwu, Sb, Sh, Sw, Sd, Addi, Slti, Sltiu, Xori, Ori}
+use Rattle.rv_code.specs.declared.inst.Inst.TheVariants.{Andi, Slli}
+use Rattle.rv_code.specs.declared.inst.Inst.TheVariants.{Srli, Srai, Add, Sub, Sll, Slt, Sltu, Xor, Srl, Sra, Or, And}
+use Rattle.rv_code.specs.declared.inst.Inst.TheVariants.{Mul, Mulh}
+use Rattle.rv_code.specs.declared.inst.Inst.TheVariants.{Mulhsu, Mulhu, Div, Divu, Rem, Remu, Addiw, Slliw, Srliw}
+use Rattle.rv_code.specs.declared.inst.Inst.TheVariants.{Sraiw, Addw}
+use Rattle.rv_code.specs.declared.inst.Inst.TheVariants.{Subw, Sllw, Srlw, Sraw, Mulw, Divw, Divuw, Remw, Remuw, Fence}
+use Rattle.rv_code.specs.declared.inst.Inst.TheVariants.{Ecall}
 use Rattle.rv_code.specs.declared.inst.Inst.TheVariants.{Ebreak}
 use Rattle.rv_code.specs.declared.op.Op.TheVariants as op
 use Rattle.rv_code.specs.declared.action.Operand.TheVariants.{Register, Immediate}
 use Rattle.rv_code.specs.declared.action.Test.TheVariants.{Equal, LessSigned, LessUnsigned}
-use Rattle.rv_code.specs.declared.action.Extension.TheVariants.{Signed8, Signed16, Signed32, Whole64, Zero8, Zero16, Zero32}
+use Rattle.rv_code.specs.declared.action.Extension.TheVariants.{Signed8, Signed16, Signed32, Whole64, Zero8, Zero16}
+use Rattle.rv_code.specs.declared.action.Extension.TheVariants.{Zero32}
 use Rattle.rv_code.specs.declared.action.Action.{Action}
 use Rattle.rv_code.specs.declared.action.Action.TheVariants.{Compute, Branch, Jump, JumpTo, Upper, UpperPc, Load, Store}
 use Rattle.rv_code.specs.declared.action.Action.TheVariants.{SystemCall, Breakpoint}

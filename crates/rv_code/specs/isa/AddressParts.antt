@@ -1,6 +1,7 @@
 -- The instructions that can have a part of an address in their immediate. psABI, "Relocations".
 use Rattle.rv_code.specs.declared.inst.Inst.{Inst}
-use Rattle.rv_code.specs.declared.inst.Inst.TheVariants.{Lui, Auipc, Jalr, Lb, Lh, Lw, Ld, Lbu, Lhu, Lwu, Sb, Sh, Sw, Sd, Addi}
+use Rattle.rv_code.specs.declared.inst.Inst.TheVariants.{Lui, Auipc, Jalr, Lb, Lh, Lw, Ld, Lbu, Lhu, Lwu, Sb, Sh, Sw}
+use Rattle.rv_code.specs.declared.inst.Inst.TheVariants.{Sd, Addi}
 
 abbrev pub IsAuipc : Inst → Type 0
 IsAuipc (Auipc rd imm) = Unit {0}

@@ -24,7 +24,8 @@ imm_s word = signed 11 (field word 25 7 * 2 ^ 5 + field word 7 5)
 
 -- format B: imm[12], imm[11], imm[10:5], imm[4:1]
 abbrev pub imm_b : ℕ → ℤ
-imm_b word = signed 12 (field word 31 1 * 2 ^ 12 + field word 7 1 * 2 ^ 11 + field word 25 6 * 2 ^ 5 + field word 8 4 * 2)
+imm_b word = signed 12 (field word 31 1 * 2 ^ 12 + field word 7 1 * 2 ^ 11 + field word 25 6 * 2 ^ 5 + field word 8 4 *
+    2)
 
 -- format U: imm[31:12], alone
 abbrev pub imm_u : ℕ → ℤ
@@ -32,4 +33,5 @@ imm_u word = signed 19 (field word 12 20)
 
 -- format J: imm[20], imm[19:12], imm[11], imm[10:1]
 abbrev pub imm_j : ℕ → ℤ
-imm_j word = signed 20 (field word 31 1 * 2 ^ 20 + field word 12 8 * 2 ^ 12 + field word 20 1 * 2 ^ 11 + field word 21 10 * 2)
+imm_j word = signed 20 (field word 31 1 * 2 ^ 20 + field word 12 8 * 2 ^ 12 + field word 20 1 * 2 ^ 11 + field word 21
+    10 * 2)

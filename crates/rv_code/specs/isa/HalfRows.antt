@@ -3,7 +3,8 @@
 use Rattle.std.specs.Prelude.{◌≡◌, ◌≢◌, ℕ, ◌+◌, ◌*◌, ◌^◌, pos}
 use Rattle.rv_code.specs.isa.Bits.{field, signed}
 use Rattle.rv_code.specs.declared.inst.Inst.{Inst}
-use Rattle.rv_code.specs.declared.inst.Inst.TheVariants.{Lui, Jal, Jalr, Beq, Bne, Lw, Ld, Sw, Sd, Addi, Andi, Slli, Srli, Srai}
+use Rattle.rv_code.specs.declared.inst.Inst.TheVariants.{Lui, Jal, Jalr, Beq, Bne, Lw, Ld, Sw, Sd, Addi, Andi, Slli}
+use Rattle.rv_code.specs.declared.inst.Inst.TheVariants.{Srli, Srai}
 use Rattle.rv_code.specs.declared.inst.Inst.TheVariants.{Add, Sub, Xor, Or, And, Addiw, Addw, Subw, Ebreak}
 
 -- the rows, by the manual's mnemonics; C_ADDI has C.NOP too
@@ -70,8 +71,8 @@ rd half = field half 7 5
 abbrev pub rs2 : ℕ → ℕ
 rs2 half = field half 2 5
 
--- registers 8 to 15, in three bits: bits 9:7 for rs1' and the rd' of arithmetic, bits 4:2 for rs2' and the rd' of loads and of
--- C.ADDI4SPN
+-- registers 8 to 15, in three bits: bits 9:7 for rs1' and the rd' of arithmetic, bits 4:2 for rs2' and the rd' of
+-- loads and of C.ADDI4SPN
 abbrev pub upper_register : ℕ → ℕ
 upper_register half = 8 + field half 7 3
 
@@ -91,7 +92,8 @@ addi4spn_imm half = field half 7 4 * 2 ^ 6 + field half 11 2 * 2 ^ 4 + field hal
 -- 12 = imm[9], 6 = imm[4], 5 = imm[6], 4:3 = imm[8:7], 2 = imm[5]
 abbrev pub addi16sp_imm : ℕ → ℕ
 addi16sp_imm half =
-    field half 12 1 * 2 ^ 9 + field half 3 2 * 2 ^ 7 + field half 5 1 * 2 ^ 6 + field half 2 1 * 2 ^ 5 + field half 6 1 * 2 ^ 4
+    field half 12 1 * 2 ^ 9 + field half 3 2 * 2 ^ 7 + field half 5 1 * 2 ^ 6 + field half 2 1 * 2 ^ 5 + field half 6 1
+    * 2 ^ 4
 
 -- 12:10 = imm[5:3], 6 = imm[2], 5 = imm[6]
 abbrev pub word_offset : ℕ → ℕ
@@ -104,13 +106,15 @@ double_offset half = field half 5 2 * 2 ^ 6 + field half 10 3 * 2 ^ 3
 -- 12 = imm[11], 11 = imm[4], 10:9 = imm[9:8], 8 = imm[10], 7 = imm[6], 6 = imm[7], 5:3 = imm[3:1], 2 = imm[5]
 abbrev pub jump_offset : ℕ → ℕ
 jump_offset half =
-    field half 12 1 * 2 ^ 11 + field half 8 1 * 2 ^ 10 + field half 9 2 * 2 ^ 8 + field half 6 1 * 2 ^ 7 + field half 7 1 * 2 ^ 6
+    field half 12 1 * 2 ^ 11 + field half 8 1 * 2 ^ 10 + field half 9 2 * 2 ^ 8 + field half 6 1 * 2 ^ 7 + field half 7
+    1 * 2 ^ 6
     + field half 2 1 * 2 ^ 5 + field half 11 1 * 2 ^ 4 + field half 3 3 * 2
 
 -- 12 = imm[8], 11:10 = imm[4:3], 6:5 = imm[7:6], 4:3 = imm[2:1], 2 = imm[5]
 abbrev pub branch_offset : ℕ → ℕ
 branch_offset half =
-    field half 12 1 * 2 ^ 8 + field half 5 2 * 2 ^ 6 + field half 2 1 * 2 ^ 5 + field half 10 2 * 2 ^ 3 + field half 3 2 * 2
+    field half 12 1 * 2 ^ 8 + field half 5 2 * 2 ^ 6 + field half 2 1 * 2 ^ 5 + field half 10 2 * 2 ^ 3 + field half 3 2
+    * 2
 
 -- 12 = imm[5], 6:4 = imm[4:2], 3:2 = imm[7:6]
 abbrev pub load_word_sp : ℕ → ℕ

@@ -1,13 +1,16 @@
 -- What the arithmetic and logic operations give, and what branches compare, on numbers of 64 bits.
 -- Sections are those of the ISA manual, volume I.
-use Rattle.std.specs.Prelude.{ℕ, ◌+◌, ◌-◌, ◌*◌, ◌/◌, ◌%◌, ◌^◌, pos, ◌*ℤ◌, ℤ, Bool, nat_lt, int_lt, ◌==◌, if◌then◌else◌, bit_and}
+use Rattle.std.specs.Prelude.{ℕ, ◌+◌, ◌-◌, ◌*◌, ◌/◌, ◌%◌, ◌^◌, pos, ◌*ℤ◌, ℤ, Bool, nat_lt, int_lt, ◌==◌, if◌then◌else◌}
+use Rattle.std.specs.Prelude.{bit_and}
 use Rattle.std.specs.Prelude.{bit_or, bit_xor}
 use Rattle.std.specs.Int.{w128, cast_unsigned, int_shr}
 use Rattle.std.specs.Int.RustNames.{int_div, int_rem}
 use Rattle.rv_code.specs.isa.TwosComplement.{unsigned64, signed64, low32, signed32, sign_extended32}
 use Rattle.rv_code.specs.declared.op.Op.{Op}
-use Rattle.rv_code.specs.declared.op.Op.TheVariants.{Add, Sub, Sll, Slt, Sltu, Xor, Srl, Sra, Or, And, Mul, Mulh, Mulhsu, Mulhu}
-use Rattle.rv_code.specs.declared.op.Op.TheVariants.{Div, Divu, Rem, Remu, Addw, Subw, Sllw, Srlw, Sraw, Mulw, Divw, Divuw, Remw}
+use Rattle.rv_code.specs.declared.op.Op.TheVariants.{Add, Sub, Sll, Slt, Sltu, Xor, Srl, Sra, Or, And, Mul, Mulh}
+use Rattle.rv_code.specs.declared.op.Op.TheVariants.{Mulhsu, Mulhu}
+use Rattle.rv_code.specs.declared.op.Op.TheVariants.{Div, Divu, Rem, Remu, Addw, Subw, Sllw, Srlw, Sraw, Mulw, Divw}
+use Rattle.rv_code.specs.declared.op.Op.TheVariants.{Divuw, Remw}
 use Rattle.rv_code.specs.declared.op.Op.TheVariants.{Remuw}
 use Rattle.rv_code.specs.declared.action.Test.{Test}
 use Rattle.rv_code.specs.declared.action.Test.TheVariants.{Equal, LessSigned, LessUnsigned}
@@ -64,5 +67,6 @@ apply Mulw left right = sign_extended32 (left * right)
 apply Divw left right =
     if low32 right == 0 then all_ones else sign_extended32 (unsigned64 (int_div (signed32 left) (signed32 right)))
 apply Divuw left right = if low32 right == 0 then all_ones else sign_extended32 (low32 left / low32 right)
-apply Remw left right = if low32 right == 0 then sign_extended32 left else unsigned64 (int_rem (signed32 left) (signed32 right))
+apply Remw left right = if low32 right == 0 then sign_extended32 left else unsigned64
+    (int_rem (signed32 left) (signed32 right))
 apply Remuw left right = if low32 right == 0 then sign_extended32 left else sign_extended32 (low32 left % low32 right)

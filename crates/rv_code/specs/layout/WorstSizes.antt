@@ -1,5 +1,5 @@
 -- Worst sizes: the most bytes that code can take wherever it is put.
-use Rattle.std.specs.Prelude.{ℕ, ◌+◌, ◌-◌, ◌==◌, if◌then◌else◌, List, length, sum_by, take, drop, slice_get}
+use Rattle.std.specs.Prelude.{ℕ, ◌+◌, ◌-◌, if◌then◌else◌, List, length, sum_by, take, drop, slice_get}
 use Rattle.std.specs.Option.{option_map_or}
 use Rattle.rv_code.specs.declared.action.Action.{Action}
 use Rattle.rv_code.specs.declared.action.Action.TheVariants.{Branch, Jump}
@@ -34,15 +34,12 @@ worst_whole_size func = func.end - func.start + added_jump func (length func.ins
 
 abbrev pub worst_size_of_block : List Func → Block → ℕ
 worst_size_of_block funcs b =
-    option_map_or (λ func. if func.whole then worst_whole_size func else worst_block_size func b.first b.last) (func_of funcs b) 0
+    option_map_or (λ func. if func.whole then worst_whole_size func else worst_block_size func b.first b.last)
+    (func_of funcs b) 0
 
 -- the same of a block by its place in a list of blocks
 abbrev pub worst_at : List Func → List Block → ℕ → ℕ
 worst_at funcs blocks k = option_map_or (worst_size_of_block funcs) (slice_get blocks k) 0
-
--- a function's, the sum over its blocks
-abbrev pub worst_size : List Func → List Block → ℕ → ℕ
-worst_size funcs blocks f = sum_by (λ b. if b.func == f then worst_size_of_block funcs b else 0) blocks
 
 -- A JAL reaches 2 ^ 20 bytes either way. So it reaches from anywhere to anywhere in code of at most this worst size.
 abbrev pub near_limit : ℕ

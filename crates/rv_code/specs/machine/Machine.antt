@@ -1,6 +1,7 @@
 -- What the byte machine and the symbol machine share: registers and memory over any kind of value, the
 -- right to use an address, the break, system calls, and runs.
-use Rattle.std.specs.Prelude.{◌≡◌, ℕ, zero, suc, ◌+◌, ◌-◌, ◌*◌, ◌/◌, ◌%◌, ◌^◌, ◌&&◌, ◌||◌, ◌==◌, nat_lt, nat_le, if◌then◌else◌}
+use Rattle.std.specs.Prelude.{◌≡◌, ℕ, zero, suc, ◌+◌, ◌-◌, ◌*◌, ◌/◌, ◌%◌, ◌^◌, ◌&&◌, ◌||◌, ◌==◌, nat_lt, nat_le}
+use Rattle.std.specs.Prelude.{if◌then◌else◌}
 use Rattle.std.specs.Prelude.{Bool, true, List, [], ◌∷◌, ◌++◌, Option, Some, None}
 
 -- Addresses are numbers of 64 bits, and a sum of addresses wraps. ISA manual, section 1.4.
@@ -76,7 +77,11 @@ may_execute s a = s.space.executes a
 abbrev pub with_break : {V C : Type 0} → C → ℕ → State V C → State V C
 with_break nought to s =
     if nat_le s.space.break_start to && nat_le to s.space.break_bound
-    then record s { program_break = to; memory = λ a. if nat_le s.program_break a && nat_lt a to then nought else s.memory a }
+    then record s {
+      program_break = to;
+      memory = λ a. if nat_le s.program_break a
+          && nat_lt a to then nought else s.memory a;
+    }
     else s
 
 -- A system call that came back: its number, the arguments that it uses, the bytes that it moved in or
@@ -98,7 +103,8 @@ pub data Call : Type 0 where
 
 abbrev pub call_of : ℕ → Call
 call_of n =
-    if n == 63 then Read else if n == 64 then Write else if n == 93 || n == 94 then Exit else if n == 214 then Brk else Unknown
+    if n == 63 then Read else if n == 64 then Write else if n == 93
+    || n == 94 then Exit else if n == 214 then Brk else Unknown
 
 -- the greatest count of bytes that one call moves
 abbrev pub most_moved : ℕ
@@ -134,7 +140,8 @@ pub data SoFar {S C : Type 0} (step : S → Outcome S C → Type 0) (s : S) : �
 
 -- The n-th step from s ends with this status, and the steps before it make these system calls. The step
 -- that ends is counted, and its call, an exit, is none of them.
-pub record Run {S C : Type 0} (step : S → Outcome S C → Type 0) (s : S) (n : ℕ) (trace : List Event) (status : ℕ) : Type 0 where
+pub record Run {S C : Type 0} (step : S → Outcome S C → Type 0) (s : S) (n : ℕ) (trace : List Event)
+    (status : ℕ) : Type 0 where
   pub before : ℕ
   pub last : n ≡ suc before
   pub state : S

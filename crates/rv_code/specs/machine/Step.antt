@@ -1,5 +1,6 @@
 -- One step of the byte machine, for every instruction.
-use Rattle.std.specs.Prelude.{◌≡◌, ℕ, ◌*◌, ◌/◌, ◌%◌, ◌^◌, ◌&&◌, ◌||◌, ◌==◌, Bool, true, false, not, List, [], ◌∷◌, Option, Some}
+use Rattle.std.specs.Prelude.{◌≡◌, ℕ, ◌*◌, ◌/◌, ◌%◌, ◌^◌, ◌&&◌, ◌||◌, ◌==◌, Bool, true, false, not, List, [], ◌∷◌}
+use Rattle.std.specs.Prelude.{Option, Some}
 use Rattle.std.specs.Prelude.{None, length, take, drop, min}
 use Rattle.rv_code.specs.declared.inst.Inst.{Inst}
 use Rattle.rv_code.specs.declared.cause.Cause.{Cause}
@@ -8,15 +9,18 @@ use Rattle.rv_code.specs.declared.action.Operand.{Operand}
 use Rattle.rv_code.specs.declared.action.Operand.TheVariants.{Register, Immediate}
 use Rattle.rv_code.specs.declared.action.Extension.{Extension}
 use Rattle.rv_code.specs.declared.action.Action.{Action}
-use Rattle.rv_code.specs.declared.action.Action.TheVariants.{Compute, Branch, Jump, JumpTo, Upper, UpperPc, Load, Store, Fence}
+use Rattle.rv_code.specs.declared.action.Action.TheVariants.{Compute, Branch, Jump, JumpTo, Upper, UpperPc, Load, Store}
+use Rattle.rv_code.specs.declared.action.Action.TheVariants.{Fence}
 use Rattle.rv_code.specs.declared.action.Action.TheVariants.{SystemCall, Breakpoint}
 use Rattle.rv_code.specs.isa.Action.{action_of}
 use Rattle.rv_code.specs.isa.InstBytes.{Decodes}
 use Rattle.rv_code.specs.isa.Op.{apply, holds}
 use Rattle.rv_code.specs.isa.Extension.{bytes_of, extended}
 use Rattle.rv_code.specs.isa.TwosComplement.{unsigned64}
-use Rattle.rv_code.specs.machine.Machine.{plus, set_register, all_may, memory_bytes, put, little, low_bytes, State, may_read}
-use Rattle.rv_code.specs.machine.Machine.{may_write, may_execute, with_break, Event, Call, Read, Write, Exit, Brk, Unknown}
+use Rattle.rv_code.specs.machine.Machine.{plus, set_register, all_may, memory_bytes, put, little, low_bytes, State}
+use Rattle.rv_code.specs.machine.Machine.{may_read}
+use Rattle.rv_code.specs.machine.Machine.{may_write, may_execute, with_break, Event, Call, Read, Write, Exit, Brk}
+use Rattle.rv_code.specs.machine.Machine.{Unknown}
 use Rattle.rv_code.specs.machine.Machine.{call_of, most_moved, bad_file, no_such_call, Outcome, Going, Ended, Halts}
 
 -- registers hold numbers of 64 bits, and memory holds bytes
@@ -95,11 +99,23 @@ writes_output s next file moved false = trap s cause.Load
 abbrev pub refuses_file : ByteState → ℕ → ℕ → ByteOutcome
 refuses_file s next number =
     returns s next
-    (record { number = number; used = s.registers a0 ∷ s.registers a1 ∷ s.registers a2 ∷ []; moved = []; result = bad_file })
+    (record {
+      number = number;
+      used = s.registers a0 ∷ s.registers a1 ∷ s.registers a2
+          ∷ [];
+      moved = [];
+      result = bad_file;
+    })
 
 -- brk: the result is the break after it
 abbrev pub sets_break : ByteState → ℕ → ByteState → ByteOutcome
-sets_break s next t = returns t next (record { number = 214; used = s.registers a0 ∷ []; moved = []; result = t.program_break })
+sets_break s next t = returns t next (record {
+  number = 214;
+  used = s.registers a0
+      ∷ [];
+  moved = [];
+  result = t.program_break;
+})
 
 -- how many bytes the buffer at a1 has: as many as a2 says, but at most 65536
 abbrev pub buffer_size : ByteState → ℕ
@@ -108,7 +124,8 @@ buffer_size s = min (s.registers a2) most_moved
 -- read, of standard input or of another file
 abbrev pub read_call : ByteState → ℕ → Bool → ByteOutcome
 read_call s next true =
-    reads_input s next (s.registers a1) (take (buffer_size s) s.input) (all_may (may_write s) (s.registers a1) (buffer_size s))
+    reads_input s next (s.registers a1) (take (buffer_size s) s.input)
+    (all_may (may_write s) (s.registers a1) (buffer_size s))
 read_call s next false = refuses_file s next 63
 
 -- write, to standard output or standard error or to another file
@@ -137,7 +154,8 @@ effect (JumpTo rd rs1 imm) next s = writes_register s (address s rs1 (unsigned64
 effect (Upper rd imm) next s = writes_register s next rd (unsigned64 imm * 4096 % 2 ^ 64)
 effect (UpperPc rd imm) next s = writes_register s next rd (plus s.pc (unsigned64 imm * 4096 % 2 ^ 64))
 effect (Load e rd rs1 imm) next s =
-    loads s next rd e (address s rs1 (unsigned64 imm)) (all_may (may_read s) (address s rs1 (unsigned64 imm)) (bytes_of e))
+    loads s next rd e (address s rs1 (unsigned64 imm)) (all_may (may_read s) (address s rs1 (unsigned64 imm))
+    (bytes_of e))
 effect (Store n rs1 rs2 imm) next s =
     stores s next (address s rs1 (unsigned64 imm)) (low_bytes n (s.registers rs2))
     (all_may (may_write s) (address s rs1 (unsigned64 imm)) n)

@@ -5,7 +5,7 @@ use Rattle.std.proofs.lemmas.List.Sorted.{IsPartitionPoint-from_clause}
 use Rattle.memchr.specs.Find.{is_byte, places}
 use Rattle.elf_image.specs.internal.TextEnds.{IsTextEnd}
 use Rattle.elf_image.proofs.ZeroPlaces.{zeros-partitioned, IsTextEnd-at, IsTextEnd-past}
-use Rattle.elf_image.proofs.text.Names.end.Goals as goal
+use Rattle.elf_image.proofs.text.Names.far_end.Goals as goal
 
 pub returns-in-Some : goal.returns-in-Some
 returns-in-Some c =
