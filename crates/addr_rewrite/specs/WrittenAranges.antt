@@ -12,8 +12,8 @@ unfoldable pub pairs_bytes : List Stretch → List ℕ
 pairs_bytes [] = little_bytes 8 0 ++ little_bytes 8 0
 pairs_bytes (s ∷ ss) = little_bytes 8 s.start ++ (little_bytes 8 s.len ++ pairs_bytes ss)
 
--- A table behind its length: version 2, the unit's offset, an address size of 8 and a segment selector size of 0, and the
--- pairs, of which the first stands at a multiple of 16 from the table's start.
+-- A table behind its length: version 2, the unit's offset, an address size of 8 and a segment selector size of 0, and
+-- the pairs, of which the first stands at a multiple of 16 from the table's start.
 unfoldable pub table_bytes : ℕ → List Stretch → List ℕ
 table_bytes unit ss =
     little_bytes 2 2 ++ (little_bytes 4 unit ++ (little_bytes 2 8 ++ (little_bytes 4 0 ++ pairs_bytes ss)))

@@ -16,7 +16,8 @@ use table_core::debug_units;
 /// The version of tables of ranges of addresses.
 const VERSION: u16 = 2;
 
-/// Reads a section of tables, or refuses it for the first of its faults and of those of units, which come before its own.
+/// Reads a section of tables, or refuses it for the first of its faults and of those of units, which come before its
+/// own.
 pub fn read_index(alloc: Global, units: FaultPlaces, section: &[u8]) -> Result<UnitIndex, Refusal>
     ensures kept { IfOk result (AreKept section.now) }
     ensures free { OnOk result ((p : Places) →

@@ -4,8 +4,8 @@ ghost use Rattle.byteorder.specs.Endian.{little_bytes};
 ghost use Rattle.addr_rewrite.specs.WrittenAranges as spec;
 
 use crate::stretch::Stretch;
-use byteorder::{ByteOrder, LittleEndian};
 use rb_bytes::fault::NoMemory;
+use rb_bytes::little::{put_u16, put_u32, put_u64};
 
 /// The version of tables of ranges of addresses.
 const VERSION: u16 = 2;
@@ -18,33 +18,6 @@ const FIXED_SIZE: usize = 28;
 
 /// How many bytes a pair has.
 const PAIR_SIZE: usize = 16;
-
-fn put_u16(out: &mut Vec<u8>, n: u16) -> Result<(), NoMemory>
-    ensures { OnOk result (out.new.items ≡ out.old.items ++ little_bytes 2 n) }
-{
-    let mut field = [0; 2];
-    LittleEndian::write_u16(&mut field, n);
-    out.extend_from_slice(&field)?;
-    Ok(())
-}
-
-fn put_u32(out: &mut Vec<u8>, n: u32) -> Result<(), NoMemory>
-    ensures { OnOk result (out.new.items ≡ out.old.items ++ little_bytes 4 n) }
-{
-    let mut field = [0; 4];
-    LittleEndian::write_u32(&mut field, n);
-    out.extend_from_slice(&field)?;
-    Ok(())
-}
-
-fn put_u64(out: &mut Vec<u8>, n: u64) -> Result<(), NoMemory>
-    ensures { OnOk result (out.new.items ≡ out.old.items ++ little_bytes 8 n) }
-{
-    let mut field = [0; 8];
-    LittleEndian::write_u64(&mut field, n);
-    out.extend_from_slice(&field)?;
-    Ok(())
-}
 
 fn put_pair(out: &mut Vec<u8>, address: u64, len: u64) -> Result<(), NoMemory>
     ensures { OnOk result (out.new.items ≡ out.old.items ++ (little_bytes 8 address ++ little_bytes 8 len)) }

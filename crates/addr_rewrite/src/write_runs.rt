@@ -26,7 +26,8 @@ pub fn put_runs(alloc: Global, out: &mut Vec<u8>, runs: &[Run<u64>]) -> Result<(
     requires units { All (λ r. r.answer < 2 ^ 32) runs.now }
     requires few { run_weight * length runs.now ≤ weight_limit }
     ensures { OnOk result ((ss : List Stretch) × IsPermutation (map spec.stretch_of runs.now) ss
-        × IsNonDecreasingBy (λ s. s.unit) ss × (out.new.items ≡ out.old.items ++ spec.spelled_tables (spec.tables_of (length ss) ss))) }
+        × IsNonDecreasingBy (λ s. s.unit) ss × (out.new.items ≡ out.old.items
+        ++ spec.spelled_tables (spec.tables_of (length ss) ss))) }
 {
     let stretches = sorted(alloc, runs)?;
     put_tables(out, &stretches)?;

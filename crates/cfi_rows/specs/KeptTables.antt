@@ -31,7 +31,8 @@ AreKept debug address es cies = (p : ℕ) → KeptFor address (get nat_cmp cies 
 
 -- an FDE among entries
 abbrev pub fde_in : (debug : Bool) → ℕ → List RawEntry → RawEntry → Result Fde Malformed
-fde_in debug address es e = and_so (cie_in debug address es (cie_place debug e)) (λ cie. fde_at cie (end_of address e) e)
+fde_in debug address es e = and_so (cie_in debug address es (cie_place debug e))
+    (λ cie. fde_at cie (end_of address e) e)
 
 -- what is answered of a table
 pub record SaidFrames : Type 0 where

@@ -84,7 +84,8 @@ impl Augmentation {
         requires { end < 2 ^ 66 }
         ensures ok { OnOk result (spec.handler_at (augmentation_of self.old) end encoding cursor.old.left
             ≡ Ok (augmentation_of self.new, cursor.new.left)) }
-        ensures err { IfErr result (λ e. Fails e (spec.handler_at (augmentation_of self.old) end encoding cursor.old.left
+        ensures err { IfErr result (λ e. Fails e (spec.handler_at (augmentation_of self.old) end encoding
+            cursor.old.left
             ≡ Err Entry)) }
     {
         match encoding as u64 {
@@ -138,7 +139,7 @@ fn encoding_of(byte: u8) -> Result<Encoding, Failed>
     }
 }
 
-// The same, where the pointer may be omitted.
+// The encoding that a byte stands for, or none where it says that the pointer is omitted.
 fn table_encoding_of(byte: u8) -> Result<Option<Encoding>, Failed>
     ensures ok { IfOk result (λ e. spec.table_encoding_of byte ≡ Some e) }
     ensures err { IfErr result (λ e. Fails e (spec.table_encoding_of byte ≡ None)) }

@@ -183,8 +183,10 @@ fn take_entry(
     requires { listed.old.cies < 2 ^ 63 }
     ensures taken { IfOk result (λ sound. (es rest : List spec.RawEntry) (broken : Option ℕ) →
         AreKept debug address es cies.now →
-        joined listed.old.cies listed.old.list.items (said (spec.frames_from debug address es broken (entry.now ∷ rest))) ≡
-        (if sound then joined listed.new.cies listed.new.list.items (said (spec.frames_from debug address es broken rest))
+        joined listed.old.cies listed.old.list.items (said
+        (spec.frames_from debug address es broken (entry.now ∷ rest))) ≡
+        (if sound then joined listed.new.cies listed.new.list.items
+        (said (spec.frames_from debug address es broken rest))
         else record { cies = listed.new.cies; list = listed.new.list.items; bad = Some entry.now.place })) }
     ensures more { listed.new.cies ≤ listed.old.cies + 1 }
 {

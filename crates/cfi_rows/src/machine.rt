@@ -28,8 +28,8 @@ pub struct Saved {
     pub changes: Vec<Change>,
 }
 
-/// A program under way. Of the states that it remembered it keeps by what they differ, so that to remember one takes the
-/// same time whatever the number of rules.
+/// A program under way. Of the states that it remembered it keeps by what they differ, so that to remember one takes
+/// the same time whatever the number of rules.
 #[derive(Drop)]
 pub struct Machine {
     pub location: u64,
@@ -125,7 +125,8 @@ impl Machine {
     }
 
     fn advance(&mut self, bytes: u64) -> Result<(), Failed>
-        ensures { OnOk result (spec.moved_to (self.old.location + bytes) (state_of self.old) ≡ Some (state_of self.new)) }
+        ensures { OnOk result (spec.moved_to (self.old.location + bytes) (state_of self.old) ≡ Some
+            (state_of self.new)) }
     {
         match self.location.checked_add(bytes) {
             Some(location) => {
@@ -177,7 +178,8 @@ impl Machine {
     }
 
     fn restore(&mut self) -> Result<(), Failed>
-        ensures { OnOk result (spec.take_back (state_of self.old) (state_of self.old).saved ≡ Some (state_of self.new)) }
+        ensures { OnOk result (spec.take_back (state_of self.old) (state_of self.old).saved ≡ Some
+            (state_of self.new)) }
     {
         let Some(saved) = self.saved.pop() else {
             return Err(Failed::Malformed);

@@ -41,7 +41,8 @@ impl Outline {
     fn step(&mut self, instruction: &Instruction) -> Result<(), Failed>
         ensures ok { OnOk result (spec.outline_step instruction.now (spec.kept_outline self.old)
             ≡ Some (spec.kept_outline self.new)) }
-        ensures err { IfErr result (λ e. Fails e (spec.outline_step instruction.now (spec.kept_outline self.old) ≡ None)) }
+        ensures err { IfErr result (λ e. Fails e (spec.outline_step instruction.now
+            (spec.kept_outline self.old) ≡ None)) }
     {
         match instruction {
             Instruction::Advance(bytes) => self.advance(*bytes),
@@ -67,7 +68,8 @@ impl Outline {
     fn advance(&mut self, bytes: u64) -> Result<(), Failed>
         ensures ok { OnOk result (spec.moved_outline (self.old.location + bytes) (spec.kept_outline self.old)
             ≡ Some (spec.kept_outline self.new)) }
-        ensures err { IfErr result (λ e. Fails e (spec.moved_outline (self.old.location + bytes) (spec.kept_outline self.old)
+        ensures err { IfErr result (λ e. Fails e (spec.moved_outline (self.old.location + bytes)
+            (spec.kept_outline self.old)
             ≡ None)) }
     {
         match self.location.checked_add(bytes) {
@@ -80,7 +82,8 @@ impl Outline {
     }
 
     fn go_to(&mut self, address: u64) -> Result<(), Failed>
-        ensures ok { OnOk result (spec.went_to address (spec.kept_outline self.old) ≡ Some (spec.kept_outline self.new)) }
+        ensures ok { OnOk result (spec.went_to address (spec.kept_outline self.old) ≡ Some
+            (spec.kept_outline self.new)) }
         ensures err { IfErr result (λ e. Fails e (spec.went_to address (spec.kept_outline self.old) ≡ None)) }
     {
         if address < self.location {
@@ -94,7 +97,8 @@ impl Outline {
     fn needs_register(&self) -> Result<(), Failed>
         ensures ok { OnOk result (spec.if_register self.now.frame (spec.kept_outline self.now)
             ≡ Some (spec.kept_outline self.now)) }
-        ensures err { IfErr result (λ e. Fails e (spec.if_register self.now.frame (spec.kept_outline self.now) ≡ None)) }
+        ensures err { IfErr result (λ e. Fails e (spec.if_register self.now.frame
+            (spec.kept_outline self.now) ≡ None)) }
     {
         match self.frame {
             FrameKind::Register => Ok(()),
@@ -113,7 +117,8 @@ impl Outline {
     fn restore(&mut self) -> Result<(), Failed>
         ensures ok { OnOk result (spec.taken_back (spec.kept_outline self.old) (spec.kept_outline self.old).saved
             ≡ Some (spec.kept_outline self.new)) }
-        ensures err { IfErr result (λ e. Fails e (spec.taken_back (spec.kept_outline self.old) (spec.kept_outline self.old).saved
+        ensures err { IfErr result (λ e. Fails e (spec.taken_back (spec.kept_outline self.old)
+            (spec.kept_outline self.old).saved
             ≡ None)) }
     {
         match self.saved.pop() {
@@ -156,9 +161,11 @@ pub(crate) fn row_count(
     start: u64,
     frame: FrameKind,
 ) -> Result<u64, Failed>
-    ensures ok { IfOk result (λ n. spec.outline_rows instructions.now (record { location = start; frame = frame; saved = [] })
+    ensures ok { IfOk result (λ n. spec.outline_rows instructions.now
+        (record { location = start; frame = frame; saved = [] })
         ≡ Some n) }
-    ensures err { IfErr result (λ e. Fails e (spec.outline_rows instructions.now (record { location = start; frame = frame; saved = [] })
+    ensures err { IfErr result (λ e. Fails e (spec.outline_rows instructions.now
+        (record { location = start; frame = frame; saved = [] })
         ≡ None)) }
 {
     let mut outline = Outline::new(alloc, start, frame);

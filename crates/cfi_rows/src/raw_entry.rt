@@ -74,7 +74,8 @@ pub struct Walked<'a> {
 
 /// Walks the entries of a table.
 pub(crate) fn walk<'a>(alloc: Global, debug: bool, table: &'a [u8]) -> Result<Walked<'a>, NoMemory>
-    ensures { IfOk result (λ w. walked_entries debug table.now ≡ record { entries = w.entries.items; broken = w.broken }) }
+    ensures { IfOk result (λ w. walked_entries debug table.now ≡ record
+        { entries = w.entries.items; broken = w.broken }) }
 {
     let mut entries = Vec::new(alloc);
     let mut left = table;

@@ -57,7 +57,7 @@ impl RuleMap {
         }
     }
 
-    /// The same rules once more.
+    /// A map of these rules, which are shared and not copied.
     pub(crate) fn shared(&self) -> Result<RuleMap, NoMemory>
         ensures { IfOk result (λ rules. rules ≡ self.now) }
     {

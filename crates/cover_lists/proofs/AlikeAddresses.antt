@@ -1,5 +1,6 @@
 -- Addresses between which no range starts or ends.
-use Rattle.std.proofs.Common.{◌≡◌, ◌∙◌, ◌<◌, ◌≤◌, ◌==◌, ◌&&◌, ◌||◌, ◌∷◌, [], ℕ, Bool, not, List, All, refl, sym, ap, arith, length, get_or, map, filter, nat_le, nat_lt, ⊎_elim}
+use Rattle.std.proofs.Common.{◌≡◌, ◌∙◌, ◌<◌, ◌≤◌, ◌==◌, ◌&&◌, ◌||◌, ◌∷◌, [], ℕ, Bool, not, List, All, refl, sym, ap, arith, length, get_or}
+use Rattle.std.proofs.Common.{map, filter, nat_le, nat_lt, ⊎_elim}
 use Rattle.std.proofs.lemmas.Bool.{cases_lt}
 use Rattle.std.proofs.lemmas.Bool.Decides.{nat_tests}
 use Rattle.std.proofs.lemmas.List.Elements.{All-head, All-tail}
@@ -26,14 +27,17 @@ same_side bs m n a b same low high below above = λ k d h. ⊎_elim
 lt_not : (a x : ℕ) → nat_lt a x ≡ not (nat_le x a)
 lt_not a x = grind (arith, nat_tests)
 
-pub alike_groups : (cs : List Cover) (a b g : ℕ) → All (λ x. nat_le x a ≡ nat_le x b) (bounds_in cs) → group_holds cs g a ≡ group_holds cs g b
+pub alike_groups : (cs : List Cover) (a b g : ℕ) → All (λ x. nat_le x a ≡ nat_le x b) (bounds_in cs) →
+    group_holds cs g a ≡ group_holds cs g b
 alike_groups [] a b g same = refl
 alike_groups (c ∷ cs) a b g same =
     let low : nat_le c.low a ≡ nat_le c.low b = All-head (λ x. nat_le x a ≡ nat_le x b) c.low (c.high ∷ bounds_in cs) same in
-    let more : All (λ x. nat_le x a ≡ nat_le x b) (c.high ∷ bounds_in cs) = All-tail (λ x. nat_le x a ≡ nat_le x b) c.low (c.high ∷ bounds_in cs) same in
+    let more : All (λ x. nat_le x a ≡ nat_le x b) (c.high ∷ bounds_in cs) = All-tail (λ x. nat_le x a ≡ nat_le x b) c.low
+    (c.high ∷ bounds_in cs) same in
     let high : nat_lt a c.high ≡ nat_lt b c.high =
     lt_not a c.high ∙ ap not (All-head (λ x. nat_le x a ≡ nat_le x b) c.high (bounds_in cs) more) ∙ sym (lt_not b c.high) in
-    let rest : group_holds cs g a ≡ group_holds cs g b = alike_groups cs a b g (All-tail (λ x. nat_le x a ≡ nat_le x b) c.high (bounds_in cs) more) in
+    let rest : group_holds cs g a ≡ group_holds cs g b = alike_groups cs a b g
+    (All-tail (λ x. nat_le x a ≡ nat_le x b) c.high (bounds_in cs) more) in
     λ i. ((c.group == g) && (low i && high i)) || rest i
 
 pub held_alike_at : (cs : List Cover) (rs : List RangedEntry) (a b : ℕ) → ((g : ℕ) → group_holds cs g a ≡ group_holds cs g b) →

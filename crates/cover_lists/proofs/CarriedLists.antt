@@ -1,5 +1,6 @@
 -- What location lists say at the owners of new bytes, by stretches in which none changes.
-use Rattle.std.proofs.Common.{◌≡◌, ◌∙◌, ◌<◌, ◌≤◌, ◌∷◌, [], ℕ, Bool, true, false, List, Option, Some, None, refl, sym, ap, arith, length, filter, ⊎_elim}
+use Rattle.std.proofs.Common.{◌≡◌, ◌∙◌, ◌<◌, ◌≤◌, ◌∷◌, [], ℕ, Bool, true, false, List, Option, Some, None, refl, sym, ap, arith, length}
+use Rattle.std.proofs.Common.{filter, ⊎_elim}
 use Rattle.std.specs.Prelude.{All, if◌then◌else◌, nat_le, option_and_then, option_map}
 use Rattle.std.specs.List.Sorted.{IsPermutation}
 use Rattle.std.proofs.lemmas.Bool.{cases_lt}
@@ -48,7 +49,8 @@ equal_both false false x xs ys up h e = (refl, e)
 up_sides : (bs : List ℕ) (a b : ℕ) → a ≤ b → bounds_before bs a ≡ bounds_before bs b → All (Same a b) bs
 up_sides [] a b h e = All-nil (Same a b)
 up_sides (x ∷ bs) a b h e =
-    let both = equal_both (nat_le x a) (nat_le x b) x (filter (λ y. nat_le y a) bs) (filter (λ y. nat_le y b) bs) (more_held x a b h) (fewer bs a b h) e in
+    let both = equal_both (nat_le x a) (nat_le x b) x (filter (λ y. nat_le y a) bs) (filter (λ y. nat_le y b) bs) (more_held x a b h)
+    (fewer bs a b h) e in
     All-cons (Same a b) x bs both.0 (up_sides bs a b h both.1)
 
 -- what says the same between numbers between which there are none of some
@@ -68,7 +70,8 @@ module _ {A : Type 0} (says : ℕ → Option A) (bounds : List ℕ) (alike : (a 
   at_owner (Some a) (Some b) e = alike_at a b (cc)
 
   pub carried_runs : (spans : List Span) (ss : List (Run ℕ)) (end : ℕ) (runs : List (Run A)) →
-      AreRunsOf (carried (λ a. Some (bounds_before bounds a)) spans) (said_runs (bounds_before bounds) ss) → IsWithin 0 runs end → AreLongest runs →
+      AreRunsOf (carried (λ a. Some (bounds_before bounds a)) spans) (said_runs (bounds_before bounds) ss) → IsWithin 0 runs end →
+      AreLongest runs →
       ((p : ℕ) → run_at runs p ≡ option_and_then says (run_at ss p)) → AreRunsOf (carried says spans) runs
   carried_runs spans ss end runs stretches within longest answers = record {
     end = end;
@@ -77,7 +80,8 @@ module _ {A : Type 0} (says : ℕ → Option A) (bounds : List ℕ) (alike : (a 
     longest = longest;
   }
 
-pub same_answer : (lists : List KeptList) (n : ℕ) (bounds : List ℕ) → IsPermutation (list_bounds lists) bounds → (a b : ℕ) → All (Same a b) bounds →
+pub same_answer : (lists : List KeptList) (n : ℕ) (bounds : List ℕ) → IsPermutation (list_bounds lists) bounds → (a b : ℕ) →
+    All (Same a b) bounds →
     list_answer lists n a ≡ list_answer lists n b
 same_answer lists n bounds all a b same =
     ap unless_empty (numbered_alike lists n a b

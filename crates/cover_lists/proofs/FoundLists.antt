@@ -1,5 +1,6 @@
 -- Which location lists are found at an address.
-use Rattle.std.proofs.Common.{◌≡◌, ◌≢◌, ◌∙◌, ◌+◌, ◌<◌, ◌≤◌, ◌==◌, ◌&&◌, ◌||◌, ◌++◌, ◌∷◌, [], ℕ, zero, suc, Bool, true, false, List, Option, Some, None}
+use Rattle.std.proofs.Common.{◌≡◌, ◌≢◌, ◌∙◌, ◌+◌, ◌<◌, ◌≤◌, ◌==◌, ◌&&◌, ◌||◌, ◌++◌, ◌∷◌, [], ℕ, zero, suc, Bool, true, false, List, Option}
+use Rattle.std.proofs.Common.{Some, None}
 use Rattle.std.proofs.Common.{refl, sym, ap, arith, length, map, filter, drop, get_or, append_assoc, append-nil}
 use Rattle.std.specs.Prelude.{All, if◌then◌else◌, filter_map, slice_get}
 use Rattle.std.specs.Global.{Vec}
@@ -90,7 +91,8 @@ other_number : (m n : ℕ) (xs : List (Vec ℕ)) → m ≢ n → is_among (numbe
 other_number m n [] ne = refl
 other_number m n (x ∷ xs) ne = ap (λ (b : Bool). b || false) (ne_eqb n m (λ e. ne (sym e)))
 
-pub found_defaults : (lists : List KeptList) (ns : List ℕ) (n : ℕ) → ns ≡ numbered default_numbers 0 lists → is_among ns n ≡ has_default lists n
+pub found_defaults : (lists : List KeptList) (ns : List ℕ) (n : ℕ) → ns ≡ numbered default_numbers 0 lists →
+    is_among ns n ≡ has_default lists n
 found_defaults lists ns n e =
     ap (λ (l : List ℕ). is_among l n) e
     ∙ of_number default_numbers (λ m k. k == m) (λ (l : KeptList). is_some_list l.defaults.items) (λ m l. own_number m l.defaults.items)
@@ -124,7 +126,8 @@ none_left : (ds : List (Vec ℕ)) → is_some_list ds ≡ false → unless_empty
 none_left [] e = refl
 none_left (d ∷ ds) e = absurd (cc)
 
-says_nothing : (l : KeptList) (a : ℕ) → (is_some_list l.defaults.items || list_any (holds a) l.tree) ≡ false → unless_empty (list_says l a) ≡ None
+says_nothing : (l : KeptList) (a : ℕ) → (is_some_list l.defaults.items || list_any (holds a) l.tree) ≡ false →
+    unless_empty (list_says l a) ≡ None
 says_nothing l a e =
     ap (λ (ks : List ℕ). unless_empty (unless_none (filter_map (expression_of l.expressions.items) ks) (items_in l.defaults.items)))
     (filter_none (λ k. group_holds l.tree k a) (range_with_len 0 (length l.expressions.items))
@@ -156,9 +159,11 @@ later false c e = e
 all_among : (P : ℕ → Type 0) (ns : List ℕ) → ((n : ℕ) → is_among ns n ≡ true → P n) → All P ns
 all_among P [] h = All-nil P
 all_among P (n ∷ ns) h =
-    All-cons P n ns (h n (ap (λ (b : Bool). b || is_among ns n) (equal_self n))) (all_among P ns (λ m e. h m (later (n == m) (is_among ns m) e)))
+    All-cons P n ns (h n (ap (λ (b : Bool). b || is_among ns n) (equal_self n)))
+    (all_among P ns (λ m e. h m (later (n == m) (is_among ns m) e)))
 
-pub candidates : (lists : List KeptList) (tree : List Cover) (unbounded ns : List ℕ) (a : ℕ) → ((n : ℕ) → group_holds tree n a ≡ list_holds lists n a) →
+pub candidates : (lists : List KeptList) (tree : List Cover) (unbounded ns : List ℕ) (a : ℕ) →
+    ((n : ℕ) → group_holds tree n a ≡ list_holds lists n a) →
     ((n : ℕ) → is_among unbounded n ≡ has_default lists n) → IsStrictlyIncreasing ns →
     ((n : ℕ) → is_among ns n ≡ (is_among unbounded n || group_holds tree n a)) → AreCandidates lists a ns
 candidates lists tree unbounded ns a bounds defaults rising found = record {

@@ -11,7 +11,8 @@ use Rattle.std.proofs.lemmas.List.Folds.{list_any-append}
 use Rattle.table_core.specs.declared.run.Run.{Run}
 use Rattle.table_core.specs.AnswerRuns.{answer_over, run_at, IsWithin}
 use Rattle.table_core.specs.LastRuns.{ends_at, lengthened}
-use Rattle.table_core.proofs.Grown.{or_none, within-up, run_at-more, within-more, longest-more, answer-more, apart-end, run_at-longer, and_then-Some}
+use Rattle.table_core.proofs.Grown.{or_none, within-up, run_at-more, within-more, longest-more, answer-more, apart-end, run_at-longer}
+use Rattle.table_core.proofs.Grown.{and_then-Some}
 use Rattle.table_core.proofs.Grown.{within-longer, longest-longer, answer-longer}
 use Rattle.cover_lists.specs.declared.cover_tree.Cover.{Cover}
 use Rattle.cover_lists.specs.CoverTree.{holds}
@@ -39,7 +40,8 @@ not_ended lo [] t u w h = refl
 not_ended lo (x ∷ []) t u w h = let g = w.2 in ne_eqb (x.start + x.len) u (λ e. omega arith)
 not_ended lo (x ∷ y ∷ zs) t u w h = not_ended (x.start + x.len) (y ∷ zs) t u w.2 h
 
-pub lengthens : (xs new : List (Run Bool)) (start len : ℕ) → AreHeld start xs → ends_at start xs ≡ true → new ≡ lengthened len xs → IsStretched start len xs new
+pub lengthens : (xs new : List (Run Bool)) (start len : ℕ) → AreHeld start xs → ends_at start xs ≡ true → new ≡ lengthened len xs →
+    IsStretched start len xs new
 lengthens xs new start len h e is = subst (λ (l : List (Run Bool)). IsStretched start len xs l) (sym is) (record {
   held = record {
     within = within-longer 0 xs start len h.within;
@@ -47,7 +49,8 @@ lengthens xs new start len h e is = subst (λ (l : List (Run Bool)). IsStretched
     last = answer-longer (Some true) xs len h.last;
   };
   ends = ends_longer xs start len e;
-  answers = λ p. run_at-longer xs start len p Some true e h.last ∙ ap (option_or (run_at xs p)) (and_then-Some (answer_over start len true p));
+  answers = λ p. run_at-longer xs start len p Some true e h.last
+      ∙ ap (option_or (run_at xs p)) (and_then-Some (answer_over start len true p));
 })
 
 pub pushes : (xs new : List (Run Bool)) (start len : ℕ) → AreHeld start xs → 0 < len → ends_at start xs ≡ false →
@@ -70,11 +73,8 @@ pushes xs new start len h some e is = subst (λ (l : List (Run Bool)). IsStretch
 module _ (start len : ℕ) (some : 0 < len) (old now : List (Run Bool)) (h : AreHeld start old) where
   pub still_within : (b : Bool) → IsStretchedIf b start len old now → IsWithin 0 now (start + len)
   still_within true s = s.held.within
-  still_within false s = subst (λ (l : List (Run Bool)). IsWithin 0 l (start + len)) (sym s) (within-up 0 old start (start + len) h.within (omega arith))
-
-  pub still_ready : (b : Bool) → IsStretchedIf b start len old now → ends_at (start + len) now ≡ false → AreHeld start now
-  still_ready true s e = let f : true ≡ false = sym s.ends ∙ e in absurd (cc)
-  still_ready false s e = subst (AreHeld start) (sym s) h
+  still_within false s = subst (λ (l : List (Run Bool)). IsWithin 0 l (start + len)) (sym s)
+      (within-up 0 old start (start + len) h.within (omega arith))
 
   again : (b : Bool) (new : List (Run Bool)) → IsStretchedIf b start len old now → (ends_at (start + len) now ≡ true → new ≡ now) →
       (ends_at (start + len) now ≡ false → IsStretched start len now new) → IsStretched start len old new
@@ -94,7 +94,8 @@ module _ (gs : List ℕ) (h start len : ℕ) (old now new : List (Vec (Run Bool)
 
   among_other : (g : ℕ) → g ≢ h → among g (gs ++ h ∷ []) ≡ among g gs
   among_other g ne =
-      list_any-append (λ k. k == g) gs (h ∷ []) ∙ ap (λ (b : Bool). among g gs || (b || false)) (ne_eqb h g (λ e. ne (sym e))) ∙ or_false (among g gs)
+      list_any-append (λ k. k == g) gs (h ∷ []) ∙ ap (λ (b : Bool). among g gs || (b || false)) (ne_eqb h g (λ e. ne (sym e)))
+      ∙ or_false (among g gs)
 
   pub stretched_more : length new ≡ length now → ((g : ℕ) → g ≢ h → runs_in new g ≡ runs_in now g) →
       (ends_at (start + len) (runs_in now h) ≡ true → runs_in new h ≡ runs_in now h) →
@@ -107,7 +108,8 @@ module _ (gs : List ℕ) (h start len : ℕ) (old now new : List (Vec (Run Bool)
         subst (λ (b : Bool). IsStretchedIf b start len (runs_in old g) (runs_in new g)) (sym (among_here g e))
         (again start len some (runs_in old g) (runs_in now g) (held g below) (among g gs) (runs_in new g) (before.each g below)
         (subst (λ (k : ℕ). ends_at (start + len) (runs_in now k) ≡ true → runs_in new k ≡ runs_in now k) (sym e) kept)
-        (subst (λ (k : ℕ). ends_at (start + len) (runs_in now k) ≡ false → IsStretched start len (runs_in now k) (runs_in new k)) (sym e) more)))
+        (subst (λ (k : ℕ). ends_at (start + len) (runs_in now k) ≡ false → IsStretched start len (runs_in now k) (runs_in new k))
+        (sym e) more)))
         (λ (ne : g ≢ h).
         subst (λ (b : Bool). IsStretchedIf b start len (runs_in old g) (runs_in new g)) (sym (among_other g ne))
         (subst (λ (l : List (Run Bool)). IsStretchedIf (among g gs) start len (runs_in old g) l) (sym (others g ne)) (before.each g below)))
@@ -122,9 +124,6 @@ module _ (gs : List ℕ) (h start len : ℕ) (old now new : List (Vec (Run Bool)
         subst (λ (b : Bool). IsStretchedIf b start len (runs_in old g) (runs_in now g))
         (sym (among_other g (λ e. let c = before.count in omega (arith, e, past, below, c)))) (before.each g below);
   }
-
-pub stretched_nil : (start len : ℕ) (old : List (Vec (Run Bool))) → AreStretched [] start len old old
-stretched_nil start len old = record { count = refl; each = λ g h. refl }
 
 -- Of all runs, one by one
 
@@ -154,7 +153,8 @@ module _ (covers : List Cover) (g : ℕ) (ss : List (Run ℕ)) (r : Run ℕ) (ol
   within_start : IsWithin 0 ss r.start
   within_start = within-up 0 ss (runs_end 0 ss) r.start within start
 
-  by_holds : (b : Bool) → group_holds covers g r.answer ≡ b → IsStretchedIf b r.start r.len old new → IsGroupRuns covers g (ss ++ r ∷ []) new
+  by_holds : (b : Bool) → group_holds covers g r.answer ≡ b → IsStretchedIf b r.start r.len old new →
+      IsGroupRuns covers g (ss ++ r ∷ []) new
   by_holds true e s = record {
     are = subst (λ (n : ℕ). AreHeld n new) (sym (runs_end_more 0 ss r)) s.held;
     answers = λ p.
@@ -165,7 +165,8 @@ module _ (covers : List Cover) (g : ℕ) (ss : List (Run ℕ)) (r : Run ℕ) (ol
   }
   by_holds false e s = subst (IsGroupRuns covers g (ss ++ r ∷ [])) (sym s) (record {
     are = record {
-      within = subst (λ (n : ℕ). IsWithin 0 old n) (sym (runs_end_more 0 ss r)) (within-up 0 old (runs_end 0 ss) (r.start + r.len) before.are.within (omega arith));
+      within = subst (λ (n : ℕ). IsWithin 0 old n) (sym (runs_end_more 0 ss r))
+          (within-up 0 old (runs_end 0 ss) (r.start + r.len) before.are.within (omega arith));
       longest = before.are.longest;
       last = before.are.last;
     };
@@ -186,7 +187,3 @@ pub held_before : (covers : List Cover) (g : ℕ) (ss : List (Run ℕ)) (old : L
     IsGroupRuns covers g ss old → runs_end 0 ss ≤ start → AreHeld start old
 held_before covers g ss old start before h =
     record { within = within-up 0 old (runs_end 0 ss) start before.are.within h; longest = before.are.longest; last = before.are.last }
-
-pub group_none : (covers : List Cover) (g : ℕ) (held : List (Run Bool)) → held ≡ [] → IsGroupRuns covers g [] held
-group_none covers g held e =
-    subst (IsGroupRuns covers g []) (sym e) (record { are = record { within = omega arith; longest = tt; last = tt }; answers = λ p. refl })

@@ -1,5 +1,6 @@
 -- Runs of location lists, stretch by stretch.
-use Rattle.std.proofs.Common.{◌≡◌, ◌≢◌, ◌∙◌, ◌+◌, ◌<◌, ◌≤◌, ◌==◌, ◌||◌, ◌++◌, ◌∷◌, [], ℕ, zero, suc, Bool, true, false, List, Option, Some, None}
+use Rattle.std.proofs.Common.{◌≡◌, ◌≢◌, ◌∙◌, ◌+◌, ◌<◌, ◌≤◌, ◌==◌, ◌||◌, ◌++◌, ◌∷◌, [], ℕ, zero, suc, Bool, true, false, List, Option, Some}
+use Rattle.std.proofs.Common.{None}
 use Rattle.std.proofs.Common.{refl, sym, ap, subst, arith, length, take, get_or, ⊎_elim}
 use Rattle.std.specs.Prelude.{option_and_then, slice_get}
 use Rattle.std.specs.Global.{Vec}
@@ -45,7 +46,8 @@ list_more lists n ss r old new within was more = record {
   longest = more.longest;
   answers = λ p.
       more.answers p
-      ∙ ap (λ (o : Option Said). option_or o (option_and_then (λ x. answer_over r.start r.len x p) (list_answer lists n r.answer))) (was.answers p)
+      ∙ ap (λ (o : Option Said). option_or o (option_and_then (λ x. answer_over r.start r.len x p) (list_answer lists n r.answer)))
+      (was.answers p)
       ∙ said_more (list_answer lists n) ss r p within;
 }
 
@@ -58,7 +60,8 @@ below_first lo (n ∷ ns) zero d up h = (up.0, refl)
 below_first lo (n ∷ ns) (suc i) d up h =
     let more = below_first (n + 1) ns i d up.1 (omega arith) in (
       let g = up.0 in let k = more.0 in omega arith,
-      ap (λ (b : Bool). b || is_among (take i ns) (get_or ns i d)) (ne_eqb n (get_or ns i d) (λ e. let k = more.0 in absurd (omega arith))) ∙ more.1,
+      ap (λ (b : Bool). b || is_among (take i ns) (get_or ns i d)) (ne_eqb n (get_or ns i d) (λ e. let k = more.0 in absurd (omega arith)))
+          ∙ more.1,
     )
 
 pub not_before : (ns : List ℕ) (i d : ℕ) → IsStrictlyIncreasing ns → i < length ns → is_among (take i ns) (get_or ns i d) ≡ false
@@ -75,21 +78,26 @@ module _ (lists : List KeptList) (a : ℕ) (ns : List ℕ) (start len : ℕ) (ol
   extended_more h new fresh before count others more = record {
     count = count ∙ before.count;
     each = λ n. ⊎_elim
-        (λ (e : n ≡ h). subst (λ (k : ℕ). IsExtendedIf (is_among (ns ++ h ∷ []) k) start len (list_answer lists k a) (said_in old k) (said_in new k)) (sym e)
+        (λ (e : n ≡ h). subst (λ (k : ℕ). IsExtendedIf (is_among (ns ++ h ∷ []) k) start len (list_answer lists k a) (said_in old k)
+        (said_in new k)) (sym e)
         (subst (λ (b : Bool). IsExtendedIf b start len (list_answer lists h a) (said_in old h) (said_in new h)) (sym here)
-        (subst (λ (l : List (Run Said)). IsExtended start len (list_answer lists h a) l (said_in new h)) (not_extended h fresh before) more)))
+        (subst (λ (l : List (Run Said)). IsExtended start len (list_answer lists h a) l (said_in new h))
+        (not_extended h fresh before) more)))
         (λ (ne : n ≢ h).
         subst (λ (b : Bool). IsExtendedIf b start len (list_answer lists n a) (said_in old n) (said_in new n)) (sym (other n ne))
-        (subst (λ (l : List (Run Said)). IsExtendedIf (is_among ns n) start len (list_answer lists n a) (said_in old n) l) (sym (others n ne)) (before.each n)))
+        (subst (λ (l : List (Run Said)). IsExtendedIf (is_among ns n) start len (list_answer lists n a) (said_in old n) l)
+        (sym (others n ne)) (before.each n)))
         (cases_eq n h);
   }
     where
       here : is_among (ns ++ h ∷ []) h ≡ true
-      here = list_any-append (λ k. k == h) ns (h ∷ []) ∙ ap (λ (b : Bool). is_among ns h || (b || false)) (eq-eqb h h refl) ∙ or_true (is_among ns h)
+      here = list_any-append (λ k. k == h) ns (h ∷ []) ∙ ap (λ (b : Bool). is_among ns h || (b || false)) (eq-eqb h h refl)
+          ∙ or_true (is_among ns h)
 
       other : (n : ℕ) → n ≢ h → is_among (ns ++ h ∷ []) n ≡ is_among ns n
       other n ne =
-          list_any-append (λ k. k == n) ns (h ∷ []) ∙ ap (λ (b : Bool). is_among ns n || (b || false)) (ne_eqb h n (λ e. ne (sym e))) ∙ or_false (is_among ns n)
+          list_any-append (λ k. k == n) ns (h ∷ []) ∙ ap (λ (b : Bool). is_among ns n || (b || false)) (ne_eqb h n (λ e. ne (sym e)))
+          ∙ or_false (is_among ns n)
 
   -- behind the last of the candidates
   pub extended_all : AreCandidates lists a ns → AreExtended lists a ns start len old now → (n : ℕ) → IsWithin 0 (said_in old n) start →
@@ -105,10 +113,6 @@ module _ (lists : List KeptList) (a : ℕ) (ns : List ℕ) (start len : ℕ) (ol
           (none_extended start len (said_in old n) within longest))
 
 -- of all stretches, one by one
-
-pub list_none : (lists : List KeptList) (n : ℕ) (runs : List (Run Said)) → runs ≡ [] → IsListRuns lists n [] 0 runs
-list_none lists n runs e =
-    subst (IsListRuns lists n [] 0) (sym e) (record { within = omega arith; longest = tt; answers = λ p. refl })
 
 pub list_next : (lists : List KeptList) (n : ℕ) (ss : List (Run ℕ)) (hi i : ℕ) (r : Run ℕ) (old new : List (Run Said)) → IsWithin 0 ss hi →
     runs_end 0 (take i ss) ≤ r.start → IsListRuns lists n (take i ss) (runs_end 0 (take i ss)) old →

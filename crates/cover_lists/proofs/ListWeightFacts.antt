@@ -20,7 +20,8 @@ copies (x ∷ xs) =
     sum_by-cons (λ (v : Vec ℕ). 16 + length v.items) x xs ∙ ap (λ (n : ℕ). 16 + length x.items + n) (copies xs)
     ∙ sym (sum_by-cons (λ (l : List ℕ). 16 + length l) x.items (items_in xs))
 
-runs : (rs : List (Run (Vec (Vec ℕ)))) → list_weight rs ≡ sum_by (λ (r : Run (List (List ℕ))). run_weight + expressions_weight r.answer) (said_runs said rs)
+runs : (rs : List (Run (Vec (Vec ℕ)))) → list_weight rs ≡ sum_by (λ (r : Run (List (List ℕ))). run_weight + expressions_weight r.answer)
+    (said_runs said rs)
 runs [] = refl
 runs (r ∷ rs) =
     sum_by-cons (λ (q : Run (Vec (Vec ℕ))). run_weight + copies_weight q.answer.items) r rs

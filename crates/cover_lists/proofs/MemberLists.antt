@@ -1,5 +1,6 @@
 -- The members of groups, and which numbers are found by the groups that hold an address.
-use Rattle.std.proofs.Common.{◌≡◌, ◌∙◌, ◌+◌, ◌<◌, ◌==◌, ◌||◌, ◌&&◌, ◌++◌, ◌∷◌, [], ℕ, zero, suc, Bool, true, false, List, Option, Some, None, refl, sym, ap, arith, length, map, filter}
+use Rattle.std.proofs.Common.{◌≡◌, ◌∙◌, ◌+◌, ◌<◌, ◌==◌, ◌||◌, ◌&&◌, ◌++◌, ◌∷◌, [], ℕ, zero, suc, Bool, true, false, List, Option, Some}
+use Rattle.std.proofs.Common.{None, refl, sym, ap, arith, length, map, filter}
 use Rattle.std.specs.Prelude.{if◌then◌else◌, flat_map, slice_get}
 use Rattle.std.specs.Global.{Vec}
 use Rattle.std.specs.List.{list_any, range_with_len}
@@ -15,13 +16,6 @@ use Rattle.cover_lists.specs.CoverIndex.{members_in, is_member, is_held}
 use Rattle.cover_lists.specs.CoverTree.{holds}
 use Rattle.cover_lists.specs.Groups.{group_holds}
 use Rattle.cover_lists.proofs.SmallSteps.{or_false, or_true, and_true, and_false}
-
--- an empty group more
-pub none_more : (ms : List (Vec ℕ)) (v : Vec ℕ) (g : ℕ) → v.items ≡ [] → ((g : ℕ) → members_in ms g ≡ []) → members_in (ms ++ v ∷ []) g ≡ []
-none_more [] v zero e none = e
-none_more [] v (suc g) e none = refl
-none_more (m ∷ ms) v zero e none = none zero
-none_more (m ∷ ms) v (suc g) e none = none_more ms v g e (λ g. none (suc g))
 
 -- an entry more
 

@@ -14,9 +14,6 @@ pub mapped_end : {A B : Type 0} (f : A → B) (x y : List A) (i : ℕ) → lengt
     (drop i (map f x) ≡ drop i (map f y) → map f x ≡ map f y) → map f x ≡ map f y
 mapped_end f x y i l m before = same-end (map f x) (map f y) i (omega (arith, length-map x f)) (omega (arith, length-map y f)) before
 
-pub same_length : {A B : Type 0} (f : A → B) (x y : List A) → map f x ≡ map f y → length x ≡ length y
-same_length f x y e = sym (length-map x f) ∙ ap length e ∙ length-map y f
-
 pub mapped_at : {A B : Type 0} (f : A → B) (x y : List A) (i : ℕ) (d e : A) → i < length x → i < length y → map f x ≡ map f y →
     f (get_or x i d) ≡ f (get_or y i e)
 mapped_at f x y i d e l m same =

@@ -24,12 +24,14 @@ runs_end_le lo [] hi w = w
 runs_end_le lo (r ∷ rs) hi w = runs_end_le (r.start + r.len) rs hi w.2
 
 pub within_at : {A : Type 0} (lo : ℕ) (runs : List (Run A)) (hi i : ℕ) (d : Run A) → IsWithin lo runs hi → i < length runs →
-    (runs_end lo (take i runs) ≤ (get_or runs i d).start) × (0 < (get_or runs i d).len) × ((get_or runs i d).start + (get_or runs i d).len ≤ hi)
+    (runs_end lo (take i runs) ≤ (get_or runs i d).start) × (0 < (get_or runs i d).len)
+    × ((get_or runs i d).start + (get_or runs i d).len ≤ hi)
 within_at lo [] hi i d w h = absurd (omega arith)
 within_at lo (r ∷ rs) hi zero d w h = (w.0, w.1, within_ends (r.start + r.len) rs hi w.2)
 within_at lo (r ∷ rs) hi (suc i) d w h = within_at (r.start + r.len) rs hi i d w.2 (omega arith)
 
-pub taken_within : {A : Type 0} (lo : ℕ) (rs : List (Run A)) (hi i : ℕ) → IsWithin lo rs hi → IsWithin lo (take i rs) (runs_end lo (take i rs))
+pub taken_within : {A : Type 0} (lo : ℕ) (rs : List (Run A)) (hi i : ℕ) → IsWithin lo rs hi →
+    IsWithin lo (take i rs) (runs_end lo (take i rs))
 taken_within lo [] hi zero w = omega arith
 taken_within lo [] hi (suc i) w = omega arith
 taken_within lo (r ∷ rs) hi zero w = omega arith
@@ -39,13 +41,15 @@ taken_within lo (r ∷ rs) hi (suc i) w = (w.0, w.1, taken_within (r.start + r.l
 
 run_before : {A : Type 0} (lo : ℕ) (rs : List (Run A)) (hi p : ℕ) (x : A) → IsWithin lo rs hi → run_at rs p ≡ Some x → p < hi
 run_before lo [] hi p x w e = absurd (cc)
-run_before {A} lo (r ∷ rs) hi p x w e = step (nat_le r.start p && nat_lt p (r.start + r.len)) refl e (λ f. run_before (r.start + r.len) rs hi p x w.2 f)
+run_before {A} lo (r ∷ rs) hi p x w e = step (nat_le r.start p && nat_lt p (r.start + r.len)) refl e
+    (λ f. run_before (r.start + r.len) rs hi p x w.2 f)
   where
     ends_before : (lo : ℕ) (rs : List (Run A)) → IsWithin lo rs hi → lo ≤ hi
     ends_before lo [] w = w
     ends_before lo (r ∷ rs) w = let h = ends_before (r.start + r.len) rs w.2 in let k = w.0 in omega arith
 
-    step : (b : Bool) → (nat_le r.start p && nat_lt p (r.start + r.len)) ≡ b → option_or (if b then Some r.answer else None) (run_at rs p) ≡ Some x →
+    step : (b : Bool) → (nat_le r.start p && nat_lt p (r.start + r.len)) ≡ b →
+        option_or (if b then Some r.answer else None) (run_at rs p) ≡ Some x →
         (run_at rs p ≡ Some x → p < hi) → p < hi
     step true is f more = let h : r.start + r.len ≤ hi = ends_before (r.start + r.len) rs w.2 in grind (arith, nat_tests)
     step false is f more = more f
@@ -76,7 +80,8 @@ module _ {A : Type 0} (f : ℕ → Option A) (r : Run ℕ) (p : ℕ) where
 
 module _ {A : Type 0} (f : ℕ → Option A) where
   one_more : (r : Run ℕ) (p : ℕ) (o : Option ℕ) → ((a : ℕ) → o ≡ Some a → p < r.start) →
-      option_or (option_and_then f o) (option_and_then (λ x. answer_over r.start r.len x p) (f r.answer)) ≡ option_and_then f (option_or o (answer_in r p))
+      option_or (option_and_then f o) (option_and_then (λ x. answer_over r.start r.len x p) (f r.answer)) ≡ option_and_then f
+      (option_or o (answer_in r p))
   one_more r p None before = fresh f r p
   one_more r p (Some a) before = ap (option_or (f a)) (taken f r p (before a refl)) ∙ or_none (f a)
 

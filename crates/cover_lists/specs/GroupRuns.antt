@@ -63,4 +63,5 @@ pub record IsGroupRuns (covers : List Cover) (g : ℕ) (stretches : List (Run �
 
 -- addresses with as many of some numbers before them are held by the same groups
 abbrev pub AreApart : List ℕ → List Cover → Type 0
-AreApart bounds covers = (a b : ℕ) → All (λ x. nat_le x a ≡ nat_le x b) bounds → (g : ℕ) → group_holds covers g a ≡ group_holds covers g b
+AreApart bounds covers = (a b : ℕ) → All (λ x. nat_le x a ≡ nat_le x b) bounds → (g : ℕ) →
+    group_holds covers g a ≡ group_holds covers g b

@@ -1,5 +1,6 @@
 -- The runs of new code at each of whose bytes a location list says the same.
-use Rattle.std.specs.Prelude.{◌≡◌, ◌+◌, ◌<◌, ◌==◌, ℕ, Bool, true, false, List, [], All, Option, Some, None, length, option_and_then, slice_get}
+use Rattle.std.specs.Prelude.{◌≡◌, ◌+◌, ◌<◌, ◌==◌, ℕ, Bool, true, false, List, [], All, Option, Some, None, length}
+use Rattle.std.specs.Prelude.{option_and_then, slice_get}
 use Rattle.std.specs.Global.{Vec}
 use Rattle.std.specs.List.{list_any}
 use Rattle.std.specs.List.Sorted.{IsStrictlyIncreasing}
@@ -33,7 +34,8 @@ pub record IsExtended {A : Type 0} (start len : ℕ) (answer : Option A) (old ne
       ≡ option_or (run_at old p) (option_and_then (λ x. answer_over start len x p) answer)
 
 -- the longest runs of the list of a number, by old addresses that stand for stretches of new code
-pub record IsListRuns (lists : List KeptList) (n : ℕ) (stretches : List (Run ℕ)) (end : ℕ) (runs : List (Run (List (List ℕ)))) :
+pub record IsListRuns (lists : List KeptList) (n : ℕ) (stretches : List (Run ℕ)) (end : ℕ)
+    (runs : List (Run (List (List ℕ)))) :
     Type 0 where
   pub within : IsWithin 0 runs end
   pub longest : AreLongest runs
@@ -48,7 +50,8 @@ pub record AreCandidates (lists : List KeptList) (a : ℕ) (numbers : List ℕ) 
   pub within : All (λ n. n < length lists) numbers
   pub others : (n : ℕ) → is_among numbers n ≡ false → list_answer lists n a ≡ None
 
-abbrev pub IsExtendedIf : Bool → (start len : ℕ) → Option (List (List ℕ)) → (old new : List (Run (List (List ℕ)))) → Type 0
+abbrev pub IsExtendedIf : Bool → (start len : ℕ) → Option (List (List ℕ)) → (old new : List (Run (List (List ℕ)))) →
+    Type 0
 IsExtendedIf true start len answer old new = IsExtended start len answer old new
 IsExtendedIf false start len answer old new = new ≡ old
 
@@ -56,4 +59,5 @@ IsExtendedIf false start len answer old new = new ≡ old
 pub record AreExtended (lists : List KeptList) (a : ℕ) (numbers : List ℕ) (start len : ℕ)
     (old new : List (Vec (Run (Vec (Vec ℕ))))) : Type 0 where
   pub count : length new ≡ length old
-  pub each : (n : ℕ) → IsExtendedIf (is_among numbers n) start len (list_answer lists n a) (said_in old n) (said_in new n)
+  pub each : (n : ℕ) → IsExtendedIf (is_among numbers n) start len (list_answer lists n a) (said_in old n)
+      (said_in new n)

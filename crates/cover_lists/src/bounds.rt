@@ -1,5 +1,5 @@
 // Where the ranges that hold addresses change.
-ghost use Rattle.std.specs.Prelude.{◌≡◌, ◌<◌, ◌≤◌, ◌++◌, ◌∷◌, [], ℕ, All, IfOk, OnOk, IsTrue};
+ghost use Rattle.std.specs.Prelude.{◌≡◌, ◌<◌, ◌≤◌, ◌++◌, ◌∷◌, [], ℕ, All, IfOk, IfSome, OnOk, IsTrue};
 ghost use Rattle.std.specs.Prelude.{length, nat_le, slice_index_or};
 ghost use Rattle.std.specs.List.Sorted.{IsNonDecreasing, IsPermutation};
 ghost use Rattle.cover_lists.specs.Bounds.{bounds_in};
@@ -70,6 +70,54 @@ pub fn count_up_to(bounds: &[u128], a: u64) -> usize
     ensures above { (k d : ℕ) → result ≤ k → k < length bounds.now → a < slice_index_or bounds.now k d }
 {
     bounds.partition_point(|bound| *bound <= a as u128)
+}
+
+// How many numbers from a guess on are looked at before all are searched.
+const NEARBY: usize = 8;
+
+/// How many of some numbers that ascend are at most an address, where about `near` are.
+pub fn count_near(bounds: &[u128], near: usize, a: u64) -> usize
+    requires { IsNonDecreasing bounds.now }
+    ensures below { (k d : ℕ) → k < result → slice_index_or bounds.now k d ≤ a }
+    ensures above { (k d : ℕ) → result ≤ k → k < length bounds.now → a < slice_index_or bounds.now k d }
+{
+    match count_beside(bounds, near, a) {
+        Some(count) => count,
+        None => count_up_to(bounds, a),
+    }
+}
+
+// How many are at most an address, where that is what was guessed, or a few more.
+fn count_beside(bounds: &[u128], near: usize, a: u64) -> Option<usize>
+    requires { IsNonDecreasing bounds.now }
+    ensures below { IfSome result (λ n. (k d : ℕ) → k < n → slice_index_or bounds.now k d ≤ a) }
+    ensures above { IfSome result (λ n. (k d : ℕ) → n ≤ k → k < length bounds.now →
+        a < slice_index_or bounds.now k d) }
+{
+    if !are_up_to(bounds, near, a) {
+        return None;
+    }
+    let end = near.saturating_add(NEARBY).min(bounds.len());
+    for k in near..end {
+        if bounds[k] > a as u128 {
+            return Some(k);
+        }
+    }
+    None
+}
+
+// Whether there are so many numbers, and the first ones, so many, are at most an address.
+fn are_up_to(bounds: &[u128], count: usize, a: u64) -> bool
+    requires { IsNonDecreasing bounds.now }
+    ensures { IsTrue result → (k d : ℕ) → k < count → slice_index_or bounds.now k d ≤ a }
+{
+    if count == 0 {
+        return true;
+    }
+    if bounds.len() < count {
+        return false;
+    }
+    bounds[count - 1] <= a as u128
 }
 
 /// Whether each of some numbers that ascend is at most both of two addresses, or none of them.

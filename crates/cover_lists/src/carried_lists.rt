@@ -14,8 +14,9 @@ use addr_map::AddrMap;
 use rb_bytes::fault::NoMemory;
 use std::alloc::Global;
 
-/// Of each list, by its number, the longest runs of new code at the owners of whose bytes it says the same. A list is asked
-/// once for each stretch of new code in which no list changes, and only where one of its items holds the stretch's owner.
+/// Of each list, by its number, the longest runs of new code at the owners of whose bytes it says the same. A list is
+/// asked once for each stretch of new code in which no list changes, and only where one of its items holds the
+/// stretch's owner.
 pub fn carried_lists(
     alloc: Global,
     lists: &[KeptList],
@@ -25,8 +26,12 @@ pub fn carried_lists(
     requires disjoint { AllPairs ShareNoByte map.now }
     requires low { AreLow map.now }
     ensures count { IfOk result (λ rs. length rs.items ≡ length lists.now) }
-    ensures each { IfOk result (λ rs. (n : ℕ) → AreRunsOf (carried (list_answer lists.now n) map.now) (said_in rs.items n)) }
+    ensures each { IfOk result (λ rs. (n : ℕ) → AreRunsOf (carried (list_answer lists.now n) map.now)
+        (said_in rs.items n)) }
 {
+    if lists.is_empty() {
+        return Ok(Vec::new(alloc));
+    }
     let bounds = place_bounds(alloc, &[], lists)?;
     let stretches = stretches_of(alloc, &bounds, map)?;
     let finder = ListFinder::new(alloc, lists)?;

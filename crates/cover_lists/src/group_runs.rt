@@ -6,8 +6,10 @@ ghost use Rattle.addr_map.specs.Spans.{ShareNoByte};
 ghost use Rattle.table_core.specs.AnswerRuns.{carried, AreLow, AreRunsOf, IsWithin};
 ghost use Rattle.table_core.specs.LastRuns as last;
 ghost use Rattle.cover_lists.specs.GroupRuns as spec;
-ghost use Rattle.cover_lists.specs.GroupRuns.{AreApart, AreHeld, IsStretched, AreStretched, IsGroupRuns, held_by, runs_in};
+ghost use Rattle.cover_lists.specs.GroupRuns.{AreApart, AreHeld, IsStretched, AreStretched, IsGroupRuns, held_by};
+ghost use Rattle.cover_lists.specs.GroupRuns.{runs_in};
 
+use crate::cost::is_too_much;
 use crate::cover_tree::CoverTree;
 use crate::stretches::stretches_of;
 use addr_map::AddrMap;
@@ -60,7 +62,8 @@ fn stretch_group(lists: &mut GroupRuns, group: usize, start: u64, len: u64) -> R
     requires some { 0 < len }
     requires low { start + len < 2 ^ 64 }
     requires within { IsWithin 0 (runs_in lists.old.items group) (start + len) }
-    requires ready { last.ends_at (start + len) (runs_in lists.old.items group) ≡ false → AreHeld start (runs_in lists.old.items group) }
+    requires ready { last.ends_at (start + len) (runs_in lists.old.items group) ≡ false →
+        AreHeld start (runs_in lists.old.items group) }
     ensures count { OnOk result (length lists.new.items ≡ length lists.old.items) }
     ensures others { OnOk result ((g : ℕ) → g ≢ group → runs_in lists.new.items g ≡ runs_in lists.old.items g) }
     ensures kept { last.ends_at (start + len) (runs_in lists.old.items group) ≡ true →
@@ -105,7 +108,8 @@ pub fn runs_in(lists: &[Vec<Run<bool>>], group: usize) -> &[Run<bool>]
     }
 }
 
-// The runs of so many groups, by stretches of new code, each with an old address that stands for it.
+// The runs of so many groups, by stretches of new code, each with an old address that stands for it. Memory is wanting
+// where too many groups hold stretches.
 fn group_runs(
     alloc: Global,
     tree: &CoverTree,
@@ -117,15 +121,20 @@ fn group_runs(
     ensures each { IfOk result (λ ls. (g : ℕ) → g < count → IsGroupRuns tree.now g stretches.now (runs_in ls.items g)) }
 {
     let mut lists = no_runs(alloc, count)?;
+    let mut asked: usize = 0;
     for stretch in stretches {
         let groups = holders(alloc, tree, stretch.answer)?;
+        asked = asked.saturating_add(groups.len());
+        if is_too_much(asked, count) {
+            return Err(NoMemory);
+        }
         add_run(&mut lists, &groups, stretch.start, stretch.len)?;
     }
     Ok(lists)
 }
 
-/// Of each of so many groups, the longest runs of new code at the owners of whose bytes its ranges hold, by numbers between
-/// which no group holds some addresses and others not.
+/// Of each of so many groups, the longest runs of new code at the owners of whose bytes its ranges hold, by numbers
+/// between which no group holds some addresses and others not.
 pub fn carried_groups(
     alloc: Global,
     tree: &CoverTree,
@@ -139,9 +148,13 @@ pub fn carried_groups(
     requires disjoint { AllPairs ShareNoByte map.now }
     requires low { AreLow map.now }
     ensures count { IfOk result (λ ls. length ls.items ≡ count) }
-    ensures each { IfOk result (λ ls. (g : ℕ) → g < count → AreRunsOf (carried (held_by tree.now g) map.now) (runs_in ls.items g)) }
+    ensures each { IfOk result (λ ls. (g : ℕ) → g < count →
+        AreRunsOf (carried (held_by tree.now g) map.now) (runs_in ls.items g)) }
     ensures within { IfOk result (λ ls. (g : ℕ) → g < count → IsWithin 0 (runs_in ls.items g) (2 ^ 64 - 1)) }
 {
+    if count == 0 {
+        return Ok(Vec::new(alloc));
+    }
     let stretches = stretches_of(alloc, bounds, map)?;
     let lists = group_runs(alloc, tree, count, &stretches)?;
     Ok(lists)

@@ -2,7 +2,8 @@
 ghost use Rattle.std.specs.Prelude.{◌≡◌, ◌++◌, ◌∷◌, [], ℕ, IfOk, OnOk, length, map, filter, filter_map, option_map};
 ghost use Rattle.std.specs.List.{cons_option};
 ghost use Rattle.cover_lists.specs.Groups.{covers_for};
-ghost use Rattle.cover_lists.specs.KeptLists.{items_in, numbered_covers, expression_of, bounded_numbers, unless_none, list_says, Says};
+ghost use Rattle.cover_lists.specs.KeptLists.{items_in, numbered_covers, expression_of, bounded_numbers, unless_none};
+ghost use Rattle.cover_lists.specs.KeptLists.{list_says, Says};
 ghost use Rattle.cover_lists.specs.ListPlaces.{located_of};
 ghost use Rattle.cover_lists.specs.Located.{expressions, is_default};
 
@@ -127,8 +128,19 @@ fn defaults_of(alloc: Global, places: &[Place<'_>]) -> Result<Vec<Vec<u8>>, NoMe
     Ok(copies)
 }
 
-/// Keeps a location list.
-pub fn keep_list(alloc: Global, places: &[Place<'_>]) -> Result<KeptList, NoMemory>
+// The size of what was kept before, with the items of a list.
+fn size_with(places: &[Place<'_>], before: usize) -> usize {
+    let mut size = before;
+    for place in places {
+        size = size
+            .saturating_add(place.expression.len())
+            .saturating_add(1);
+    }
+    size
+}
+
+/// Keeps a location list. What was kept before has a size, and so has what is kept with it.
+pub fn keep_list(alloc: Global, places: &[Place<'_>], before: usize) -> Result<KeptList, NoMemory>
     ensures { IfOk result (λ l. Says l (map located_of places.now)) }
 {
     let numbered = covers_of(alloc, places)?;
@@ -140,6 +152,7 @@ pub fn keep_list(alloc: Global, places: &[Place<'_>]) -> Result<KeptList, NoMemo
         tree,
         expressions,
         defaults,
+        size: size_with(places, before),
     })
 }
 

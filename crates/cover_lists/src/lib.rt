@@ -3,6 +3,7 @@
 
 pub mod bounds;
 pub mod carried_lists;
+mod cost;
 pub mod cover_index;
 pub mod cover_tree;
 pub mod expressions;

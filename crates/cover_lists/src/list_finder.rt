@@ -65,7 +65,8 @@ impl ListFinder {
 
     /// The numbers of the lists that may say something at an address, ascending.
     pub fn find(&self, alloc: Global, a: u64) -> Result<Vec<usize>, NoMemory>
-        ensures { (lists : List kept.KeptList) → IsFinder lists self.now → IfOk result (λ ns. AreCandidates lists a ns.items) }
+        ensures { (lists : List kept.KeptList) → IsFinder lists self.now →
+            IfOk result (λ ns. AreCandidates lists a ns.items) }
     {
         let mut numbers = Vec::from_slice(alloc, &self.unbounded)?;
         self.tree.find(a, &mut numbers)?;

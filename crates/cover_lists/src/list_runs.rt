@@ -9,6 +9,7 @@ ghost use Rattle.cover_lists.specs.ListRuns as spec;
 ghost use Rattle.cover_lists.specs.GroupRuns.{runs_end};
 ghost use Rattle.cover_lists.specs.ListRuns.{IsExtended, AreCandidates, AreExtended, IsListRuns, list_answer, said_in};
 
+use crate::cost::is_too_much;
 use crate::expressions::same_expressions;
 use crate::kept_list::KeptList;
 use crate::kept_lists::in_force;
@@ -59,7 +60,8 @@ fn put_answer(
     requires longest { AreLongest (said_runs spec.said runs.old.items) }
     requires some { 0 < len }
     requires fits { start + len < 2 ^ 64 }
-    ensures { OnOk result (IsExtended start len (unless_empty (items_in answer.items)) (said_runs spec.said runs.old.items)
+    ensures { OnOk result (IsExtended start len (unless_empty (items_in answer.items))
+        (said_runs spec.said runs.old.items)
         (said_runs spec.said runs.new.items)) }
 {
     match answer.first() {
@@ -71,7 +73,24 @@ fn put_answer(
     }
 }
 
-// Adds a stretch of bytes to the runs of a list, if it says anything there.
+// What each expression of an answer costs beside the first one, as many times as the answer: it is copied, and there is
+// mostly one.
+const COST_OF_MORE: usize = 16;
+
+// How many bytes of expressions cost as much as the answer.
+const BYTES_OF_COST: usize = 16;
+
+fn cost_of(answer: &[Vec<u8>]) -> usize {
+    let more = answer.len().saturating_sub(1);
+    let mut cost = more.saturating_mul(COST_OF_MORE).saturating_add(1);
+    for expression in answer {
+        cost = cost.saturating_add(expression.len() / BYTES_OF_COST);
+    }
+    cost
+}
+
+// Adds a stretch of bytes to the runs of a list, if it says anything there. Memory is wanting where all answers that
+// were asked for cost too much.
 fn add_list(
     alloc: Global,
     lists: &[KeptList],
@@ -80,6 +99,7 @@ fn add_list(
     start: u64,
     len: u64,
     a: u64,
+    asked: &mut usize,
 ) -> Result<(), NoMemory>
     requires number { number < length lists.now }
     requires count { length runs.old.items ≡ length lists.now }
@@ -93,6 +113,10 @@ fn add_list(
         (said_in runs.new.items number)) }
 {
     let answer = in_force(alloc, &lists[number], a)?;
+    *asked = asked.saturating_add(cost_of(&answer));
+    if is_too_much(*asked, lists.len()) {
+        return Err(NoMemory);
+    }
     put_answer(&mut runs[number], start, len, answer)
 }
 
@@ -105,6 +129,7 @@ fn add_lists(
     start: u64,
     len: u64,
     a: u64,
+    asked: &mut usize,
 ) -> Result<(), NoMemory>
     requires candidates { AreCandidates lists.now a numbers.now }
     requires count { length runs.old.items ≡ length lists.now }
@@ -115,7 +140,7 @@ fn add_lists(
     ensures { OnOk result (AreExtended lists.now a numbers.now start len runs.old.items runs.new.items) }
 {
     for number in numbers {
-        add_list(alloc, lists, runs, *number, start, len, a)?;
+        add_list(alloc, lists, runs, *number, start, len, a, asked)?;
     }
     Ok(())
 }
@@ -131,8 +156,8 @@ fn no_runs(alloc: Global, count: usize) -> Result<Vec<Vec<ListRun>>, NoMemory>
     Ok(runs)
 }
 
-/// Of each list, by its number, the longest runs at whose bytes it says the same, by stretches of new code, each with an
-/// old address that stands for it.
+/// Of each list, by its number, the longest runs at whose bytes it says the same, by stretches of new code, each with
+/// an old address that stands for it.
 pub fn list_runs(
     alloc: Global,
     lists: &[KeptList],
@@ -142,9 +167,11 @@ pub fn list_runs(
     requires finder { IsFinder lists.now finder.now }
     requires within { IsWithin 0 stretches.now (2 ^ 64 - 1) }
     ensures count { IfOk result (λ rs. length rs.items ≡ length lists.now) }
-    ensures each { IfOk result (λ rs. (n : ℕ) → IsListRuns lists.now n stretches.now (runs_end 0 stretches.now) (said_in rs.items n)) }
+    ensures each { IfOk result (λ rs. (n : ℕ) → IsListRuns lists.now n stretches.now (runs_end 0 stretches.now)
+        (said_in rs.items n)) }
 {
     let mut runs = no_runs(alloc, lists.len())?;
+    let mut asked: usize = 0;
     for stretch in stretches {
         let a = stretch.answer;
         let numbers = finder.find(alloc, a)?;
@@ -156,6 +183,7 @@ pub fn list_runs(
             stretch.start,
             stretch.len,
             a,
+            &mut asked,
         )?;
     }
     Ok(runs)

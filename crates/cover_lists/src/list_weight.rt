@@ -54,7 +54,8 @@ pub fn lists_weight(alloc: Global, lists: &[KeptList], map: &AddrMap) -> Result<
     requires ordered { AllPairs IsLineBefore map.now }
     requires disjoint { AllPairs ShareNoByte map.now }
     requires low { AreLow map.now }
-    ensures { IfOk result (λ w. (weight : ℕ) × spec.IsListsWeight lists.now map.now weight × (w ≡ min weight (2 ^ 64 - 1))) }
+    ensures { IfOk result (λ w. (weight : ℕ) × spec.IsListsWeight lists.now map.now weight
+        × (w ≡ min weight (2 ^ 64 - 1))) }
 {
     let runs = carried_lists(alloc, lists, map)?;
     Ok(total_weight(&runs))

@@ -20,7 +20,8 @@ fn entry_weight(entry: RangedEntry, lists: &[Vec<Run<bool>>]) -> u64
 
 /// The weight of the runs of some entries, by those of their groups; where it is none of 64 bits, the greatest number.
 pub fn runs_weight(ranged: &[RangedEntry], lists: &[Vec<Run<bool>>]) -> u64
-    ensures { result ≡ min (sum_by (λ r. run_weight * length (spec.runs_in lists.now r.group)) ranged.now) (2 ^ 64 - 1) }
+    ensures { result ≡ min (sum_by (λ r. run_weight * length (spec.runs_in lists.now r.group)) ranged.now)
+        (2 ^ 64 - 1) }
 {
     let mut weight: u64 = 0;
     for entry in ranged {

@@ -8,43 +8,56 @@ ghost use Rattle.table_core.specs.LastRuns as last;
 ghost use Rattle.cover_lists.specs.ListRuns.{IsExtended};
 ghost use Rattle.cover_lists.specs.Stretches.{bounds_before};
 
-use crate::bounds::count_up_to;
+use crate::bounds::count_near;
 use addr_map::{AddrMap, Span};
 use rb_bytes::fault::NoMemory;
 use std::alloc::Global;
 use table_core::{Run, ends_at, lengthen};
 
-// How many of some bounds are at most an address.
-fn bounds_before(bounds: &[u128], a: u64) -> usize
+// How many of some bounds are at most an address, where about `near` are.
+fn bounds_before(bounds: &[u128], near: usize, a: u64) -> usize
     requires { IsNonDecreasing bounds.now }
     ensures { result ≡ bounds_before bounds.now a }
 {
-    count_up_to(bounds, a)
+    count_near(bounds, near, a)
 }
 
-// Whether no bound is between an address and that of the last stretch.
-fn goes_on(bounds: &[u128], stretches: &[Run<u64>], a: u64) -> bool
+// Whether no bound is between an address and that of the last stretch. `near` is about how many bounds are at most that
+// address, and then this one.
+fn goes_on(bounds: &[u128], stretches: &[Run<u64>], near: &mut usize, a: u64) -> bool
     requires { IsNonDecreasing bounds.now }
-    ensures has { IsTrue result → last.IsAnswer (Some (bounds_before bounds.now a)) (said_runs (bounds_before bounds.now) stretches.now) }
+    ensures has { IsTrue result → last.IsAnswer (Some (bounds_before bounds.now a))
+        (said_runs (bounds_before bounds.now) stretches.now) }
     ensures lacks { IsFalse result → last.IfLast (λ r. r.answer ≢ bounds_before bounds.now a)
         (said_runs (bounds_before bounds.now) stretches.now) }
 {
     match stretches.last() {
-        Some(last) => bounds_before(bounds, last.answer) == bounds_before(bounds, a),
+        Some(last) => {
+            let before = bounds_before(bounds, *near, last.answer);
+            let now = bounds_before(bounds, before, a);
+            *near = now;
+            before == now
+        }
         None => false,
     }
 }
 
-fn add_span(bounds: &[u128], stretches: &mut Vec<Run<u64>>, span: Span) -> Result<(), NoMemory>
+fn add_span(
+    bounds: &[u128],
+    stretches: &mut Vec<Run<u64>>,
+    near: &mut usize,
+    span: Span,
+) -> Result<(), NoMemory>
     requires rising { IsNonDecreasing bounds.now }
     requires before { IsWithin 0 (said_runs (bounds_before bounds.now) stretches.old.items) span.out }
     requires longest { AreLongest (said_runs (bounds_before bounds.now) stretches.old.items) }
     requires some { 0 < span.len }
     requires fits { span.out + span.len < 2 ^ 64 }
     ensures { OnOk result (IsExtended span.out span.len (Some (bounds_before bounds.now span.input))
-        (said_runs (bounds_before bounds.now) stretches.old.items) (said_runs (bounds_before bounds.now) stretches.new.items)) }
+        (said_runs (bounds_before bounds.now) stretches.old.items)
+        (said_runs (bounds_before bounds.now) stretches.new.items)) }
 {
-    if ends_at(stretches, span.out) && goes_on(bounds, stretches, span.input) {
+    if ends_at(stretches, span.out) && goes_on(bounds, stretches, near, span.input) {
         lengthen(stretches, span.len as u64);
     } else {
         stretches.push(Run {
@@ -56,8 +69,8 @@ fn add_span(bounds: &[u128], stretches: &mut Vec<Run<u64>>, span: Span) -> Resul
     Ok(())
 }
 
-/// The longest stretches of new code between the owners of whose bytes there are none of some bounds, each with the owner of
-/// a byte of it.
+/// The longest stretches of new code between the owners of whose bytes there are none of some bounds, each with the
+/// owner of a byte of it.
 pub fn stretches_of(
     alloc: Global,
     bounds: &[u128],
@@ -72,11 +85,12 @@ pub fn stretches_of(
     ensures within { IfOk result (λ ss. IsWithin 0 ss.items (2 ^ 64 - 1)) }
 {
     let mut stretches = Vec::new(alloc);
+    let mut near = 0;
     for i in 0..map.len() {
         match map.span(i) {
             Some(span) => {
                 if span.len > 0 {
-                    add_span(bounds, &mut stretches, span)?;
+                    add_span(bounds, &mut stretches, &mut near, span)?;
                 }
             }
             None => {}

@@ -93,7 +93,8 @@ new_group s u section at old new n ls b said numbered number count covers =
 
 -- nothing is known yet
 
-pub none_with : (Is : ℕ → Option ℕ → Type 0) (m : BTreeMap ℕ (Option ℕ)) → IsEmpty m → (at : ℕ) (o : Option ℕ) → get nat_cmp m at ≡ Some o → Is at o
+pub none_with : (Is : ℕ → Option ℕ → Type 0) (m : BTreeMap ℕ (Option ℕ)) → IsEmpty m → (at : ℕ) (o : Option ℕ) → get nat_cmp m at ≡ Some o →
+    Is at o
 none_with Is m empty = λ at o e. absurd (none_there (get nat_cmp m at) (get_none m at empty) o e)
   where
     none_there : (x : Option (Option ℕ)) → x ≡ None → (o : Option ℕ) → x ≡ Some o → ⊥

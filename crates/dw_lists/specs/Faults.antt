@@ -1,5 +1,6 @@
 -- The faults of the two sections of lists, with those of units: of each the place that is answered.
-use Rattle.std.specs.Prelude.{◌-◌, ◌*◌, ◌==◌, ◌&&◌, ◌||◌, ℕ, Bool, false, not, List, ◌++◌, nat_le, length, drop, map, filter}
+use Rattle.std.specs.Prelude.{◌-◌, ◌*◌, ◌==◌, ◌&&◌, ◌||◌, ℕ, Bool, false, not, List, ◌++◌, nat_le, length, drop, map}
+use Rattle.std.specs.Prelude.{filter}
 use Rattle.std.specs.Prelude.{filter_map, Option, is_some, Result, Ok, Err, flat_map, unwrap_or, option_map}
 use Rattle.std.specs.List.{list_any}
 use Rattle.std.specs.Option.{option_or, option_map_or}
@@ -37,7 +38,8 @@ abbrev pub has_bad_offset : Kind → List ℕ → Result Unit Trouble → Bool
 has_bad_offset k section (Ok u) = lacks_offset k section u
 has_bad_offset k section (Err e) = false
 
--- A table has a header of version, address size 8 and segment selector size 0, a count, and as many offsets of four bytes.
+-- A table has a header of version, address size 8 and segment selector size 0, a count, and as many offsets of four
+-- bytes.
 abbrev pub is_list_table : List ℕ → Bool
 is_list_table bytes =
     nat_le 8 (length bytes) && little_number 2 (drop 2 bytes) == 8

@@ -36,7 +36,8 @@ base_at x left = and_then (bound_address_at x left) (λ a rest. Ok (Base a, rest
 
 abbrev pub between_at : (is_index : Bool) → List ℕ → Read Bound
 between_at x left =
-    and_then (bound_address_at x left) (λ a left1. and_then (bound_address_at x left1) (λ b rest. Ok (Between a b, rest)))
+    and_then (bound_address_at x left) (λ a left1. and_then (bound_address_at x left1)
+    (λ b rest. Ok (Between a b, rest)))
 
 abbrev pub onward_at : (is_index : Bool) → List ℕ → Read Bound
 onward_at x left = and_then (bound_address_at x left) (λ a left1. uleb_then left1 (λ n rest. Ok (Onward a n, rest)))

@@ -49,7 +49,8 @@ pub record PlacesMade (s : ListSections) (w : Written) : Type 0 where
   pub nothing : s.locations ≡ [] → w.bytes.items ≡ []
 
 -- no section is longer than a file may be, and the table isn't too heavy
-pub record ListFits (IsWeight : ListSections → List Span → ℕ → Type 0) (s : ListSections) (spans : List Span) : Type 0 where
+pub record ListFits (IsWeight : ListSections → List Span → ℕ → Type 0) (s : ListSections)
+    (spans : List Span) : Type 0 where
   pub info : length s.units.info ≤ section_limit
   pub abbrevs : length s.units.abbrevs ≤ section_limit
   pub addr : length s.units.addr ≤ section_limit

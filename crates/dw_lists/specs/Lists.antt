@@ -1,5 +1,6 @@
 -- What range lists and location lists say. DWARF 5, sections 2.6.2, 2.17.3, 7.28 and 7.29.
-use Rattle.std.specs.Prelude.{◌+◌, ◌-◌, ◌*◌, ◌==◌, ◌&&◌, ◌||◌, ℕ, Bool, List, [], ◌∷◌, nat_le, nat_lt, if◌then◌else◌, length}
+use Rattle.std.specs.Prelude.{◌+◌, ◌-◌, ◌*◌, ◌==◌, ◌&&◌, ◌||◌, ℕ, Bool, List, [], ◌∷◌, nat_le, nat_lt, if◌then◌else◌}
+use Rattle.std.specs.Prelude.{length}
 use Rattle.std.specs.Prelude.{drop, take, Option, Some, None, option_map, option_and_then, unwrap_or, Result, Ok, Err}
 use Rattle.std.specs.Option.{option_or}
 use Rattle.table_core.specs.declared.form.TheConstants.{DW_FORM_sec_offset, DW_FORM_rnglistx, DW_FORM_loclistx}
@@ -64,7 +65,13 @@ ranges_kind =
 
 abbrev pub locations_kind : Kind
 locations_kind =
-    record { item = location_item; base_name = DW_AT_loclists_base; index_form = DW_FORM_loclistx; names_list = is_located }
+    record {
+      item = location_item;
+      base_name = DW_AT_loclists_base;
+      index_form = DW_FORM_loclistx;
+      names_list =
+          is_located;
+    }
 
 abbrev pub has_list : Kind → Attr → Bool
 has_list k a = k.names_list a.name && (a.form == DW_FORM_sec_offset || a.form == k.index_form)

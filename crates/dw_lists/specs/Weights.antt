@@ -54,7 +54,8 @@ expressions_at ls a = unless_empty (in_force ls a)
 abbrev pub IsListWeight : ListSections → List Span → Unit → ℕ → ℕ → Type 0
 IsListWeight s spans u at =
     IsWeightOf expressions_weight
-    (carried (λ a. option_map_or (λ ls. expressions_at ls a) (list_at locations_kind s.locations s.units.addr u at) None)
+    (carried (λ a. option_map_or (λ ls. expressions_at ls a) (list_at locations_kind s.locations s.units.addr u at)
+    None)
     spans)
 
 -- the lists of a unit, each once

@@ -13,21 +13,7 @@ use dw_unit::Attr;
 use dw_unit::trouble::Trouble;
 use rb_bytes::cursor::Cursor;
 use rb_bytes::gap::Gap;
-use table_core::form::{
-    DW_FORM_block, DW_FORM_block1, DW_FORM_block2, DW_FORM_block4, DW_FORM_exprloc,
-};
 use table_core::shape::{Shape, shape_of};
-
-/// Whether a form is one of blocks of bytes.
-pub fn is_block(form: u64) -> bool
-    ensures { result ≡ forms.is_block form }
-{
-    form == DW_FORM_block
-        || form == DW_FORM_block1
-        || form == DW_FORM_block2
-        || form == DW_FORM_block4
-        || form == DW_FORM_exprloc
-}
 
 // A number of so many bytes.
 fn number<'a>(cursor: &mut Cursor<'a>, size: u8) -> Result<u64, Gap>

@@ -67,8 +67,8 @@ fn table_weight(index: u64) -> u64
     offsets.saturating_add(TABLE_WEIGHT)
 }
 
-/// What the table of offsets weighs that a unit needs for its indexes of a form, if it has some; or the greatest number,
-/// where that is none of 64 bits.
+/// What the table of offsets weighs that a unit needs for its indexes of a form, if it has some; or the greatest
+/// number, where that is none of 64 bits.
 pub fn index_weight(form: u64, entries: &[Entry]) -> u64
     ensures { result ≡ min (spec.index_weight form (plain_unit entries.now)) (2 ^ 64 - 1) }
 {

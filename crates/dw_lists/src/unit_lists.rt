@@ -1,7 +1,5 @@
 // How units read lists. DWARF 5, sections 7.28 and 7.29.
 ghost use Rattle.std.specs.Prelude.{◌≡◌, ◌==◌, ℕ, option_map};
-ghost use Rattle.std.specs.List.{find};
-ghost use Rattle.std.specs.Option.{option_copied};
 ghost use Rattle.dw_unit.specs.CompUnits as units;
 ghost use Rattle.dw_unit.specs.CompUnits.{Unit};
 ghost use Rattle.dw_unit.specs.ListedUnits.{plain_unit};
@@ -14,7 +12,7 @@ use crate::addresses::Addresses;
 use crate::list_kind::ListKind;
 use dw_unit::attribute::DW_AT_low_pc;
 use dw_unit::soundness::bases;
-use dw_unit::{Attr, Entry, is_address_index};
+use dw_unit::{Attr, Entry, attr_named, is_address_index};
 use table_core::form::DW_FORM_addr;
 
 /// What a unit needs to read lists of a kind.
@@ -27,13 +25,6 @@ pub struct UnitLists<'a> {
     pub base: u64,
     /// The offset of its own entry.
     pub own: u64,
-}
-
-/// The attribute of a name.
-pub fn attr_named(name: u64, attrs: &[Attr]) -> Option<&Attr>
-    ensures { option_copied result ≡ find (λ a. a.name == name) attrs.now }
-{
-    attrs.iter().find(|attr| attr.name == name)
 }
 
 fn address_of(addresses: &Addresses, attr: &Attr) -> Option<u64>

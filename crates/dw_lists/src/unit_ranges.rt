@@ -20,12 +20,12 @@ ghost use Rattle.dw_lists.specs.UnitLists.{ReadsLists};
 use crate::addresses::Addresses;
 use crate::list_kind::ListKind;
 use crate::list_section::{ListSection, list_at, list_offset, table_place};
-use crate::unit_lists::{UnitLists, attr_named, low_pc};
+use crate::unit_lists::{UnitLists, low_pc};
 use cover_lists::groups::{Groups, add_group};
 use cover_lists::list_place::{Bounds, Place};
-use dw_unit::Attr;
 use dw_unit::attribute::{DW_AT_high_pc, DW_AT_ranges};
 use dw_unit::lowest::lower;
+use dw_unit::{Attr, attr_named};
 use rb_bytes::fault::NoMemory;
 use std::alloc::Global;
 use std::collections::BTreeMap;
@@ -42,8 +42,8 @@ pub fn known_number(known: &KnownLists, at: u64) -> Option<Option<usize>>
     known.get(&at).copied()
 }
 
-// How many ranges are kept at most before a list is read, beside as many as the section has bytes: lists that overlap are
-// read each, so that few bytes could name any number.
+// How many ranges are kept at most before a list is read, beside one for each two bytes of the section, of which a range
+// has three at least: lists that overlap are read each, so that few bytes could name any number.
 const READ_AGAIN: usize = 1 << 22;
 
 // Reads the list at an offset, and adds a group of its ranges; none if it can't be read.
@@ -63,7 +63,7 @@ fn read_group(
 {
     match list_at(alloc, ListKind::Ranges, section, unit, at)? {
         Some(places) => {
-            if groups.covers.len() > section.bytes.len().saturating_add(READ_AGAIN) {
+            if groups.covers.len() > (section.bytes.len() / 2).saturating_add(READ_AGAIN) {
                 return Err(NoMemory);
             }
             let group = add_group(groups, &places)?;

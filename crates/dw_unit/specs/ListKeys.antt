@@ -11,4 +11,5 @@ list_key entry attr = entry * 2 ^ 64 + attr
 
 -- a map by these numbers has the offsets of lists
 abbrev pub Offsets : List ListAt → BTreeMap ℕ ℕ → Type 0
-Offsets lists offsets = (entry attr : ℕ) → attr < 2 ^ 64 → get nat_cmp offsets (list_key entry attr) ≡ new_list_offset lists entry attr
+Offsets lists offsets = (entry attr : ℕ) → attr < 2 ^ 64 →
+    get nat_cmp offsets (list_key entry attr) ≡ new_list_offset lists entry attr

@@ -28,7 +28,8 @@ pub record IsMark (t : Table) (number place : ℕ) (s : Start) : Type 0 where
 -- The table of an offset begins there.
 pub record IsStart (section : List ℕ) (read : List IndexedTable) (offset : ℕ) (s : Start) : Type 0 where
   pub within : s.number < length read
-  pub table : (t : IndexedTable) → slice_get read s.number ≡ Some t → table_at section offset ≡ table_from s.index (told_table t.table)
+  pub table : (t : IndexedTable) → slice_get read s.number ≡ Some t →
+      table_at section offset ≡ table_from s.index (told_table t.table)
   pub from : (t : IndexedTable) → slice_get read s.number ≡ Some t → IsFrom (told_table t.table) s
 
 abbrev pub AreStarts : List ℕ → List IndexedTable → BTreeMap ℕ Start → Type 0
@@ -36,4 +37,5 @@ AreStarts section read starts = (q : ℕ) (s : Start) → get nat_cmp starts q �
 
 -- of those that are there afterwards each was there before, or is one of a table
 abbrev pub AreMarked : Table → ℕ → BTreeMap ℕ Start → BTreeMap ℕ Start → Type 0
-AreMarked t number old new = (q : ℕ) (s : Start) → get nat_cmp new q ≡ Some s → (get nat_cmp old q ≡ Some s) ⊎ IsMark t number q s
+AreMarked t number old new = (q : ℕ) (s : Start) → get nat_cmp new q ≡ Some s →
+    (get nat_cmp old q ≡ Some s) ⊎ IsMark t number q s

@@ -62,8 +62,8 @@ pub record AreChangedBy (spans : List Span) (lists : List ListAt) (i f : Elf) : 
   pub changed : AreChanged moves i f
   pub units_are : AreChangedUnits (sections_of i) moves (sections_of f)
 
--- The new contents of the two sections of a file whose code moves. In each file that has them, and the tables of addresses
--- changed too, each entry stands where it stood, and units can be read.
+-- The new contents of the two sections of a file whose code moves. In each file that has them, and the tables of
+-- addresses changed too, each entry stands where it stood, and units can be read.
 pub record AreNewUnits (elf : Elf) (spans : List Span) (lists : List ListAt) (info abbrevs : List ℕ) : Type 0 where
   pub moves : Moves
   pub are_moves : AreMovesOf elf spans moves

@@ -10,7 +10,14 @@ abbrev pub entries_at : UnitBounds → ℕ → List ℕ → Result (List Entry) 
 entries_at u depth left = entries_within u (length left) depth left
 
 abbrev pub walked_entry : UnitBounds → ℕ → ℕ → Declaration → List Attr → Entry
-walked_entry u place depth d attrs = record { place = place; unit = u.place; depth = depth; declaration = d; attrs = attrs }
+walked_entry u place depth d attrs = record {
+  place = place;
+  unit = u.place;
+  depth = depth;
+  declaration = d;
+  attrs =
+      attrs;
+}
 
 abbrev pub unit_bounds : ℕ → ℕ → Table → UnitBounds
 unit_bounds place end table = record { place = place; end = end; table = table }

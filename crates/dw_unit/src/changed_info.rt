@@ -15,8 +15,8 @@ use crate::new_value::new_value;
 use crate::patch::put_number;
 use rb_bytes::fault::NoMemory;
 
-// Appends the bytes from a place on up to the offset of a range list, which stands where a high address stood; answers the
-// place behind it.
+// Appends the bytes from a place on up to the offset of a range list, which stands where a high address stood; answers
+// the place behind it.
 fn put_ranges(
     out: &mut Vec<u8>,
     info: &[u8],
@@ -30,7 +30,8 @@ fn put_ranges(
     requires within { attr.now.place + attr.now.len ≤ length info.now }
     ensures put { IfOk result (λ to. (m : Moves) (e : Entry) (ps : List Patch) → AreMovesIn m moves.now → IsOf e entry →
         out.new.items ++ patched to ps (drop to info.now)
-        ≡ out.old.items ++ patched from (map spec.number_patch (spec.ranges_attrs m e attr.now) ++ ps) (drop from info.now)) }
+        ≡ out.old.items ++ patched from (map spec.number_patch (spec.ranges_attrs m e attr.now) ++ ps)
+        (drop from info.now)) }
     ensures to { IfOk result (λ to. to ≤ attr.now.place + attr.now.len) }
 {
     let place = attr.place as usize;
@@ -58,7 +59,8 @@ fn put_attr(
     requires within { attr.now.place + attr.now.len ≤ length info.now }
     ensures put { IfOk result (λ to. (m : Moves) (e : Entry) (ps : List Patch) → AreMovesIn m moves.now → IsOf e entry →
         out.new.items ++ patched to ps (drop to info.now)
-        ≡ out.old.items ++ patched from (spec.attr_patches m entry.is_own entry.is_first e attr.now ++ ps) (drop from info.now)) }
+        ≡ out.old.items ++ patched from (spec.attr_patches m entry.is_own entry.is_first e attr.now ++ ps)
+        (drop from info.now)) }
     ensures to { IfOk result (λ to. to ≤ attr.now.place + attr.now.len) }
 {
     if attr.name == DW_AT_high_pc {
@@ -79,8 +81,8 @@ fn put_attr(
     }
 }
 
-/// Appends the bytes from a place on up to the end of an entry's attributes, or less, with their changes; answers the place
-/// behind them. The attributes stand before `end`.
+/// Appends the bytes from a place on up to the end of an entry's attributes, or less, with their changes; answers the
+/// place behind them. The attributes stand before `end`.
 pub fn put_attrs(
     out: &mut Vec<u8>,
     info: &[u8],
@@ -95,7 +97,8 @@ pub fn put_attrs(
     requires within { end ≤ length info.now }
     ensures put { IfOk result (λ to. (m : Moves) (e : Entry) (ps : List Patch) → AreMovesIn m moves.now → IsOf e entry →
         out.new.items ++ patched to ps (drop to info.now)
-        ≡ out.old.items ++ patched from (flat_map (spec.attr_patches m entry.is_own entry.is_first e) attrs.now ++ ps) (drop from info.now)) }
+        ≡ out.old.items ++ patched from (flat_map (spec.attr_patches m entry.is_own entry.is_first e) attrs.now ++ ps)
+        (drop from info.now)) }
     ensures to { IfOk result (λ to. to ≤ end) }
 {
     let mut to = from;

@@ -1,5 +1,6 @@
 // Units with their entries changed in place.
-ghost use Rattle.std.specs.Prelude.{◌≡◌, ◌≤◌, ◌+◌, ◌++◌, List, false, IfOk, Ok, length, drop, flat_map, map, option_map};
+ghost use Rattle.std.specs.Prelude.{◌≡◌, ◌≤◌, ◌+◌, ◌++◌, List, false, IfOk, Ok, length, drop, flat_map, map};
+ghost use Rattle.std.specs.Prelude.{option_map};
 ghost use Rattle.std.specs.List.{list_any};
 ghost use Rattle.table_core.specs.ReadSteps.{oks};
 ghost use Rattle.dw_unit.specs.Changes.{Patch, patched, entry_patches, is_first_of, is_own, unit_patches};
@@ -32,10 +33,12 @@ use table_core::DebugUnit;
 
 // What the change of an entry goes by, in a unit with an own entry.
 fn changed_entry(change: &UnitChange<'_>, own: Option<OwnEntry>, head: &Head<'_>) -> ChangedEntry
-    ensures is_own { (s : Sections) (m : Moves) → IsChangeOf s m change.now → result.is_own ≡ is_own s (told_declaration head.now.declaration.now) }
+    ensures is_own { (s : Sections) (m : Moves) → IsChangeOf s m change.now →
+        result.is_own ≡ is_own s (told_declaration head.now.declaration.now) }
     ensures is_first { (u : Unit) (e : Entry) → own ≡ option_map own_places (own_entry u) → e.place ≡ head.now.place →
         result.is_first ≡ is_first_of u e }
-    ensures of { (e : Entry) → e.place ≡ head.now.place → e.declaration ≡ told_declaration head.now.declaration.now → IsOf e result }
+    ensures of { (e : Entry) → e.place ≡ head.now.place → e.declaration ≡ told_declaration head.now.declaration.now →
+        IsOf e result }
 {
     let is_first = match own {
         Some(own) => own.place == head.place,
@@ -62,8 +65,10 @@ fn put_entry(
     requires placed { ArePlaced from end attrs.now }
     requires room { HaveRoom attrs.now }
     requires within { end ≤ length change.now.info.now }
-    ensures put { IfOk result (λ to. (s : Sections) (m : Moves) (u : Unit) (e : Entry) (ps : List Patch) → IsChangeOf s m change.now →
-        own ≡ option_map own_places (own_entry u) → e.place ≡ head.now.place → e.declaration ≡ told_declaration head.now.declaration.now →
+    ensures put { IfOk result (λ to. (s : Sections) (m : Moves) (u : Unit) (e : Entry) (ps : List Patch) →
+        IsChangeOf s m change.now →
+        own ≡ option_map own_places (own_entry u) → e.place ≡ head.now.place →
+        e.declaration ≡ told_declaration head.now.declaration.now →
         e.attrs ≡ attrs.now →
         out.new.items ++ patched to ps (drop to change.now.info.now)
         ≡ out.old.items ++ patched from (entry_patches s m u e ++ ps) (drop from change.now.info.now)) }
@@ -73,8 +78,8 @@ fn put_entry(
     put_attrs(out, change.info, from, end, change.moves, entry, attrs)
 }
 
-// Appends the bytes from a place on up to the end of a unit's last entry, or less, with the changes of its entries; answers
-// the place behind them.
+// Appends the bytes from a place on up to the end of a unit's last entry, or less, with the changes of its entries;
+// answers the place behind them.
 fn put_entries(
     alloc: Global,
     out: &mut Vec<u8>,
@@ -88,11 +93,14 @@ fn put_entries(
     requires fine { list_any has_bad_high (told_at unit.table).list ≡ false }
     requires read { (es : List Entry)
         × (entries_at (unit_bounds unit.place unit.end (told_at unit.table)) 0 unit.cursor.left ≡ Ok es) }
-    ensures put { IfOk result (λ to. (s : Sections) (m : Moves) (u : Unit) (ps : List Patch) → IsChangeOf s m change.now →
+    ensures put { IfOk result (λ to. (s : Sections) (m : Moves) (u : Unit) (ps : List Patch) →
+        IsChangeOf s m change.now →
         own ≡ option_map own_places (own_entry u) →
-        entries_at (unit_bounds unit.entry.place unit.entry.end (told_at unit.entry.table)) 0 unit.entry.cursor.left ≡ Ok u.entries →
+        entries_at (unit_bounds unit.entry.place unit.entry.end (told_at unit.entry.table)) 0 unit.entry.cursor.left
+        ≡ Ok u.entries →
         out.new.items ++ patched to ps (drop to change.now.info.now)
-        ≡ out.old.items ++ patched from (flat_map (entry_patches s m u) u.entries ++ ps) (drop from change.now.info.now)) }
+        ≡ out.old.items ++ patched from (flat_map (entry_patches s m u) u.entries ++ ps)
+        (drop from change.now.info.now)) }
     ensures to { IfOk result (λ to. to ≤ unit.entry.end) }
 {
     let UnitEntries {
@@ -118,8 +126,8 @@ fn put_entries(
     }
 }
 
-// Appends the bytes from a place on up to a unit's end, or less, with the changes of the unit, which can be read; answers
-// the place behind them.
+// Appends the bytes from a place on up to a unit's end, or less, with the changes of the unit, which can be read;
+// answers the place behind them.
 fn put_unit(
     alloc: Global,
     out: &mut Vec<u8>,
@@ -133,7 +141,8 @@ fn put_unit(
     requires fine { list_any has_bad_high (declarations_of change.now.tables.now.section.now unit.now) ≡ false }
     requires named { HasOffset change.now.tables.now.starts unit.now }
     requires written { HasOffset change.now.new_tables.now.offsets unit.now }
-    ensures put { IfOk result (λ to. (s : Sections) (m : Moves) (u : Unit) (ps : List Patch) → IsChangeOf s m change.now →
+    ensures put { IfOk result (λ to. (s : Sections) (m : Moves) (u : Unit) (ps : List Patch) →
+        IsChangeOf s m change.now →
         unit_of s.abbrevs unit.now ≡ Ok u →
         out.new.items ++ patched to ps (drop to change.now.info.now)
         ≡ out.old.items ++ patched from (unit_patches s m u ++ ps) (drop from change.now.info.now)) }
@@ -161,11 +170,13 @@ pub fn changed_units(
 ) -> Result<Vec<u8>, NoMemory>
     requires behind { AreBehind 0 (length change.now.info.now) units.now }
     requires read { AllRead change.now.tables.now.section.now units.now }
-    requires fine { list_any has_bad_high (flat_map (declarations_of change.now.tables.now.section.now) units.now) ≡ false }
+    requires fine { list_any has_bad_high (flat_map (declarations_of change.now.tables.now.section.now) units.now) ≡
+        false }
     requires named { HasOffsets change.now.tables.now.starts units.now }
     requires written { HasOffsets change.now.new_tables.now.offsets units.now }
     ensures { IfOk result (λ w. (s : Sections) (m : Moves) → IsChangeOf s m change.now →
-        w.items ≡ patched 0 (flat_map (unit_patches s m) (oks (map (unit_of s.abbrevs) units.now))) change.now.info.now) }
+        w.items ≡ patched 0 (flat_map (unit_patches s m) (oks (map (unit_of s.abbrevs) units.now)))
+        change.now.info.now) }
 {
     let mut out = Vec::new(alloc);
     let mut to = 0;

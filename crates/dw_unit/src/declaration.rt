@@ -89,7 +89,8 @@ pub fn read_declaration<'a>(
     place: u64,
     code: u64,
 ) -> Result<Declaration, Stop>
-    ensures read { IfOk result (λ d. declaration_at place code cursor.old.left ≡ Ok (told_declaration d, cursor.new.left)) }
+    ensures read { IfOk result (λ d. declaration_at place code cursor.old.left ≡ Ok
+        (told_declaration d, cursor.new.left)) }
     ensures trouble { IfTrouble result (λ e. declaration_at place code cursor.old.left ≡ Err e) }
     ensures on { OnOk result (length cursor.new.left ≤ length cursor.old.left) }
 {
@@ -105,7 +106,7 @@ pub fn read_declaration<'a>(
     })
 }
 
-// A number in LEB128.
+/// Reads an unsigned number in LEB128.
 pub fn unsigned<'a>(cursor: &mut Cursor<'a>) -> Result<u64, Trouble>
     ensures read { IfOk result (λ x. whole (uleb_at cursor.old.left) ≡ Ok (x, cursor.new.left)) }
     ensures trouble { IfErr result (λ e. whole (uleb_at cursor.old.left) ≡ Err e) }
@@ -115,6 +116,7 @@ pub fn unsigned<'a>(cursor: &mut Cursor<'a>) -> Result<u64, Trouble>
     Ok(number)
 }
 
+/// Reads a byte.
 pub fn byte<'a>(cursor: &mut Cursor<'a>) -> Result<u8, Trouble>
     ensures read { IfOk result (λ x. whole (number_read 1 cursor.old.left) ≡ Ok (x, cursor.new.left)) }
     ensures trouble { IfErr result (λ e. whole (number_read 1 cursor.old.left) ≡ Err e) }

@@ -16,8 +16,10 @@ pub struct FaultPlaces {
 
 /// Refuses for the first fault that is present.
 pub fn refused(places: FaultPlaces) -> Result<(), Fault>
-    ensures free { OnOk result (IsFree (HasDwarfFault (record { version = places.version; form = places.form; high = places.high; bad = places.bad }))) }
-    ensures fault { IfErr result (IsAnswered (HasDwarfFault (record { version = places.version; form = places.form; high = places.high; bad = places.bad }))) }
+    ensures free { OnOk result (IsFree (HasDwarfFault (record
+        { version = places.version; form = places.form; high = places.high; bad = places.bad }))) }
+    ensures fault { IfErr result (IsAnswered (HasDwarfFault
+        (record { version = places.version; form = places.form; high = places.high; bad = places.bad }))) }
 {
     if let Some(place) = places.version {
         return Err(Fault::at(FaultKind::DwarfVersion, place));

@@ -32,7 +32,8 @@ fn word<'a>(cursor: &mut Cursor<'a>) -> Result<u32, Trouble>
 
 // Passes the fields that only a unit of its type has.
 fn pass_fields<'a>(cursor: &mut Cursor<'a>, kind: u8) -> Result<&'a [u8], Trouble>
-    ensures read { IfOk result (λ x. whole (bytes_at (type_fields kind) cursor.old.left) ≡ Ok (x.now, cursor.new.left)) }
+    ensures read { IfOk result (λ x. whole (bytes_at (type_fields kind) cursor.old.left) ≡ Ok
+        (x.now, cursor.new.left)) }
     ensures trouble { IfErr result (λ e. whole (bytes_at (type_fields kind) cursor.old.left) ≡ Err e) }
     ensures on { OnOk result (length cursor.new.left ≤ length cursor.old.left) }
 {

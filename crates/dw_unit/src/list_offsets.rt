@@ -49,6 +49,7 @@ fn first_offsets(alloc: Global, lists: &[ListAt]) -> Result<BTreeMap<u128, u64>,
 }
 
 impl<'l> ListOffsets<'l> {
+    /// The offsets of some lists, by their entries and attributes.
     pub fn new(alloc: Global, lists: &'l [ListAt]) -> Result<ListOffsets<'l>, NoMemory>
         ensures { IfOk result (λ l. l ≡ lists.now) }
     {

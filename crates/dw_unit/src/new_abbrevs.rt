@@ -1,7 +1,8 @@
 // Declarations as they stand in the written `.debug_abbrev`.
 ghost use Rattle.std.specs.Prelude.{◌≡◌, ◌++◌, ◌&&◌, Bool, OnOk, flat_map};
 ghost use Rattle.std.specs.List.{list_any};
-ghost use Rattle.dw_unit.specs.Changes.{is_whole_low, new_name, spec_bytes, changed_spec, ranges_specs, declaration_bytes};
+ghost use Rattle.dw_unit.specs.Changes.{is_whole_low, new_name, spec_bytes, changed_spec, ranges_specs};
+ghost use Rattle.dw_unit.specs.Changes.{declaration_bytes};
 ghost use Rattle.dw_unit.specs.Declarations as declared;
 ghost use Rattle.dw_unit.specs.NewNames.{IsNaming};
 ghost use Rattle.dw_unit.specs.Told.{told_declaration};
@@ -137,7 +138,8 @@ pub fn put_declaration(
     is_own: bool,
     declaration: &Declaration,
 ) -> Result<(), NoMemory>
-    ensures { OnOk result (out.new.items ≡ out.old.items ++ declaration_bytes is_own (told_declaration declaration.now)) }
+    ensures { OnOk result (out.new.items ≡ out.old.items
+        ++ declaration_bytes is_own (told_declaration declaration.now)) }
 {
     let naming = naming(is_own, declaration);
     put_uleb(out, declaration.code)?;

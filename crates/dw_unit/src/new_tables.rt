@@ -27,7 +27,8 @@ pub struct NewTables {
 // Appends the declarations of a table with their changes, and the closing zero.
 fn put_table(out: &mut Vec<u8>, own: &OwnDeclarations, table: TableAt<'_>) -> Result<(), NoMemory>
     ensures { OnOk result ((s : Sections) → AreOwn s own.now →
-        out.new.items ≡ out.old.items ++ (flat_map (λ d. declaration_bytes (is_own s d) d) (told_at table.entry).list ++ 0 ∷ [])) }
+        out.new.items ≡ out.old.items ++ (flat_map (λ d. declaration_bytes (is_own s d) d) (told_at table.entry).list
+        ++ 0 ∷ [])) }
 {
     let list = &table.table.table.list;
     'declarations: for index in table.index..list.len() {
@@ -49,8 +50,10 @@ pub fn new_tables(
     requires read { HasKeys tables.now.starts offsets.now }
     ensures bytes { IfOk result (λ w. (s : Sections) → s.abbrevs ≡ tables.now.section.now → AreOwn s own.now →
         w.bytes.items ≡ flat_map (table_bytes s) offsets.now) }
-    ensures offsets { IfOk result (λ w. (s : Sections) → s.abbrevs ≡ tables.now.section.now → AreOwn s own.now → (q n : ℕ) →
-        get nat_cmp w.offsets q ≡ Some n → n ≡ length (flat_map (table_bytes s) (filter (λ o. nat_lt o q) offsets.now))) }
+    ensures offsets { IfOk result (λ w. (s : Sections) → s.abbrevs ≡ tables.now.section.now → AreOwn s own.now →
+        (q n : ℕ) →
+        get nat_cmp w.offsets q ≡ Some n → n ≡ length (flat_map (table_bytes s)
+        (filter (λ o. nat_lt o q) offsets.now))) }
     ensures found { IfOk result (λ w. HasKeys w.offsets offsets.now) }
 {
     let mut bytes = Vec::new(alloc);

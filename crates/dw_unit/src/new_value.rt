@@ -23,7 +23,8 @@ const NO_LINE_UNIT: u64 = 0xffff_ffff;
 
 // The new value of an address.
 fn new_address(moves: &EntryMoves<'_>, entry: ChangedEntry, attr: &Attr) -> Option<u64>
-    ensures { (m : Moves) (e : Entry) → AreMovesIn m moves.now → IsOf e entry → result ≡ spec.new_address m entry.is_own e attr.now }
+    ensures { (m : Moves) (e : Entry) → AreMovesIn m moves.now → IsOf e entry →
+        result ≡ spec.new_address m entry.is_own e attr.now }
 {
     if attr.name == DW_AT_low_pc && entry.is_own && entry.has_high {
         return Some(0);
@@ -41,7 +42,8 @@ fn new_address(moves: &EntryMoves<'_>, entry: ChangedEntry, attr: &Attr) -> Opti
 
 // The new value of an offset.
 fn new_list(moves: &EntryMoves<'_>, entry: ChangedEntry, attr: &Attr) -> Option<u64>
-    ensures { (m : Moves) (e : Entry) → AreMovesIn m moves.now → IsOf e entry → result ≡ spec.new_list m entry.is_first e attr.now }
+    ensures { (m : Moves) (e : Entry) → AreMovesIn m moves.now → IsOf e entry →
+        result ≡ spec.new_list m entry.is_first e attr.now }
 {
     if attr.name == DW_AT_stmt_list {
         let line_unit = moves.list(attr.value, DW_AT_stmt_list);
@@ -57,7 +59,8 @@ fn new_list(moves: &EntryMoves<'_>, entry: ChangedEntry, attr: &Attr) -> Option<
 
 /// The new value of an attribute other than a high address, if it gets one.
 pub fn new_value(moves: &EntryMoves<'_>, entry: ChangedEntry, attr: &Attr) -> Option<u64>
-    ensures value { (m : Moves) (e : Entry) → AreMovesIn m moves.now → IsOf e entry → result ≡ spec.new_value m entry.is_own entry.is_first e attr.now }
+    ensures value { (m : Moves) (e : Entry) → AreMovesIn m moves.now → IsOf e entry →
+        result ≡ spec.new_value m entry.is_own entry.is_first e attr.now }
     ensures form { IfSome result (λ _. (attr.now.form ≡ DW_FORM_addr) ⊎ (attr.now.form ≡ DW_FORM_sec_offset)) }
 {
     if attr.form == DW_FORM_addr {

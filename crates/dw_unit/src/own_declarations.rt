@@ -28,7 +28,8 @@ pub fn own_declarations(
     requires read { AllRead tables.now.section.now units.now }
     requires named { HasOffsets tables.now.starts units.now }
     requires within { All (λ w. end_of w < 2 ^ 64) units.now }
-    ensures { IfOk result (λ o. (q : ℕ) → is_some (get nat_cmp o.places q) ≡ names_own tables.now.section.now units.now q) }
+    ensures { IfOk result (λ o. (q : ℕ) → is_some (get nat_cmp o.places q) ≡ names_own tables.now.section.now units.now
+        q) }
 {
     let mut places = BTreeMap::new(alloc);
     for unit in units {

@@ -20,7 +20,8 @@ pub fn put_number(
     requires within { place + len ≤ length bytes.now }
     requires len { len ≤ 8 }
     ensures put { IfOk result (λ to. (ps : List Patch) → out.new.items ++ patched to ps (drop to bytes.now)
-        ≡ out.old.items ++ patched from (record { place = place; bytes = little_bytes len value } ∷ ps) (drop from bytes.now)) }
+        ≡ out.old.items ++ patched from (record { place = place; bytes = little_bytes len value } ∷ ps)
+        (drop from bytes.now)) }
     ensures place { IfOk result (λ to. to ≡ place + len) }
 {
     let (_, left) = bytes.split_at(from);

@@ -33,7 +33,13 @@ fn no_form(trouble: Trouble) -> Option<u64>
 
 // What is read of a unit of which nothing can be read.
 fn unread(trouble: Trouble) -> UnitReading
-    ensures { result ≡ record { bad_form = None; bad_high = None; unformed = least (unformed (Err trouble)); entries = None } }
+    ensures { result ≡ record {
+      bad_form = None;
+      bad_high = None;
+      unformed = least (unformed (Err trouble));
+      entries =
+          None;
+    } }
 {
     UnitReading {
         bad_form: None,
@@ -120,7 +126,8 @@ fn appended(entries: Vec<Entry>, more: Vec<Entry>) -> Result<Vec<Entry>, NoMemor
 // What is read of some units, with what is read of the next one at a place.
 fn joined(so_far: Readings, place: u64, reading: UnitReading) -> Result<Readings, NoMemory>
     ensures { IfOk result (λ r. (abbrevs addr : List ℕ) (ws : List Walked) (w : Walked) → w.place ≡ place →
-        AreReadings abbrevs addr ws so_far → IsReading abbrevs addr w reading → AreReadings abbrevs addr (ws ++ w ∷ []) r) }
+        AreReadings abbrevs addr ws so_far → IsReading abbrevs addr w reading →
+        AreReadings abbrevs addr (ws ++ w ∷ []) r) }
 {
     let bad_form = lower(so_far.bad_form, reading.bad_form);
     let bad_high = lower(so_far.bad_high, reading.bad_high);

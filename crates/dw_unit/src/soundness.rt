@@ -1,7 +1,6 @@
 // Whether the attributes of a unit can be read.
 ghost use Rattle.std.specs.Prelude.{◌≡◌, ◌==◌, option_map, is_some};
 ghost use Rattle.std.specs.List.{find, list_all};
-ghost use Rattle.table_core.specs.AttributeForms.{is_block, is_text_index};
 ghost use Rattle.dw_unit.specs.CompUnits as spec;
 ghost use Rattle.dw_unit.specs.CompUnits.{Unit, address_at};
 ghost use Rattle.dw_unit.specs.Faults.{is_located, is_sound_attr, is_sound_unit};
@@ -16,11 +15,8 @@ use crate::attribute::{
 use crate::bases::Bases;
 use crate::declaration_tests::is_address_index;
 use crate::entry::{Attr, Entry};
-use table_core::form::{
-    DW_FORM_block, DW_FORM_block1, DW_FORM_block2, DW_FORM_block4, DW_FORM_exprloc,
-    DW_FORM_loclistx, DW_FORM_rnglistx, DW_FORM_sec_offset, DW_FORM_strx, DW_FORM_strx1,
-    DW_FORM_strx4,
-};
+use table_core::form::{DW_FORM_loclistx, DW_FORM_rnglistx, DW_FORM_sec_offset};
+use table_core::shape::{is_block, is_text_index};
 
 fn attr_value(name: u64, attrs: &[Attr]) -> Option<u64>
     ensures { result ≡ option_map (λ a. a.value) (find (λ a. a.name == name) attrs.now) }
@@ -51,22 +47,6 @@ pub fn bases(entries: &[Entry]) -> Bases
         rnglists: base(DW_AT_rnglists_base, entries),
         loclists: base(DW_AT_loclists_base, entries),
     }
-}
-
-fn is_text_index(form: u64) -> bool
-    ensures { result ≡ is_text_index form }
-{
-    form == DW_FORM_strx || DW_FORM_strx1 <= form && form <= DW_FORM_strx4
-}
-
-fn is_block(form: u64) -> bool
-    ensures { result ≡ is_block form }
-{
-    form == DW_FORM_block
-        || form == DW_FORM_block1
-        || form == DW_FORM_block2
-        || form == DW_FORM_block4
-        || form == DW_FORM_exprloc
 }
 
 pub(crate) fn is_located(name: u64) -> bool

@@ -19,7 +19,7 @@ use std::alloc::Global;
 use std::collections::BTreeMap;
 
 /// How many bytes are read again at most, where tables overlap out of step.
-const READ_AGAIN: u64 = 1 << 28;
+const READ_AGAIN: u64 = 1 << 25;
 
 /// The tables of a section that begin at some offsets.
 #[derive(Drop)]
@@ -107,7 +107,7 @@ fn read_at(
 }
 
 /// Reads the tables that begin at some offsets, which ascend. Memory is wanting too where they overlap out of step so
-/// often that 2^28 bytes more than the section has would be read.
+/// often that 2^25 bytes more than the section has would be read.
 pub fn read_tables<'s>(
     alloc: Global,
     section: &'s [u8],

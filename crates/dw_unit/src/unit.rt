@@ -6,18 +6,31 @@ ghost use Rattle.dw_unit.specs.ListedUnits.{listed_result, listed_unit};
 ghost use Rattle.dw_unit.specs.CompUnits.{unit_by};
 ghost use Rattle.dw_unit.specs.Stops.{IfTrouble};
 
-use crate::entry::Entry;
+use crate::entry::{Attr, Entry};
 use crate::table_place::TableAt;
 use crate::trouble::{Stop, Trouble};
 use crate::walk::next_entry;
 use rb_bytes::cursor::Cursor;
 use std::alloc::Global;
 
-// How many attributes of a unit are listed at most, for each of its bytes and beside that: those of some forms, as
-// DW_FORM_flag_present, take no bytes, so that a declaration of many would have entries of one byte take much memory each.
-const ATTRS_A_BYTE: usize = 4;
+// How many bytes of memory the entries of a unit take at most, for each of its bytes and beside: entries can have one byte,
+// and attributes of some forms, as DW_FORM_flag_present, none, so that few bytes could list any number of them.
+const MEMORY_A_BYTE: usize = 60;
 
-const ATTRS_BESIDE: usize = 256;
+const MEMORY_BESIDE: usize = 1 << 24;
+
+// How many bytes of memory an entry takes, and an attribute of it, or a few more.
+const ENTRY_SIZE: usize = 56;
+
+const ATTR_SIZE: usize = 48;
+
+// About how many bytes of memory an entry takes.
+fn size_with(attrs: &[Attr]) -> usize {
+    attrs
+        .len()
+        .saturating_mul(ATTR_SIZE)
+        .saturating_add(ENTRY_SIZE)
+}
 
 /// The entries in the bytes left of a unit at a place, which ends at another.
 pub fn read_entries<'a>(
@@ -29,29 +42,32 @@ pub fn read_entries<'a>(
 ) -> Result<Vec<Entry>, Stop>
     requires within { length cursor.old.left ≤ end }
     requires short { length cursor.old.left < 2 ^ 32 }
-    ensures read { IfOk result (λ es. listed_result (entries_at (unit_bounds unit end (told_at table.entry)) 0 cursor.old.left) ≡ Ok es.items) }
-    ensures trouble { IfTrouble result (λ e. entries_at (unit_bounds unit end (told_at table.entry)) 0 cursor.old.left ≡ Err e) }
+    ensures read { IfOk result (λ es. listed_result (entries_at (unit_bounds unit end (told_at table.entry)) 0
+        cursor.old.left) ≡ Ok es.items) }
+    ensures trouble { IfTrouble result (λ e. entries_at (unit_bounds unit end (told_at table.entry)) 0 cursor.old.left ≡
+        Err e) }
 {
     let mut entries = Vec::new(alloc);
     let mut depth = 0;
     let mut room = cursor
         .left()
-        .saturating_mul(ATTRS_A_BYTE)
-        .saturating_add(ATTRS_BESIDE);
+        .saturating_mul(MEMORY_A_BYTE)
+        .saturating_add(MEMORY_BESIDE);
+    let mut attrs = Vec::new(alloc);
     'entries: loop {
-        let mut attrs = Vec::new(alloc);
         match next_entry(cursor, unit, end, &mut depth, table, &mut attrs)? {
             Some(head) => {
-                if room < attrs.len() {
+                let size = size_with(&attrs);
+                if room < size {
                     return Err(Stop::Memory);
                 }
-                room -= attrs.len();
+                room -= size;
                 entries.push(Entry {
                     place: head.place,
                     unit,
                     depth: head.depth as u32,
                     tag: head.declaration.tag,
-                    attrs,
+                    attrs: Vec::from_slice(alloc, &attrs)?,
                 })?;
             }
             None => return Ok(entries),
@@ -71,7 +87,8 @@ pub fn unit_entries<'a>(
     requires short { length cursor.old.left < 2 ^ 32 }
     ensures read { IfOk result (λ es. (offset : ℕ) →
         listed_unit (unit_by unit end offset (told_at table.entry) cursor.old.left) ≡ Ok es.items) }
-    ensures trouble { IfTrouble result (λ e. (offset : ℕ) → unit_by unit end offset (told_at table.entry) cursor.old.left ≡ Err e) }
+    ensures trouble { IfTrouble result (λ e. (offset : ℕ) →
+        unit_by unit end offset (told_at table.entry) cursor.old.left ≡ Err e) }
 {
     if table.table.table.end.is_none() {
         return Err(Stop::Trouble(Trouble::Unsound));

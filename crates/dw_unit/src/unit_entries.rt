@@ -68,7 +68,8 @@ pub fn own_entry(
     requires read { (u : Unit) × (unit_of tables.now.section.now unit.now ≡ Ok u) }
     requires named { HasOffset tables.now.starts unit.now }
     requires within { end_of unit.now < 2 ^ 64 }
-    ensures { IfOk result (λ o. (u : Unit) → unit_of tables.now.section.now unit.now ≡ Ok u → o ≡ option_map own_places (own_entry u)) }
+    ensures { IfOk result (λ o. (u : Unit) → unit_of tables.now.section.now unit.now ≡ Ok u →
+        o ≡ option_map own_places (own_entry u)) }
 {
     let entries = unit_entries(tables, unit);
     let UnitEntries {

@@ -61,7 +61,8 @@ impl<'a, 's> UnitReader<'a, 's> {
     /// The entries and the faults of a unit, by its number from 0.
     pub fn read(&self, alloc: Global, number: usize) -> Result<UnitReading, NoMemory>
         requires { number < length self.now.units }
-        ensures { (w : Walked) → slice_get self.now.units number ≡ Some w → IfOk result (IsReading self.now.abbrevs self.now.addr w) }
+        ensures { (w : Walked) → slice_get self.now.units number ≡ Some w →
+            IfOk result (IsReading self.now.abbrevs self.now.addr w) }
     {
         let reading = read_unit(alloc, &self.tables, self.addr, &self.units[number])?;
         Ok(reading)

@@ -15,8 +15,8 @@ use crate::table_place::TableAt;
 use crate::trouble::{Stop, Trouble};
 use rb_bytes::cursor::Cursor;
 
-/// The attributes that a declaration names, in place of those that stand in `attrs`.
-pub fn read_attrs<'a>(
+// The attributes that a declaration names, in place of those that stand in `attrs`.
+fn read_attrs<'a>(
     cursor: &mut Cursor<'a>,
     end: u64,
     declaration: u64,
@@ -24,12 +24,15 @@ pub fn read_attrs<'a>(
     attrs: &mut Vec<Attr>,
 ) -> Result<(), Stop>
     requires { length cursor.old.left ≤ end }
-    ensures read { OnOk result (attrs_at end declaration specs.now cursor.old.left ≡ Ok (attrs.new.items, cursor.new.left)) }
+    ensures read { OnOk result (attrs_at end declaration specs.now cursor.old.left ≡ Ok
+        (attrs.new.items, cursor.new.left)) }
     ensures trouble { IfTrouble result (λ e. attrs_at end declaration specs.now cursor.old.left ≡ Err e) }
     ensures on { OnOk result (length cursor.new.left ≤ length cursor.old.left) }
-    ensures placed { OnOk result (ArePlaced (end - length cursor.old.left) (end - length cursor.new.left) attrs.new.items) }
+    ensures placed { OnOk result (ArePlaced (end - length cursor.old.left)
+        (end - length cursor.new.left) attrs.new.items) }
 {
     attrs.clear();
+    attrs.reserve(specs.len())?;
     for spec in specs {
         let next = attr(cursor, end, declaration, *spec)?;
         attrs.push(next)?;
@@ -59,15 +62,18 @@ pub fn next_entry<'a, 't>(
     ensures read { IfOk result (λ o. MatchOption o
         (entries_at (unit_bounds unit end (told_at table.entry)) depth.old cursor.old.left ≡ Ok [])
         (λ h. entries_at (unit_bounds unit end (told_at table.entry)) depth.old cursor.old.left
-        ≡ with_head (walked_entry (unit_bounds unit end (told_at table.entry)) h.place h.depth (told_declaration h.declaration.now) attrs.new.items)
+        ≡ with_head (walked_entry (unit_bounds unit end (told_at table.entry)) h.place h.depth
+        (told_declaration h.declaration.now) attrs.new.items)
         (entries_at (unit_bounds unit end (told_at table.entry)) depth.new cursor.new.left))) }
-    ensures trouble { IfTrouble result (λ e. entries_at (unit_bounds unit end (told_at table.entry)) depth.old cursor.old.left ≡ Err e) }
+    ensures trouble { IfTrouble result (λ e. entries_at (unit_bounds unit end (told_at table.entry)) depth.old
+        cursor.old.left ≡ Err e) }
     ensures on { OnOk result (length cursor.new.left ≤ length cursor.old.left) }
     ensures forward { IfOk result (λ o. IfSome o (λ _. length cursor.new.left < length cursor.old.left)) }
     ensures placed { IfOk result (λ o. IfSome o (λ _.
         ArePlaced (end - length cursor.old.left) (end - length cursor.new.left) attrs.new.items)) }
     ensures deepens { OnOk result (depth.new + length cursor.new.left ≤ depth.old + length cursor.old.left) }
-    ensures shallow { IfOk result (λ o. IfSome o (λ h. h.depth + length cursor.new.left < depth.old + length cursor.old.left)) }
+    ensures shallow { IfOk result (λ o. IfSome o (λ h. h.depth + length cursor.new.left < depth.old + length
+        cursor.old.left)) }
 {
     'codes: while cursor.left() > 0 {
         let place = end - cursor.left() as u64;

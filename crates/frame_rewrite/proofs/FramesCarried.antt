@@ -2,8 +2,6 @@
 use Rattle.std.proofs.Common.{◌≡◌, ◌∙◌, ap, refl, sym, subst, ℕ, List, Option, Some, None, Bool, true, false}
 use Rattle.std.specs.Prelude.{IsSome, option_and_then}
 use Rattle.elf_image.specs.declared.elf.Elf.{Elf}
-use Rattle.rb_bytes.specs.FirstFault.{IsFree}
-use Rattle.rb_bytes.specs.declared.fault.FaultKind.TheVariants.{FrameFault}
 use Rattle.addr_map.specs.declared.span.Span.{Span}
 use Rattle.addr_map.specs.Spans.{owner}
 use Rattle.table_core.specs.AnswerRuns.{carried}
@@ -14,7 +12,6 @@ use Rattle.cfi_rows.specs.ReadFrames.{read_as, section_held}
 use Rattle.frame_rewrite.specs.declared.debug.DebugFrames.{DebugFrames}
 use Rattle.frame_rewrite.specs.declared.eh.EhFrames.{EhFrames}
 use Rattle.frame_rewrite.specs.CarriedFrames.{IsCarriedFrame}
-use Rattle.frame_rewrite.specs.Faults.{IsFrameFault}
 use Rattle.frame_rewrite.specs.FrameAnswers.{FrameAnswer, answer_at, cuts_of, df, eh, is_marked_by, is_never_marked}
 use Rattle.frame_rewrite.specs.Tables.{DebugComesFrom, EhComesFrom, answers, debug_answers, debug_says, eh_answers, eh_says}
 
@@ -62,11 +59,3 @@ df_carried spans t i f comes law p o e =
     ap (λ (b : Bool). frames_of b (section_held t.frames)) comes.kind ∙ ap (frames_of true) comes.section in
     let says : debug_says t o ≡ df i o = ap (λ (x : Frames). answer_at is_never_marked x.list o) same in
     subst (λ (x : Option FrameAnswer). Agree (IsCarriedFrame spans) x (df f p)) says said
-
--- a table without a fault has no malformed entry
-pub no_bad : (t : Frames) → IsFree (IsFrameFault t) → t.bad ≡ None
-no_bad t free = by t.bad refl
-  where
-    by : (o : Option ℕ) → t.bad ≡ o → o ≡ None
-    by None e = refl
-    by (Some place) e = absurd (free FrameFault place (refl, e))

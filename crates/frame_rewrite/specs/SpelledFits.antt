@@ -1,5 +1,6 @@
 -- What fits the fields of a written frame table.
-use Rattle.std.specs.Prelude.{◌≡◌, ℕ, ◌+◌, ◌*◌, ◌++◌, ◌^◌, ◌<◌, ◌≤◌, Bool, List, [], ◌∷◌, All, length, take, drop, FitsSigned, Some, slice_get}
+use Rattle.std.specs.Prelude.{◌≡◌, ℕ, ◌+◌, ◌*◌, ◌++◌, ◌^◌, ◌<◌, ◌≤◌, Bool, List, [], ◌∷◌, All, length, take, drop}
+use Rattle.std.specs.Prelude.{FitsSigned, Some, slice_get}
 use Rattle.std.specs.Prelude.{IsSome}
 use Rattle.std.specs.Int.{w64}
 use Rattle.addr_map.specs.declared.span.Span.{Span}
@@ -13,7 +14,8 @@ use Rattle.cfi_rows.specs.FrameRows.{RowValue, Rules}
 use Rattle.cfi_rows.specs.RuleEntries.{Ascend}
 use Rattle.frame_rewrite.specs.declared.cie_key.CieKey.{CieKey}
 use Rattle.frame_rewrite.specs.FrameAnswers.{FrameAnswer}
-use Rattle.frame_rewrite.specs.SpelledFrames.{key_of, key_index, fde_body, more_count, start_of, cie_size, spelled_entries, table_entries}
+use Rattle.frame_rewrite.specs.SpelledFrames.{key_of, key_index, fde_body, more_count, start_of, cie_size}
+use Rattle.frame_rewrite.specs.SpelledFrames.{spelled_entries, table_entries}
 use Rattle.frame_rewrite.specs.SpelledFrames.{end_mark}
 
 abbrev pub CfaFits : Cfa → Type 0
@@ -65,7 +67,8 @@ WritesAll spans keys n place [] = Unit {0}
 WritesAll spans keys ℕ.zero place (r ∷ rs) = Unit {0}
 WritesAll spans keys (ℕ.suc n) place (r ∷ rs) =
     Writes spans keys place r (take (more_count r rs) rs)
-    × WritesAll spans keys n (place + 8 + length (fde_body spans r (take (more_count r rs) rs))) (drop (more_count r rs) rs)
+    × WritesAll spans keys n (place + 8 + length (fde_body spans r (take (more_count r rs) rs)))
+    (drop (more_count r rs) rs)
 
 -- The entry of a run holds no byte before it but those of runs.
 pub record IsReached (spans : List Span) (runs : List (Run FrameAnswer)) (r : Run FrameAnswer) : Type 0 where

@@ -1,6 +1,8 @@
--- How a frame table is written: one CIE for each kind of frame, and then the FDEs. All pointers are absolute, so the bytes
--- don't depend on the address of the section. LSB, "The .eh_frame section"; DWARF 5, sections 6.4.1, 6.4.2 and 7.24.
-use Rattle.std.specs.Prelude.{ℕ, zero, suc, ◌+◌, ◌-◌, ◌*◌, ◌%◌, ◌==◌, ◌&&◌, ◌++◌, Bool, true, false, not, cond, List, [], ◌∷◌}
+-- How a frame table is written: one CIE for each kind of frame, and then the FDEs. All pointers are absolute, so the
+-- bytes don't depend on the address of the section. LSB, "The .eh_frame section"; DWARF 5, sections 6.4.1, 6.4.2 and
+-- 7.24.
+use Rattle.std.specs.Prelude.{ℕ, zero, suc, ◌+◌, ◌-◌, ◌*◌, ◌%◌, ◌==◌, ◌&&◌, ◌++◌, Bool, true, false, not, cond, List}
+use Rattle.std.specs.Prelude.{[], ◌∷◌}
 use Rattle.std.specs.Bool.{beq}
 use Rattle.std.specs.Prelude.{length, take, drop, flat_map, map, nat_lt, if◌then◌else◌}
 use Rattle.std.specs.List.{position_or_len, list_all}
@@ -15,7 +17,8 @@ use Rattle.cfi_rows.specs.declared.row.Cfa.TheVariants.{Reg, Expr}
 use Rattle.cfi_rows.specs.declared.row.Rule.{Rule}
 use Rattle.cfi_rows.specs.declared.row.Rule.TheVariants as rule
 use Rattle.cfi_rows.specs.declared.instruction.TheConstants.{DW_CFA_set_loc, DW_CFA_undefined, DW_CFA_same_value}
-use Rattle.cfi_rows.specs.declared.instruction.TheConstants.{DW_CFA_register, DW_CFA_remember_state, DW_CFA_restore, DW_CFA_restore_state}
+use Rattle.cfi_rows.specs.declared.instruction.TheConstants.{DW_CFA_register, DW_CFA_remember_state, DW_CFA_restore}
+use Rattle.cfi_rows.specs.declared.instruction.TheConstants.{DW_CFA_restore_state}
 use Rattle.cfi_rows.specs.declared.instruction.TheConstants.{DW_CFA_def_cfa_expression, DW_CFA_expression}
 use Rattle.cfi_rows.specs.declared.instruction.TheConstants.{DW_CFA_offset_extended_sf, DW_CFA_def_cfa_sf}
 use Rattle.cfi_rows.specs.declared.instruction.TheConstants.{DW_CFA_val_offset_sf, DW_CFA_val_expression}
@@ -60,8 +63,9 @@ spelled_restores rules = map (λ x. DW_CFA_restore * 64 + x.0) rules
 abbrev pub spelled_location : ℕ → List ℕ
 spelled_location location = DW_CFA_set_loc ∷ little_bytes 8 location
 
--- A row behind which another begins at a location, from a state in which no register has a rule. Where registers are low
--- their rules are taken back, and where one isn't the state before the row is remembered: that takes an unwinder longer.
+-- A row behind which another begins at a location, from a state in which no register has a rule. Where registers are
+-- low their rules are taken back, and where one isn't the state before the row is remembered: that takes an unwinder
+-- longer.
 abbrev pub spelled_row_before : RowValue → ℕ → List ℕ
 spelled_row_before row location =
     if are_low row.rules
@@ -122,8 +126,8 @@ abbrev pub cie_entries : (debug : Bool) → ℕ → List CieKey → List RawEntr
 cie_entries debug i [] = []
 cie_entries debug i (k ∷ ks) = cie_entry debug i k ∷ cie_entries debug (i + 1) ks
 
--- FDEs, each of a group of runs. The range of an entry that is marked begins where its start went, and the runs of one such
--- entry that follow one another are a group; every other run is one of its own.
+-- FDEs, each of a group of runs. The range of an entry that is marked begins where its start went, and the runs of
+-- one such entry that follow one another are a group; every other run is one of its own.
 
 abbrev pub continues : Run FrameAnswer → Run FrameAnswer → Bool
 continues r q =
@@ -167,7 +171,8 @@ abbrev pub fde_id : (debug : Bool) → ℕ → ℕ → ℕ
 fde_id true place i = cie_size * i
 fde_id false place i = place + 4 - cie_size * i
 
-abbrev pub fde_entry : (debug : Bool) → List Span → List CieKey → ℕ → Run FrameAnswer → List (Run FrameAnswer) → RawEntry
+abbrev pub fde_entry : (debug : Bool) → List Span → List CieKey → ℕ → Run FrameAnswer → List (Run FrameAnswer) →
+    RawEntry
 fde_entry debug spans keys place r more =
     record { place = place; id = fde_id debug place (key_index spans keys r); body = fde_body spans r more }
 

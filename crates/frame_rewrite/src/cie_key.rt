@@ -1,6 +1,5 @@
 // The kinds of frames, each of which has a CIE.
 ghost use Rattle.std.specs.Prelude.{◌≡◌, ◌<◌, ◌^◌};
-ghost use Rattle.addr_map.specs.Spans.{new};
 ghost use Rattle.frame_rewrite.specs.SpelledFrames.{key_of};
 
 use crate::answer::FrameAt;
@@ -15,16 +14,6 @@ pub struct CieKey {
     pub signal: bool,
 }
 
-/// The new address of an instruction; an address at which none starts stays as it is.
-pub(crate) fn new_address(map: &AddrMap, a: u64) -> u64
-    ensures { result ≡ new map.now a }
-{
-    match map.moved(a) {
-        Some(moved) => moved,
-        None => a,
-    }
-}
-
 /// The kind of frame that an answer needs.
 pub(crate) fn key_of(map: &AddrMap, answer: &FrameAt) -> CieKey
     ensures key { result ≡ key_of map.now answer.now }
@@ -32,7 +21,7 @@ pub(crate) fn key_of(map: &AddrMap, answer: &FrameAt) -> CieKey
 {
     CieKey {
         ra: answer.ra,
-        handler: new_address(map, answer.handler),
+        handler: map.new_address(answer.handler),
         indirect: answer.indirect,
         signal: answer.signal,
     }

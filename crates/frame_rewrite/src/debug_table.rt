@@ -6,7 +6,7 @@ ghost use Rattle.frame_rewrite.specs.Faults.{IsFrameFault};
 ghost use Rattle.frame_rewrite.specs.Tables as spec;
 ghost use Rattle.cfi_rows.specs.Frames.{debug_frames};
 
-use crate::answer::FrameAt;
+use crate::answer::{FrameAt, most_size, size_of};
 use crate::debug::DebugFrames;
 use crate::lookup::{alike, index_of, tell};
 use crate::same::same_answer;
@@ -60,8 +60,20 @@ impl ByAddress for DebugFrames {
         }
     }
 
+    fn size(answer: &FrameAt) -> usize {
+        size_of(answer)
+    }
+
+    fn most_size(&self) -> usize {
+        most_size(self.file_size)
+    }
+
     fn alike(&self, a: u64, b: u64) -> bool {
         alike(&self.frames, &self.index, a, b)
+    }
+
+    fn is_silent(&self) -> bool {
+        self.frames.section.is_empty()
     }
 }
 
@@ -72,7 +84,11 @@ impl AddrTable for DebugFrames {
             return Err(Refusal::Fault(Fault::at(FaultKind::FrameFault, place)));
         }
         let index = index_of(alloc, &frames.list)?;
-        Ok(DebugFrames { frames, index })
+        Ok(DebugFrames {
+            frames,
+            index,
+            file_size: elf.file.len(),
+        })
     }
 
     fn weight(&self, _alloc: Global, map: &AddrMap) -> Result<u64, NoMemory> {

@@ -6,7 +6,7 @@ ghost use Rattle.frame_rewrite.specs.Faults.{IsFrameFault};
 ghost use Rattle.frame_rewrite.specs.Tables as spec;
 ghost use Rattle.cfi_rows.specs.Frames.{eh_frames};
 
-use crate::answer::FrameAt;
+use crate::answer::{FrameAt, most_size, size_of};
 use crate::eh::EhFrames;
 use crate::lookup::{alike, index_of, tell};
 use crate::marks::is_marked;
@@ -64,8 +64,20 @@ impl ByAddress for EhFrames {
         }
     }
 
+    fn size(answer: &FrameAt) -> usize {
+        size_of(answer)
+    }
+
+    fn most_size(&self) -> usize {
+        most_size(self.file_size)
+    }
+
     fn alike(&self, a: u64, b: u64) -> bool {
         alike(&self.frames, &self.index, a, b)
+    }
+
+    fn is_silent(&self) -> bool {
+        self.frames.section.is_empty()
     }
 }
 
@@ -82,6 +94,7 @@ impl AddrTable for EhFrames {
             has_section: elf.section_called(b".eh_frame").is_some(),
             cuts,
             index,
+            file_size: elf.file.len(),
         })
     }
 

@@ -5,9 +5,10 @@ ghost use Rattle.frame_rewrite.specs.SpelledFrames as spec;
 ghost use Rattle.frame_rewrite.specs.SpelledFits.{KeyFits};
 
 use crate::cie_key::CieKey;
-use crate::spelling::{put_byte, put_bytes, put_u32, put_u64, put_zeros};
+use crate::spelling::{put_byte, put_bytes, put_zeros};
 use cfi_rows::encoding::{DW_EH_PE_absptr, DW_EH_PE_indirect_absptr};
 use rb_bytes::fault::NoMemory;
+use rb_bytes::little::{put_u32, put_u64};
 
 /// The greatest number of bytes of an entry's contents: its length field has no value that says that it is longer.
 const MAX_BODY: usize = 0xffff_fff0;
@@ -88,7 +89,8 @@ fn put_cie_entry(
     key: &CieKey,
 ) -> Result<(), NoMemory>
     requires { key.now.ra < 256 }
-    ensures { OnOk result ((i : ℕ) → out.new.items ≡ out.old.items ++ spec.spelled_entry (spec.cie_entry debug i key.now)) }
+    ensures { OnOk result ((i : ℕ) → out.new.items ≡ out.old.items
+        ++ spec.spelled_entry (spec.cie_entry debug i key.now)) }
 {
     body.clear();
     put_cie(body, key)?;

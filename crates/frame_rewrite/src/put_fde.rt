@@ -7,12 +7,13 @@ ghost use Rattle.frame_rewrite.specs.SpelledFrames as spec;
 ghost use Rattle.frame_rewrite.specs.SpelledFits.{RowFits, RunAscends, Writes, WritesAll, EndFits};
 
 use crate::answer::FrameAt;
-use crate::cie_key::{CieKey, key_of, new_address};
+use crate::cie_key::{CieKey, key_of};
 use crate::put_cie::put_entry;
-use crate::spelling::{put_byte, put_row, put_row_before, put_u64, put_zeros};
+use crate::spelling::{put_byte, put_row, put_row_before, put_zeros};
 use addr_map::AddrMap;
 use indexmap::IndexSet;
 use rb_bytes::fault::NoMemory;
+use rb_bytes::little::put_u64;
 use table_core::Run;
 
 /// The size of a CIE.
@@ -54,7 +55,7 @@ fn start_of(map: &AddrMap, run: &Run<FrameAt>) -> u64
     ensures { result ≡ spec.start_of map.now run.now }
 {
     if run.answer.marked {
-        new_address(map, run.answer.start)
+        map.new_address(run.answer.start)
     } else {
         run.start
     }

@@ -23,7 +23,8 @@ pub(crate) fn keys_of(
 ) -> Result<IndexSet<CieKey>, NoMemory>
     requires { All RunReturns runs.now }
     ensures fits { IfOk result (λ keys. All KeyFits keys.keys) }
-    ensures few { IfOk result (λ keys. (kinds : List CieKey) → All (λ r. Contains kinds (spec.key_of map.now r.answer)) runs.now →
+    ensures few { IfOk result (λ keys. (kinds : List CieKey) →
+        All (λ r. Contains kinds (spec.key_of map.now r.answer)) runs.now →
         length keys.keys ≤ length kinds) }
 {
     let mut keys = IndexSet::new(alloc);

@@ -1,12 +1,10 @@
 // How rows are spelled as call frame instructions. DWARF 5, section 6.4.2.
 ghost use Rattle.std.specs.Prelude.{◌≡◌, ◌<◌, ◌^◌, ◌++◌, ◌∷◌, [], IsTrue, OnOk};
-ghost use Rattle.byteorder.specs.Endian.{little_bytes};
 ghost use Rattle.rb_bytes.specs.Leb.{uleb, sleb};
 ghost use Rattle.cfi_rows.specs.RuleEntries.{Ascend};
 ghost use Rattle.frame_rewrite.specs.SpelledFrames as spec;
 ghost use Rattle.frame_rewrite.specs.SpelledFits.{CfaFits, RuleFits, RulesFit, RowFits};
 
-use byteorder::{ByteOrder, LittleEndian};
 use cfi_rows::instruction::{
     DW_CFA_def_cfa_expression, DW_CFA_def_cfa_sf, DW_CFA_expression, DW_CFA_offset_extended_sf,
     DW_CFA_register, DW_CFA_remember_state, DW_CFA_restore, DW_CFA_restore_state,
@@ -16,24 +14,7 @@ use cfi_rows::instruction::{
 use cfi_rows::row::{Cfa, Expression, Row, Rule};
 use rb_bytes::fault::NoMemory;
 use rb_bytes::leb::{put_sleb, put_uleb};
-
-pub(crate) fn put_u32(out: &mut Vec<u8>, n: u32) -> Result<(), NoMemory>
-    ensures { OnOk result (out.new.items ≡ out.old.items ++ little_bytes 4 n) }
-{
-    let mut field = [0; 4];
-    LittleEndian::write_u32(&mut field, n);
-    out.extend_from_slice(&field)?;
-    Ok(())
-}
-
-pub(crate) fn put_u64(out: &mut Vec<u8>, n: u64) -> Result<(), NoMemory>
-    ensures { OnOk result (out.new.items ≡ out.old.items ++ little_bytes 8 n) }
-{
-    let mut field = [0; 8];
-    LittleEndian::write_u64(&mut field, n);
-    out.extend_from_slice(&field)?;
-    Ok(())
-}
+use rb_bytes::little::put_u64;
 
 pub(crate) fn put_byte(out: &mut Vec<u8>, b: u8) -> Result<(), NoMemory>
     ensures { OnOk result (out.new.items ≡ out.old.items ++ b ∷ []) }

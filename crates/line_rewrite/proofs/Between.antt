@@ -1,24 +1,20 @@
 -- Two addresses between which no row lies: the same rows are in force at both.
-use Rattle.std.proofs.Common.{◌≡◌, ◌<◌, ◌≤◌, ◌+◌, ◌-◌, ◌++◌, take, Err, ℕ, List, [], ◌∷◌, zero, suc, refl, arith, sym, ◌∙◌, ap, subst, Ok}
-use Rattle.std.proofs.Common.{length, drop, get_or, nat_le, Bool, true, false, cond, Option, Some, None, ◌⊎◌, inl, inr}
+use Rattle.std.proofs.Common.{◌≡◌, ◌<◌, ◌≤◌, ◌+◌, ◌-◌, ◌++◌, take, ℕ, List, [], ◌∷◌, zero, suc, refl, arith, sym, ◌∙◌, ap, subst}
+use Rattle.std.proofs.Common.{length, drop, get_or, nat_le, Bool, true, false, cond, ◌⊎◌, inl, inr}
 use Rattle.std.specs.Prelude.{nat_lt}
 use Rattle.std.proofs.lemmas.Bool.Decides.{nat_tests}
 use Rattle.std.proofs.lemmas.List.{drop-drop, take-append-drop}
 use Rattle.line_rewrite.specs.declared.coding.Coding.{Coding}
 use Rattle.line_rewrite.specs.declared.registers.Registers.{Registers}
 use Rattle.line_rewrite.specs.declared.kept.Kept.{Kept}
-use Rattle.line_rewrite.specs.declared.operation.LineOp.{LineOp}
-use Rattle.line_rewrite.specs.declared.effect.Effect.{Effect}
-use Rattle.line_rewrite.specs.declared.effect.Effect.TheVariants.{Appends, Ends, Sets}
-use Rattle.line_rewrite.specs.Operations.{op_at, operations}
-use Rattle.line_rewrite.specs.LineMachine.{in_force, reached, greatest_address, rows_from, rows_behind, after_op, after_row, effect_of}
+use Rattle.line_rewrite.specs.Operations.{operations}
+use Rattle.line_rewrite.specs.LineMachine.{in_force, reached, greatest_address, rows_from}
 use Rattle.line_rewrite.specs.Keeping.{AreKept, row_at}
 use Rattle.line_rewrite.specs.LineAnswers.{first_address}
-use Rattle.rb_bytes.specs.declared.gap.Gap.{Gap}
 use Rattle.line_rewrite.specs.Walks.{Ascends, none_between}
 use Rattle.line_rewrite.proofs.InForce.{at_address, none_reached}
 use Rattle.line_rewrite.proofs.Lookups.{Before, kept_get, from_below, drop_none, row_rises, next_past}
-use Rattle.line_rewrite.proofs.Steps.{over_step, rows_gap, rows_end, take_none}
+use Rattle.line_rewrite.proofs.Steps.{take_none}
 
 -- Of rows that ascend, those up to either address.
 
@@ -119,69 +115,40 @@ none_behind coding lengths bytes from rows kept i after count n a b d result are
     ap (none_between a b) (sym (take-append-drop n (drop first rows)))
     ∙ none_append a b (take n (drop first rows)) (drop n (drop first rows)) (ap (none_between a b) there ∙ behind) ∙ walked
 
--- One operation more, where `whole` is what is sought.
+-- One row more, where `whole` is what is sought.
 
-none_taken : (a b n : ℕ) → none_between a b (take n []) ≡ true
-unfolding none_between
-none_taken a b n = ap (none_between a b) (take_none n)
+module _ (a b n : ℕ) (rows : List Registers) (whole : Bool) (inv : none_between a b (take n rows) ≡ whole) where
+  pub between_done : n ≡ 0 → true ≡ whole
+  unfolding none_between
+  between_done z = ap (λ (k : ℕ). none_between a b (take k rows)) (sym z) ∙ inv
 
-pub between_done : (a b n : ℕ) (rows : List Registers) (whole : Bool) → n ≡ 0 → none_between a b (take n rows) ≡ whole → true ≡ whole
-unfolding none_between
-between_done a b n rows whole z inv = ap (λ (k : ℕ). none_between a b (take k rows)) (sym z) ∙ inv
+  pub between_none : rows ≡ [] → true ≡ whole
+  unfolding none_between
+  between_none none =
+      sym (ap (λ (l : List Registers). none_between a b (take n l)) none ∙ ap (none_between a b) (take_none n)) ∙ inv
 
-module _ (coding : Coding) (r : Registers) (lengths bytes : List ℕ) (a b n : ℕ) (whole : Bool)
-    (inv : none_between a b (take n (rows_from coding r (operations coding.opcode_base lengths bytes))) ≡ whole) where
-  pub between_out : length bytes ≡ 0 → true ≡ whole
-  between_out e =
-      sym (none_taken a b n) ∙ sym (ap (λ (l : List Registers). none_between a b (take n l)) (rows_end coding r lengths bytes e)) ∙ inv
-
-  pub between_gap : (gap : Gap) → op_at coding.opcode_base lengths bytes ≡ Err gap → true ≡ whole
-  between_gap gap e =
-      sym (none_taken a b n) ∙ sym (ap (λ (l : List Registers). none_between a b (take n l)) (rows_gap coding r lengths bytes gap e)) ∙ inv
-
-  module _ (rest : List ℕ) (op : LineOp) (read : op_at coding.opcode_base lengths bytes ≡ Ok (op, rest)) where
-    between_step : (e : Effect) (o : Option Registers) → e ≡ effect_of op → o ≡ after_op coding op r
-        → none_between a b (take n (rows_behind (λ r. rows_from coding r (operations coding.opcode_base lengths rest)) e o)) ≡ whole
-    between_step e o is after =
-        over_step (λ l. none_between a b (take n l)) coding r lengths bytes rest op e o read is after ∙ inv
-
-    pub between_stops : None ≡ after_op coding op r → true ≡ whole
-    between_stops after = sym (none_taken a b n) ∙ between_step (effect_of op) None refl after
-
-    pub between_ends : (next : Registers) → Ends ≡ effect_of op → Some next ≡ after_op coding op r → true ≡ whole
-    between_ends next is after = sym (none_taken a b n) ∙ between_step Ends (Some next) is after
-
-    pub between_sets : (next : Registers) → Sets ≡ effect_of op → Some next ≡ after_op coding op r
-        → none_between a b (take n (rows_from coding next (operations coding.opcode_base lengths rest))) ≡ whole
-    between_sets next is after = between_step Sets (Some next) is after
-
-    -- a row more, by what the two tests say of it
-    row_more : (next : Registers) → (n ≡ 0 → ⊥) → Appends ≡ effect_of op → Some next ≡ after_op coding op r
-        → (p q : Bool) → nat_lt b next.address ≡ p → nat_lt a next.address ≡ q
-        → cond p true (cond q false
-        (none_between a b (take (n - 1) (rows_from coding (after_row next) (operations coding.opcode_base lengths rest))))) ≡ whole
+  module _ (next : Registers) (more : List Registers) (some : 0 < n) (are : rows ≡ next ∷ more) where
+    -- by what the two tests say of it
+    row_more : (p q : Bool) → nat_lt b next.address ≡ p → nat_lt a next.address ≡ q
+        → cond p true (cond q false (none_between a b (take (n - 1) more))) ≡ whole
     unfolding none_between
-    row_more next some is after p q ep eq =
+    row_more p q ep eq =
         let one : n ≡ suc (n - 1) = omega arith in
-        let behind : List Registers = rows_from coding (after_row next) (operations coding.opcode_base lengths rest) in
-        let more : Bool = none_between a b (take (n - 1) behind) in
-        ap (λ (p : Bool). cond p true (cond q false more)) (sym ep)
-        ∙ ap (λ (q : Bool). cond (nat_lt b next.address) true (cond q false more)) (sym eq)
-        ∙ sym (ap (λ (k : ℕ). none_between a b (take k (next ∷ behind))) one)
-        ∙ between_step Appends (Some next) is after
+        sym (ap (λ (l : List Registers). none_between a b (take n l)) are
+        ∙ ap (λ (k : ℕ). none_between a b (take k (next ∷ more))) one
+        ∙ ap (λ (p : Bool). cond p true (cond (nat_lt a next.address) false (none_between a b (take (n - 1) more)))) ep
+        ∙ ap (λ (q : Bool). cond p true (cond q false (none_between a b (take (n - 1) more)))) eq)
+        ∙ inv
 
-    pub between_past : (next : Registers) → (n ≡ 0 → ⊥) → Appends ≡ effect_of op → Some next ≡ after_op coding op r → b < next.address
-        → true ≡ whole
-    between_past next some is after h = row_more next some is after true (nat_lt a next.address) (grind (arith, nat_tests)) refl
+    pub between_past : b < next.address → true ≡ whole
+    between_past h = row_more true (nat_lt a next.address) (grind (arith, nat_tests)) refl
 
-    pub between_there : (next : Registers) → (n ≡ 0 → ⊥) → Appends ≡ effect_of op → Some next ≡ after_op coding op r
-        → next.address ≤ b → a < next.address → false ≡ whole
-    between_there next some is after h k = row_more next some is after false true (grind (arith, nat_tests)) (grind (arith, nat_tests))
+    pub between_there : next.address ≤ b → a < next.address → false ≡ whole
+    between_there h k = row_more false true (grind (arith, nat_tests)) (grind (arith, nat_tests))
 
-    pub between_more : (next present : Registers) (left : ℕ) → (n ≡ 0 → ⊥) → Appends ≡ effect_of op → Some next ≡ after_op coding op r
-        → next.address ≤ b → next.address ≤ a → present ≡ after_row next → left ≡ n - 1
-        → none_between a b (take left (rows_from coding present (operations coding.opcode_base lengths rest))) ≡ whole
-    between_more next present left some is after h k p l =
-        ap (λ (m : ℕ). none_between a b (take m (rows_from coding present (operations coding.opcode_base lengths rest)))) l
-        ∙ ap (λ (q : Registers). none_between a b (take (n - 1) (rows_from coding q (operations coding.opcode_base lengths rest)))) p
-        ∙ row_more next some is after false false (grind (arith, nat_tests)) (grind (arith, nat_tests))
+    pub between_more : (rest : List Registers) (left : ℕ) → next.address ≤ b → next.address ≤ a → rest ≡ more → left ≡ n - 1
+        → none_between a b (take left rest) ≡ whole
+    between_more rest left h k same l =
+        ap (λ (k : ℕ). none_between a b (take k rest)) l
+        ∙ ap (λ (l : List Registers). none_between a b (take (n - 1) l)) same
+        ∙ row_more false false (grind (arith, nat_tests)) (grind (arith, nat_tests))

@@ -21,10 +21,6 @@ AllAt m (r ∷ rows) = (r.address ≡ m) × AllAt m rows
 abbrev pub at_address : ℕ → List Registers → List Registers
 at_address m rows = filter (λ r. r.address == m) rows
 
-kept_append : (b : Bool) (x : Registers) (xs ys zs : List Registers) → zs ≡ xs ++ ys → cond b (x ∷ zs) zs ≡ cond b (x ∷ xs) xs ++ ys
-kept_append true x xs ys zs e = ap (λ (l : List Registers). x ∷ l) e
-kept_append false x xs ys zs e = e
-
 greatest_append : (xs ys : List Registers) → greatest_address (xs ++ ys) ≡ max (greatest_address xs) (greatest_address ys)
 greatest_append [] ys = grind (arith, nat_tests)
 greatest_append (x ∷ xs) ys = let h : greatest_address (xs ++ ys) ≡ max (greatest_address xs) (greatest_address ys) = greatest_append xs ys

@@ -76,85 +76,74 @@ pub rows_end : (coding : Coding) (r : Registers) (lengths bytes : List ℕ) → 
 unfolding rows_from
 rows_end coding r lengths bytes e = ap (rows_from coding r) (operations_end coding.opcode_base lengths bytes e)
 
--- what is said of the rows, over one operation more
-pub over_step : {B : Type 0} (of : List Registers → B) (coding : Coding) (r : Registers) (lengths bytes rest : List ℕ) (op : LineOp)
-    (e : Effect) (o : Option Registers)
-    → op_at coding.opcode_base lengths bytes ≡ Ok (op, rest) → e ≡ effect_of op → o ≡ after_op coding op r
-    → of (rows_behind (λ r. rows_from coding r (operations coding.opcode_base lengths rest)) e o)
-    ≡ of (rows_from coding r (operations coding.opcode_base lengths bytes))
-over_step of coding r lengths bytes rest op e o read is after =
-    ap of ((λ i. rows_behind (λ r. rows_from coding r (operations coding.opcode_base lengths rest)) (is i) (after i))
-    ∙ sym (rows_step coding r lengths bytes rest op read))
+-- The rows over one operation more, where those from here on are `whole`.
 
--- The rows in force, over one operation more: `found` is what was reached, n how many rows are still to be, `whole` what is sought.
+module _ (coding : Coding) (r : Registers) (lengths bytes : List ℕ) (whole : List Registers)
+    (inv : rows_from coding r (operations coding.opcode_base lengths bytes) ≡ whole) where
+  pub none_out : length bytes ≡ 0 → whole ≡ []
+  none_out e = sym inv ∙ rows_end coding r lengths bytes e
+
+  pub none_gap : (gap : Gap) → op_at coding.opcode_base lengths bytes ≡ Err gap → whole ≡ []
+  none_gap gap e = sym inv ∙ rows_gap coding r lengths bytes gap e
+
+  module _ (rest : List ℕ) (op : LineOp) (read : op_at coding.opcode_base lengths bytes ≡ Ok (op, rest)) where
+    step_is : (e : Effect) (o : Option Registers) → e ≡ effect_of op → o ≡ after_op coding op r
+        → whole ≡ rows_behind (λ r. rows_from coding r (operations coding.opcode_base lengths rest)) e o
+    step_is e o is after =
+        sym inv ∙ rows_step coding r lengths bytes rest op read
+        ∙ sym (λ i. rows_behind (λ r. rows_from coding r (operations coding.opcode_base lengths rest)) (is i) (after i))
+
+    pub none_stops : None ≡ after_op coding op r → whole ≡ []
+    none_stops after = step_is (effect_of op) None refl after
+
+    pub none_ends : (next : Registers) → Ends ≡ effect_of op → Some next ≡ after_op coding op r → whole ≡ []
+    none_ends next is after = step_is Ends (Some next) is after
+
+    pub same_sets : (next : Registers) → Sets ≡ effect_of op → Some next ≡ after_op coding op r
+        → rows_from coding next (operations coding.opcode_base lengths rest) ≡ whole
+    same_sets next is after = sym (step_is Sets (Some next) is after)
+
+    pub row_appends : (next : Registers) → Appends ≡ effect_of op → Some next ≡ after_op coding op r
+        → whole ≡ next ∷ rows_from coding (after_row next) (operations coding.opcode_base lengths rest)
+    row_appends next is after = step_is Appends (Some next) is after
+
+-- The rows in force, over one row more: `found` is what was reached, n how many rows are still to be, `whole` what is sought.
 
 pub take_none : (n : ℕ) → take {A = Registers} n [] ≡ []
 take_none zero = refl
 take_none (suc n) = refl
 
-found_none : (found : List Registers) (a n : ℕ) → latest found a (take n []) ≡ found
-unfolding latest
-found_none found a n = ap (latest found a) (take_none n)
+module _ (found : List Registers) (a n : ℕ) (rows whole : List Registers) (inv : latest found a (take n rows) ≡ whole) where
+  pub found_done : n ≡ 0 → found ≡ whole
+  unfolding latest
+  found_done z = ap (λ (k : ℕ). latest found a (take k rows)) (sym z) ∙ inv
 
-pub walk_done : (found : List Registers) (a n : ℕ) (rows whole : List Registers) → n ≡ 0 → latest found a (take n rows) ≡ whole
-    → found ≡ whole
-unfolding latest
-walk_done found a n rows whole z inv = ap (λ (k : ℕ). latest found a (take k rows)) (sym z) ∙ inv
+  pub found_none : rows ≡ [] → found ≡ whole
+  unfolding latest
+  found_none none =
+      sym (ap (λ (l : List Registers). latest found a (take n l)) none ∙ ap (latest found a) (take_none n)) ∙ inv
 
-module _ (coding : Coding) (r : Registers) (lengths bytes : List ℕ) (found : List Registers) (a n : ℕ) (whole : List Registers)
-    (inv : latest found a (take n (rows_from coding r (operations coding.opcode_base lengths bytes))) ≡ whole) where
-  pub walk_out : length bytes ≡ 0 → found ≡ whole
-  walk_out e =
-      sym (found_none found a n) ∙ sym (ap (λ (l : List Registers). latest found a (take n l)) (rows_end coding r lengths bytes e)) ∙ inv
-
-  pub walk_gap : (gap : Gap) → op_at coding.opcode_base lengths bytes ≡ Err gap → found ≡ whole
-  walk_gap gap e =
-      sym (found_none found a n) ∙ sym (ap (λ (l : List Registers). latest found a (take n l)) (rows_gap coding r lengths bytes gap e))
-      ∙ inv
-
-  module _ (rest : List ℕ) (op : LineOp) (read : op_at coding.opcode_base lengths bytes ≡ Ok (op, rest)) where
-    walk_step : (e : Effect) (o : Option Registers) → e ≡ effect_of op → o ≡ after_op coding op r
-        → latest found a (take n (rows_behind (λ r. rows_from coding r (operations coding.opcode_base lengths rest)) e o)) ≡ whole
-    walk_step e o is after =
-        over_step (λ l. latest found a (take n l)) coding r lengths bytes rest op e o read is after ∙ inv
-
-    pub walk_stops : None ≡ after_op coding op r → found ≡ whole
-    walk_stops after = sym (found_none found a n) ∙ walk_step (effect_of op) None refl after
-
-    pub walk_ends : (next : Registers) → Ends ≡ effect_of op → Some next ≡ after_op coding op r → found ≡ whole
-    walk_ends next is after = sym (found_none found a n) ∙ walk_step Ends (Some next) is after
-
-    pub walk_sets : (next : Registers) → Sets ≡ effect_of op → Some next ≡ after_op coding op r
-        → latest found a (take n (rows_from coding next (operations coding.opcode_base lengths rest))) ≡ whole
-    walk_sets next is after = walk_step Sets (Some next) is after
-
-    -- a row more
-    row_more : (next : Registers) → (n ≡ 0 → ⊥) → Appends ≡ effect_of op → Some next ≡ after_op coding op r
-        → latest found a (next ∷ take (n - 1) (rows_from coding (after_row next) (operations coding.opcode_base lengths rest))) ≡ whole
-    row_more next some is after =
+  module _ (next : Registers) (more : List Registers) (some : 0 < n) (are : rows ≡ next ∷ more) where
+    row_more : latest found a (next ∷ take (n - 1) more) ≡ whole
+    row_more =
         let one : n ≡ suc (n - 1) = omega arith in
-        sym (ap (λ (k : ℕ). latest found a (take k (next ∷ rows_from coding (after_row next) (operations coding.opcode_base lengths rest))))
-        one)
-        ∙ walk_step Appends (Some next) is after
+        sym (ap (λ (l : List Registers). latest found a (take n l)) are
+        ∙ ap (λ (k : ℕ). latest found a (take k (next ∷ more))) one)
+        ∙ inv
 
-    pub walk_past : (next : Registers) → (n ≡ 0 → ⊥) → Appends ≡ effect_of op → Some next ≡ after_op coding op r → a < next.address
-        → found ≡ whole
+    pub found_past : a < next.address → found ≡ whole
     unfolding latest
-    walk_past next some is after h =
+    found_past h =
         let t : nat_le next.address a ≡ false = grind (arith, nat_tests) in
-        let more : List Registers = take (n - 1) (rows_from coding (after_row next) (operations coding.opcode_base lengths rest)) in
-        ap (λ (b : Bool). cond b (latest (joined found next) a more) found) (sym t) ∙ row_more next some is after
+        ap (λ (b : Bool). cond b (latest (joined found next) a (take (n - 1) more)) found) (sym t) ∙ row_more
 
-    pub walk_appends : (next present : Registers) (new : List Registers) (left : ℕ) → (n ≡ 0 → ⊥) → Appends ≡ effect_of op
-        → Some next ≡ after_op coding op r
-        → next.address ≤ a → new ≡ joined found next → present ≡ after_row next → left ≡ n - 1
-        → latest new a (take left (rows_from coding present (operations coding.opcode_base lengths rest))) ≡ whole
+    pub found_more : (new rest : List Registers) (left : ℕ) → next.address ≤ a → new ≡ joined found next → rest ≡ more → left ≡ n - 1
+        → latest new a (take left rest) ≡ whole
     unfolding latest
-    walk_appends next present new left some is after h e p l =
+    found_more new rest left h e same l =
         let t : nat_le next.address a ≡ true = grind (arith, nat_tests) in
-        let more : List Registers = take (n - 1) (rows_from coding (after_row next) (operations coding.opcode_base lengths rest)) in
-        ap (λ (k : ℕ). latest new a (take k (rows_from coding present (operations coding.opcode_base lengths rest)))) l
-        ∙ ap (λ (q : Registers). latest new a (take (n - 1) (rows_from coding q (operations coding.opcode_base lengths rest)))) p
-        ∙ ap (λ (l : List Registers). latest l a more) e
-        ∙ ap (λ (b : Bool). cond b (latest (joined found next) a more) found) (sym t)
-        ∙ row_more next some is after
+        ap (λ (k : ℕ). latest new a (take k rest)) l
+        ∙ ap (λ (l : List Registers). latest new a (take (n - 1) l)) same
+        ∙ ap (λ (l : List Registers). latest l a (take (n - 1) more)) e
+        ∙ ap (λ (b : Bool). cond b (latest (joined found next) a (take (n - 1) more)) found) (sym t)
+        ∙ row_more

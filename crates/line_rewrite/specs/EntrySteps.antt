@@ -1,10 +1,12 @@
 -- Steps in which tables of directories and files are read.
-use Rattle.std.specs.Prelude.{◌==◌, ◌&&◌, ℕ, zero, suc, List, [], ◌∷◌, nat_le, if◌then◌else◌, Option, Some, None, option_map}
+use Rattle.std.specs.Prelude.{◌==◌, ◌&&◌, ℕ, zero, suc, List, [], ◌∷◌, nat_le, if◌then◌else◌, Option, Some, None}
+use Rattle.std.specs.Prelude.{option_map}
 use Rattle.rb_bytes.specs.Leb.{uleb_at}
 use Rattle.rb_bytes.specs.Options.{only_if}
 use Rattle.line_rewrite.specs.declared.content.TheConstants.{DW_LNCT_path, DW_LNCT_directory_index, DW_LNCT_MD5}
 use Rattle.line_rewrite.specs.declared.entry.Found as code
-use Rattle.line_rewrite.specs.Entries.{◌>>=◌, ok, Value, Format, Named, Strings, text_of, index_of, form_here, read_value}
+use Rattle.line_rewrite.specs.Entries.{◌>>=◌, ok, Value, Format, Named, Strings, text_of, index_of, form_here}
+use Rattle.line_rewrite.specs.Entries.{read_value}
 use Rattle.line_rewrite.specs.Entries.{contents_at, named}
 use Rattle.line_rewrite.specs.KeptEntries.{told_name}
 

@@ -1,5 +1,6 @@
 -- Kept states of a walk.
-use Rattle.std.specs.Prelude.{◌≡◌, ◌≤◌, ◌<◌, ◌||◌, ℕ, zero, suc, Bool, false, List, [], ◌∷◌, ◌++◌, nat_le, nat_lt, if◌then◌else◌}
+use Rattle.std.specs.Prelude.{◌≡◌, ◌≤◌, ◌<◌, ◌||◌, ℕ, zero, suc, Bool, false, List, [], ◌∷◌, ◌++◌, nat_le, nat_lt}
+use Rattle.std.specs.Prelude.{if◌then◌else◌}
 use Rattle.std.specs.Prelude.{length, drop, slice_index_or}
 use Rattle.line_rewrite.specs.declared.coding.Coding.{Coding}
 use Rattle.line_rewrite.specs.declared.registers.Registers.{Registers}
@@ -11,7 +12,8 @@ use Rattle.line_rewrite.specs.LineAnswers.{first_address}
 
 -- the rows from a place of a program on
 abbrev pub rows_at_place : Coding → List ℕ → List ℕ → Registers → ℕ → List Registers
-rows_at_place coding lengths bytes r place = rows_from coding r (operations coding.opcode_base lengths (drop place bytes))
+rows_at_place coding lengths bytes r place = rows_from coding r
+    (operations coding.opcode_base lengths (drop place bytes))
 
 -- a state from which the rows from the i-th on follow, of which there is one
 pub record IsBefore (coding : Coding) (lengths bytes : List ℕ) (rows : List Registers) (i : ℕ) (k : Kept) : Type 0 where

@@ -24,5 +24,6 @@ pub record IsKept (coding : Coding) (lengths program : List ℕ) (k : KeptSequen
 
 -- the sequences of a program are kept
 pub record AreSequences (coding : Coding) (lengths program : List ℕ) (ks : List KeptSequence) : Type 0 where
-  pub are : sequences coding (operations coding.opcode_base lengths program) ≡ map (told_sequence coding lengths program) ks
+  pub are : sequences coding (operations coding.opcode_base lengths program) ≡ map
+      (told_sequence coding lengths program) ks
   pub kept : All (IsKept coding lengths program) ks

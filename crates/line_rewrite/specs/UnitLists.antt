@@ -47,7 +47,8 @@ abbrev pub place_range : Walked → Range
 place_range w = record { low = w.place; high = w.place + 1 }
 
 -- what is kept of a section without a fault
-pub record AreLines (s : LineSections) (us : List kept.Unit) (sequences : SequenceIndex) (offsets : FirstRange) : Type 0 where
+pub record AreLines (s : LineSections) (us : List kept.Unit) (sequences : SequenceIndex)
+    (offsets : FirstRange) : Type 0 where
   pub version : line_version s ≡ None
   pub units : AreUnits s.strings (walked 5 s.line) us
   pub indexed : IsIndexOf us sequences

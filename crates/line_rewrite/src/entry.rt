@@ -177,7 +177,7 @@ fn read_entry<'a>(
     }
 }
 
-// So many entries.
+// Reads so many entries of a format.
 fn read_entries<'a>(
     alloc: Global,
     texts: &Texts,

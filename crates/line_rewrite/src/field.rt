@@ -29,7 +29,7 @@ fn read_field<'a>(cursor: &mut Cursor<'a>) -> Result<Field, Trouble>
     Ok(Field { content, form })
 }
 
-/// So many fields.
+/// Reads the format of entries: so many fields, each a type of content and a form.
 pub fn read_format<'a>(
     alloc: Global,
     cursor: &mut Cursor<'a>,

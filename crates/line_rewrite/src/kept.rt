@@ -3,10 +3,10 @@
 use crate::registers::Registers;
 
 /// For how many rows one state is kept, at most.
-pub const MAX_ROWS: usize = 64;
+pub const MAX_ROWS: usize = 16;
 
 /// For how many bytes of a program one state is kept, where there are rows.
-pub const MAX_BYTES: usize = 512;
+pub const MAX_BYTES: usize = 128;
 
 /// The state of a walk before a row.
 #[derive(Clone, Copy)]

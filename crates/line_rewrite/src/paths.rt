@@ -15,6 +15,10 @@ use std::alloc::{AllocError, Global};
 
 const SLASH: u8 = b'/';
 
+// How many bytes the paths of rows in force at one address have at most: each row has its own copy of a path that may
+// be as long as the file.
+const MOST_BYTES: usize = 1 << 27;
+
 fn is_absolute(name: &[u8]) -> bool
     ensures { result ≡ is_absolute name.now }
 {
@@ -116,18 +120,26 @@ fn row_said(
     }
 }
 
-// Adds a row, if there is one.
-fn push_row(said: &mut Vec<LineRow>, row: Option<LineRow>) -> Result<(), AllocError>
+// Adds a row, if there is one. The paths of all rows have so many bytes, which may not be too many.
+fn push_row(
+    said: &mut Vec<LineRow>,
+    row: Option<LineRow>,
+    bytes: &mut usize,
+) -> Result<(), AllocError>
     ensures { OnOk result (said.new.items ≡ said.old.items ++ option_to_list row) }
 {
     let Some(row) = row else {
         return Ok(());
     };
+    *bytes = bytes.saturating_add(row.path.len());
+    if *bytes > MOST_BYTES {
+        return Err(AllocError);
+    }
     said.push(row)?;
     Ok(())
 }
 
-/// The rows that have paths, with them.
+/// The rows that have paths, with them. Memory is wanting where the paths have too many bytes together.
 pub fn rows_said(
     alloc: Global,
     str: &[u8],
@@ -138,10 +150,11 @@ pub fn rows_said(
     ensures { IfOk result (λ said. said.items ≡ filter_map (row_said (told_unit
         (strings_held str.now line_str.now) unit.now)) rows.now) }
 {
-    let mut said = Vec::new(alloc);
+    let mut said = Vec::with_capacity(alloc, rows.len())?;
+    let mut bytes = 0;
     for row in rows {
         let row = row_said(alloc, str, line_str, unit, *row)?;
-        push_row(&mut said, row)?;
+        push_row(&mut said, row, &mut bytes)?;
     }
     Ok(said)
 }

@@ -37,8 +37,8 @@ fn low_of(kept: &[Kept], end: u64) -> u64
     }
 }
 
-/// The sequence that begins at a place of a program, and where the next one begins.
-pub fn sequence_at(
+// The sequence that begins at a place of a program, and where the next one begins.
+fn sequence_at(
     alloc: Global,
     coding: &Coding,
     lengths: &[u8],

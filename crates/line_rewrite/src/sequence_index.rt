@@ -47,7 +47,7 @@ fn add_unit(
 }
 
 impl SequenceIndex {
-    /// That of the sequences of some units.
+    /// An index of the sequences of some units.
     pub fn new(alloc: Global, units: &[Unit]) -> Result<SequenceIndex, NoMemory>
         ensures { IfOk result (λ index. IsIndexOf units.now index) }
     {

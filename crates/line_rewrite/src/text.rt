@@ -16,6 +16,7 @@ pub struct Texts<'s> {
 }
 
 impl<'s> Texts<'s> {
+    /// The texts of `.debug_str` and `.debug_line_str`.
     pub fn new(str: &'s [u8], line_str: &'s [u8]) -> Texts<'s>
         ensures str { result.str.now ≡ str.now }
         ensures line_str { result.line_str.now ≡ line_str.now }

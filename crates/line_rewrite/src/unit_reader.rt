@@ -20,7 +20,7 @@ use std::alloc::Global;
 struct Outer<'a> {
     address_size: u8,
     segment_size: u8,
-    /// Those of the header behind its length.
+    /// The bytes of the header behind its length.
     fields: &'a [u8],
     program: &'a [u8],
 }

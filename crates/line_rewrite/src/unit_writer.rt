@@ -1,7 +1,5 @@
 // Line units as bytes. DWARF 5, sections 6.2.4 and 7.22.
-ghost use Rattle.std.specs.Prelude.{◌≡◌, ◌<◌, ◌≤◌, ◌-◌, ◌++◌, ◌^◌, All, IfOk, OnOk, length};
-ghost use Rattle.byteorder.specs.Endian.{little_bytes};
-ghost use Rattle.line_rewrite.specs.WrittenPrograms.{closed};
+ghost use Rattle.std.specs.Prelude.{◌≡◌, ◌<◌, ◌-◌, ◌++◌, ◌^◌, All, OnOk, length};
 ghost use Rattle.line_rewrite.specs.WrittenUnits as spec;
 
 use crate::header::Header;
@@ -9,9 +7,8 @@ use crate::op_writer::{OPCODE_BASE, put_bytes};
 use crate::row_writer::LINE_RANGE;
 use crate::run_writer::Program;
 use crate::unit::Unit;
-use byteorder::{ByteOrder, LittleEndian};
 use rb_bytes::fault::NoMemory;
-use std::alloc::Global;
+use rb_bytes::little::put_u32;
 
 /// The line base of units that are written, -5, in two's complement.
 const LINE_BASE: u8 = 251;
@@ -21,14 +18,6 @@ const OPERAND_COUNTS: [u8; 12] = [0, 1, 1, 1, 1, 0, 0, 0, 1, 0, 0, 1];
 
 /// How many bytes a unit has beside its program and what stands behind the counts of operands.
 const FIXED_SIZE: usize = 26;
-
-fn put_u32(out: &mut Vec<u8>, n: u32) -> Result<(), NoMemory>
-    ensures { OnOk result (out.new.items ≡ out.old.items ++ little_bytes 4 n) }
-{
-    let mut field = [0; 4];
-    LittleEndian::write_u32(&mut field, n);
-    put_bytes(out, &field)
-}
 
 fn flag_byte(flag: bool) -> u8
     ensures { result ≡ spec.flag_byte flag }

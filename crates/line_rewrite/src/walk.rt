@@ -1,7 +1,7 @@
 // Programs walked from a kept state.
-ghost use Rattle.std.specs.Prelude.{◌≡◌, ◌<◌, ◌≤◌, ◌+◌, length, take, IfOk, OnOk};
+ghost use Rattle.std.specs.Prelude.{◌≡◌, ◌<◌, ◌≤◌, ◌+◌, ◌∷◌, [], length, take, IfNone, IfOk, IfSome, OnOk};
 ghost use Rattle.line_rewrite.specs.Operations.{operations};
-ghost use Rattle.line_rewrite.specs.LineMachine.{rows_from};
+ghost use Rattle.line_rewrite.specs.LineMachine.{after_row, rows_from};
 ghost use Rattle.line_rewrite.specs.Walks.{joined, latest, none_between};
 
 use crate::coding::Coding;
@@ -12,7 +12,10 @@ use crate::registers::Registers;
 use rb_bytes::cursor::Cursor;
 use std::alloc::AllocError;
 
-// The rows in force after one more row was reached.
+// How many rows are held at one address at most: each byte of a program may give one more there.
+const MOST_ROWS: usize = 1 << 22;
+
+// The rows in force after one more row was reached. Memory is wanting where there are too many of them.
 fn join(found: &mut Vec<Registers>, row: Registers) -> Result<(), AllocError>
     ensures { IfOk result (λ _. found.new.items ≡ joined found.old.items row) }
 {
@@ -24,8 +27,43 @@ fn join(found: &mut Vec<Registers>, row: Registers) -> Result<(), AllocError>
         }
         None => {}
     }
+    if found.len() >= MOST_ROWS {
+        return Err(AllocError);
+    }
     found.push(row)?;
     Ok(())
+}
+
+// The next row that a program reaches from a state on, and which it appends before the sequence ends.
+fn next_row(
+    coding: &Coding,
+    lengths: &[u8],
+    cursor: &mut Cursor<'_>,
+    registers: Registers,
+) -> Option<Registers>
+    requires range { 0 < coding.now.line_range }
+    requires lengths { coding.now.opcode_base ≤ length lengths.now + 1 }
+    ensures some { IfSome result (λ row.
+        rows_from coding.now registers (operations coding.now.opcode_base lengths.now cursor.old.left)
+        ≡ row ∷ rows_from coding.now (after_row row) (operations coding.now.opcode_base lengths.now cursor.new.left)) }
+    ensures none { IfNone result
+        (rows_from coding.now registers (operations coding.now.opcode_base lengths.now cursor.old.left) ≡ []) }
+{
+    let mut present = registers;
+    'ops: while cursor.left() > 0 {
+        let Ok(op) = read_op(cursor, coding.opcode_base, lengths) else {
+            return None;
+        };
+        let Some(next) = after_op(coding, op, present) else {
+            return None;
+        };
+        match effect_of(op) {
+            Effect::Ends => return None,
+            Effect::Sets => present = next,
+            Effect::Appends => return Some(next),
+        }
+    }
+    None
 }
 
 /// Finds the rows in force at an address, of those that were found before and so many rows from a state on.
@@ -45,29 +83,15 @@ pub fn add_rows(
 {
     let mut cursor = Cursor::new(bytes);
     let mut present = registers;
-    let mut left = count;
-    'ops: while cursor.left() > 0 {
-        if left == 0 {
-            return Ok(());
-        }
-        let Ok(op) = read_op(&mut cursor, coding.opcode_base, lengths) else {
+    for n in 0..count {
+        let Some(row) = next_row(coding, lengths, &mut cursor, present) else {
             return Ok(());
         };
-        let Some(next) = after_op(coding, op, present) else {
+        if row.address > a {
             return Ok(());
-        };
-        match effect_of(op) {
-            Effect::Ends => return Ok(()),
-            Effect::Sets => present = next,
-            Effect::Appends => {
-                if next.address > a {
-                    return Ok(());
-                }
-                join(found, next)?;
-                present = after_row(next);
-                left -= 1;
-            }
         }
+        join(found, row)?;
+        present = after_row(row);
     }
     Ok(())
 }
@@ -89,31 +113,17 @@ pub fn none_between(
 {
     let mut cursor = Cursor::new(bytes);
     let mut present = registers;
-    let mut left = count;
-    'ops: while cursor.left() > 0 {
-        if left == 0 {
-            return true;
-        }
-        let Ok(op) = read_op(&mut cursor, coding.opcode_base, lengths) else {
+    for n in 0..count {
+        let Some(row) = next_row(coding, lengths, &mut cursor, present) else {
             return true;
         };
-        let Some(next) = after_op(coding, op, present) else {
+        if row.address > b {
             return true;
-        };
-        match effect_of(op) {
-            Effect::Ends => return true,
-            Effect::Sets => present = next,
-            Effect::Appends => {
-                if next.address > b {
-                    return true;
-                }
-                if next.address > a {
-                    return false;
-                }
-                present = after_row(next);
-                left -= 1;
-            }
         }
+        if row.address > a {
+            return false;
+        }
+        present = after_row(row);
     }
     true
 }

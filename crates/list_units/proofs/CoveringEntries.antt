@@ -41,7 +41,12 @@ module _ (s : ListSections) (u : Unit) (a : ℕ) where
           map (λ (r : Ranged). r.entry.place)
           (if b then record { entry = e; own = Some ranges; nearest = nearest } ∷ filter (λ (r : Ranged). hold r.own a) more
           else filter (λ (r : Ranged). hold r.own a) more)
-          ≡ map (λ (x : SeenEntry). x.place) (if b then record { place = e.place; own = own_place u; index = ranges_index e.attrs; held = b } ∷ [] else [])
+          ≡ map (λ (x : SeenEntry). x.place) (if b then record {
+            place = e.place;
+            own = own_place u;
+            index = ranges_index e.attrs;
+            held = b;
+          } ∷ [] else [])
           ++ covered_by more a
       step true = refl
       step false = refl
@@ -49,8 +54,10 @@ module _ (s : ListSections) (u : Unit) (a : ℕ) where
   own_covered : (before es : List Entry) → covered_by (ranged_from (ranges_of s u) before es) a ≡ places_held (seen_in s u es a)
   own_covered before [] = refl
   own_covered before (e ∷ es) =
-      one_covered e (ranges_of s u e) (first_of (filter_map (ranges_of s u) (e ∷ enclosing e.depth before))) (ranged_from (ranges_of s u) (e ∷ before) es)
-      ∙ ap (λ (l : List ℕ). places_held (seen_of e.place (own_place u) (ranges_index e.attrs) (ranges_of s u e) a) ++ l) (own_covered (e ∷ before) es)
+      one_covered e (ranges_of s u e) (first_of (filter_map (ranges_of s u) (e ∷ enclosing e.depth before)))
+      (ranged_from (ranges_of s u) (e ∷ before) es)
+      ∙ ap (λ (l : List ℕ). places_held (seen_of e.place (own_place u) (ranges_index e.attrs) (ranges_of s u e) a) ++ l)
+      (own_covered (e ∷ before) es)
       ∙ sym (places_append (seen_of e.place (own_place u) (ranges_index e.attrs) (ranges_of s u e) a) (seen_in s u es a))
 
 units_covered : (s : ListSections) (us : List Unit) (a : ℕ) → covered_by (flat_map (ranged_in s) us) a
@@ -69,8 +76,10 @@ places_kept covers (r ∷ rs) a = step (group_holds covers r.group a) (places_ke
   where
     step : (b : Bool) → held_places covers rs a ≡ places_held (seen_kept covers rs a) →
         map (λ (r : RangedEntry). r.place)
-        (if b then r ∷ filter (λ (r : RangedEntry). group_holds covers r.group a) rs else filter (λ (r : RangedEntry). group_holds covers r.group a) rs)
-        ≡ map (λ (x : SeenEntry). x.place) (if b then record { place = r.place; own = r.own; index = r.index; held = b } ∷ filter (λ (x : SeenEntry). x.held) (seen_kept covers rs a)
+        (if b then r ∷ filter (λ (r : RangedEntry). group_holds covers r.group a) rs else filter
+        (λ (r : RangedEntry). group_holds covers r.group a) rs)
+        ≡ map (λ (x : SeenEntry). x.place) (if b then record { place = r.place; own = r.own; index = r.index; held = b }
+        ∷ filter (λ (x : SeenEntry). x.held) (seen_kept covers rs a)
         else filter (λ (x : SeenEntry). x.held) (seen_kept covers rs a))
     step true e = ap (λ (l : List ℕ). r.place ∷ l) e
     step false e = e

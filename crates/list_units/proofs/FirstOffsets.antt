@@ -126,4 +126,5 @@ all_pass p (n ∷ ns) e = step (p n) refl e (all_pass p ns)
         filter_front p n (filter (other n) (firsts ns)) f
         ∙ ap (λ (l : List ℕ). n ∷ l)
         (filter_swap p (other n) (firsts ns)
-        ∙ ap (filter (other n)) (ih (sym (ap (λ (b : Bool). if not b then n ∷ filter (λ n. not (p n)) ns else filter (λ n. not (p n)) ns) f) ∙ e)))
+        ∙ ap (filter (other n)) (ih (sym (ap (λ (b : Bool). if not b then n ∷ filter (λ n. not (p n)) ns else filter (λ n. not (p n)) ns) f)
+        ∙ e)))

@@ -114,8 +114,10 @@ pub unit_gathered : (s : ListSections) (es : List ListedEntry) (old new : Groups
 unit_gathered s es old new olds news known f g =
     record {
       added = g.added;
-      lacks = lacks_all ranges_kind s.ranges s.units.addr (plain_unit es) (flat_map (λ (e : ListedEntry). e.attrs) es) f (plain_attrs es) g.noted;
-      bad = bad_all ranges_kind s.ranges s.units.addr (plain_unit es) (flat_map (λ (e : ListedEntry). e.attrs) es) f (plain_attrs es) g.noted;
+      lacks = lacks_all ranges_kind s.ranges s.units.addr (plain_unit es) (flat_map (λ (e : ListedEntry). e.attrs) es) f
+          (plain_attrs es) g.noted;
+      bad = bad_all ranges_kind s.ranges s.units.addr (plain_unit es) (flat_map (λ (e : ListedEntry). e.attrs) es) f
+          (plain_attrs es) g.noted;
     }
 
 -- one entry more

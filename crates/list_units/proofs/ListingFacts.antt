@@ -19,7 +19,8 @@ use Rattle.dw_lists.specs.Faults.{ListSections}
 use Rattle.dw_lists.specs.KnownLists.{location_list}
 use Rattle.dw_lists.specs.Lists.{locations_kind, has_list, list_of, list_offset}
 use Rattle.dw_lists.specs.UnitLists.{own_place}
-use Rattle.list_units.specs.Listing.{ListItem, list_index, list_named, item_of, attr_items, entry_items, unit_items, IsNameOf, AreNamesOf, HasMore}
+use Rattle.list_units.specs.Listing.{ListItem, list_index, list_named, item_of, attr_items, entry_items, unit_items, IsNameOf, AreNamesOf}
+use Rattle.list_units.specs.Listing.{HasMore}
 use Rattle.list_units.specs.Listing.{name_of, list_found, index_found}
 use Rattle.list_units.proofs.LocationFacts.{number_same}
 use Rattle.list_units.proofs.PlainUnits.{whole}
@@ -55,7 +56,8 @@ block_listed form block = step (form == DW_FORM_sec_offset) (form == DW_FORM_loc
 pub names_block : (s : ListSections) (u : Unit) (a : Attr) → is_located a.name ≡ true → is_block a.form ≡ true → list_named s u a ≡ None
 names_block s u a located block = names_none s u a (λ i. located i && block_listed a.form block i)
 
-pub names_one : (s : ListSections) (u : Unit) (a : Attr) (at : ℕ) → has_list locations_kind a ≡ true → list_offset locations_kind s.locations u a ≡ Some at →
+pub names_one : (s : ListSections) (u : Unit) (a : Attr) (at : ℕ) → has_list locations_kind a ≡ true →
+    list_offset locations_kind s.locations u a ≡ Some at →
     list_named s u a ≡ location_list s u at
 names_one s u a at e f = (λ i. if e i then option_and_then (location_list s u) (f i) else None)
 
@@ -87,13 +89,15 @@ module _ (lists : List KeptList) (place attr own : ℕ) (index : Option ℕ) (na
 
 -- One attribute more, and one list of names behind another
 
-pub named_one : (s : ListSections) (u : Unit) (e : Entry) (name : ℕ) (olds lists : List KeptList) (before named : List NamedList) (number : Option ℕ) →
+pub named_one : (s : ListSections) (u : Unit) (e : Entry) (name : ℕ) (olds lists : List KeptList) (before named : List NamedList)
+    (number : Option ℕ) →
     AreMore olds lists → IsNumberOf lists number (list_found s u name e) →
     named ≡ before ++ name_of e.place name (own_place u) (index_found name e) number →
     HasMore olds lists before named (attr_items s u e.place name (attr name e))
 named_one s u e name olds lists before named number more is made = λ others z.
     subst (λ (ns : List NamedList). AllZip (IsNameOf lists) ns (others ++ attr_items s u e.place name (attr name e))) (sym made)
-    (subst (λ (xs : List ListItem). AllZip (IsNameOf lists) (before ++ name_of e.place name (own_place u) (index_found name e) number) (others ++ xs))
+    (subst (λ (xs : List ListItem). AllZip (IsNameOf lists) (before ++ name_of e.place name (own_place u) (index_found name e) number)
+    (others ++ xs))
     (sym (items_are (attr name e)))
     (put_by lists e.place name (own_place u) (index_found name e) before others
     (zip_each (IsNameOf olds) (IsNameOf lists) before others z (λ n x. name_still olds lists n x more)) number (list_found s u name e) is))
@@ -112,10 +116,13 @@ names_joined olds now next lists before mid named xs ys more a b = λ others z.
 -- The names of a unit, by what is listed of its entries
 
 items_rest : (s : ListSections) (place offset : ℕ) (e : Entry) (ds xs : List Entry) →
-    flat_map (entry_items s (plain_unit (map listed (e ∷ ds)))) (map plain (map listed xs)) ≡ flat_map (entry_items s (whole s place offset (e ∷ ds))) xs
+    flat_map (entry_items s (plain_unit (map listed (e ∷ ds)))) (map plain (map listed xs)) ≡ flat_map
+    (entry_items s (whole s place offset (e ∷ ds))) xs
 items_rest s place offset e ds [] = refl
-items_rest s place offset e ds (x ∷ xs) = ap (λ (l : List ListItem). entry_items s (whole s place offset (e ∷ ds)) x ++ l) (items_rest s place offset e ds xs)
+items_rest s place offset e ds (x ∷ xs) = ap (λ (l : List ListItem). entry_items s (whole s place offset (e ∷ ds)) x ++ l)
+    (items_rest s place offset e ds xs)
 
-pub items_listed : (s : ListSections) (place offset : ℕ) (es : List Entry) → unit_items s (plain_unit (map listed es)) ≡ unit_items s (whole s place offset es)
+pub items_listed : (s : ListSections) (place offset : ℕ) (es : List Entry) →
+    unit_items s (plain_unit (map listed es)) ≡ unit_items s (whole s place offset es)
 items_listed s place offset [] = refl
 items_listed s place offset (e ∷ ds) = items_rest s place offset e ds (e ∷ ds)

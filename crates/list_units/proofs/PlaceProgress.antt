@@ -1,5 +1,6 @@
 -- What was read of the locations of some units, with what is read of the next one.
-use Rattle.std.proofs.Common.{◌≡◌, ◌∙◌, ◌||◌, ◌&&◌, ◌==◌, ◌+◌, ◌-◌, ◌^◌, ◌++◌, ◌∷◌, [], ℕ, Bool, true, false, List, Option, Some, None, Ok, refl, sym, ap, subst, min, not}
+use Rattle.std.proofs.Common.{◌≡◌, ◌∙◌, ◌||◌, ◌&&◌, ◌==◌, ◌+◌, ◌-◌, ◌^◌, ◌++◌, ◌∷◌, [], ℕ, Bool, true, false, List, Option, Some, None, Ok}
+use Rattle.std.proofs.Common.{refl, sym, ap, subst, min, not}
 use Rattle.std.specs.Prelude.{if◌then◌else◌, flat_map, is_some}
 use Rattle.std.specs.List.{list_all}
 use Rattle.std.proofs.lemmas.Bool.{and_parts}
@@ -66,11 +67,13 @@ attrs_formed addr u (a ∷ attrs) e =
     let both = and_parts (is_sound_attr addr u a) (list_all (is_sound_attr addr u) attrs) e in
     (λ i. attr_formed addr u a both.0 i && attrs_formed addr u attrs both.1 i)
 
-entries_formed : (addr : List ℕ) (u : Unit) (es : List Entry) → list_all (λ (e : Entry). list_all (is_sound_attr addr u) e.attrs) es ≡ true →
+entries_formed : (addr : List ℕ) (u : Unit) (es : List Entry) → list_all (λ (e : Entry). list_all (is_sound_attr addr u) e.attrs) es ≡ true
+    →
     are_formed (flat_map (λ (e : Entry). e.attrs) es) ≡ true
 entries_formed addr u [] e = refl
 entries_formed addr u (x ∷ es) e =
-    let both = and_parts (list_all (is_sound_attr addr u) x.attrs) (list_all (λ (e : Entry). list_all (is_sound_attr addr u) e.attrs) es) e in
+    let both = and_parts (list_all (is_sound_attr addr u) x.attrs) (list_all (λ (e : Entry). list_all (is_sound_attr addr u) e.attrs) es) e
+    in
     list_all-append is_formed x.attrs (flat_map (λ (e : Entry). e.attrs) es)
     ∙ (λ i. attrs_formed addr u x.attrs both.0 i && entries_formed addr u es both.1 i)
 
@@ -124,7 +127,8 @@ module _ (s : ListSections) (ws : List Walked) (w : Walked) (old new : PlaceProg
   -- this one was read
   module _ (f : UnitFaults) (before : old.bad ≡ None) (good : fails (is_sound_unit s.units.addr) (unit_of s.units.abbrevs w)
       ≡ false) (u : Unit)
-      (read : unit_of s.units.abbrevs w ≡ Ok u) (x : IsUnitPlaced s u old.groups old.kept old.named.items new.groups new.kept new.named.items f)
+      (read : unit_of s.units.abbrevs w ≡ Ok u) (x : IsUnitPlaced s u old.groups old.kept old.named.items new.groups new.kept
+      new.named.items f)
       (ranges : new.bad_ranges ≡ lower old.bad_ranges f.ranges.bad) (locations : new.bad_locations
       ≡ lower old.bad_locations f.locations.bad)
       (indexes : new.index_weight ≡ min (old.index_weight + min (index_weight locations_kind.index_form u) (2 ^ 64 - 1)) (2 ^ 64 - 1)) where
@@ -149,7 +153,8 @@ module _ (s : ListSections) (ws : List Walked) (w : Walked) (old new : PlaceProg
           says = λ a. x.says a ∙ ap (λ (l : List PlaceSaid). l ++ unit_says s a u) (was.says a)
               ∙ sym (ap (flat_map (unit_says s a)) (units_more s ws w u read) ∙ flat-more (unit_says s a) (units_of s ws) u);
           ranges = bad_more s ranges_kind s.ranges ws w u old.bad_ranges new.bad_ranges f.ranges.bad read ranges was.ranges x.bad_ranges;
-          locations = bad_more s locations_kind s.locations ws w u old.bad_locations new.bad_locations f.locations.bad read locations was.locations
+          locations = bad_more s locations_kind s.locations ws w u old.bad_locations new.bad_locations f.locations.bad read locations
+              was.locations
               x.bad_locations;
           listed = x.listed formed ∙ ap (λ (l : List (ℕ → List (List ℕ))). l ++ unit_lists s u) was.listed
               ∙ sym (ap (flat_map (unit_lists s)) (units_more s ws w u read) ∙ flat-more (unit_lists s) (units_of s ws) u);
@@ -163,7 +168,8 @@ module _ (s : ListSections) (ws : List Walked) (w : Walked) (old new : PlaceProg
 pub unit_added : (s : ListSections) (ws : List Walked) (w : Walked) (old mid new : PlaceProgress) (r : UnitReading) (es : Vec ListedEntry) →
     IsProgress s ws old → IsReading s.units.abbrevs s.units.addr w r → mid.bad_form ≡ lower old.bad_form r.bad_form →
     mid.bad_high ≡ lower old.bad_high r.bad_high → mid.unformed ≡ lower old.unformed r.unformed → mid.groups ≡ old.groups →
-    mid.kept ≡ old.kept → mid.named ≡ old.named → mid.index_weight ≡ old.index_weight → mid.bad_ranges ≡ old.bad_ranges → mid.bad_locations ≡ old.bad_locations → mid.bad ≡ old.bad → old.bad ≡ None →
+    mid.kept ≡ old.kept → mid.named ≡ old.named → mid.index_weight ≡ old.index_weight → mid.bad_ranges ≡ old.bad_ranges →
+    mid.bad_locations ≡ old.bad_locations → mid.bad ≡ old.bad → old.bad ≡ None →
     r.entries ≡ Some es → IsUnitAdded s es.items w.place mid new → IsProgress s (ws ++ w ∷ []) new
 unit_added s ws w old mid new r es are is form high unform groups kept named weight ranges locations bad before some added =
     let behind = entries_by s w r (Some es) is some in
@@ -172,11 +178,13 @@ unit_added s ws w old mid new r es are is form high unform groups kept named wei
     subst (λ (g : Groups). IsUnitPlaced s u.0 g old.kept old.named.items new.groups new.kept new.named.items added.faults) groups
     (subst (λ (l : Locations). IsUnitPlaced s u.0 mid.groups l old.named.items new.groups new.kept new.named.items added.faults) kept
     (subst (λ (v : Vec NamedList). IsUnitPlaced s u.0 mid.groups mid.kept v.items new.groups new.kept new.named.items added.faults) named
-    (unit_of_listed s u.0 es.items mid.groups new.groups mid.kept new.kept mid.named.items new.named.items added.faults u.2 added.placed))) in
+    (unit_of_listed s u.0 es.items mid.groups new.groups mid.kept new.kept mid.named.items new.named.items added.faults u.2 added.placed)))
+    in
     by_offset s ws w old new r are is (added.form ∙ form) (added.high ∙ high) (added.unformed_is
     ∙ unform) added.faults before behind.0 u.0 u.1 x
     (added.ranges ∙ ap (λ (o : Option ℕ). lower o added.faults.ranges.bad) ranges)
     (added.locations ∙ ap (λ (o : Option ℕ). lower o added.faults.locations.bad) locations)
     (added.indexes ∙ (λ i. min (weight i + min (unit_weight locations_kind.index_form u.0 es.items u.2 i) (2 ^ 64 - 1)) (2 ^ 64 - 1)))
     (added.faults.ranges.lacks_offset || added.faults.locations.lacks_offset) refl
-    (added.bad ∙ ap (λ (o : Option ℕ). if added.faults.ranges.lacks_offset || added.faults.locations.lacks_offset then Some w.place else o) bad)
+    (added.bad ∙ ap (λ (o : Option ℕ). if added.faults.ranges.lacks_offset || added.faults.locations.lacks_offset then Some w.place else o)
+    bad)

@@ -1,5 +1,6 @@
 -- Entries of a unit with their ranges and locations, one entry more.
-use Rattle.std.proofs.Common.{◌≡◌, ◌∙◌, ◌+◌, ◌<◌, ◌≤◌, ◌++◌, ◌∷◌, [], ℕ, true, false, List, Option, None, BTreeMap, refl, sym, ap, subst, arith}
+use Rattle.std.proofs.Common.{◌≡◌, ◌∙◌, ◌+◌, ◌<◌, ◌≤◌, ◌++◌, ◌∷◌, [], ℕ, true, false, List, Option, None, BTreeMap, refl, sym, ap, subst}
+use Rattle.std.proofs.Common.{arith}
 use Rattle.std.proofs.Common.{length, reverse, append-nil, append_assoc, map, get_or, take, drop}
 use Rattle.std.proofs.lemmas.Bool.{and_parts}
 use Rattle.std.proofs.lemmas.List.{drop_all, drop_more, take_all, take_more, map_push, reverse-append}
@@ -55,8 +56,10 @@ module _ (s : ListSections) (u : Unit) (e : Entry) (before : List Entry) where
       ++ attr_says e.place DW_AT_frame_base (if has.holds p i then option_map_or (λ v. expressions_of s u v p)
       (attr DW_AT_frame_base e) [] else []))
 
-module _ (s : ListSections) (u : Unit) (first : Groups) (old : Locations) (before : List NamedList) (e : Entry) (done rest : List Entry) (attrs : List Attr) where
-  pub placed_next : (g mid new : Groups) (kept newer : Locations) (named more : List NamedList) (state after : UnitState) (others f : UnitFaults)
+module _ (s : ListSections) (u : Unit) (first : Groups) (old : Locations) (before : List NamedList) (e : Entry) (done rest : List Entry)
+    (attrs : List Attr) where
+  pub placed_next : (g mid new : Groups) (kept newer : Locations) (named more : List NamedList) (state after : UnitState)
+      (others f : UnitFaults)
       (was : BTreeMap ℕ (Option ℕ))
       (own n : Option ℕ) → ArePlaced s u first old before g kept named state done (e ∷ rest) attrs others →
       Grow g mid × AreKnown (range_list s u) mid was × AreNoted ranges_kind s.ranges s.units.addr u (attrs ++ e.attrs) f.ranges →
@@ -108,7 +111,8 @@ module _ (s : ListSections) (u : Unit) (first : Groups) (old : Locations) (befor
       }
 
 -- nothing is placed yet
-pub placed_none : (s : ListSections) (u : Unit) (first : Groups) (old : Locations) (before : List NamedList) (state : UnitState) (f : UnitFaults) →
+pub placed_none : (s : ListSections) (u : Unit) (first : Groups) (old : Locations) (before : List NamedList) (state : UnitState)
+    (f : UnitFaults) →
     AreNumbered first →
     AreHeld first.count old → IsEmpty state.ranges → IsEmpty state.locations → state.entries.items ≡ [] →
     f ≡ record { ranges = record { lacks_offset = false; bad = None }; locations = record { lacks_offset = false; bad = None } } →
@@ -130,9 +134,11 @@ placed_none s u first old before state f numbered held no_ranges no_locations no
 }
 
 -- all of a unit is
-pub unit_placed : (s : ListSections) (es : List ListedEntry) (first g : Groups) (old kept : Locations) (before named : List NamedList) (state : UnitState)
+pub unit_placed : (s : ListSections) (es : List ListedEntry) (first g : Groups) (old kept : Locations) (before named : List NamedList)
+    (state : UnitState)
     (done : List Entry)
-    (f : UnitFaults) → ArePlaced s (plain_unit es) first old before g kept named state done [] (flat_map (λ (e : ListedEntry). e.attrs) es) f →
+    (f : UnitFaults) → ArePlaced s (plain_unit es) first old before g kept named state done [] (flat_map (λ (e : ListedEntry). e.attrs) es)
+    f →
     IsUnitPlaced s (plain_unit es) first old before g kept named f
 unit_placed s es first g old kept before named state done f x =
     let attrs : List Attr = flat_map (λ (e : ListedEntry). e.attrs) es in
@@ -142,7 +148,8 @@ unit_placed s es first g old kept before named state done f x =
       says = λ p. sym (append-nil (all_located g.covers.items kept.lists.items kept.located.items p)) ∙ x.says p;
       listed = λ formed.
           (x.listed (ap are_formed (sym (plain_attrs es)) ∙ formed)).kept
-          ∙ ap (λ (l : List Attr). all_say old.lists.items ++ read_at s (plain_unit es) (firsts (offsets_in s (plain_unit es) l))) (sym (plain_attrs es));
+          ∙ ap (λ (l : List Attr). all_say old.lists.items ++ read_at s (plain_unit es) (firsts (offsets_in s (plain_unit es) l)))
+          (sym (plain_attrs es));
       names = λ formed items z.
           let m = x.names (ap are_formed (sym (plain_attrs es)) ∙ formed) items z in
           subst (AreNamesOf kept.lists.items named) (sym (append-nil m.0) ∙ m.2) m.1;
@@ -159,13 +166,15 @@ module _ (s : ListSections) (u : Unit) (first : Groups) (old : Locations) (befor
     (named : List NamedList) (state : UnitState) (f : UnitFaults)
     (es : List ListedEntry) (n : ℕ) where
   module _ (x : ListedEntry) (lt : n < length es) (is : x ≡ get_or es n x) where
-    pub placed_front : (done : List Entry) (attrs : List Attr) → ArePlaced s u first old before g kept named state done (map plain (drop n es)) attrs f →
+    pub placed_front : (done : List Entry) (attrs : List Attr) →
+        ArePlaced s u first old before g kept named state done (map plain (drop n es)) attrs f →
         ArePlaced s u first old before g kept named state done (plain x ∷ map plain (drop (n + 1) es)) attrs f
     placed_front done attrs placed =
         subst (λ (l : List ListedEntry). ArePlaced s u first old before g kept named state done (map plain l) attrs f)
         (drop_more es n x lt ∙ ap (λ (x : ListedEntry). x ∷ drop (n + 1) es) (sym is)) placed
 
-    pub placed_item : (rest : List Entry) → ArePlaced s u first old before g kept named state (plain x ∷ reverse (map plain (take n es))) rest
+    pub placed_item : (rest : List Entry) → ArePlaced s u first old before g kept named state (plain x ∷ reverse (map plain (take n es)))
+        rest
         (flat_map (λ (e : ListedEntry). e.attrs) (take n es) ++ x.attrs) f →
         ArePlaced s u first old before g kept named state (reverse (map plain (take (n + 1) es))) rest
         (flat_map (λ (e : ListedEntry). e.attrs) (take (n + 1) es)) f
@@ -178,15 +187,18 @@ module _ (s : ListSections) (u : Unit) (first : Groups) (old : Locations) (befor
         ≡ flat_map (λ (e : ListedEntry). e.attrs) (take (n + 1) es) =
         sym (ap (flat_map (λ (e : ListedEntry). e.attrs)) more ∙ flat-more (λ (e : ListedEntry). e.attrs) (take n es) x) in
         subst (λ (l : List Attr). ArePlaced s u first old before g kept named state (reverse (map plain (take (n + 1) es))) rest l f) attrs
-        (subst (λ (l : List Entry). ArePlaced s u first old before g kept named state l rest (flat_map (λ (e : ListedEntry). e.attrs) (take n es)
+        (subst (λ (l : List Entry). ArePlaced s u first old before g kept named state l rest
+        (flat_map (λ (e : ListedEntry). e.attrs) (take n es)
         ++ x.attrs) f)
         done placed)
 
   pub placed_all : (done : List Entry) → length es ≤ n →
-      ArePlaced s u first old before g kept named state done (map plain (drop n es)) (flat_map (λ (e : ListedEntry). e.attrs) (take n es)) f →
+      ArePlaced s u first old before g kept named state done (map plain (drop n es)) (flat_map (λ (e : ListedEntry). e.attrs) (take n es)) f
+      →
       ArePlaced s u first old before g kept named state done [] (flat_map (λ (e : ListedEntry). e.attrs) es) f
   placed_all done le placed =
-      subst (λ (l : List ListedEntry). ArePlaced s u first old before g kept named state done [] (flat_map (λ (e : ListedEntry). e.attrs) l) f)
+      subst (λ (l : List ListedEntry). ArePlaced s u first old before g kept named state done [] (flat_map (λ (e : ListedEntry). e.attrs) l)
+      f)
       (take_all n es le)
       (subst (λ (l : List ListedEntry). ArePlaced s u first old before g kept named state done (map plain l)
       (flat_map (λ (e : ListedEntry). e.attrs) (take n es)) f)

@@ -98,7 +98,8 @@ lists_listed s place offset (e ∷ es) =
     (attrs_listed (e ∷ es))
 
 -- the unit that was read is placed
-pub unit_of_listed : (s : ListSections) (u : Unit) (es : List ListedEntry) (first g : Groups) (old kept : Locations) (before named : List NamedList) (f : UnitFaults) →
+pub unit_of_listed : (s : ListSections) (u : Unit) (es : List ListedEntry) (first g : Groups) (old kept : Locations)
+    (before named : List NamedList) (f : UnitFaults) →
     map listed u.entries ≡ es → IsUnitPlaced s (plain_unit es) first old before g kept named f →
     IsUnitPlaced s u first old before g kept named f
 unit_of_listed s u es first g old kept before named f is placed =

@@ -43,12 +43,14 @@ bad_is s p o are tables = by_bad p.bad refl
   where
     by_bad : (x : Option ℕ) → p.bad ≡ x →
         option_or x (option_or (bad_address_table s.units.addr) (lower o p.bad_table)) ≡ (range_places s).bad
-    by_bad (Some n) e = ap (λ (x : Option ℕ). option_or x (option_or (bad_address_table s.units.addr) (bad_table ranges_kind s.ranges s.units))) (sym e ∙ are.bad)
+    by_bad (Some n) e = ap (λ (x : Option ℕ). option_or x (option_or (bad_address_table s.units.addr)
+        (bad_table ranges_kind s.ranges s.units))) (sym e ∙ are.bad)
     by_bad None e =
         ap (option_or (bad_address_table s.units.addr))
         ((λ i. lower (tables i) ((are.gathered e).bad i))
         ∙ sym (least-append (of_tables s) (flat_map (bad_list_tables ranges_kind s.ranges s.units.addr) (units s.units))))
-        ∙ ap (λ (x : Option ℕ). option_or x (option_or (bad_address_table s.units.addr) (bad_table ranges_kind s.ranges s.units))) (sym e ∙ are.bad)
+        ∙ ap (λ (x : Option ℕ). option_or x (option_or (bad_address_table s.units.addr) (bad_table ranges_kind s.ranges s.units)))
+        (sym e ∙ are.bad)
 
 pub left_none : (a b : Option ℕ) → option_or a b ≡ None → a ≡ None
 left_none None b e = refl
@@ -58,7 +60,8 @@ left_none (Some n) b e = absurd (cc)
 pub ranges_read : (s : ListSections) (p : Progress) → IsProgress s (walked 5 s.units.info) p → IsFree (HasDwarfFault (range_places s)) →
     AreRangesOf s p.groups p.ranged.items p.index_weight
 ranges_read s p are free =
-    let none : p.bad ≡ None = are.bad ∙ left_none (of_units s) (option_or (bad_address_table s.units.addr) (bad_table ranges_kind s.ranges s.units))
+    let none : p.bad ≡ None = are.bad ∙ left_none (of_units s) (option_or (bad_address_table s.units.addr)
+    (bad_table ranges_kind s.ranges s.units))
     (no_bad (range_places s).bad refl) in
     record {
       free = free;

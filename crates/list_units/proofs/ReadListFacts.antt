@@ -1,5 +1,6 @@
 -- The lists of a unit as they are read, one offset after another.
-use Rattle.std.proofs.Common.{◌≡◌, ◌≢◌, ◌∙◌, ◌==◌, ◌||◌, ◌&&◌, ◌++◌, ◌∷◌, [], ℕ, Bool, true, false, List, Option, Some, None, BTreeMap, refl, sym, ap}
+use Rattle.std.proofs.Common.{◌≡◌, ◌≢◌, ◌∙◌, ◌==◌, ◌||◌, ◌&&◌, ◌++◌, ◌∷◌, [], ℕ, Bool, true, false, List, Option, Some, None, BTreeMap}
+use Rattle.std.proofs.Common.{refl, sym, ap}
 use Rattle.std.proofs.Common.{arith, map, filter, append-nil, append_assoc, cond, nat_cmp, subst}
 use Rattle.std.specs.Prelude.{if◌then◌else◌, filter_map, is_some}
 use Rattle.std.specs.BTreeMap.{IsEmpty, get, is_at}
@@ -101,7 +102,8 @@ module _ (s : ListSections) (u : Unit) where
   -- a list that is read
   pub listed_new : (offsets : List ℕ) (first olds news : List KeptList) (was known : BTreeMap ℕ (Option ℕ)) (at : ℕ) (o : Option ℕ) →
       get nat_cmp was at ≡ None → ((q : ℕ) → get nat_cmp known q ≡ cond (is_at (nat_cmp at) q) (Some o) (get nat_cmp was q)) →
-      all_say news ≡ all_say olds ++ read_at s u (at ∷ []) → AreListed s u offsets first olds was → AreListed s u (offsets ++ at ∷ []) first news known
+      all_say news ≡ all_say olds ++ read_at s u (at ∷ []) → AreListed s u offsets first olds was →
+      AreListed s u (offsets ++ at ∷ []) first news known
   listed_new offsets first olds news was known at o none made read x =
       let away : is_among offsets at ≡ false = sym (x.keys at) ∙ ap is_some none in
       record {
@@ -112,7 +114,8 @@ module _ (s : ListSections) (u : Unit) where
             (sym (read_append (firsts offsets) (at ∷ [])) ∙ ap (read_at s u) (sym (firsts_new offsets at away)));
       }
     where
-      key : (q : ℕ) (b : Bool) → at == q ≡ b → is_some (cond (is_at (nat_cmp at) q) (Some o) (get nat_cmp was q)) ≡ (is_among offsets q || (at == q))
+      key : (q : ℕ) (b : Bool) → at == q ≡ b → is_some (cond (is_at (nat_cmp at) q) (Some o) (get nat_cmp was q)) ≡
+          (is_among offsets q || (at == q))
       key q true e =
           ap (λ (k : ℕ). is_some (cond (is_at (nat_cmp at) k) (Some o) (get nat_cmp was k))) (sym (same_of at q e))
           ∙ ap (λ (b : Bool). is_some (cond b (Some o) (get nat_cmp was at))) (at_same at)
@@ -126,7 +129,8 @@ module _ (s : ListSections) (u : Unit) where
   offsets_append : (xs ys : List Attr) → offsets_in s u (xs ++ ys) ≡ offsets_in s u xs ++ offsets_in s u ys
   offsets_append xs ys =
       ap (filter_map (list_offset locations_kind s.locations u)) (filter-append (has_list locations_kind) xs ys)
-      ∙ filter_map-append (list_offset locations_kind s.locations u) (filter (has_list locations_kind) xs) (filter (has_list locations_kind) ys)
+      ∙ filter_map-append (list_offset locations_kind s.locations u) (filter (has_list locations_kind) xs)
+      (filter (has_list locations_kind) ys)
 
   module _ (attrs : List Attr) (a : Attr) where
     pub offsets_past : has_list locations_kind a ≡ false → offsets_in s u (attrs ++ a ∷ []) ≡ offsets_in s u attrs
@@ -157,7 +161,8 @@ module _ (s : ListSections) (u : Unit) where
       ap (λ (b : Bool). b && (a.form == DW_FORM_sec_offset || a.form == DW_FORM_loclistx)) name
       ∙ sym (λ i. implies (name i) (block i || a.form == DW_FORM_sec_offset || a.form == DW_FORM_loclistx)) ∙ formed
 
-  among_there : (a : Attr) (attrs : List Attr) (at : ℕ) → has_list locations_kind a ≡ true → list_offset locations_kind s.locations u a ≡ Some at →
+  among_there : (a : Attr) (attrs : List Attr) (at : ℕ) → has_list locations_kind a ≡ true →
+      list_offset locations_kind s.locations u a ≡ Some at →
       is_among (offsets_in s u (a ∷ attrs)) at ≡ true
   among_there a attrs at names offset =
       ap (λ (b : Bool). is_among (filter_map (list_offset locations_kind s.locations u)
@@ -165,7 +170,8 @@ module _ (s : ListSections) (u : Unit) where
       ∙ ap (λ (o : Option ℕ). is_among (cons_option o (offsets_in s u attrs)) at) offset
       ∙ ap (λ (b : Bool). b || is_among (offsets_in s u attrs) at) (itself at)
 
-  among_behind : (a : Attr) (attrs : List Attr) (at : ℕ) → is_among (offsets_in s u attrs) at ≡ true → is_among (offsets_in s u (a ∷ attrs)) at ≡ true
+  among_behind : (a : Attr) (attrs : List Attr) (at : ℕ) → is_among (offsets_in s u attrs) at ≡ true →
+      is_among (offsets_in s u (a ∷ attrs)) at ≡ true
   among_behind a attrs at there = step (has_list locations_kind a)
     where
       by_offset : (o : Option ℕ) → is_among (cons_option o (offsets_in s u attrs)) at ≡ true

@@ -1,5 +1,6 @@
 -- What was read of some units, with what is read of the next one.
-use Rattle.std.proofs.Common.{◌≡◌, ◌∙◌, ◌||◌, ◌++◌, ◌∷◌, [], ℕ, Bool, true, false, List, Option, Some, None, Result, Ok, Err, refl, sym, ap, subst, map, arith, ◌+◌, ◌-◌, ◌^◌, min}
+use Rattle.std.proofs.Common.{◌≡◌, ◌∙◌, ◌||◌, ◌++◌, ◌∷◌, [], ℕ, Bool, true, false, List, Option, Some, None, Result, Ok, Err, refl, sym, ap}
+use Rattle.std.proofs.Common.{subst, map, arith, ◌+◌, ◌-◌, ◌^◌, min}
 use Rattle.std.specs.Prelude.{if◌then◌else◌, flat_map, is_some, MatchOption, sum_by}
 use Rattle.std.specs.Global.{Vec}
 use Rattle.std.proofs.lemmas.List.{map-append}
@@ -40,7 +41,8 @@ units_more s ws w u e =
     ∙ oks-append (map (unit_of s.units.abbrevs) ws) (unit_of s.units.abbrevs w ∷ [])
     ∙ ap (λ (r : Result Unit Trouble). units_of s ws ++ oks (r ∷ [])) e
 
-pub read_unit : (r : Result Unit Trouble) (es : List ListedEntry) → listed_unit r ≡ Ok es → (u : Unit) × (r ≡ Ok u) × (map listed u.entries ≡ es)
+pub read_unit : (r : Result Unit Trouble) (es : List ListedEntry) → listed_unit r ≡ Ok es →
+    (u : Unit) × (r ≡ Ok u) × (map listed u.entries ≡ es)
 read_unit (Ok u) es e = (u, refl, same_ok e)
   where
     same_ok : {X E : Type 0} {x y : X} → ◌≡◌ {A = Result X E} (Ok x) (Ok y) → x ≡ y
@@ -48,19 +50,24 @@ read_unit (Ok u) es e = (u, refl, same_ok e)
 read_unit (Err t) es e = absurd (cc)
 
 -- what is known of a unit by whether its entries were read
-pub entries_by : (s : ListSections) (w : Walked) (r : UnitReading) (o : Option (Vec ListedEntry)) → IsReading s.units.abbrevs s.units.addr w r →
+pub entries_by : (s : ListSections) (w : Walked) (r : UnitReading) (o : Option (Vec ListedEntry)) →
+    IsReading s.units.abbrevs s.units.addr w r →
     r.entries ≡ o → MatchOption o (fails (is_sound_unit s.units.addr) (unit_of s.units.abbrevs w) ≡ true)
-    (λ es. (fails (is_sound_unit s.units.addr) (unit_of s.units.abbrevs w) ≡ false) × (listed_unit (unit_of s.units.abbrevs w) ≡ Ok es.items))
+    (λ es. (fails (is_sound_unit s.units.addr) (unit_of s.units.abbrevs w) ≡ false)
+    × (listed_unit (unit_of s.units.abbrevs w) ≡ Ok es.items))
 entries_by s w r o is e = subst (λ o. MatchOption o (fails (is_sound_unit s.units.addr) (unit_of s.units.abbrevs w) ≡ true)
-    (λ es. (fails (is_sound_unit s.units.addr) (unit_of s.units.abbrevs w) ≡ false) × (listed_unit (unit_of s.units.abbrevs w) ≡ Ok es.items)))
+    (λ es. (fails (is_sound_unit s.units.addr) (unit_of s.units.abbrevs w) ≡ false)
+    × (listed_unit (unit_of s.units.abbrevs w) ≡ Ok es.items)))
     e is.behind.entries
 
 weights_more : (n m limit : ℕ) → min (min n limit + min m limit) limit ≡ min (n + m) limit
 weights_more n m limit = omega arith
 
 -- the weights of the tables of offsets of one unit more
-pub indexes_more : (s : ListSections) (form : ℕ) (ws : List Walked) (w : Walked) (u : Unit) (old new : ℕ) → unit_of s.units.abbrevs w ≡ Ok u →
-    new ≡ min (old + min (index_weight form u) (2 ^ 64 - 1)) (2 ^ 64 - 1) → old ≡ min (sum_by (index_weight form) (units_of s ws)) (2 ^ 64 - 1) →
+pub indexes_more : (s : ListSections) (form : ℕ) (ws : List Walked) (w : Walked) (u : Unit) (old new : ℕ) →
+    unit_of s.units.abbrevs w ≡ Ok u →
+    new ≡ min (old + min (index_weight form u) (2 ^ 64 - 1)) (2 ^ 64 - 1) →
+    old ≡ min (sum_by (index_weight form) (units_of s ws)) (2 ^ 64 - 1) →
     new ≡ min (sum_by (index_weight form) (units_of s (ws ++ w ∷ []))) (2 ^ 64 - 1)
 indexes_more s form ws w u old new read made before =
     made ∙ ap (λ (n : ℕ). min (n + min (index_weight form u) (2 ^ 64 - 1)) (2 ^ 64 - 1)) before
@@ -119,18 +126,22 @@ module _ (s : ListSections) (ws : List Walked) (w : Walked) (old new : Progress)
 
     by_offset : (b : Bool) → f.lacks_offset ≡ b → new.bad ≡ (if b then Some w.place else old.bad) → IsProgress s (ws ++ w ∷ []) new
     by_offset true lacks now =
-        with_bad g.added.grow.numbered g.added.within (now ∙ sym (bad_now (is_bad_unit s) ws w (sym are.bad ∙ before) (tested ∙ lacks))) (none_bad w.place now)
+        with_bad g.added.grow.numbered g.added.within (now ∙ sym (bad_now (is_bad_unit s) ws w (sym are.bad ∙ before) (tested ∙ lacks)))
+        (none_bad w.place now)
     by_offset false lacks now =
         let was = are.gathered before in
-        with_bad g.added.grow.numbered g.added.within (now ∙ before ∙ sym (still_good (is_bad_unit s) ws w (sym are.bad ∙ before) (tested ∙ lacks)))
+        with_bad g.added.grow.numbered g.added.within (now ∙ before
+        ∙ sym (still_good (is_bad_unit s) ws w (sym are.bad ∙ before) (tested ∙ lacks)))
         (λ none. record {
           seen = λ a. g.added.seen_are a ∙ ap (λ (l : List SeenEntry). l ++ seen_in s u u.entries a) (was.seen a)
               ∙ sym (ap (flat_map (λ (u : Unit). seen_in s u u.entries a)) (units_more s ws w u read)
               ∙ flat-more (λ (u : Unit). seen_in s u u.entries a) (units_of s ws) u);
           bad = table ∙ (λ i. lower (was.bad i) (g.bad i))
-              ∙ sym (ap (λ (us : List Unit). least (flat_map (bad_list_tables ranges_kind s.ranges s.units.addr) us)) (units_more s ws w u read)
+              ∙ sym (ap (λ (us : List Unit). least (flat_map (bad_list_tables ranges_kind s.ranges s.units.addr) us))
+              (units_more s ws w u read)
               ∙ ap least (flat-more (bad_list_tables ranges_kind s.ranges s.units.addr) (units_of s ws) u)
-              ∙ least-append (flat_map (bad_list_tables ranges_kind s.ranges s.units.addr) (units_of s ws)) (bad_list_tables ranges_kind s.ranges s.units.addr u));
+              ∙ least-append (flat_map (bad_list_tables ranges_kind s.ranges s.units.addr) (units_of s ws))
+              (bad_list_tables ranges_kind s.ranges s.units.addr u));
           indexes = indexes_more s ranges_kind.index_form ws w u old.index_weight new.index_weight read indexes was.indexes;
         })
 
@@ -138,7 +149,8 @@ module _ (s : ListSections) (ws : List Walked) (w : Walked) (old new : Progress)
 pub unit_added : (s : ListSections) (ws : List Walked) (w : Walked) (old mid new : Progress) (r : UnitReading) (es : Vec ListedEntry) →
     IsProgress s ws old → IsReading s.units.abbrevs s.units.addr w r → mid.bad_form ≡ lower old.bad_form r.bad_form →
     mid.bad_high ≡ lower old.bad_high r.bad_high → mid.unformed ≡ lower old.unformed r.unformed → mid.groups ≡ old.groups →
-    mid.ranged.items ≡ old.ranged.items → mid.index_weight ≡ old.index_weight → mid.bad_table ≡ old.bad_table → mid.bad ≡ old.bad → old.bad ≡ None → r.entries ≡ Some es →
+    mid.ranged.items ≡ old.ranged.items → mid.index_weight ≡ old.index_weight → mid.bad_table ≡ old.bad_table → mid.bad ≡ old.bad →
+    old.bad ≡ None → r.entries ≡ Some es →
     IsUnitAdded s es.items w.place mid new → IsProgress s (ws ++ w ∷ []) new
 unit_added s ws w old mid new r es are is form high unform groups ranged weight table bad before some added =
     let behind = entries_by s w r (Some es) is some in
@@ -147,7 +159,8 @@ unit_added s ws w old mid new r es are is form high unform groups ranged weight 
     subst (λ (x : Groups). IsUnitGathered s u.0 x old.ranged.items new.groups new.ranged.items added.faults) groups
     (subst (λ (x : List RangedEntry). IsUnitGathered s u.0 mid.groups x new.groups new.ranged.items added.faults) ranged
     (unit_of_listed s u.0 es.items mid.groups new.groups mid.ranged.items new.ranged.items added.faults u.2 added.gathered)) in
-    by_offset s ws w old new r are is (added.form ∙ form) (added.high ∙ high) (added.unformed_is ∙ unform) es.items added.faults before behind.0 u.0 u.1 g
+    by_offset s ws w old new r are is (added.form ∙ form) (added.high ∙ high) (added.unformed_is ∙ unform) es.items added.faults before
+    behind.0 u.0 u.1 g
     (added.table ∙ ap (λ (o : Option ℕ). lower o added.faults.bad) table)
     (added.indexes ∙ (λ i. min (weight i + min (unit_weight ranges_kind.index_form u.0 es.items u.2 i) (2 ^ 64 - 1)) (2 ^ 64 - 1)))
     added.faults.lacks_offset refl

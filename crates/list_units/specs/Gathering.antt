@@ -48,7 +48,13 @@ seen_in s u es a =
 -- of those that were kept
 abbrev pub seen_kept : List Cover → List RangedEntry → ℕ → List SeenEntry
 seen_kept covers kept a =
-    map (λ (r : RangedEntry). record { place = r.place; own = r.own; index = r.index; held = group_holds covers r.group a })
+    map (λ (r : RangedEntry). record {
+      place = r.place;
+      own = r.own;
+      index = r.index;
+      held = group_holds covers r.group
+          a;
+    })
     kept
 
 -- Entries with ranges are added, and no other changes what it holds.

@@ -1,5 +1,6 @@
 -- Which attributes of which entries name location lists, and what these say. DWARF 5, section 7.29.
-use Rattle.std.specs.Prelude.{◌≡◌, ◌<◌, ◌==◌, ◌++◌, ℕ, List, [], ◌∷◌, if◌then◌else◌, length, flat_map, option_and_then, Option, Some, None}
+use Rattle.std.specs.Prelude.{◌≡◌, ◌<◌, ◌==◌, ◌++◌, ℕ, List, [], ◌∷◌, if◌then◌else◌, length, flat_map, option_and_then}
+use Rattle.std.specs.Prelude.{Option, Some, None}
 use Rattle.std.specs.List.{AllZip}
 use Rattle.table_core.specs.declared.form.TheConstants.{DW_FORM_loclistx}
 use Rattle.dw_unit.specs.declared.attribute.TheConstants.{DW_AT_location, DW_AT_frame_base}

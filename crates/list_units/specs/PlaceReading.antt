@@ -56,7 +56,8 @@ pub record IsProgress (s : ListSections) (ws : List Walked) (p : PlaceProgress) 
 -- the entries of a unit at a place were added, and what is wrong with its lists noted
 pub record IsUnitAdded (s : ListSections) (es : List ListedEntry) (place : ℕ) (old new : PlaceProgress) : Type 0 where
   pub faults : UnitFaults
-  pub placed : IsUnitPlaced s (plain_unit es) old.groups old.kept old.named.items new.groups new.kept new.named.items faults
+  pub placed : IsUnitPlaced s (plain_unit es) old.groups old.kept old.named.items new.groups new.kept new.named.items
+      faults
   pub ranges : new.bad_ranges ≡ lower old.bad_ranges faults.ranges.bad
   pub locations : new.bad_locations ≡ lower old.bad_locations faults.locations.bad
   pub indexes : new.index_weight
@@ -67,7 +68,8 @@ pub record IsUnitAdded (s : ListSections) (es : List ListedEntry) (place : ℕ) 
   pub unformed_is : new.unformed ≡ old.unformed
 
 -- What sections without a fault say of locations, and what their tables of offsets weigh.
-pub record ArePlacesOf (s : ListSections) (groups : Groups) (kept : Locations) (named : List NamedList) (weight : ℕ) : Type 0 where
+pub record ArePlacesOf (s : ListSections) (groups : Groups) (kept : Locations) (named : List NamedList)
+    (weight : ℕ) : Type 0 where
   pub free : IsFree (HasDwarfFault (location_places s))
   pub numbered : AreNumbered groups
   pub held : AreHeld groups.count kept

@@ -30,8 +30,10 @@ pub record ReadsUnit (s : ListSections) (u : Unit) (c : UnitContext) : Type 0 wh
 
 -- Entries of a unit were placed, the last one first, and the others of it aren't yet. What was said before is said
 -- still, and lists that were named before have their names.
-pub record ArePlaced (s : ListSections) (u : Unit) (first : Groups) (old : Locations) (before : List NamedList) (g : Groups)
-    (kept : Locations) (named : List NamedList) (state : UnitState) (done rest : List Entry) (attrs : List Attr) (f : UnitFaults) :
+pub record ArePlaced (s : ListSections) (u : Unit) (first : Groups) (old : Locations) (before : List NamedList)
+    (g : Groups)
+    (kept : Locations) (named : List NamedList) (state : UnitState) (done rest : List Entry) (attrs : List Attr)
+    (f : UnitFaults) :
     Type 0 where
   pub grow : Grow first g
   pub known_are : AreKnown (range_list s u) g state.ranges
@@ -51,7 +53,8 @@ pub record ArePlaced (s : ListSections) (u : Unit) (first : Groups) (old : Locat
   pub locations_noted : AreNoted locations_kind s.locations s.units.addr u attrs f.locations
 
 -- all of a unit, with what is wrong with its lists
-pub record IsUnitPlaced (s : ListSections) (u : Unit) (first : Groups) (old : Locations) (before : List NamedList) (g : Groups)
+pub record IsUnitPlaced (s : ListSections) (u : Unit) (first : Groups) (old : Locations) (before : List NamedList)
+    (g : Groups)
     (kept : Locations) (named : List NamedList) (f : UnitFaults) : Type 0 where
   pub grow : Grow first g
   pub held : AreHeld g.count kept

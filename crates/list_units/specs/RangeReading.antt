@@ -1,5 +1,6 @@
 -- What was read of the ranges of some units.
-use Rattle.std.specs.Prelude.{◌≡◌, ◌||◌, ◌+◌, ◌-◌, ◌^◌, ℕ, Bool, List, if◌then◌else◌, flat_map, map, Some, None, min, sum_by}
+use Rattle.std.specs.Prelude.{◌≡◌, ◌||◌, ◌+◌, ◌-◌, ◌^◌, ℕ, Bool, List, if◌then◌else◌, flat_map, map, Some, None, min}
+use Rattle.std.specs.Prelude.{sum_by}
 use Rattle.table_core.specs.DebugUnits.{Walked, first_place}
 use Rattle.table_core.specs.ReadSteps.{lower, least, oks}
 use Rattle.dw_unit.specs.CompUnits.{Unit, unit_of, units}

@@ -1,5 +1,6 @@
 -- The location lists of a unit, each once, in the order in which they are read.
-use Rattle.std.specs.Prelude.{◌≡◌, ◌==◌, ◌||◌, ◌++◌, ℕ, Bool, true, false, not, List, [], ◌∷◌, map, filter, filter_map, is_some, Option, Some}
+use Rattle.std.specs.Prelude.{◌≡◌, ◌==◌, ◌||◌, ◌++◌, ℕ, Bool, true, false, not, List, [], ◌∷◌, map, filter, filter_map}
+use Rattle.std.specs.Prelude.{is_some, Option, Some}
 use Rattle.std.specs.List.{list_all}
 use Rattle.std.specs.Option.{option_map_or}
 use Rattle.std.specs.Ordering.{nat_cmp}
@@ -50,11 +51,13 @@ pub record AreListed (s : ListSections) (u : Unit) (offsets : List ℕ) (first l
 -- the list of an attribute, if it names one, is at one of some offsets
 abbrev pub IsOffsetAmong : ListSections → Unit → List ℕ → Attr → Type 0
 IsOffsetAmong s u offsets a =
-    is_block a.form ≡ false → (at : ℕ) → list_offset locations_kind s.locations u a ≡ Some at → is_among offsets at ≡ true
+    is_block a.form ≡ false → (at : ℕ) → list_offset locations_kind s.locations u a ≡ Some at →
+    is_among offsets at ≡ true
 
 -- an attribute that says where something is holds an expression or names a list
 abbrev pub is_formed : Attr → Bool
-is_formed a = implies (is_located a.name) (is_block a.form || a.form == DW_FORM_sec_offset || a.form == DW_FORM_loclistx)
+is_formed a = implies (is_located a.name) (is_block a.form || a.form == DW_FORM_sec_offset
+    || a.form == DW_FORM_loclistx)
 
 abbrev pub are_formed : List Attr → Bool
 are_formed attrs = list_all is_formed attrs

@@ -74,7 +74,8 @@ fn read_all(
     ensures { (s : ListSections) → sections.now.info.now ≡ s.units.info → sections.now.addr.now ≡ s.units.addr →
         sections.now.ranges.bytes.now ≡ s.ranges → sections.now.locations.bytes.now ≡ s.locations →
         reader.now ≡ record { units = walked 5 s.units.info; abbrevs = s.units.abbrevs; addr = s.units.addr } →
-        IfOk result (λ p. ranges_read.IsProgress s (walked 5 s.units.info) p.0 × places_read.IsProgress s (walked 5 s.units.info) p.1) }
+        IfOk result (λ p. ranges_read.IsProgress s (walked 5 s.units.info) p.0
+        × places_read.IsProgress s (walked 5 s.units.info) p.1) }
 {
     let units = reader.units();
     let mut ranged = range_entries::nothing(alloc);

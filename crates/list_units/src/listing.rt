@@ -6,8 +6,7 @@ ghost use Rattle.list_units.specs.UnitLocations.{number_in};
 
 use crate::located_attr::Source;
 use dw_lists::named_list::NamedList;
-use dw_lists::unit_lists::attr_named;
-use dw_unit::Attr;
+use dw_unit::{Attr, attr_named};
 use rb_bytes::fault::NoMemory;
 use table_core::form::DW_FORM_loclistx;
 

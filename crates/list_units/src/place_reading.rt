@@ -78,9 +78,11 @@ fn add_entries(
     progress.bad_locations = lower(progress.bad_locations, faults.locations.bad);
     let weight = index_weight(DW_FORM_loclistx, entries);
     progress.index_weight = progress.index_weight.saturating_add(weight);
-    if lacks_offset(&faults) {
-        progress.bad = Some(place);
-    }
+    progress.bad = if lacks_offset(&faults) {
+        Some(place)
+    } else {
+        progress.bad
+    };
     Ok(())
 }
 

@@ -77,11 +77,14 @@ fn place_entry(
     requires ranges_walked { context.now.ranges.tables.now ≡ walked 5 context.now.ranges.bytes.now }
     requires rising { IsNonDecreasingBy (λ w. w.place) context.now.locations.section.tables.now }
     requires walked { context.now.locations.section.tables.now ≡ walked 5 context.now.locations.section.bytes.now }
-    ensures { (s : ListSections) (u : Unit) (first : group.Groups) (old : located.Locations) (names : List name.NamedList)
+    ensures { (s : ListSections) (u : Unit) (first : group.Groups) (old : located.Locations)
+        (names : List name.NamedList)
         (done rest : List units.Entry) (attrs : List attr.Attr) →
         ReadsUnit s u context.now →
-        ArePlaced s u first old names groups.old kept.old named.old.items state.old done (plain entry.now ∷ rest) attrs others →
-        IfOk result (ArePlaced s u first old names groups.new kept.new named.new.items state.new (plain entry.now ∷ done) rest
+        ArePlaced s u first old names groups.old kept.old named.old.items state.old done
+        (plain entry.now ∷ rest) attrs others →
+        IfOk result (ArePlaced s u first old names groups.new kept.new named.new.items state.new
+        (plain entry.now ∷ done) rest
         (attrs ++ entry.now.attrs)) }
 {
     let known = &mut state.ranges;
@@ -122,7 +125,8 @@ fn nothing_known(alloc: Global) -> UnitState
     }
 }
 
-/// Adds the ranges and locations of the entries of a unit, and names the lists of these; answers what is wrong with the lists that it names.
+/// Adds the ranges and locations of the entries of a unit, and names the lists of these; answers what is wrong with
+/// the lists that it names.
 pub fn place_unit(
     alloc: Global,
     sections: &PlaceSections<'_, '_>,

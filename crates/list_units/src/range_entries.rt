@@ -119,7 +119,8 @@ pub fn read_ranges(
     ranges: &[u8],
 ) -> Result<RangedEntries, Refusal>
     ensures read { IfOk result (λ r. (locations : List ℕ) →
-        AreRangesOf (list_sections_held info.now abbrevs.now addr.now ranges.now locations) r.groups r.ranged.items r.index_weight) }
+        AreRangesOf (list_sections_held info.now abbrevs.now addr.now ranges.now locations) r.groups r.ranged.items
+        r.index_weight) }
     ensures fault { IfErr result (λ e. (locations : List ℕ) →
         IsRefusalBy
         (HasDwarfFault (range_places (list_sections_held info.now abbrevs.now addr.now ranges.now locations))) e) }

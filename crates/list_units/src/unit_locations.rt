@@ -23,18 +23,19 @@ use crate::listing::{index_of, number_of, put_name};
 use crate::located_attr::{LocatedAttr, Locations, Source};
 use cover_lists::kept_list::KeptList;
 use cover_lists::kept_lists::keep_list;
-use dw_lists::expression_block::{expression_in, is_block};
+use dw_lists::expression_block::expression_in;
 use dw_lists::list_kind::ListKind;
 use dw_lists::list_section::{ListSection, list_at, list_offset, table_place};
 use dw_lists::named_list::NamedList;
-use dw_lists::unit_lists::{UnitLists, attr_named};
+use dw_lists::unit_lists::UnitLists;
 use dw_lists::unit_ranges::{KnownLists, ListFaults, known_number};
 use dw_unit::attribute::{DW_AT_frame_base, DW_AT_location};
 use dw_unit::lowest::lower;
-use dw_unit::{Attr, Entry};
+use dw_unit::{Attr, Entry, attr_named};
 use rb_bytes::fault::NoMemory;
 use std::alloc::Global;
 use table_core::form::{DW_FORM_loclistx, DW_FORM_sec_offset};
+use table_core::shape::is_block;
 
 /// What a unit needs to read its locations.
 #[derive(Clone, Copy)]
@@ -43,6 +44,18 @@ pub struct UnitLocations<'a, 't> {
     pub info: &'a [u8],
     pub section: ListSection<'a, 't>,
     pub lists: UnitLists<'a>,
+}
+
+// How much is kept at most before a list is read, beside as much as the section has bytes: lists that overlap are read
+// each, so that few bytes could name any number of items.
+const READ_AGAIN: usize = 1 << 22;
+
+// The size of the lists that are kept.
+fn kept_size(lists: &[KeptList]) -> usize {
+    match lists.last() {
+        Some(list) => list.size,
+        None => 0,
+    }
 }
 
 // Reads the list at an offset, and answers its number; none if it can't be read.
@@ -62,7 +75,11 @@ fn read_number(
 {
     match list_at(alloc, ListKind::Locations, unit.section, &unit.lists, at)? {
         Some(places) => {
-            let list = keep_list(alloc, &places)?;
+            let before = kept_size(lists);
+            if before > unit.section.bytes.len().saturating_add(READ_AGAIN) {
+                return Err(NoMemory);
+            }
+            let list = keep_list(alloc, &places, before)?;
             let number = lists.len();
             lists.push(list)?;
             Ok(Some(number))
@@ -228,8 +245,10 @@ fn named_source(
         AreNumbersOf (location_list s u) lists.old.items known.old →
         IfOk result (λ o. AreRead s u lists.old.items lists.new.items known.new
         × IsNamedSource s u lists.new.items (attr name e) o) }
-    ensures number { (s : ListSections) (u : Unit) (e : units.Entry) → e.attrs ≡ attrs.now → ReadsLocations s u unit.now →
-        is_located name ≡ true → are_formed attrs.now ≡ true → AreNumbersOf (location_list s u) lists.old.items known.old →
+    ensures number { (s : ListSections) (u : Unit) (e : units.Entry) → e.attrs ≡ attrs.now →
+        ReadsLocations s u unit.now →
+        is_located name ≡ true → are_formed attrs.now ≡ true →
+        AreNumbersOf (location_list s u) lists.old.items known.old →
         IfOk result (λ o. IsNumberOf lists.new.items (option_and_then number_in o) (list_found s u name e)) }
     ensures listed { (s : ListSections) (u : Unit) (before : List Attr) (first : List list.KeptList) →
         ReadsLocations s u unit.now → is_located name ≡ true → are_formed attrs.now ≡ true →
@@ -303,8 +322,8 @@ fn locate(
     Ok(())
 }
 
-/// Adds the attributes of an entry that say where something is, by the group of its nearest ranges, and names their lists;
-/// answers what is wrong with the lists that it names, and with others.
+/// Adds the attributes of an entry that say where something is, by the group of its nearest ranges, and names their
+/// lists; answers what is wrong with the lists that it names, and with others.
 pub fn locate_entry(
     alloc: Global,
     unit: &UnitLocations<'_, '_>,

@@ -1,5 +1,6 @@
 -- What is in force of a location list that was written of runs.
-use Rattle.std.proofs.Common.{◌≡◌, ◌∙◌, ◌+◌, ◌<◌, ◌&&◌, ◌++◌, ◌∷◌, [], ℕ, Bool, true, false, List, Option, Some, None, refl, sym, ap, arith, map, filter}
+use Rattle.std.proofs.Common.{◌≡◌, ◌∙◌, ◌+◌, ◌<◌, ◌&&◌, ◌++◌, ◌∷◌, [], ℕ, Bool, true, false, List, Option, Some, None, refl, sym, ap, arith}
+use Rattle.std.proofs.Common.{map, filter}
 use Rattle.std.specs.Prelude.{if◌then◌else◌, nat_le, nat_lt, unwrap_or}
 use Rattle.std.specs.Option.{option_or}
 use Rattle.std.proofs.lemmas.Bool.Decides.{nat_tests}
@@ -18,20 +19,24 @@ held-append : (p : ℕ) (xs ys : List Bounded) → held p (xs ++ ys) ≡ held p 
 held-append p xs ys =
     ap (λ (l : List Located). expressions (filter (is_bounded_at p) l)) (map-append located_at xs ys)
     ∙ ap expressions (filter-append (is_bounded_at p) (map located_at xs) (map located_at ys))
-    ∙ map-append (λ (l : Located). l.expression) (filter (is_bounded_at p) (map located_at xs)) (filter (is_bounded_at p) (map located_at ys))
+    ∙ map-append (λ (l : Located). l.expression) (filter (is_bounded_at p) (map located_at xs))
+    (filter (is_bounded_at p) (map located_at ys))
 
 abbrev inside : ℕ → ℕ → ℕ → Bool
 inside start len p = nat_le start p && nat_lt p (start + len)
 
-held_over : (p start len : ℕ) (b : Bool) → inside start len p ≡ b → (xs : List (List ℕ)) → held p (over start len xs) ≡ (if b then xs else [])
+held_over : (p start len : ℕ) (b : Bool) → inside start len p ≡ b → (xs : List (List ℕ)) →
+    held p (over start len xs) ≡ (if b then xs else [])
 held_over p start len true e [] = refl
 held_over p start len false e [] = refl
 held_over p start len true e (x ∷ xs) =
-    ap (λ (b : Bool). expressions (if b then located_at (record { start = start; len = len; expression = x }) ∷ filter (is_bounded_at p) (map located_at (over start len xs))
+    ap (λ (b : Bool). expressions (if b then located_at (record { start = start; len = len; expression = x })
+    ∷ filter (is_bounded_at p) (map located_at (over start len xs))
     else filter (is_bounded_at p) (map located_at (over start len xs)))) e
     ∙ ap (λ (l : List (List ℕ)). x ∷ l) (held_over p start len true e xs)
 held_over p start len false e (x ∷ xs) =
-    ap (λ (b : Bool). expressions (if b then located_at (record { start = start; len = len; expression = x }) ∷ filter (is_bounded_at p) (map located_at (over start len xs))
+    ap (λ (b : Bool). expressions (if b then located_at (record { start = start; len = len; expression = x })
+    ∷ filter (is_bounded_at p) (map located_at (over start len xs))
     else filter (is_bounded_at p) (map located_at (over start len xs)))) e
     ∙ held_over p start len false e xs
 
@@ -59,10 +64,12 @@ held_runs lo (r ∷ rs) hi p w =
     nil (x ∷ xs) = ap (λ (l : List (List ℕ)). x ∷ l) (nil xs)
 
     step : (b : Bool) → inside r.start r.len p ≡ b → held p (bounded rs) ≡ unwrap_or (run_at rs p) [] →
-        held p (over r.start r.len r.answer) ++ held p (bounded rs) ≡ unwrap_or (option_or (if inside r.start r.len p then Some r.answer else None) (run_at rs p)) []
+        held p (over r.start r.len r.answer) ++ held p (bounded rs) ≡ unwrap_or
+        (option_or (if inside r.start r.len p then Some r.answer else None) (run_at rs p)) []
     step true e more =
         (λ i. held_over p r.start r.len true e r.answer i ++ more i)
-        ∙ ap (λ (o : Option (List (List ℕ))). r.answer ++ unwrap_or o []) (none_before (r.start + r.len) rs hi p w.2 (below r.start r.len p e))
+        ∙ ap (λ (o : Option (List (List ℕ))). r.answer ++ unwrap_or o [])
+        (none_before (r.start + r.len) rs hi p w.2 (below r.start r.len p e))
         ∙ nil r.answer
         ∙ sym (ap (λ (b : Bool). unwrap_or (option_or (if b then Some r.answer else None) (run_at rs p)) []) e)
     step false e more =
@@ -77,7 +84,9 @@ unless_none : (ls ds : List Located) → ds ≡ [] → unless_bounded ls ds ≡ 
 unless_none [] ds e = ap expressions e
 unless_none (l ∷ ls) ds e = refl
 
-pub forced_runs : (lo : ℕ) (rs : List (Run (List (List ℕ)))) (hi p : ℕ) → IsWithin lo rs hi → in_force (map located_at (bounded rs)) p ≡ unwrap_or (run_at rs p) []
+pub forced_runs : (lo : ℕ) (rs : List (Run (List (List ℕ)))) (hi p : ℕ) → IsWithin lo rs hi →
+    in_force (map located_at (bounded rs)) p ≡ unwrap_or (run_at rs p) []
 forced_runs lo rs hi p w =
-    unless_none (filter (is_bounded_at p) (map located_at (bounded rs))) (filter is_default (map located_at (bounded rs))) (no_default (bounded rs))
+    unless_none (filter (is_bounded_at p) (map located_at (bounded rs))) (filter is_default (map located_at (bounded rs)))
+    (no_default (bounded rs))
     ∙ held_runs lo rs hi p w

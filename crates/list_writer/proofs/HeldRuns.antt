@@ -1,5 +1,6 @@
 -- Ranges that are written of runs hold just the bytes of these.
-use Rattle.std.proofs.Common.{ℕ, ◌+◌, ◌-◌, ◌^◌, ◌≤◌, ◌≡◌, ◌&&◌, ◌||◌, List, [], ◌∷◌, Option, Some, None, Bool, true, false, refl, arith, map, All, nat_le, nat_lt}
+use Rattle.std.proofs.Common.{ℕ, ◌+◌, ◌-◌, ◌^◌, ◌≤◌, ◌≡◌, ◌&&◌, ◌||◌, List, [], ◌∷◌, Option, Some, None, Bool, true, false, refl, arith}
+use Rattle.std.proofs.Common.{map, All, nat_le, nat_lt}
 use Rattle.std.specs.Prelude.{is_some, if◌then◌else◌}
 use Rattle.std.specs.Option.{option_or}
 use Rattle.std.proofs.lemmas.List.Elements.{All-cons, All-nil}
@@ -22,9 +23,11 @@ within_end : (lo : ℕ) (rs : List (Run Bool)) (hi : ℕ) → IsWithin lo rs hi 
 within_end lo [] hi w = w
 within_end lo (r ∷ rs) hi w = let h = within_end (r.start + r.len) rs hi w.2 in omega (arith, h, w.0)
 
-pub runs_writable : (lo : ℕ) (rs : List (Run Bool)) (hi : ℕ) → IsWithin lo rs hi → hi ≤ 2 ^ 64 - 1 → All (IsWritable Ranges) (map bounded rs)
+pub runs_writable : (lo : ℕ) (rs : List (Run Bool)) (hi : ℕ) → IsWithin lo rs hi → hi ≤ 2 ^ 64 - 1 →
+    All (IsWritable Ranges) (map bounded rs)
 runs_writable lo [] hi w h = All-nil (IsWritable Ranges)
 runs_writable lo (r ∷ rs) hi w h =
     let e = within_end (r.start + r.len) rs hi w.2 in
-    All-cons (IsWritable Ranges) (bounded r) (map bounded rs) (record { start = omega (arith, e, h); len = omega (arith, e, h); expression = refl })
+    All-cons (IsWritable Ranges) (bounded r) (map bounded rs) (record
+    { start = omega (arith, e, h); len = omega (arith, e, h); expression = refl })
     (runs_writable (r.start + r.len) rs hi w.2 h)

@@ -1,5 +1,6 @@
 -- Lists that are written are read back.
-use Rattle.std.proofs.Common.{ℕ, zero, suc, ◌≤◌, ◌≡◌, ◌==◌, List, [], ◌∷◌, ◌++◌, Option, Some, Result, Ok, cond, Bool, false, refl, ◌∙◌, ap, subst, arith, length}
+use Rattle.std.proofs.Common.{ℕ, zero, suc, ◌≤◌, ◌≡◌, ◌==◌, List, [], ◌∷◌, ◌++◌, Option, Some, Result, Ok, cond, Bool, false, refl, ◌∙◌, ap}
+use Rattle.std.proofs.Common.{subst, arith, length}
 use Rattle.std.proofs.Common.{append_assoc, length-append, map, option_map}
 use Rattle.std.specs.Prelude.{All}
 use Rattle.std.proofs.lemmas.List.Elements.{All-head, All-tail}
@@ -42,7 +43,8 @@ front : (kind : ListKind) (b : Bounded) (bs : List Bounded) (rest : List ℕ) �
     list_bytes kind (b ∷ bs) ++ rest ≡ (entry_kind kind ∷ entry_rest kind b) ++ (list_bytes kind bs ++ rest)
 unfolding list_bytes
 front kind b bs rest =
-    append_assoc (entry_bytes kind b) (list_bytes kind bs) rest ∙ ap (λ (l : List ℕ). l ++ (list_bytes kind bs ++ rest)) (entry_parts kind b)
+    append_assoc (entry_bytes kind b) (list_bytes kind bs) rest ∙ ap (λ (l : List ℕ). l ++ (list_bytes kind bs ++ rest))
+    (entry_parts kind b)
 
 no_items : (kind : ListKind) (rest : List ℕ) (n : ℕ) → length (list_bytes kind [] ++ rest) ≤ n →
     items_within (item_of kind) n (list_bytes kind [] ++ rest) ≡ Ok []
@@ -50,19 +52,24 @@ unfolding list_bytes
 no_items kind rest zero f = absurd (omega arith)
 no_items kind rest (suc n) f = ends (item_of kind) n rest
 
-pub list-back : (kind : ListKind) (bs : List Bounded) (rest : List ℕ) (n : ℕ) → All (IsWritable kind) bs → length (list_bytes kind bs ++ rest) ≤ n →
+pub list-back : (kind : ListKind) (bs : List Bounded) (rest : List ℕ) (n : ℕ) → All (IsWritable kind) bs →
+    length (list_bytes kind bs ++ rest) ≤ n →
     items_within (item_of kind) n (list_bytes kind bs ++ rest) ≡ Ok (map item_at bs)
 list-back kind [] rest n w f = no_items kind rest n f
 list-back kind (b ∷ bs) rest n w f =
     let e = front kind b bs rest in
-    ap (items_within (item_of kind) n) e ∙ step n (subst (λ (l : List ℕ). length l ≤ n) e f) (λ m g. list-back kind bs rest m (All-tail (IsWritable kind) b bs w) g)
+    ap (items_within (item_of kind) n) e ∙ step n (subst (λ (l : List ℕ). length l ≤ n) e f)
+    (λ m g. list-back kind bs rest m (All-tail (IsWritable kind) b bs w) g)
   where
     step : (n : ℕ) → length ((entry_kind kind ∷ entry_rest kind b) ++ (list_bytes kind bs ++ rest)) ≤ n →
-        ((m : ℕ) → length (list_bytes kind bs ++ rest) ≤ m → items_within (item_of kind) m (list_bytes kind bs ++ rest) ≡ Ok (map item_at bs)) →
-        items_within (item_of kind) n ((entry_kind kind ∷ entry_rest kind b) ++ (list_bytes kind bs ++ rest)) ≡ Ok (item_at b ∷ map item_at bs)
+        ((m : ℕ) → length (list_bytes kind bs ++ rest) ≤ m → items_within (item_of kind) m (list_bytes kind bs ++ rest) ≡ Ok
+        (map item_at bs)) →
+        items_within (item_of kind) n ((entry_kind kind ∷ entry_rest kind b) ++ (list_bytes kind bs ++ rest)) ≡ Ok
+        (item_at b ∷ map item_at bs)
     step zero g more = absurd (omega arith)
     step (suc n) g more =
-        opens (item_of kind) n (entry_kind kind) (entry_rest kind b ++ (list_bytes kind bs ++ rest)) (list_bytes kind bs ++ rest) (item_at b) (map item_at bs)
+        opens (item_of kind) n (entry_kind kind) (entry_rest kind b ++ (list_bytes kind bs ++ rest)) (list_bytes kind bs ++ rest)
+        (item_at b) (map item_at bs)
         (some_kind kind) (entry-back kind b (list_bytes kind bs ++ rest) (All-head (IsWritable kind) b bs w))
         (more n (shorter (entry_kind kind) n (entry_rest kind b) (list_bytes kind bs) rest g))
 

@@ -1,5 +1,6 @@
 -- A list that stands in a table of a section is read there, and so is an offset.
-use Rattle.std.proofs.Common.{ℕ, ◌+◌, ◌-◌, ◌^◌, ◌≤◌, ◌<◌, ◌≡◌, List, [], ◌∷◌, ◌++◌, Option, Some, None, cond, leb, Bool, true, false, refl, ◌∙◌, ap, subst, arith, length, take, drop}
+use Rattle.std.proofs.Common.{ℕ, ◌+◌, ◌-◌, ◌^◌, ◌≤◌, ◌<◌, ◌≡◌, List, [], ◌∷◌, ◌++◌, Option, Some, None, cond, leb, Bool, true, false, refl}
+use Rattle.std.proofs.Common.{◌∙◌, ap, subst, arith, length, take, drop}
 use Rattle.std.proofs.Common.{append_assoc, length-append, map}
 use Rattle.std.proofs.lemmas.Bool.Decides.{nat_tests}
 use Rattle.std.proofs.lemmas.Grind.{common_steps}
@@ -40,7 +41,8 @@ unfolding walked_units units_bytes
 table-below at place [] b cs le lt =
     let here : leb place at ≡ true = grind (arith, nat_tests) in
     let same : place ≡ place + 0 = omega arith in
-    ap (λ (o : Option Walked). option_or o (cond (leb place at) (Some (table_of place b)) None)) (none-below at (place + (length b + 4)) cs (omega (arith, lt)))
+    ap (λ (o : Option Walked). option_or o (cond (leb place at) (Some (table_of place b)) None))
+    (none-below at (place + (length b + 4)) cs (omega (arith, lt)))
     ∙ ap (λ (t : Bool). cond t (Some (table_of place b)) None) here ∙ ap (λ n. Some (table_of n b)) same
 table-below at place (x ∷ bs) b cs le lt =
     let size : length (little_bytes 4 (length x) ++ (x ++ units_bytes bs)) ≡ 4 + (length x + length (units_bytes bs))
@@ -55,7 +57,8 @@ table-below at place (x ∷ bs) b cs le lt =
     sized h y z four = let a = length-append h (y ++ z) in let b = length-append y z in omega (arith, a, b, four)
 
 -- bytes in the middle of a section
-middle : (front h head left back : List ℕ) (at : ℕ) → at ≡ length front + (length h + length head) → drop at (front ++ (h ++ ((head ++ left) ++ back))) ≡ left ++ back
+middle : (front h head left back : List ℕ) (at : ℕ) → at ≡ length front + (length h + length head) →
+    drop at (front ++ (h ++ ((head ++ left) ++ back))) ≡ left ++ back
 middle front h head left back at e = ap (drop at) (assoc front h head left back) ∙ gone ((front ++ h) ++ head) (left ++ back) at (e ∙ size)
   where
     assoc : (a b c d e : List ℕ) → (a ++ (b ++ ((c ++ d) ++ e))) ≡ ((a ++ b) ++ c) ++ (d ++ e)
@@ -88,7 +91,8 @@ module _ (tables : List (List ℕ)) (at : ℕ) (part : List ℕ) (s : StandsAt t
   drop_at : drop at section ≡ left ++ units_bytes s.after
   drop_at =
       let four = length-little 4 (length (s.head ++ left)) in
-      ap (drop at) parts ∙ middle front (little_bytes 4 (length (s.head ++ left))) s.head left (units_bytes s.after) at (let h = s.at_is in omega (arith, h, four))
+      ap (drop at) parts ∙ middle front (little_bytes 4 (length (s.head ++ left))) s.head left (units_bytes s.after) at (let h = s.at_is in
+      omega (arith, h, four))
 
   section_size : length section ≡ length front + (4 + (length s.head + (length part + length s.more)) + length (units_bytes s.after))
   section_size =
@@ -138,7 +142,8 @@ list_some k [] = omega arith
 list_some kind.Ranges (b ∷ bs) = omega arith
 list_some kind.Locations (b ∷ bs) = omega arith
 
-pub list_there : (k : ListKind) (tables : List (List ℕ)) (at : ℕ) (bs : List Bounded) → StandsAt tables at (list_bytes k bs) → All (IsUnit 5) tables →
+pub list_there : (k : ListKind) (tables : List (List ℕ)) (at : ℕ) (bs : List Bounded) → StandsAt tables at (list_bytes k bs) →
+    All (IsUnit 5) tables →
     All (IsWritable k) bs → (addr : List ℕ) (u : Unit) → list_at (kind_of k) (units_bytes tables) addr u at ≡ Some (map located_at bs)
 list_there k tables at bs s units w addr u =
     ap (items_said addr u)
@@ -147,16 +152,19 @@ list_there k tables at bs s units w addr u =
     ∙ list-back k bs s.more (length (list_bytes k bs ++ s.more)) w (omega arith))
     ∙ list-said (address_at addr u) bs (base_address addr u)
 
-pub list_inside : (k : ListKind) (tables : List (List ℕ)) (at : ℕ) (bs : List Bounded) → StandsAt tables at (list_bytes k bs) → All (IsUnit 5) tables →
+pub list_inside : (k : ListKind) (tables : List (List ℕ)) (at : ℕ) (bs : List Bounded) → StandsAt tables at (list_bytes k bs) →
+    All (IsUnit 5) tables →
     at < length (units_bytes tables)
-list_inside k tables at bs s units = let a = part_inside tables at (list_bytes k bs) s units in let b = list_some k bs in omega (arith, a, b)
+list_inside k tables at bs s units = let a = part_inside tables at (list_bytes k bs) s units in let b = list_some k bs in
+    omega (arith, a, b)
 
 pub offset_there : (tables : List (List ℕ)) (at o : ℕ) → StandsAt tables at (little_bytes 4 o) → All (IsUnit 5) tables → o < 2 ^ 32 →
     number_in 4 at (units_bytes tables) ≡ Some o
 offset_there tables at o s units low =
     let inside = part_inside tables at (little_bytes 4 o) s units in
     let size = length-little 4 o in
-    let test : nat_le (at + 4) (length (units_bytes tables)) ≡ true = at_most (at + 4) (length (units_bytes tables)) (omega (arith, inside, size)) in
+    let test : nat_le (at + 4) (length (units_bytes tables)) ≡ true = at_most (at + 4) (length (units_bytes tables))
+    (omega (arith, inside, size)) in
     let read : little_number 4 (drop at (units_bytes tables)) ≡ o =
     ap (little_number 4) (drop_at tables at (little_bytes 4 o) s units ∙ append_assoc (little_bytes 4 o) s.more (units_bytes s.after))
     ∙ little_number-reads_back 4 o (s.more ++ units_bytes s.after) (omega (arith, low)) in

@@ -1,5 +1,6 @@
 -- Attributes whose lists are written get names, one after another.
-use Rattle.std.proofs.Common.{◌≡◌, ◌≢◌, ◌∙◌, ◌+◌, ◌^◌, ◌<◌, ◌≤◌, ◌==◌, ◌&&◌, ◌||◌, ◌*◌, ◌⊎◌, inl, inr, ◌++◌, ◌∷◌, [], ℕ, zero, suc, Bool, true, false, List, Option, Some, None, BTreeMap, nat_cmp}
+use Rattle.std.proofs.Common.{◌≡◌, ◌≢◌, ◌∙◌, ◌+◌, ◌^◌, ◌<◌, ◌≤◌, ◌==◌, ◌&&◌, ◌||◌, ◌*◌, ◌⊎◌, inl, inr, ◌++◌, ◌∷◌, [], ℕ, zero, suc, Bool}
+use Rattle.std.proofs.Common.{true, false, List, Option, Some, None, BTreeMap, nat_cmp}
 use Rattle.std.proofs.Common.{refl, sym, ap, subst, arith, length, take, get_or, All, ⊎_elim}
 use Rattle.std.specs.Prelude.{if◌then◌else◌, Contains, option_map, IsTrue, flat_map}
 use Rattle.std.specs.BTreeMap.{get, is_at}
@@ -17,21 +18,25 @@ use Rattle.dw_unit.specs.EntryMoves.{is_list_of, new_list_offset}
 use Rattle.dw_lists.specs.declared.list_kind.ListKind.{ListKind}
 use Rattle.dw_lists.specs.declared.list_kind.ListKind.TheVariants.{Ranges, Locations}
 use Rattle.dw_lists.specs.declared.named_list.NamedList.{NamedList}
-use Rattle.list_writer.specs.WrittenTables.{base_name, is_of, key, IsNaming, AreInOrder, IsListed, bytes_in, AreNames, Keeps, name_at, base_at}
+use Rattle.list_writer.specs.WrittenTables.{base_name, is_of, key, IsNaming, AreInOrder, IsListed, bytes_in, AreNames, Keeps, name_at}
+use Rattle.list_writer.specs.WrittenTables.{base_at}
 use Rattle.list_writer.specs.WrittenTables.{IsOffsetGiven, IsEntryPut, IsPut, ArePut, keys_end}
 use Rattle.list_writer.proofs.WrittenLists.{longer_begins}
 
 -- a member of a list with one more
 pub contains_more : {X : Type 0} (xs : List X) (x y : X) → Contains (xs ++ x ∷ []) y → (Contains xs y) ⊎ (x ≡ y)
-contains_more [] x y c = ⊎_elim (λ (e : x ≡ y). inr e) (λ (there : Contains [] y). absurd (Contains-nil y there)) (Contains-cons_cases x [] y c)
+contains_more [] x y c = ⊎_elim (λ (e : x ≡ y). inr e) (λ (there : Contains [] y). absurd (Contains-nil y there))
+    (Contains-cons_cases x [] y c)
 contains_more (z ∷ xs) x y c = ⊎_elim
     (λ (e : z ≡ y). inl (0, omega arith, e))
-    (λ (there : Contains (xs ++ x ∷ []) y). ⊎_elim (λ (h : Contains xs y). inl (Contains-there z xs y h)) (λ (e : x ≡ y). inr e) (contains_more xs x y there))
+    (λ (there : Contains (xs ++ x ∷ []) y). ⊎_elim (λ (h : Contains xs y). inl (Contains-there z xs y h)) (λ (e : x ≡ y). inr e)
+    (contains_more xs x y there))
     (Contains-cons_cases z (xs ++ x ∷ []) y c)
 
 pub contains_still : {X : Type 0} (xs ys : List X) (y : X) → Contains xs y → Contains (xs ++ ys) y
 contains_still [] ys y c = absurd (Contains-nil y c)
-contains_still (z ∷ xs) ys y c = ⊎_elim (λ (e : z ≡ y). (0, omega arith, e)) (λ (there : Contains xs y). Contains-there z (xs ++ ys) y (contains_still xs ys y there))
+contains_still (z ∷ xs) ys y c = ⊎_elim (λ (e : z ≡ y). (0, omega arith, e))
+    (λ (there : Contains xs y). Contains-there z (xs ++ ys) y (contains_still xs ys y there))
     (Contains-cons_cases z xs y c)
 
 pub contains_last : {X : Type 0} (xs : List X) (y : X) → Contains (xs ++ y ∷ []) y
@@ -46,7 +51,8 @@ pub contains_split : {X : Type 0} (xs ys : List X) (y : X) → Contains (xs ++ y
 contains_split [] ys y c = inr c
 contains_split (z ∷ xs) ys y c = ⊎_elim
     (λ (e : z ≡ y). inl (0, omega arith, e))
-    (λ (there : Contains (xs ++ ys) y). ⊎_elim (λ (h : Contains xs y). inl (Contains-there z xs y h)) (λ (h : Contains ys y). inr h) (contains_split xs ys y there))
+    (λ (there : Contains (xs ++ ys) y). ⊎_elim (λ (h : Contains xs y). inl (Contains-there z xs y h)) (λ (h : Contains ys y). inr h)
+    (contains_split xs ys y there))
     (Contains-cons_cases z (xs ++ ys) y c)
 
 -- Members of lists that were made item by item
@@ -58,7 +64,8 @@ flat_has f (z ∷ xs) x y c d = ⊎_elim
     (λ (there : Contains xs x). contains_behind (f z) (flat_map f xs) y (flat_has f xs x y there d))
     (Contains-cons_cases z xs x c)
 
-pub flat_from : {X Y : Type 0} (f : X → List Y) (xs : List X) (y : Y) → Contains (flat_map f xs) y → (x : X) × Contains xs x × Contains (f x) y
+pub flat_from : {X Y : Type 0} (f : X → List Y) (xs : List X) (y : Y) → Contains (flat_map f xs) y →
+    (x : X) × Contains xs x × Contains (f x) y
 flat_from f [] y c = absurd (Contains-nil y c)
 flat_from f (x ∷ xs) y c = ⊎_elim
     (λ (here : Contains (f x) y). (x, (0, omega arith, refl), here))
@@ -67,16 +74,19 @@ flat_from f (x ∷ xs) y c = ⊎_elim
 
 -- Names
 
-offset_by : (a b : Option ListAt) → option_map (λ (l : ListAt). l.offset) (option_or a b) ≡ option_or (option_map (λ (l : ListAt). l.offset) a) (option_map (λ (l : ListAt). l.offset) b)
+offset_by : (a b : Option ListAt) → option_map (λ (l : ListAt). l.offset) (option_or a b) ≡ option_or
+    (option_map (λ (l : ListAt). l.offset) a) (option_map (λ (l : ListAt). l.offset) b)
 offset_by None b = refl
 offset_by (Some l) b = refl
 
 abbrev named : ListAt → ℕ → ℕ → Option ℕ
 named l e attr = option_map (λ (l : ListAt). l.offset) (if l.entry == e && l.attr == attr then Some l else None)
 
-offset_more : (xs : List ListAt) (l : ListAt) (e attr : ℕ) → new_list_offset (xs ++ l ∷ []) e attr ≡ option_or (new_list_offset xs e attr) (named l e attr)
+offset_more : (xs : List ListAt) (l : ListAt) (e attr : ℕ) → new_list_offset (xs ++ l ∷ []) e attr ≡ option_or (new_list_offset xs e attr)
+    (named l e attr)
 offset_more xs l e attr =
-    ap (option_map (λ (l : ListAt). l.offset)) (find-append (is_list_of e attr) xs (l ∷ [])) ∙ offset_by (find (is_list_of e attr) xs) (find (is_list_of e attr) (l ∷ []))
+    ap (option_map (λ (l : ListAt). l.offset)) (find-append (is_list_of e attr) xs (l ∷ []))
+    ∙ offset_by (find (is_list_of e attr) xs) (find (is_list_of e attr) (l ∷ []))
 
 and_both : (a b : Bool) → a ≡ true → b ≡ true → (a && b) ≡ true
 and_both true b e f = f
@@ -101,10 +111,12 @@ named_other l e attr f = ap (λ (b : Bool). option_map (λ (l : ListAt). l.offse
 pub keeps_more : (xs : List ListAt) (l : ListAt) → Keeps xs (xs ++ l ∷ [])
 keeps_more xs l e attr o is = offset_more xs l e attr ∙ ap (λ (x : Option ℕ). option_or x (named l e attr)) is
 
-pub new_name : (xs : List ListAt) (l : ListAt) → new_list_offset xs l.entry l.attr ≡ None → new_list_offset (xs ++ l ∷ []) l.entry l.attr ≡ Some l.offset
+pub new_name : (xs : List ListAt) (l : ListAt) → new_list_offset xs l.entry l.attr ≡ None →
+    new_list_offset (xs ++ l ∷ []) l.entry l.attr ≡ Some l.offset
 new_name xs l none = offset_more xs l l.entry l.attr ∙ (λ i. option_or (none i) (named_self l i))
 
-still_none : (xs : List ListAt) (l : ListAt) (e attr : ℕ) → new_list_offset xs e attr ≡ None → (l.entry == e && l.attr == attr) ≡ false → new_list_offset (xs ++ l ∷ []) e attr ≡ None
+still_none : (xs : List ListAt) (l : ListAt) (e attr : ℕ) → new_list_offset xs e attr ≡ None → (l.entry == e && l.attr == attr) ≡ false →
+    new_list_offset (xs ++ l ∷ []) e attr ≡ None
 still_none xs l e attr none f = offset_more xs l e attr ∙ (λ i. option_or (none i) (named_other l e attr f i))
 
 -- The attributes of a kind
@@ -132,7 +144,8 @@ base_no Locations n is = by_either (λ (n : ℕ). (0x8c == n) ≡ false) n (n ==
 
 -- Names of attributes and bases
 
-pub names_less : (kind : ListKind) (lo own less bound : ℕ) (names : List ListAt) → lo ≤ less → own ≤ bound → AreNames kind lo own names → AreNames kind less bound names
+pub names_less : (kind : ListKind) (lo own less bound : ℕ) (names : List ListAt) → lo ≤ less → own ≤ bound → AreNames kind lo own names →
+    AreNames kind less bound names
 names_less kind lo own less bound names h k n = record {
   attrs = n.attrs;
   once = n.once;
@@ -141,7 +154,8 @@ names_less kind lo own less bound names h k n = record {
   bases = λ e le. n.bases e (omega (arith, k, le));
 }
 
-once_more : (kind : ListKind) (lo own : ℕ) (names : List ListAt) (l : ListAt) → AreNames kind lo own names → new_list_offset names l.entry l.attr ≡ None →
+once_more : (kind : ListKind) (lo own : ℕ) (names : List ListAt) (l : ListAt) → AreNames kind lo own names →
+    new_list_offset names l.entry l.attr ≡ None →
     (k : ListAt) → Contains (names ++ l ∷ []) k → new_list_offset (names ++ l ∷ []) k.entry k.attr ≡ Some k.offset
 once_more kind lo own names l n none k c = ⊎_elim
     (λ (there : Contains names k). keeps_more names l k.entry k.attr k.offset (n.once k there))
@@ -162,14 +176,16 @@ other_key place attr e name le = step (place == e) (attr == name) refl refl
     step true false f g = refl
     step false c f g = refl
 
-pub names_list : (kind : ListKind) (lo own : ℕ) (r : NamedList) (offset : ℕ) (names : List ListAt) → AreNames kind lo own names → lo ≤ key r.place r.attr →
+pub names_list : (kind : ListKind) (lo own : ℕ) (r : NamedList) (offset : ℕ) (names : List ListAt) → AreNames kind lo own names →
+    lo ≤ key r.place r.attr →
     IsNaming kind r.attr → offset < 2 ^ 32 → AreNames kind (key r.place r.attr + 1) own (names ++ name_at r offset ∷ [])
 names_list kind lo own r offset names n h naming low = record {
   attrs = all_more (λ (l : ListAt). IsTrue (is_of kind l.attr)) names l n.attrs (of_list kind r.attr naming);
   once = once_more kind lo own names l n (n.lists r.place r.attr naming h);
   low = all_more (λ (l : ListAt). l.offset < 2 ^ 32) names l n.low low;
   lists = λ e attr is le. still_none names l e attr (n.lists e attr is (omega (arith, h, le))) (other_key r.place r.attr e attr le);
-  bases = λ e le. still_none names l e (base_name kind) (n.bases e le) (and_right (r.place == e) (r.attr == base_name kind) (no_base kind r.attr naming));
+  bases = λ e le. still_none names l e (base_name kind) (n.bases e le)
+      (and_right (r.place == e) (r.attr == base_name kind) (no_base kind r.attr naming));
 }
   where
     l : ListAt
@@ -181,7 +197,8 @@ names_base kind lo own place offset names n h low = record {
   attrs = all_more (λ (l : ListAt). IsTrue (is_of kind l.attr)) names l n.attrs (of_base kind);
   once = once_more kind lo own names l n (n.bases place h);
   low = all_more (λ (l : ListAt). l.offset < 2 ^ 32) names l n.low low;
-  lists = λ e attr is le. still_none names l e attr (n.lists e attr is le) (and_right (place == e) (base_name kind == attr) (base_no kind attr is));
+  lists = λ e attr is le. still_none names l e attr (n.lists e attr is le)
+      (and_right (place == e) (base_name kind == attr) (base_no kind attr is));
   bases = λ e le. still_none names l e (base_name kind) (n.bases e (omega (arith, h, le)))
       (and_left (place == e) (base_name kind == base_name kind) (ne_eqb place e (λ same. absurd (past place e same le))));
 }
@@ -210,15 +227,22 @@ at_key k q ne = grind (arith, common_steps)
 at_same : (k q : ℕ) → k ≡ q → is_at (nat_cmp k) q ≡ true
 at_same k q e = grind (arith, common_steps)
 
-module _ (lists : List (Vec ℕ)) (start : ℕ) (r : NamedList) (ps : List NamedList) (old new : List ℕ) (known indexes now : BTreeMap ℕ ℕ) (names more : List ListAt)
+module _ (lists : List (Vec ℕ)) (start : ℕ) (r : NamedList) (ps : List NamedList) (old new : List ℕ) (known indexes now : BTreeMap ℕ ℕ)
+    (names more : List ListAt)
     (o : ℕ) (listed : IsListed lists r.list o old new known) where
   abbrev all : List NamedList
   all = ps ++ r ∷ []
 
   -- one before
-  still_put : (index : Option ℕ) → r.index ≡ index → IsOffsetGiven start o r names more indexes now index → Keeps names more → (k : NamedList) (by : Option ℕ) →
+  still_put : (index : Option ℕ) → r.index ≡ index → IsOffsetGiven start o r names more indexes now index → Keeps names more →
+      (k : NamedList) (by : Option ℕ) →
       IsPut lists start old indexes names ps k by → IsPut lists start new now more all k by
-  still_put index is given keeps k None p = (p.0, keeps k.place k.attr (start + p.0) p.1, longer_begins old new p.0 (bytes_in lists k.list) listed.longer p.2)
+  still_put index is given keeps k None p = (
+    p.0,
+    keeps k.place k.attr (start + p.0) p.1,
+    longer_begins old new p.0
+        (bytes_in lists k.list) listed.longer p.2,
+  )
   still_put None is given keeps k (Some i) p = (
     p.0,
     p.1,
@@ -228,8 +252,15 @@ module _ (lists : List (Vec ℕ)) (start : ℕ) (r : NamedList) (ps : List Named
     longer_begins old new p.0 (bytes_in lists p.1.list) listed.longer p.5,
   )
   still_put (Some j) is given keeps k (Some i) p = ⊎_elim
-      (λ (same : j ≡ i).
-      (o, r, given.1 i ∙ ap (λ (b : Bool). if b then Some o else get nat_cmp indexes i) (at_same j i same), is ∙ ap (λ (n : ℕ). Some n) same, contains_last ps r, listed.begins))
+      (λ (same : j ≡ i). (
+        o,
+        r,
+        given.1 i ∙ ap (λ (b : Bool). if b then Some o else get nat_cmp indexes i) (at_same j i same),
+        is
+            ∙ ap (λ (n : ℕ). Some n) same,
+        contains_last ps r,
+        listed.begins,
+      ))
       (λ (ne : j ≢ i). (
         p.0,
         p.1,
@@ -241,26 +272,40 @@ module _ (lists : List (Vec ℕ)) (start : ℕ) (r : NamedList) (ps : List Named
       (cases_eq j i)
 
   -- the one itself
-  itself_put : (kind : ListKind) (lo own : ℕ) (index : Option ℕ) → r.index ≡ index → AreNames kind lo own names → lo ≤ key r.place r.attr → IsNaming kind r.attr →
+  itself_put : (kind : ListKind) (lo own : ℕ) (index : Option ℕ) → r.index ≡ index → AreNames kind lo own names → lo ≤ key r.place r.attr →
+      IsNaming kind r.attr →
       IsOffsetGiven start o r names more indexes now index →
       IsPut lists start new now more all r index
-  itself_put kind lo own None is n h naming given =
-      (o, ap (λ (l : List ListAt). new_list_offset l r.place r.attr) given.0 ∙ new_name names (name_at r (start + o)) (n.lists r.place r.attr naming h), listed.begins)
-  itself_put kind lo own (Some i) is n h naming given =
-      (o, r, given.1 i ∙ ap (λ (b : Bool). if b then Some o else get nat_cmp indexes i) (at_same i i refl), is, contains_last ps r, listed.begins)
+  itself_put kind lo own None is n h naming given = (
+    o,
+    ap (λ (l : List ListAt). new_list_offset l r.place r.attr) given.0
+        ∙ new_name names (name_at r (start + o)) (n.lists r.place r.attr naming h),
+    listed.begins,
+  )
+  itself_put kind lo own (Some i) is n h naming given = (
+    o,
+    r,
+    given.1 i ∙ ap (λ (b : Bool). if b then Some o else get nat_cmp indexes i) (at_same i i refl),
+    is,
+    contains_last ps r,
+    listed.begins,
+  )
 
-  names_by : (kind : ListKind) (lo own : ℕ) (index : Option ℕ) → AreNames kind lo own names → lo ≤ key r.place r.attr → IsNaming kind r.attr →
+  names_by : (kind : ListKind) (lo own : ℕ) (index : Option ℕ) → AreNames kind lo own names → lo ≤ key r.place r.attr →
+      IsNaming kind r.attr →
       IsOffsetGiven start o r names more indexes now index → AreNames kind (key r.place r.attr + 1) own more × Keeps names more
   names_by kind lo own None n h naming given = (
     subst (AreNames kind (key r.place r.attr + 1) own) (sym given.0) (names_list kind lo own r (start + o) names n h naming given.1),
     subst (Keeps names) (sym given.0) (keeps_more names (name_at r (start + o))),
   )
   names_by kind lo own (Some i) n h naming given = (
-    subst (AreNames kind (key r.place r.attr + 1) own) (sym given.0) (names_less kind lo own (key r.place r.attr + 1) own names (omega (arith, h)) (omega arith) n),
+    subst (AreNames kind (key r.place r.attr + 1) own) (sym given.0)
+        (names_less kind lo own (key r.place r.attr + 1) own names (omega (arith, h)) (omega arith) n),
     subst (Keeps names) (sym given.0) (λ e attr o is. is),
   )
 
-  put_by : (kind : ListKind) (lo own : ℕ) (was : List ListAt) → ArePut kind lists start lo own old indexes was names ps → keys_end lo ps ≤ key r.place r.attr →
+  put_by : (kind : ListKind) (lo own : ℕ) (was : List ListAt) → ArePut kind lists start lo own old indexes was names ps →
+      keys_end lo ps ≤ key r.place r.attr →
       IsNaming kind r.attr → (index : Option ℕ) → r.index ≡ index → IsOffsetGiven start o r names more indexes now index →
       ArePut kind lists start lo own new now was more all
   put_by kind lo own was p h naming index is given =
@@ -272,25 +317,27 @@ module _ (lists : List (Vec ℕ)) (start : ℕ) (r : NamedList) (ps : List Named
             (λ (there : Contains ps k). still_put index is given n.1 k k.index (p.each k there))
             (λ (same : r ≡ k).
             subst (λ (x : NamedList). IsPut lists start new now more all x x.index) same
-            (subst (IsPut lists start new now more all r) (sym is) (itself_put kind (keys_end lo ps) own index is p.names_are h naming given)))
+            (subst (IsPut lists start new now more all r) (sym is)
+            (itself_put kind (keys_end lo ps) own index is p.names_are h naming given)))
             (contains_more ps r k c);
       }
 
-pub put_none : (kind : ListKind) (lists : List (Vec ℕ)) (start lo own : ℕ) (body : List ℕ) (indexes : BTreeMap ℕ ℕ) (names : List ListAt) → AreNames kind lo own names →
-    ArePut kind lists start lo own body indexes names names []
-put_none kind lists start lo own body indexes names n = record { names_are = n; keeps = λ e attr o is. is; each = λ r c. absurd (Contains-nil r c) }
-
-pub put_taken : (kind : ListKind) (lists : List (Vec ℕ)) (start lo own : ℕ) (rs : List NamedList) (i : ℕ) (d : NamedList) (old new : List ℕ) (known indexes now : BTreeMap ℕ ℕ)
-    (was names more : List ListAt) → i < length rs → AreInOrder kind lo rs → ArePut kind lists start lo own old indexes was names (take i rs) →
-    IsEntryPut lists start (get_or rs i d) old new known indexes now names more → ArePut kind lists start lo own new now was more (take (i + 1) rs)
+pub put_taken : (kind : ListKind) (lists : List (Vec ℕ)) (start lo own : ℕ) (rs : List NamedList) (i : ℕ) (d : NamedList) (old new : List ℕ)
+    (known indexes now : BTreeMap ℕ ℕ)
+    (was names more : List ListAt) → i < length rs → AreInOrder kind lo rs →
+    ArePut kind lists start lo own old indexes was names (take i rs) →
+    IsEntryPut lists start (get_or rs i d) old new known indexes now names more →
+    ArePut kind lists start lo own new now was more (take (i + 1) rs)
 put_taken kind lists start lo own rs i d old new known indexes now was names more h up p e =
     let k = key_at kind lo rs i d up h in
     subst (ArePut kind lists start lo own new now was more) (sym (take_more rs i d h))
-    (put_by lists start (get_or rs i d) (take i rs) old new known indexes now names more e.offset e.listed kind lo own was p k.0 k.1 (get_or rs i d).index refl e.given)
+    (put_by lists start (get_or rs i d) (take i rs) old new known indexes now names more e.offset e.listed kind lo own was p k.0 k.1
+    (get_or rs i d).index refl e.given)
 
 pub index_more : (rs : List NamedList) (i count more : ℕ) (d : NamedList) → i < length rs →
     ((r : NamedList) (x : ℕ) → Contains (take i rs) r → r.index ≡ Some x → x < count) → count ≤ more →
-    ((x : ℕ) → (get_or rs i d).index ≡ Some x → x < more) → (r : NamedList) (x : ℕ) → Contains (take (i + 1) rs) r → r.index ≡ Some x → x < more
+    ((x : ℕ) → (get_or rs i d).index ≡ Some x → x < more) → (r : NamedList) (x : ℕ) → Contains (take (i + 1) rs) r → r.index ≡ Some x →
+    x < more
 index_more rs i count more d h before least above r x c e = ⊎_elim
     (λ (there : Contains (take i rs) r). omega (arith, before r x there e, least))
     (λ (same : get_or rs i d ≡ r). above x (ap (λ (q : NamedList). q.index) same ∙ e))

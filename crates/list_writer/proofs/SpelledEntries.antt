@@ -1,5 +1,6 @@
 -- What is written is read back: numbers and entries.
-use Rattle.std.proofs.Common.{ℕ, ◌^◌, ◌<◌, ◌≡◌, List, [], ◌∷◌, ◌++◌, Ok, Result, ltb, false, refl, sym, ◌∙◌, ap, arith, length, take, drop, append_assoc, length-append}
+use Rattle.std.proofs.Common.{ℕ, ◌^◌, ◌<◌, ◌≡◌, List, [], ◌∷◌, ◌++◌, Ok, Result, ltb, false, refl, sym, ◌∙◌, ap, arith, length, take, drop}
+use Rattle.std.proofs.Common.{append_assoc, length-append}
 use Rattle.std.proofs.lemmas.Bool.Decides.{nat_tests}
 use Rattle.std.proofs.lemmas.Grind.{common_steps}
 use Rattle.byteorder.specs.Endian.{little_number, little_bytes}
@@ -52,10 +53,12 @@ bytes-back b rest =
     rw t (read_pair _ b _ rest (take_all b rest (length b) refl) (drop_all b rest (length b) refl))
 
 -- a stretch, behind the kind of its entry
-stretch-back : (start len : ℕ) (rest : List ℕ) → start < 2 ^ 64 → len < 2 ^ 64 → onward_at false (stretch_bytes start len ++ rest) ≡ Ok (Onward (Here start) len, rest)
+stretch-back : (start len : ℕ) (rest : List ℕ) → start < 2 ^ 64 → len < 2 ^ 64 →
+    onward_at false (stretch_bytes start len ++ rest) ≡ Ok (Onward (Here start) len, rest)
 stretch-back start len rest s l =
     ap (onward_at false) (append_assoc (little_bytes 8 start) (uleb len) rest)
-    ∙ ap (λ (r : Read ℕ). and_then (and_then r (λ n left. Ok (Here n, left))) (λ a left1. uleb_then left1 (λ n left2. Ok (Onward a n, left2))))
+    ∙ ap (λ (r : Read ℕ). and_then (and_then r (λ n left. Ok (Here n, left)))
+    (λ a left1. uleb_then left1 (λ n left2. Ok (Onward a n, left2))))
     (number-back 8 start (uleb len ++ rest) s)
     ∙ uleb-back len rest _ l
 
@@ -75,15 +78,18 @@ pub entry_parts : (kind : ListKind) (b : Bounded) → entry_bytes kind b ≡ ent
 entry_parts Ranges b = refl
 entry_parts Locations b = refl
 
-pub entry-back : (kind : ListKind) (b : Bounded) (rest : List ℕ) → IsWritable kind b → item_of kind (entry_kind kind) (entry_rest kind b ++ rest) ≡ Ok (item_at b, rest)
+pub entry-back : (kind : ListKind) (b : Bounded) (rest : List ℕ) → IsWritable kind b →
+    item_of kind (entry_kind kind) (entry_rest kind b ++ rest) ≡ Ok (item_at b, rest)
 entry-back Ranges b rest w =
-    ap (λ (r : Read Bound). and_then r (λ c left. Ok (record { bound = c; expression = [] }, left))) (stretch-back b.start b.len rest w.start w.len)
+    ap (λ (r : Read Bound). and_then r (λ c left. Ok (record { bound = c; expression = [] }, left)))
+    (stretch-back b.start b.len rest w.start w.len)
     ∙ ap (λ (x : List ℕ). Ok (record { bound = Onward (Here b.start) b.len; expression = x }, rest)) (sym w.expression)
 entry-back Locations b rest w =
     ap (item_of Locations 8) (assoc (stretch_bytes b.start b.len) (uleb (length b.expression)) b.expression rest)
     ∙ ap (λ (r : Read Bound). and_then r (λ c left. expressed c (expression_at c left)))
     (stretch-back b.start b.len (uleb (length b.expression) ++ (b.expression ++ rest)) w.start w.len)
-    ∙ ap (expressed (Onward (Here b.start) b.len)) (uleb-back (length b.expression) (b.expression ++ rest) _ w.expression ∙ bytes-back b.expression rest)
+    ∙ ap (expressed (Onward (Here b.start) b.len)) (uleb-back (length b.expression) (b.expression ++ rest) _ w.expression
+    ∙ bytes-back b.expression rest)
   where
     expressed : Bound → Read (List ℕ) → Read Item
     expressed c read = and_then read (λ y left. Ok (record { bound = c; expression = y }, left))

@@ -20,4 +20,5 @@ pub ended : (kind : ListKind) (bs : List Bounded) → flat_map (entry_bytes kind
 unfolding list_bytes
 ended kind [] = refl
 ended kind (b ∷ bs) =
-    append_assoc (entry_bytes kind b) (flat_map (entry_bytes kind) bs) (0 ∷ []) ∙ ap (λ (l : List ℕ). entry_bytes kind b ++ l) (ended kind bs)
+    append_assoc (entry_bytes kind b) (flat_map (entry_bytes kind) bs) (0 ∷ [])
+    ∙ ap (λ (l : List ℕ). entry_bytes kind b ++ l) (ended kind bs)

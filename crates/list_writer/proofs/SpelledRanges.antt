@@ -12,7 +12,8 @@ spelled_runs : (rs : List (Run Bool)) → flat_map run_bytes rs ≡ flat_map (en
 spelled_runs [] = refl
 spelled_runs (r ∷ rs) = ap (λ (l : List ℕ). run_bytes r ++ l) (spelled_runs rs)
 
-pub list_done : (runs : List (Run Bool)) (i : ℕ) (before old new : List ℕ) → length runs ≤ i → old ≡ before ++ flat_map run_bytes (take i runs) →
+pub list_done : (runs : List (Run Bool)) (i : ℕ) (before old new : List ℕ) → length runs ≤ i →
+    old ≡ before ++ flat_map run_bytes (take i runs) →
     new ≡ old ++ 0 ∷ [] → new ≡ before ++ list_bytes Ranges (map bounded runs)
 list_done runs i before old new h e made =
     made ∙ ap (λ (l : List ℕ). l ++ 0 ∷ []) (e ∙ ap (λ (l : List (Run Bool)). before ++ flat_map run_bytes l) (take_all i runs h))

@@ -1,5 +1,6 @@
 -- Tables are written unit by unit.
-use Rattle.std.proofs.Common.{Bool, ◌-◌, ◌≡◌, ◌≢◌, ◌∙◌, ◌+◌, ◌<◌, ◌≤◌, ◌⊎◌, inl, inr, ◌++◌, ◌∷◌, [], ℕ, zero, suc, List, Option, Some, None, refl, sym, ap, subst, arith, length, take, drop, get_or, ⊎_elim}
+use Rattle.std.proofs.Common.{Bool, ◌-◌, ◌≡◌, ◌≢◌, ◌∙◌, ◌+◌, ◌<◌, ◌≤◌, ◌⊎◌, inl, inr, ◌++◌, ◌∷◌, [], ℕ, zero, suc, List, Option, Some, None}
+use Rattle.std.proofs.Common.{refl, sym, ap, subst, arith, length, take, drop, get_or, ⊎_elim}
 use Rattle.std.specs.Prelude.{Contains, ⊤}
 use Rattle.std.specs.Global.{Vec}
 use Rattle.std.proofs.lemmas.Grind.{common_steps}
@@ -10,7 +11,8 @@ use Rattle.table_core.specs.WrittenUnits.{IsUnit, units_bytes}
 use Rattle.dw_lists.specs.declared.list_kind.ListKind.{ListKind}
 use Rattle.dw_lists.specs.declared.named_list.NamedList.{NamedList}
 use Rattle.dw_lists.specs.Faults.{is_list_table}
-use Rattle.list_writer.specs.WrittenTables.{base_name, key, AreInOrder, AreNames, Keeps, keys_end, StandsAt, IsNamed, IsUnitWritten, OwnsRise, AreWritten}
+use Rattle.list_writer.specs.WrittenTables.{base_name, key, AreInOrder, AreNames, Keeps, keys_end, StandsAt, IsNamed, IsUnitWritten}
+use Rattle.list_writer.specs.WrittenTables.{OwnsRise, AreWritten}
 use Rattle.list_writer.proofs.PutEntries.{contains_split, contains_still, contains_behind}
 
 keys_append : (lo : ℕ) (xs ys : List NamedList) → keys_end lo (xs ++ ys) ≡ keys_end (keys_end lo xs) ys
@@ -30,7 +32,8 @@ abbrev Next : ℕ → List NamedList → Type 0
 Next own [] = ⊤
 Next own (r ∷ rs) = r.own ≢ own
 
-owns_split : (lo own : ℕ) (unit behind : List NamedList) → OwnsRise lo (unit ++ behind) → ((r : NamedList) → Contains unit r → r.own ≡ own) → 0 < length unit →
+owns_split : (lo own : ℕ) (unit behind : List NamedList) → OwnsRise lo (unit ++ behind) →
+    ((r : NamedList) → Contains unit r → r.own ≡ own) → 0 < length unit →
     OwnsRise own behind
 owns_split lo own [] behind rise owned h = absurd (omega arith)
 owns_split lo own (r ∷ []) behind rise owned h = subst (λ (n : ℕ). OwnsRise n behind) (owned r (0, omega arith, refl)) rise.1
@@ -62,7 +65,8 @@ taken_own (x ∷ rest) (suc n) own same h r c = ⊎_elim
     (λ (there : Contains (take n rest) r). taken_own rest n own (λ k d l. same (suc k) d (omega (arith, l))) (omega arith) r there)
     (Contains-cons_cases x (take n rest) r c)
 
-pub next_own : (rest : List NamedList) (n own : ℕ) → ((d : NamedList) → n < length rest → (get_or rest n d).own ≢ own) → Next own (drop n rest)
+pub next_own : (rest : List NamedList) (n own : ℕ) → ((d : NamedList) → n < length rest → (get_or rest n d).own ≢ own) →
+    Next own (drop n rest)
 next_own [] zero own next = tt
 next_own [] (suc n) own next = tt
 next_own (x ∷ rest) zero own next = next x (omega arith)
@@ -84,19 +88,34 @@ stands_still tables ys at part s = record {
     assoc [] y z = refl
     assoc (q ∷ x) y z = ap (λ (l : List (List ℕ)). q ∷ l) (assoc x y z)
 
-named_still : (kind : ListKind) (lists : List (Vec ℕ)) (tables ys : List (List ℕ)) (names more : List ListAt) (all : List NamedList) (r : NamedList) (i : Option ℕ) → Keeps names more →
+named_still : (kind : ListKind) (lists : List (Vec ℕ)) (tables ys : List (List ℕ)) (names more : List ListAt) (all : List NamedList)
+    (r : NamedList) (i : Option ℕ) → Keeps names more →
     IsNamed kind lists tables names all r i → IsNamed kind lists (tables ++ ys) more all r i
 named_still kind lists tables ys names more all r None keeps n = (n.0, keeps r.place r.attr n.0 n.1, stands_still tables ys n.0 _ n.2)
-named_still kind lists tables ys names more all r (Some i) keeps n =
-    (n.0, n.1, n.2, keeps r.own (base_name kind) n.0 n.3, stands_still tables ys _ _ n.4, n.5, n.6, n.7, n.8, stands_still tables ys _ _ n.9)
+named_still kind lists tables ys names more all r (Some i) keeps n = (
+  n.0,
+  n.1,
+  n.2,
+  keeps r.own (base_name kind) n.0 n.3,
+  stands_still tables ys _ _ n.4,
+  n.5,
+  n.6,
+  n.7,
+  n.8,
+  stands_still tables ys _ _
+      n.9,
+)
 
-named_of : (kind : ListKind) (lists : List (Vec ℕ)) (tables : List (List ℕ)) (names : List ListAt) (unit all : List NamedList) (r : NamedList) (i : Option ℕ) →
-    ((x : NamedList) → Contains unit x → Contains all x) → IsNamed kind lists tables names unit r i → IsNamed kind lists tables names all r i
+named_of : (kind : ListKind) (lists : List (Vec ℕ)) (tables : List (List ℕ)) (names : List ListAt) (unit all : List NamedList)
+    (r : NamedList) (i : Option ℕ) →
+    ((x : NamedList) → Contains unit x → Contains all x) → IsNamed kind lists tables names unit r i →
+    IsNamed kind lists tables names all r i
 named_of kind lists tables names unit all r None within n = n
 named_of kind lists tables names unit all r (Some i) within n = (n.0, n.1, n.2, n.3, n.4, n.5, n.6, n.7, within n.2 n.8, n.9)
 
 -- A unit more.
-module _ (kind : ListKind) (lists : List (Vec ℕ)) (all done rest unit behind : List NamedList) (bytes new : List ℕ) (names more : List ListAt) (own : ℕ)
+module _ (kind : ListKind) (lists : List (Vec ℕ)) (all done rest unit behind : List NamedList) (bytes new : List ℕ)
+    (names more : List ListAt) (own : ℕ)
     (w : AreWritten kind lists all done rest bytes names) (split : rest ≡ unit ++ behind) (whole : all ≡ done ++ rest) where
   rises : OwnsRise w.own (unit ++ behind)
   rises = subst (OwnsRise w.own) split w.owns
@@ -121,7 +140,8 @@ module _ (kind : ListKind) (lists : List (Vec ℕ)) (all done rest unit behind :
         (All-cons (λ b. is_list_table b ≡ Bool.true) u.table [] u.is_table (All-nil (λ b. is_list_table b ≡ Bool.true)));
     own = own + 1;
     owns = owns_next own behind (owns_split w.own own unit behind rises owned some) next;
-    order = subst (λ (n : ℕ). AreInOrder kind n behind) (sym (keys_append 0 done unit)) (order_back kind (keys_end 0 done) unit behind order);
+    order = subst (λ (n : ℕ). AreInOrder kind n behind) (sym (keys_append 0 done unit))
+        (order_back kind (keys_end 0 done) unit behind order);
     names_are = subst (λ (n : ℕ). AreNames kind n (own + 1) more) (sym (keys_append 0 done unit)) u.names_are;
     each = λ r c. ⊎_elim
         (λ (there : Contains done r). named_still kind lists w.tables (u.table ∷ []) names more all r r.index u.keeps (w.each r there))
@@ -129,11 +149,13 @@ module _ (kind : ListKind) (lists : List (Vec ℕ)) (all done rest unit behind :
         (contains_split done unit r c);
   }
 
-pub first_own : (lo own : ℕ) (rest : List NamedList) (first : NamedList) → OwnsRise lo rest → 0 < length rest → get_or rest 0 first ≡ first → first.own ≡ own → lo ≤ own
+pub first_own : (lo own : ℕ) (rest : List NamedList) (first : NamedList) → OwnsRise lo rest → 0 < length rest →
+    get_or rest 0 first ≡ first → first.own ≡ own → lo ≤ own
 first_own lo own [] first rise h is e = absurd (omega arith)
 first_own lo own (x ∷ rest) first rise h is e = let o : x.own ≡ own = ap (λ (q : NamedList). q.own) is ∙ e in omega (arith, rise.0, o)
 
-pub none_written : (kind : ListKind) (lists : List (Vec ℕ)) (all : List NamedList) (bytes : List ℕ) (names : List ListAt) → bytes ≡ [] → names ≡ [] →
+pub none_written : (kind : ListKind) (lists : List (Vec ℕ)) (all : List NamedList) (bytes : List ℕ) (names : List ListAt) → bytes ≡ [] →
+    names ≡ [] →
     AreInOrder kind 0 all → OwnsRise 0 all → AreWritten kind lists all [] all bytes names
 unfolding units_bytes
 none_written kind lists all bytes names empty unnamed up rise = record {
@@ -171,14 +193,19 @@ dropped_len : (xs : List NamedList) (n : ℕ) → length (drop n xs) ≡ length 
 dropped_len xs n = grind (arith, common_steps)
 
 -- The unit at the front of the rest, and what is behind it.
-pub next_units : (kind : ListKind) (lists : List (Vec ℕ)) (all done rest unit behind : List NamedList) (bytes new : List ℕ) (names more : List ListAt) (own n : ℕ)
-    (first : NamedList) (w : AreWritten kind lists all done rest bytes names) → all ≡ done ++ rest → unit ≡ take n rest → behind ≡ drop n rest → n ≤ length rest →
+pub next_units : (kind : ListKind) (lists : List (Vec ℕ)) (all done rest unit behind : List NamedList) (bytes new : List ℕ)
+    (names more : List ListAt) (own n : ℕ)
+    (first : NamedList) (w : AreWritten kind lists all done rest bytes names) → all ≡ done ++ rest → unit ≡ take n rest →
+    behind ≡ drop n rest → n ≤ length rest →
     ((k : ℕ) (d : NamedList) → k < n → (get_or rest k d).own ≡ own) → ((d : NamedList) → n < length rest → (get_or rest n d).own ≢ own) →
     get_or rest 0 first ≡ first → 0 < length rest → first.own ≡ own →
-    ((tables : List (List ℕ)) (lo bound : ℕ) → bytes ≡ units_bytes tables → AreNames kind lo bound names → AreInOrder kind lo unit → bound ≤ own →
-    ((r : NamedList) → Contains unit r → r.own ≡ own) → IsUnitWritten kind lists lo own unit tables new names more) → (number : ℕ) → length rest + number ≤ length all →
+    ((tables : List (List ℕ)) (lo bound : ℕ) → bytes ≡ units_bytes tables → AreNames kind lo bound names → AreInOrder kind lo unit →
+    bound ≤ own →
+    ((r : NamedList) → Contains unit r → r.own ≡ own) → IsUnitWritten kind lists lo own unit tables new names more) → (number : ℕ) →
+    length rest + number ≤ length all →
     (x : List NamedList) × (all ≡ x ++ behind) × (length behind + (number + 1) ≤ length all) × AreWritten kind lists all x behind new more
-next_units kind lists all done rest unit behind bytes new names more own n first w whole front back le same next is h e written number fits =
+next_units kind lists all done rest unit behind bytes new names more own n first w whole front back le same next is h e written number fits
+    =
     let some : 0 < n = some_len rest n own first next is h e in
     let split : rest ≡ unit ++ behind = split_is rest n ∙ (λ i. sym front i ++ sym back i) in
     let size : length unit ≡ n = ap length front ∙ taken_len rest n le in
@@ -187,7 +214,8 @@ next_units kind lists all done rest unit behind bytes new names more own n first
     λ r c. taken_own rest n own same le r (subst (λ (l : List NamedList). Contains l r) front c) in
     let after : Next own behind = subst (Next own) (sym back) (next_own rest n own next) in
     let u = written w.tables (keys_end 0 done) w.own w.bytes_are w.names_are
-    (unit_order kind lists all done rest unit behind bytes new names more own w split whole) (first_own w.own own rest first w.owns h is e) owned in (
+    (unit_order kind lists all done rest unit behind bytes new names more own w split whole) (first_own w.own own rest first w.owns h is e)
+    owned in (
       done ++ unit,
       whole ∙ ap (λ (l : List NamedList). done ++ l) split ∙ sym (assoc done unit behind),
       omega (arith, some, left, fits, le),

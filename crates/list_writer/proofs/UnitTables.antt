@@ -1,5 +1,6 @@
 -- A table that is written holds the lists of its unit.
-use Rattle.std.proofs.Common.{◌≡◌, ◌∙◌, ◌+◌, ◌-◌, ◌*◌, ◌^◌, ◌<◌, ◌≤◌, ◌==◌, ◌&&◌, ◌++◌, ◌∷◌, [], ℕ, zero, suc, Bool, true, false, List, Option, Some, None, BTreeMap}
+use Rattle.std.proofs.Common.{◌≡◌, ◌∙◌, ◌+◌, ◌-◌, ◌*◌, ◌^◌, ◌<◌, ◌≤◌, ◌==◌, ◌&&◌, ◌++◌, ◌∷◌, [], ℕ, zero, suc, Bool, true, false, List}
+use Rattle.std.proofs.Common.{Option, Some, None, BTreeMap}
 use Rattle.std.proofs.Common.{refl, sym, ap, subst, arith, length, drop, ⊎_elim, append-nil, append_assoc, length-append, add-one}
 use Rattle.std.specs.Prelude.{Contains, nat_le, unwrap_or}
 use Rattle.std.specs.Global.{Vec}
@@ -13,14 +14,16 @@ use Rattle.dw_unit.specs.EntryMoves.{new_list_offset}
 use Rattle.dw_lists.specs.declared.list_kind.ListKind.{ListKind}
 use Rattle.dw_lists.specs.declared.named_list.NamedList.{NamedList}
 use Rattle.dw_lists.specs.Faults.{is_list_table}
-use Rattle.list_writer.specs.WrittenTables.{bytes_in, base_name, Begins, AreNames, Keeps, base_at, IsPut, ArePut, keys_end, list_header, offset_of, list_offsets, list_table}
+use Rattle.list_writer.specs.WrittenTables.{bytes_in, base_name, Begins, AreNames, Keeps, base_at, IsPut, ArePut, keys_end, list_header}
+use Rattle.list_writer.specs.WrittenTables.{offset_of, list_offsets, list_table}
 use Rattle.list_writer.specs.WrittenTables.{IsTablePut, StandsAt, IsNamed, IsUnitWritten}
 use Rattle.list_writer.proofs.PutEntries.{keeps_more, new_name, names_less, names_base}
 use Rattle.list_writer.proofs.SpelledEntries.{length-little}
 
 -- Offsets
 
-next_offset : (size : ℕ) (m : BTreeMap ℕ ℕ) (n : ℕ) → list_offsets size m (suc n) ≡ list_offsets size m n ++ little_bytes 4 (offset_of size m n)
+next_offset : (size : ℕ) (m : BTreeMap ℕ ℕ) (n : ℕ) → list_offsets size m (suc n) ≡ list_offsets size m n
+    ++ little_bytes 4 (offset_of size m n)
 unfolding list_offsets
 next_offset size m n = refl
 
@@ -28,7 +31,8 @@ pub no_offsets : (size : ℕ) (m : BTreeMap ℕ ℕ) → list_offsets size m 0 �
 unfolding list_offsets
 no_offsets size m = refl
 
-pub offsets_step : (size : ℕ) (m : BTreeMap ℕ ℕ) (n : ℕ) → list_offsets size m (n + 1) ≡ list_offsets size m n ++ little_bytes 4 (offset_of size m n)
+pub offsets_step : (size : ℕ) (m : BTreeMap ℕ ℕ) (n : ℕ) → list_offsets size m (n + 1) ≡ list_offsets size m n
+    ++ little_bytes 4 (offset_of size m n)
 offsets_step size m n = ap (list_offsets size m) (add-one n) ∙ next_offset size m n
 
 pub offset_low : (size : ℕ) (m : BTreeMap ℕ ℕ) (n : ℕ) → ((i : ℕ) → i < n → offset_of size m i < 2 ^ 32) → offset_of size m n < 2 ^ 32 →
@@ -59,7 +63,8 @@ offset_at size m (suc n) i h = ⊎_elim
       more = p.more ++ little_bytes 4 (offset_of size m n);
       is = ap (λ (l : List ℕ). l ++ little_bytes 4 (offset_of size m n)) p.is
           ∙ append_assoc (list_offsets size m i) (little_bytes 4 (offset_of size m i) ++ p.more) (little_bytes 4 (offset_of size m n))
-          ∙ ap (λ (l : List ℕ). list_offsets size m i ++ l) (append_assoc (little_bytes 4 (offset_of size m i)) p.more (little_bytes 4 (offset_of size m n)));
+          ∙ ap (λ (l : List ℕ). list_offsets size m i ++ l) (append_assoc (little_bytes 4 (offset_of size m i)) p.more
+          (little_bytes 4 (offset_of size m n)));
     })
     (λ (le : n ≤ i).
     let same : n ≡ i = omega (arith, h, le) in
@@ -118,13 +123,17 @@ module _ (count : ℕ) (m : BTreeMap ℕ ℕ) (body : List ℕ) (low : 4 * count
   is_table =
       let n = table_size count m body in
       let two : 2 ≡ length (little_bytes 2 5) = sym (length-little 2 5) in
-      let sizes : drop 2 table ≡ 8 ∷ 0 ∷ (little_bytes 4 count ++ rest) = ap (drop 2) front ∙ drop_front (little_bytes 2 5) (8 ∷ 0 ∷ (little_bytes 4 count ++ rest)) 2 two in
+      let sizes : drop 2 table ≡ 8 ∷ 0 ∷ (little_bytes 4 count ++ rest) = ap (drop 2) front
+      ∙ drop_front (little_bytes 2 5) (8 ∷ 0 ∷ (little_bytes 4 count ++ rest)) 2 two in
       let counted : drop 4 table ≡ little_bytes 4 count ++ rest = ap (drop 2) sizes in
-      let number : little_number 4 (drop 4 table) ≡ count = ap (little_number 4) counted ∙ little_number-reads_back 4 count rest (omega (arith, low)) in
+      let number : little_number 4 (drop 4 table) ≡ count = ap (little_number 4) counted
+      ∙ little_number-reads_back 4 count rest (omega (arith, low)) in
       let eight : (little_number 2 (drop 2 table) == 8) ≡ true = ap (λ (l : List ℕ). little_number 2 l == 8) sizes in
       let long : nat_le 8 (length table) ≡ true = at_most 8 (length table) (omega (arith, n)) in
-      let fits : nat_le (4 * little_number 4 (drop 4 table)) (length table - 8) ≡ true = at_most (4 * little_number 4 (drop 4 table)) (length table - 8) (omega (arith, n, number)) in
-      sound_by (nat_le 8 (length table)) (little_number 2 (drop 2 table) == 8) (nat_le (4 * little_number 4 (drop 4 table)) (length table - 8)) long eight fits
+      let fits : nat_le (4 * little_number 4 (drop 4 table)) (length table - 8) ≡ true = at_most (4 * little_number 4 (drop 4 table))
+      (length table - 8) (omega (arith, n, number)) in
+      sound_by (nat_le 8 (length table)) (little_number 2 (drop 2 table) == 8)
+      (nat_le (4 * little_number 4 (drop 4 table)) (length table - 8)) long eight fits
     where
       at_most : (a b : ℕ) → a ≤ b → nat_le a b ≡ true
       at_most a b h = grind (arith, nat_tests)
@@ -165,7 +174,15 @@ module _ (lists : List (Vec ℕ)) (tables : List (List ℕ)) (count base : ℕ) 
       let d = header_len count in
       let e = offsets_len (4 * count) m count in
       let f = b.at in
-      record { before = tables; after = []; head = head; more = b.more; are = ap (λ (l : List ℕ). tables ++ l ∷ []) split; at_is = omega (arith, a, c, d, e, f, based) }
+      record {
+        before = tables;
+        after = [];
+        head = head;
+        more = b.more;
+        are = ap (λ (l : List ℕ). tables ++ l ∷ []) split;
+        at_is = omega
+            (arith, a, c, d, e, f, based);
+      }
 
   offset_stands : (i : ℕ) → i < count → StandsAt with_table (base + 4 * i) (little_bytes 4 (offset_of (4 * count) m i))
   offset_stands i h =
@@ -180,10 +197,19 @@ module _ (lists : List (Vec ℕ)) (tables : List (List ℕ)) (count base : ℕ) 
       let a = length-append (list_header count) (list_offsets (4 * count) m i) in
       let d = header_len count in
       let e = offsets_len (4 * count) m i in
-      record { before = tables; after = []; head = head; more = p.more ++ body; are = ap (λ (l : List ℕ). tables ++ l ∷ []) split; at_is = omega (arith, a, d, e, based) }
+      record {
+        before = tables;
+        after = [];
+        head = head;
+        more = p.more
+            ++ body;
+        are = ap (λ (l : List ℕ). tables ++ l ∷ []) split;
+        at_is = omega (arith, a, d, e, based);
+      }
 
   module _ (kind : ListKind) (own : ℕ) (names more : List ListAt) (entries : List NamedList) (keeps : Keeps names more)
-      (owned : (r : NamedList) → Contains entries r → r.own ≡ own) (counted : (r : NamedList) (i : ℕ) → Contains entries r → r.index ≡ Some i → i < count)
+      (owned : (r : NamedList) → Contains entries r → r.own ≡ own) (counted : (r : NamedList) (i : ℕ) → Contains entries r →
+      r.index ≡ Some i → i < count)
       (named : 0 < count → new_list_offset more own (base_name kind) ≡ Some base) where
     is_named : (r : NamedList) → Contains entries r → (index : Option ℕ) → r.index ≡ index →
         IsPut lists (base + 4 * count) body m names entries r index → IsNamed kind lists with_table more entries r index
@@ -206,7 +232,8 @@ module _ (lists : List (Vec ℕ)) (tables : List (List ℕ)) (count base : ℕ) 
         )
 
 -- A unit's table is written, and the base of its indexes named.
-module _ (kind : ListKind) (lists : List (Vec ℕ)) (lo bound own count base : ℕ) (entries : List NamedList) (tables : List (List ℕ)) (old new : List ℕ)
+module _ (kind : ListKind) (lists : List (Vec ℕ)) (lo bound own count base : ℕ) (entries : List NamedList) (tables : List (List ℕ))
+    (old new : List ℕ)
     (body : List ℕ) (m : BTreeMap ℕ ℕ) (was names more : List ListAt)
     (before : old ≡ units_bytes tables) (based : base ≡ length old + 12) (small : base < 2 ^ 32) (fits : 4 * count < 2 ^ 32)
     (put : ArePut kind lists (base + 4 * count) lo bound body m was names entries) (le : bound ≤ own)
@@ -226,7 +253,8 @@ module _ (kind : ListKind) (lists : List (Vec ℕ)) (lo bound own count base : �
   kept_by (suc n) e =
       let is : more ≡ names ++ base_at kind own base ∷ [] = some (omega (arith, e)) in (
         subst (Keeps names) (sym is) (keeps_more names (base_at kind own base)),
-        subst (AreNames kind (keys_end lo entries) (own + 1)) (sym is) (names_base kind (keys_end lo entries) bound own base names put.names_are le small),
+        subst (AreNames kind (keys_end lo entries) (own + 1)) (sym is)
+            (names_base kind (keys_end lo entries) bound own base names put.names_are le small),
       )
 
   pub unit_written : IsUnitWritten kind lists lo own entries tables new was more
@@ -248,11 +276,13 @@ module _ (kind : ListKind) (lists : List (Vec ℕ)) (lo bound own count base : �
       }
 
 -- a table's bytes, one part behind another
-pub joined_table : (count : ℕ) (m : BTreeMap ℕ ℕ) (body old a b d new : List ℕ) (len : ℕ) → len ≡ 8 + 4 * count + length body → a ≡ old ++ little_bytes 4 len →
+pub joined_table : (count : ℕ) (m : BTreeMap ℕ ℕ) (body old a b d new : List ℕ) (len : ℕ) → len ≡ 8 + 4 * count + length body →
+    a ≡ old ++ little_bytes 4 len →
     b ≡ a ++ list_header count → d ≡ b ++ list_offsets (4 * count) m count → new ≡ d ++ body →
     new ≡ old ++ (little_bytes 4 (8 + 4 * count + length body) ++ list_table count m body)
 joined_table count m body old a b d new len e f g h k =
-    k ∙ ap (λ (l : List ℕ). l ++ body) (h ∙ ap (λ (l : List ℕ). l ++ list_offsets (4 * count) m count) (g ∙ ap (λ (l : List ℕ). l ++ list_header count) f))
+    k ∙ ap (λ (l : List ℕ). l ++ body) (h ∙ ap (λ (l : List ℕ). l ++ list_offsets (4 * count) m count)
+    (g ∙ ap (λ (l : List ℕ). l ++ list_header count) f))
     ∙ assoc old (little_bytes 4 len) (list_header count) (list_offsets (4 * count) m count) body
     ∙ ap (λ (n : ℕ). old ++ (little_bytes 4 n ++ list_table count m body)) e
   where

@@ -1,5 +1,6 @@
 -- Lists that are written one after another into the body of a table.
-use Rattle.std.proofs.Common.{◌≡◌, ◌≢◌, ◌∙◌, ◌++◌, ◌∷◌, [], ℕ, Bool, List, Some, BTreeMap, nat_cmp, zero, suc, map, refl, sym, ap, subst, arith, length, cond, ⊎_elim, append_assoc, append-nil}
+use Rattle.std.proofs.Common.{◌≡◌, ◌≢◌, ◌∙◌, ◌++◌, ◌∷◌, [], ℕ, Bool, List, Some, BTreeMap, nat_cmp, zero, suc, map, refl, sym, ap, subst}
+use Rattle.std.proofs.Common.{arith, length, cond, ⊎_elim, append_assoc, append-nil}
 use Rattle.std.specs.Prelude.{slice_get}
 use Rattle.std.specs.BTreeMap.{get, is_at}
 use Rattle.std.specs.Global.{Vec}
@@ -27,10 +28,8 @@ same_some : (o p : ℕ) → Some o ≡ Some p → o ≡ p
 same_some o p e = cc
 
 module _ (lists : List (Vec ℕ)) (old new : List ℕ) (known more : BTreeMap ℕ ℕ) (number : ℕ) (listed : AreListed lists old known) where
-  pub list_known : (o : ℕ) → get nat_cmp known number ≡ Some o → IsListed lists number o old old known
-  list_known o e = record { longer = record { more = []; is = sym (append-nil old) }; listed = listed; begins = listed number o e }
-
-  pub list_more : new ≡ old ++ bytes_in lists number → ((q : ℕ) → get nat_cmp more q ≡ cond (is_at (nat_cmp number) q) (Some (length old)) (get nat_cmp known q)) →
+  pub list_more : new ≡ old ++ bytes_in lists number → ((q : ℕ) → get nat_cmp more q ≡ cond (is_at (nat_cmp number) q) (Some (length old))
+      (get nat_cmp known q)) →
       IsListed lists number (length old) old new more
   list_more made inserted = record { longer = longer; listed = again; begins = here }
     where
@@ -38,13 +37,20 @@ module _ (lists : List (Vec ℕ)) (old new : List ℕ) (known more : BTreeMap �
       longer = record { more = bytes_in lists number; is = made }
 
       here : Begins new (length old) (bytes_in lists number)
-      here = record { before = old; more = []; is = made ∙ ap (λ (x : List ℕ). old ++ x) (sym (append-nil (bytes_in lists number))); at = refl }
+      here = record {
+        before = old;
+        more = [];
+        is = made ∙ ap (λ (x : List ℕ). old ++ x) (sym (append-nil (bytes_in lists number)));
+        at =
+            refl;
+      }
 
       again : AreListed lists new more
       again g o e = ⊎_elim
           (λ (same : number ≡ g).
           let is : Some (length old) ≡ Some o =
-          sym (inserted g ∙ ap (λ (b : Bool). cond b (Some (length old)) (get nat_cmp known g)) (ap (is_at (nat_cmp number)) (sym same) ∙ at_same number)) ∙ e in
+          sym (inserted g ∙ ap (λ (b : Bool). cond b (Some (length old)) (get nat_cmp known g)) (ap (is_at (nat_cmp number)) (sym same)
+          ∙ at_same number)) ∙ e in
           subst (λ (n : ℕ). Begins new n (bytes_in lists g)) (same_some (length old) o is)
           (subst (λ (k : ℕ). Begins new (length old) (bytes_in lists k)) same here))
           (λ (ne : number ≢ g).

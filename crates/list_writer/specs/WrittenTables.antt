@@ -1,6 +1,7 @@
 -- Tables of lists that are written anew, and where the attributes of units' entries find their lists in them. DWARF 5,
 -- sections 7.28 and 7.29.
-use Rattle.std.specs.Prelude.{◌≡◌, ◌<◌, ◌≤◌, ◌+◌, ◌-◌, ◌*◌, ◌^◌, ℕ, zero, suc, Bool, true, IsTrue, List, [], ◌∷◌, ◌++◌, All, Contains, length}
+use Rattle.std.specs.Prelude.{◌≡◌, ◌<◌, ◌≤◌, ◌+◌, ◌-◌, ◌*◌, ◌^◌, ℕ, zero, suc, Bool, true, IsTrue, List, [], ◌∷◌, ◌++◌}
+use Rattle.std.specs.Prelude.{All, Contains, length}
 use Rattle.std.specs.Prelude.{unwrap_or, slice_get, Option, Some, None, if◌then◌else◌}
 use Rattle.std.specs.BTreeMap.{BTreeMap, get, is_at}
 use Rattle.std.specs.Global.{Vec}
@@ -43,7 +44,8 @@ key place attr = 128 * place + attr
 -- Attributes that name lists, each once, in order.
 abbrev pub AreInOrder : ListKind → ℕ → List NamedList → Type 0
 AreInOrder kind lo [] = Unit {0}
-AreInOrder kind lo (r ∷ rs) = (lo ≤ key r.place r.attr) × IsNaming kind r.attr × AreInOrder kind (key r.place r.attr + 1) rs
+AreInOrder kind lo (r ∷ rs) = (lo ≤ key r.place r.attr) × IsNaming kind r.attr
+    × AreInOrder kind (key r.place r.attr + 1) rs
 
 -- some bytes begin at an offset of others
 pub record Begins (bytes : List ℕ) (offset : ℕ) (part : List ℕ) : Type 0 where
@@ -86,7 +88,8 @@ abbrev pub base_at : ListKind → ℕ → ℕ → ListAt
 base_at kind own offset = record { entry = own; attr = base_name kind; offset = offset }
 
 -- An attribute got the offset of its list in a body that begins at a place: by a name, or by its index.
-abbrev pub IsOffsetGiven : ℕ → ℕ → NamedList → List ListAt → List ListAt → BTreeMap ℕ ℕ → BTreeMap ℕ ℕ → Option ℕ → Type 0
+abbrev pub IsOffsetGiven : ℕ → ℕ → NamedList → List ListAt → List ListAt → BTreeMap ℕ ℕ → BTreeMap ℕ ℕ → Option ℕ →
+    Type 0
 IsOffsetGiven start o r names more indexes now None =
     (more ≡ names ++ name_at r (start + o) ∷ []) × (start + o < 2 ^ 32) × (now ≡ indexes)
 IsOffsetGiven start o r names more indexes now (Some i) =
@@ -98,8 +101,8 @@ pub record IsEntryPut (lists : List (Vec ℕ)) (start : ℕ) (r : NamedList) (ol
   pub listed : IsListed lists r.list offset old new known
   pub given : IsOffsetGiven start offset r names more indexes now r.index
 
--- One of some attributes whose lists stand in a body that begins at a place: its list is named by its offset, or its index
--- has that of an attribute with the same index.
+-- One of some attributes whose lists stand in a body that begins at a place: its list is named by its offset, or its
+-- index has that of an attribute with the same index.
 abbrev pub IsPut : List (Vec ℕ) → ℕ → List ℕ → BTreeMap ℕ ℕ → List ListAt → List NamedList → NamedList →
     Option ℕ → Type 0
 IsPut lists start body indexes names all r None =
@@ -151,9 +154,10 @@ pub record StandsAt (tables : List (List ℕ)) (at : ℕ) (part : List ℕ) : Ty
   pub are : tables ≡ before ++ (head ++ (part ++ more)) ∷ after
   pub at_is : at ≡ length (units_bytes before) + 4 + length head
 
--- An attribute's list is named by its offset, or by its index and the base of its unit, where that of an attribute with the
--- same index stands.
-abbrev pub IsNamed : ListKind → List (Vec ℕ) → List (List ℕ) → List ListAt → List NamedList → NamedList → Option ℕ → Type 0
+-- An attribute's list is named by its offset, or by its index and the base of its unit, where that of an attribute
+-- with the same index stands.
+abbrev pub IsNamed : ListKind → List (Vec ℕ) → List (List ℕ) → List ListAt → List NamedList → NamedList → Option ℕ →
+    Type 0
 IsNamed kind lists tables names all r None =
     (at : ℕ) × (new_list_offset names r.place r.attr ≡ Some at) × StandsAt tables at (bytes_in lists r.list)
 IsNamed kind lists tables names all r (Some i) =
@@ -162,7 +166,8 @@ IsNamed kind lists tables names all r (Some i) =
     × Contains all like × StandsAt tables (base + o) (bytes_in lists like.list)
 
 -- A table more, in which the attributes of a unit's entries find their lists.
-pub record IsUnitWritten (kind : ListKind) (lists : List (Vec ℕ)) (lo own : ℕ) (entries : List NamedList) (tables : List (List ℕ))
+pub record IsUnitWritten (kind : ListKind) (lists : List (Vec ℕ)) (lo own : ℕ) (entries : List NamedList)
+    (tables : List (List ℕ))
     (bytes : List ℕ) (old names : List ListAt) : Type 0 where
   pub table : List ℕ
   pub bytes_are : bytes ≡ units_bytes (tables ++ table ∷ [])
@@ -178,7 +183,8 @@ OwnsRise lo [] = Unit {0}
 OwnsRise lo (r ∷ rs) = (lo ≤ r.own) × OwnsRise r.own rs
 
 -- Tables in which some attributes find their lists, of all attributes.
-pub record AreWritten (kind : ListKind) (lists : List (Vec ℕ)) (all entries rest : List NamedList) (bytes : List ℕ) (names : List ListAt) :
+pub record AreWritten (kind : ListKind) (lists : List (Vec ℕ)) (all entries rest : List NamedList) (bytes : List ℕ)
+    (names : List ListAt) :
     Type 0 where
   pub tables : List (List ℕ)
   pub bytes_are : bytes ≡ units_bytes tables

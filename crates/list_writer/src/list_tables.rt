@@ -1,5 +1,6 @@
 // Tables of lists written anew. DWARF 5, sections 7.28 and 7.29.
-ghost use Rattle.std.specs.Prelude.{◌≡◌, ◌++◌, ◌∷◌, [], ◌+◌, ◌*◌, ◌<◌, ◌≤◌, ◌^◌, ℕ, List, Contains, Some, IfOk, OnOk, length};
+ghost use Rattle.std.specs.Prelude.{◌≡◌, ◌++◌, [], ◌+◌, ◌*◌, ◌<◌, ◌≤◌, ◌^◌, ℕ, List, Contains, Some, IfOk, OnOk};
+ghost use Rattle.std.specs.Prelude.{◌∷◌, length};
 ghost use Rattle.std.specs.Prelude.{◌≢◌, ◌-◌, unwrap_or, slice_index_or};
 ghost use Rattle.std.specs.BTreeMap.{get};
 ghost use Rattle.std.specs.Ordering.{nat_cmp};
@@ -8,14 +9,15 @@ ghost use Rattle.table_core.specs.WrittenUnits.{units_bytes};
 ghost use Rattle.dw_lists.specs.declared.list_kind.ListKind as kinds;
 ghost use Rattle.dw_lists.specs.declared.named_list.NamedList as code;
 ghost use Rattle.list_writer.specs.WrittenTables as spec;
-ghost use Rattle.list_writer.specs.WrittenTables.{bytes_in, base_name, AreInOrder, AreListed, IsListed, AreNames, IsEntryPut, ArePut};
+ghost use Rattle.list_writer.specs.WrittenTables.{bytes_in, base_name, AreInOrder, AreListed, IsListed, AreNames};
+ghost use Rattle.list_writer.specs.WrittenTables.{IsEntryPut, ArePut};
 ghost use Rattle.list_writer.specs.WrittenTables.{IsTablePut, IsUnitWritten, AreWritten, OwnsRise};
 
-use crate::list_writing::put_u32;
 use dw_lists::list_kind::ListKind;
 use dw_lists::named_list::NamedList;
 use dw_unit::attribute::{DW_AT_loclists_base, DW_AT_rnglists_base};
 use rb_bytes::fault::NoMemory;
+use rb_bytes::little::put_u32;
 use std::alloc::Global;
 use std::collections::BTreeMap;
 use table_core::{ListAt, Written};
@@ -67,7 +69,8 @@ fn offset_sum(a: u64, b: u64) -> Result<u64, NoMemory>
     }
 }
 
-// Adds the list of an attribute to the body of a table, which begins at a place, and names it by its offset or by its index.
+// Adds the list of an attribute to the body of a table, which begins at a place, and names it by its offset or by its
+// index.
 fn add_entry(
     body: &mut Vec<u8>,
     known: &mut BTreeMap<usize, u64>,
@@ -78,7 +81,8 @@ fn add_entry(
     entry: &NamedList,
 ) -> Result<(), NoMemory>
     requires { AreListed lists.now body.old.items known.old }
-    ensures { OnOk result (IsEntryPut lists.now start entry.now body.old.items body.new.items known.new indexes.old indexes.new
+    ensures { OnOk result (IsEntryPut lists.now start entry.now body.old.items body.new.items known.new indexes.old
+        indexes.new
         names.old.items names.new.items) }
 {
     let offset = list_offset(body, known, lists, entry.list)?;
@@ -115,7 +119,8 @@ fn unit_body(
     start: u64,
     entries: &[NamedList],
 ) -> Result<UnitBody, NoMemory>
-    ensures { IfOk result (λ b. (kind : kinds.ListKind) (lo own : ℕ) → AreNames kind lo own names.old.items → AreInOrder kind lo entries.now →
+    ensures { IfOk result (λ b. (kind : kinds.ListKind) (lo own : ℕ) → AreNames kind lo own names.old.items →
+        AreInOrder kind lo entries.now →
         ArePut kind lists.now start lo own b.bytes.items b.indexes names.old.items names.new.items entries.now) }
 {
     let mut bytes = Vec::new(alloc);
@@ -181,7 +186,8 @@ fn put_offset(
     size: u64,
     index: u64,
 ) -> Result<(), NoMemory>
-    ensures written { OnOk result (out.new.items ≡ out.old.items ++ little_bytes 4 (spec.offset_of size indexes.now index)) }
+    ensures written { OnOk result (out.new.items ≡ out.old.items
+        ++ little_bytes 4 (spec.offset_of size indexes.now index)) }
     ensures low { OnOk result (spec.offset_of size indexes.now index < 2 ^ 32) }
 {
     let offset = offset_sum(size, index_offset(indexes, index))?;
@@ -316,7 +322,8 @@ fn put_unit(
 fn unit_len(entries: &[NamedList], own: u64) -> usize
     ensures within { result ≤ length entries.now }
     ensures same { (k : ℕ) (d : code.NamedList) → k < result → (slice_index_or entries.now k d).own ≡ own }
-    ensures next { (d : code.NamedList) → result < length entries.now → (slice_index_or entries.now result d).own ≢ own }
+    ensures next { (d : code.NamedList) → result < length entries.now →
+        (slice_index_or entries.now result d).own ≢ own }
 {
     let mut count = 0;
     for entry in entries {

@@ -1,34 +1,14 @@
 // Lists written anew. DWARF 5, sections 7.7.3 and 7.25.
 ghost use Rattle.std.specs.Prelude.{◌≡◌, ◌++◌, ◌∷◌, [], ◌<◌, ◌^◌, OnOk, length};
-ghost use Rattle.byteorder.specs.Endian.{little_bytes};
 ghost use Rattle.list_writer.specs.ListBytes.{stretch_bytes, entry_bytes};
 ghost use Rattle.rb_bytes.specs.Leb.{uleb};
 ghost use Rattle.dw_lists.specs.declared.list_entry.TheConstants.{DW_RLE_end_of_list};
 
-use byteorder::{ByteOrder, LittleEndian};
 use dw_lists::list_entry::{DW_LLE_start_length, DW_RLE_end_of_list, DW_RLE_start_length};
 use dw_lists::list_kind::ListKind;
 use rb_bytes::fault::NoMemory;
 use rb_bytes::leb::put_uleb;
-
-/// Appends a number of four bytes, the lowest first.
-pub fn put_u32(out: &mut Vec<u8>, n: u32) -> Result<(), NoMemory>
-    ensures { OnOk result (out.new.items ≡ out.old.items ++ little_bytes 4 n) }
-{
-    let mut field = [0; 4];
-    LittleEndian::write_u32(&mut field, n);
-    out.extend_from_slice(&field)?;
-    Ok(())
-}
-
-fn put_u64(out: &mut Vec<u8>, n: u64) -> Result<(), NoMemory>
-    ensures { OnOk result (out.new.items ≡ out.old.items ++ little_bytes 8 n) }
-{
-    let mut field = [0; 8];
-    LittleEndian::write_u64(&mut field, n);
-    out.extend_from_slice(&field)?;
-    Ok(())
-}
+use rb_bytes::little::put_u64;
 
 fn put_byte(out: &mut Vec<u8>, byte: u8) -> Result<(), NoMemory>
     ensures { OnOk result (out.new.items ≡ out.old.items ++ byte ∷ []) }

@@ -19,7 +19,8 @@ fn put_expression(
     len: u64,
     expression: &[u8],
 ) -> Result<(), NoMemory>
-    ensures written { OnOk result (out.new.items ≡ out.old.items ++ spec.entries_bytes (spec.over start len (expression.now ∷ []))) }
+    ensures written { OnOk result (out.new.items ≡ out.old.items
+        ++ spec.entries_bytes (spec.over start len (expression.now ∷ []))) }
     ensures fits { IsWritable kind.Locations (record { start = start; len = len; expression = expression.now }) }
 {
     put_entry(out, ListKind::Locations, start, len, expression)
@@ -32,7 +33,8 @@ fn put_expressions(
     len: u64,
     expressions: &[Vec<u8>],
 ) -> Result<(), NoMemory>
-    ensures written { OnOk result (out.new.items ≡ out.old.items ++ spec.entries_bytes (spec.over start len (items_in expressions.now))) }
+    ensures written { OnOk result (out.new.items ≡ out.old.items
+        ++ spec.entries_bytes (spec.over start len (items_in expressions.now))) }
     ensures fits { OnOk result (All (IsWritable kind.Locations) (spec.over start len (items_in expressions.now))) }
 {
     for expression in expressions {
@@ -44,7 +46,8 @@ fn put_expressions(
 fn put_run(out: &mut Vec<u8>, run: &ListRun) -> Result<(), NoMemory>
     ensures written { OnOk result (out.new.items
         ≡ out.old.items ++ spec.entries_bytes (spec.over run.now.start run.now.len (said run.now.answer))) }
-    ensures fits { OnOk result (All (IsWritable kind.Locations) (spec.over run.now.start run.now.len (said run.now.answer))) }
+    ensures fits { OnOk result (All (IsWritable kind.Locations)
+        (spec.over run.now.start run.now.len (said run.now.answer))) }
 {
     put_expressions(out, run.start, run.len, &run.answer)
 }

@@ -31,23 +31,31 @@ own_pair R [] ys x z c = absurd (Contains-nil x c)
 own_pair R (d ∷ xs) [] x z c = absurd z
 own_pair R (d ∷ xs) (e ∷ ys) x z c = record { d = d; e = e; old = refl; new = refl; are = z.0; there = (0, omega arith, refl) }
 
-new_location_base : (m : Moves) (own : Bool) (d : Entry) (a : Attr) (at : ℕ) → a.name ≡ 0x8c → a.form ≡ 0x17 → new_list_offset m.lists d.place 0x8c ≡ Some at →
+new_location_base : (m : Moves) (own : Bool) (d : Entry) (a : Attr) (at : ℕ) → a.name ≡ 0x8c → a.form ≡ 0x17 →
+    new_list_offset m.lists d.place 0x8c ≡ Some at →
     (changed m own true d a).value ≡ at
 new_location_base m own d a at n f given =
-    ap (λ (x : Attr). unwrap_or (new_value m own true d x) x.value) (λ i. record { name = n i; form = f i; place = a.place; len = a.len; value = a.value })
+    ap (λ (x : Attr). unwrap_or (new_value m own true d x) x.value)
+    (λ i. record { name = n i; form = f i; place = a.place; len = a.len; value = a.value })
     ∙ ap (λ (o : Option ℕ). unwrap_or o a.value) given
 
-base_value : (m : Moves) (own : Bool) (d : Entry) (a : Attr) (at k : ℕ) (b c : Bool) → (k == 0x74) ≡ b → (k == 0x8c) ≡ c → (b || c) ≡ true → a.name ≡ k → a.form ≡ 0x17 →
+base_value : (m : Moves) (own : Bool) (d : Entry) (a : Attr) (at k : ℕ) (b c : Bool) → (k == 0x74) ≡ b → (k == 0x8c) ≡ c → (b || c) ≡ true →
+    a.name ≡ k → a.form ≡ 0x17 →
     new_list_offset m.lists d.place k ≡ Some at → (changed m own true d a).value ≡ at
 base_value m own d a at k true c e f g n form given =
-    new_base m own d a at (n ∙ eqb-true k 0x74 e) form (subst (λ (k : ℕ). new_list_offset m.lists d.place k ≡ Some at) (eqb-true k 0x74 e) given)
+    new_base m own d a at (n ∙ eqb-true k 0x74 e) form (subst (λ (k : ℕ). new_list_offset m.lists d.place k ≡ Some at)
+    (eqb-true k 0x74 e) given)
 base_value m own d a at k false true e f g n form given =
-    new_location_base m own d a at (n ∙ eqb-true k 0x8c f) form (subst (λ (k : ℕ). new_list_offset m.lists d.place k ≡ Some at) (eqb-true k 0x8c f) given)
+    new_location_base m own d a at (n ∙ eqb-true k 0x8c f) form (subst (λ (k : ℕ). new_list_offset m.lists d.place k ≡ Some at)
+    (eqb-true k 0x8c f) given)
 base_value m own d a at k false false e f g n form given = absurd (cc)
 
-module _ (s t : ListSections) (m : Moves) (u v : Unit) (zip : AllZip (λ x y. IsChangedEntry s.units t.units.info m (is_first_of u x) x y) u.entries v.entries)
-    (sound : (d : Entry) → Contains u.entries d → IsSoundEntry s.units.addr u d) (k : ℕ) (i : IsOther k) (is_base : (k == 0x74 || k == 0x8c) ≡ true) where
-  pub base_stays : (d : Entry) → Contains u.entries d → is_some (base k u) ≡ true → (b : ℕ) → new_list_offset m.lists (own_place u) k ≡ Some b → base k v ≡ Some b
+module _ (s t : ListSections) (m : Moves) (u v : Unit) (zip : AllZip (λ x y. IsChangedEntry s.units t.units.info m (is_first_of u x) x y)
+    u.entries v.entries)
+    (sound : (d : Entry) → Contains u.entries d → IsSoundEntry s.units.addr u d) (k : ℕ) (i : IsOther k)
+    (is_base : (k == 0x74 || k == 0x8c) ≡ true) where
+  pub base_stays : (d : Entry) → Contains u.entries d → is_some (base k u) ≡ true → (b : ℕ) →
+      new_list_offset m.lists (own_place u) k ≡ Some b → base k v ≡ Some b
   base_stays d dc some b offset = by_base (attr k w.d) refl
     where
       w : OwnPair (λ x y. IsChangedEntry s.units t.units.info m (is_first_of u x) x y) u.entries v.entries
@@ -71,7 +79,8 @@ module _ (s t : ListSections) (m : Moves) (u v : Unit) (zip : AllZip (λ x y. Is
           let own_decl : Bool = is_own s.units w.d.declaration in
           ap (λ (o : Option Entry). option_map (λ (a : Attr). a.value) (option_and_then (attr k) o)) w.new
           ∙ ap (option_map (λ (a : Attr). a.value))
-          (from_other s.units t.units.info m (is_first_of u w.d) w.d w.e w.are k i ∙ ap (option_map (changed m own_decl (is_first_of u w.d) w.d)) is)
+          (from_other s.units t.units.info m (is_first_of u w.d) w.d w.e w.are k i
+          ∙ ap (option_map (changed m own_decl (is_first_of u w.d) w.d)) is)
           ∙ ap (λ (b : Bool). Some (changed m own_decl b w.d a).value) first
           ∙ ap (λ (n : ℕ). Some n) (base_value m own_decl w.d a b k (k == 0x74) (k == 0x8c) refl refl is_base name form
           (subst (λ (n : ℕ). new_list_offset m.lists n k ≡ Some b) place offset))

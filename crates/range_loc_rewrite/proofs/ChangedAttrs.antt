@@ -1,5 +1,6 @@
 -- The attributes that name ranges, and the bases of units, in entries that were changed in place.
-use Rattle.std.proofs.Common.{◌≡◌, ◌∙◌, ◌+◌, ◌==◌, ◌&&◌, ◌||◌, ◌∷◌, [], ℕ, Bool, true, false, not, List, Option, Some, None, refl, sym, ap, option_map}
+use Rattle.std.proofs.Common.{◌≡◌, ◌∙◌, ◌+◌, ◌==◌, ◌&&◌, ◌||◌, ◌∷◌, [], ℕ, Bool, true, false, not, List, Option, Some, None, refl, sym, ap}
+use Rattle.std.proofs.Common.{option_map}
 use Rattle.std.specs.Prelude.{flat_map, unwrap_or, if◌then◌else◌}
 use Rattle.std.specs.List.{find}
 use Rattle.std.specs.Option.{option_or}
@@ -87,7 +88,8 @@ same_name own d n k i =
     (n == 0x79 || n == 0x2137) i refl refl
 
 -- no new name is that of a high address, but of one
-high_by : (n : ℕ) (m e t : Bool) → (n == 0x12) ≡ false → ((if m then (if e then 0x3f11 else 0x52) else (if t then 0x3f12 else n)) == 0x12) ≡ false
+high_by : (n : ℕ) (m e t : Bool) → (n == 0x12) ≡ false → ((if m then (if e then 0x3f11 else 0x52) else (if t then 0x3f12 else n)) == 0x12) ≡
+    false
 high_by n true true t f = refl
 high_by n true false t f = refl
 high_by n false e true f = refl
@@ -124,7 +126,8 @@ module _ (m : Moves) (own first : Bool) (e : Entry) where
   high a f = ap (λ (b : Bool). if b then ranges_attrs m e a else changed a ∷ []) f
 
   -- afterwards there is no high address
-  spare_high : (a : Attr) (b : Bool) → find (named 0x12) (if b then record { name = 0x3f10; form = 0x06; place = a.place + 4; len = 4; value = 0 } ∷ [] else []) ≡ None
+  spare_high : (a : Attr) (b : Bool) → find (named 0x12) (if b then record
+      { name = 0x3f10; form = 0x06; place = a.place + 4; len = 4; value = 0 } ∷ [] else []) ≡ None
   spare_high a true = refl
   spare_high a false = refl
 
@@ -142,24 +145,29 @@ module _ (m : Moves) (own first : Bool) (e : Entry) where
 
   -- an attribute of a kept name, where what stands for a high address hasn't that name or there is none
   module _ (k : ℕ) (i : IsKept k) where
-    join : (b : Bool) (x y : Attr) (o p : Option Attr) → o ≡ option_map changed p → y ≡ changed x → option_or (if b then Some y else None) o ≡ option_map changed (if b then Some x else p)
+    join : (b : Bool) (x y : Attr) (o p : Option Attr) → o ≡ option_map changed p → y ≡ changed x →
+        option_or (if b then Some y else None) o ≡ option_map changed (if b then Some x else p)
     join true x y o p f g = ap (λ (z : Attr). Some z) g
     join false x y o p f g = f
 
     plain_step : (a : Attr) (xs : List Attr) → (a.name == 0x12) ≡ false →
-        find (named k) (flat_map change xs) ≡ option_map changed (find (named k) xs) → find (named k) (flat_map change (a ∷ xs)) ≡ option_map changed (find (named k) (a ∷ xs))
+        find (named k) (flat_map change xs) ≡ option_map changed (find (named k) xs) →
+        find (named k) (flat_map change (a ∷ xs)) ≡ option_map changed (find (named k) (a ∷ xs))
     plain_step a xs f more =
         find-append (named k) (change a) (flat_map change xs)
         ∙ ap (λ (l : List Attr). option_or (find (named k) l) (find (named k) (flat_map change xs))) (other a f)
-        ∙ ap (λ (b : Bool). option_or (if b then Some (changed a) else None) (find (named k) (flat_map change xs))) (same_name own e.declaration a.name k i)
+        ∙ ap (λ (b : Bool). option_or (if b then Some (changed a) else None) (find (named k) (flat_map change xs)))
+        (same_name own e.declaration a.name k i)
         ∙ join (a.name == k) a (changed a) (find (named k) (flat_map change xs)) (find (named k) xs) more refl
 
-  not_there : (k : ℕ) (a : Attr) (xs : List Attr) (b : Bool) → (a.name == k) ≡ b → (if b then Some a else find (named k) xs) ≡ None → (b ≡ false) × (find (named k) xs ≡ None)
+  not_there : (k : ℕ) (a : Attr) (xs : List Attr) (b : Bool) → (a.name == k) ≡ b → (if b then Some a else find (named k) xs) ≡ None →
+      (b ≡ false) × (find (named k) xs ≡ None)
   not_there k a xs true f g = absurd (cc)
   not_there k a xs false f g = (refl, g)
 
   -- ranges that were named by a list, where there is no high address
-  same_ranges : (xs : List Attr) → find (named 0x12) xs ≡ None → find (named 0x55) (flat_map change xs) ≡ option_map changed (find (named 0x55) xs)
+  same_ranges : (xs : List Attr) → find (named 0x12) xs ≡ None →
+      find (named 0x55) (flat_map change xs) ≡ option_map changed (find (named 0x55) xs)
   same_ranges [] none = refl
   same_ranges (a ∷ xs) none =
       let p = not_there 0x12 a xs (a.name == 0x12) refl none in
@@ -185,10 +193,12 @@ module _ (m : Moves) (own first : Bool) (e : Entry) where
           find-append (named k) (change a) (flat_map change xs)
           ∙ ap (λ (l : List Attr). option_or (find (named k) l) (find (named k) (flat_map change xs))) (high a f)
           ∙ ap (λ (o : Option Attr). option_or o (find (named k) (flat_map change xs))) (spare_other k i a)
-          ∙ more ∙ sym (ap (λ (b : Bool). option_map changed (if b then Some a else find (named k) xs)) (named_not a.name 0x12 k f i.kept.high))
+          ∙ more ∙ sym (ap (λ (b : Bool). option_map changed (if b then Some a else find (named k) xs))
+          (named_not a.name 0x12 k f i.kept.high))
 
   -- the ranges that stand for a high address
-  high_ranges : (xs : List Attr) (h : Attr) → find (named 0x12) xs ≡ Some h → find (named 0x55) xs ≡ None → find (named 0x55) (flat_map change xs) ≡ Some (for_high h)
+  high_ranges : (xs : List Attr) (h : Attr) → find (named 0x12) xs ≡ Some h → find (named 0x55) xs ≡ None →
+      find (named 0x55) (flat_map change xs) ≡ Some (for_high h)
   high_ranges [] h is none = absurd (cc)
   high_ranges (a ∷ xs) h is none = step (a.name == 0x12) refl is (λ is none. high_ranges xs h is none)
     where
@@ -203,7 +213,8 @@ module _ (m : Moves) (own first : Bool) (e : Entry) where
           let p = not_there 0x55 a xs (a.name == 0x55) refl none in
           find-append (named 0x55) (change a) (flat_map change xs)
           ∙ ap (λ (l : List Attr). option_or (find (named 0x55) l) (find (named 0x55) (flat_map change xs))) (other a f)
-          ∙ ap (λ (b : Bool). option_or (if b then Some (changed a) else None) (find (named 0x55) (flat_map change xs))) (same_name own e.declaration a.name 0x55 ranges_kept ∙ p.0)
+          ∙ ap (λ (b : Bool). option_or (if b then Some (changed a) else None) (find (named 0x55) (flat_map change xs)))
+          (same_name own e.declaration a.name 0x55 ranges_kept ∙ p.0)
           ∙ more is p.1
 
 -- Of a changed entry

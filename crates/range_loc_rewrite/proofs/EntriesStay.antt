@@ -41,7 +41,8 @@ use Rattle.range_loc_rewrite.proofs.KeptPairs.{AllPaired}
 use Rattle.list_writer.proofs.ListsThere.{list_inside, offset_there}
 use Rattle.dw_lists.proofs.OwnRanges.{listed_ranges, of_offset, own_bounds}
 use Rattle.list_writer.proofs.PutEntries.{flat_has}
-use Rattle.range_loc_rewrite.proofs.RangesStay.{found_name, found_there, held_by, fine_by, SoundTests, tests_of, new_offset, kept_index, plain_offset, index_offset}
+use Rattle.range_loc_rewrite.proofs.RangesStay.{found_name, found_there, held_by, fine_by, SoundTests, tests_of, new_offset, kept_index}
+use Rattle.range_loc_rewrite.proofs.RangesStay.{plain_offset, index_offset}
 use Rattle.range_loc_rewrite.proofs.SoundLists.{IsFine, AreFine}
 use Rattle.range_loc_rewrite.proofs.RangeWeights.{holds_some}
 
@@ -54,7 +55,8 @@ some_if true = refl
 some_if false = refl
 
 -- an entry with a high address has ranges
-pub high_some : (s : ListSections) (u : Unit) (d : Entry) (h : Attr) → attr 0x12 d ≡ Some h → is_some (low_pc s.units.addr u d) ≡ true → ranges_of s u d ≡ None → ⊥
+pub high_some : (s : ListSections) (u : Unit) (d : Entry) (h : Attr) → attr 0x12 d ≡ Some h → is_some (low_pc s.units.addr u d) ≡ true →
+    ranges_of s u d ≡ None → ⊥
 high_some s u d h is some none = by_low (low_pc s.units.addr u d) refl some
   where
     clash : (r : List Range) → Some r ≡ None → ⊥
@@ -67,22 +69,27 @@ high_some s u d h is some none = by_low (low_pc s.units.addr u d) refl some
         (λ i. option_and_then (λ high. option_map (λ low. up_to low high) (f i)) (is i))) ∙ none)
 
 -- and so has one with a list that can be read
-pub list_some : (s : ListSections) (u : Unit) (d : Entry) (a : Attr) → attr 0x12 d ≡ None → attr 0x55 d ≡ Some a → IsFine s u a → ranges_of s u d ≡ None → ⊥
+pub list_some : (s : ListSections) (u : Unit) (d : Entry) (a : Attr) → attr 0x12 d ≡ None → attr 0x55 d ≡ Some a → IsFine s u a →
+    ranges_of s u d ≡ None → ⊥
 list_some s u d a high is fine none =
     by_list (range_list s u fine.at) refl fine.read
     (sym (no_bounds s u d high ∙ ap (listed_ranges s u) is ∙ of_offset s u a (Some fine.at) fine.offset) ∙ none)
   where
-    by_list : (o : Option (List Located)) → range_list s u fine.at ≡ o → is_some o ≡ true → option_map ranges_in (range_list s u fine.at) ≡ None → ⊥
+    by_list : (o : Option (List Located)) → range_list s u fine.at ≡ o → is_some o ≡ true →
+        option_map ranges_in (range_list s u fine.at) ≡ None → ⊥
     by_list None f g e = absurd (cc)
     by_list (Some ls) f g e = let x : Some (ranges_in ls) ≡ None = sym (ap (option_map ranges_in) f) ∙ e in absurd (cc)
 
-module _ (s t : ListSections) (tables : List (List ℕ)) (tables_are : All (IsUnit 5) tables) (ranges_are : t.ranges ≡ units_bytes tables) (spans : List Span)
+module _ (s t : ListSections) (tables : List (List ℕ)) (tables_are : All (IsUnit 5) tables) (ranges_are : t.ranges ≡ units_bytes tables)
+    (spans : List Span)
     (covers : List Cover) (kept : List RangedEntry) (lists : List (Vec (Run Bool))) (names : List ListAt) (m : Moves)
     (given : (e attr o : ℕ) → new_list_offset names e attr ≡ Some o → new_list_offset m.lists e attr ≡ Some o)
     (named : (r : RangedEntry) → Contains kept r → IsNamed lists tables names kept r r.index)
-    (says : (r : RangedEntry) → Contains kept r → (p : ℕ) → run_at (runs_in lists r.group) p ≡ if_held (holds_some covers r.group (owner spans p)))
+    (says : (r : RangedEntry) → Contains kept r → (p : ℕ) → run_at (runs_in lists r.group) p ≡ if_held
+    (holds_some covers r.group (owner spans p)))
     (writable : (r : RangedEntry) → Contains kept r → All (IsWritable kind.Ranges) (map bounded (runs_in lists r.group)))
-    (us : List Unit) (pairs : AllPaired s covers us kept) (sound_old : AreSoundUnits s.units.addr us) (up : Ascends 0 (map place_of (all_of us)))
+    (us : List Unit) (pairs : AllPaired s covers us kept) (sound_old : AreSoundUnits s.units.addr us)
+    (up : Ascends 0 (map place_of (all_of us)))
     (fine_old : (u : Unit) → Contains us u → AreFine s u (flat_map (λ (e : Entry). e.attrs) u.entries))
     (u v : Unit) (uc : Contains us u)
     (zip : AllZip (λ x y. IsChangedEntry s.units t.units.info m (is_first_of u x) x y) u.entries v.entries) where
@@ -93,7 +100,8 @@ module _ (s t : ListSections) (tables : List (List ℕ)) (tables_are : All (IsUn
       base_stays s t m u v zip (λ d dc. sound_at s.units.addr us u d sound_old uc dc) 0x74 range_base refl d dc some b
       (subst (λ (n : ℕ). new_list_offset m.lists n 0x74 ≡ Some b) own offset)
 
-  module _ (d e : Entry) (dc : Contains u.entries d) (c : IsChangedEntry s.units t.units.info m (is_first_of u d) d e) (sound : IsSoundEntry t.units.addr v e) where
+  module _ (d e : Entry) (dc : Contains u.entries d) (c : IsChangedEntry s.units t.units.info m (is_first_of u d) d e)
+      (sound : IsSoundEntry t.units.addr v e) where
     abbrev own : Bool
     own = is_own s.units d.declaration
 
@@ -101,8 +109,10 @@ module _ (s t : ListSections) (tables : List (List ℕ)) (tables_are : All (IsUn
     none_high = new_high s.units t.units.info m (is_first_of u d) d e c
 
     -- its list stands in a table
-    stays_by : (a : Attr) → attr 0x55 e ≡ Some a → (at : ℕ) → list_offset ranges_kind t.ranges v a ≡ Some at → (r : RangedEntry) → Contains kept r →
-        StandsAt tables at (group_list lists r.group) → ((x : ℕ) → group_holds covers r.group x ≡ hold (ranges_of s u d) x) → Stays s t spans u v d e
+    stays_by : (a : Attr) → attr 0x55 e ≡ Some a → (at : ℕ) → list_offset ranges_kind t.ranges v a ≡ Some at → (r : RangedEntry) →
+        Contains kept r →
+        StandsAt tables at (group_list lists r.group) → ((x : ℕ) → group_holds covers r.group x ≡ hold (ranges_of s u d) x) →
+        Stays s t spans u v d e
     stays_by a is at offset r rc stands same = record {
       held = λ p o owned.
           held_by t v e tables tables_are ranges_are none_high sound a is at offset lists r.group stands (writable r rc) p
@@ -112,7 +122,8 @@ module _ (s t : ListSections) (tables : List (List ℕ)) (tables_are : All (IsUn
 
     inside : (at : ℕ) (g : ℕ) → StandsAt tables at (group_list lists g) → at < length t.ranges
     inside at g stands =
-        subst (λ (l : List ℕ). at < length l) (sym ranges_are) (list_inside kind.Ranges tables at (map bounded (runs_in lists g)) stands tables_are)
+        subst (λ (l : List ℕ). at < length l) (sym ranges_are) (list_inside kind.Ranges tables at (map bounded (runs_in lists g)) stands
+        tables_are)
 
     -- it had a high address
     stays_high : (h : Attr) → attr 0x12 d ≡ Some h → IsFound s covers u d kept → Stays s t spans u v d e
@@ -125,7 +136,8 @@ module _ (s t : ListSections) (tables : List (List ℕ)) (tables_are : All (IsUn
         let offset : new_list_offset m.lists d.place 0x55 ≡ Some n.0 =
         subst (λ (k : ℕ). new_list_offset m.lists k 0x55 ≡ Some n.0) f.kept_as.place (given f.r.place 0x55 n.0 n.1) in
         stays_by (for_high m own (is_first_of u d) d h) (from_high s.units t.units.info m (is_first_of u d) d e c h is none) n.0
-        (plain_offset ranges_kind t.ranges v (for_high m own (is_first_of u d) d h) n.0 refl (ap (λ (o : Option ℕ). unwrap_or o 0) offset) (inside n.0 f.r.group n.2))
+        (plain_offset ranges_kind t.ranges v (for_high m own (is_first_of u d) d h) n.0 refl (ap (λ (o : Option ℕ). unwrap_or o 0) offset)
+        (inside n.0 f.r.group n.2))
         f.r f.there n.2 f.kept_as.held
 
     module _ (high : attr 0x12 d ≡ None) (a : Attr) (is : attr 0x55 d ≡ Some a) where
@@ -148,7 +160,8 @@ module _ (s t : ListSections) (tables : List (List ℕ)) (tables_are : All (IsUn
           let offset : new_list_offset m.lists d.place 0x55 ≡ Some n.0 =
           subst (λ (k : ℕ). new_list_offset m.lists k 0x55 ≡ Some n.0) f.kept_as.place (given f.r.place 0x55 n.0 n.1) in
           stays_by new new_is n.0
-          (plain_offset ranges_kind t.ranges v new n.0 (ap (λ (n : ℕ). n == 0x23) form) (new_offset m own (is_first_of u d) d a n.0 name form offset) (inside n.0 f.r.group n.2)) f.r f.there n.2 f.kept_as.held
+          (plain_offset ranges_kind t.ranges v new n.0 (ap (λ (n : ℕ). n == 0x23) form)
+          (new_offset m own (is_first_of u d) d a n.0 name form offset) (inside n.0 f.r.group n.2)) f.r f.there n.2 f.kept_as.held
 
       -- it had one that was named by an index
       stays_index : a.form ≡ 0x23 → IsFound s covers u d kept → Stays s t spans u v d e
@@ -161,9 +174,11 @@ module _ (s t : ListSections) (tables : List (List ℕ)) (tables_are : All (IsUn
           let n = subst (IsNamed lists tables names kept f.r) index (named f.r f.there) in
           let based : base 0x74 v ≡ Some n.0 =
           base_by d dc f.r f.kept_as.own (tests.index (eq-eqb a.form 0x23 form)) n.0 (given f.r.own 0x74 n.0 n.3) in
-          let there = subst (λ (l : List ℕ). number_in 4 (n.0 + 4 * a.value) l ≡ Some n.1) (sym ranges_are) (offset_there tables (n.0 + 4 * a.value) n.1 n.4 tables_are n.5) in
+          let there = subst (λ (l : List ℕ). number_in 4 (n.0 + 4 * a.value) l ≡ Some n.1) (sym ranges_are)
+          (offset_there tables (n.0 + 4 * a.value) n.1 n.4 tables_are n.5) in
           stays_by new new_is (n.0 + n.1)
-          (index_offset ranges_kind t.ranges v new a.value n.0 n.1 (eq-eqb a.form 0x23 form) (kept_index m own (is_first_of u d) d a name form) based there (inside (n.0 + n.1) n.2.group n.9))
+          (index_offset ranges_kind t.ranges v new a.value n.0 n.1 (eq-eqb a.form 0x23 form)
+          (kept_index m own (is_first_of u d) d a name form) based there (inside (n.0 + n.1) n.2.group n.9))
           n.2 n.8 n.9
           (λ x. same_index s covers us kept f.r n.2 a.value pairs sound_old up f.there n.8 (sym n.6) index n.7 x ∙ f.kept_as.held x)
 
@@ -172,8 +187,10 @@ module _ (s t : ListSections) (tables : List (List ℕ)) (tables_are : All (IsUn
           let old = sound_at s.units.addr us u d sound_old uc dc in
           let tests : SoundTests s.units.addr u a = tests_of s.units.addr u d 0x55 a old is in
           let forms = tests.ranges (eq-eqb a.name 0x55 name) in
-          let lists_it : has_list ranges_kind a ≡ true = both (a.name == 0x55) (a.form == 0x17 || a.form == 0x23) (eq-eqb a.name 0x55 name) forms in
-          let fine : IsFine s u a = fine_old u uc a (flat_has (λ (e : Entry). e.attrs) u.entries d a dc (found_there 0x55 d.attrs a is)) lists_it in
+          let lists_it : has_list ranges_kind a ≡ true = both (a.name == 0x55) (a.form == 0x17 || a.form == 0x23)
+          (eq-eqb a.name 0x55 name) forms in
+          let fine : IsFine s u a = fine_old u uc a (flat_has (λ (e : Entry). e.attrs) u.entries d a dc (found_there 0x55 d.attrs a is))
+          lists_it in
           ⊎_elim
           (λ (none : ranges_of s u d ≡ None). absurd (list_some s u d a high is fine none))
           (λ (f : IsFound s covers u d kept). by_form (a.form == 0x17) (a.form == 0x23) refl refl forms f)
@@ -183,7 +200,8 @@ module _ (s t : ListSections) (tables : List (List ℕ)) (tables_are : All (IsUn
           both true y f g = g
           both false y f g = absurd (cc)
 
-          by_form : (x y : Bool) → (a.form == 0x17) ≡ x → (a.form == 0x23) ≡ y → (x || y) ≡ true → IsFound s covers u d kept → Stays s t spans u v d e
+          by_form : (x y : Bool) → (a.form == 0x17) ≡ x → (a.form == 0x23) ≡ y → (x || y) ≡ true → IsFound s covers u d kept →
+              Stays s t spans u v d e
           by_form true y f g h k = stays_offset (eqb-true a.form 0x17 f) k
           by_form false true f g h k = stays_index (eqb-true a.form 0x23 g) k
           by_form false false f g h k = absurd (cc)
@@ -191,7 +209,8 @@ module _ (s t : ListSections) (tables : List (List ℕ)) (tables_are : All (IsUn
     -- it has no ranges
     stays_none : attr 0x12 d ≡ None → attr 0x55 d ≡ None → Stays s t spans u v d e
     stays_none high none =
-        let new : attr 0x55 e ≡ None = from_ranges s.units t.units.info m (is_first_of u d) d e c high ∙ ap (option_map (changed m own (is_first_of u d) d)) none in
+        let new : attr 0x55 e ≡ None = from_ranges s.units t.units.info m (is_first_of u d) d e c high
+        ∙ ap (option_map (changed m own (is_first_of u d) d)) none in
         record {
           held = λ p o owned. ap (λ (x : Option (List Range)). hold x p) (no_bounds t v e none_high ∙ ap (listed_ranges t v) new)
               ∙ sym (ap (λ (x : Option (List Range)). hold x o) (no_bounds s u d high ∙ ap (listed_ranges s u) none));
@@ -218,6 +237,7 @@ module _ (s t : ListSections) (tables : List (List ℕ)) (tables_are : All (IsUn
         by_high : (o : Option Attr) → attr 0x12 d ≡ o → Stays s t spans u v d e
         by_high None is = by_ranges is (attr 0x55 d) refl
         by_high (Some h) is = ⊎_elim
-            (λ (none : ranges_of s u d ≡ None). absurd (high_some s u d h is ((sound_at s.units.addr us u d sound_old uc dc).low h is) none))
+            (λ (none : ranges_of s u d ≡ None). absurd (high_some s u d h is ((sound_at s.units.addr us u d sound_old uc dc).low h is)
+            none))
             (λ (f : IsFound s covers u d kept). stays_high h is f)
             (kept_entry s covers us kept u d pairs uc dc)

@@ -53,7 +53,8 @@ numbers_are covers located a = λ i. filter (λ k. tested k i) (range_with_len 0
     tested k = ap (λ (o : Option RangedEntry). option_map_or (λ (r : RangedEntry). group_holds covers r.group a) o false)
         (slice_get-map ranged_of located k) ∙ of_option (slice_get located k)
 
-pub found_places : (s : ListSections) (kept : Locations) (named : List NamedList) (index : CoverIndex) (bounds : List ℕ) (weight a : ℕ) (numbers : List ℕ) →
+pub found_places : (s : ListSections) (kept : Locations) (named : List NamedList) (index : CoverIndex) (bounds : List ℕ) (weight a : ℕ)
+    (numbers : List ℕ) →
     ArePlacesKept s kept named index bounds weight → numbers ≡ held_numbers index.tree (map ranged_of kept.located.items) a →
     flat_map (said_by_number kept a) numbers ≡ places_said s a
 found_places s kept named index bounds weight a numbers are e =
@@ -75,7 +76,8 @@ all_alike covers lists located a b same listed =
     (λ i. flat_map (λ (l : LocatedAttr). attr_says l.place l.attr (source_alike lists l.source a b listed i))
     (filter (λ (l : LocatedAttr). alike_groups covers a b l.group same i) located))
 
-pub places_kept : (s : ListSections) (groups : Groups) (kept : Locations) (named : List NamedList) (index : CoverIndex) (bounds : List ℕ) (weight : ℕ) →
+pub places_kept : (s : ListSections) (groups : Groups) (kept : Locations) (named : List NamedList) (index : CoverIndex) (bounds : List ℕ)
+    (weight : ℕ) →
     ArePlacesOf s groups kept named weight →
     IsCoverIndex groups.covers.items (map ranged_of kept.located.items) index → IsNonDecreasing bounds →
     IsPermutation (bounds_in groups.covers.items ++ list_bounds kept.lists.items) bounds → ArePlacesKept s kept named index bounds weight

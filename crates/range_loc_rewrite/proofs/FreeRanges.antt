@@ -25,7 +25,9 @@ answers_free p x free =
 pub ranges_free : (elf : Elf) (s : ListSections) → s ≡ list_sections elf → IsFree (HasDwarfFault (range_places s)) →
     (range_answers elf ≡ Some (range_says s)) × IsFree (HasDwarfFault (range_places (list_sections elf)))
 ranges_free elf s same free =
-    subst (λ (x : ListSections). (range_answers elf ≡ Some (range_says x)) × IsFree (HasDwarfFault (range_places (list_sections elf)))) (sym same) (
-      answers_free (range_places (list_sections elf)) (range_says (list_sections elf)) (subst (λ (x : ListSections). IsFree (HasDwarfFault (range_places x))) same free),
+    subst (λ (x : ListSections). (range_answers elf ≡ Some (range_says x)) × IsFree (HasDwarfFault (range_places (list_sections elf))))
+    (sym same) (
+      answers_free (range_places (list_sections elf)) (range_says (list_sections elf))
+          (subst (λ (x : ListSections). IsFree (HasDwarfFault (range_places x))) same free),
       subst (λ (x : ListSections). IsFree (HasDwarfFault (range_places x))) same free,
     )

@@ -64,7 +64,8 @@ kept_are s groups ranged index bounds weight are is rising all = record {
 }
 
 -- what is found by numbers is what covers an address
-pub found_are : (s : ListSections) (ranged : List RangedEntry) (count : ℕ) (index : CoverIndex) (bounds : List ℕ) (weight a : ℕ) (numbers : List ℕ) →
+pub found_are : (s : ListSections) (ranged : List RangedEntry) (count : ℕ) (index : CoverIndex) (bounds : List ℕ) (weight a : ℕ)
+    (numbers : List ℕ) →
     AreKept s ranged count index bounds weight →
     numbers ≡ held_numbers index.tree ranged a → filter_map (place_at ranged) numbers ≡ covering s a
 found_are s ranged count index bounds weight a numbers are e =

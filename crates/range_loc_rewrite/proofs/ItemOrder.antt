@@ -33,7 +33,8 @@ assoc [] y z = refl
 assoc (q ∷ x) y z = ap (λ (l : List ListItem). q ∷ l) (assoc x y z)
 
 module _ (s : ListSections) where
-  attr_rise : (u : Unit) (place name : ℕ) → IsNaming Locations name → (o : Option Attr) (lo : ℕ) (rest : List ListItem) → lo ≤ key place name →
+  attr_rise : (u : Unit) (place name : ℕ) → IsNaming Locations name → (o : Option Attr) (lo : ℕ) (rest : List ListItem) →
+      lo ≤ key place name →
       KeysRise (key place name + 1) rest → KeysRise lo (attr_items s u place name o ++ rest)
   attr_rise u place name naming None lo rest h rise = keys_less lo (key place name + 1) rest (omega (arith, h)) rise
   attr_rise u place name naming (Some a) lo rest h rise = by (list_named s u a)
@@ -42,18 +43,21 @@ module _ (s : ListSections) where
       by None = keys_less lo (key place name + 1) rest (omega (arith, h)) rise
       by (Some ls) = (h, naming, rise)
 
-  entry_rise : (u : Unit) (e : Entry) (lo : ℕ) (rest : List ListItem) → lo ≤ 128 * e.place → KeysRise (128 * (e.place + 1)) rest → KeysRise lo (entry_items s u e ++ rest)
+  entry_rise : (u : Unit) (e : Entry) (lo : ℕ) (rest : List ListItem) → lo ≤ 128 * e.place → KeysRise (128 * (e.place + 1)) rest →
+      KeysRise lo (entry_items s u e ++ rest)
   entry_rise u e lo rest h rise =
       subst (KeysRise lo) (sym (assoc (attr_items s u e.place 0x02 (attr 0x02 e)) (attr_items s u e.place 0x40 (attr 0x40 e)) rest))
       (attr_rise u e.place 0x02 refl (attr 0x02 e) lo (attr_items s u e.place 0x40 (attr 0x40 e) ++ rest) (omega (arith, h))
-      (attr_rise u e.place 0x40 refl (attr 0x40 e) (key e.place 0x02 + 1) rest (omega arith) (keys_less (key e.place 0x40 + 1) (128 * (e.place + 1)) rest (omega arith) rise)))
+      (attr_rise u e.place 0x40 refl (attr 0x40 e) (key e.place 0x02 + 1) rest (omega arith)
+      (keys_less (key e.place 0x40 + 1) (128 * (e.place + 1)) rest (omega arith) rise)))
 
   entries_rise : (u : Unit) (es ds : List Entry) (lo : ℕ) (rest : List ListItem) → Ascends lo (map place_of (es ++ ds)) →
       ((lo : ℕ) → Ascends lo (map place_of ds) → KeysRise (128 * lo) rest) → KeysRise (128 * lo) (flat_map (entry_items s u) es ++ rest)
   entries_rise u [] ds lo rest up more = more lo up
   entries_rise u (e ∷ es) ds lo rest up more =
       subst (KeysRise (128 * lo)) (sym (assoc (entry_items s u e) (flat_map (entry_items s u) es) rest))
-      (entry_rise u e (128 * lo) (flat_map (entry_items s u) es ++ rest) (let h = up.0 in omega (arith, h)) (entries_rise u es ds (e.place + 1) rest up.1 more))
+      (entry_rise u e (128 * lo) (flat_map (entry_items s u) es ++ rest) (let h = up.0 in omega (arith, h))
+      (entries_rise u es ds (e.place + 1) rest up.1 more))
 
   units_rise : (us : List Unit) (lo : ℕ) → Ascends lo (map place_of (all_of us)) → KeysRise (128 * lo) (flat_map (unit_items s) us)
   units_rise [] lo up = tt
@@ -70,7 +74,8 @@ own_less less lo [] h rise = tt
 own_less less lo (x ∷ xs) h rise = (omega (arith, h, rise.0), rise.1)
 
 module _ (s : ListSections) where
-  attr_own : (u : Unit) (place name : ℕ) (o : Option Attr) (rest : List ListItem) → OwnRise (own_place u) rest → OwnRise (own_place u) (attr_items s u place name o ++ rest)
+  attr_own : (u : Unit) (place name : ℕ) (o : Option Attr) (rest : List ListItem) → OwnRise (own_place u) rest →
+      OwnRise (own_place u) (attr_items s u place name o ++ rest)
   attr_own u place name None rest rise = rise
   attr_own u place name (Some a) rest rise = by (list_named s u a)
     where
@@ -78,12 +83,14 @@ module _ (s : ListSections) where
       by None = rise
       by (Some ls) = (omega arith, rise)
 
-  entries_own : (u : Unit) (es : List Entry) (rest : List ListItem) → OwnRise (own_place u) rest → OwnRise (own_place u) (flat_map (entry_items s u) es ++ rest)
+  entries_own : (u : Unit) (es : List Entry) (rest : List ListItem) → OwnRise (own_place u) rest →
+      OwnRise (own_place u) (flat_map (entry_items s u) es ++ rest)
   entries_own u [] rest rise = rise
   entries_own u (e ∷ es) rest rise =
       let first : List ListItem = attr_items s u e.place 0x02 (attr 0x02 e) in
       let second : List ListItem = attr_items s u e.place 0x40 (attr 0x40 e) in
-      subst (OwnRise (own_place u)) (sym (assoc (first ++ second) (flat_map (entry_items s u) es) rest ∙ assoc first second (flat_map (entry_items s u) es ++ rest)))
+      subst (OwnRise (own_place u)) (sym (assoc (first ++ second) (flat_map (entry_items s u) es) rest
+      ∙ assoc first second (flat_map (entry_items s u) es ++ rest)))
       (attr_own u e.place 0x02 (attr 0x02 e) (second ++ (flat_map (entry_items s u) es ++ rest))
       (attr_own u e.place 0x40 (attr 0x40 e) (flat_map (entry_items s u) es ++ rest) (entries_own u es rest rise)))
 
@@ -91,7 +98,8 @@ module _ (s : ListSections) where
   units_own [] lo up = tt
   units_own (u ∷ us) lo up = by u.entries refl (units_own us (entries_end lo u.entries) (ascends_behind lo u.entries (all_of us) up))
     where
-      by : (es : List Entry) → u.entries ≡ es → OwnRise (entries_end lo u.entries) (flat_map (unit_items s) us) → OwnRise lo (unit_items s u ++ flat_map (unit_items s) us)
+      by : (es : List Entry) → u.entries ≡ es → OwnRise (entries_end lo u.entries) (flat_map (unit_items s) us) →
+          OwnRise lo (unit_items s u ++ flat_map (unit_items s) us)
       by [] is rest =
           subst (λ (es : List Entry). OwnRise lo (flat_map (entry_items s u) es ++ flat_map (unit_items s) us)) (sym is)
           (own_less lo (entries_end lo u.entries) (flat_map (unit_items s) us) (end_least lo u.entries (all_of us) up) rest)
@@ -100,12 +108,14 @@ module _ (s : ListSections) where
           let low = own_least lo u.entries (all_of us) e u.place u.abbrev_offset up there in
           let below = own_below lo u.entries (all_of us) e u.place u.abbrev_offset up there in
           own_less lo (own_place u) (unit_items s u ++ flat_map (unit_items s) us) low
-          (entries_own u u.entries (flat_map (unit_items s) us) (own_less (own_place u) (entries_end lo u.entries) (flat_map (unit_items s) us) (omega (arith, below)) rest))
+          (entries_own u u.entries (flat_map (unit_items s) us) (own_less (own_place u) (entries_end lo u.entries)
+          (flat_map (unit_items s) us) (omega (arith, below)) rest))
 
 -- and so do their names
 
 module _ (lists : List KeptList) where
-  named_rise : (lo : ℕ) (named : List NamedList) (items : List ListItem) → AllZip (IsNameOf lists) named items → KeysRise lo items → AreInOrder Locations lo named
+  named_rise : (lo : ℕ) (named : List NamedList) (items : List ListItem) → AllZip (IsNameOf lists) named items → KeysRise lo items →
+      AreInOrder Locations lo named
   named_rise lo [] items z rise = tt
   named_rise lo (n ∷ named) [] z rise = absurd z
   named_rise lo (n ∷ named) (x ∷ items) z rise =
@@ -115,17 +125,23 @@ module _ (lists : List KeptList) where
         subst (λ (k : ℕ). AreInOrder Locations (k + 1) named) (sym same) (named_rise (key x.place x.attr + 1) named items z.1 rise.2),
       )
 
-  named_own : (lo : ℕ) (named : List NamedList) (items : List ListItem) → AllZip (IsNameOf lists) named items → OwnRise lo items → OwnsRise lo named
+  named_own : (lo : ℕ) (named : List NamedList) (items : List ListItem) → AllZip (IsNameOf lists) named items → OwnRise lo items →
+      OwnsRise lo named
   named_own lo [] items z rise = tt
   named_own lo (n ∷ named) [] z rise = absurd z
-  named_own lo (n ∷ named) (x ∷ items) z rise =
-      (subst (λ (k : ℕ). lo ≤ k) (sym z.0.own) rise.0, subst (λ (k : ℕ). OwnsRise k named) (sym z.0.own) (named_own x.own named items z.1 rise.1))
+  named_own lo (n ∷ named) (x ∷ items) z rise = (
+    subst (λ (k : ℕ). lo ≤ k) (sym z.0.own) rise.0,
+    subst (λ (k : ℕ). OwnsRise k named) (sym z.0.own)
+        (named_own x.own named items z.1 rise.1),
+  )
 
-  pub names_in_order : (s : ListSections) (named : List NamedList) → AllZip (IsNameOf lists) named (all_items s) → Ascends 0 (map place_of (all_of (units s.units))) →
+  pub names_in_order : (s : ListSections) (named : List NamedList) → AllZip (IsNameOf lists) named (all_items s) →
+      Ascends 0 (map place_of (all_of (units s.units))) →
       AreInOrder Locations 0 named
   names_in_order s named z up = named_rise 0 named (all_items s) z (units_rise s (units s.units) 0 up)
 
-  pub names_own : (s : ListSections) (named : List NamedList) → AllZip (IsNameOf lists) named (all_items s) → Ascends 0 (map place_of (all_of (units s.units))) →
+  pub names_own : (s : ListSections) (named : List NamedList) → AllZip (IsNameOf lists) named (all_items s) →
+      Ascends 0 (map place_of (all_of (units s.units))) →
       OwnsRise 0 named
   names_own s named z up = named_own 0 named (all_items s) z (units_own s (units s.units) 0 up)
 
@@ -135,7 +151,8 @@ module _ (s : ListSections) (empty : s.locations ≡ []) where
   no_list : (u : Unit) (a : Attr) → list_named s u a ≡ None
   no_list u a =
       lacks_offset s u a
-      (ap (λ (section : List ℕ). option_and_then (only_within section) (if a.form == 0x22 then offset_of_index locations_kind s.locations u a.value else Some a.value)) empty
+      (ap (λ (section : List ℕ). option_and_then (only_within section)
+      (if a.form == 0x22 then offset_of_index locations_kind s.locations u a.value else Some a.value)) empty
       ∙ nowhere (if a.form == 0x22 then offset_of_index locations_kind s.locations u a.value else Some a.value))
 
   no_attr : (u : Unit) (place name : ℕ) (o : Option Attr) → attr_items s u place name o ≡ []

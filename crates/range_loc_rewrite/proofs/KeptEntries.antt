@@ -40,7 +40,8 @@ module _ (s : ListSections) (a : ℕ) where
       let joined : map seen_place ((here ++ seen_in s u es a) ++ zs) ≡ map seen_place here ++ map seen_place (seen_in s u es a ++ zs) =
       ap (map seen_place) (assoc here (seen_in s u es a) zs) ∙ map-append seen_place here (seen_in s u es a ++ zs) in
       subst (Ascends lo) (sym joined)
-      (one_ascends e u (ranges_of s u e) lo (map seen_place (seen_in s u es a ++ zs)) up.0 (unit_ascends u es ds zs (e.place + 1) up.1 more))
+      (one_ascends e u (ranges_of s u e) lo (map seen_place (seen_in s u es a ++ zs)) up.0
+      (unit_ascends u es ds zs (e.place + 1) up.1 more))
     where
       assoc : (x y z : List SeenEntry) → ((x ++ y) ++ z) ≡ x ++ (y ++ z)
       assoc [] y z = refl
@@ -50,7 +51,8 @@ module _ (s : ListSections) (a : ℕ) where
       Ascends lo (map seen_place (flat_map (λ (u : Unit). seen_in s u u.entries a) us))
   units_ascend [] lo up = up
   units_ascend (u ∷ us) lo up =
-      unit_ascends u u.entries (flat_map (λ (u : Unit). u.entries) us) (flat_map (λ (u : Unit). seen_in s u u.entries a) us) lo up (λ lo up. units_ascend us lo up)
+      unit_ascends u u.entries (flat_map (λ (u : Unit). u.entries) us) (flat_map (λ (u : Unit). seen_in s u u.entries a) us) lo up
+      (λ lo up. units_ascend us lo up)
 
 kept_places : (covers : List Cover) (kept : List RangedEntry) (a : ℕ) → map seen_place (seen_kept covers kept a) ≡ map kept_place kept
 kept_places covers [] a = refl

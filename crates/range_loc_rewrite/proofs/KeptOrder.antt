@@ -1,6 +1,7 @@
 -- Own entries of units stand at places that don't fall, as entries are kept; and nothing is kept without a section and high
 -- addresses.
-use Rattle.std.proofs.Common.{◌≡◌, ◌∙◌, ◌≤◌, ◌==◌, ◌++◌, ◌∷◌, [], ℕ, Bool, false, List, Option, Some, None, refl, sym, ap, subst, arith, map, All}
+use Rattle.std.proofs.Common.{◌≡◌, ◌∙◌, ◌≤◌, ◌==◌, ◌++◌, ◌∷◌, [], ℕ, Bool, false, List, Option, Some, None, refl, sym, ap, subst, arith}
+use Rattle.std.proofs.Common.{map, All}
 use Rattle.std.specs.Prelude.{flat_map, Contains, option_map, option_and_then, if◌then◌else◌, nat_lt}
 use Rattle.std.proofs.lemmas.Bool.Decides.{nat_tests}
 use Rattle.std.proofs.lemmas.List.Elements.{All-head, All-tail}
@@ -22,7 +23,8 @@ use Rattle.dw_lists.specs.Ranges.{ranges_of}
 use Rattle.dw_lists.specs.UnitLists.{own_place}
 use Rattle.list_writer.specs.WrittenRanges.{named_of}
 use Rattle.list_writer.specs.WrittenTables.{OwnsRise}
-use Rattle.range_loc_rewrite.proofs.KeptLookups.{place_of, all_of, entries_end, ascends_behind, end_least, own_below, own_least, entry_of, no_bounds}
+use Rattle.range_loc_rewrite.proofs.KeptLookups.{place_of, all_of, entries_end, ascends_behind, end_least, own_below, own_least, entry_of}
+use Rattle.range_loc_rewrite.proofs.KeptLookups.{no_bounds}
 use Rattle.range_loc_rewrite.proofs.KeptPairs.{AllPaired, no_more}
 use Rattle.dw_lists.proofs.OwnRanges.{listed_ranges}
 
@@ -30,12 +32,14 @@ owns_less : (less lo : ℕ) (rs : List NamedList) → less ≤ lo → OwnsRise l
 owns_less less lo [] h rise = tt
 owns_less less lo (r ∷ rs) h rise = (omega (arith, h, rise.0), rise.1)
 
-owns_front : (own : ℕ) (front back : List RangedEntry) → ((r : RangedEntry) → Contains front r → r.own ≡ own) → OwnsRise own (map named_of back) → OwnsRise own (map named_of (front ++ back))
+owns_front : (own : ℕ) (front back : List RangedEntry) → ((r : RangedEntry) → Contains front r → r.own ≡ own) →
+    OwnsRise own (map named_of back) → OwnsRise own (map named_of (front ++ back))
 owns_front own [] back owned rise = rise
 owns_front own (r ∷ front) back owned rise =
     let is : r.own ≡ own = owned r (0, omega arith, refl) in (
       omega (arith, is),
-      subst (λ (n : ℕ). OwnsRise n (map named_of (front ++ back))) (sym is) (owns_front own front back (λ x c. owned x (Contains-there r front x c)) rise),
+      subst (λ (n : ℕ). OwnsRise n (map named_of (front ++ back))) (sym is)
+          (owns_front own front back (λ x c. owned x (Contains-there r front x c)) rise),
     )
 
 pub owns_rise : (s : ListSections) (covers : List Cover) (us : List Unit) (kept : List RangedEntry) (lo : ℕ) → AllPaired s covers us kept →
@@ -65,7 +69,8 @@ module _ (s : ListSections) (empty : s.ranges ≡ []) where
   no_list u None = refl
   no_list u (Some a) =
       ap (λ (x : Option ℕ). option_map ranges_in (option_and_then (range_list s u) x))
-      (ap (λ (section : List ℕ). option_and_then (only_within section) (if a.form == 0x23 then offset_of_index ranges_kind s.ranges u a.value else Some a.value)) empty
+      (ap (λ (section : List ℕ). option_and_then (only_within section)
+      (if a.form == 0x23 then offset_of_index ranges_kind s.ranges u a.value else Some a.value)) empty
       ∙ nowhere (if a.form == 0x23 then offset_of_index ranges_kind s.ranges u a.value else Some a.value))
 
   none_seen : (u : Unit) (es ds : List Entry) (a : ℕ) → All (λ (e : Entry). attr 0x12 e ≡ None) (es ++ ds) →
@@ -79,11 +84,13 @@ module _ (s : ListSections) (empty : s.ranges ≡ []) where
         more.1,
       )
 
-  all_none : (us : List Unit) (a : ℕ) → All (λ (e : Entry). attr 0x12 e ≡ None) (all_of us) → flat_map (λ (u : Unit). seen_in s u u.entries a) us ≡ []
+  all_none : (us : List Unit) (a : ℕ) → All (λ (e : Entry). attr 0x12 e ≡ None) (all_of us) →
+      flat_map (λ (u : Unit). seen_in s u u.entries a) us ≡ []
   all_none [] a high = refl
   all_none (u ∷ us) a high =
       let p = none_seen u u.entries (all_of us) a high in
       (λ i. p.0 i ++ flat_map (λ (u : Unit). seen_in s u u.entries a) us) ∙ all_none us a p.1
 
-  pub none_kept : (covers : List Cover) (kept : List RangedEntry) → ((a : ℕ) → seen_kept covers kept a ≡ all_seen s a) → AreWithoutHighAddresses s.units → kept ≡ []
+  pub none_kept : (covers : List Cover) (kept : List RangedEntry) → ((a : ℕ) → seen_kept covers kept a ≡ all_seen s a) →
+      AreWithoutHighAddresses s.units → kept ≡ []
   none_kept covers kept seen high = no_more s covers kept (seen 0 ∙ all_none (units s.units) 0 high)

@@ -33,8 +33,10 @@ no_head y ys e = cc
 -- each entry that has ranges is kept as one, and the others as none
 pub data Paired (s : ListSections) (covers : List Cover) (u : Unit) : List Entry → List RangedEntry → Type 0 where
   none : Paired s covers u [] []
-  skip : (e : Entry) (es : List Entry) (rs : List RangedEntry) → ranges_of s u e ≡ None → Paired s covers u es rs → Paired s covers u (e ∷ es) rs
-  keep : (e : Entry) (es : List Entry) (r : RangedEntry) (rs : List RangedEntry) → IsKeptAs s covers u e r → Paired s covers u es rs → Paired s covers u (e ∷ es) (r ∷ rs)
+  skip : (e : Entry) (es : List Entry) (rs : List RangedEntry) → ranges_of s u e ≡ None → Paired s covers u es rs →
+      Paired s covers u (e ∷ es) rs
+  keep : (e : Entry) (es : List Entry) (r : RangedEntry) (rs : List RangedEntry) → IsKeptAs s covers u e r → Paired s covers u es rs →
+      Paired s covers u (e ∷ es) (r ∷ rs)
 
 module _ (s : ListSections) (covers : List Cover) where
   record IsSplit (u : Unit) (es : List Entry) (kept : List RangedEntry) (more : ℕ → List SeenEntry) : Type 0 where
@@ -58,20 +60,28 @@ module _ (s : ListSections) (covers : List Cover) where
         assoc (q ∷ x) y z = ap (λ (l : List SeenEntry). q ∷ l) (assoc x y z)
 
         by_ranges : (o : Option (List Range)) → ranges_of s u e ≡ o →
-            ((ks : List RangedEntry) → ((a : ℕ) → seen_kept covers ks a ≡ seen_in s u es a ++ more a) → IsSplit u es ks more) → IsSplit u (e ∷ es) kept more
+            ((ks : List RangedEntry) → ((a : ℕ) → seen_kept covers ks a ≡ seen_in s u es a ++ more a) → IsSplit u es ks more) →
+            IsSplit u (e ∷ es) kept more
         by_ranges None is ih =
             let p = ih kept (λ a. same a ∙ ap (λ (o : Option (List Range)). (here o a ++ seen_in s u es a) ++ more a) is) in
             record { front = p.front; back = p.back; are = p.are; paired = skip e es p.front is p.paired; rest = p.rest }
         by_ranges (Some ranges) is ih = by_kept kept refl
           where
-            seen : (a : ℕ) → seen_kept covers kept a ≡ record { place = e.place; own = own_place u; index = ranges_index e.attrs; held = list_any (holds_address a) ranges }
+            seen : (a : ℕ) → seen_kept covers kept a ≡ record {
+              place = e.place;
+              own = own_place u;
+              index = ranges_index e.attrs;
+              held =
+                  list_any (holds_address a) ranges;
+            }
                 ∷ (seen_in s u es a ++ more a)
             seen a = same a ∙ ap (λ (o : Option (List Range)). (here o a ++ seen_in s u es a) ++ more a) is
 
             by_kept : (ks : List RangedEntry) → kept ≡ ks → IsSplit u (e ∷ es) kept more
             by_kept [] f = absurd (no_head _ _ (sym (ap (λ (l : List RangedEntry). seen_kept covers l 0) f) ∙ seen 0))
             by_kept (k ∷ ks) f =
-                let at : (a : ℕ) → seen_kept covers (k ∷ ks) a ≡ _ = λ a. sym (ap (λ (l : List RangedEntry). seen_kept covers l a) f) ∙ seen a in
+                let at : (a : ℕ) → seen_kept covers (k ∷ ks) a ≡ _ = λ a. sym (ap (λ (l : List RangedEntry). seen_kept covers l a) f)
+                ∙ seen a in
                 let p = ih ks (λ a. same_rest _ _ _ _ (at a)) in
                 let first : (a : ℕ) → _ = λ a. same_head _ _ _ _ (at a) in
                 record {
@@ -90,13 +100,15 @@ module _ (s : ListSections) (covers : List Cover) where
   -- unit by unit
   pub data AllPaired : List Unit → List RangedEntry → Type 0 where
     no_unit : AllPaired [] []
-    unit_more : (u : Unit) (us : List Unit) (front back : List RangedEntry) → Paired s covers u u.entries front → AllPaired us back → AllPaired (u ∷ us) (front ++ back)
+    unit_more : (u : Unit) (us : List Unit) (front back : List RangedEntry) → Paired s covers u u.entries front → AllPaired us back →
+        AllPaired (u ∷ us) (front ++ back)
 
   pub no_more : (kept : List RangedEntry) → seen_kept covers kept 0 ≡ [] → kept ≡ []
   no_more [] e = refl
   no_more (k ∷ ks) e = absurd (no_head _ _ (sym e))
 
-  pub all_paired : (us : List Unit) (kept : List RangedEntry) → ((a : ℕ) → seen_kept covers kept a ≡ flat_map (λ (u : Unit). seen_in s u u.entries a) us) → AllPaired us kept
+  pub all_paired : (us : List Unit) (kept : List RangedEntry) → ((a : ℕ) →
+      seen_kept covers kept a ≡ flat_map (λ (u : Unit). seen_in s u u.entries a) us) → AllPaired us kept
   all_paired [] kept same = subst (AllPaired []) (sym (no_more kept (same 0))) no_unit
   all_paired (u ∷ us) kept same =
       let p = split_unit u u.entries kept (λ a. flat_map (λ (u : Unit). seen_in s u u.entries a) us) same in

@@ -1,5 +1,6 @@
 -- Where the lists of entries stand whose ranges were written, by the lists of their groups.
-use Rattle.std.proofs.Common.{◌≡◌, ◌∙◌, ◌+◌, ◌*◌, ◌^◌, ◌<◌, ◌≤◌, ◌∷◌, [], ℕ, zero, suc, Bool, true, List, Option, Some, None, refl, sym, ap, subst, arith, length, map, All, ⊎_elim}
+use Rattle.std.proofs.Common.{◌≡◌, ◌∙◌, ◌+◌, ◌*◌, ◌^◌, ◌<◌, ◌≤◌, ◌∷◌, [], ℕ, zero, suc, Bool, true, List, Option, Some, None, refl, sym, ap}
+use Rattle.std.proofs.Common.{subst, arith, length, map, All, ⊎_elim}
 use Rattle.std.specs.Prelude.{Contains, slice_get}
 use Rattle.std.specs.Global.{Vec}
 use Rattle.std.specs.Option.{option_map_or}
@@ -50,7 +51,8 @@ contains_map (x ∷ kept) r c = ⊎_elim
     (λ (there : Contains kept r). Contains-there (named_of x) (map named_of kept) (named_of r) (contains_map kept r there))
     (Contains-cons_cases x kept r c)
 
-map_contains : (kept : List RangedEntry) (n : NamedList) → Contains (map named_of kept) n → (r : RangedEntry) × Contains kept r × (named_of r ≡ n)
+map_contains : (kept : List RangedEntry) (n : NamedList) → Contains (map named_of kept) n → (r : RangedEntry) × Contains kept r
+    × (named_of r ≡ n)
 map_contains [] n c = absurd (Contains-nil n c)
 map_contains (x ∷ kept) n c = ⊎_elim
     (λ (same : named_of x ≡ n). (x, (0, omega arith, refl), same))
@@ -58,11 +60,13 @@ map_contains (x ∷ kept) n c = ⊎_elim
     (Contains-cons_cases (named_of x) (map named_of kept) n c)
 
 -- the bytes of a group's list
-pub group_at : (bs : List (Vec ℕ)) (lists : List (Vec (Run Bool))) (g : ℕ) → map (λ (b : Vec ℕ). b.items) bs ≡ map group_bytes lists → g < length lists →
+pub group_at : (bs : List (Vec ℕ)) (lists : List (Vec (Run Bool))) (g : ℕ) → map (λ (b : Vec ℕ). b.items) bs ≡ map group_bytes lists →
+    g < length lists →
     bytes_in bs g ≡ group_list lists g
 group_at bs lists g e h = bytes_at group_bytes bs lists g e ∙ there lists g h
   where
-    there : (lists : List (Vec (Run Bool))) (g : ℕ) → g < length lists → option_map_or group_bytes (slice_get lists g) [] ≡ group_list lists g
+    there : (lists : List (Vec (Run Bool))) (g : ℕ) → g < length lists →
+        option_map_or group_bytes (slice_get lists g) [] ≡ group_list lists g
     there [] g h = absurd (omega arith)
     there (l ∷ lists) zero h = refl
     there (l ∷ lists) (suc g) h = there lists g (omega (arith, h))
@@ -70,7 +74,8 @@ group_at bs lists g e h = bytes_at group_bytes bs lists g e ∙ there lists g h
 module _ (bs : List (Vec ℕ)) (lists : List (Vec (Run Bool))) (kept : List RangedEntry) (bytes : List ℕ) (names : List ListAt)
     (w : AreWritten Ranges bs (map named_of kept) (map named_of kept) [] bytes names)
     (same : (r : RangedEntry) → Contains kept r → bytes_in bs r.group ≡ group_list lists r.group) where
-  named_by : (r : RangedEntry) → Contains kept r → (i : Option ℕ) → tables.IsNamed Ranges bs w.tables names (map named_of kept) (named_of r) i →
+  named_by : (r : RangedEntry) → Contains kept r → (i : Option ℕ) →
+      tables.IsNamed Ranges bs w.tables names (map named_of kept) (named_of r) i →
       IsNamed lists w.tables names kept r i
   named_by r c None n = (n.0, n.1, subst (StandsAt w.tables n.0) (same r c) n.2)
   named_by r c (Some i) n =
@@ -97,6 +102,12 @@ module _ (bs : List (Vec ℕ)) (lists : List (Vec (Run Bool))) (kept : List Rang
   }
 
 -- the attributes of entries are in their order
-pub ranges_in_order : (lo k : ℕ) (kept : List RangedEntry) → Ascends lo (map kept_place kept) → k ≤ key lo 0x55 → AreInOrder Ranges k (map named_of kept)
+pub ranges_in_order : (lo k : ℕ) (kept : List RangedEntry) → Ascends lo (map kept_place kept) → k ≤ key lo 0x55 →
+    AreInOrder Ranges k (map named_of kept)
 ranges_in_order lo k [] up h = tt
-ranges_in_order lo k (r ∷ kept) up h = (omega (arith, h, up.0), refl, ranges_in_order (r.place + 1) (key r.place 0x55 + 1) kept up.1 (omega arith))
+ranges_in_order lo k (r ∷ kept) up h = (
+  omega (arith, h, up.0),
+  refl,
+  ranges_in_order (r.place + 1) (key r.place 0x55 + 1) kept up.1
+      (omega arith),
+)

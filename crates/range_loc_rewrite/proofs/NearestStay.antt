@@ -1,5 +1,6 @@
 -- Entries that cover two addresses alike have nearest ranges that hold them alike.
-use Rattle.std.proofs.Common.{◌≡◌, ◌∙◌, ◌+◌, ◌≤◌, ◌++◌, ◌∷◌, [], ℕ, Bool, true, false, List, Option, Some, None, refl, sym, subst, arith, map, filter, length}
+use Rattle.std.proofs.Common.{◌≡◌, ◌∙◌, ◌+◌, ◌≤◌, ◌++◌, ◌∷◌, [], ℕ, Bool, true, false, List, Option, Some, None, refl, sym, subst, arith}
+use Rattle.std.proofs.Common.{map, filter, length}
 use Rattle.std.specs.Prelude.{if◌then◌else◌, is_some, nat_lt, filter_map}
 use Rattle.std.specs.List.{AllZip, cons_option}
 use Rattle.table_core.specs.declared.range.Range.{Range}
@@ -30,7 +31,8 @@ behind : (lo : ℕ) (rs : List Ranged) (a n : ℕ) (ns : List ℕ) → Ascends l
 behind lo [] a n ns up e = absurd (no_head n ns (sym e))
 behind lo (r ∷ rs) a n ns up e = step (hold r.own a) e (λ f. behind (r.entry.place + 1) rs a n ns up.1 f)
   where
-    step : (b : Bool) → map place_in (if b then r ∷ filter (λ (r : Ranged). hold r.own a) rs else filter (λ (r : Ranged). hold r.own a) rs) ≡ n ∷ ns →
+    step : (b : Bool) → map place_in (if b then r ∷ filter (λ (r : Ranged). hold r.own a) rs else filter (λ (r : Ranged). hold r.own a) rs)
+        ≡ n ∷ ns →
         (covered rs a ≡ n ∷ ns → r.entry.place + 1 ≤ n) → lo ≤ n
     step true f ih = let same : r.entry.place ≡ n = same_head r.entry.place n (covered rs a) ns f in omega (arith, up.0, same)
     step false f ih = let h = ih f in omega (arith, up.0, h)
@@ -40,7 +42,8 @@ pub record HoldAlike (a p : ℕ) (x y : Ranged) : Type 0 where
   pub held : hold y.own p ≡ hold x.own a
 
 -- Of entries at the same places, the same are covered only if each is alike.
-pub hold_alike : (lo a p : ℕ) (xs ys : List Ranged) → Ascends lo (map place_in xs) → map place_in ys ≡ map place_in xs → covered ys p ≡ covered xs a →
+pub hold_alike : (lo a p : ℕ) (xs ys : List Ranged) → Ascends lo (map place_in xs) → map place_in ys ≡ map place_in xs →
+    covered ys p ≡ covered xs a →
     AllZip (HoldAlike a p) xs ys
 hold_alike lo a p [] [] up same e = tt
 hold_alike lo a p [] (y ∷ ys) up same e = absurd (no_head _ _ same)
@@ -80,7 +83,8 @@ module _ (own new : Entry → Option (List Range)) (a p : ℕ) where
     pub some : is_some (new e) ≡ is_some (own d)
     pub held : hold (new e) p ≡ hold (own d) a
 
-  enclosing_alike : (m n : ℕ) → n ≡ m → (ds es : List Entry) → AllZip AlikeRanges ds es → AllZip AlikeRanges (enclosing m ds) (enclosing n es)
+  enclosing_alike : (m n : ℕ) → n ≡ m → (ds es : List Entry) → AllZip AlikeRanges ds es →
+      AllZip AlikeRanges (enclosing m ds) (enclosing n es)
   enclosing_alike m n same [] [] z = tt
   enclosing_alike m n same [] (e ∷ es) z = absurd z
   enclosing_alike m n same (d ∷ ds) [] z = absurd z
@@ -88,14 +92,17 @@ module _ (own new : Entry → Option (List Range)) (a p : ℕ) where
       by (nat_lt d.depth m) (nat_lt e.depth n) (λ i. nat_lt (z.0.depth i) (same i)) (enclosing_alike d.depth e.depth z.0.depth ds es z.1)
       (enclosing_alike m n same ds es z.1)
     where
-      by : (b c : Bool) → c ≡ b → AllZip AlikeRanges (enclosing d.depth ds) (enclosing e.depth es) → AllZip AlikeRanges (enclosing m ds) (enclosing n es) →
-          AllZip AlikeRanges (if b then d ∷ enclosing d.depth ds else enclosing m ds) (if c then e ∷ enclosing e.depth es else enclosing n es)
+      by : (b c : Bool) → c ≡ b → AllZip AlikeRanges (enclosing d.depth ds) (enclosing e.depth es) →
+          AllZip AlikeRanges (enclosing m ds) (enclosing n es) →
+          AllZip AlikeRanges (if b then d ∷ enclosing d.depth ds else enclosing m ds)
+          (if c then e ∷ enclosing e.depth es else enclosing n es)
       by true true q inner outer = (z.0, inner)
       by false false q inner outer = outer
       by true false q inner outer = absurd (cc)
       by false true q inner outer = absurd (cc)
 
-  pub nearest_alike : (ds es : List Entry) → AllZip AlikeRanges ds es → hold (first_of (filter_map new es)) p ≡ hold (first_of (filter_map own ds)) a
+  pub nearest_alike : (ds es : List Entry) → AllZip AlikeRanges ds es →
+      hold (first_of (filter_map new es)) p ≡ hold (first_of (filter_map own ds)) a
   nearest_alike [] [] z = refl
   nearest_alike [] (e ∷ es) z = absurd z
   nearest_alike (d ∷ ds) [] z = absurd z
@@ -114,7 +121,8 @@ module _ (own new : Entry → Option (List Range)) (a p : ℕ) where
     pub entries : R x.entry y.entry
     pub held : hold y.nearest p ≡ hold x.nearest a
 
-  pub ranged_alike : (R : Entry → Entry → Type 0) (before after ds es : List Entry) → AllZip AlikeRanges before after → AllZip AlikeRanges ds es → AllZip R ds es →
+  pub ranged_alike : (R : Entry → Entry → Type 0) (before after ds es : List Entry) → AllZip AlikeRanges before after →
+      AllZip AlikeRanges ds es → AllZip R ds es →
       AllZip (IsRangedAlike R) (ranged_from own before ds) (ranged_from new after es)
   ranged_alike R before after [] [] b z r = tt
   ranged_alike R before after [] (e ∷ es) b z r = absurd z
@@ -122,7 +130,8 @@ module _ (own new : Entry → Option (List Range)) (a p : ℕ) where
   ranged_alike R before after (d ∷ ds) (e ∷ es) b z r = (
     record {
       entries = r.0;
-      held = nearest_alike (d ∷ enclosing d.depth before) (e ∷ enclosing e.depth after) (z.0, enclosing_alike d.depth e.depth z.0.depth before after b);
+      held = nearest_alike (d ∷ enclosing d.depth before) (e ∷ enclosing e.depth after)
+          (z.0, enclosing_alike d.depth e.depth z.0.depth before after b);
     },
     ranged_alike R (d ∷ before) (e ∷ after) ds es (z.0, b) z.1 r.1,
   )

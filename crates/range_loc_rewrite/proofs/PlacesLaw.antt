@@ -36,7 +36,8 @@ use Rattle.list_writer.specs.WrittenTables.{AreWritten}
 use Rattle.range_loc_rewrite.proofs.ChangedAttrs.{changed, for_high, new_high, from_high, from_ranges}
 use Rattle.range_loc_rewrite.proofs.EntriesStay.{high_some, list_some}
 use Rattle.range_loc_rewrite.proofs.KeptLookups.{sound_at, no_bounds, all_of, place_of}
-use Rattle.range_loc_rewrite.proofs.NearestStay.{place_in, HoldAlike, hold_alike, AlikeRanges, IsRangedAlike, ranged_alike, Split, zip_split}
+use Rattle.range_loc_rewrite.proofs.NearestStay.{place_in, HoldAlike, hold_alike, AlikeRanges, IsRangedAlike, ranged_alike, Split}
+use Rattle.range_loc_rewrite.proofs.NearestStay.{zip_split}
 use Rattle.dw_lists.proofs.OwnRanges.{listed_ranges}
 use Rattle.range_loc_rewrite.proofs.PlacesStay.{AreSpelled, Same, same}
 use Rattle.range_loc_rewrite.proofs.RangesLaw.{given_by}
@@ -59,7 +60,8 @@ both_true true y f g = g
 both_true false y f g = absurd (cc)
 
 module _ (s t : ListSections) (m : Moves) (u v : Unit) (d e : Entry) (c : IsChangedEntry s.units t.units.info m (is_first_of u d) d e)
-    (old : IsSoundEntry s.units.addr u d) (new : IsSoundEntry t.units.addr v e) (fine_old : AreFine s u d.attrs) (fine_new : AreFine t v e.attrs) where
+    (old : IsSoundEntry s.units.addr u d) (new : IsSoundEntry t.units.addr v e) (fine_old : AreFine s u d.attrs)
+    (fine_new : AreFine t v e.attrs) where
   abbrev made : Attr → Attr
   made = changed m (is_own s.units d.declaration) (is_first_of u d) d
 
@@ -84,9 +86,11 @@ module _ (s t : ListSections) (m : Moves) (u v : Unit) (d e : Entry) (c : IsChan
           ap (λ (o : Option (List Range)). is_some o) (no_bounds t v e none_high ∙ ap (listed_ranges t v) none)
           ∙ sym (ap (λ (o : Option (List Range)). is_some o) (no_bounds s u d high ∙ ap (listed_ranges s u) is))
       by_ranges high (Some a) is =
-          let there : attr 0x55 e ≡ Some (made a) = from_ranges s.units t.units.info m (is_first_of u d) d e c high ∙ ap (option_map made) is in
+          let there : attr 0x55 e ≡ Some (made a) = from_ranges s.units t.units.info m (is_first_of u d) d e c high
+          ∙ ap (option_map made) is in
           let listed : has_list ranges_kind (made a) ≡ true =
-          both_true ((made a).name == 0x55) (a.form == 0x17 || a.form == 0x23) (eq-eqb (made a).name 0x55 (found_name 0x55 e.attrs (made a) there))
+          both_true ((made a).name == 0x55) (a.form == 0x17 || a.form == 0x23)
+          (eq-eqb (made a).name 0x55 (found_name 0x55 e.attrs (made a) there))
           ((tests_of s.units.addr u d 0x55 a old is).ranges (eq-eqb a.name 0x55 (found_name 0x55 d.attrs a is))) in
           new_some (made a) there listed
           ∙ sym (is_some_by (ranges_of s u d) (list_some s u d a high is (fine_old a (found_there 0x55 d.attrs a is) (named_list a is))))
@@ -95,7 +99,8 @@ module _ (s t : ListSections) (m : Moves) (u v : Unit) (d e : Entry) (c : IsChan
       by_high None is = by_ranges is (attr 0x55 d) refl
       by_high (Some h) is =
           let none : attr 0x55 d ≡ None = old.ranges h is in
-          new_some (for_high m (is_own s.units d.declaration) (is_first_of u d) d h) (from_high s.units t.units.info m (is_first_of u d) d e c h is none) refl
+          new_some (for_high m (is_own s.units d.declaration) (is_first_of u d) d h)
+          (from_high s.units t.units.info m (is_first_of u d) d e c h is none) refl
           ∙ sym (is_some_by (ranges_of s u d) (high_some s u d h is (old.low h is)))
 
 -- Places of entries, as those of what has ranges
@@ -115,9 +120,12 @@ ranged_size : (own : Entry → Option (List Range)) (before es : List Entry) →
 ranged_size own before [] = refl
 ranged_size own before (e ∷ es) = let h = ranged_size own (e ∷ before) es in omega (arith, h)
 
-module _ (s t : ListSections) (spans : List Span) (m : Moves) (lists : List KeptList) (bs : List (Vec ℕ)) (named : List NamedList) (bytes : List ℕ) (names : List ListAt)
-    (free : IsFree (HasDwarfFault (location_places s))) (items : AllZip (IsNameOf lists) named (all_items s)) (w : AreWritten Locations bs named named [] bytes names)
-    (table : t.locations ≡ bytes) (free_ranges : IsFree (HasDwarfFault (range_places t))) (covered : (p o : ℕ) → owner spans p ≡ Some o → covering t p ≡ covering s o)
+module _ (s t : ListSections) (spans : List Span) (m : Moves) (lists : List KeptList) (bs : List (Vec ℕ)) (named : List NamedList)
+    (bytes : List ℕ) (names : List ListAt)
+    (free : IsFree (HasDwarfFault (location_places s))) (items : AllZip (IsNameOf lists) named (all_items s))
+    (w : AreWritten Locations bs named named [] bytes names)
+    (table : t.locations ≡ bytes) (free_ranges : IsFree (HasDwarfFault (range_places t))) (covered : (p o : ℕ) → owner spans p ≡ Some o →
+    covering t p ≡ covering s o)
     (changes : AreChangedUnits s.units m t.units)
     (listed : (l : ListAt) → Contains names l → new_list_offset m.lists l.entry l.attr ≡ Some l.offset)
     (runs : ℕ → List (Run (List (List ℕ)))) (spelled : AreSpelled lists bs spans runs named) where
@@ -140,8 +148,10 @@ module _ (s t : ListSections) (spans : List Span) (m : Moves) (lists : List Kept
     pub place : e.place ≡ d.place
     pub depth : e.depth ≡ d.depth
     pub some : is_some (ranges_of t v e) ≡ is_some (ranges_of s u d)
-    pub location : Same s t spans m w.tables w.units locations_are lists bs named names items (given_by names m.lists listed) w.each runs spelled sound_old up fine.there u v d e 0x02
-    pub frame_base : Same s t spans m w.tables w.units locations_are lists bs named names items (given_by names m.lists listed) w.each runs spelled sound_old up fine.there u v d e 0x40
+    pub location : Same s t spans m w.tables w.units locations_are lists bs named names items (given_by names m.lists listed) w.each runs
+        spelled sound_old up fine.there u v d e 0x02
+    pub frame_base : Same s t spans m w.tables w.units locations_are lists bs named names items (given_by names m.lists listed) w.each runs
+        spelled sound_old up fine.there u v d e 0x40
 
   entries_stay : (u v : Unit) → Contains (units s.units) u → Contains (units t.units) v → IsChangedUnit s.units t.units.info m u v →
       AllZip (EntryStays u v) u.entries v.entries
@@ -150,12 +160,15 @@ module _ (s t : ListSections) (spans : List Span) (m : Moves) (lists : List Kept
       (λ d e dc ec x. record {
         place = x.place;
         depth = x.depth;
-        some = ranges_some s t m u v d e x (sound_at s.units.addr (units s.units) u d sound_old uc dc) (sound_at t.units.addr (units t.units) v e sound_new vc ec)
+        some = ranges_some s t m u v d e x (sound_at s.units.addr (units s.units) u d sound_old uc dc)
+            (sound_at t.units.addr (units t.units) v e sound_new vc ec)
             (λ a ac h. lists_fine s fine.ranges u uc a (flat_has (λ (e : Entry). e.attrs) u.entries d a dc ac) h)
             (λ a ac h. lists_fine t free_ranges v vc a (flat_has (λ (e : Entry). e.attrs) v.entries e a ec ac) h);
-        location = same s t spans m w.tables w.units locations_are lists bs named names items (given_by names m.lists listed) w.each runs spelled sound_old up fine.there u v uc
+        location = same s t spans m w.tables w.units locations_are lists bs named names items (given_by names m.lists listed) w.each runs
+            spelled sound_old up fine.there u v uc
             c.entries d e dc x 0x02 refl;
-        frame_base = same s t spans m w.tables w.units locations_are lists bs named names items (given_by names m.lists listed) w.each runs spelled sound_old up fine.there u v uc
+        frame_base = same s t spans m w.tables w.units locations_are lists bs named names items (given_by names m.lists listed) w.each runs
+            spelled sound_old up fine.there u v uc
             c.entries d e dc x 0x40 refl;
       })
 
@@ -173,7 +186,8 @@ module _ (s t : ListSections) (spans : List Span) (m : Moves) (lists : List Kept
   module _ (p o : ℕ) (owned : owner spans p ≡ Some o) where
     -- entries hold alike
     held_from : (u v : Unit) (before after ds es : List Entry) →
-        AllZip (HoldAlike o p) (ranged_from (ranges_of s u) before ds) (ranged_from (ranges_of t v) after es) → AllZip (EntryStays u v) ds es →
+        AllZip (HoldAlike o p) (ranged_from (ranges_of s u) before ds) (ranged_from (ranges_of t v) after es) →
+        AllZip (EntryStays u v) ds es →
         AllZip (AlikeRanges (ranges_of s u) (ranges_of t v) o p) ds es
     held_from u v before after [] [] h z = tt
     held_from u v before after [] (e ∷ es) h z = absurd z
@@ -198,17 +212,21 @@ module _ (s t : ListSections) (spans : List Span) (m : Moves) (lists : List Kept
     zip_size u v (d ∷ ds) [] z = absurd z
     zip_size u v (d ∷ ds) (e ∷ es) z = let h = zip_size u v ds es z.1 in omega (arith, h)
 
-    units_alike : (us vs : List Unit) → AllZip UnitStays us vs → AllZip (HoldAlike o p) (flat_map (ranged_in s) us) (flat_map (ranged_in t) vs) →
-        flat_map (λ (v : Unit). flat_map (entry_says t v p) (ranged_in t v)) vs ≡ flat_map (λ (u : Unit). flat_map (entry_says s u o) (ranged_in s u)) us
+    units_alike : (us vs : List Unit) → AllZip UnitStays us vs →
+        AllZip (HoldAlike o p) (flat_map (ranged_in s) us) (flat_map (ranged_in t) vs) →
+        flat_map (λ (v : Unit). flat_map (entry_says t v p) (ranged_in t v)) vs ≡ flat_map
+        (λ (u : Unit). flat_map (entry_says s u o) (ranged_in s u)) us
     units_alike [] [] z h = refl
     units_alike [] (v ∷ vs) z h = absurd z
     units_alike (u ∷ us) [] z h = absurd z
     units_alike (u ∷ us) (v ∷ vs) z h =
         let sizes : length (ranged_in t v) ≡ length (ranged_in s u) =
-        ranged_size (ranges_of t v) [] v.entries ∙ zip_size u v u.entries v.entries z.0.entries ∙ sym (ranged_size (ranges_of s u) [] u.entries) in
+        ranged_size (ranges_of t v) [] v.entries ∙ zip_size u v u.entries v.entries z.0.entries
+        ∙ sym (ranged_size (ranges_of s u) [] u.entries) in
         let k : Split (HoldAlike o p) (ranged_in s u) (ranged_in t v) (flat_map (ranged_in s) us) (flat_map (ranged_in t) vs) =
         zip_split (HoldAlike o p) (ranged_in s u) (ranged_in t v) (flat_map (ranged_in s) us) (flat_map (ranged_in t) vs) sizes h in
-        let alike : AllZip (AlikeRanges (ranges_of s u) (ranges_of t v) o p) u.entries v.entries = held_from u v [] [] u.entries v.entries k.front z.0.entries in
+        let alike : AllZip (AlikeRanges (ranges_of s u) (ranges_of t v) o p) u.entries v.entries = held_from u v [] [] u.entries v.entries
+        k.front z.0.entries in
         (λ i. says_alike u v (ranged_in s u) (ranged_in t v)
         (ranged_alike (ranges_of s u) (ranges_of t v) o p (EntryStays u v) [] [] u.entries v.entries tt alike z.0.entries) i
         ++ units_alike us vs z.1 k.back i)
@@ -236,18 +254,21 @@ module _ (s t : ListSections) (spans : List Span) (m : Moves) (lists : List Kept
 
   -- Each list is there.
 
-  there : (v : Unit) → Contains (units t.units) v → (e : Entry) → Contains v.entries e → AreThere locations_kind t.locations t.units.addr v e.attrs
+  there : (v : Unit) → Contains (units t.units) v → (e : Entry) → Contains v.entries e →
+      AreThere locations_kind t.locations t.units.addr v e.attrs
   there v vc e ec x xc h =
       let p = zip_right UnitStays (units s.units) (units t.units) v all_stay vc in
       let q = zip_right (EntryStays p.0 v) p.0.entries v.entries e p.2.entries ec in
       let sound : IsSoundEntry t.units.addr v e = sound_at t.units.addr (units t.units) v e sound_new vc ec in
-      by_name q.0 p.0 q.2 sound (x.name == 0x02) (x.name == 0x40) refl refl (first (x.name == 0x02 || x.name == 0x40) (x.form == 0x17 || x.form == 0x22) h)
+      by_name q.0 p.0 q.2 sound (x.name == 0x02) (x.name == 0x40) refl refl
+      (first (x.name == 0x02 || x.name == 0x40) (x.form == 0x17 || x.form == 0x22) h)
     where
       first : (b c : Bool) → (b && c) ≡ true → b ≡ true
       first true c f = refl
       first false c f = absurd (cc)
 
-      by_name : (d : Entry) → (u : Unit) → EntryStays u v d e → IsSoundEntry t.units.addr v e → (b c : Bool) → (x.name == 0x02) ≡ b → (x.name == 0x40) ≡ c → (b || c) ≡ true →
+      by_name : (d : Entry) → (u : Unit) → EntryStays u v d e → IsSoundEntry t.units.addr v e → (b c : Bool) → (x.name == 0x02) ≡ b →
+          (x.name == 0x40) ≡ c → (b || c) ≡ true →
           IsThere locations_kind t.locations t.units.addr v x
       by_name d u z sound true c f g k =
           let name : x.name ≡ 0x02 = eqb-true x.name 0x02 f in
@@ -259,4 +280,5 @@ module _ (s t : ListSections) (spans : List Span) (m : Moves) (lists : List Kept
 
   pub new_free : IsFree (HasDwarfFault (location_places t))
   new_free =
-      fine_places t free_ranges (ap (other_version 5) locations_are ∙ no_other w.tables w.units) (ap bad_of locations_are ∙ no_bad w.tables w.units w.sound) there
+      fine_places t free_ranges (ap (other_version 5) locations_are ∙ no_other w.tables w.units) (ap bad_of locations_are
+      ∙ no_bad w.tables w.units w.sound) there

@@ -66,7 +66,8 @@ module _ (s : ListSections) where
   item_by u uc e ec name None x c = absurd (Contains-nil x c)
   item_by u uc e ec name (Some a) x c = by_list (list_named s u a) refl c
     where
-      by_list : (o : Option (List Located)) → list_named s u a ≡ o → Contains (item_of e.place name (own_place u) (list_index a) o) x → IsItem s x
+      by_list : (o : Option (List Located)) → list_named s u a ≡ o → Contains (item_of e.place name (own_place u) (list_index a) o) x →
+          IsItem s x
       by_list None f c = absurd (Contains-nil x c)
       by_list (Some ls) f c = ⊎_elim
           (λ (same : record { place = e.place; attr = name; own = own_place u; index = list_index a; list = ls } ≡ x). record {
@@ -100,7 +101,8 @@ by_name P k is x y = by_either P k (k == 0x02) (k == 0x40) refl refl is x y
 
 -- the items of an entry have those of each name
 abbrev HasItems : ListSections → Unit → Entry → ℕ → Type 0
-HasItems s u e k = (a : Attr) → attr k e ≡ Some a → (x : ListItem) → Contains (attr_items s u e.place k (Some a)) x → Contains (entry_items s u e) x
+HasItems s u e k = (a : Attr) → attr k e ≡ Some a → (x : ListItem) → Contains (attr_items s u e.place k (Some a)) x →
+    Contains (entry_items s u e) x
 
 entry_has : (s : ListSections) (u : Unit) (e : Entry) (k : ℕ) → IsPlaceName k → HasItems s u e k
 entry_has s u e k name =
@@ -113,17 +115,21 @@ entry_has s u e k name =
 -- New values
 
 abbrev GetsOffset : Moves → (own first : Bool) → Entry → Attr → ℕ → Type 0
-GetsOffset m own first d a k = (at : ℕ) → a.name ≡ k → a.form ≡ 0x17 → new_list_offset m.lists d.place k ≡ Some at → (changed m own first d a).value ≡ at
+GetsOffset m own first d a k = (at : ℕ) → a.name ≡ k → a.form ≡ 0x17 → new_list_offset m.lists d.place k ≡ Some at →
+    (changed m own first d a).value ≡ at
 
 new_by : (k : ℕ) → IsPlaceName k → (m : Moves) (own first : Bool) (d : Entry) (a : Attr) → GetsOffset m own first d a k
 new_by k name m own first d a =
     by_name (GetsOffset m own first d a) k name
-    (λ at n f given. ap (λ (x : Attr). unwrap_or (new_value m own first d x) x.value) (λ i. record { name = n i; form = f i; place = a.place; len = a.len; value = a.value })
+    (λ at n f given. ap (λ (x : Attr). unwrap_or (new_value m own first d x) x.value)
+    (λ i. record { name = n i; form = f i; place = a.place; len = a.len; value = a.value })
     ∙ ap (λ (o : Option ℕ). unwrap_or o a.value) given)
-    (λ at n f given. ap (λ (x : Attr). unwrap_or (new_value m own first d x) x.value) (λ i. record { name = n i; form = f i; place = a.place; len = a.len; value = a.value })
+    (λ at n f given. ap (λ (x : Attr). unwrap_or (new_value m own first d x) x.value)
+    (λ i. record { name = n i; form = f i; place = a.place; len = a.len; value = a.value })
     ∙ ap (λ (o : Option ℕ). unwrap_or o a.value) given)
 
-kept_value : (m : Moves) (own first : Bool) (d : Entry) (a : Attr) → (a.form == 0x01) ≡ false → (a.form == 0x17) ≡ false → new_value m own first d a ≡ None
+kept_value : (m : Moves) (own first : Bool) (d : Entry) (a : Attr) → (a.form == 0x01) ≡ false → (a.form == 0x17) ≡ false →
+    new_value m own first d a ≡ None
 kept_value m own first d a e f = (λ i. if e i then new_address m own d a else (if f i then new_list m first d a else None))
 
 other_form : (f g : ℕ) → is_block f ≡ true → is_block g ≡ false → (f == g) ≡ false
@@ -163,19 +169,23 @@ unwrapped : (xs : List (List ℕ)) → unwrap_or (unless_empty xs) [] ≡ xs
 unwrapped [] = refl
 unwrapped (x ∷ xs) = refl
 
-pub record AreSpelled (lists : List KeptList) (bs : List (Vec ℕ)) (spans : List Span) (runs : ℕ → List (Run (List (List ℕ)))) (named : List NamedList) : Type 0 where
+pub record AreSpelled (lists : List KeptList) (bs : List (Vec ℕ)) (spans : List Span) (runs : ℕ → List (Run (List (List ℕ))))
+    (named : List NamedList) : Type 0 where
   pub bytes : (n : NamedList) → Contains named n → bytes_in bs n.list ≡ list_bytes Locations (bounded (runs n.list))
   pub writable : (n : NamedList) → Contains named n → All (IsWritable Locations) (bounded (runs n.list))
   pub within : (n : ℕ) → (end : ℕ) × IsWithin 0 (runs n) end
   pub says : (n p : ℕ) → run_at (runs n) p ≡ carried (list_answer lists n) spans p
 
-module _ (s t : ListSections) (spans : List Span) (m : Moves) (tables : List (List ℕ)) (tables_are : All (IsUnit 5) tables) (locations_are : t.locations ≡ units_bytes tables)
-    (lists : List KeptList) (bs : List (Vec ℕ)) (named : List NamedList) (names : List ListAt) (items : AllZip (IsNameOf lists) named (all_items s))
+module _ (s t : ListSections) (spans : List Span) (m : Moves) (tables : List (List ℕ)) (tables_are : All (IsUnit 5) tables)
+    (locations_are : t.locations ≡ units_bytes tables)
+    (lists : List KeptList) (bs : List (Vec ℕ)) (named : List NamedList) (names : List ListAt)
+    (items : AllZip (IsNameOf lists) named (all_items s))
     (given : (e attr o : ℕ) → new_list_offset names e attr ≡ Some o → new_list_offset m.lists e attr ≡ Some o)
     (stands : (n : NamedList) → Contains named n → IsNamed Locations bs tables names named n n.index)
     (runs : ℕ → List (Run (List (List ℕ)))) (spelled : AreSpelled lists bs spans runs named)
     (sound_old : AreSoundUnits s.units.addr (units s.units)) (up : Ascends 0 (map place_of (all_of (units s.units))))
-    (fine_old : (u : Unit) → Contains (units s.units) u → AreThere locations_kind s.locations s.units.addr u (flat_map (λ (e : Entry). e.attrs) u.entries)) where
+    (fine_old : (u : Unit) → Contains (units s.units) u → AreThere locations_kind s.locations s.units.addr u
+    (flat_map (λ (e : Entry). e.attrs) u.entries)) where
   -- a list of a number, where it stands
   module _ (q : NamedList) (qc : Contains named q) (at : ℕ) (there : StandsAt tables at (bytes_in bs q.list)) where
     placed : StandsAt tables at (list_bytes Locations (bounded (runs q.list)))
@@ -187,22 +197,26 @@ module _ (s t : ListSections) (spans : List Span) (m : Moves) (tables : List (Li
         ∙ list_there Locations tables at (bounded (runs q.list)) placed tables_are (spelled.writable q qc) t.units.addr v
 
     inside : at < length t.locations
-    inside = subst (λ (l : List ℕ). at < length l) (sym locations_are) (list_inside Locations tables at (bounded (runs q.list)) placed tables_are)
+    inside = subst (λ (l : List ℕ). at < length l) (sym locations_are)
+        (list_inside Locations tables at (bounded (runs q.list)) placed tables_are)
 
     forced : (p o : ℕ) → owner spans p ≡ Some o → in_force (map located_at (bounded (runs q.list))) p ≡ number_says lists q.list o
     forced p o owned =
         forced_runs 0 (runs q.list) (spelled.within q.list).0 p (spelled.within q.list).1
-        ∙ ap (λ (x : Option (List (List ℕ))). unwrap_or x []) (spelled.says q.list p ∙ ap (option_and_then (list_answer lists q.list)) owned)
+        ∙ ap (λ (x : Option (List (List ℕ))). unwrap_or x []) (spelled.says q.list p
+        ∙ ap (option_and_then (list_answer lists q.list)) owned)
         ∙ unwrapped (number_says lists q.list o)
 
   -- an attribute of a name, and the same attribute of the written file
   pub record Same (u v : Unit) (d e : Entry) (k : ℕ) : Type 0 where
     pub said : (p o : ℕ) → owner spans p ≡ Some o →
-        option_map_or (λ (x : Attr). expressions_of t v x p) (attr k e) [] ≡ option_map_or (λ (x : Attr). expressions_of s u x o) (attr k d) []
+        option_map_or (λ (x : Attr). expressions_of t v x p) (attr k e) [] ≡ option_map_or (λ (x : Attr). expressions_of s u x o)
+        (attr k d) []
     pub there : (x : Attr) → attr k e ≡ Some x → has_list locations_kind x ≡ true → IsThere locations_kind t.locations t.units.addr v x
 
   module _ (u v : Unit) (uc : Contains (units s.units) u)
-      (zip : AllZip (λ x y. IsChangedEntry s.units t.units.info m (is_first_of u x) x y) u.entries v.entries) (d e : Entry) (dc : Contains u.entries d)
+      (zip : AllZip (λ x y. IsChangedEntry s.units t.units.info m (is_first_of u x) x y) u.entries v.entries) (d e : Entry)
+      (dc : Contains u.entries d)
       (c : IsChangedEntry s.units t.units.info m (is_first_of u d) d e) (k : ℕ) (name : IsPlaceName k) where
     abbrev own : Bool
     own = is_own s.units d.declaration
@@ -253,15 +267,18 @@ module _ (s t : ListSections) (spans : List Span) (m : Moves) (tables : List (Li
           record {
             said = λ p o owned.
                 ap (λ (x : Option Attr). option_map_or (λ (x : Attr). expressions_of t v x p) x []) new_is
-                ∙ ap (λ (b : Bool). if b then block_of t.units.info (new a) ∷ [] else option_map_or (λ ls. in_force ls p) (list_of locations_kind t.locations t.units.addr v (new a)) []) block
+                ∙ ap (λ (b : Bool). if b then block_of t.units.info (new a) ∷ [] else option_map_or (λ ls. in_force ls p)
+                (list_of locations_kind t.locations t.units.addr v (new a)) []) block
                 ∙ ap (λ (l : List ℕ). l ∷ []) blocks
                 ∙ sym (ap (λ (x : Option Attr). option_map_or (λ (x : Attr). expressions_of s u x o) x []) is
-                ∙ ap (λ (b : Bool). if b then block_of s.units.info a ∷ [] else option_map_or (λ ls. in_force ls o) (list_of locations_kind s.locations s.units.addr u a) []) block);
+                ∙ ap (λ (b : Bool). if b then block_of s.units.info a ∷ [] else option_map_or (λ ls. in_force ls o)
+                (list_of locations_kind s.locations s.units.addr u a) []) block);
             there = λ x there h. absurd (unlisted (subst (λ (y : Attr). has_list locations_kind y ≡ true) (sym (only x there)) h));
           }
         where
           high : a.name ≡ 0x12 → ⊥
-          high f = by_name (λ (k : ℕ). k ≡ 0x12 → ⊥) k name (λ e. absurd (omega (arith, e))) (λ e. absurd (omega (arith, e))) (sym named_so ∙ f)
+          high f = by_name (λ (k : ℕ). k ≡ 0x12 → ⊥) k name (λ e. absurd (omega (arith, e))) (λ e. absurd (omega (arith, e))) (sym named_so
+              ∙ f)
 
           block_by : value_bytes t.units.info a ≡ value_bytes s.units.info a → block_of t.units.info (new a) ≡ block_of s.units.info a
           block_by bytes = ap (λ (l : List ℕ). content_read (and_so (sound_if (shape_of a.form)) (λ shape. content_at shape l))) bytes
@@ -294,7 +311,11 @@ module _ (s t : ListSections) (spans : List Span) (m : Moves) (tables : List (Li
           where
             by : (o : Option (List Located)) → list_at locations_kind s.locations s.units.addr u fine.at ≡ o → is_some o ≡ true → Found
             by None f g = absurd (cc)
-            by (Some ls) f g = record { list = ls; said = ap (option_and_then (list_at locations_kind s.locations s.units.addr u)) fine.offset ∙ f }
+            by (Some ls) f g = record {
+              list = ls;
+              said = ap (option_and_then (list_at locations_kind s.locations s.units.addr u))
+                  fine.offset ∙ f;
+            }
 
         abbrev item : ListItem
         item = record { place = d.place; attr = k; own = own_place u; index = list_index a; list = found.list }
@@ -305,10 +326,12 @@ module _ (s t : ListSections) (spans : List Span) (m : Moves) (tables : List (Li
             (flat_has (entry_items s u) u.entries d item dc
             (entry_has s u d k name a is item
             (subst (λ (o : Option (List Located)). Contains (item_of d.place k (own_place u) (list_index a) o) item)
-            (sym (ap (λ (b : Bool). if b then list_of locations_kind s.locations s.units.addr u a else None) lists_it ∙ found.said)) (0, omega arith, refl))))
+            (sym (ap (λ (b : Bool). if b then list_of locations_kind s.locations s.units.addr u a else None) lists_it ∙ found.said))
+            (0, omega arith, refl))))
 
         -- by the place of its list
-        same_by : (q : NamedList) → Contains named q → (at : ℕ) → StandsAt tables at (bytes_in bs q.list) → list_offset locations_kind t.locations v (new a) ≡ Some at →
+        same_by : (q : NamedList) → Contains named q → (at : ℕ) → StandsAt tables at (bytes_in bs q.list) →
+            list_offset locations_kind t.locations v (new a) ≡ Some at →
             ((o : ℕ) → number_says lists q.list o ≡ in_force found.list o) → Same u v d e k
         same_by q qc at placed offset says = record {
           said = λ p o owned.
@@ -317,7 +340,8 @@ module _ (s t : ListSections) (spans : List Span) (m : Moves) (tables : List (Li
               ∙ ap (λ (x : Option (List Located)). option_map_or (λ ls. in_force ls p) x []) (listed q qc at placed v)
               ∙ forced q qc at placed p o owned ∙ says o
               ∙ sym (ap (λ (x : Option Attr). option_map_or (λ (x : Attr). expressions_of s u x o) x []) is
-              ∙ ap (λ (b : Bool). if b then block_of s.units.info a ∷ [] else option_map_or (λ ls. in_force ls o) (list_of locations_kind s.locations s.units.addr u a) []) block
+              ∙ ap (λ (b : Bool). if b then block_of s.units.info a ∷ [] else option_map_or (λ ls. in_force ls o)
+              (list_of locations_kind s.locations s.units.addr u a) []) block
               ∙ ap (λ (x : Option (List Located)). option_map_or (λ ls. in_force ls o) x []) found.said);
           there = λ x there h. subst (IsThere locations_kind t.locations t.units.addr v) (only x there)
               (record { at = at; offset = offset; read = ap is_some (listed q qc at placed v) });
@@ -349,16 +373,19 @@ module _ (s t : ListSections) (spans : List Span) (m : Moves) (tables : List (Li
             let kept : new_value m own (is_first_of u d) d a ≡ None =
             kept_value m own (is_first_of u d) d a (ap (λ (f : ℕ). f == 0x01) form) (ap (λ (f : ℕ). f == 0x17) form) in
             same_by w.2 w.8 (w.0 + w.1) w.9
-            (index_offset locations_kind t.locations v (new a) a.value w.0 w.1 here (ap (λ (o : Option ℕ). unwrap_or o a.value) kept) based number
+            (index_offset locations_kind t.locations v (new a) a.value w.0 w.1 here (ap (λ (o : Option ℕ). unwrap_or o a.value) kept) based
+            number
             (inside w.2 w.8 (w.0 + w.1) w.9))
             (like n.0 n.2 w.2 w.8 w.6 w.7)
           where
-            like : (n : NamedList) → IsNameOf lists n item → (q : NamedList) → Contains named q → q.own ≡ n.own → q.index ≡ Some a.value → (o : ℕ) →
+            like : (n : NamedList) → IsNameOf lists n item → (q : NamedList) → Contains named q → q.own ≡ n.own → q.index ≡ Some a.value →
+                (o : ℕ) →
                 number_says lists q.list o ≡ in_force found.list o
             like n is_n q qc own_is index_is o =
                 let x = zip_left (IsNameOf lists) named (all_items s) q items qc in
                 let y = is_item s x.0 x.1 in
-                let unit : y.u ≡ u = own_unique 0 (units s.units) y.u u y.e d up y.unit y.entry uc dc (sym y.own ∙ sym x.2.own ∙ own_is ∙ is_n.own) in
+                let unit : y.u ≡ u = own_unique 0 (units s.units) y.u u y.e d up y.unit y.entry uc dc (sym y.own ∙ sym x.2.own ∙ own_is
+                ∙ is_n.own) in
                 let by_index = indexed y.a a.value (sym y.index ∙ sym x.2.index ∙ index_is) in
                 let list : list_of locations_kind s.locations s.units.addr y.u y.a ≡ Some x.0.list =
                 some_list (has_list locations_kind y.a) (list_of locations_kind s.locations s.units.addr y.u y.a) x.0.list y.list in
@@ -374,7 +401,8 @@ module _ (s t : ListSections) (spans : List Span) (m : Moves) (tables : List (Li
                     (option_and_then (only_within s.locations) (offset_of_index locations_kind s.locations u a.value))
                 of_index u a f =
                     ap (λ (b : Bool). option_and_then (list_at locations_kind s.locations s.units.addr u)
-                    (option_and_then (only_within s.locations) (if b then offset_of_index locations_kind s.locations u a.value else Some a.value))) f
+                    (option_and_then (only_within s.locations) (if b then offset_of_index locations_kind s.locations u a.value else Some
+                    a.value))) f
 
       same_some : Same u v d e k
       same_some = by_block (is_block a.form) refl
@@ -384,7 +412,8 @@ module _ (s t : ListSections) (spans : List Span) (m : Moves) (tables : List (Li
           both true y f g = g
           both false y f g = absurd (cc)
 
-          by_form : is_block a.form ≡ false → (x y : Bool) → (a.form == 0x17) ≡ x → (a.form == 0x22) ≡ y → (x || y) ≡ true → has_list locations_kind a ≡ true → Same u v d e k
+          by_form : is_block a.form ≡ false → (x y : Bool) → (a.form == 0x17) ≡ x → (a.form == 0x22) ≡ y → (x || y) ≡ true →
+              has_list locations_kind a ≡ true → Same u v d e k
           by_form block true y f g h l = same_offset block l (eqb-true a.form 0x17 f)
           by_form block false true f g h l = same_index block l (eqb-true a.form 0x22 g)
           by_form block false false f g h l = absurd (cc)
@@ -393,7 +422,8 @@ module _ (s t : ListSections) (spans : List Span) (m : Moves) (tables : List (Li
           by_block true f h = same_block f
           by_block false f h =
               by_form f (a.form == 0x17) (a.form == 0x22) refl refl h
-              (both (a.name == 0x02 || a.name == 0x40) (a.form == 0x17 || a.form == 0x22) (ap (λ (n : ℕ). n == 0x02 || n == 0x40) named_so ∙ name) h)
+              (both (a.name == 0x02 || a.name == 0x40) (a.form == 0x17 || a.form == 0x22) (ap (λ (n : ℕ). n == 0x02 || n == 0x40) named_so
+              ∙ name) h)
 
     pub same : Same u v d e k
     same = by (attr k d) refl

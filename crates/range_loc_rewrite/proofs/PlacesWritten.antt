@@ -37,7 +37,8 @@ abbrev AllRuns : Type 0
 AllRuns = List (Vec (Run (Vec (Vec ℕ))))
 
 -- the runs of a number
-bytes_there : (rs : AllRuns) (n : ℕ) → n < length rs → option_map_or runs_bytes (slice_get rs n) [] ≡ list_bytes Locations (bounded (said_in rs n))
+bytes_there : (rs : AllRuns) (n : ℕ) → n < length rs → option_map_or runs_bytes (slice_get rs n) [] ≡ list_bytes Locations
+    (bounded (said_in rs n))
 bytes_there [] n h = absurd (omega arith)
 bytes_there (r ∷ rs) zero h = refl
 bytes_there (r ∷ rs) (suc n) h = bytes_there rs n (omega (arith, h))
@@ -55,7 +56,8 @@ module _ (s : ListSections) (kept : List KeptList) (named : List NamedList) (nam
     nothing = λ empty. none (ap length (no_names s empty kept named names));
   }
 
-  module _ (spans : List Span) (rs : AllRuns) (count : length rs ≡ length kept) (each : (n : ℕ) → AreRunsOf (carried (list_answer kept n) spans) (said_in rs n))
+  module _ (spans : List Span) (rs : AllRuns) (count : length rs ≡ length kept) (each : (n : ℕ) →
+      AreRunsOf (carried (list_answer kept n) spans) (said_in rs n))
       (bs : List (Vec ℕ)) (spelled : items_in bs ≡ map runs_bytes rs) (fits : All CanBeWritten rs) where
     below : (n : NamedList) → Contains named n → n.list < length rs
     below n c = subst (λ (k : ℕ). n.list < k) (sym count) (zip_left (IsNameOf kept) named (all_items s) n names c).2.within
@@ -73,19 +75,22 @@ pub law_of : (i f : Elf) (spans : List Span) → IsFree (HasDwarfFault (location
     (rs : AllRuns) → length rs ≡ length kept → ((n : ℕ) → AreRunsOf (carried (list_answer kept n) spans) (said_in rs n)) →
     (bs : List (Vec ℕ)) → items_in bs ≡ map runs_bytes rs → All CanBeWritten rs → (w : Written) →
     AreWritten Locations bs named named [] w.bytes.items w.lists.items → StandsPlaces i spans w f →
-    IsCarriedFrom (λ x y. x ≡ y) spans (place_says (list_sections i)) (place_answers f) × IsFree (HasDwarfFault (location_places (list_sections f)))
+    IsCarriedFrom (λ x y. x ≡ y) spans (place_says (list_sections i)) (place_answers f)
+    × IsFree (HasDwarfFault (location_places (list_sections f)))
 law_of i f spans free kept named names rs count each bs spelled fits w written stands =
     let s : ListSections = list_sections i in
     let t : ListSections = list_sections f in
     let c = stands.changed in
     let sp = are_spelled s kept named names spans rs count each bs spelled fits in
     let free_new : IsFree (HasDwarfFault (location_places t)) =
-    new_free s t spans c.moves kept bs named w.bytes.items w.lists.items free names written stands.table stands.ranges stands.covered c.units_are c.named
+    new_free s t spans c.moves kept bs named w.bytes.items w.lists.items free names written stands.table stands.ranges stands.covered
+    c.units_are c.named
     (said_in rs) sp in (
       subst (λ (x : Option (ℕ → Option (List PlaceSaid))). IsCarriedFrom (λ x y. x ≡ y) spans (place_says s) x)
           (sym (answers_free (location_places t) (place_says t) free_new))
           (is_carried (places_said s) (places_said t) spans (carried (place_says s) spans) (λ p. refl)
-          (new_places s t spans c.moves kept bs named w.bytes.items w.lists.items free names written stands.table stands.ranges stands.covered c.units_are c.named
+          (new_places s t spans c.moves kept bs named w.bytes.items w.lists.items free names written stands.table stands.ranges
+          stands.covered c.units_are c.named
           (said_in rs) sp)),
       free_new,
     )

@@ -1,5 +1,6 @@
 -- The weight of ranges, by the runs of the groups of entries.
-use Rattle.std.proofs.Common.{◌≡◌, ◌∙◌, ◌+◌, ◌*◌, ◌-◌, ◌<◌, ◌++◌, ◌∷◌, [], ℕ, Bool, true, false, List, Option, Some, None, refl, sym, ap, subst, arith, length, map, ⊎_elim}
+use Rattle.std.proofs.Common.{◌≡◌, ◌∙◌, ◌+◌, ◌*◌, ◌-◌, ◌<◌, ◌++◌, ◌∷◌, [], ℕ, Bool, true, false, List, Option, Some, None, refl, sym, ap}
+use Rattle.std.proofs.Common.{subst, arith, length, map, ⊎_elim}
 use Rattle.std.specs.Prelude.{if◌then◌else◌, flat_map, option_and_then, sum_by, Contains, min}
 use Rattle.std.specs.Global.{Vec}
 use Rattle.std.specs.List.{list_any}
@@ -42,11 +43,13 @@ abbrev own_held : ℕ → Ranged → List Bool
 own_held a r = held_of r.own a
 
 module _ (s : ListSections) (a : ℕ) where
-  one_held : (place own : ℕ) (index : Option ℕ) (ranges : Option (List Range)) → map (λ (x : SeenEntry). x.held) (seen_of place own index ranges a) ≡ held_of ranges a
+  one_held : (place own : ℕ) (index : Option ℕ) (ranges : Option (List Range)) →
+      map (λ (x : SeenEntry). x.held) (seen_of place own index ranges a) ≡ held_of ranges a
   one_held place own index None = refl
   one_held place own index (Some ranges) = refl
 
-  unit_held : (u : Unit) (before es : List Entry) → map (λ (x : SeenEntry). x.held) (seen_in s u es a) ≡ flat_map (own_held a) (ranged_from (ranges_of s u) before es)
+  unit_held : (u : Unit) (before es : List Entry) → map (λ (x : SeenEntry). x.held) (seen_in s u es a) ≡ flat_map (own_held a)
+      (ranged_from (ranges_of s u) before es)
   unit_held u before [] = refl
   unit_held u before (e ∷ es) =
       map-append (λ (x : SeenEntry). x.held) (seen_of e.place (own_place u) (ranges_index e.attrs) (ranges_of s u e) a) (seen_in s u es a)
@@ -54,19 +57,22 @@ module _ (s : ListSections) (a : ℕ) where
 
   flat_append : (xs ys : List Ranged) → flat_map (own_held a) (xs ++ ys) ≡ flat_map (own_held a) xs ++ flat_map (own_held a) ys
   flat_append [] ys = refl
-  flat_append (x ∷ xs) ys = ap (λ (l : List Bool). own_held a x ++ l) (flat_append xs ys) ∙ sym (assoc (own_held a x) (flat_map (own_held a) xs) (flat_map (own_held a) ys))
+  flat_append (x ∷ xs) ys = ap (λ (l : List Bool). own_held a x ++ l) (flat_append xs ys)
+      ∙ sym (assoc (own_held a x) (flat_map (own_held a) xs) (flat_map (own_held a) ys))
     where
       assoc : (x y z : List Bool) → ((x ++ y) ++ z) ≡ x ++ (y ++ z)
       assoc [] y z = refl
       assoc (q ∷ x) y z = ap (λ (l : List Bool). q ∷ l) (assoc x y z)
 
-  all_held : (us : List Unit) → map (λ (x : SeenEntry). x.held) (flat_map (λ (u : Unit). seen_in s u u.entries a) us) ≡ flat_map (own_held a) (flat_map (ranged_in s) us)
+  all_held : (us : List Unit) → map (λ (x : SeenEntry). x.held) (flat_map (λ (u : Unit). seen_in s u u.entries a) us) ≡ flat_map
+      (own_held a) (flat_map (ranged_in s) us)
   all_held [] = refl
   all_held (u ∷ us) =
       map-append (λ (x : SeenEntry). x.held) (seen_in s u u.entries a) (flat_map (λ (u : Unit). seen_in s u u.entries a) us)
       ∙ (λ i. unit_held u [] u.entries i ++ all_held us i) ∙ sym (flat_append (ranged_in s u) (flat_map (ranged_in s) us))
 
-kept_held : (covers : List Cover) (kept : List RangedEntry) (a : ℕ) → map (λ (x : SeenEntry). x.held) (seen_kept covers kept a) ≡ map (λ (r : RangedEntry). group_holds covers r.group a) kept
+kept_held : (covers : List Cover) (kept : List RangedEntry) (a : ℕ) →
+    map (λ (x : SeenEntry). x.held) (seen_kept covers kept a) ≡ map (λ (r : RangedEntry). group_holds covers r.group a) kept
 kept_held covers [] a = refl
 kept_held covers (r ∷ kept) a = ap (λ (l : List Bool). group_holds covers r.group a ∷ l) (kept_held covers kept a)
 
@@ -115,7 +121,8 @@ module _ (s : ListSections) (spans : List Span) (covers : List Cover) (lists : L
     carried_some r x same None = refl
     carried_some r x same (Some a) = ap if_held (same a)
 
-    some_weighs : (r : RangedEntry) (x : Ranged) → Contains kept r → ((a : ℕ) → group_holds covers r.group a ≡ hold x.own a) → Weighs x (weight_of r)
+    some_weighs : (r : RangedEntry) (x : Ranged) → Contains kept r → ((a : ℕ) → group_holds covers r.group a ≡ hold x.own a) →
+        Weighs x (weight_of r)
     some_weighs r x there same =
         let g = each r there in
         record {
@@ -130,27 +137,32 @@ module _ (s : ListSections) (spans : List Span) (covers : List Cover) (lists : L
         }
 
     sums : (xs : List Ranged) (ks : List RangedEntry) → ((r : RangedEntry) → Contains ks r → Contains kept r) →
-        ((a : ℕ) → map (λ (r : RangedEntry). group_holds covers r.group a) ks ≡ flat_map (own_held a) xs) → IsSumOf Weighs xs (sum_by weight_of ks)
+        ((a : ℕ) → map (λ (r : RangedEntry). group_holds covers r.group a) ks ≡ flat_map (own_held a) xs) →
+        IsSumOf Weighs xs (sum_by weight_of ks)
     sums [] [] all same = IsSumOf.none
     sums [] (k ∷ ks) all same = absurd (not_nil _ _ (sym (same 0)))
     sums (x ∷ xs) ks all same = by_own x.own refl (λ ks all same. sums xs ks all same)
       where
         by_own : (own : Option (List Range)) → x.own ≡ own →
             ((ks : List RangedEntry) → ((r : RangedEntry) → Contains ks r → Contains kept r) →
-            ((a : ℕ) → map (λ (r : RangedEntry). group_holds covers r.group a) ks ≡ flat_map (own_held a) xs) → IsSumOf Weighs xs (sum_by weight_of ks)) →
+            ((a : ℕ) → map (λ (r : RangedEntry). group_holds covers r.group a) ks ≡ flat_map (own_held a) xs) →
+            IsSumOf Weighs xs (sum_by weight_of ks)) →
             IsSumOf Weighs (x ∷ xs) (sum_by weight_of ks)
         by_own None e ih =
             subst (IsSumOf Weighs (x ∷ xs)) (zero_plus (sum_by weight_of ks)) (IsSumOf.more x xs 0 (sum_by weight_of ks) (none_weighs x e)
             (ih ks all (λ a. same a ∙ ap (λ (o : Option (List Range)). held_of o a ++ flat_map (own_held a) xs) e)))
-        by_own (Some ranges) e ih = by_kept ks all (λ a. same a ∙ ap (λ (o : Option (List Range)). held_of o a ++ flat_map (own_held a) xs) e)
+        by_own (Some ranges) e ih = by_kept ks all (λ a. same a ∙ ap (λ (o : Option (List Range)). held_of o a ++ flat_map (own_held a) xs)
+            e)
           where
             by_kept : (ks : List RangedEntry) → ((r : RangedEntry) → Contains ks r → Contains kept r) →
-                ((a : ℕ) → map (λ (r : RangedEntry). group_holds covers r.group a) ks ≡ list_any (holds_address a) ranges ∷ flat_map (own_held a) xs) →
+                ((a : ℕ) → map (λ (r : RangedEntry). group_holds covers r.group a) ks ≡ list_any (holds_address a) ranges
+                ∷ flat_map (own_held a) xs) →
                 IsSumOf Weighs (x ∷ xs) (sum_by weight_of ks)
             by_kept [] all same = absurd (not_nil _ _ (same 0))
             by_kept (k ∷ ks) all same =
                 subst (IsSumOf Weighs (x ∷ xs)) (sym (sum_by-cons weight_of k ks)) (IsSumOf.more x xs (weight_of k) (sum_by weight_of ks)
-                (some_weighs k x (all k (0, omega arith, refl)) (λ a. same_head _ _ _ _ (same a) ∙ sym (ap (λ (o : Option (List Range)). hold o a) e)))
+                (some_weighs k x (all k (0, omega arith, refl)) (λ a. same_head _ _ _ _ (same a)
+                ∙ sym (ap (λ (o : Option (List Range)). hold o a) e)))
                 (ih ks (λ r c. all r (Contains-there k ks r c)) (λ a. same_rest _ _ _ _ (same a))))
 
     pub ranged_weight : ((a : ℕ) → seen_kept covers kept a ≡ all_seen s a) → IsSumOf Weighs (ranged s) (sum_by weight_of kept)
@@ -182,12 +194,14 @@ module _ (s : ListSections) (spans : List Span) (kept : List RangedEntry) (count
   kept_says r there p =
       (each r.group (within_there count kept r are.within there)).answered p ∙ group_says index.tree r.group (owner spans p)
 
-  pub kept_weight : IsRangesWeight s spans (index_weights ranges_kind.index_form s + sum_by (λ r. run_weight * length (runs_in lists r.group)) kept)
+  pub kept_weight : IsRangesWeight s spans (index_weights ranges_kind.index_form s + sum_by
+      (λ r. run_weight * length (runs_in lists r.group)) kept)
   kept_weight = record {
     runs = sum_by (λ r. run_weight * length (runs_in lists r.group)) kept;
     of_runs = ranged_weight s spans index.tree lists kept (λ r there. each r.group (within_there count kept r are.within there)) are.seen;
     sum = refl;
   }
 
-pub weights_joined : (result sum index weight limit : ℕ) → result ≡ min (min sum limit + index) limit → index ≡ min weight limit → result ≡ min (weight + sum) limit
+pub weights_joined : (result sum index weight limit : ℕ) → result ≡ min (min sum limit + index) limit → index ≡ min weight limit →
+    result ≡ min (weight + sum) limit
 weights_joined result sum index weight limit e f = omega (arith, e, f)

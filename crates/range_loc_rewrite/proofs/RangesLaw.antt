@@ -1,5 +1,6 @@
 -- In each file in which written tables stand, entries cover the new code as they covered the old, and no list is bad.
-use Rattle.std.proofs.Common.{◌≡◌, ◌∙◌, ◌+◌, ◌==◌, ◌&&◌, ◌++◌, ◌∷◌, [], ℕ, Bool, true, false, List, Option, Some, None, refl, sym, ap, subst, arith, map, filter, All}
+use Rattle.std.proofs.Common.{◌≡◌, ◌∙◌, ◌+◌, ◌==◌, ◌&&◌, ◌++◌, ◌∷◌, [], ℕ, Bool, true, false, List, Option, Some, None, refl, sym, ap}
+use Rattle.std.proofs.Common.{subst, arith, map, filter, All}
 use Rattle.std.specs.Prelude.{flat_map, Contains, option_map, option_and_then, if◌then◌else◌, IsSome, not, filter_map}
 use Rattle.std.specs.Global.{Vec}
 use Rattle.std.specs.List.{find, AllZip}
@@ -62,7 +63,8 @@ record Alike (own new : Entry → Option (List Range)) (o p : ℕ) (d e : Entry)
   pub held : hold (new e) p ≡ hold (own d) o
 
 module _ (own new : Entry → Option (List Range)) (o p : ℕ) where
-  alike_from : (before after ds es : List Entry) → AllZip (Alike own new o p) ds es → covered (ranged_from new after es) p ≡ covered (ranged_from own before ds) o
+  alike_from : (before after ds es : List Entry) → AllZip (Alike own new o p) ds es →
+      covered (ranged_from new after es) p ≡ covered (ranged_from own before ds) o
   alike_from before after [] [] z = refl
   alike_from before after [] (e ∷ es) z = absurd z
   alike_from before after (d ∷ ds) [] z = absurd z
@@ -77,8 +79,10 @@ module _ (own new : Entry → Option (List Range)) (o p : ℕ) where
       news : List Ranged
       news = filter (λ (r : Ranged). hold r.own p) (ranged_from new (e ∷ after) es)
 
-      step : (x y : Ranged) → x.entry.place ≡ y.entry.place → (b c : Bool) → b ≡ c → map (λ (r : Ranged). r.entry.place) news ≡ map (λ (r : Ranged). r.entry.place) olds →
-          map (λ (r : Ranged). r.entry.place) (if b then x ∷ news else news) ≡ map (λ (r : Ranged). r.entry.place) (if c then y ∷ olds else olds)
+      step : (x y : Ranged) → x.entry.place ≡ y.entry.place → (b c : Bool) → b ≡ c →
+          map (λ (r : Ranged). r.entry.place) news ≡ map (λ (r : Ranged). r.entry.place) olds →
+          map (λ (r : Ranged). r.entry.place) (if b then x ∷ news else news) ≡ map (λ (r : Ranged). r.entry.place)
+          (if c then y ∷ olds else olds)
       step x y same true true f more = (λ i. same i ∷ more i)
       step x y same false false f more = more
       step x y same true false f more = absurd (cc)
@@ -86,7 +90,8 @@ module _ (own new : Entry → Option (List Range)) (o p : ℕ) where
 
 -- The law
 
-find_member : (e attr : ℕ) (xs : List ListAt) (o : ℕ) → new_list_offset xs e attr ≡ Some o → (l : ListAt) × Contains xs l × (l.entry ≡ e) × (l.attr ≡ attr) × (l.offset ≡ o)
+find_member : (e attr : ℕ) (xs : List ListAt) (o : ℕ) → new_list_offset xs e attr ≡ Some o → (l : ListAt) × Contains xs l × (l.entry ≡ e)
+    × (l.attr ≡ attr) × (l.offset ≡ o)
 find_member e attr [] o f = absurd (cc)
 find_member e attr (x ∷ xs) o f = step (x.entry == e) (x.attr == attr) refl refl f (λ f. find_member e attr xs o f)
   where
@@ -111,12 +116,14 @@ given_by names lists named e attr o f =
     let q = find_member e attr names o f in
     (λ i. new_list_offset lists (sym q.2 i) (sym q.3 i)) ∙ named q.0 q.1 ∙ ap (λ (n : ℕ). Some n) q.4
 
-module _ (s t : ListSections) (spans : List Span) (covers : List Cover) (kept : List RangedEntry) (lists : List (Vec (Run Bool))) (bytes : List ℕ) (names : List ListAt) (m : Moves)
+module _ (s t : ListSections) (spans : List Span) (covers : List Cover) (kept : List RangedEntry) (lists : List (Vec (Run Bool)))
+    (bytes : List ℕ) (names : List ListAt) (m : Moves)
     (free : IsFree (HasDwarfFault (range_places s))) (seen : (a : ℕ) → seen_kept covers kept a ≡ all_seen s a)
     (w : AreNamed lists kept bytes names) (table : t.ranges ≡ bytes) (free_units : IsFree (HasDwarfFault (unit_fault_places t.units)))
     (changed : AreChangedUnits s.units m t.units)
     (named : (l : ListAt) → Contains names l → new_list_offset m.lists l.entry l.attr ≡ Some l.offset)
-    (says : (r : RangedEntry) → Contains kept r → (p : ℕ) → run_at (runs_in lists r.group) p ≡ if_held (holds_some covers r.group (owner spans p)))
+    (says : (r : RangedEntry) → Contains kept r → (p : ℕ) → run_at (runs_in lists r.group) p ≡ if_held
+    (holds_some covers r.group (owner spans p)))
     (writable : (r : RangedEntry) → Contains kept r → All (IsWritable kind.Ranges) (map bounded (runs_in lists r.group))) where
   ranges_are : t.ranges ≡ units_bytes w.tables
   ranges_are = table ∙ w.bytes_are
@@ -127,11 +134,14 @@ module _ (s t : ListSections) (spans : List Span) (covers : List Cover) (kept : 
   entries_stay : (u v : Unit) → Contains (units s.units) u → Contains (units t.units) v → IsChangedUnit s.units t.units.info m u v →
       AllZip (λ d e. (e.place ≡ d.place) × Stays s t spans u v d e) u.entries v.entries
   entries_stay u v uc vc c =
-      zip_with (λ d e. IsChangedEntry s.units t.units.info m (is_first_of u d) d e) (λ d e. (e.place ≡ d.place) × Stays s t spans u v d e) u.entries v.entries c.entries
+      zip_with (λ d e. IsChangedEntry s.units t.units.info m (is_first_of u d) d e) (λ d e. (e.place ≡ d.place) × Stays s t spans u v d e)
+      u.entries v.entries c.entries
       (λ d e dc ec x. (
         x.place,
-        stays s t w.tables w.units ranges_are spans covers kept lists names m (given_by names m.lists named) w.each says writable (units s.units)
-            (all_paired s covers (units s.units) kept seen) (all_sound s.units free_old) (places_ascend s.units free_old) (lists_fine s free) u v uc c.entries d e dc x
+        stays s t w.tables w.units ranges_are spans covers kept lists names m (given_by names m.lists named) w.each says writable
+            (units s.units)
+            (all_paired s covers (units s.units) kept seen) (all_sound s.units free_old) (places_ascend s.units free_old)
+            (lists_fine s free) u v uc c.entries d e dc x
             (sound_at t.units.addr (units t.units) v e (all_sound t.units free_units) vc ec),
       ))
 
@@ -139,19 +149,22 @@ module _ (s t : ListSections) (spans : List Span) (covers : List Cover) (kept : 
     pub covered_alike : (p o : ℕ) → owner spans p ≡ Some o → covered (ranged_in t v) p ≡ covered (ranged_in s u) o
     pub fine : (e : Entry) → Contains v.entries e → AreFine t v e.attrs
 
-  unit_stays : (u v : Unit) → Contains (units s.units) u → Contains (units t.units) v → IsChangedUnit s.units t.units.info m u v → UnitStays u v
+  unit_stays : (u v : Unit) → Contains (units s.units) u → Contains (units t.units) v → IsChangedUnit s.units t.units.info m u v →
+      UnitStays u v
   unit_stays u v uc vc c =
       let z = entries_stay u v uc vc c in
       record {
         covered_alike = λ p o owned.
             alike_from (ranges_of s u) (ranges_of t v) o p [] [] u.entries v.entries
-            (zip_with (λ d e. (e.place ≡ d.place) × Stays s t spans u v d e) (Alike (ranges_of s u) (ranges_of t v) o p) u.entries v.entries z
+            (zip_with (λ d e. (e.place ≡ d.place) × Stays s t spans u v d e) (Alike (ranges_of s u) (ranges_of t v) o p) u.entries v.entries
+            z
             (λ d e dc ec x. record { place = x.0; held = x.1.held p o owned }));
         fine = λ e ec. (zip_right (λ d e. (e.place ≡ d.place) × Stays s t spans u v d e) u.entries v.entries e z ec).2.1.fine;
       }
 
   all_stay : AllZip UnitStays (units s.units) (units t.units)
-  all_stay = zip_with (IsChangedUnit s.units t.units.info m) UnitStays (units s.units) (units t.units) changed (λ u v uc vc c. unit_stays u v uc vc c)
+  all_stay = zip_with (IsChangedUnit s.units t.units.info m) UnitStays (units s.units) (units t.units) changed
+      (λ u v uc vc c. unit_stays u v uc vc c)
 
   units_covered : (p o : ℕ) → owner spans p ≡ Some o → (us vs : List Unit) → AllZip UnitStays us vs →
       covered (flat_map (ranged_in t) vs) p ≡ covered (flat_map (ranged_in s) us) o
@@ -168,11 +181,13 @@ module _ (s t : ListSections) (spans : List Span) (covers : List Cover) (kept : 
 
   pub new_free : IsFree (HasDwarfFault (range_places t))
   new_free =
-      fine_free t free_units (ap (other_version 5) ranges_are ∙ no_other w.tables w.units) (ap of_tables_in ranges_are ∙ no_bad w.tables w.units w.sound)
+      fine_free t free_units (ap (other_version 5) ranges_are ∙ no_other w.tables w.units) (ap of_tables_in ranges_are
+      ∙ no_bad w.tables w.units w.sound)
       (λ v vc e ec. (zip_right UnitStays (units s.units) (units t.units) v all_stay vc).2.fine e ec)
     where
       of_tables_in : List ℕ → List ℕ
-      of_tables_in section = map (λ (w : Walked). w.place) (filter (λ (w : Walked). not (option_map_or is_list_table w.bytes false)) (walked 5 section))
+      of_tables_in section = map (λ (w : Walked). w.place) (filter (λ (w : Walked). not (option_map_or is_list_table w.bytes false))
+          (walked 5 section))
 
 agree_same : {X : Type 0} (o : Option (List X)) → Agree (λ x y. x ≡ y) o o
 agree_same None = tt
@@ -187,5 +202,6 @@ is_carried old new spans wanted answers same p some = by_owner (owner spans p) r
     by_owner : (o : Option ℕ) → owner spans p ≡ o → IsSome o → Agree (λ x y. x ≡ y) (wanted p) (unless_empty (new p))
     by_owner None e f = absurd (cc)
     by_owner (Some o) e f =
-        let is : wanted p ≡ unless_empty (new p) = answers p ∙ ap (option_and_then (λ a. unless_empty (old a))) e ∙ ap unless_empty (sym (same p o e)) in
+        let is : wanted p ≡ unless_empty (new p) = answers p ∙ ap (option_and_then (λ a. unless_empty (old a))) e
+        ∙ ap unless_empty (sym (same p o e)) in
         subst (λ x. Agree (λ a b. a ≡ b) x (unless_empty (new p))) (sym is) (agree_same (unless_empty (new p)))

@@ -43,7 +43,8 @@ attr_is : (a : Attr) (form : ℕ) → a.name ≡ 0x55 → a.form ≡ form → a 
 attr_is a form n f = λ i. record { name = n i; form = f i; place = a.place; len = a.len; value = a.value }
 
 inside_is : (section : List ℕ) (at : ℕ) → at < length section → only_within section at ≡ Some at
-inside_is section at h = let t : nat_lt at (length section) ≡ true = grind (arith, nat_tests) in ap (λ (b : Bool). if b then Some at else None) t
+inside_is section at h = let t : nat_lt at (length section) ≡ true = grind (arith, nat_tests) in
+    ap (λ (b : Bool). if b then Some at else None) t
 
 -- the attribute that is found has the name
 pub found_name : (k : ℕ) (xs : List Attr) (a : Attr) → find (named k) xs ≡ Some a → a.name ≡ k
@@ -53,7 +54,8 @@ found_name k (x ∷ xs) a e = step (x.name == k) refl e (λ e. found_name k xs a
     same : Some x ≡ Some a → x ≡ a
     same e = cc
 
-    step : (b : Bool) → (x.name == k) ≡ b → (if b then Some x else find (named k) xs) ≡ Some a → (find (named k) xs ≡ Some a → a.name ≡ k) → a.name ≡ k
+    step : (b : Bool) → (x.name == k) ≡ b → (if b then Some x else find (named k) xs) ≡ Some a → (find (named k) xs ≡ Some a → a.name ≡ k) →
+        a.name ≡ k
     step true f e ih = sym (ap (λ (y : Attr). y.name) (same e)) ∙ eqb-true x.name k f
     step false f e ih = ih e
 
@@ -64,14 +66,17 @@ found_there k (x ∷ xs) a e = step (x.name == k) e (λ e. found_there k xs a e)
     same : Some x ≡ Some a → x ≡ a
     same e = cc
 
-    step : (b : Bool) → (if b then Some x else find (named k) xs) ≡ Some a → (find (named k) xs ≡ Some a → Contains xs a) → Contains (x ∷ xs) a
+    step : (b : Bool) → (if b then Some x else find (named k) xs) ≡ Some a → (find (named k) xs ≡ Some a → Contains xs a) →
+        Contains (x ∷ xs) a
     step true e ih = (0, omega arith, same e)
     step false e ih = Contains-there x xs a (ih e)
 
 -- The ranges of an entry of a written file, by its list.
-module _ (t : ListSections) (v : Unit) (e : Entry) (tables : List (List ℕ)) (units : All (IsUnit 5) tables) (ranges_are : t.ranges ≡ units_bytes tables)
+module _ (t : ListSections) (v : Unit) (e : Entry) (tables : List (List ℕ)) (units : All (IsUnit 5) tables)
+    (ranges_are : t.ranges ≡ units_bytes tables)
     (none : attr 0x12 e ≡ None) (sound : IsSoundEntry t.units.addr v e) (a : Attr) (is : attr 0x55 e ≡ Some a) (at : ℕ)
-    (offset : list_offset ranges_kind t.ranges v a ≡ Some at) (lists : List (Vec (Run Bool))) (g : ℕ) (stands : StandsAt tables at (group_list lists g))
+    (offset : list_offset ranges_kind t.ranges v a ≡ Some at) (lists : List (Vec (Run Bool))) (g : ℕ)
+    (stands : StandsAt tables at (group_list lists g))
     (writable : All (IsWritable kind.Ranges) (map bounded (runs_in lists g))) where
   abbrev said : List Located
   said = map located_at (map bounded (runs_in lists g))
@@ -114,9 +119,11 @@ pub record SoundTests (addr : List ℕ) (u : Unit) (a : Attr) : Type 0 where
 
 sound_tests : (addr : List ℕ) (u : Unit) (a : Attr) → is_sound_attr addr u a ≡ true → SoundTests addr u a
 sound_tests addr u a e =
-    let p = seven (implies (is_text_index a.form) (is_some (base 0x72 u))) (implies (is_address_index a.form) (is_some (address_of addr u a)))
+    let p = seven (implies (is_text_index a.form) (is_some (base 0x72 u)))
+    (implies (is_address_index a.form) (is_some (address_of addr u a)))
     (implies (a.form == 0x22) (is_some (base 0x8c u))) (implies (a.form == 0x23) (is_some (base 0x74 u)))
-    (implies (is_located a.name) (is_block a.form || a.form == 0x17 || a.form == 0x22)) (implies (a.name == 0x55) (a.form == 0x17 || a.form == 0x23))
+    (implies (is_located a.name) (is_block a.form || a.form == 0x17 || a.form == 0x22))
+    (implies (a.name == 0x55) (a.form == 0x17 || a.form == 0x23))
     (implies (a.name == 0x74 || a.name == 0x8c) (a.form == 0x17)) e in
     record {
       location = λ f. implied (a.form == 0x22) (is_some (base 0x8c u)) p.0 f;
@@ -130,7 +137,8 @@ sound_tests addr u a e =
     implied true d f g = f
     implied false d f g = absurd (cc)
 
-    seven : (b1 b2 b3 b4 b5 b6 b7 : Bool) → (b1 && b2 && b3 && b4 && b5 && b6 && b7) ≡ true → (b3 ≡ true) × (b4 ≡ true) × (b5 ≡ true) × (b6 ≡ true) × (b7 ≡ true)
+    seven : (b1 b2 b3 b4 b5 b6 b7 : Bool) → (b1 && b2 && b3 && b4 && b5 && b6 && b7) ≡ true → (b3 ≡ true) × (b4 ≡ true) × (b5 ≡ true)
+        × (b6 ≡ true) × (b7 ≡ true)
     seven true true true true true true true f = (refl, refl, refl, refl, refl)
     seven true true true true true true false f = absurd (cc)
     seven true true true true true false b7 f = absurd (cc)
@@ -144,7 +152,8 @@ all_there : (test : Attr → Bool) (attrs : List Attr) (a : Attr) → list_all t
 all_there test [] a e c = absurd (Contains-nil a c)
 all_there test (b ∷ attrs) a e c =
     let p = both (test b) (list_all test attrs) e in
-    ⊎_elim (λ (same : b ≡ a). subst (λ (x : Attr). test x ≡ true) same p.0) (λ (there : Contains attrs a). all_there test attrs a p.1 there) (Contains-cons_cases b attrs a c)
+    ⊎_elim (λ (same : b ≡ a). subst (λ (x : Attr). test x ≡ true) same p.0) (λ (there : Contains attrs a). all_there test attrs a p.1 there)
+    (Contains-cons_cases b attrs a c)
   where
     both : (x y : Bool) → (x && y) ≡ true → (x ≡ true) × (y ≡ true)
     both true y f = (refl, f)
@@ -155,33 +164,40 @@ tests_of addr u e k a sound is = sound_tests addr u a (all_there (is_sound_attr 
 
 -- New values
 
-pub new_offset : (m : Moves) (own first : Bool) (d : Entry) (a : Attr) (at : ℕ) → a.name ≡ 0x55 → a.form ≡ 0x17 → new_list_offset m.lists d.place 0x55 ≡ Some at →
+pub new_offset : (m : Moves) (own first : Bool) (d : Entry) (a : Attr) (at : ℕ) → a.name ≡ 0x55 → a.form ≡ 0x17 →
+    new_list_offset m.lists d.place 0x55 ≡ Some at →
     (changed m own first d a).value ≡ at
 new_offset m own first d a at n f given =
     ap (λ (x : Attr). unwrap_or (new_value m own first d x) x.value) (attr_is a 0x17 n f) ∙ ap (λ (o : Option ℕ). unwrap_or o a.value) given
 
-pub kept_index : (m : Moves) (own first : Bool) (d : Entry) (a : Attr) → a.name ≡ 0x55 → a.form ≡ 0x23 → (changed m own first d a).value ≡ a.value
+pub kept_index : (m : Moves) (own first : Bool) (d : Entry) (a : Attr) → a.name ≡ 0x55 → a.form ≡ 0x23 →
+    (changed m own first d a).value ≡ a.value
 kept_index m own first d a n f = ap (λ (x : Attr). unwrap_or (new_value m own first d x) x.value) (attr_is a 0x23 n f)
 
-pub new_base : (m : Moves) (own : Bool) (d : Entry) (a : Attr) (at : ℕ) → a.name ≡ 0x74 → a.form ≡ 0x17 → new_list_offset m.lists d.place 0x74 ≡ Some at →
+pub new_base : (m : Moves) (own : Bool) (d : Entry) (a : Attr) (at : ℕ) → a.name ≡ 0x74 → a.form ≡ 0x17 →
+    new_list_offset m.lists d.place 0x74 ≡ Some at →
     (changed m own true d a).value ≡ at
 new_base m own d a at n f given =
-    ap (λ (x : Attr). unwrap_or (new_value m own true d x) x.value) (λ i. record { name = n i; form = f i; place = a.place; len = a.len; value = a.value })
+    ap (λ (x : Attr). unwrap_or (new_value m own true d x) x.value)
+    (λ i. record { name = n i; form = f i; place = a.place; len = a.len; value = a.value })
     ∙ ap (λ (o : Option ℕ). unwrap_or o a.value) given
 
 -- The offset of a list, by its attribute
 
-pub plain_offset : (k : Kind) (section : List ℕ) (v : Unit) (a : Attr) (at : ℕ) → (a.form == k.index_form) ≡ false → a.value ≡ at → at < length section →
+pub plain_offset : (k : Kind) (section : List ℕ) (v : Unit) (a : Attr) (at : ℕ) → (a.form == k.index_form) ≡ false → a.value ≡ at →
+    at < length section →
     list_offset k section v a ≡ Some at
 plain_offset k section v a at f value h =
     ap (λ (b : Bool). option_and_then (only_within section) (if b then offset_of_index k section v a.value else Some a.value)) f
     ∙ ap (only_within section) value ∙ inside_is section at h
 
-pub index_offset : (k : Kind) (section : List ℕ) (v : Unit) (a : Attr) (i b o : ℕ) → (a.form == k.index_form) ≡ true → a.value ≡ i → base k.base_name v ≡ Some b →
+pub index_offset : (k : Kind) (section : List ℕ) (v : Unit) (a : Attr) (i b o : ℕ) → (a.form == k.index_form) ≡ true → a.value ≡ i →
+    base k.base_name v ≡ Some b →
     number_in 4 (b + 4 * i) section ≡ Some o → b + o < length section → list_offset k section v a ≡ Some (b + o)
 index_offset k section v a i b o f value based there h =
     ap (λ (b : Bool). option_and_then (only_within section) (if b then offset_of_index k section v a.value else Some a.value)) f
     ∙ ap (λ (n : ℕ). option_and_then (only_within section) (offset_of_index k section v n)) value
-    ∙ ap (λ (x : Option ℕ). option_and_then (only_within section) (option_and_then (λ b. option_map (λ n. b + n) (number_in 4 (b + 4 * i) section)) x)) based
+    ∙ ap (λ (x : Option ℕ). option_and_then (only_within section)
+    (option_and_then (λ b. option_map (λ n. b + n) (number_in 4 (b + 4 * i) section)) x)) based
     ∙ ap (λ (x : Option ℕ). option_and_then (only_within section) (option_map (λ n. b + n) x)) there
     ∙ inside_is section (b + o) h

@@ -1,5 +1,6 @@
 -- Sections of ranges without a fault: all lists that entries name are there, and can be read.
-use Rattle.std.proofs.Common.{◌≡◌, ◌∙◌, ◌||◌, ◌++◌, ◌∷◌, [], ℕ, Bool, true, false, not, List, Option, Some, None, Result, Ok, refl, sym, ap, subst, arith, map, filter, ⊎_elim}
+use Rattle.std.proofs.Common.{◌≡◌, ◌∙◌, ◌||◌, ◌++◌, ◌∷◌, [], ℕ, Bool, true, false, not, List, Option, Some, None, Result, Ok, refl, sym, ap}
+use Rattle.std.proofs.Common.{subst, arith, map, filter, ⊎_elim}
 use Rattle.std.specs.Prelude.{if◌then◌else◌, flat_map, filter_map, is_some, option_map, Contains}
 use Rattle.std.specs.List.{find, list_any, AllZip, cons_option}
 use Rattle.std.specs.Option.{option_or}
@@ -47,10 +48,6 @@ or_parts false b e = (refl, e)
 not_false : (b : Bool) → not b ≡ false → b ≡ true
 not_false true e = refl
 not_false false e = absurd (cc)
-
-not_true : (b : Bool) → b ≡ true → not b ≡ false
-not_true true e = refl
-not_true false e = absurd (cc)
 
 -- From lists of attributes to their members, and back
 
@@ -130,7 +127,8 @@ flat_nil : (f : Unit → List ℕ) (us : List Unit) → flat_map f us ≡ [] →
 flat_nil f [] e u c = absurd (Contains-nil u c)
 flat_nil f (x ∷ us) e u c =
     let p = both_nil (f x) (flat_map f us) e in
-    ⊎_elim (λ (same : x ≡ u). subst (λ (y : Unit). f y ≡ []) same p.0) (λ (there : Contains us u). flat_nil f us p.1 u there) (Contains-cons_cases x us u c)
+    ⊎_elim (λ (same : x ≡ u). subst (λ (y : Unit). f y ≡ []) same p.0) (λ (there : Contains us u). flat_nil f us p.1 u there)
+    (Contains-cons_cases x us u c)
 
 nil_flat : (f : Unit → List ℕ) (us : List Unit) → ((u : Unit) → Contains us u → f u ≡ []) → flat_map f us ≡ []
 nil_flat f [] none = refl
@@ -139,14 +137,16 @@ nil_flat f (u ∷ us) none = (λ i. none u (0, omega arith, refl) i ++ flat_map 
 module _ (s : ListSections) (bad_by : Walked → Bool) where
   -- no unit has what is looked for besides
   pub none_found : (ws : List Walked) (us : List Unit) → AllZip (IsGoodUnit s.units.abbrevs (is_sound_unit s.units.addr)) ws us →
-      find (λ w. is_bad s.units w || bad_by w) ws ≡ None → (u : Unit) → Contains us u → (w : Walked) × (unit_of s.units.abbrevs w ≡ Ok u) × (bad_by w ≡ false)
+      find (λ w. is_bad s.units w || bad_by w) ws ≡ None → (u : Unit) → Contains us u → (w : Walked) × (unit_of s.units.abbrevs w ≡ Ok u)
+      × (bad_by w ≡ false)
   none_found [] [] z e u c = absurd (Contains-nil u c)
   none_found [] (v ∷ us) z e u c = absurd z
   none_found (w ∷ ws) [] z e u c = absurd z
   none_found (w ∷ ws) (v ∷ us) z e u c = step (is_bad s.units w) (bad_by w) refl e (λ e there. none_found ws us z.1 e u there)
     where
       step : (a b : Bool) → bad_by w ≡ b → (if a || b then Some w else find (λ w. is_bad s.units w || bad_by w) ws) ≡ None →
-          (find (λ w. is_bad s.units w || bad_by w) ws ≡ None → Contains us u → (w : Walked) × (unit_of s.units.abbrevs w ≡ Ok u) × (bad_by w ≡ false)) →
+          (find (λ w. is_bad s.units w || bad_by w) ws ≡ None → Contains us u → (w : Walked) × (unit_of s.units.abbrevs w ≡ Ok u)
+          × (bad_by w ≡ false)) →
           (w : Walked) × (unit_of s.units.abbrevs w ≡ Ok u) × (bad_by w ≡ false)
       step true b is e ih = absurd (cc)
       step false true is e ih = absurd (cc)
@@ -155,7 +155,8 @@ module _ (s : ListSections) (bad_by : Walked → Bool) where
           (λ (there : Contains us u). ih e there) (Contains-cons_cases v us u c)
 
   pub found_none : (ws : List Walked) (us : List Unit) → AllZip (IsGoodUnit s.units.abbrevs (is_sound_unit s.units.addr)) ws us →
-      ((w : Walked) (u : Unit) → Contains us u → unit_of s.units.abbrevs w ≡ Ok u → bad_by w ≡ false) → find (λ w. is_bad s.units w || bad_by w) ws ≡ None
+      ((w : Walked) (u : Unit) → Contains us u → unit_of s.units.abbrevs w ≡ Ok u → bad_by w ≡ false) →
+      find (λ w. is_bad s.units w || bad_by w) ws ≡ None
   found_none [] us z none = refl
   found_none (w ∷ ws) [] z none = absurd z
   found_none (w ∷ ws) (v ∷ us) z none =
@@ -166,11 +167,14 @@ module _ (s : ListSections) (bad_by : Walked → Bool) where
 
 -- the lists of a kind, of all units
 pub units_there : (k : Kind) (section addr : List ℕ) (us : List Unit) → ((u : Unit) → Contains us u → lacks_offset k section u ≡ false) →
-    flat_map (bad_list_tables k section addr) us ≡ [] → (u : Unit) → Contains us u → AreThere k section addr u (flat_map (λ (e : Entry). e.attrs) u.entries)
+    flat_map (bad_list_tables k section addr) us ≡ [] → (u : Unit) → Contains us u →
+    AreThere k section addr u (flat_map (λ (e : Entry). e.attrs) u.entries)
 units_there k section addr us none tables u c =
-    all_fine k section addr u (flat_map (λ (e : Entry). e.attrs) u.entries) (none u c) (map_nil section _ (flat_nil (bad_list_tables k section addr) us tables u c))
+    all_fine k section addr u (flat_map (λ (e : Entry). e.attrs) u.entries) (none u c)
+    (map_nil section _ (flat_nil (bad_list_tables k section addr) us tables u c))
 
-pub there_units : (k : Kind) (section addr : List ℕ) (us : List Unit) → ((u : Unit) → Contains us u → (e : Entry) → Contains u.entries e → AreThere k section addr u e.attrs) →
+pub there_units : (k : Kind) (section addr : List ℕ) (us : List Unit) →
+    ((u : Unit) → Contains us u → (e : Entry) → Contains u.entries e → AreThere k section addr u e.attrs) →
     ((u : Unit) → Contains us u → lacks_offset k section u ≡ false) × (flat_map (bad_list_tables k section addr) us ≡ [])
 there_units k section addr us fine = (
   λ u c. (none_lacking k section addr u (flat_map (λ (e : Entry). e.attrs) u.entries) (all u c)).0,
@@ -185,7 +189,8 @@ module _ (s : ListSections) where
   abbrev bad_ranges : Walked → Bool
   bad_ranges w = has_bad_offset ranges_kind s.ranges (unit_of s.units.abbrevs w)
 
-  pub lists_fine : IsFree (HasDwarfFault (range_places s)) → (u : Unit) → Contains (units s.units) u → AreFine s u (flat_map (λ (e : Entry). e.attrs) u.entries)
+  pub lists_fine : IsFree (HasDwarfFault (range_places s)) → (u : Unit) → Contains (units s.units) u →
+      AreFine s u (flat_map (λ (e : Entry). e.attrs) u.entries)
   lists_fine free =
       let none : AreAbsent (range_places s) = absent (range_places s) free in
       let bad = both_none (first_place (λ w. is_bad s.units w || bad_ranges w) (walked 5 s.units.info))
@@ -202,7 +207,8 @@ module _ (s : ListSections) where
 
   -- and the other way
   pub fine_free : IsFree (HasDwarfFault (unit_fault_places s.units)) → other_version 5 s.ranges ≡ None → of_tables s ≡ [] →
-      ((u : Unit) → Contains (units s.units) u → (e : Entry) → Contains u.entries e → AreFine s u e.attrs) → IsFree (HasDwarfFault (range_places s))
+      ((u : Unit) → Contains (units s.units) u → (e : Entry) → Contains u.entries e → AreFine s u e.attrs) →
+      IsFree (HasDwarfFault (range_places s))
   fine_free free version tables fine =
       let none : AreAbsent (unit_fault_places s.units) = absent (unit_fault_places s.units) free in
       let p = there_units ranges_kind s.ranges s.units.addr (units s.units) fine in

@@ -1,5 +1,6 @@
 -- A section of tables that were written has no fault of its own.
-use Rattle.std.proofs.Common.{ℕ, ◌+◌, ◌≡◌, List, [], ◌∷◌, Some, None, option_map, Bool, true, false, not, refl, ◌∙◌, ap, arith, length, filter, map, All}
+use Rattle.std.proofs.Common.{ℕ, ◌+◌, ◌≡◌, List, [], ◌∷◌, Some, None, option_map, Bool, true, false, not, refl, ◌∙◌, ap, arith, length}
+use Rattle.std.proofs.Common.{filter, map, All}
 use Rattle.std.specs.Prelude.{if◌then◌else◌}
 use Rattle.std.specs.List.{find}
 use Rattle.std.specs.Option.{option_map_or}
@@ -26,12 +27,15 @@ none_bad : (place : ℕ) (bs : List (List ℕ)) → All (λ b. is_list_table b �
 unfolding walked_units
 none_bad place [] sound = refl
 none_bad place (b ∷ bs) sound =
-    ap (λ (t : Bool). if not t then record { place = place; bytes = Some b; is_other = false } ∷ filter is_bad (walked_units (place + (length b + 4)) bs)
+    ap (λ (t : Bool). if not t then record { place = place; bytes = Some b; is_other = false }
+    ∷ filter is_bad (walked_units (place + (length b + 4)) bs)
     else filter is_bad (walked_units (place + (length b + 4)) bs))
     (All-head (λ b. is_list_table b ≡ true) b bs sound)
     ∙ none_bad (place + (length b + 4)) bs (All-tail (λ b. is_list_table b ≡ true) b bs sound)
 
-pub no_bad : (bs : List (List ℕ)) → All (IsUnit 5) bs → All (λ b. is_list_table b ≡ true) bs → map (λ (w : Walked). w.place) (filter is_bad (walked 5 (units_bytes bs))) ≡ []
+pub no_bad : (bs : List (List ℕ)) → All (IsUnit 5) bs → All (λ b. is_list_table b ≡ true) bs →
+    map (λ (w : Walked). w.place) (filter is_bad (walked 5 (units_bytes bs))) ≡ []
 no_bad bs units sound =
-    ap (λ (ws : List Walked). map (λ (w : Walked). w.place) (filter is_bad ws)) (units-back 5 0 (length (units_bytes bs)) bs units (omega arith))
+    ap (λ (ws : List Walked). map (λ (w : Walked). w.place) (filter is_bad ws))
+    (units-back 5 0 (length (units_bytes bs)) bs units (omega arith))
     ∙ ap (map (λ (w : Walked). w.place)) (none_bad 0 bs sound)

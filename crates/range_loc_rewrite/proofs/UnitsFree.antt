@@ -16,7 +16,8 @@ pub none_less : (p q : Walked → Bool) (ws : List Walked) → find (λ w. p w |
 none_less p q [] e = refl
 none_less p q (w ∷ ws) e = step (p w) (q w) e (none_less p q ws)
   where
-    step : (a b : Bool) → (if a || b then Some w else find (λ w. p w || q w) ws) ≡ None → (find (λ w. p w || q w) ws ≡ None → find p ws ≡ None) →
+    step : (a b : Bool) → (if a || b then Some w else find (λ w. p w || q w) ws) ≡ None →
+        (find (λ w. p w || q w) ws ≡ None → find p ws ≡ None) →
         (if a then Some w else find p ws) ≡ None
     step true b f ih = absurd (cc)
     step false true f ih = absurd (cc)
@@ -34,7 +35,8 @@ units_free s free =
     (none_less (is_bad s.units) (λ w. has_bad_offset ranges_kind s.ranges (unit_of s.units.abbrevs w)) units
     (no_first (λ w. is_bad s.units w || has_bad_offset ranges_kind s.ranges (unit_of s.units.abbrevs w)) units bad.0)) in
     free_of (unit_fault_places s.units) (record {
-      version = (both_none (option_or (other_version 5 s.units.info) (other_version 5 s.units.addr)) (other_version 5 s.ranges) none.version).0;
+      version = (both_none (option_or (other_version 5 s.units.info) (other_version 5 s.units.addr))
+          (other_version 5 s.ranges) none.version).0;
       form = none.form;
       high = none.high;
       bad = ap (λ (o : Option ℕ). option_or o (bad_address_table s.units.addr)) good ∙ later.0;

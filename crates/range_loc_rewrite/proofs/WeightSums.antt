@@ -1,6 +1,6 @@
 -- Sums of weights over lists.
 use Rattle.std.proofs.Common.{◌≡◌, ◌+◌, ◌==◌, ◌++◌, ◌∷◌, [], ℕ, Bool, true, false, List, refl, sym, subst, arith, map, filter}
-use Rattle.std.specs.Prelude.{if◌then◌else◌, flat_map, not}
+use Rattle.std.specs.Prelude.{if◌then◌else◌, not}
 use Rattle.std.specs.List.{list_any}
 use Rattle.table_core.specs.Weights.{distinct}
 use Rattle.cover_lists.specs.ListWeights.{IsSumOf}
@@ -28,14 +28,6 @@ of_two W (x ∷ xs) ys _ (more _ _ n m w s) =
       sum = omega (arith, two.sum);
     }
 
-pub sum_flat : {X Y : Type 0} (W : Y → ℕ → Type 0) (V : X → ℕ → Type 0) (f : X → List Y) → ((x : X) (m : ℕ) → IsSumOf W (f x) m → V x m) →
-    (xs : List X) (n : ℕ) → IsSumOf W (flat_map f xs) n → IsSumOf V xs n
-sum_flat W V f each [] _ none = none
-sum_flat W V f each (x ∷ xs) n s =
-    let two = of_two W (f x) (flat_map f xs) n s in
-    subst (IsSumOf V (x ∷ xs)) (sym two.sum)
-    (more x xs two.first two.second (each x two.first two.of_first) (sum_flat W V f each xs two.second two.of_second))
-
 pub sum_map : {X Y : Type 0} (W : Y → ℕ → Type 0) (V : X → ℕ → Type 0) (f : X → Y) → ((x : X) (m : ℕ) → W (f x) m → V x m) →
     (xs : List X) (n : ℕ) → IsSumOf W (map f xs) n → IsSumOf V xs n
 sum_map W V f each [] _ none = none
@@ -53,7 +45,8 @@ pub by_firsts : (W : ℕ → ℕ → Type 0) (ns : List ℕ) (sum : ℕ) → IsS
 by_firsts W [] sum s = s
 by_firsts W (n ∷ ns) sum s = step (list_any (λ m. m == n) ns) refl (by_firsts W ns)
   where
-    apart : ((m : ℕ) → IsSumOf W (firsts ns) m → IsSumOf W (distinct ns) m) → (l : List ℕ) (sum : ℕ) → IsSumOf W (n ∷ l) sum → l ≡ firsts ns →
+    apart : ((m : ℕ) → IsSumOf W (firsts ns) m → IsSumOf W (distinct ns) m) → (l : List ℕ) (sum : ℕ) → IsSumOf W (n ∷ l) sum →
+        l ≡ firsts ns →
         IsSumOf W (n ∷ distinct ns) sum
     apart ih l _ (more _ _ k m w s) e = more n (distinct ns) k m w (ih m (subst (λ (l : List ℕ). IsSumOf W l m) e s))
 

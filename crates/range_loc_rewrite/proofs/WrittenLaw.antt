@@ -35,20 +35,25 @@ use Rattle.range_loc_rewrite.proofs.RangesLaw.{new_covering, new_free, is_carrie
 use Rattle.range_loc_rewrite.proofs.RangeWeights.{holds_some, kept_says, within_there}
 use Rattle.range_loc_rewrite.proofs.UnitsFree.{units_free}
 
-module _ (s : ListSections) (kept : List RangedEntry) (count : ℕ) (index : CoverIndex) (bounds : List ℕ) (weight : ℕ) (are : AreKept s kept count index bounds weight) where
+module _ (s : ListSections) (kept : List RangedEntry) (count : ℕ) (index : CoverIndex) (bounds : List ℕ) (weight : ℕ)
+    (are : AreKept s kept count index bounds weight) where
   -- entries are kept in order
   pub kept_order : AreInOrder kind.Ranges 0 (map named_of kept)
-  kept_order = ranges_in_order 0 0 kept (kept_ascend s index.tree kept are.seen (places_ascend s.units (units_free s are.free))) (omega arith)
+  kept_order = ranges_in_order 0 0 kept (kept_ascend s index.tree kept are.seen (places_ascend s.units (units_free s are.free)))
+      (omega arith)
 
   pub kept_owns : OwnsRise 0 (map named_of kept)
-  kept_owns = owns_rise s index.tree (units s.units) kept 0 (all_paired s index.tree (units s.units) kept are.seen) (places_ascend s.units (units_free s are.free))
+  kept_owns = owns_rise s index.tree (units s.units) kept 0 (all_paired s index.tree (units s.units) kept are.seen)
+      (places_ascend s.units (units_free s are.free))
 
   -- what is made
-  pub made_of : (bs : List (Vec ℕ)) (w : Written) → AreWritten kind.Ranges bs (map named_of kept) (map named_of kept) [] w.bytes.items w.lists.items →
+  pub made_of : (bs : List (Vec ℕ)) (w : Written) → AreWritten kind.Ranges bs (map named_of kept) (map named_of kept) [] w.bytes.items
+      w.lists.items →
       (length (map named_of kept) ≡ 0 → w.bytes.items ≡ []) → RangesMade s w
   made_of bs w written none = record {
     lists = record { attrs = written.names_are.attrs; once = written.names_are.once; low = written.names_are.low };
-    nothing = λ empty high. none (ap (λ (rs : List RangedEntry). length (map named_of rs)) (none_kept s empty index.tree kept are.seen high));
+    nothing = λ empty high. none (ap (λ (rs : List RangedEntry). length (map named_of rs))
+        (none_kept s empty index.tree kept are.seen high));
   }
 
 module _ (i f : Elf) (spans : List Span) (kept : List RangedEntry) (count : ℕ) (index : CoverIndex) (bounds : List ℕ) (weight : ℕ)
@@ -56,7 +61,8 @@ module _ (i f : Elf) (spans : List Span) (kept : List RangedEntry) (count : ℕ)
     (each : (g : ℕ) → g < count → AreRunsOf (carried (held_by index.tree g) spans) (runs_in lists g))
     (low : (g : ℕ) → g < count → IsWithin 0 (runs_in lists g) (2 ^ 64 - 1)) (counted : length lists ≡ count)
     (bs : List (Vec ℕ)) (spelled : map (λ (b : Vec ℕ). b.items) bs ≡ map group_bytes lists) (w : Written)
-    (made : AreWritten kind.Ranges bs (map named_of kept) (map named_of kept) [] w.bytes.items w.lists.items) (stands : StandsRanges i spans w f) where
+    (made : AreWritten kind.Ranges bs (map named_of kept) (map named_of kept) [] w.bytes.items w.lists.items)
+    (stands : StandsRanges i spans w f) where
   abbrev s : ListSections
   s = list_sections i
 
@@ -72,17 +78,20 @@ module _ (i f : Elf) (spans : List Span) (kept : List RangedEntry) (count : ℕ)
   writable r c =
       runs_writable 0 (runs_in lists r.group) (2 ^ 64 - 1) (low r.group (within_there count kept r are.within c)) (omega arith)
 
-  says : (r : RangedEntry) → Contains kept r → (p : ℕ) → run_at (runs_in lists r.group) p ≡ if_held (holds_some index.tree r.group (owner spans p))
+  says : (r : RangedEntry) → Contains kept r → (p : ℕ) → run_at (runs_in lists r.group) p ≡ if_held
+      (holds_some index.tree r.group (owner spans p))
   says r c = kept_says s spans kept count index bounds weight are lists each r c
 
   pub law_of : IsCarriedFrom (λ x y. x ≡ y) spans (range_says s) (range_answers f) × IsFree (HasDwarfFault (range_places t))
   law_of =
       let c = stands.changed in
       let free : IsFree (HasDwarfFault (range_places t)) =
-      new_free s t spans index.tree kept lists w.bytes.items w.lists.items c.moves are.free are.seen written stands.table stands.units c.units_are c.named says writable in
+      new_free s t spans index.tree kept lists w.bytes.items w.lists.items c.moves are.free are.seen written stands.table stands.units
+      c.units_are c.named says writable in
       let p = ranges_free f t refl free in (
         subst (λ (x : Option (ℕ → Option (List ℕ))). IsCarriedFrom (λ x y. x ≡ y) spans (range_says s) x) (sym p.0)
             (is_carried (covering s) (covering t) spans (carried (range_says s) spans) (λ p. refl)
-            (new_covering s t spans index.tree kept lists w.bytes.items w.lists.items c.moves are.free are.seen written stands.table stands.units c.units_are c.named says writable)),
+            (new_covering s t spans index.tree kept lists w.bytes.items w.lists.items c.moves are.free are.seen written stands.table
+            stands.units c.units_are c.named says writable)),
         free,
       )

@@ -27,9 +27,11 @@ ranged_of l = record { place = l.place; group = l.group; own = 0; index = None }
 abbrev pub said_by_number : Locations → ℕ → ℕ → List PlaceSaid
 said_by_number kept a k = option_map_or (located_says kept.lists.items a) (slice_get kept.located.items k) []
 
--- The attributes that say where something is, with the lists that each unit names and their names, the index by which those are found whose
--- ranges hold an address, numbers between which the same is said at all addresses, and what tables of offsets weigh.
-pub record ArePlacesKept (s : ListSections) (kept : Locations) (named : List NamedList) (index : CoverIndex) (bounds : List ℕ) (weight : ℕ) :
+-- The attributes that say where something is, with the lists that each unit names and their names, the index by which
+-- those are found whose ranges hold an address, numbers between which the same is said at all addresses, and what
+-- tables of offsets weigh.
+pub record ArePlacesKept (s : ListSections) (kept : Locations) (named : List NamedList) (index : CoverIndex)
+    (bounds : List ℕ) (weight : ℕ) :
     Type 0 where
   pub free : IsFree (HasDwarfFault (location_places s))
   pub index_is : IsCoverIndex index.tree (map ranged_of kept.located.items) index

@@ -16,7 +16,8 @@ use Rattle.dw_lists.specs.Weights.{index_weights}
 
 -- The entries that have ranges, of so many groups, the index by which those are found that cover an address, numbers
 -- between which the same cover all addresses, and what tables of offsets weigh.
-pub record AreKept (s : ListSections) (ranged : List RangedEntry) (count : ℕ) (index : CoverIndex) (bounds : List ℕ) (weight : ℕ) :
+pub record AreKept (s : ListSections) (ranged : List RangedEntry) (count : ℕ) (index : CoverIndex) (bounds : List ℕ)
+    (weight : ℕ) :
     Type 0 where
   pub free : IsFree (HasDwarfFault (range_places s))
   pub index_is : IsCoverIndex index.tree ranged index

@@ -92,7 +92,26 @@ fn covering(
     Ok(places)
 }
 
-// Adds what an attribute says at an address, if its group was found.
+// How many bytes of memory what is said of locations at an address may take: each entry has its own copy of what a list
+// says, and any number of entries may name one list.
+const MOST_SIZE: usize = 1 << 27;
+
+// How many bytes of memory an expression takes beside its own.
+const EXPRESSION_SIZE: usize = 64;
+
+// About how many bytes of memory expressions take.
+fn size_of(expressions: &[Vec<u8>]) -> usize {
+    let mut size: usize = 0;
+    for expression in expressions {
+        size = size
+            .saturating_add(EXPRESSION_SIZE)
+            .saturating_add(expression.len());
+    }
+    size
+}
+
+// Adds what an attribute says at an address, if its group was found. Memory is wanting where all that is said takes too
+// much.
 fn put_said(
     alloc: Global,
     places: &mut Vec<PlaceAt>,
@@ -100,6 +119,7 @@ fn put_said(
     located: &LocatedAttr,
     found: &BTreeSet<usize>,
     a: u64,
+    size: &mut usize,
 ) -> Result<(), NoMemory>
     ensures { OnOk result (all_said places.new ≡ all_said places.old ++ said_if found.now lists.now a located.now) }
 {
@@ -107,6 +127,10 @@ fn put_said(
         return Ok(());
     }
     let expressions = expressions_at(alloc, lists, &located.source, a)?;
+    *size = size.saturating_add(size_of(&expressions));
+    if *size > MOST_SIZE {
+        return Err(NoMemory);
+    }
     put_place(places, located.place, located.attr, expressions)?;
     Ok(())
 }
@@ -122,8 +146,9 @@ fn said_at(
     ensures { IfOk result (λ places. all_said places ≡ flat_map (said_if found.now lists.now a) located.now) }
 {
     let mut places = Vec::new(alloc);
+    let mut size = 0;
     for attr in located {
-        put_said(alloc, &mut places, lists, attr, found, a)?;
+        put_said(alloc, &mut places, lists, attr, found, a, &mut size)?;
     }
     Ok(places)
 }

@@ -8,6 +8,7 @@ pub mod FoundFirst
 pub mod OnlyWeights
 pub mod Numbers
 pub mod SameLists
+pub mod SilentTables
 pub mod Pigeonhole
 pub mod RunStarts
 pub mod Ascending

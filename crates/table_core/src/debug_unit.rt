@@ -80,7 +80,11 @@ fn behind_unit(left: &[u8]) -> Option<&[u8]>
 }
 
 fn unit_at<'a>(version: u16, place: u64, left: &'a [u8]) -> DebugUnit<'a>
-    ensures { result ≡ record { place = place; bytes = unit_bytes left.now; is_other = is_other_version version left.now } }
+    ensures { result ≡ record {
+      place = place;
+      bytes = unit_bytes left.now;
+      is_other = is_other_version version left.now;
+    } }
 {
     DebugUnit {
         place,

@@ -115,7 +115,8 @@ pub(crate) fn count_up_to(pieces: &[Piece], a: u128) -> usize
     requires { IsNonDecreasingBy (λ p. p.start) pieces.now }
     ensures bound { result ≤ length pieces.now }
     ensures below { (k : ℕ) (d : Piece) → k < result → (slice_index_or pieces.now k d).start ≤ a }
-    ensures above { (k : ℕ) (d : Piece) → result ≤ k → k < length pieces.now → a < (slice_index_or pieces.now k d).start }
+    ensures above { (k : ℕ) (d : Piece) → result ≤ k → k < length pieces.now →
+        a < (slice_index_or pieces.now k d).start }
 {
     pieces.partition_point(|piece| piece.start <= a)
 }

@@ -1,5 +1,6 @@
 // Tables of answers by address.
-ghost use Rattle.std.specs.Prelude.{◌≡◌, ◌-◌, ◌^◌, ℕ, List, AllPairs, Option, Some, IfOk, IsTrue, ◌↔◌, MatchResult};
+ghost use Rattle.std.specs.Prelude.{◌≡◌, ◌-◌, ◌^◌, ℕ, List, AllPairs, Option, Some, None, IfOk, IsTrue, ◌↔◌};
+ghost use Rattle.std.specs.Prelude.{MatchResult};
 ghost use Rattle.std.specs.Prelude.{option_map, min};
 ghost use Rattle.rb_bytes.specs.declared.fault.FaultKind.{FaultKind};
 ghost use Rattle.elf_image.specs.declared.elf.Elf.{Elf};
@@ -19,8 +20,8 @@ use elf_image::elf::Elf;
 use rb_bytes::fault::{NoMemory, Refusal};
 use std::alloc::Global;
 
-/// What a table answers by address, and the terms in which its law speaks: they stand below the functions that write it, so
-/// that its weight can be found from runs of its own answers.
+/// What a table answers by address, and the terms in which its law speaks: they stand below the functions that write
+/// it, so that its weight can be found from runs of its own answers.
 pub trait ByAddress: Drop {
     /// An answer, never an empty one.
     type Answer: Drop;
@@ -58,8 +59,8 @@ pub trait ByAddress: Drop {
     /// may be, and its weight, or for a loaded table the end of what is written, is within its limit.
     ghost fits: { Self → List Span → List (Run Meaning) → Type 0 };
 
-    /// What is said of a table that was written of runs, whatever file it will stand in: how many bytes it has, which lists
-    /// are in it, and what is read of its bytes alone.
+    /// What is said of a table that was written of runs, whatever file it will stand in: how many bytes it has, which
+    /// lists are in it, and what is read of its bytes alone.
     ghost makes: { Self → List Span → List (Run Meaning) → Written → Type 0 };
 
     /// What a file in which the table stands keeps of the input besides answers.
@@ -73,10 +74,27 @@ pub trait ByAddress: Drop {
     fn at(&self, alloc: Global, a: u64) -> Result<Option<Self::Answer>, NoMemory>
         ensures { IfOk result (λ o. option_map said o ≡ says self.now a) };
 
+    /// About how many bytes of memory an answer takes, behind the place where it stands.
+    fn size(_answer: &Self::Answer) -> usize {
+        0
+    }
+
+    /// About how many bytes of memory the answers may take that are held where the table is carried.
+    fn most_size(&self) -> usize {
+        usize::MAX
+    }
+
     /// Whether two addresses certainly have the same answer. `false` says nothing; it is the answer of what can't tell
     /// without looking both up.
     fn alike(&self, a: u64, b: u64) -> bool
         ensures { IsTrue result → says self.now a ≡ says self.now b };
+
+    /// Whether the table certainly answers at no address, as one that its file doesn't have. `false` says nothing.
+    fn is_silent(&self) -> bool
+        ensures { IsTrue result → (a : ℕ) → says self.now a ≡ None }
+    {
+        false
+    }
 
     /// A map that is allowed has no byte at the last address, so each run ends below 2 ^ 64.
     ghost is_low: { (t : Self) (spans : List Span) → allows t spans → AreLow spans };
@@ -94,13 +112,14 @@ pub trait AddrTable: ByAddress {
             (λ e. IsRefusalBy (Self.has elf.now) e) }
         ensures comes { IfOk result (λ t. Self.comes_from t elf.now) };
 
-    /// The weight of the table that would be written for a map, by which its size is limited; or the greatest number, where
-    /// the weight is none of 64 bits.
+    /// The weight of the table that would be written for a map, by which its size is limited; or the greatest number,
+    /// where the weight is none of 64 bits.
     fn weight(&self, alloc: Global, map: &AddrMap) -> Result<u64, NoMemory>
         requires ordered { AllPairs IsLineBefore map.now }
         requires disjoint { AllPairs ShareNoByte map.now }
         requires low { AreLow map.now }
-        ensures { IfOk result (λ n. (weight : ℕ) × Self.weighs self.now map.now weight × (n ≡ min weight (2 ^ 64 - 1))) };
+        ensures { IfOk result (λ n. (weight : ℕ) × Self.weighs self.now map.now weight
+            × (n ≡ min weight (2 ^ 64 - 1))) };
 
     /// Writes the table anew, of runs that have the old answers at the owners of their bytes.
     fn write_runs(
@@ -116,7 +135,8 @@ pub trait AddrTable: ByAddress {
         requires within { IsWithin 0 runs.now (2 ^ 64 - 1) }
         requires answers { (p : ℕ) → option_map Self.said (run_at runs.now p) ≡ carried (Self.says self.now) map.now p }
         ensures law { IfOk result (λ w. (i f : Elf) → Self.comes_from self.now i → Self.stands i map.now w f →
-            IsCarried (Self.carries map.now) map.now (λ p. option_map Self.said (run_at runs.now p)) (Self.means f) × IsFree (Self.has f)
+            IsCarried (Self.carries map.now) map.now (λ p. option_map Self.said (run_at runs.now p)) (Self.means f)
+            × IsFree (Self.has f)
             × Self.keeps i f) }
         ensures made { IfOk result (λ w. Self.makes self.now map.now (said_runs Self.said runs.now) w) };
 }

@@ -3,7 +3,8 @@ ghost use Rattle.std.specs.Prelude.{◌≡◌, ◌≤◌, IsTrue, IfOk, IfErr, O
 ghost use Rattle.std.specs.Int.{cast_unsigned};
 ghost use Rattle.rb_bytes.specs.Readers.{number_read};
 ghost use Rattle.rb_bytes.specs.declared.gap.Gap.TheVariants.{Short};
-ghost use Rattle.table_core.specs.AttributeForms.{is_readable, is_size, gap_value_at, block_at, leb_block_at, signed_at};
+ghost use Rattle.table_core.specs.AttributeForms.{is_readable, is_size, gap_value_at, block_at, leb_block_at};
+ghost use Rattle.table_core.specs.AttributeForms.{signed_at};
 
 use crate::shape::Shape;
 use byteorder::{ByteOrder, LittleEndian};

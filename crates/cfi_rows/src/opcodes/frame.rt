@@ -23,7 +23,8 @@ pub(crate) fn frame(
 ) -> Result<Instruction, Failed>
     requires low { 10 ≤ op }
     requires high { op ≤ 15 }
-    ensures ok { IfOk result (λ i. instruction_of (context_of factors.now) op cursor.old.left ≡ Ok (i, cursor.new.left)) }
+    ensures ok { IfOk result (λ i. instruction_of (context_of factors.now) op cursor.old.left ≡ Ok
+        (i, cursor.new.left)) }
     ensures err { IfErr result (λ e. Fails e (instruction_of (context_of factors.now) op cursor.old.left ≡ Err Entry)) }
 {
     match op as u64 {

@@ -18,7 +18,8 @@ pub(crate) fn location(
     factors: &Factors,
 ) -> Result<Instruction, Failed>
     requires { op ≤ 4 }
-    ensures ok { IfOk result (λ i. instruction_of (context_of factors.now) op cursor.old.left ≡ Ok (i, cursor.new.left)) }
+    ensures ok { IfOk result (λ i. instruction_of (context_of factors.now) op cursor.old.left ≡ Ok
+        (i, cursor.new.left)) }
     ensures err { IfErr result (λ e. Fails e (instruction_of (context_of factors.now) op cursor.old.left ≡ Err Entry)) }
 {
     match op as u64 {

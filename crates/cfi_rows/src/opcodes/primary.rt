@@ -17,7 +17,8 @@ pub(crate) fn primary(
     factors: &Factors,
 ) -> Result<Instruction, Failed>
     requires { 64 ≤ op }
-    ensures ok { IfOk result (λ i. instruction_of (context_of factors.now) op cursor.old.left ≡ Ok (i, cursor.new.left)) }
+    ensures ok { IfOk result (λ i. instruction_of (context_of factors.now) op cursor.old.left ≡ Ok
+        (i, cursor.new.left)) }
     ensures err { IfErr result (λ e. Fails e (instruction_of (context_of factors.now) op cursor.old.left ≡ Err Entry)) }
 {
     let low = (op % 64) as u64;

@@ -21,7 +21,8 @@ pub(crate) fn register(
 ) -> Result<Instruction, Failed>
     requires low { 5 ≤ op }
     requires high { op ≤ 9 }
-    ensures ok { IfOk result (λ i. instruction_of (context_of factors.now) op cursor.old.left ≡ Ok (i, cursor.new.left)) }
+    ensures ok { IfOk result (λ i. instruction_of (context_of factors.now) op cursor.old.left ≡ Ok
+        (i, cursor.new.left)) }
     ensures err { IfErr result (λ e. Fails e (instruction_of (context_of factors.now) op cursor.old.left ≡ Err Entry)) }
 {
     let register = unsigned(cursor)?;

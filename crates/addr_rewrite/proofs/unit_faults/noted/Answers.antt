@@ -3,7 +3,7 @@ use Rattle.std.specs.Prelude.{slice_get}
 use Rattle.std.proofs.lemmas.List.{take_more, take_all}
 use Rattle.std.proofs.lemmas.Option.{slice_get-get_or}
 use Rattle.table_core.specs.DebugUnits.{Walked}
-use Rattle.addr_rewrite.specs.UnitFaults.{AreNoted}
+use Rattle.dw_unit.specs.UnitFaults.{AreNoted}
 use Rattle.addr_rewrite.proofs.unit_faults.noted.Goals as goal
 
 abbrev no_unit : Walked

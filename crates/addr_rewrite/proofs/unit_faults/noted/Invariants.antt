@@ -1,5 +1,5 @@
 use Rattle.std.proofs.Common.{take}
-use Rattle.addr_rewrite.specs.UnitFaults.{AreNoted}
+use Rattle.dw_unit.specs.UnitFaults.{AreNoted}
 use Rattle.addr_rewrite.proofs.unit_faults.noted.Given as goal
 
 abbrev pub invariant-loop-number : goal.invariant-loop-number

@@ -6,11 +6,13 @@ use Rattle.cover_lists.proofs.bounds.count_up_to.Goals as goal
 pub returns-clause-below : goal.returns-clause-below
 returns-clause-below c =
     let parted = IsPartitionedBy-leb (λ n. n) c.args.bounds.now c.args.a c.requires in
-    let point = IsPartitionPoint-from_clause (λ n. nat_le n c.args.a) _ _ c.partition_point.ensures.partitioned parted (λ a r q k. search rules) in
+    let point = IsPartitionPoint-from_clause (λ n. nat_le n c.args.a) _ _ c.partition_point.ensures.partitioned parted
+    (λ a r q k. search rules) in
     λ k d less. leb-true _ _ (point.0 k d (search rules) less)
 
 pub returns-clause-above : goal.returns-clause-above
 returns-clause-above c =
     let parted = IsPartitionedBy-leb (λ n. n) c.args.bounds.now c.args.a c.requires in
-    let point = IsPartitionPoint-from_clause (λ n. nat_le n c.args.a) _ _ c.partition_point.ensures.partitioned parted (λ a r q k. search rules) in
+    let point = IsPartitionPoint-from_clause (λ n. nat_le n c.args.a) _ _ c.partition_point.ensures.partitioned parted
+    (λ a r q k. search rules) in
     λ k d from less. leb-false _ _ (point.1 k d from less)

@@ -1,6 +1,8 @@
-use Rattle.std.proofs.Common.{ℕ, List, sym, subst}
+use Rattle.std.proofs.Common.{◌≡◌, ℕ, List, [], length, refl, rules, sym, subst}
+use Rattle.std.proofs.lemmas.List.{nil_from_length}
 use Rattle.std.specs.List.Sorted.{IsPermutation}
 use Rattle.table_core.specs.declared.run.Run.{Run}
+use Rattle.table_core.proofs.SilentTables.{no_runs}
 use Rattle.cover_lists.specs.GroupRuns.{runs_end}
 use Rattle.cover_lists.specs.KeptLists.{list_bounds}
 use Rattle.cover_lists.specs.ListRuns.{IsListRuns, list_answer, said_in}
@@ -17,3 +19,9 @@ returns-clause-each c = λ n.
     (same_answer c.args.lists.now n c.deref.result.now
     (subst (IsPermutation (list_bounds c.args.lists.now)) (sym c.deref.ensures.value) c.in_ok-bounds.ensures.all))
     c.args.map.now ss (runs_end 0 ss) (said_in c.in_ok-runs.runs.items n) c.in_ok-stretches.ensures.runs is.within is.longest is.answers
+
+pub returns-then-is_empty-clause-each : goal.returns-then-is_empty-clause-each
+returns-then-is_empty-clause-each c = λ n.
+    let empty : length c.args.lists.now ≡ 0 = search rules in
+    let none : c.args.lists.now ≡ [] = nil_from_length c.args.lists.now empty in
+    rw (none, c.new.ensures.items) (no_runs (list_answer [] n) c.args.map.now (λ a. refl))

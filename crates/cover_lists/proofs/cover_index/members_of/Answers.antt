@@ -21,7 +21,8 @@ loop-number-preserved c =
       c.in_ok-add_member.ensures.count ∙ c.loop-number.invariant.0,
       λ g k. members_more (take i ranged) r c.loop-number.members.items c.add_member.new.members.items i size c.loop-number.invariant.1
           (λ g. c.in_ok-add_member.ensures.more g
-          ∙ ap (λ (n : ℕ). if g == n then members_in c.loop-number.members.items g ++ i ∷ [] else members_in c.loop-number.members.items g) group) g k
+          ∙ ap (λ (n : ℕ). if g == n then members_in c.loop-number.members.items g ++ i ∷ [] else members_in c.loop-number.members.items g)
+          group) g k
           ∙ ap (λ (l : List RangedEntry). is_member l g k) (sym (take_more ranged i nobody c.loop-number-test.true)),
     )
 

@@ -31,8 +31,10 @@ loop-group-preserved c =
     subst (λ (l : List ℕ). AreStretched l c.args.start c.args.len old c.if-group-len.lists.items) more (elim c.if-group-len.branch [
       | then-group-len+in_ok-stretch_group w ↦
           rw w.lists-is
-          (stretched_more gs h c.args.start c.args.len old now w.stretch_group.new.lists.items c.requires.some c.requires.held c.loop-group.invariant
-          w.in_ok-stretch_group.ensures.count w.in_ok-stretch_group.ensures.others w.in_ok-stretch_group.ensures.kept w.in_ok-stretch_group.ensures.more)
+          (stretched_more gs h c.args.start c.args.len old now w.stretch_group.new.lists.items c.requires.some c.requires.held
+          c.loop-group.invariant
+          w.in_ok-stretch_group.ensures.count w.in_ok-stretch_group.ensures.others w.in_ok-stretch_group.ensures.kept
+          w.in_ok-stretch_group.ensures.more)
       | else-group-len w ↦
           rw w.lists-is
           (stretched_none gs h c.args.start c.args.len old now now c.requires.some c.requires.held c.loop-group.invariant

@@ -32,4 +32,5 @@ pub returns-in_ok-push-clause-more : goal.returns-in_ok-push-clause-more
 returns-in_ok-push-clause-more c = λ ended.
     let apart : last.ends_at c.args.start c.args.runs.now.items ≡ false =
     ap (last.ends_at c.args.start) (sym c.deref-2.ensures.value) ∙ sym c.ends_at-2.ensures ∙ c.if-ends_at-2.false in
-    pushes c.args.runs.now.items c.push.new.self.items c.args.start c.args.len (c.requires.ready ended) c.requires.some apart c.in_ok-push.ensures.items
+    pushes c.args.runs.now.items c.push.new.self.items c.args.start c.args.len (c.requires.ready ended) c.requires.some apart
+    c.in_ok-push.ensures.items

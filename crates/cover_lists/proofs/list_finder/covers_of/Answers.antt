@@ -12,4 +12,5 @@ loop-number-preserved c =
     ∙ ap (λ (l : KeptList). c.loop-number.covers.items ++ list_covers c.loop-number.number l) c.index-lists-number.is)
 
 pub returns : goal.returns
-returns c = numbered_done list_covers c.args.lists.now c.loop-number.number c.loop-number.covers.items _ c.loop-number-test.false c.loop-number.invariant
+returns c = numbered_done list_covers c.args.lists.now c.loop-number.number c.loop-number.covers.items _ c.loop-number-test.false
+    c.loop-number.invariant

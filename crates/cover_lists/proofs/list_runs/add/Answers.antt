@@ -5,7 +5,8 @@ use Rattle.table_core.specs.LastRuns.{IfLast, IsAnswer, ends_at}
 use Rattle.table_core.specs.declared.run.Run.{Run}
 use Rattle.table_core.specs.AnswerRuns.{said_runs, run_at, answer_over}
 use Rattle.table_core.proofs.Grown.{run_at-more, longest-more, within-more, said-more, IsApart, apart-end, last-weaker}
-use Rattle.table_core.proofs.Grown.{run_at-longer, within-longer, longest-longer, said-longer, said-ends, last-room, unsaid-within, and_then-Some}
+use Rattle.table_core.proofs.Grown.{run_at-longer, within-longer, longest-longer, said-longer, said-ends, last-room, unsaid-within}
+use Rattle.table_core.proofs.Grown.{and_then-Some}
 use Rattle.cover_lists.specs.KeptLists.{items_in}
 use Rattle.cover_lists.specs.ListRuns.{said}
 use Rattle.cover_lists.proofs.list_runs.add.Goals as goal
@@ -21,7 +22,8 @@ pub returns-then-ends_with : goal.returns-then-ends_with
 returns-then-ends_with c =
     let runs : List (Run (Vec (Vec ℕ))) = c.args.runs.now.items in
     let x : List (List ℕ) = items_in c.args.answer.items in
-    let ends = said-ends said runs c.args.start ∙ ap (ends_at c.args.start) (sym c.deref.ensures.value) ∙ sym c.ends_at.ensures ∙ c.if-ends_at.true in
+    let ends = said-ends said runs c.args.start ∙ ap (ends_at c.args.start) (sym c.deref.ensures.value) ∙ sym c.ends_at.ensures
+    ∙ c.if-ends_at.true in
     let is : IsAnswer (Some x) (said_runs said runs) =
     subst (λ (y : List (List ℕ)). IsAnswer (Some y) (said_runs said runs)) (ap items_in c.deref-then-ends_at-2.ensures.value)
     (subst (λ (l : List (Run (Vec (Vec ℕ)))). IsAnswer (Some (items_in c.deref-then-ends_at-2.result.now)) (said_runs said l))
@@ -40,12 +42,14 @@ returns-in_ok-push c =
     let apart : IfLast (IsApart r) (said_runs said runs) = elim c.else-ends_at.branch [
       | else-ends_at-via-then-ends_at+else-ends_with w ↦
           last-weaker {P = λ l. l.answer ≢ r.answer} {Q = IsApart r} (said_runs said runs) (λ l differ meets. differ)
-          (subst (λ (y : List (List ℕ)). IfLast (λ m. m.answer ≢ y) (said_runs said runs)) (ap items_in w.deref-then-ends_at-2.ensures.value)
+          (subst (λ (y : List (List ℕ)). IfLast (λ m. m.answer ≢ y) (said_runs said runs))
+          (ap items_in w.deref-then-ends_at-2.ensures.value)
           (subst (λ (l : List (Run (Vec (Vec ℕ)))). IfLast (λ m. m.answer ≢ items_in w.deref-then-ends_at-2.result.now) (said_runs said l))
           w.deref-then-ends_at.ensures.value (w.ends_with.ensures.lacks w.if-ends_with.false)))
       | else-ends_at-via-else-ends_at w ↦
           apart-end (said_runs said runs) r
-          (said-ends said runs c.args.start ∙ ap (ends_at c.args.start) (sym c.deref.ensures.value) ∙ sym c.ends_at.ensures ∙ w.if-ends_at.false)
+          (said-ends said runs c.args.start ∙ ap (ends_at c.args.start) (sym c.deref.ensures.value) ∙ sym c.ends_at.ensures
+          ∙ w.if-ends_at.false)
     ] in
     rw (c.in_ok-push.ensures.items, said-more said runs _) (record {
       within = within-more 0 (said_runs said runs) r (c.args.start + c.args.len) c.requires.before c.requires.some (omega arith);

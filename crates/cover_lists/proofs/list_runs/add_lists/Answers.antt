@@ -30,5 +30,6 @@ loop-number-preserved c =
     let fresh = not_before c.args.numbers.now c.loop-number.number-index 0 c.requires.candidates.rising c.loop-number-test.true in
     subst (λ l. AreExtended c.args.lists.now c.args.a l c.args.start c.args.len c.args.runs.now.items c.add_list.new.runs.items)
     (sym (take_more c.args.numbers.now c.loop-number.number-index 0 c.loop-number-test.true))
-    (extended_more c.args.lists.now c.args.a ns c.args.start c.args.len c.args.runs.now.items c.loop-number.runs.items h c.add_list.new.runs.items fresh
+    (extended_more c.args.lists.now c.args.a ns c.args.start c.args.len c.args.runs.now.items c.loop-number.runs.items h
+    c.add_list.new.runs.items fresh
     c.loop-number.invariant c.in_ok-add_list.ensures.count c.in_ok-add_list.ensures.others c.in_ok-add_list.ensures.more)

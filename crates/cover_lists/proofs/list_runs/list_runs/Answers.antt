@@ -17,7 +17,8 @@ item ss i = slice_index_or ss i none
 
 pub add_lists-requires-clause-candidates : goal.add_lists-requires-clause-candidates
 add_lists-requires-clause-candidates c =
-    subst (λ (ns : List ℕ). AreCandidates c.args.lists.now (item c.args.stretches.now c.loop-stretch.stretch-index).answer ns) (sym c.deref.ensures.value)
+    subst (λ (ns : List ℕ). AreCandidates c.args.lists.now (item c.args.stretches.now c.loop-stretch.stretch-index).answer ns)
+    (sym c.deref.ensures.value)
     (c.in_ok-numbers.ensures c.args.lists.now c.requires.finder)
 
 pub add_lists-requires-clause-count : goal.add_lists-requires-clause-count
@@ -28,7 +29,8 @@ add_lists-requires-clause-before c = λ n.
     let w = within_at 0 c.args.stretches.now (2 ^ 64 - 1) c.loop-stretch.stretch-index none
     c.requires.within c.loop-stretch-test.true in
     let was = c.loop-stretch.invariant.1 n in
-    within-up 0 (said_in c.loop-stretch.runs.items n) (runs_end 0 (take c.loop-stretch.stretch-index c.args.stretches.now)) (item c.args.stretches.now c.loop-stretch.stretch-index).start
+    within-up 0 (said_in c.loop-stretch.runs.items n) (runs_end 0 (take c.loop-stretch.stretch-index c.args.stretches.now))
+    (item c.args.stretches.now c.loop-stretch.stretch-index).start
     was.within w.0
 
 pub add_lists-requires-clause-longest : goal.add_lists-requires-clause-longest
@@ -57,9 +59,12 @@ loop-stretch-preserved c =
       λ n. let was = c.loop-stretch.invariant.1 n in
           subst (λ (ss : List (Run ℕ)). IsListRuns c.args.lists.now n ss (runs_end 0 ss) (said_in c.add_lists.new.runs.items n))
           (sym (take_more c.args.stretches.now c.loop-stretch.stretch-index none c.loop-stretch-test.true))
-          (list_next c.args.lists.now n c.args.stretches.now (2 ^ 64 - 1) c.loop-stretch.stretch-index r (said_in c.loop-stretch.runs.items n)
+          (list_next c.args.lists.now n c.args.stretches.now (2 ^ 64 - 1) c.loop-stretch.stretch-index r
+          (said_in c.loop-stretch.runs.items n)
           (said_in c.add_lists.new.runs.items n) c.requires.within w.0 was
-          (extended_all c.args.lists.now r.answer ns r.start r.len c.loop-stretch.runs.items c.add_lists.new.runs.items all c.in_ok-add_lists.ensures n
-          (within-up 0 (said_in c.loop-stretch.runs.items n) (runs_end 0 (take c.loop-stretch.stretch-index c.args.stretches.now)) r.start was.within w.0)
+          (extended_all c.args.lists.now r.answer ns r.start r.len c.loop-stretch.runs.items c.add_lists.new.runs.items all
+          c.in_ok-add_lists.ensures n
+          (within-up 0 (said_in c.loop-stretch.runs.items n) (runs_end 0 (take c.loop-stretch.stretch-index c.args.stretches.now)) r.start
+          was.within w.0)
           was.longest)),
     )

@@ -11,11 +11,13 @@ first same = ap (λ l. slice_get l 0) (sym same)
 
 pub returns-in_ok-add-in-Some : goal.returns-in_ok-add-in-Some
 returns-in_ok-add-in-Some c =
-    subst (λ (o : Option (List (List ℕ))). IsExtended c.args.start c.args.len o (said_runs said c.args.runs.now.items) (said_runs said c.add.new.runs.items))
+    subst (λ (o : Option (List (List ℕ))). IsExtended c.args.start c.args.len o (said_runs said c.args.runs.now.items)
+    (said_runs said c.add.new.runs.items))
     (sym (some_said c.args.answer.items _ (first c.deref.ensures.value ∙ sym c.in-Some.ensures.value))) c.in_ok-add-in-Some.ensures
 
 pub returns-in-None : goal.returns-in-None
 returns-in-None c =
-    subst (λ (o : Option (List (List ℕ))). IsExtended c.args.start c.args.len o (said_runs said c.args.runs.now.items) (said_runs said c.args.runs.now.items))
+    subst (λ (o : Option (List (List ℕ))). IsExtended c.args.start c.args.len o (said_runs said c.args.runs.now.items)
+    (said_runs said c.args.runs.now.items))
     (sym (none_said c.args.answer.items (first c.deref.ensures.value ∙ sym c.in-None.ensures.value)))
     (none_extended c.args.start c.args.len (said_runs said c.args.runs.now.items) c.requires.before c.requires.longest)

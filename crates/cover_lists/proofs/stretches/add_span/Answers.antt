@@ -4,7 +4,8 @@ use Rattle.table_core.specs.LastRuns.{IfLast, IsAnswer, ends_at}
 use Rattle.table_core.specs.declared.run.Run.{Run}
 use Rattle.table_core.specs.AnswerRuns.{said_runs, run_at, answer_over}
 use Rattle.table_core.proofs.Grown.{run_at-more, longest-more, within-more, said-more, IsApart, apart-end, last-weaker}
-use Rattle.table_core.proofs.Grown.{run_at-longer, within-longer, longest-longer, said-longer, said-ends, last-room, unsaid-within, and_then-Some}
+use Rattle.table_core.proofs.Grown.{run_at-longer, within-longer, longest-longer, said-longer, said-ends, last-room, unsaid-within}
+use Rattle.table_core.proofs.Grown.{and_then-Some}
 use Rattle.cover_lists.specs.Stretches.{bounds_before}
 use Rattle.cover_lists.proofs.stretches.add_span.Goals as goal
 use Rattle.cover_lists.proofs.stretches.add_span.Goals.{else-ends_at-via-then-ends_at+else-goes_on, else-ends_at-via-else-ends_at}
@@ -14,14 +15,16 @@ ends_at-requires c = rw c.deref.ensures.value (unsaid-within (bounds_before c.ar
 
 pub lengthen-requires : goal.lengthen-requires
 lengthen-requires c =
-    last-room 0 _ c.args.span.out c.args.span.len (2 ^ 64) (unsaid-within (bounds_before c.args.bounds.now) 0 _ _ c.requires.before) c.requires.fits
+    last-room 0 _ c.args.span.out c.args.span.len (2 ^ 64) (unsaid-within (bounds_before c.args.bounds.now) 0 _ _ c.requires.before)
+    c.requires.fits
 
 pub returns-then-goes_on : goal.returns-then-goes_on
 returns-then-goes_on c =
     let said : ℕ → ℕ = λ a. bounds_before c.args.bounds.now a in
     let runs : List (Run ℕ) = c.args.stretches.now.items in
     let x : ℕ = said c.args.span.input in
-    let ends = said-ends said runs c.args.span.out ∙ ap (ends_at c.args.span.out) (sym c.deref.ensures.value) ∙ sym c.ends_at.ensures ∙ c.if-ends_at.true in
+    let ends = said-ends said runs c.args.span.out ∙ ap (ends_at c.args.span.out) (sym c.deref.ensures.value) ∙ sym c.ends_at.ensures
+    ∙ c.if-ends_at.true in
     let is : IsAnswer (Some x) (said_runs said runs) =
     subst (λ (l : List (Run ℕ)). IsAnswer (Some x) (said_runs said l)) c.deref-then-ends_at.ensures.value (c.if-goes_on.ensures.has refl) in
     rw (c.lengthen.ensures, said-longer said runs c.args.span.len) (record {
@@ -43,7 +46,8 @@ returns-in_ok-push c =
           w.deref-then-ends_at.ensures.value (w.goes_on.ensures.lacks w.if-goes_on.false))
       | else-ends_at-via-else-ends_at w ↦
           apart-end (said_runs said runs) r
-          (said-ends said runs c.args.span.out ∙ ap (ends_at c.args.span.out) (sym c.deref.ensures.value) ∙ sym c.ends_at.ensures ∙ w.if-ends_at.false)
+          (said-ends said runs c.args.span.out ∙ ap (ends_at c.args.span.out) (sym c.deref.ensures.value) ∙ sym c.ends_at.ensures
+          ∙ w.if-ends_at.false)
     ] in
     rw (c.in_ok-push.ensures.items, said-more said runs _) (record {
       within = within-more 0 (said_runs said runs) r (c.args.span.out + c.args.span.len) c.requires.before c.requires.some (omega arith);

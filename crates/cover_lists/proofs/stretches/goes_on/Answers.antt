@@ -9,18 +9,19 @@ pub returns-in-Some-clause-has : goal.returns-in-Some-clause-has
 returns-in-Some-clause-has c = λ same.
     let is = sym c.in-Some.ensures.value in
     let within = slice_get_within c.args.stretches.now _ _ is in
-    let equal : c.bounds_before.result ≡ c.bounds_before-in-Some.result = grind (arith, nat_tests, same) in
+    let equal : c.bounds_before-before.result ≡ c.bounds_before-now.result = grind (arith, nat_tests, same) in
     said-last (bounds_before c.args.bounds.now) (λ m. Some (bounds_before c.args.bounds.now c.args.a) ≡ Some m) c.args.stretches.now
-    (last-get (λ r. Some (bounds_before c.args.bounds.now c.args.a) ≡ Some (bounds_before c.args.bounds.now r.answer)) c.args.stretches.now _
+    (last-get (λ r. Some (bounds_before c.args.bounds.now c.args.a) ≡ Some (bounds_before c.args.bounds.now r.answer)) c.args.stretches.now
+    _
     c.in-Some.last.now (omega (arith, within)) (sym (get_or_from_slice_get c.args.stretches.now _ _ _ is))
-    (ap Some (sym c.bounds_before-in-Some.ensures ∙ sym equal ∙ c.bounds_before.ensures)))
+    (ap Some (sym c.bounds_before-now.ensures ∙ sym equal ∙ c.bounds_before-before.ensures)))
 
 pub returns-in-Some-clause-lacks : goal.returns-in-Some-clause-lacks
 returns-in-Some-clause-lacks c = λ differ.
     let is = sym c.in-Some.ensures.value in
     let within = slice_get_within c.args.stretches.now _ _ is in
-    let apart : c.bounds_before.result ≢ c.bounds_before-in-Some.result = λ e. grind (arith, nat_tests, differ, e) in
+    let apart : c.bounds_before-before.result ≢ c.bounds_before-now.result = λ e. grind (arith, nat_tests, differ, e) in
     said-last (bounds_before c.args.bounds.now) (λ m. m ≢ bounds_before c.args.bounds.now c.args.a) c.args.stretches.now
     (last-get (λ r. bounds_before c.args.bounds.now r.answer ≢ bounds_before c.args.bounds.now c.args.a) c.args.stretches.now _
     c.in-Some.last.now (omega (arith, within)) (sym (get_or_from_slice_get c.args.stretches.now _ _ _ is))
-    (λ same. apart (c.bounds_before.ensures ∙ same ∙ sym c.bounds_before-in-Some.ensures)))
+    (λ same. apart (c.bounds_before-before.ensures ∙ same ∙ sym c.bounds_before-now.ensures)))

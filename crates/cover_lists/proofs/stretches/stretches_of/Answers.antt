@@ -23,7 +23,8 @@ loop-i-preserved c =
       | in-Some+else-span-gt0 w ↦
           rw w.stretches-is (made_same (λ a. Some (said a)) c.args.map.now c.requires.ordered c.requires.disjoint c.loop-i.i w.in-Some.span
           (sym w.in-Some.ensures) _ c.loop-i.invariant (omega (arith, w.if-span-gt0.false)))
-      | in-None w ↦ let h : length c.args.map.now ≤ c.loop-i.i = past c.args.map.now c.loop-i.i (sym w.in-None.ensures) in absurd (omega arith)
+      | in-None w ↦ let h : length c.args.map.now ≤ c.loop-i.i = past c.args.map.now c.loop-i.i (sym w.in-None.ensures) in
+          absurd (omega arith)
     ]
 
 pub returns-clause-within : goal.returns-clause-within

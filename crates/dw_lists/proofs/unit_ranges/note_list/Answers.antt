@@ -13,7 +13,8 @@ returns-in-Some-2 c = λ s u attrs b r n k noted.
     ap (λ (l : List ℕ). list_offset ranges_kind l u c.args.attr) (sym b) ∙ sym (c.list_offset.ensures u r.lists) ∙ c.in-Some.is in (
       p.grow,
       p.known_are,
-      noted_sound ranges_kind s.ranges s.units.addr u attrs c.args.attr c.args.others c.args.others noted c.in-Some.at (sym c.has_list.ensures
+      noted_sound ranges_kind s.ranges s.units.addr u attrs c.args.attr c.args.others c.args.others noted c.in-Some.at
+          (sym c.has_list.ensures
           ∙ c.if-not-has_list.false) offset
           (sym p.is.some ∙ ap is_some c.in-Some-2.is) refl,
     )
@@ -25,7 +26,8 @@ returns-in-None c = λ s u attrs b r n k noted.
     ap (λ (l : List ℕ). list_offset ranges_kind l u c.args.attr) (sym b) ∙ sym (c.list_offset.ensures u r.lists) ∙ c.in-Some.is in (
       p.grow,
       p.known_are,
-      noted_bad ranges_kind s.ranges s.units.addr u attrs c.args.attr c.args.others (record { lacks_offset = c.args.others.lacks_offset; bad = c.lower.result }) noted
+      noted_bad ranges_kind s.ranges s.units.addr u attrs c.args.attr c.args.others
+          (record { lacks_offset = c.args.others.lacks_offset; bad = c.lower.result }) noted
           c.in-Some.at
           (sym c.has_list.ensures ∙ c.if-not-has_list.false) offset
           (sym p.is.some ∙ ap is_some c.in-None.is) refl

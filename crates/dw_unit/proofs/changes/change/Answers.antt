@@ -1,5 +1,6 @@
-use Rattle.std.proofs.Common.{◌≡◌, ◌<◌, ◌^◌, ℕ, List, All, false, arith, refl, sym, subst, length, nat_cmp}
+use Rattle.std.proofs.Common.{◌≡◌, ◌∙◌, ◌<◌, ◌^◌, ℕ, List, All, false, arith, refl, sym, subst, length, rules, nat_cmp}
 use Rattle.std.specs.Prelude.{flat_map}
+use Rattle.std.proofs.lemmas.List.{nil_from_length}
 use Rattle.std.specs.List.{list_any}
 use Rattle.std.specs.BTreeMap.{get}
 use Rattle.rb_bytes.specs.FirstFault.{IsFree}
@@ -20,26 +21,39 @@ use Rattle.dw_unit.proofs.Changeable.{AreSmall}
 use Rattle.dw_unit.proofs.NewSections.{all_can_read, no_bad_high, units_behind, units_changed, written, written_sound}
 use Rattle.dw_unit.proofs.SmallMoves.{lists_small, moved_small}
 use Rattle.dw_unit.proofs.WalkSteps.{ok_map2}
+use Rattle.dw_unit.proofs.NoUnits.{unchanged}
 use Rattle.dw_unit.proofs.changes.change.Goals as goal
+use Rattle.dw_unit.proofs.changes.change.Goals.{then-is_empty, else-is_empty}
 
 pub changed_sections-requires-clause-behind : goal.changed_sections-requires-clause-behind
 changed_sections-requires-clause-behind c =
-    subst (λ (l : List ℕ). AreBehind 0 (length l) (walked 5 l)) (sym c.contents_of.ensures)
+    subst (λ (l : List ℕ). AreBehind 0 (length l) (walked 5 l)) (sym c.contents_of-info.ensures)
     (units_behind (sections_of c.args.elf.now) c.requires.sound)
 
 pub changed_sections-requires-clause-read : goal.changed_sections-requires-clause-read
 changed_sections-requires-clause-read c =
-    subst (λ (l : List ℕ). AllRead c.contents_of-2.result.now (walked 5 l)) (sym c.contents_of.ensures)
-    (subst (λ (l : List ℕ). AllRead l (walked 5 (sections_of c.args.elf.now).info)) (sym c.contents_of-2.ensures)
+    subst (λ (l : List ℕ). AllRead c.contents_of-abbrevs.result.now (walked 5 l)) (sym c.contents_of-info.ensures)
+    (subst (λ (l : List ℕ). AllRead l (walked 5 (sections_of c.args.elf.now).info)) (sym c.contents_of-abbrevs.ensures)
     (all_can_read (sections_of c.args.elf.now) c.requires.sound))
 
 pub changed_sections-requires-clause-fine : goal.changed_sections-requires-clause-fine
 changed_sections-requires-clause-fine c =
-    subst (λ (l : List ℕ). list_any has_bad_high (flat_map (declarations_of c.contents_of-2.result.now) (walked 5 l)) ≡ false)
-    (sym c.contents_of.ensures)
+    subst (λ (l : List ℕ). list_any has_bad_high (flat_map (declarations_of c.contents_of-abbrevs.result.now) (walked 5 l)) ≡ false)
+    (sym c.contents_of-info.ensures)
     (subst (λ (l : List ℕ). list_any has_bad_high (flat_map (declarations_of l) (walked 5 (sections_of c.args.elf.now).info)) ≡ false)
-    (sym c.contents_of-2.ensures)
+    (sym c.contents_of-abbrevs.ensures)
     (no_bad_high (sections_of c.args.elf.now) c.requires.sound))
+
+pub returns-then-has_neither : goal.returns-then-has_neither
+returns-then-has_neither c = elim c.if-is_empty.branch [
+  | then-is_empty w ↦
+      let none : length c.contents_of-info.result.now ≡ 0 = search rules in
+      let tables : length c.contents_of-addr.result.now ≡ 0 = search rules in
+      rw (c.new.ensures.items, c.new-then-has_neither.ensures.items) (unchanged c.args.elf.now c.args.map.now c.args.lists.now
+      (sym c.contents_of-info.ensures ∙ nil_from_length c.contents_of-info.result.now none)
+      (sym c.contents_of-addr.ensures ∙ nil_from_length c.contents_of-addr.result.now tables))
+  | else-is_empty w ↦ absurd (search rules)
+]
 
 pub returns : goal.returns
 returns c =
@@ -56,7 +70,7 @@ returns c =
     let free : IsFree (HasDwarfFault (unit_fault_places s)) = c.requires.sound in
     let low_size : length (changed_abbrevs s) < 2 ^ 32 = let size = abbrevs_size s in let light = c.requires.light in omega arith in
     ok_map2 c.changed_sections.result _ _ _ (λ w info abbrevs.
-    let abbrevs_are : w.1.items ≡ changed_abbrevs s = abbrevs s (sym c.contents_of.ensures) (sym c.contents_of-2.ensures) free in
+    let abbrevs_are : w.1.items ≡ changed_abbrevs s = abbrevs s (sym c.contents_of-info.ensures) (sym c.contents_of-abbrevs.ensures) free in
     let of : (f : Elf) → AreChanged m c.args.elf.now f → written s m small free low_size ≡ sections_of f =
     λ f e i. record { info = sym e.info i; abbrevs = sym e.abbrevs i; addr = sym e.addr i } in
     record {
@@ -68,7 +82,7 @@ returns c =
             c.in_ok-call_ends.ensures.ends.none;
       };
       lists_are = lists;
-      info_is = info s m (sym c.contents_of.ensures) (sym c.contents_of-2.ensures) free
+      info_is = info s m (sym c.contents_of-info.ensures) (sym c.contents_of-abbrevs.ensures) free
           (record { spans = refl; lists = refl; call_end = λ a. refl });
       abbrevs_are = abbrevs_are;
       units_are = λ f e. subst (λ (t : Sections). AreChangedUnits s m t) (of f e) (units_changed s m small free low_size);

@@ -19,8 +19,10 @@ returns c = λ s u first old before done rest attrs r x.
     let p = c.in_ok-ranges.ensures s u attrs r.section r.lists x.grow.numbered x.known_are x.ranges_noted in
     let q = c.in_ok-own.ensures s u (plain e) (sym owned) r.section r.lists p.0.numbered p.1 in
     let t = c.in_ok-locations.ensures.read s u attrs r.locations x.read.known_are x.locations_noted in
-    placed_next s u first old before (plain e) done rest attrs c.args.groups.now c.note_lists.new.groups c.own_group.new.groups c.args.kept.now
-    c.locate_entry.new.kept c.args.named.now.items c.locate_entry.new.named.items c.args.state.now _ c.args.others _ c.note_lists.new.known c.in_ok-own.own c.in_ok-nearest.nearest x
+    placed_next s u first old before (plain e) done rest attrs c.args.groups.now c.note_lists.new.groups c.own_group.new.groups
+    c.args.kept.now
+    c.locate_entry.new.kept c.args.named.now.items c.locate_entry.new.named.items c.args.state.now _ c.args.others _ c.note_lists.new.known
+    c.in_ok-own.own c.in_ok-nearest.nearest x
     (p.0, p.1, subst (λ (l : List Attr). AreNoted ranges_kind s.ranges s.units.addr u (attrs ++ l) c.in_ok-ranges.ranges) noted p.2) q
     (c.in_ok-nearest.ensures.nearest ∙ ap (λ (e : ListedEntry). option_or c.in_ok-own.own (nearest (closed e.depth os))) c.entry.view_is)
     (c.in_ok-nearest.ensures.opened

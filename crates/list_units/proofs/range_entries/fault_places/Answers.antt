@@ -22,7 +22,8 @@ returns c = λ s units addresses tables are.
     c.other_version-list.ensures ∙ ap (first_place (λ (w : Walked). w.is_other)) tables in
     let both : c.or-of_units.result ≡ option_or (other_version 5 s.units.info) (other_version 5 s.units.addr) =
     c.or-of_units.ensures ∙ (λ i. option_or (unit i) (address i)) in
-    let version : c.or-version.result ≡ option_or (option_or (other_version 5 s.units.info) (other_version 5 s.units.addr)) (other_version 5 s.ranges) =
+    let version : c.or-version.result ≡ option_or (option_or (other_version 5 s.units.info) (other_version 5 s.units.addr))
+    (other_version 5 s.ranges) =
     c.or-version.ensures ∙ (λ i. option_or (both i) (list i)) in
     let declared : List ℕ = places_with has_bad_form (declarations s.units) in
     let formless : List ℕ = flat_map (λ (w : Walked). unformed (unit_of s.units.abbrevs w)) ws in
@@ -31,7 +32,8 @@ returns c = λ s units addresses tables are.
     let broken : c.bad_table-broken.result ≡ bad_address_table s.units.addr = c.bad_table-broken.ensures
     ∙ ap (first_place (λ (w : Walked). not (option_map_or is_address_table w.bytes false))) addresses in
     let of_table : c.bad_table-of_table.result ≡ least (of_tables s) = c.bad_table-of_table.ensures
-    ∙ ap (λ (ws : List Walked). least (map (λ (w : Walked). w.place) (filter (λ (w : Walked). not (option_map_or is_list_table w.bytes false)) ws)))
+    ∙ ap (λ (ws : List Walked). least (map (λ (w : Walked). w.place)
+    (filter (λ (w : Walked). not (option_map_or is_list_table w.bytes false)) ws)))
     tables in
     let bad = c.or-bad.ensures
     ∙ ap (option_or c.args.progress.now.bad) (c.or-later.ensures ∙ (λ i. option_or (broken i) (c.lower-lists.ensures i)))

@@ -22,9 +22,11 @@ returns-clause-read c = λ s u r k.
 pub returns-clause-listed : goal.returns-clause-listed
 returns-clause-listed c = λ s u before first r located formed x.
     let attrs : c.deref.result.now ≡ c.args.entry.now.attrs = c.deref.ensures.value ∙ ap (λ (e : ListedEntry). e.attrs) c.entry.view_is in
-    subst (λ (l : List Attr). AreListed s u (offsets_in s u (before ++ l)) first c.named_source.new.lists.items c.named_source.new.known) attrs
+    subst (λ (l : List Attr). AreListed s u (offsets_in s u (before ++ l)) first c.named_source.new.lists.items c.named_source.new.known)
+    attrs
     (c.in_ok-source.ensures.listed s u before first r located (ap are_formed attrs ∙ formed)
-    (subst (λ (l : List Attr). AreListed s u (offsets_in s u (before ++ l)) first c.args.kept.now.lists.items c.args.known.now) (sym attrs) x))
+    (subst (λ (l : List Attr). AreListed s u (offsets_in s u (before ++ l)) first c.args.kept.now.lists.items c.args.known.now)
+    (sym attrs) x))
 
 pub returns-clause-names : goal.returns-clause-names
 returns-clause-names c = λ s u r located formed k.

@@ -35,7 +35,8 @@ returns-clause-read c = λ s u before r k noted.
 pub returns-clause-listed : goal.returns-clause-listed
 returns-clause-listed c = λ s u before first r formed x.
     let attrs : c.deref.result.now ≡ c.args.entry.now.attrs = c.deref.ensures.value ∙ ap (λ (e : ListedEntry). e.attrs) c.entry.view_is in
-    let noted : AreListed s u (offsets_in s u (before ++ c.args.entry.now.attrs)) first c.note_lists.new.lists.items c.note_lists.new.known =
+    let noted : AreListed s u (offsets_in s u (before ++ c.args.entry.now.attrs)) first c.note_lists.new.lists.items c.note_lists.new.known
+    =
     subst (λ (l : List Attr). AreListed s u (offsets_in s u (before ++ l)) first c.note_lists.new.lists.items c.note_lists.new.known) attrs
     (c.in_ok-faults.ensures.listed s u before first r x) in
     c.in_ok-locate-2.ensures.listed s u before first r refl formed (c.in_ok-locate.ensures.listed s u before first r refl formed noted)

@@ -23,7 +23,8 @@ loop-attr-preserved c = (
   λ s u before r k noted.
       let p = c.loop-attr.invariant.0 s u before r k noted in
       let q = c.in_ok-faults.ensures.read s u (before ++ take c.loop-attr.attr-index c.args.attrs.now) r p.0.known_are p.1 in (
-        read_more s u c.args.lists.now.items c.loop-attr.lists.items c.note_list.new.lists.items c.loop-attr.known c.note_list.new.known p.0 q.0,
+        read_more s u c.args.lists.now.items c.loop-attr.lists.items c.note_list.new.lists.items c.loop-attr.known c.note_list.new.known p.0
+            q.0,
         subst (λ (l : List Attr). AreNoted locations_kind s.locations s.units.addr u l c.in_ok-faults.faults)
             (one_more before c.args.attrs.now c.loop-attr.attr-index _ c.loop-attr-test.true) q.1,
       ),

@@ -15,7 +15,8 @@ returns-in-Some-clause-listed c = λ s u offsets first r x.
 
 pub returns-clause-read : goal.returns-clause-read
 returns-clause-read c = λ s u r k. let p = c.in_ok-number.ensures.read s u r in (
-  read_list s u c.args.lists.now.items c.read_number.new.lists.items c.args.known.now c.insert.new.self c.args.at c.in_ok-number.number k p.0 p.1
+  read_list s u c.args.lists.now.items c.read_number.new.lists.items c.args.known.now c.insert.new.self c.args.at c.in_ok-number.number k
+      p.0 p.1
       (λ q. c.in_ok-insert.ensures.updates.0 q),
   p.1,
 )

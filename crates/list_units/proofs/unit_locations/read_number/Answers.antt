@@ -14,10 +14,10 @@ use Rattle.list_units.proofs.unit_locations.read_number.Goals as goal
 
 pub returns-in_ok-push-in-Some-clause-says : goal.returns-in_ok-push-in-Some-clause-says
 returns-in_ok-push-in-Some-clause-says c = λ s u r.
-    let ls : List Located = map located_of c.deref.result.now in
+    let ls : List Located = map located_of c.deref-in-Some.result.now in
     let said : location_list s u c.args.at ≡ Some ls =
     ap (λ (l : List ℕ). list_at locations_kind l s.units.addr u c.args.at) (sym r.section)
-    ∙ sym (ap (λ (l : List Place). Some (map located_of l)) c.deref.ensures.value
+    ∙ sym (ap (λ (l : List Place). Some (map located_of l)) c.deref-in-Some.ensures.value
     ∙ ap (option_map (λ (v : Vec Place). map located_of v.items)) (sym c.in-Some.is) ∙ c.in_ok-places.ensures s.units.addr u r.lists) in
     subst (λ (l : List KeptList). all_say l ≡ all_say c.args.lists.now.items ++ read_at s u (c.args.at ∷ []))
     (sym c.in_ok-push-in-Some.ensures.items)

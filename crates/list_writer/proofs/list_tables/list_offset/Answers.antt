@@ -14,4 +14,5 @@ returns c =
     c.in_ok-extend_from_slice.ensures.items ∙ ap (λ (l : List ℕ). old ++ l) c.list_in.ensures in
     subst (λ (n : ℕ). IsListed lists c.args.number n old new c.insert.new.self) (sym size)
     (list_more lists old new c.args.known.now c.insert.new.self c.args.number c.requires made
-    (λ q. c.in_ok-insert.ensures.updates.0 q ∙ ap (λ (n : ℕ). cond (is_at (nat_cmp c.args.number) q) (Some n) (get nat_cmp c.args.known.now q)) size))
+    (λ q. c.in_ok-insert.ensures.updates.0 q ∙ ap (λ (n : ℕ). cond (is_at (nat_cmp c.args.number) q) (Some n)
+    (get nat_cmp c.args.known.now q)) size))

@@ -8,12 +8,15 @@ pub loop-entry-preserved : goal.loop-entry-preserved
 loop-entry-preserved c = (
   c.in_ok-add_entry.ensures.listed.listed,
   λ kind lo own n up.
-      put_taken kind c.args.lists.now c.args.start lo own c.args.entries.now c.loop-entry.entry-index _ c.loop-entry.bytes.items c.add_entry.new.body.items
-      c.add_entry.new.known c.loop-entry.indexes c.add_entry.new.indexes c.args.names.now.items c.loop-entry.names.items c.add_entry.new.names.items
+      put_taken kind c.args.lists.now c.args.start lo own c.args.entries.now c.loop-entry.entry-index _ c.loop-entry.bytes.items
+      c.add_entry.new.body.items
+      c.add_entry.new.known c.loop-entry.indexes c.add_entry.new.indexes c.args.names.now.items c.loop-entry.names.items
+      c.add_entry.new.names.items
       c.loop-entry-test.true up (c.loop-entry.invariant.1 kind lo own n up) c.in_ok-add_entry.ensures,
 )
 
 pub returns : goal.returns
 returns c = λ kind lo own n up.
-    subst (ArePut kind c.args.lists.now c.args.start lo own c.loop-entry.bytes.items c.loop-entry.indexes c.args.names.now.items c.loop-entry.names.items)
+    subst (ArePut kind c.args.lists.now c.args.start lo own c.loop-entry.bytes.items c.loop-entry.indexes c.args.names.now.items
+    c.loop-entry.names.items)
     (take_all c.loop-entry.entry-index c.args.entries.now c.loop-entry-test.false) (c.loop-entry.invariant.1 kind lo own n up)

@@ -18,19 +18,23 @@ loop-expression-preserved c =
     let i : ℕ = c.loop-expression.expression-index in
     let x : Vec ℕ = c.expression-item.result in
     let is : c.as_slice.result.now ≡ (get_or xs i x).items = c.as_slice.ensures.value ∙ ap items c.expression-item.is in (
-      spelled_more (expression_bytes c.args.start c.args.len) xs i x c.args.out.now.items c.loop-expression.out.items c.put_expression.new.out.items
+      spelled_more (expression_bytes c.args.start c.args.len) xs i x c.args.out.now.items c.loop-expression.out.items
+          c.put_expression.new.out.items
           c.loop-expression-test.true c.loop-expression.invariant.0
           (c.in_ok-put_expression.ensures.written
           ∙ ap (λ (l : List ℕ). c.loop-expression.out.items ++ entries_bytes (over c.args.start c.args.len (l ∷ []))) is),
       over_fits c.args.start c.args.len xs i x c.loop-expression-test.true c.loop-expression.invariant.1
-          (subst (λ (l : List ℕ). Fits (record { start = c.args.start; len = c.args.len; expression = l })) is c.in_ok-put_expression.ensures.fits),
+          (subst (λ (l : List ℕ). Fits (record { start = c.args.start; len = c.args.len; expression = l })) is
+          c.in_ok-put_expression.ensures.fits),
     )
 
 pub returns-clause-written : goal.returns-clause-written
 returns-clause-written c =
-    expressions_done c.args.start c.args.len c.args.expressions.now c.loop-expression.expression-index c.args.out.now.items c.loop-expression.out.items
+    expressions_done c.args.start c.args.len c.args.expressions.now c.loop-expression.expression-index c.args.out.now.items
+    c.loop-expression.out.items
     c.loop-expression-test.false c.loop-expression.invariant.0
 
 pub returns-clause-fits : goal.returns-clause-fits
 returns-clause-fits c =
-    over_all c.args.start c.args.len c.args.expressions.now c.loop-expression.expression-index c.loop-expression-test.false c.loop-expression.invariant.1
+    over_all c.args.start c.args.len c.args.expressions.now c.loop-expression.expression-index c.loop-expression-test.false
+    c.loop-expression.invariant.1

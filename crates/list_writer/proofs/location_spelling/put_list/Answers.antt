@@ -16,7 +16,8 @@ loop-run-preserved c =
     let rs : List (Run (Vec (Vec ℕ))) = c.args.runs.now in
     let i : ℕ = c.loop-run.run-index in
     let r : Run (Vec (Vec ℕ)) = c.run-item.result in (
-      spelled_more run_bytes rs i r c.args.out.now.items c.loop-run.out.items c.put_run.new.out.items c.loop-run-test.true c.loop-run.invariant.0
+      spelled_more run_bytes rs i r c.args.out.now.items c.loop-run.out.items c.put_run.new.out.items c.loop-run-test.true
+          c.loop-run.invariant.0
           (c.in_ok-put_run.ensures.written ∙ ap (λ (r : Run (Vec (Vec ℕ))). c.loop-run.out.items ++ run_bytes r) c.run-item.is),
       runs_fit rs i r c.loop-run-test.true c.loop-run.invariant.1
           (subst (λ (r : Run (Vec (Vec ℕ))). All Fits (over r.start r.len (said r.answer))) c.run-item.is c.in_ok-put_run.ensures.fits),

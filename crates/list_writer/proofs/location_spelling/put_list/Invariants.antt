@@ -8,4 +8,5 @@ use Rattle.list_writer.proofs.location_spelling.put_list.Given as goal
 
 abbrev pub invariant-loop-run : goal.invariant-loop-run
 invariant-loop-run l =
-    (l.out.items ≡ l.fn.out.items ++ flat_map run_bytes (take l.run-index l.runs)) × All Fits (bounded (said_runs said (take l.run-index l.runs)))
+    (l.out.items ≡ l.fn.out.items ++ flat_map run_bytes (take l.run-index l.runs))
+    × All Fits (bounded (said_runs said (take l.run-index l.runs)))

@@ -1,5 +1,6 @@
 use Rattle.std.proofs.Common.{arith, ◌≤◌, sym, length}
 use Rattle.table_core.proofs.NewCode.{made_more, made_same, past}
+use Rattle.table_core.proofs.SilentTables.{no_runs}
 use Rattle.table_core.proofs.carrying.runs_of.Goals as goal
 use Rattle.table_core.proofs.carrying.runs_of.Goals.{in-Some+then-span-gt0+in_ok-add_span-in-Some, in-Some+else-span-gt0, in-None}
 
@@ -20,3 +21,7 @@ loop-i-preserved g c = elim c.match-span.branch [
   | in-None w ↦ let h : length c.args.map.now ≤ c.loop-i.i = past c.args.map.now c.loop-i.i (sym w.in-None.ensures) in
       absurd (omega arith)
 ]
+
+pub returns-then-is_silent-clause-runs : goal.returns-then-is_silent-clause-runs
+returns-then-is_silent-clause-runs g c =
+    rw c.new-runs.ensures.items (no_runs (g.T.ByAddress.says c.args.table.now) c.args.map.now (c.is_silent.ensures c.if-is_silent.true))

@@ -10,7 +10,8 @@ returns c =
     let all : List Cover = numbered list_covers 0 c.args.lists.now in
     let permuted : IsPermutation all c.in_ok-tree.tree =
     subst (IsPermutation all) (sym (c.in_ok-tree.ensures ∙ c.deref-2.ensures.value))
-    (subst (λ (cs : List Cover). IsPermutation cs c.in_ok-covers.covers.items) (c.deref.ensures.value ∙ c.in_ok-numbered.ensures) c.in_ok-covers.ensures) in
+    (subst (λ (cs : List Cover). IsPermutation cs c.in_ok-covers.covers.items) (c.deref.ensures.value ∙ c.in_ok-numbered.ensures)
+    c.in_ok-covers.ensures) in
     record {
       bounded = λ n a. found_bounds a c.args.lists.now c.in_ok-tree.tree n permuted;
       unbounded = c.in_ok-unbounded.ensures;

@@ -27,14 +27,16 @@ write_tables-requires-clause-order c =
     let t = c.self.inside in
     let s : ListSections = list_sections_held t.info.items t.abbrevs.items t.addr.items t.ranges.items t.locations.items in
     let free = units_free s (places_fine s c.self.invariant.free).ranges in
-    subst (AreInOrder Locations 0) (sym c.deref-4.ensures.value) (names_in_order t.kept.lists.items s t.named.items c.self.invariant.names (places_ascend s.units free))
+    subst (AreInOrder Locations 0) (sym c.deref-4.ensures.value)
+    (names_in_order t.kept.lists.items s t.named.items c.self.invariant.names (places_ascend s.units free))
 
 pub write_tables-requires-clause-owns : goal.write_tables-requires-clause-owns
 write_tables-requires-clause-owns c =
     let t = c.self.inside in
     let s : ListSections = list_sections_held t.info.items t.abbrevs.items t.addr.items t.ranges.items t.locations.items in
     let free = units_free s (places_fine s c.self.invariant.free).ranges in
-    subst (OwnsRise 0) (sym c.deref-4.ensures.value) (names_own t.kept.lists.items s t.named.items c.self.invariant.names (places_ascend s.units free))
+    subst (OwnsRise 0) (sym c.deref-4.ensures.value) (names_own t.kept.lists.items s t.named.items c.self.invariant.names
+    (places_ascend s.units free))
 
 pub returns-clause-law : goal.returns-clause-law
 returns-clause-law c = λ i f from stands.
@@ -49,14 +51,18 @@ returns-clause-law c = λ i f from stands.
     subst (λ (x : ListSections). IsFree (HasDwarfFault (location_places x))) same c.self.invariant.free in
     let count : length rs ≡ length t.kept.lists.items = c.in_ok-carried.ensures.count ∙ ap length c.deref.ensures.value in
     let each : (n : ℕ) → AreRunsOf (carried (list_answer t.kept.lists.items n) spans) (said_in rs n) =
-    λ n. subst (λ (ls : List KeptList). AreRunsOf (carried (list_answer ls n) spans) (said_in rs n)) c.deref.ensures.value (c.in_ok-carried.ensures.each n) in
+    λ n. subst (λ (ls : List KeptList). AreRunsOf (carried (list_answer ls n) spans) (said_in rs n)) c.deref.ensures.value
+    (c.in_ok-carried.ensures.each n) in
     let spelled : items_in bs ≡ map runs_bytes rs = c.in_ok-bytes.ensures.written ∙ ap (map runs_bytes) c.deref-2.ensures.value in
     let fits : All CanBeWritten rs = subst (All CanBeWritten) c.deref-2.ensures.value c.in_ok-bytes.ensures.fits in
     let written : AreWritten Locations bs t.named.items t.named.items [] w.bytes.items w.lists.items =
     subst (λ (ns : List NamedList). AreWritten Locations bs ns ns [] w.bytes.items w.lists.items) c.deref-4.ensures.value
-    (subst (λ (ls : List (Vec ℕ)). AreWritten Locations ls c.deref-4.result.now c.deref-4.result.now [] w.bytes.items w.lists.items) c.deref-3.ensures.value
+    (subst (λ (ls : List (Vec ℕ)). AreWritten Locations ls c.deref-4.result.now c.deref-4.result.now [] w.bytes.items w.lists.items)
+    c.deref-3.ensures.value
     c.in_ok-written.ensures.written) in
-    let law = law_of i f spans free t.kept.lists.items t.named.items (subst (λ (x : ListSections). AreNamesOf t.kept.lists.items t.named.items (all_items x)) same c.self.invariant.names) rs count each bs spelled fits w written stands in
+    let law = law_of i f spans free t.kept.lists.items t.named.items
+    (subst (λ (x : ListSections). AreNamesOf t.kept.lists.items t.named.items (all_items x)) same c.self.invariant.names) rs count each
+    bs spelled fits w written stands in
     (subst (λ (x : ListSections). IsCarriedFrom (λ x y. x ≡ y) spans (place_says x) (place_answers f)) (sym from) law.0, law.1)
 
 pub returns-clause-made : goal.returns-clause-made
@@ -67,7 +73,9 @@ returns-clause-made c =
     let w = c.in_ok-written.written in
     let written : AreWritten Locations bs t.named.items t.named.items [] w.bytes.items w.lists.items =
     subst (λ (ns : List NamedList). AreWritten Locations bs ns ns [] w.bytes.items w.lists.items) c.deref-4.ensures.value
-    (subst (λ (ls : List (Vec ℕ)). AreWritten Locations ls c.deref-4.result.now c.deref-4.result.now [] w.bytes.items w.lists.items) c.deref-3.ensures.value
+    (subst (λ (ls : List (Vec ℕ)). AreWritten Locations ls c.deref-4.result.now c.deref-4.result.now [] w.bytes.items w.lists.items)
+    c.deref-3.ensures.value
     c.in_ok-written.ensures.written) in
     subst (λ (x : ListSections). PlacesMade x w) c.self.view_is
-    (made_of s t.kept.lists.items t.named.items c.self.invariant.names bs w written (λ e. c.in_ok-written.ensures.none (ap length c.deref-4.ensures.value ∙ e)))
+    (made_of s t.kept.lists.items t.named.items c.self.invariant.names bs w written
+    (λ e. c.in_ok-written.ensures.none (ap length c.deref-4.ensures.value ∙ e)))

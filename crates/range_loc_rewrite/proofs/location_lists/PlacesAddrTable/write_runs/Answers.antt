@@ -7,7 +7,8 @@ use Rattle.range_loc_rewrite.proofs.location_lists.PlacesAddrTable.write_runs.Go
 pub returns-clause-law : goal.returns-clause-law
 returns-clause-law c = λ i f from stands.
     let law = c.in_ok-written.ensures.law i f from stands in (
-      subst (λ (wanted : ℕ → Option (List PlaceSaid)). IsCarried (λ x y. x ≡ y) c.args.map.now wanted (place_answers f)) (λ k p. sym (c.requires.answers p) k)
+      subst (λ (wanted : ℕ → Option (List PlaceSaid)). IsCarried (λ x y. x ≡ y) c.args.map.now wanted (place_answers f))
+          (λ k p. sym (c.requires.answers p) k)
           law.0,
       law.1,
       tt,

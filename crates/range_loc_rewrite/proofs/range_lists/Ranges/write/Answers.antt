@@ -53,13 +53,16 @@ returns-clause-law c = λ i f from stands.
     let are = subst (λ (x : ListSections). AreKept x t.ranged.items t.count t.index t.bounds.items t.index_weight) same c.self.invariant in
     let each : (g : ℕ) → g < t.count → AreRunsOf (carried (held_by t.index.tree g) spans) (runs_in lists g) =
     λ g below.
-    subst (λ (cs : List Cover). AreRunsOf (carried (held_by cs g) spans) (runs_in lists g)) c.tree.ensures (c.in_ok-lists.ensures.each g below) in
-    let spelled : map (λ (b : Vec ℕ). b.items) bs ≡ map group_bytes lists = c.in_ok-bytes.ensures ∙ ap (map group_bytes) c.deref-2.ensures.value in
+    subst (λ (cs : List Cover). AreRunsOf (carried (held_by cs g) spans) (runs_in lists g)) c.tree.ensures
+    (c.in_ok-lists.ensures.each g below) in
+    let spelled : map (λ (b : Vec ℕ). b.items) bs ≡ map group_bytes lists = c.in_ok-bytes.ensures
+    ∙ ap (map group_bytes) c.deref-2.ensures.value in
     let named : c.deref-5.result.now ≡ map named_of t.ranged.items =
     c.deref-5.ensures.value ∙ c.in_ok-named.ensures ∙ ap (map named_of) c.deref-3.ensures.value in
     let written : AreWritten Ranges bs (map named_of t.ranged.items) (map named_of t.ranged.items) [] w.bytes.items w.lists.items =
     subst (λ (ns : List NamedList). AreWritten Ranges bs ns ns [] w.bytes.items w.lists.items) named
-    (subst (λ (ls : List (Vec ℕ)). AreWritten Ranges ls c.deref-5.result.now c.deref-5.result.now [] w.bytes.items w.lists.items) c.deref-4.ensures.value
+    (subst (λ (ls : List (Vec ℕ)). AreWritten Ranges ls c.deref-5.result.now c.deref-5.result.now [] w.bytes.items w.lists.items)
+    c.deref-4.ensures.value
     c.in_ok-written.ensures.written) in
     let law = law_of i f spans t.ranged.items t.count t.index t.bounds.items t.index_weight are lists each
     (λ g below. c.in_ok-lists.ensures.within g below) c.in_ok-lists.ensures.count bs spelled w written stands in
@@ -75,7 +78,8 @@ returns-clause-made c =
     c.deref-5.ensures.value ∙ c.in_ok-named.ensures ∙ ap (map named_of) c.deref-3.ensures.value in
     let written : AreWritten Ranges bs (map named_of t.ranged.items) (map named_of t.ranged.items) [] w.bytes.items w.lists.items =
     subst (λ (ns : List NamedList). AreWritten Ranges bs ns ns [] w.bytes.items w.lists.items) named
-    (subst (λ (ls : List (Vec ℕ)). AreWritten Ranges ls c.deref-5.result.now c.deref-5.result.now [] w.bytes.items w.lists.items) c.deref-4.ensures.value
+    (subst (λ (ls : List (Vec ℕ)). AreWritten Ranges ls c.deref-5.result.now c.deref-5.result.now [] w.bytes.items w.lists.items)
+    c.deref-4.ensures.value
     c.in_ok-written.ensures.written) in
     subst (λ (x : ListSections). RangesMade x w) c.self.view_is
     (made_of s t.ranged.items t.count t.index t.bounds.items t.index_weight c.self.invariant bs w written

@@ -30,13 +30,15 @@ returns c =
     let sum : ℕ = sum_by (λ r. run_weight * length (runs_in lists r.group)) t.ranged.items in
     let each : (g : ℕ) → g < t.count → AreRunsOf (carried (held_by t.index.tree g) spans) (runs_in lists g) =
     λ g below.
-    subst (λ (cs : List Cover). AreRunsOf (carried (held_by cs g) spans) (runs_in lists g)) c.tree.ensures (c.in_ok-lists.ensures.each g below) in
+    subst (λ (cs : List Cover). AreRunsOf (carried (held_by cs g) spans) (runs_in lists g)) c.tree.ensures
+    (c.in_ok-lists.ensures.each g below) in
     let weighed : IsRangesWeight s spans (index_weights ranges_kind.index_form s + sum) =
     kept_weight s spans t.ranged.items t.count t.index t.bounds.items t.index_weight c.self.invariant lists each in (
       index_weights ranges_kind.index_form s + sum,
       subst (λ (x : ListSections). IsRangesWeight x spans (index_weights ranges_kind.index_form s + sum)) c.self.view_is weighed,
       weights_joined c.saturating_add.result sum t.index_weight (index_weights ranges_kind.index_form s) (2 ^ 64 - 1)
           (c.saturating_add.ensures ∙ ap (λ (n : ℕ). min (n + t.index_weight) (2 ^ 64 - 1)) c.runs_weight.ensures
-          ∙ (λ i. min (min (sum_by (λ r. run_weight * length (runs_in (c.deref-3.ensures.value i) r.group)) (c.deref-2.ensures.value i)) (2 ^ 64 - 1)
+          ∙ (λ i. min (min (sum_by (λ r. run_weight * length (runs_in (c.deref-3.ensures.value i) r.group)) (c.deref-2.ensures.value i))
+          (2 ^ 64 - 1)
           + t.index_weight) (2 ^ 64 - 1))) c.self.invariant.indexes,
     )

@@ -1,14 +1,14 @@
 use Rattle.std.proofs.Common.{◌≡◌, ◌∙◌, ℕ, false, List, Option, sym, ap, subst}
 use Rattle.std.specs.Prelude.{flat_map, not}
 use Rattle.std.specs.Option.{option_or, option_map_or}
-use Rattle.table_core.specs.ReadSteps.{lower, least}
+use Rattle.table_core.specs.ReadSteps.{lower}
 use Rattle.table_core.specs.DebugUnits.{Walked, walked, first_place, other_version}
 use Rattle.dw_unit.specs.CompUnits.{unit_of}
 use Rattle.dw_unit.specs.Declarations.{has_bad_form}
 use Rattle.dw_unit.specs.Faults.{declarations, places_with, unformed, is_bad, is_address_table, unit_fault_places}
 use Rattle.dw_unit.proofs.Leasts.{least-append}
-use Rattle.addr_rewrite.specs.UnitFaults.{AreNoted}
-use Rattle.addr_rewrite.proofs.unit_faults.places_of.Goals as goal
+use Rattle.dw_unit.specs.UnitFaults.{AreNoted}
+use Rattle.dw_unit.proofs.unit_faults.fault_places.Goals as goal
 
 pub returns : goal.returns
 returns c = λ s units tables noted.

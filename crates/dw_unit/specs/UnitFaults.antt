@@ -5,7 +5,7 @@ use Rattle.table_core.specs.ReadSteps.{least}
 use Rattle.dw_unit.specs.CompUnits.{unit_of}
 use Rattle.dw_unit.specs.Declarations.{has_bad_form, has_bad_high}
 use Rattle.dw_unit.specs.Faults.{declarations_of, places_with, unformed, fails, is_sound_unit}
-use Rattle.addr_rewrite.specs.declared.unit_faults.UnitFaults.{UnitFaults}
+use Rattle.dw_unit.specs.declared.unit_faults.UnitFaults.{UnitFaults}
 
 pub record AreNoted (abbrevs addr : List ℕ) (ws : List Walked) (f : UnitFaults) : Type 0 where
   pub form : f.bad_form ≡ least (places_with has_bad_form (flat_map (declarations_of abbrevs) ws))
