@@ -110,4 +110,5 @@ module _ (elf : Elf) (free : IsFree (HasDwarfFault (unit_fault_places (sections_
       ns ≡ namings ls → fs ≡ link_frames lines s (row_position lines a) ls ns → fs ≡ frames elf a
   frames_found a covering ls ns fs has e f g =
       let links : ls ≡ map (link_of s) (chain (list_sections elf) a) = e ∙ chain_links s (list_sections elf) a covering refl free has in
-      g ∙ (λ i. link_frames lines s (row_position lines a) (links i) ((f ∙ ap namings links) i)) ∙ frames_are a (chain (list_sections elf) a)
+      g ∙ (λ i. link_frames lines s (row_position lines a) (links i) ((f ∙ ap namings links) i))
+      ∙ frames_are a (chain (list_sections elf) a)

@@ -12,7 +12,8 @@ use Rattle.dw_unit.specs.declared.attribute.TheConstants as at
 use Rattle.dw_unit.specs.Declarations.{has_spec}
 use Rattle.dw_unit.specs.EntryMoves.{Moves, moved_address, new_list_offset}
 use Rattle.dw_unit.specs.CompUnits.{Entry, value_bytes}
-use Rattle.dw_unit.specs.Changes.{changed_attr, ranges_attrs, keeps_low, names_base, new_address, new_list, new_name, new_value, no_line_unit}
+use Rattle.dw_unit.specs.Changes.{changed_attr, ranges_attrs, keeps_low, names_base, new_address, new_list, new_name, new_value}
+use Rattle.dw_unit.specs.Changes.{no_line_unit}
 use Rattle.inline_frames.proofs.KeptChains.{IsKeptAttr, IsPlain, IsStable}
 use Rattle.inline_frames.proofs.Pairs.{AllOf, agree_to}
 
@@ -108,7 +109,8 @@ module _ (m : Moves) (own first : Bool) (e : Entry) (i f : List ℕ) (n : ℕ) w
           place = a.place;
           len = 4;
           value = unwrap_or (new_list_offset m.lists e.place at.DW_AT_ranges) 0;
-        } ∷ (if b then record { name = at.DW_AT_unused_high; form = DW_FORM_data4; place = a.place + 4; len = 4; value = 0 } ∷ [] else []) ++ xs)
+        } ∷ (if b then record { name = at.DW_AT_unused_high; form = DW_FORM_data4; place = a.place + 4; len = 4; value = 0 } ∷ [] else [])
+            ++ xs)
             ≡ find named xs
         by true = find_skip named _ (_ ∷ xs) stable.ranges ∙ find_skip named _ xs stable.unused_high
         by false = find_skip named _ xs stable.ranges

@@ -88,7 +88,8 @@ entries_from : (own : Entry → Option (List Range)) (before es : List Entry) �
 entries_from own before [] = refl
 entries_from own before (e ∷ es) = ap (λ (l : List Entry). e ∷ l) (entries_from own (e ∷ before) es)
 
-entries_in : (s : ListSections) (us : List Unit) → map (λ (r : Ranged). r.entry) (flat_map (ranged_in s) us) ≡ flat_map (λ (u : Unit). u.entries) us
+entries_in : (s : ListSections) (us : List Unit) → map (λ (r : Ranged). r.entry) (flat_map (ranged_in s) us) ≡ flat_map
+    (λ (u : Unit). u.entries) us
 entries_in s [] = refl
 entries_in s (u ∷ us) =
     map-append (λ (r : Ranged). r.entry) (ranged_in s u) (flat_map (ranged_in s) us)

@@ -168,7 +168,8 @@ pub chain_links : (s : NameSections) (l : ListSections) (a : ℕ) (covering : BT
     file_links s.str_offsets covering [] (map (λ (u : Unit). map listed u.entries) (units s.units)) ≡ map (link_of s) (chain l a)
 chain_links s l a covering same free has =
     all_links s l a covering has (units s.units) [] (units_filed s free)
-    (subst (λ us. AllOf (Covered l a) (units us)) same (all_covered l a (subst (λ us. IsFree (HasDwarfFault (unit_fault_places us))) (sym same) free)))
+    (subst (λ us. AllOf (Covered l a) (units us)) same (all_covered l a
+    (subst (λ us. IsFree (HasDwarfFault (unit_fault_places us))) (sym same) free)))
     ∙ ap (λ us. map (link_of s) (last_chain l a [] (units us))) (sym same)
 
 -- How names are found

@@ -1,5 +1,6 @@
 -- The unit of each entry is found by the place that the entry names.
-use Rattle.std.proofs.Common.{◌≡◌, ◌∙◌, ◌≤◌, ◌+◌, ◌-◌, ◌==◌, ℕ, zero, suc, Bool, true, false, List, [], ◌∷◌, Some, Ok, Err, Result, refl, sym, ap, subst, arith}
+use Rattle.std.proofs.Common.{◌≡◌, ◌∙◌, ◌≤◌, ◌+◌, ◌-◌, ◌==◌, ℕ, zero, suc, Bool, true, false, List, [], ◌∷◌, Some, Ok, Err, Result, refl}
+use Rattle.std.proofs.Common.{sym, ap, subst, arith}
 use Rattle.std.proofs.Common.{length}
 use Rattle.std.specs.Prelude.{if◌then◌else◌}
 use Rattle.std.specs.List.{AllZip, find}
@@ -12,7 +13,8 @@ use Rattle.table_core.specs.DebugUnits.{Walked, walked}
 use Rattle.table_core.specs.ReadSteps.{and_so, with_head}
 use Rattle.dw_unit.specs.declared.entry.Attr.{Attr}
 use Rattle.dw_unit.specs.declared.trouble.Trouble.{Trouble}
-use Rattle.dw_unit.specs.CompUnits.{Entry, Unit, UnitBounds, attrs_at, declaration_of, depth_behind, end_of, entries_within, entry_behind, units}
+use Rattle.dw_unit.specs.CompUnits.{Entry, Unit, UnitBounds, attrs_at, declaration_of, depth_behind, end_of, entries_within, entry_behind}
+use Rattle.dw_unit.specs.CompUnits.{units}
 use Rattle.dw_unit.specs.Declarations.{Declaration}
 use Rattle.dw_unit.specs.EntryChanges.{AreBehind}
 use Rattle.dw_unit.specs.Faults.{HasDwarfFault, is_sound_unit, unit_fault_places}
@@ -74,7 +76,8 @@ entries_filed u zero depth [] es e = let same : [] ≡ es = cc in subst (AllOf (
 entries_filed u zero depth (b ∷ left) es e = absurd (cc)
 entries_filed u (suc n) depth [] es e = let same : [] ≡ es = cc in subst (AllOf (λ (e : Entry). e.unit ≡ u.place)) same tt
 entries_filed u (suc n) depth (b ∷ left) es e =
-    by_entry u (entries_within u n) (λ depth rest es f. entries_filed u n depth rest es f) (u.end - length (b ∷ left)) depth (uleb_at (b ∷ left)) es e
+    by_entry u (entries_within u n) (λ depth rest es f. entries_filed u n depth rest es f) (u.end - length (b ∷ left)) depth
+    (uleb_at (b ∷ left)) es e
 
 -- Units stand at places of their own.
 

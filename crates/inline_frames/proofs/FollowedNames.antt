@@ -1,5 +1,6 @@
 -- The name of an entry is found by following its references.
-use Rattle.std.proofs.Common.{◌≡◌, ◌∙◌, ◌+◌, ◌-◌, ◌*◌, ◌==◌, ℕ, zero, suc, Bool, true, false, List, Option, Some, None, refl, sym, ap, arith, drop, take}
+use Rattle.std.proofs.Common.{◌≡◌, ◌∙◌, ◌+◌, ◌-◌, ◌*◌, ◌==◌, ℕ, zero, suc, Bool, true, false, List, Option, Some, None, refl, sym, ap}
+use Rattle.std.proofs.Common.{arith, drop, take}
 use Rattle.std.specs.Prelude.{if◌then◌else◌, option_and_then, option_map}
 use Rattle.std.specs.Option.{option_or}
 use Rattle.std.proofs.lemmas.Grind.{common_steps}
@@ -10,7 +11,8 @@ use Rattle.dw_unit.specs.declared.attribute.TheConstants.{DW_AT_abstract_origin,
 use Rattle.dw_unit.specs.declared.entry.Attr.{Attr}
 use Rattle.dw_unit.specs.CompUnits.{Entry, Unit, attr, base, number_in, value_bytes}
 use Rattle.inline_frames.specs.Names.{NameSections, name_within, own_name_or, referred, target_of, text_of, text_of_index, unit_of_entry}
-use Rattle.inline_frames.specs.Naming.{entry_at, followed, followed_times, index_place, naming_by, naming_of, naming_or_none, text_at_place, text_named, text_place}
+use Rattle.inline_frames.specs.Naming.{entry_at, followed, followed_times, index_place, naming_by, naming_of, naming_or_none, text_at_place}
+use Rattle.inline_frames.specs.Naming.{text_named, text_place}
 use Rattle.inline_frames.specs.declared.naming.Naming.{Naming}
 use Rattle.inline_frames.specs.declared.naming.Naming.TheVariants.{Named}
 use Rattle.inline_frames.specs.declared.naming.TextPlace.TheVariants.{InInfo, InStr, InLineStr}

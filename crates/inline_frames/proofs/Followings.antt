@@ -1,5 +1,6 @@
 -- Steps of following references.
-use Rattle.std.proofs.Common.{◌≡◌, ◌∙◌, ◌<◌, ◌≤◌, ◌+◌, ◌==◌, ℕ, zero, suc, Bool, true, false, cond, List, [], ◌∷◌, Option, Some, None, refl, sym, ap, subst, arith}
+use Rattle.std.proofs.Common.{◌≡◌, ◌∙◌, ◌<◌, ◌≤◌, ◌+◌, ◌==◌, ℕ, zero, suc, Bool, true, false, cond, List, [], ◌∷◌, Option, Some, None, refl}
+use Rattle.std.proofs.Common.{sym, ap, subst, arith}
 use Rattle.std.proofs.Common.{drop, get_or, length, map}
 use Rattle.std.specs.Prelude.{◌||◌, if◌then◌else◌, is_some, option_map}
 use Rattle.std.specs.BTreeMap.{BTreeMap, get, is_at}
@@ -26,21 +27,25 @@ module _ (str_offsets : List ℕ) (es : List ListedEntry) (q : ℕ) where
   -- what was found, with what the entries behind an index give
   abbrev pub WithRest : Bool → ℕ → Option Naming → Option Naming → Type 0
   WithRest wanted i old found =
-      option_or found (if wanted then option_map (listed_naming str_offsets es) (find (λ (e : ListedEntry). e.place == q) (drop i es)) else None)
+      option_or found (if wanted then option_map (listed_naming str_offsets es) (find (λ (e : ListedEntry). e.place == q) (drop i es)) else
+      None)
       ≡ option_or old (if wanted then unit_naming str_offsets es q else None)
 
   opened : (i : ℕ) (d : ListedEntry) → i < length es →
       from i ≡ (if (get_or es i d).place == q then Some (listed_naming str_offsets es (get_or es i d)) else from (i + 1))
   opened i d h =
-      ap (λ (l : List ListedEntry). option_map (listed_naming str_offsets es) (find (λ (e : ListedEntry). e.place == q) l)) (drop_more es i d h)
+      ap (λ (l : List ListedEntry). option_map (listed_naming str_offsets es) (find (λ (e : ListedEntry). e.place == q) l))
+      (drop_more es i d h)
       ∙ by ((get_or es i d).place == q) where
         by : (b : Bool) →
-            option_map (listed_naming str_offsets es) (cond b (Some (get_or es i d)) (find (λ (e : ListedEntry). e.place == q) (drop (i + 1) es)))
+            option_map (listed_naming str_offsets es) (cond b (Some (get_or es i d))
+            (find (λ (e : ListedEntry). e.place == q) (drop (i + 1) es)))
             ≡ (if b then Some (listed_naming str_offsets es (get_or es i d)) else from (i + 1))
         by true = refl
         by false = refl
 
-  module _ (wanted : Bool) (i : ℕ) (d : ListedEntry) (old found : Option Naming) (h : i < length es) (inv : WithRest wanted i old found) where
+  module _ (wanted : Bool) (i : ℕ) (d : ListedEntry) (old found : Option Naming) (h : i < length es)
+      (inv : WithRest wanted i old found) where
     abbrev here : ListedEntry
     here = get_or es i d
 
@@ -54,13 +59,15 @@ module _ (str_offsets : List ℕ) (es : List ListedEntry) (q : ℕ) where
     -- another entry
     pub other_place : (here.place == q) ≡ false → WithRest wanted (i + 1) old found
     other_place e =
-        sym (ap (λ (b : Bool). option_or found (if wanted then (if b then Some (listed_naming str_offsets es here) else next) else None)) e) ∙ step
+        sym (ap (λ (b : Bool). option_or found (if wanted then (if b then Some (listed_naming str_offsets es here) else next) else None)) e)
+        ∙ step
 
     -- one that isn't wanted, or was found before
     pub not_wanted : wanted ≡ false → WithRest wanted (i + 1) old found
     not_wanted e =
         ap (λ (b : Bool). option_or found (if b then next else None)) e
-        ∙ sym (ap (λ (b : Bool). option_or found (if b then (if here.place == q then Some (listed_naming str_offsets es here) else next) else None)) e)
+        ∙ sym (ap (λ (b : Bool). option_or found (if b then (if here.place == q then Some (listed_naming str_offsets es here) else next)
+        else None)) e)
         ∙ step
 
     pub known : is_some found ≡ true → WithRest wanted (i + 1) old found
@@ -106,7 +113,8 @@ module _ (str_offsets : List ℕ) (es : List ListedEntry) (wanted : BTreeSet ℕ
 
   pub with_end : (i : ℕ) (found : BTreeMap ℕ Naming) → length es ≤ i → AreWith i found → (q : ℕ) →
       get nat_cmp found q ≡ option_or (get nat_cmp first q) (if contains nat_cmp wanted q then unit_naming str_offsets es q else None)
-  with_end i found h inv = λ q. rest_end str_offsets es q (contains nat_cmp wanted q) i (get nat_cmp first q) (get nat_cmp found q) h (inv q)
+  with_end i found h inv = λ q. rest_end str_offsets es q (contains nat_cmp wanted q) i (get nat_cmp first q) (get nat_cmp found q) h
+      (inv q)
 
   module _ (i : ℕ) (e : ListedEntry) (found : BTreeMap ℕ Naming) (h : i < length es) (is : e ≡ get_or es i e) (inv : AreWith i found) where
     abbrev place : ℕ
@@ -211,9 +219,11 @@ pub round_more : (str_offsets : List ℕ) (units : List (List ListedEntry)) (k :
 round_more str_offsets units k now new found are e =
     ap (map (followed_times str_offsets units k)) (e ∙ all_same found (file_naming str_offsets units) now
     (λ q t. are q ∙ ap (λ (b : Bool). if b then file_naming str_offsets units q else None) t))
-    ∙ map_twice (followed_times str_offsets units k) (followed_by (file_naming str_offsets units)) (followed_times str_offsets units (suc k))
+    ∙ map_twice (followed_times str_offsets units k) (followed_by (file_naming str_offsets units))
+    (followed_times str_offsets units (suc k))
     (λ n. refl) now
 
-pub no_rounds : (str_offsets : List ℕ) (units : List (List ListedEntry)) (ns : List Naming) → map (followed_times str_offsets units 0) ns ≡ ns
+pub no_rounds : (str_offsets : List ℕ) (units : List (List ListedEntry)) (ns : List Naming) →
+    map (followed_times str_offsets units 0) ns ≡ ns
 no_rounds str_offsets units [] = refl
 no_rounds str_offsets units (n ∷ ns) = ap (λ (l : List Naming). n ∷ l) (no_rounds str_offsets units ns)

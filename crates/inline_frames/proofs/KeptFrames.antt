@@ -71,7 +71,8 @@ module _ (i f : Elf) (p o : ℕ) (kept : IsChainKept i f p o) where
       unsigned_of name y ≡ unsigned_of name x
   unsigned_each name x y h = then_each (IsKeptAttr (name_sections i).units.info (name_sections f).units.info)
       (λ (a : Attr). number_by a.form a.value) (λ (a : Attr). number_by a.form a.value)
-      (λ a b k. ap (λ n. number_by n b.value) k.form ∙ number_kept a.form a.value b.value (value_of _ _ a b k)) (attr name x) (attr name y) h
+      (λ a b k. ap (λ n. number_by n b.value) k.form ∙ number_kept a.form a.value b.value (value_of _ _ a b k)) (attr name x)
+      (attr name y) h
 
   -- The files of a unit.
 
@@ -177,7 +178,8 @@ module _ (i f : Elf) (p o : ℕ) (kept : IsChainKept i f p o) where
   call_path_each : (x y : Entry) → Infos i f x y → call_path f y ≡ call_path i x
   call_path_each x y h = call_path_is f y
       ∙ ap (λ u. path_by u (unsigned_of DW_AT_call_file y)) (entry_files_each x y h)
-      ∙ ap (λ n. path_by (entry_files i x) n) (unsigned_each DW_AT_call_file x y (h.attrs DW_AT_call_file (plain_name DW_AT_call_file refl refl)))
+      ∙ ap (λ n. path_by (entry_files i x) n) (unsigned_each DW_AT_call_file x y
+      (h.attrs DW_AT_call_file (plain_name DW_AT_call_file refl refl)))
       ∙ sym (call_path_is i x)
 
   -- The frames.

@@ -174,7 +174,8 @@ module _ (i f : Elf) (kept : AreNamesKept i f) where
       (option_or (attr DW_AT_abstract_origin x) (attr DW_AT_specification x))
       (option_or (attr DW_AT_abstract_origin y) (attr DW_AT_specification y))
       (or_kept (attr DW_AT_abstract_origin x) (attr DW_AT_abstract_origin y) (attr DW_AT_specification x)
-      (attr DW_AT_specification y) (h.attrs DW_AT_abstract_origin (plain_name DW_AT_abstract_origin refl refl)) (h.attrs DW_AT_specification (plain_name DW_AT_specification refl refl))))
+      (attr DW_AT_specification y) (h.attrs DW_AT_abstract_origin (plain_name DW_AT_abstract_origin refl refl))
+      (h.attrs DW_AT_specification (plain_name DW_AT_specification refl refl))))
 
   own_name : (x y : Entry) → Infos i f x y → (more more' : Option (List ℕ)) → more' ≡ more →
       name_or (name_sections f) y more' ≡ name_or (name_sections i) x more

@@ -77,7 +77,8 @@ and_not false true e = refl
 and_not b false e = absurd (cc)
 
 module _ (spans : List Span) (lists : List ListAt) (i f : Elf) (kept : IsDebugKept spans lists i f)
-    (sound_input : IsFree (HasDwarfFault (unit_fault_places (sections_of i)))) (sound : IsFree (HasDwarfFault (unit_fault_places (sections_of f))))
+    (sound_input : IsFree (HasDwarfFault (unit_fault_places (sections_of i))))
+    (sound : IsFree (HasDwarfFault (unit_fault_places (sections_of f))))
     (lines_input : line_fault (line_sections i) ≡ None) (lines : line_fault (line_sections f) ≡ None) where
   abbrev Infos : Entry → Entry → Type 0
   Infos x y = IsKeptEntry (name_sections i).units.info (name_sections f).units.info x y
@@ -101,7 +102,8 @@ module _ (spans : List Span) (lists : List ListAt) (i f : Elf) (kept : IsDebugKe
     attrs = λ name plain. subst
         (λ (attrs : List Attr). Agree (IsKeptAttr (name_sections i).units.info (name_sections f).units.info) (attr name x)
         (find (λ (a : Attr). a.name == name) attrs)) (sym h.attrs)
-        (find_kept kept.units.changed.moves (is_own (sections_of i) x.declaration) (is_first_of u x) x (sections_of i).info (sections_of f).info
+        (find_kept kept.units.changed.moves (is_own (sections_of i) x.declaration) (is_first_of u x) x (sections_of i).info
+        (sections_of f).info
         name plain x.attrs (texts_of u x y h));
   }
 
@@ -143,7 +145,8 @@ module _ (spans : List Span) (lists : List ListAt) (i f : Elf) (kept : IsDebugKe
 
   own_kept : (u : Unit) (x y : Entry) → Changed u x y → IsKeptOwn i f x y
   own_kept u x y h = record {
-    line = subst (λ (attrs : List Attr). Agree (NamesSameFiles i f) (attr DW_AT_stmt_list x) (find (λ (a : Attr). a.name == DW_AT_stmt_list) attrs))
+    line = subst (λ (attrs : List Attr). Agree (NamesSameFiles i f) (attr DW_AT_stmt_list x)
+        (find (λ (a : Attr). a.name == DW_AT_stmt_list) attrs))
         (sym h.attrs)
         (agree_to (IsChanged kept.units.changed.moves (is_own (sections_of i) x.declaration) (is_first_of u x) x
         (sections_of i).info (sections_of f).info DW_AT_stmt_list) (NamesSameFiles i f)
@@ -159,7 +162,8 @@ module _ (spans : List Span) (lists : List ListAt) (i f : Elf) (kept : IsDebugKe
   unit_kept u v h = record {
     place = h.place;
     text_base = text_base u v h;
-    own = agree_to (Changed u) (IsKeptOwn i f) (own_kept u) (own_entry u) (own_entry v) (first_each (Changed u) u.entries v.entries h.entries);
+    own = agree_to (Changed u) (IsKeptOwn i f) (own_kept u) (own_entry u) (own_entry v)
+        (first_each (Changed u) u.entries v.entries h.entries);
     entries = map_each (Changed u) Infos (entry_kept u) u.entries v.entries h.entries;
   }
 
@@ -174,7 +178,8 @@ module _ (spans : List Span) (lists : List ListAt) (i f : Elf) (kept : IsDebugKe
           (sym new ∙ ap (λ d. covers (list_sections f) d p) h.place ∙ covered x.place ∙ old);
     }
 
-    unit_carried : (u v : Unit) → ChangedUnit u v → Covered (list_sections i) o u → Covered (list_sections f) p v → IsCarriedUnit i f p o u v
+    unit_carried : (u v : Unit) → ChangedUnit u v → Covered (list_sections i) o u → Covered (list_sections f) p v →
+        IsCarriedUnit i f p o u v
     unit_carried u v h old new = record {
       kept = unit_kept u v h;
       entries = with_all (Changed u) (λ (e : Entry). covers (list_sections i) e.place o ≡ hold (ranges_of (list_sections i) u e) o)

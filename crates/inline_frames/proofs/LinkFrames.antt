@@ -19,13 +19,15 @@ module _ (lines : LineSections) (s : NameSections) (links : List Link) (namings 
       AreFramed (n + 1) (call_position lines (get_or links n l)) new
   framed_more n p l x f frames new h same inv e g =
       let within : n < length namings = omega (arith, h, same) in
-      ap (λ (fs : List Frame). fs ++ link_frames lines s (call_position lines (get_or links n l)) (drop (n + 1) links) (drop (n + 1) namings))
+      ap (λ (fs : List Frame). fs ++ link_frames lines s (call_position lines (get_or links n l)) (drop (n + 1) links)
+      (drop (n + 1) namings))
       (g ∙ ap (λ (y : Frame). frames ++ y ∷ []) e)
       ∙ append_assoc frames (frame_at s p (get_or namings n x) ∷ [])
       (link_frames lines s (call_position lines (get_or links n l)) (drop (n + 1) links) (drop (n + 1) namings))
       ∙ sym (λ i. frames ++ link_frames lines s p (drop_more links n l h i) (drop_more namings n x within i)) ∙ inv
 
-  pub framed_next : (n : ℕ) (p : Position) (l : Link) (x : Naming) (f : Frame) (next : Position) (frames new : List Frame) → n < length links →
+  pub framed_next : (n : ℕ) (p : Position) (l : Link) (x : Naming) (f : Frame) (next : Position) (frames new : List Frame) →
+      n < length links →
       length namings ≡ length links → AreFramed n p frames → f ≡ frame_at s p (get_or namings n x) →
       next ≡ call_position lines (get_or links n l) → new ≡ frames ++ f ∷ [] → AreFramed (n + 1) next new
   framed_next n p l x f next frames new h same inv e to g =

@@ -1,5 +1,6 @@
 -- The chain of a unit, found by the numbers of its entries.
-use Rattle.std.proofs.Common.{◌≡◌, ◌∙◌, ◌<◌, ◌≤◌, ◌+◌, ◌-◌, ◌++◌, ℕ, Bool, true, false, List, [], ◌∷◌, Option, Some, None, refl, sym, ap, subst, arith}
+use Rattle.std.proofs.Common.{◌≡◌, ◌∙◌, ◌<◌, ◌≤◌, ◌+◌, ◌-◌, ◌++◌, ℕ, Bool, true, false, List, [], ◌∷◌, Option, Some, None, refl, sym, ap}
+use Rattle.std.proofs.Common.{subst, arith}
 use Rattle.std.proofs.Common.{append_assoc, drop, get_or, length, map, reverse, take}
 use Rattle.std.specs.Prelude.{◌==◌, IfSome, nat_lt, if◌then◌else◌}
 use Rattle.std.specs.BTreeSet.{BTreeSet}
@@ -30,7 +31,8 @@ within_more es i counts found new h inv e = subst (λ (o : Option ℕ). IfSome o
 pub backward_more : (es : List Entry) (i : ℕ) (d : Entry) → i < length es → reverse (take (i + 1) es) ≡ get_or es i d ∷ reverse (take i es)
 backward_more es i d h = ap reverse (take_more es i d h) ∙ reverse-append (take i es) (get_or es i d ∷ [])
 
-pub mapped_at : (es : List ListedEntry) (i : ℕ) (d : ListedEntry) → i < length es → get_or (map plain es) i (plain d) ≡ plain (get_or es i d)
+pub mapped_at : (es : List ListedEntry) (i : ℕ) (d : ListedEntry) → i < length es →
+    get_or (map plain es) i (plain d) ≡ plain (get_or es i d)
 mapped_at es i d h = grind (arith, common_steps)
 
 module _ (covering : BTreeSet ℕ) (es : List ListedEntry) where
@@ -58,7 +60,8 @@ module _ (covering : BTreeSet ℕ) (es : List ListedEntry) where
       let within : i < length plains = omega arith in
       let back : reverse (take (i + 1) plains) ≡ e ∷ reverse (take i plains) = backward_more plains i (plain d) within in
       let same : e ≡ plain (get_or es i d) = mapped_at es i d h in
-      (λ j. chain_in test (chain_from covering es (if is_function covering (listed (sym same j)) then Some i else found)) (back j) (drop (i + 1) plains))
+      (λ j. chain_in test (chain_from covering es (if is_function covering (listed (sym same j)) then Some i else found)) (back j)
+      (drop (i + 1) plains))
       ∙ ap (λ (f : List Entry). chain_in test f (e ∷ reverse (take i plains)) (drop (i + 1) plains))
       (by (test e) back)
       ∙ sym (ap (chain_in test (chain_from covering es found) (reverse (take i plains))) (drop_more plains i (plain d) within)) ∙ inv
@@ -112,7 +115,8 @@ module _ (covering : BTreeSet ℕ) (es : List ListedEntry) where
       abbrev before : List Entry
       before = reverse (take n plains)
 
-      opened : links ++ map link (outward test (if nat_lt here.depth depth then plain here ∷ enclosing here.depth before else enclosing depth before))
+      opened : links ++ map link (outward test (if nat_lt here.depth depth then plain here
+          ∷ enclosing here.depth before else enclosing depth before))
           ≡ map link (unit_chain covering es)
       opened =
           let count : length plains ≡ length es = grind (arith, common_steps) in
@@ -124,13 +128,16 @@ module _ (covering : BTreeSet ℕ) (es : List ListedEntry) where
       pub links_outside : depth ≤ here.depth → AreLinks depth n links
       links_outside le =
           let no_less : nat_lt here.depth depth ≡ false = grind (arith, nat_tests) in
-          sym (ap (λ (b : Bool). links ++ map link (outward test (if b then plain here ∷ enclosing here.depth before else enclosing depth before))) no_less)
+          sym (ap (λ (b : Bool). links ++ map link (outward test
+          (if b then plain here ∷ enclosing here.depth before else enclosing depth before))) no_less)
           ∙ opened
 
-      inside : here.depth < depth → links ++ map link (outward test (plain here ∷ enclosing here.depth before)) ≡ map link (unit_chain covering es)
+      inside : here.depth < depth → links ++ map link (outward test (plain here ∷ enclosing here.depth before)) ≡ map link
+          (unit_chain covering es)
       inside lt =
           let less : nat_lt here.depth depth ≡ true = grind (arith, nat_tests) in
-          sym (ap (λ (b : Bool). links ++ map link (outward test (if b then plain here ∷ enclosing here.depth before else enclosing depth before))) less)
+          sym (ap (λ (b : Bool). links ++ map link (outward test
+          (if b then plain here ∷ enclosing here.depth before else enclosing depth before))) less)
           ∙ opened
 
       abbrev beyond : List Entry
@@ -140,13 +147,15 @@ module _ (covering : BTreeSet ℕ) (es : List ListedEntry) where
           links ++ map link (if b then (if c then plain here ∷ [] else plain here ∷ outward test beyond) else outward test beyond)
           ≡ map link (unit_chain covering es)
       by_test lt b e c f =
-          sym (λ i. links ++ map link (if e i then (if f i then plain here ∷ [] else plain here ∷ outward test beyond) else outward test beyond))
+          sym (λ i. links ++ map link (if e i then (if f i then plain here ∷ [] else plain here ∷ outward test beyond) else outward test
+          beyond))
           ∙ inside lt
 
       pub links_other : here.depth < depth → is_function covering here ≡ false → AreLinks here.depth n links
       links_other lt e = by_test lt false e (here.tag == DW_TAG_subprogram) refl
 
-      module _ (lt : here.depth < depth) (e : is_function covering here ≡ true) (new : List Link) (is : new ≡ links ++ link (plain here) ∷ []) where
+      module _ (lt : here.depth < depth) (e : is_function covering here ≡ true) (new : List Link)
+          (is : new ≡ links ++ link (plain here) ∷ []) where
         pub links_last : (here.tag == DW_TAG_subprogram) ≡ true → new ≡ map link (unit_chain covering es)
         links_last f = is ∙ by_test lt true e true f
 

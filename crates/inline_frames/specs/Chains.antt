@@ -10,7 +10,8 @@ use Rattle.inline_frames.specs.declared.tag.TheConstants.{DW_TAG_subprogram, DW_
 -- a function, or an inlined instance of one, that holds an address
 abbrev pub is_function_at : ListSections → ℕ → Unit → Entry → Bool
 is_function_at s a u e =
-    (e.declaration.tag == DW_TAG_subprogram || e.declaration.tag == DW_TAG_inlined_subroutine) && hold (ranges_of s u e) a
+    (e.declaration.tag == DW_TAG_subprogram || e.declaration.tag == DW_TAG_inlined_subroutine)
+    && hold (ranges_of s u e) a
 
 -- those of some entries that hold the address, up to and with the first one that isn't inlined
 abbrev pub outward : (Entry → Bool) → List Entry → List Entry

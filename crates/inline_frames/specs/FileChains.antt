@@ -12,7 +12,8 @@ use Rattle.inline_frames.specs.declared.link.Link.{Link}
 
 -- each unit can be read, and is sound
 abbrev pub AreReadable : (abbrevs addr : List ℕ) → List Walked → Type 0
-AreReadable abbrevs addr ws = (n : ℕ) (w : Walked) → slice_get ws n ≡ Some w → fails (is_sound_unit addr) (unit_of abbrevs w) ≡ false
+AreReadable abbrevs addr ws = (n : ℕ) (w : Walked) → slice_get ws n ≡ Some w →
+    fails (is_sound_unit addr) (unit_of abbrevs w) ≡ false
 
 -- none of some places lies in a unit
 abbrev pub LacksPlaces : BTreeSet ℕ → Walked → Type 0

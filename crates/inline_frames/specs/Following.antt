@@ -32,4 +32,5 @@ followed_by found (Refers place) = naming_or_none (found place)
 
 abbrev pub followed_times : List ℕ → List (List ListedEntry) → ℕ → Naming → Naming
 followed_times str_offsets units zero n = n
-followed_times str_offsets units (suc k) n = followed_times str_offsets units k (followed_by (file_naming str_offsets units) n)
+followed_times str_offsets units (suc k) n = followed_times str_offsets units k
+    (followed_by (file_naming str_offsets units) n)

@@ -1,4 +1,5 @@
--- The frames of an address: the name of each function of its chain, and where control is in it. DWARF 5, section 3.3.8.2.
+-- The frames of an address: the name of each function of its chain, and where control is in it. DWARF 5, section
+-- 3.3.8.2.
 use Rattle.std.specs.Prelude.{◌==◌, ◌||◌, ℕ, List, [], ◌∷◌, ◌++◌, flat_map, codes, decimal, if◌then◌else◌, unwrap_or}
 use Rattle.std.specs.Prelude.{Option, Some, None, option_map, option_and_then}
 use Rattle.elf_image.specs.declared.elf.Elf.{Elf}
@@ -84,7 +85,8 @@ frames elf a = frames_of elf a (chain (list_sections elf) a)
 
 -- a line for each, or one that says that there is none
 abbrev pub frame_line : Frame → List ℕ
-frame_line f = f.name ++ codes " " ++ f.path ++ codes ":" ++ decimal f.line ++ codes ":" ++ decimal f.column ++ codes "\n"
+frame_line f = f.name ++ codes " " ++ f.path ++ codes ":" ++ decimal f.line ++ codes ":" ++ decimal f.column
+    ++ codes "\n"
 
 abbrev pub frames_text : Elf → ℕ → List ℕ
 frames_text elf a = or_none (flat_map frame_line (frames elf a))

@@ -1,7 +1,6 @@
 pub mod Names
 pub mod Chains
 pub mod Frames
-pub mod Faults
 pub mod Naming
 pub mod Links
 pub mod UnitChains

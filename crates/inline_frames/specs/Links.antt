@@ -4,7 +4,8 @@ use Rattle.table_core.specs.declared.form.TheConstants.{DW_FORM_addr, DW_FORM_se
 use Rattle.table_core.specs.declared.written.TheConstants.{DW_AT_stmt_list}
 use Rattle.table_core.specs.AttributeForms.{is_address_index}
 use Rattle.table_core.specs.ReadSteps.{first_of}
-use Rattle.dw_unit.specs.declared.attribute.TheConstants.{DW_AT_call_file, DW_AT_call_line, DW_AT_call_column, DW_AT_str_offsets_base}
+use Rattle.dw_unit.specs.declared.attribute.TheConstants.{DW_AT_call_file, DW_AT_call_line, DW_AT_call_column}
+use Rattle.dw_unit.specs.declared.attribute.TheConstants.{DW_AT_str_offsets_base}
 use Rattle.dw_unit.specs.declared.entry.Attr.{Attr}
 use Rattle.dw_unit.specs.CompUnits.{Entry}
 use Rattle.dw_unit.specs.ListedEntries.{ListedEntry}
@@ -16,14 +17,16 @@ use Rattle.inline_frames.specs.declared.link.OwnSays.{OwnSays}
 
 abbrev pub unsigned_in : ℕ → List Attr → Option ℕ
 unsigned_in name attrs =
-    option_and_then (λ (a : Attr). if a.form == DW_FORM_addr || is_address_index a.form then None else Some a.value) (attr_in name attrs)
+    option_and_then (λ (a : Attr). if a.form == DW_FORM_addr || is_address_index a.form then None else Some a.value)
+    (attr_in name attrs)
 
 abbrev pub value_in : ℕ → List Attr → Option ℕ
 value_in name attrs = option_map (λ (a : Attr). a.value) (attr_in name attrs)
 
 abbrev pub line_unit_in : List Attr → Option ℕ
 line_unit_in attrs =
-    option_and_then (λ (a : Attr). if a.form == DW_FORM_sec_offset then Some a.value else None) (attr_in DW_AT_stmt_list attrs)
+    option_and_then (λ (a : Attr). if a.form == DW_FORM_sec_offset then Some a.value else None)
+    (attr_in DW_AT_stmt_list attrs)
 
 abbrev pub says_of : Option ListedEntry → OwnSays
 says_of (Some e) = record { text_base = value_in DW_AT_str_offsets_base e.attrs; line_unit = line_unit_in e.attrs }

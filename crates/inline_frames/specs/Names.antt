@@ -4,7 +4,8 @@ use Rattle.std.specs.Prelude.{Some, None, option_and_then}
 use Rattle.std.specs.List.{find}
 use Rattle.std.specs.Option.{option_or}
 use Rattle.elf_image.specs.declared.elf.Elf.{Elf}
-use Rattle.table_core.specs.declared.form.TheConstants.{DW_FORM_string, DW_FORM_strp, DW_FORM_line_strp, DW_FORM_ref_addr}
+use Rattle.table_core.specs.declared.form.TheConstants.{DW_FORM_string, DW_FORM_strp, DW_FORM_line_strp}
+use Rattle.table_core.specs.declared.form.TheConstants.{DW_FORM_ref_addr}
 use Rattle.table_core.specs.declared.form.TheConstants.{DW_FORM_ref_udata}
 use Rattle.table_core.specs.AttributeForms.{is_text_index}
 use Rattle.table_core.specs.Texts.{text_in}
@@ -61,7 +62,8 @@ abbrev pub referred : NameSections → Entry → Option Entry
 referred s e = option_and_then (λ place. find (λ (x : Entry). x.place == place) (entries s.units))
     (option_and_then (target_of e) (option_or (attr DW_AT_abstract_origin e) (attr DW_AT_specification e)))
 
--- Its own name, or else that of the entry which it names, as `more` finds it. A name of its own that can't be read is none.
+-- Its own name, or else that of the entry which it names, as `more` finds it. A name of its own that can't be read is
+-- none.
 abbrev pub own_name_or : NameSections → Entry → Option Attr → Option (List ℕ) → Option (List ℕ)
 own_name_or s e (Some a) more = text_of s e a
 own_name_or s e None more = more

@@ -12,7 +12,8 @@ use Rattle.inline_frames.specs.declared.tag.TheConstants.{DW_TAG_subprogram, DW_
 
 -- a function, or an inlined instance of one, at one of some places
 abbrev pub is_function : BTreeSet ℕ → ListedEntry → Bool
-is_function covering e = (e.tag == DW_TAG_subprogram || e.tag == DW_TAG_inlined_subroutine) && contains nat_cmp covering e.place
+is_function covering e = (e.tag == DW_TAG_subprogram || e.tag == DW_TAG_inlined_subroutine)
+    && contains nat_cmp covering e.place
 
 abbrev pub function_test : BTreeSet ℕ → Entry → Bool
 function_test covering e = is_function covering (listed e)
@@ -28,7 +29,8 @@ with_enclosing (e ∷ before) = e ∷ enclosing e.depth before
 -- from the entry of a number out
 abbrev pub chain_from : BTreeSet ℕ → List ListedEntry → Option ℕ → List Entry
 chain_from covering es None = []
-chain_from covering es (Some n) = outward (function_test covering) (with_enclosing (reverse (take (n + 1) (map plain es))))
+chain_from covering es (Some n) = outward (function_test covering)
+    (with_enclosing (reverse (take (n + 1) (map plain es))))
 
 abbrev pub link_in : List ℕ → List ListedEntry → Entry → Link
 link_in str_offsets es e = listed_link str_offsets (own_says es) (listed e)

@@ -3,7 +3,6 @@ ghost use Rattle.std.specs.Prelude.{◌≡◌, IfOk, IfErr, OnOk, length, map};
 ghost use Rattle.rb_bytes.specs.FirstFault.{IsFree, IsRefusalBy};
 ghost use Rattle.table_set.specs.AllTables.{IsDebugReadAt};
 ghost use Rattle.table_set.specs.TableFaults.{HasDebugFault};
-ghost use Rattle.inline_frames.specs.Faults.{HasChainFault};
 ghost use Rattle.inline_frames.specs.Frames as spec;
 ghost use Rattle.inline_frames.specs.Names.{NameSections};
 ghost use Rattle.inline_frames.specs.Positions.{frame_at, link_frames};
@@ -72,7 +71,12 @@ fn frame_of(
     })
 }
 
-// The frames of some links, the first of them at a position.
+// How many bytes names and paths of all frames may have together: each frame has copies of its own, and names of
+// entries may be ends of one long text.
+const MOST_BYTES: usize = 1 << 27;
+
+// The frames of some links, the first of them at a position. Memory is wanting where their names and paths are too
+// long.
 fn frames_from(
     alloc: Global,
     lines: &Lines,
@@ -82,14 +86,22 @@ fn frames_from(
     namings: &[Naming],
 ) -> Result<Vec<Frame>, NoMemory>
     requires { length namings.now ≡ length links.now }
-    ensures { IfOk result (λ fs. (s : NameSections) → s.units.info ≡ texts.entry.info.now → s.str ≡ texts.entry.str.now →
+    ensures { IfOk result (λ fs. (s : NameSections) → s.units.info ≡ texts.entry.info.now →
+        s.str ≡ texts.entry.str.now →
         s.line_str ≡ texts.entry.line_str.now → fs.items ≡ link_frames lines.now s first links.now namings.now) }
 {
     let mut frames = Vec::new(alloc);
     let mut position = first;
+    let mut bytes: usize = 0;
     for number in 0..links.len() {
         let next = call_position(alloc, lines, links[number])?;
         let frame = frame_of(alloc, texts, namings[number], position)?;
+        bytes = bytes
+            .saturating_add(frame.name.len())
+            .saturating_add(frame.path.len());
+        if bytes > MOST_BYTES {
+            return Err(NoMemory);
+        }
         frames.push(frame)?;
         position = next;
     }
@@ -123,8 +135,8 @@ fn frames_in(alloc: Global, elf: &Elf<'_>, debug: &DebugAt, a: u64) -> Result<Ve
 /// The functions of an address, from the innermost inlined one out to one that isn't inlined.
 pub fn frames(alloc: Global, elf: &Elf<'_>, a: u64) -> Result<Vec<Frame>, Refusal>
     ensures frames { IfOk result (λ fs. fs.items ≡ spec.frames elf.now a) }
-    ensures sound { OnOk result (IsFree (HasChainFault elf.now)) }
-    ensures fault { IfErr result (IsRefusalBy (HasChainFault elf.now)) }
+    ensures sound { OnOk result (IsFree (HasDebugFault elf.now)) }
+    ensures fault { IfErr result (IsRefusalBy (HasDebugFault elf.now)) }
 {
     let debug = read_debug_at(alloc, elf, a)?;
     let frames = frames_in(alloc, elf, &debug, a)?;

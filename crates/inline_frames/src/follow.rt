@@ -62,7 +62,8 @@ fn add_namings(
     found: &mut BTreeMap<u128, Naming>,
 ) -> Result<(), NoMemory>
     ensures { OnOk result ((q : ℕ) → get nat_cmp found.new q
-        ≡ option_or (get nat_cmp found.old q) (if contains nat_cmp wanted.now q then spec.unit_naming str_offsets.now entries.now q else None)) }
+        ≡ option_or (get nat_cmp found.old q) (if contains nat_cmp wanted.now q then spec.unit_naming str_offsets.now
+        entries.now q else None)) }
 {
     let own = own_says(entries);
     for entry in entries {
@@ -90,7 +91,8 @@ fn namings_at(
 ) -> Result<BTreeMap<u128, Naming>, NoMemory>
     requires { AreReadable reader.now.abbrevs reader.now.addr reader.now.units }
     ensures { IfOk result (λ found. (q : ℕ) → get nat_cmp found q
-        ≡ (if contains nat_cmp wanted.now q then spec.file_naming str_offsets.now (listed_units reader.now.abbrevs reader.now.units) q else None)) }
+        ≡ (if contains nat_cmp wanted.now q then spec.file_naming str_offsets.now
+        (listed_units reader.now.abbrevs reader.now.units) q else None)) }
 {
     let mut found = BTreeMap::new(alloc);
     let units = reader.units();
@@ -143,7 +145,8 @@ pub fn resolved(
 ) -> Result<Vec<Naming>, NoMemory>
     requires { AreReadable reader.now.abbrevs reader.now.addr reader.now.units }
     ensures { IfOk result (λ ns. ns.items
-        ≡ map (spec.followed_times str_offsets.now (listed_units reader.now.abbrevs reader.now.units) 16) namings.items) }
+        ≡ map (spec.followed_times str_offsets.now (listed_units reader.now.abbrevs reader.now.units) 16)
+        namings.items) }
 {
     let mut now = namings;
     for round in 0..REFERENCE_LIMIT {

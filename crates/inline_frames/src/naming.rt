@@ -1,8 +1,6 @@
 // How names of entries are found. DWARF 5, sections 2.15, 3.3.8, 7.5.5 and 7.26.
 ghost use Rattle.std.specs.Prelude.{◌≡◌, ◌==◌, option_and_then};
-ghost use Rattle.std.specs.Option.{option_copied};
 ghost use Rattle.std.specs.List.{find};
-ghost use Rattle.table_core.specs.AttributeForms.{is_text_index};
 ghost use Rattle.inline_frames.specs.Naming as spec;
 
 use byteorder::{ByteOrder, LittleEndian};
@@ -10,8 +8,8 @@ use dw_unit::Attr;
 use dw_unit::attribute::{DW_AT_abstract_origin, DW_AT_name, DW_AT_specification};
 use table_core::form::{
     DW_FORM_line_strp, DW_FORM_ref_addr, DW_FORM_ref_udata, DW_FORM_string, DW_FORM_strp,
-    DW_FORM_strx, DW_FORM_strx1, DW_FORM_strx4,
 };
+use table_core::shape::is_text_index;
 
 /// Where a text stands.
 #[derive(Clone, Copy)]
@@ -33,26 +31,14 @@ pub enum Naming {
     Refers(u128),
 }
 
-fn found(name: u64, attrs: &[Attr]) -> Option<&Attr>
-    ensures { option_copied result ≡ find (λ a. a.name == name) attrs.now }
-{
-    attrs.iter().find(|attr| attr.name == name)
-}
-
 /// The attribute of a name.
 pub fn attr_named(name: u64, attrs: &[Attr]) -> Option<Attr>
     ensures { result ≡ find (λ a. a.name == name) attrs.now }
 {
-    match found(name, attrs) {
+    match dw_unit::attr_named(name, attrs) {
         Some(attr) => Some(*attr),
         None => None,
     }
-}
-
-fn is_text_index(form: u64) -> bool
-    ensures { result ≡ is_text_index form }
-{
-    form == DW_FORM_strx || DW_FORM_strx1 <= form && form <= DW_FORM_strx4
 }
 
 // Where the text of an index stands, by the base of its unit's indices.

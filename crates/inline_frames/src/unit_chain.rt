@@ -54,7 +54,8 @@ pub fn links_in(
     entries: &[Entry],
     covering: &BTreeSet<u128>,
 ) -> Result<Vec<Link>, NoMemory>
-    ensures { IfOk result (λ links. links.items ≡ map (spec.link_in str_offsets.now entries.now) (spec.unit_chain covering.now entries.now)) }
+    ensures { IfOk result (λ links. links.items ≡ map (spec.link_in str_offsets.now entries.now)
+        (spec.unit_chain covering.now entries.now)) }
 {
     let mut links = Vec::new(alloc);
     let Some(inner) = innermost(entries, covering) else {

@@ -1,4 +1,5 @@
--- The report on an address: the rows of its line, the entries that cover it, the expressions in force, and how to unwind.
+-- The report on an address: the rows of its line, the entries that cover it, the expressions in force, and how to
+-- unwind.
 use Rattle.std.specs.Prelude.{ℕ, Bool, true, false, List, [], ◌∷◌, ◌++◌, flat_map, codes, decimal, Option}
 use Rattle.std.specs.Option.{option_map_or}
 use Rattle.rb_bytes.specs.Text.{hexadecimal}
@@ -43,7 +44,8 @@ expression_text (b ∷ bs) = bytes_text (b ∷ bs)
 
 abbrev pub place_line : ℕ → ℕ → List ℕ → List ℕ
 place_line entry attr x =
-    codes "places " ++ hexadecimal entry ++ codes " " ++ hexadecimal attr ++ codes " " ++ expression_text x ++ codes "\n"
+    codes "places " ++ hexadecimal entry ++ codes " " ++ hexadecimal attr ++ codes " " ++ expression_text x
+    ++ codes "\n"
 
 abbrev pub places_lines : PlaceSaid → List ℕ
 places_lines p = flat_map (place_line p.entry p.attr) p.expressions
@@ -76,14 +78,16 @@ handler_text handler indirect = unless_zero handler (codes " handler " ++ star i
 
 abbrev pub unwind_line : FrameAnswer → List ℕ
 unwind_line x =
-    codes "unwind cfa " ++ cfa_text x.row.cfa ++ codes " ra " ++ register_text x.ra ++ flat_map register_rule x.row.rules
+    codes "unwind cfa " ++ cfa_text x.row.cfa ++ codes " ra " ++ register_text x.ra
+    ++ flat_map register_rule x.row.rules
     ++ handler_text x.handler x.indirect
     ++ unless_zero x.table (codes " table " ++ hexadecimal x.table) ++ if_set x.signal (codes " signal") ++ codes "\n"
 
 -- the lines of answers
 abbrev pub lines_of : Option LineSaid → List ℕ → List PlaceSaid → Option FrameAnswer → List ℕ
 lines_of line covers places unwind =
-    line_lines line ++ flat_map covers_line covers ++ flat_map places_lines places ++ option_map_or unwind_line unwind []
+    line_lines line ++ flat_map covers_line covers ++ flat_map places_lines places
+    ++ option_map_or unwind_line unwind []
 
 -- all lines that there are, or one that says that there is none
 abbrev pub report_of : Option LineSaid → List ℕ → List PlaceSaid → Option FrameAnswer → List ℕ

@@ -1,5 +1,5 @@
--- What is kept of the debug data of a file whose code moves: units and entries, line units, and the sections without code
--- addresses.
+-- What is kept of the debug data of a file whose code moves: units and entries, line units, and the sections without
+-- code addresses.
 use Rattle.std.specs.Prelude.{◌≡◌, ℕ, Bool, false, IsTrue, List, [], ◌∷◌, codes, length, unwrap_or}
 use Rattle.std.specs.List.{list_any}
 use Rattle.std.specs.Str.{bytes_eq}
@@ -23,8 +23,8 @@ pub record AreUnitsKept (spans : List Span) (lists : List ListAt) (i f : Elf) : 
   -- entries stand where they stood, changed in place by these lists
   pub changed : AreChangedWith spans lists i f
   pub line_units : AreKeptUnits i f
-  -- An offset that named a line unit names the one of the same number, and one that named none names none: its number is
-  -- that of units, of which both files have as many.
+  -- An offset that named a line unit names the one of the same number, and one that named none names none: its number
+  -- is that of units, of which both files have as many.
   pub line_offsets : (n : ℕ) →
       unit_number (line_sections f) (new_line_offset lists n) ≡ unit_number (line_sections i) n
   pub other_offsets : (n : ℕ) → unit_number (line_sections i) n ≡ length (unit_places (line_sections i)) →

@@ -4,7 +4,7 @@ ghost use Rattle.rb_bytes.specs.FirstFault.{IsFree, IsRefusalBy};
 ghost use Rattle.table_set.specs.AllTables.{AreReadAt, IsDebugReadAt};
 ghost use Rattle.table_set.specs.TableFaults.{HasDebugFault, HasTableFault};
 
-use crate::reading::{fault_of, first_fault, unit_version};
+use crate::reading::check_readings;
 use addr_rewrite::Aranges;
 use elf_image::Elf;
 use frame_rewrite::{DebugFrames, EhFrames};
@@ -30,37 +30,25 @@ pub struct TablesAt {
     pub debug: DebugAt,
 }
 
-/// Reads what debug data says of an address, or refuses the file for the fault of its tables with the lowest number, at its
-/// lowest place. Units are walked once.
+/// Reads what debug data says of an address, or refuses the file for the fault of its tables with the lowest number,
+/// at its lowest place. Units are walked once.
 pub fn read_debug_at(alloc: Global, elf: &Elf<'_>, a: u64) -> Result<DebugAt, Refusal>
     ensures read { IfOk result (λ t. IsDebugReadAt t elf.now a) }
     ensures sound { OnOk result (IsFree (HasDebugFault elf.now)) }
     ensures fault { IfErr result (IsRefusalBy (HasDebugFault elf.now)) }
 {
-    let version = unit_version(alloc, elf)?;
     let lines = Lines::read(alloc, elf);
     let lists = lists_at(alloc, elf, a);
     let aranges = Aranges::read_alone(alloc, elf);
-    let of_lines = fault_of(&lines)?;
-    let of_lists = fault_of(&lists)?;
-    let of_aranges = fault_of(&aranges)?;
-    match first_fault(version, of_lines, of_lists, of_aranges) {
-        Some(fault) => return Err(Refusal::Fault(fault)),
-        None => {}
-    }
-    let lines = match lines {
-        Ok(table) => table,
-        Err(_) => return Err(Refusal::Memory),
-    };
-    let lists = match lists {
-        Ok(said) => said,
-        Err(_) => return Err(Refusal::Memory),
-    };
-    Ok(DebugAt { lines, lists })
+    check_readings(alloc, elf, &lines, &lists, &aranges)?;
+    Ok(DebugAt {
+        lines: lines?,
+        lists: lists?,
+    })
 }
 
-/// Reads what all tables say of an address, or refuses the file for the fault of tables with the lowest number, at its lowest
-/// place.
+/// Reads what all tables say of an address, or refuses the file for the fault of tables with the lowest number, at its
+/// lowest place.
 pub fn read_all_at(alloc: Global, elf: &Elf<'_>, a: u64) -> Result<TablesAt, Refusal>
     ensures read { IfOk result (λ t. AreReadAt t elf.now a) }
     ensures sound { OnOk result (IsFree (HasTableFault elf.now)) }

@@ -11,7 +11,6 @@ ghost use Rattle.table_set.specs.TableLimits.{IsTooHeavy};
 
 use crate::all::AllTables;
 use addr_map::AddrMap;
-use cfi_rows::frame_table::Frames;
 use dw_unit::abbrev_weight;
 use elf_image::Elf;
 use rb_bytes::fault::NoMemory;
@@ -21,25 +20,22 @@ use table_core::AddrTable;
 // The greatest weight of a table that is written.
 const WEIGHT_LIMIT: u64 = 4_000_000_000;
 
-// How many registers have rules in a row at most, where these aren't counted: more than any processor has.
-const USUAL_REGISTERS: u64 = 128;
+// How much the declarations of units may weigh for each byte of the file, and beside: units can begin theirs at any
+// declaration of one long table, and each gets all that follow.
+const MOST_TIMES: u64 = 64;
 
-// How many rules of more registers the rows of new code may have together.
-const MOST_RULES: u64 = 1 << 24;
+const MOST_BESIDE: u64 = 1 << 28;
 
-// Whether rows of a frame table may have too many rules to be held, one row for each instruction: nothing else limits how
-// many there are, since few bytes of an entry that is for much code can give rules to many registers.
-fn has_many_rules(frames: &Frames, map: &AddrMap) -> bool {
-    let mut most = 0;
-    for fde in &frames.list {
-        most = fde.registers.max(most);
-    }
-    let more = most.saturating_sub(USUAL_REGISTERS);
-    more.saturating_mul(map.len() as u64) > MOST_RULES
+// Whether declarations weigh so much that memory could be wanting while they are written.
+fn is_much(weight: u64, file_size: u64) -> bool {
+    weight
+        > file_size
+            .saturating_mul(MOST_TIMES)
+            .saturating_add(MOST_BESIDE)
 }
 
-/// Whether a table would weigh too much, written for a map; or the declarations of its units. Memory is wanting too where rows of
-/// frames would have too many rules.
+/// Whether a table would weigh too much, written for a map; or the declarations of its units. Memory is wanting too
+/// where these weigh much beside the file.
 pub fn is_too_heavy(
     alloc: Global,
     elf: &Elf<'_>,
@@ -54,9 +50,6 @@ pub fn is_too_heavy(
     ensures heavy { IfOk result (λ heavy. IsTrue heavy → IsTooHeavy elf.now map.now) }
     ensures light { IfOk result (λ heavy. heavy ≡ false → IsTooHeavy elf.now map.now → ⊥) }
 {
-    if has_many_rules(&tables.eh.frames, map) || has_many_rules(&tables.df.frames, map) {
-        return Err(NoMemory);
-    }
     let lines = tables.lines.weight(alloc, map)?;
     if lines > WEIGHT_LIMIT {
         return Ok(true);
@@ -74,5 +67,8 @@ pub fn is_too_heavy(
         return Ok(true);
     }
     let abbrevs = abbrev_weight(alloc, elf)?;
+    if abbrevs <= WEIGHT_LIMIT && is_much(abbrevs, elf.file.len() as u64) {
+        return Err(NoMemory);
+    }
     Ok(abbrevs > WEIGHT_LIMIT)
 }

@@ -10,7 +10,8 @@ loop-number-preserved c = λ s info str line_str.
     let n = c.loop-number.number in
     framed_next lines s links namings (link_frames lines s c.args.first links namings) n c.loop-number.position _ _ c.in_ok-frame.frame
     c.in_ok-next.next c.loop-number.frames.items c.push.new.self.items c.loop-number-test.true c.requires
-    (c.loop-number.invariant s info str line_str) (c.in_ok-frame.ensures s info str line_str) c.in_ok-next.ensures c.in_ok-push.ensures.items
+    (c.loop-number.invariant s info str line_str) (c.in_ok-frame.ensures s info str line_str) c.in_ok-next.ensures
+    c.in_ok-push.ensures.items
 
 pub returns : goal.returns
 returns c = λ s info str line_str.
