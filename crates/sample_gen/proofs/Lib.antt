@@ -1,2 +1,6 @@
-pub mod Ranges
 pub mod Placed
+pub mod Ranges
+pub mod RunWeights
+pub mod Listless
+pub mod LightTables
+pub mod NameWeights

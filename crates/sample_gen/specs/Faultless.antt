@@ -1,16 +1,26 @@
 -- That nothing keeps a program from being rewritten.
-use Rattle.std.specs.Prelude.{◌≡◌, ◌≤◌, ℕ, List, None, length}
+use Rattle.std.specs.Prelude.{◌≡◌, ◌≤◌, ℕ, IsTrue, List, None, length}
 use Rattle.rb_bytes.specs.FirstFault.{IsFree}
+use Rattle.rv_code.specs.layout.ProgramCode.{IsNamed, is_code_address}
 use Rattle.elf_image.specs.file.Header.{e_phnum, e_shnum}
+use Rattle.addr_map.specs.declared.span.Span.{Span}
+use Rattle.addr_map.specs.Spans.{IsMap}
+use Rattle.table_core.specs.Weights.{weight_limit}
+use Rattle.elf_plan.specs.NameWeight.{name_weight}
 use Rattle.frame_rewrite.specs.Faults.{IsRegisteredFrames}
 use Rattle.func_place.specs.Faults.{HasPlacementFault}
 use Rattle.program.specs.Limits.{IsCodeTooLarge, file_limit}
 use Rattle.program.specs.Program.{IsProgramOf, Program}
 use Rattle.program.specs.Room.{no_program_room}
 use Rattle.table_set.specs.TableFaults.{HasTableFault}
+use Rattle.table_set.specs.TableLimits.{IsTooHeavy}
 
--- No fault is present for which a rewrite looks, but that a table weighs too much once it is written, of which nothing is said.
-pub record IsFaultless (file profile : List ℕ) (x : Program) : Type 0 where
+-- a valid map of the code of a program
+abbrev pub IsCodeMap : Program → List Span → Type 0
+IsCodeMap x = IsMap (λ a. IsTrue (is_code_address x.code.funcs a)) (IsNamed x.code)
+
+-- No fault is present for which a rewrite looks.
+pub record HasNoFault (file profile : List ℕ) (x : Program) : Type 0 where
   -- the file can be read, and its code
   pub read : IsProgramOf file x
   pub profile_fits : length profile ≤ file_limit
@@ -23,3 +33,8 @@ pub record IsFaultless (file profile : List ℕ) (x : Program) : Type 0 where
   pub code_fits : (place : ℕ) → IsCodeTooLarge file x.code.funcs place → ⊥
   pub sections : e_shnum file ≡ 13
   pub segments : e_phnum file ≡ 3
+  -- Names don't weigh too much, whichever functions get a cold part that stands apart, given by its address; nor do
+  -- tables, under whichever map they are carried.
+  pub names_fit : (cold : List ℕ) → length cold ≤ length x.code.funcs →
+      name_weight x.elf x.code.funcs cold ≤ weight_limit
+  pub tables_fit : (spans : List Span) → IsCodeMap x spans → IsTooHeavy x.elf spans → ⊥

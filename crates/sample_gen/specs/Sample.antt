@@ -1,13 +1,13 @@
 -- What a sample is: a file with its code, and its profile, in which no fault is present.
 use Rattle.std.specs.Prelude.{◌≡◌, ℕ, List}
 use Rattle.program.specs.Program.{Program}
-use Rattle.sample_gen.specs.Faultless.{IsFaultless}
+use Rattle.sample_gen.specs.Faultless.{HasNoFault}
 use Rattle.sample_gen.specs.FoundCode.{HasSampleCode}
 use Rattle.sample_gen.specs.SampleText.{sample_profile}
 
 -- Sample n. Its program is what is read of the file.
 pub record IsSample (n : ℕ) (file profile : List ℕ) : Type 0 where
   pub program : Program
-  pub faultless : IsFaultless file profile program
+  pub faultless : HasNoFault file profile program
   pub code : HasSampleCode n program.elf program.code.funcs program.code.cells
   pub profile_is : profile ≡ sample_profile n

@@ -1,11 +1,12 @@
 // The code of a sample: its instructions at their places, with the parts of addresses that they have.
 ghost use Rattle.std.specs.Prelude.{◌≡◌, ◌+◌, ◌-◌, ◌*◌, ◌<◌, ◌≤◌, ◌^◌, pos, ◌-ℤ◌, ◌≤ℤ◌};
 ghost use Rattle.rv_code.specs.isa.HiLo.{hi20, lo12};
-ghost use Rattle.sample_gen.specs.SampleCode.{placed, plain, call_high, call_low, next_high, next_low, function_insts, start_insts};
+ghost use Rattle.sample_gen.specs.SampleCode.{placed, plain, call_high, call_low, next_high, next_low, function_insts};
+ghost use Rattle.sample_gen.specs.SampleCode.{start_insts};
 
-use crate::numbers::put_u32;
 use crate::places::{CODE, function_at};
 use rb_bytes::fault::NoMemory;
+use rb_bytes::little::put_u32;
 use rv_code::{Inst, Placed, RETURN_ADDRESS, Role, STACK_POINTER, Width, ZERO};
 use rv_encode::{Word, encode};
 use std::alloc::Global;

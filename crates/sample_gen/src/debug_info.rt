@@ -1,10 +1,11 @@
 // The debugging entries of a sample. DWARF 5, section 7.5.
 ghost use Rattle.std.specs.Prelude.{◌≤◌};
 
-use crate::numbers::{put_text, put_u16, put_u32, put_u64, put_unit};
+use crate::numbers::{put_text, put_unit};
 use crate::places::{CODE, FUNCTION_SIZE, START_SIZE, function_at};
 use crate::profile::function_name;
 use rb_bytes::fault::NoMemory;
+use rb_bytes::little::{put_u16, put_u32, put_u64};
 use std::alloc::Global;
 
 /// The declarations of a unit and of a function: names, bounds, the unit's lines, and a function's frame base.
@@ -16,8 +17,8 @@ const SOURCE: &[u8] = b"sample.c";
 
 const VERSION: u16 = 5;
 
-// The unit's header behind its version: type (compilation), size of addresses, offset of the declarations. Then comes the
-// number of its first declaration.
+// The unit's header behind its version: type (compilation), size of addresses, offset of the declarations. Then comes
+// the number of its first declaration.
 const UNIT_FRONT: &[u8] = b"\x01\x08\0\0\0\0\x01";
 
 // The number of a function's declaration.

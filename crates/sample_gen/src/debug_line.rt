@@ -1,8 +1,9 @@
 // The line table of a sample. DWARF 5, section 6.2.
-use crate::numbers::{low, put_u16, put_u32, put_u64, put_unit};
+use crate::numbers::{low, put_unit};
 use crate::places::{CODE, FUNCTION_SIZE, START_SIZE};
 use rb_bytes::fault::NoMemory;
 use rb_bytes::leb::{put_sleb, put_uleb};
+use rb_bytes::little::{put_u16, put_u32, put_u64};
 use std::alloc::Global;
 
 const VERSION: u16 = 5;
@@ -10,8 +11,8 @@ const VERSION: u16 = 5;
 // The size of addresses, and of segment selectors.
 const SIZES: &[u8] = b"\x08\0";
 
-// The header's fields behind its length: one byte an instruction, rows are statements, lines from -5 on in 14 steps, and
-// 12 standard operations.
+// The header's fields behind its length: one byte an instruction, rows are statements, lines from -5 on in 14 steps,
+// and 12 standard operations.
 const FIELDS: &[u8] = b"\x01\x01\x01\xfb\x0e\x0d\0\x01\x01\x01\x01\0\0\0\x01\0\0\x01";
 
 // The directory `/s`, and two files in it, each by its name and the directory's number.

@@ -7,8 +7,10 @@ ghost use Rattle.func_place.specs.Faults.{HasPlacementFault};
 ghost use Rattle.program.specs.Limits.{file_limit};
 ghost use Rattle.program.specs.Program.{IsProgramOf, program_seen};
 ghost use Rattle.table_set.specs.TableFaults.{HasTableFault};
-ghost use Rattle.sample_gen.specs.Faultless.{IsFaultless};
+ghost use Rattle.sample_gen.specs.Faultless.{HasNoFault};
+ghost use Rattle.sample_gen.specs.internal.Light.{AreLightTables};
 
+use crate::weight_check::{are_light_tables, has_light_names};
 use elf_image::Elf;
 use frame_rewrite::registered_frames;
 use program::{FILE_LIMIT, Program, check_code, new_start};
@@ -63,28 +65,34 @@ fn is_small(program: &Program<'_>, profile: &[u8]) -> bool
         && profile.len() <= FILE_LIMIT
 }
 
-// Whether all tables can be carried; or a fault of one.
-fn have_sound_tables(alloc: Global, elf: &Elf<'_>) -> Result<bool, Refusal>
+// Whether all tables of a file with these functions can be carried, and don't weigh too much; or a fault of one.
+fn have_sound_tables(alloc: Global, elf: &Elf<'_>, funcs: &[Func]) -> Result<bool, Refusal>
     ensures registered { IfOk result (λ b. IsTrue b → (place : ℕ) → IsRegisteredFrames elf.now place → ⊥) }
     ensures tables { OnOk result (IsFree (HasTableFault elf.now)) }
+    ensures light { IfOk result (λ b. IsTrue b → AreLightTables elf.now funcs.now) }
 {
-    read_all(alloc, elf)?;
-    match registered_frames(elf) {
-        Some(_) => Ok(false),
-        None => Ok(true),
+    let tables = read_all(alloc, elf)?;
+    if registered_frames(elf).is_some() {
+        return Ok(false);
     }
+    let light = are_light_tables(alloc, elf, &tables.lines, funcs)?;
+    Ok(light)
 }
 
 /// Whether nothing keeps the program of a file from being rewritten by a profile; or a fault that does.
 pub fn is_faultless(alloc: Global, program: &Program<'_>, profile: &[u8]) -> Result<bool, Refusal>
     requires { IsProgramOf program.now.elf.file.now (program_seen program.now) }
-    ensures { IfOk result (λ b. IsTrue b → IsFaultless program.now.elf.file.now profile.now (program_seen program.now)) }
+    ensures { IfOk result (λ b. IsTrue b → HasNoFault program.now.elf.file.now profile.now
+        (program_seen program.now)) }
 {
     let elf = &program.elf;
     if !can_be_placed(&program.funcs, &program.blocks) || !is_small(program, profile) {
         return Ok(false);
     }
-    if !have_sound_tables(alloc, elf)? {
+    if !have_sound_tables(alloc, elf, &program.funcs)? {
+        return Ok(false);
+    }
+    if !has_light_names(alloc, elf, &program.funcs)? {
         return Ok(false);
     }
     new_start(alloc, program)?;

@@ -5,7 +5,6 @@ use crate::code::code;
 use crate::debug_info::{ABBREVIATIONS, info};
 use crate::debug_line::lines;
 use crate::frames::{frames, index};
-use crate::numbers::{put_u16, put_u32, put_u64};
 use crate::places::{BASE, CODE, DATA, function_at, round_up};
 use crate::relocations::{calls, data, pointers};
 use crate::sections::{
@@ -17,6 +16,7 @@ use elf_image::header::{EM_RISCV, IDENTIFICATION};
 use elf_image::segment::{PF_R, PF_W, PF_X, PT_GNU_EH_FRAME, PT_LOAD};
 use elf_parts::spell::put_segments;
 use rb_bytes::fault::NoMemory;
+use rb_bytes::little::{put_u16, put_u32, put_u64};
 use std::alloc::Global;
 
 // Flags of sections: writable, loaded, with code. gABI, "Section Attribute Flags".
@@ -47,7 +47,8 @@ const FRONT: u64 = FILE_HEADER + 3 * 56;
 // The alignment of segments.
 const PAGE: u64 = 0x1000;
 
-// What is loaded: the code, the unwind table and its index one behind another, and the pointers in a segment of their own.
+// What is loaded: the code, the unwind table and its index one behind another, and the pointers in a segment of their
+// own.
 #[derive(Drop)]
 struct Memory {
     code: Vec<u8>,
@@ -203,8 +204,8 @@ fn put_sizes(file: &mut Vec<u8>) -> Result<(), NoMemory> {
     put_u16(file, SECTION_NAMES)
 }
 
-/// The file of sample `n`: an executable without compressed instructions, linked at fixed addresses, with its relocations
-/// kept and its debug data.
+/// The file of sample `n`: an executable without compressed instructions, linked at fixed addresses, with its
+/// relocations kept and its debug data.
 pub fn file(alloc: Global, n: u64) -> Result<Vec<u8>, NoMemory>
     requires { n ≤ 1000 }
 {

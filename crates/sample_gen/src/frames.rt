@@ -1,9 +1,10 @@
 // The unwind table of a sample, and its index. LSB, "The .eh_frame section" and "The .eh_frame_hdr section".
 ghost use Rattle.std.specs.Prelude.{◌≤◌};
 
-use crate::numbers::{low, put_distance, put_u32};
+use crate::numbers::{low, put_distance};
 use crate::places::{FUNCTION_SIZE, function_at};
 use rb_bytes::fault::NoMemory;
+use rb_bytes::little::put_u32;
 use std::alloc::Global;
 
 // The common entry: its length, id 0, version 1, the augmentation, code and data alignment, the return register, the
@@ -19,8 +20,8 @@ const ENTRY_SIZE: u64 = 32;
 
 const ENTRY_LENGTH: u32 = 28;
 
-// The header of the index: version 1, and the encodings of the table's address (relative), of the number of entries (four
-// bytes) and of the entries (relative to the index).
+// The header of the index: version 1, and the encodings of the table's address (relative), of the number of entries
+// (four bytes) and of the entries (relative to the index).
 const INDEX_FRONT: &[u8] = b"\x01\x1b\x03\x3b";
 
 // Where the entry of function `k` stands in the table.

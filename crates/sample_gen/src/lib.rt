@@ -16,5 +16,6 @@ mod relocations;
 mod sampling;
 mod sections;
 mod symbols;
+mod weight_check;
 
 pub use sampling::sample;

@@ -1,27 +1,10 @@
 // Numbers that are appended to a table, the lowest byte first, and texts.
 use rb_bytes::fault::NoMemory;
+use rb_bytes::little::put_u32;
 
 /// The low 32 bits of a number.
 pub fn low(n: u64) -> u32 {
     (n % (1 << 32)) as u32
-}
-
-/// Appends a number of two bytes.
-pub fn put_u16(out: &mut Vec<u8>, n: u16) -> Result<(), NoMemory> {
-    out.extend_from_slice(&n.to_le_bytes())?;
-    Ok(())
-}
-
-/// Appends a number of four bytes.
-pub fn put_u32(out: &mut Vec<u8>, n: u32) -> Result<(), NoMemory> {
-    out.extend_from_slice(&n.to_le_bytes())?;
-    Ok(())
-}
-
-/// Appends a number of eight bytes.
-pub fn put_u64(out: &mut Vec<u8>, n: u64) -> Result<(), NoMemory> {
-    out.extend_from_slice(&n.to_le_bytes())?;
-    Ok(())
 }
 
 /// Appends how far one address is from another, in 32 bits.

@@ -1,10 +1,10 @@
 // The relocations of a sample: those of its calls, and those of its pointers. psABI, "Relocations".
 ghost use Rattle.std.specs.Prelude.{◌≤◌};
 
-use crate::numbers::put_u64;
 use crate::places::{DATA, function_at};
 use elf_image::relocation::{R_RISCV_64, R_RISCV_CALL_PLT};
 use rb_bytes::fault::NoMemory;
+use rb_bytes::little::put_u64;
 use std::alloc::Global;
 
 // Where a function calls the next one, and the code at the entry point the first.

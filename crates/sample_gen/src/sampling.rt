@@ -30,8 +30,9 @@ fn is_sample(alloc: Global, file: &[u8], profile: &[u8], n: u64) -> Result<bool,
 
 /// Sample `n`, from 1 to 1000: a file, and its profile.
 ///
-/// The file is made, and then read back as any other: that its code, symbols and pointers are those of the sample, and that
-/// nothing keeps it from being rewritten. Want of memory is answered too where that isn't so, which no sample comes to.
+/// The file is made, and then read back as any other: that its code, symbols and pointers are those of the sample, and
+/// that nothing keeps it from being rewritten. Want of memory is answered too where that isn't so, which no sample
+/// comes to.
 pub fn sample(alloc: Global, n: u16) -> Result<(Vec<u8>, Vec<u8>), NoMemory>
     requires some { 1 ≤ n }
     requires few { n ≤ 1000 }

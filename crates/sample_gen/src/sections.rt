@@ -141,7 +141,8 @@ impl Sections {
         Ok(())
     }
 
-    /// Adds the section of the sections' names, which holds its own one too, and then the headers. Answers where these begin.
+    /// Adds the section of the sections' names, which holds its own one too, and then the headers. Answers where these
+    /// begin.
     pub fn close(&mut self, name: &[u8]) -> Result<u64, NoMemory> {
         let size = self
             .names

@@ -2,7 +2,7 @@ use Rattle.std.proofs.Common.{sym, subst, ℕ, List}
 use Rattle.rv_code.specs.declared.cell.CodeCell.{CodeCell}
 use Rattle.rv_code.specs.declared.placed.Func.{Func}
 use Rattle.program.specs.Program.{IsProgramOf, program_seen}
-use Rattle.sample_gen.specs.Faultless.{IsFaultless}
+use Rattle.sample_gen.specs.Faultless.{HasNoFault}
 use Rattle.sample_gen.specs.FoundCode.{HasSampleCode}
 use Rattle.sample_gen.proofs.sampling.is_sample.Goals as goal
 
@@ -15,7 +15,7 @@ pub returns : goal.returns
 returns c = λ yes. record {
   program = program_seen c.in_ok-program.program;
   faultless =
-      subst (λ (file : List ℕ). IsFaultless file c.args.profile.now (program_seen c.in_ok-program.program))
+      subst (λ (file : List ℕ). HasNoFault file c.args.profile.now (program_seen c.in_ok-program.program))
       c.in_ok-program.ensures.program.faultless.read.file_is (c.in_ok-faultless.ensures yes);
   code =
       subst (λ (funcs : List Func). HasSampleCode c.args.n c.in_ok-program.program.elf funcs c.in_ok-program.program.refs.cells.items)
