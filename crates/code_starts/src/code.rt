@@ -58,7 +58,8 @@ fn halfwords_at(elf: &Elf, address: u64) -> (u16, u16)
 pub fn inst_before(elf: &Elf, end: u64, address: u64) -> Option<(Inst, u8)>
     requires { address < end }
     ensures there { IfSome result (λ r. IsInstBefore elf.now end address r.0 r.1) }
-    ensures only { (inst : Inst) (bytes : ℕ) → IsInstBefore elf.now end address inst bytes → result ≡ Some (inst, bytes) }
+    ensures only { (inst : Inst) (bytes : ℕ) → IsInstBefore elf.now end address inst bytes →
+        result ≡ Some (inst, bytes) }
 {
     if end - address < 2 {
         return None;

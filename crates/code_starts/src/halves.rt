@@ -25,7 +25,8 @@ fn bytes_of<'a>(elf: &Elf<'a>, part: &Part) -> Option<&'a [u8]>
 // Appends the halfwords of bytes. The last byte of an odd number is one by itself.
 fn push_halves(halves: &mut Vec<u16>, bytes: &[u8]) -> Result<(), NoMemory>
     requires { halves.old.items ≡ [] }
-    ensures { (elf : Elf) (part : Part) → AreBytesOf elf part bytes.now → OnOk result (AreHalvesOf elf part halves.new.items) }
+    ensures { (elf : Elf) (part : Part) → AreBytesOf elf part bytes.now →
+        OnOk result (AreHalvesOf elf part halves.new.items) }
 {
     for index in 0..bytes.len() / 2 {
         let low = bytes[2 * index];

@@ -59,7 +59,8 @@ fn push_starts(
 pub fn starts_in<'a>(starts: &'a [u64], part: &Part) -> &'a [u64]
     requires ascending { AllPairs (λ a b. a < b) starts.now }
     requires has_bytes { part.now.start < part.now.end }
-    ensures members { (a : ℕ) → Contains result.now a ↔ (Contains starts.now a × (part.now.start ≤ a) × (a < part.now.end)) }
+    ensures members { (a : ℕ) → Contains result.now a ↔
+        (Contains starts.now a × (part.now.start ≤ a) × (a < part.now.end)) }
     ensures ascending { AllPairs (λ a b. a < b) result.now }
 {
     let (below, _) = starts.split_at(search_below(starts, part.end));

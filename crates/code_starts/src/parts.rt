@@ -80,7 +80,8 @@ pub fn count_up_to(parts: &[Part], address: u64) -> usize
     requires { ArePartsApart parts.now }
     ensures bound { result ≤ length parts.now }
     ensures below { (k : ℕ) (d : Part) → k < result → (slice_index_or parts.now k d).start ≤ address }
-    ensures above { (k : ℕ) (d : Part) → result ≤ k → k < length parts.now → address < (slice_index_or parts.now k d).start }
+    ensures above { (k : ℕ) (d : Part) → result ≤ k → k < length parts.now →
+        address < (slice_index_or parts.now k d).start }
 {
     parts.partition_point(|p| p.start <= address)
 }

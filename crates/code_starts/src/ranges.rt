@@ -24,7 +24,8 @@ pub struct Ranges {
 impl Ranges {
     /// These ranges.
     pub fn new(alloc: Global, mut extents: Vec<Extent>) -> Result<Ranges, NoMemory>
-        ensures { IfOk result (λ r. (a e : ℕ) → a < e → IsInOneExtent r.reaches.items a e ↔ IsInOneExtent extents.items a e) }
+        ensures { IfOk result (λ r. (a e : ℕ) → a < e →
+            IsInOneExtent r.reaches.items a e ↔ IsInOneExtent extents.items a e) }
     {
         sort_by_start(&mut extents)?;
         let reaches = reaches_of(alloc, &extents)?;
@@ -51,7 +52,8 @@ fn section_extent(section: &Section) -> Extent
 }
 
 fn section_extents(alloc: Global, sections: &[Section]) -> Result<Vec<Extent>, AllocError>
-    ensures { IfOk result (λ extents. extents.items ≡ map section_extent (filter (λ s. holds_code s.flags) sections.now)) }
+    ensures { IfOk result (λ extents. extents.items ≡ map section_extent
+        (filter (λ s. holds_code s.flags) sections.now)) }
 {
     sections
         .iter()

@@ -1,5 +1,6 @@
 // Parts that stay in one piece: those that a range with an exception table names.
-ghost use Rattle.std.specs.Prelude.{◌≡◌, ◌↔◌, ◌⊎◌, ◌+◌, ◌<◌, ◌≤◌, ℕ, ℤ, pos, int_le, ◌≤ℤ◌, ◌<ℤ◌, List, IfOk, IsTrue, Any, map};
+ghost use Rattle.std.specs.Prelude.{◌≡◌, ◌↔◌, ◌⊎◌, ◌+◌, ◌<◌, ◌≤◌, ℕ, ℤ, pos, int_le, ◌≤ℤ◌, ◌<ℤ◌, List, IfOk, IsTrue};
+ghost use Rattle.std.specs.Prelude.{Any, map};
 ghost use Rattle.std.specs.Prelude.{length, slice_index_or};
 ghost use Rattle.elf_image.specs.declared.elf.Elf.{Elf};
 ghost use Rattle.elf_code.specs.Cells.{IsInOneWhole};
@@ -18,8 +19,8 @@ use elf_image::extent::Extent;
 use rb_bytes::fault::NoMemory;
 use std::alloc::{AllocError, Global};
 
-/// The parts that are whole, by address: an instruction of each starts in one of the ranges `tabled`, which are given by
-/// their starts and ends. `starts` and `parts` are those of the file.
+/// The parts that are whole, by address: an instruction of each starts in one of the ranges `tabled`, which are given
+/// by their starts and ends. `starts` and `parts` are those of the file.
 pub fn whole_parts(
     alloc: Global,
     elf: &Elf,
@@ -116,7 +117,8 @@ fn count_up_to(parts: &[Part], label: i128) -> usize
     requires { ArePartsApart parts.now }
     ensures bound { result ≤ length parts.now }
     ensures below { (k : ℕ) (d : Part) → k < result → pos (slice_index_or parts.now k d).start ≤ℤ label }
-    ensures above { (k : ℕ) (d : Part) → result ≤ k → k < length parts.now → label <ℤ pos (slice_index_or parts.now k d).start }
+    ensures above { (k : ℕ) (d : Part) → result ≤ k → k < length parts.now →
+        label <ℤ pos (slice_index_or parts.now k d).start }
 {
     parts.partition_point(|p| begins_by(p, label))
 }

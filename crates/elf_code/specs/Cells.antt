@@ -1,6 +1,7 @@
 -- Code cells: the data fields that hold a code address, or a difference of labels of which one is a code address.
 -- psABI, "Relocations".
-use Rattle.std.specs.Prelude.{◌≡◌, ◌⊎◌, ℕ, ◌+◌, ◌/◌, ◌<◌, ◌==◌, ◌&&◌, ◌||◌, ℤ, pos, ◌≤ℤ◌, ◌<ℤ◌, if◌then◌else◌, Bool, true, false}
+use Rattle.std.specs.Prelude.{◌≡◌, ◌⊎◌, ℕ, ◌+◌, ◌/◌, ◌<◌, ◌==◌, ◌&&◌, ◌||◌, ℤ, pos, ◌≤ℤ◌, ◌<ℤ◌, if◌then◌else◌, Bool}
+use Rattle.std.specs.Prelude.{true, false}
 use Rattle.std.specs.Prelude.{IsTrue, IsSome, IfSome, List, Option, Some, Contains}
 use Rattle.std.specs.List.{count_by}
 use Rattle.rv_code.specs.declared.cell.CodeCell.{CodeCell}
@@ -11,7 +12,8 @@ use Rattle.elf_image.specs.declared.relocation.TheConstants.{R_RISCV_32, R_RISCV
 use Rattle.elf_image.specs.memory.LoadedBytes.{file_offset, IsInHeaders}
 use Rattle.elf_code.specs.LoadedNumbers.{loaded_number}
 use Rattle.elf_code.specs.Parts.{IsStart, IsWholePart}
-use Rattle.elf_code.specs.Relocations.{Relocation, relocations, label, is_address, is_pc_difference, is_add, Width, Bits}
+use Rattle.elf_code.specs.Relocations.{Relocation, relocations, label, is_address, is_pc_difference, is_add, Width}
+use Rattle.elf_code.specs.Relocations.{Bits}
 use Rattle.elf_code.specs.Relocations.{Uleb128, plus_width, minus_width}
 use Rattle.elf_code.specs.Roles.{PcrelHiTo}
 
@@ -84,13 +86,15 @@ pub data IsField (elf : Elf) (tabled : List (ℕ × ℕ)) (f : Field) : Type 0 w
   -- a field for an address, which holds a code address
   pointer : (r : Relocation) → Contains (relocations elf) r → IsTrue (is_address r.kind) →
       f.place ≡ r.place → f.width ≡ address_width r.kind →
-      (to : ℕ) → loaded_number elf f.place f.width ≡ Some to → IsStart elf to → f.content ≡ Address to → IsField elf tabled f
+      (to : ℕ) → loaded_number elf f.place f.width ≡ Some to → IsStart elf to → f.content ≡ Address to →
+      IsField elf tabled f
   -- the entry of the global offset table that a pair of instructions names
   slot : (r : Relocation) → r.kind ≡ R_RISCV_GOT_HI20 → PcrelHiTo elf r (pos f.place) → f.width ≡ 8 →
       (to : ℕ) → loaded_number elf f.place 8 ≡ Some to → label elf r ≡ pos to → IsStart elf to →
       f.content ≡ Address to → IsField elf tabled f
   -- a difference of 32 or 64 bits
-  difference : (r : Relocation) (bits : ℕ) (to from : ℤ) → IsDifference elf r (Bits bits) to from → IsTrue (can_be_cell r) →
+  difference : (r : Relocation) (bits : ℕ) (to from : ℤ) → IsDifference elf r (Bits bits) to from →
+      IsTrue (can_be_cell r) →
       HasCodeLabel elf to from → (IsInOneWhole elf tabled to from → ⊥) →
       f.place ≡ r.place → f.width ≡ bits / 8 → f.content ≡ Difference to from → IsField elf tabled f
 

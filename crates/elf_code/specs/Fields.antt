@@ -1,6 +1,7 @@
 -- The fields to which relocations apply: how many bytes they have, and what numbers they hold. psABI, "Relocations",
 -- "Field Symbols"; DWARF 5, section 7.6, for numbers in LEB128.
-use Rattle.std.specs.Prelude.{◌≡◌, ◌⊎◌, ℕ, zero, suc, ◌+◌, ◌-◌, ◌/◌, ◌%◌, ◌^◌, ◌≤◌, ℤ, pos, ◌-ℤ◌, ◌==◌, ◌||◌, if◌then◌else◌}
+use Rattle.std.specs.Prelude.{◌≡◌, ◌⊎◌, ℕ, zero, suc, ◌+◌, ◌-◌, ◌/◌, ◌%◌, ◌^◌, ◌≤◌, ℤ, pos, ◌-ℤ◌, ◌==◌, ◌||◌}
+use Rattle.std.specs.Prelude.{if◌then◌else◌}
 use Rattle.std.specs.Prelude.{IsTrue, IsSomeAnd, List, [], ◌∷◌, Option, Some, None, length, option_map}
 use Rattle.std.specs.Int.{int_rem_euclid}
 use Rattle.rb_bytes.specs.Leb.{is_last, low_bits, high_bits}
@@ -8,7 +9,8 @@ use Rattle.elf_image.specs.declared.elf.Elf.{Elf}
 use Rattle.elf_image.specs.declared.relocation.TheConstants.{R_RISCV_64, R_RISCV_IRELATIVE}
 use Rattle.elf_image.specs.memory.LoadedBytes.{byte_at}
 use Rattle.elf_code.specs.LoadedNumbers.{loaded_number}
-use Rattle.elf_code.specs.Relocations.{Relocation, is_ignored, is_call_pair, Width, Bits, Uleb128, plus_width, minus_width}
+use Rattle.elf_code.specs.Relocations.{Relocation, is_ignored, is_call_pair, Width, Bits, Uleb128, plus_width}
+use Rattle.elf_code.specs.Relocations.{minus_width}
 
 -- A number in LEB128.
 
@@ -52,7 +54,8 @@ field_size elf r = size_by elf r (plus_width r.kind) (minus_width r.kind)
 abbrev pub HasField : Elf → Relocation → Type 0
 HasField elf r =
     IsTrue (is_ignored r.kind)
-    ⊎ IsSomeAnd (field_size elf r) (λ size. (r.section.addr ≤ r.place) × (r.place + size ≤ r.section.addr + r.section.size))
+    ⊎ IsSomeAnd (field_size elf r) (λ size. (r.section.addr ≤ r.place)
+    × (r.place + size ≤ r.section.addr + r.section.size))
 
 -- Contents.
 
@@ -65,5 +68,6 @@ HoldBits (b ∷ bs) z = (b % 128 ≡ low_bits z) × HoldBits bs (high_bits z)
 -- The field holds the difference of two labels modulo its width.
 abbrev pub HoldsDifference : Elf → Relocation → Width → ℤ → ℤ → Type 0
 HoldsDifference elf r (Bits n) to from =
-    IsSomeAnd (loaded_number elf r.place (bytes_of_bits n)) (λ x. int_rem_euclid (to -ℤ from) (pos (2 ^ n)) ≡ pos (x % 2 ^ n))
+    IsSomeAnd (loaded_number elf r.place (bytes_of_bits n))
+    (λ x. int_rem_euclid (to -ℤ from) (pos (2 ^ n)) ≡ pos (x % 2 ^ n))
 HoldsDifference elf r Uleb128 to from = IsSomeAnd (leb_field elf r) (λ bs. HoldBits bs (to -ℤ from))

@@ -1,5 +1,5 @@
--- The code of a file as the layers above get it: the starts of its instructions, its functions, roles and code cells, as
--- lists.
+-- The code of a file as the layers above get it: the starts of its instructions, its functions, roles and code cells,
+-- as lists.
 use Rattle.std.specs.Prelude.{◌≡◌, ℕ, ◌<◌, List}
 use Rattle.rv_code.specs.declared.placed.Role.{Role}
 use Rattle.rv_code.specs.declared.cell.CodeCell.{CodeCell}

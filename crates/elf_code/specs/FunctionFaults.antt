@@ -26,8 +26,8 @@ pub record IsBadInstruction (elf : Elf) (tabled : List (ℕ × ℕ)) (place : �
   pub starts : StartsIn elf start end place
   pub invalid : (inst : Inst) (bytes : ℕ) → HasValidInst elf start end place inst bytes → ⊥
 
--- An AUIPC without a relocation that says what it stands for. Both are looked for together; an AUIPC that can't be there
--- is a bad instruction alone.
+-- An AUIPC without a relocation that says what it stands for. Both are looked for together; an AUIPC that can't be
+-- there is a bad instruction alone.
 pub record IsBareAuipc (elf : Elf) (tabled : List (ℕ × ℕ)) (place : ℕ) : Type 0 where
   pub start : ℕ
   pub end : ℕ

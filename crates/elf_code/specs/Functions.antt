@@ -10,7 +10,8 @@ use Rattle.rv_code.specs.isa.Action.{action_of}
 use Rattle.rv_code.specs.layout.Flow.{target, falls}
 use Rattle.rv_code.specs.layout.ProgramCode.{RoleNames, CellNames}
 use Rattle.elf_image.specs.declared.elf.Elf.{Elf}
-use Rattle.elf_code.specs.Parts.{IsPart, IsCovered, IsCodePart, IsWholePart, StartsIn, HasValidInst, IsInstAt, halfword_at}
+use Rattle.elf_code.specs.Parts.{IsPart, IsCovered, IsCodePart, IsWholePart, StartsIn, HasValidInst, IsInstAt}
+use Rattle.elf_code.specs.Parts.{halfword_at}
 use Rattle.elf_code.specs.Parts.{length_at}
 use Rattle.elf_code.specs.Roles.{HasRole, RoleIs}
 use Rattle.elf_code.specs.Cells.{IsCell}
@@ -36,7 +37,8 @@ pub data IsReferred (elf : Elf) (tabled : List (ℕ × ℕ)) (a : ℕ) : Type 0 
 -- The parts that are functions: those with code that isn't nops alone; and of those of nops each in which a nop is
 -- referred to, or into which the last instruction of a function that ends there falls.
 pub data IsFunctionPart (elf : Elf) (tabled : List (ℕ × ℕ)) : ℕ → ℕ → Type 0 where
-  code : (start end : ℕ) → IsCodePart elf start end → (IsNopPart elf start end → ⊥) → IsFunctionPart elf tabled start end
+  code : (start end : ℕ) → IsCodePart elf start end → (IsNopPart elf start end → ⊥) →
+      IsFunctionPart elf tabled start end
   referred : (start end a : ℕ) → IsNopPart elf start end → StartsIn elf start end a → IsReferred elf tabled a →
       IsFunctionPart elf tabled start end
   fallen_into : (start end before a : ℕ) (inst : Inst) (bytes : ℕ) → IsNopPart elf start end →
@@ -56,7 +58,8 @@ pub record IsCodeAddress (elf : Elf) (tabled : List (ℕ × ℕ)) (a : ℕ) : Ty
 -- these instructions, with their roles, follow one another from an address on to another
 abbrev pub AreInsts : Elf → ℕ → List Placed → ℕ → Type 0
 AreInsts elf a [] end = a ≡ end
-AreInsts elf a (p ∷ ps) end = (p.addr ≡ a) × IsInstAt elf a p.inst p.len × RoleIs elf a p.role × AreInsts elf (a + p.len) ps end
+AreInsts elf a (p ∷ ps) end = (p.addr ≡ a) × IsInstAt elf a p.inst p.len × RoleIs elf a p.role
+    × AreInsts elf (a + p.len) ps end
 
 pub record IsFunction (elf : Elf) (tabled : List (ℕ × ℕ)) (func : Func) : Type 0 where
   pub part : IsFunctionPart elf tabled func.start func.end

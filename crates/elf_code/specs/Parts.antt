@@ -1,6 +1,7 @@
 -- The parts of executable sections that can be functions, and the instructions in them. A part goes from one
 -- cut to the next.
-use Rattle.std.specs.Prelude.{◌≡◌, ◌≢◌, ℕ, ◌+◌, ◌*◌, ◌%◌, ◌<◌, ◌≤◌, ◌==◌, if◌then◌else◌, List, Option, Some, IsTrue, Any}
+use Rattle.std.specs.Prelude.{◌≡◌, ◌≢◌, ℕ, ◌+◌, ◌*◌, ◌%◌, ◌<◌, ◌≤◌, ◌==◌, if◌then◌else◌, List, Option, Some, IsTrue}
+use Rattle.std.specs.Prelude.{Any}
 use Rattle.std.specs.Prelude.{unwrap_or}
 use Rattle.rv_code.specs.declared.inst.Inst.{Inst}
 use Rattle.rv_code.specs.isa.InstBytes.{Decodes}
@@ -28,7 +29,8 @@ pub record IsPart (elf : Elf) (start end : ℕ) : Type 0 where
 
 -- a function symbol's range holds a stretch
 abbrev pub IsCovered : Elf → ℕ → ℕ → Type 0
-IsCovered elf start end = Any (λ s. IsTrue (names_function s) × (s.value ≤ start) × (end ≤ s.value + s.size)) elf.symbols.items
+IsCovered elf start end = Any (λ s. IsTrue (names_function s) × (s.value ≤ start) × (end ≤ s.value + s.size))
+    elf.symbols.items
 
 -- An uncovered part whose bytes are all zero is padding, and holds no code.
 pub record IsZeroPart (elf : Elf) (start end : ℕ) : Type 0 where

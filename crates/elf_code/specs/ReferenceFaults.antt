@@ -1,10 +1,12 @@
 -- At which places the references of a file have a fault: relocations, the code that they speak of, and what says that
 -- a file selects its routines itself or was rewritten before.
-use Rattle.std.specs.Prelude.{◌≡◌, ◌≢◌, ◌⊎◌, ℕ, ◌%◌, ◌≤◌, ℤ, pos, ◌≤ℤ◌, IsTrue, IsFalse, IsSome, IsSomeAnd, true, nat_eq, codes}
+use Rattle.std.specs.Prelude.{◌≡◌, ◌≢◌, ◌⊎◌, ℕ, ◌%◌, ◌≤◌, ℤ, pos, ◌≤ℤ◌, IsTrue, IsFalse, IsSome, IsSomeAnd, true}
+use Rattle.std.specs.Prelude.{nat_eq, codes}
 use Rattle.std.specs.Prelude.{List, Some, Any, length, slice_get}
 use Rattle.std.specs.List.{starts_with}
 use Rattle.rb_bytes.specs.declared.fault.FaultKind.{FaultKind}
-use Rattle.rb_bytes.specs.declared.fault.FaultKind.TheVariants.{RelocType, RelocMismatch, LoMismatch, NarrowDiff, IfuncOrPlt}
+use Rattle.rb_bytes.specs.declared.fault.FaultKind.TheVariants.{RelocType, RelocMismatch, LoMismatch, NarrowDiff}
+use Rattle.rb_bytes.specs.declared.fault.FaultKind.TheVariants.{IfuncOrPlt}
 use Rattle.rb_bytes.specs.declared.fault.FaultKind.TheVariants.{AlreadyMoved}
 use Rattle.rv_code.specs.isa.HiLo.{hi20, lo12}
 use Rattle.rv_code.specs.declared.inst.Inst.{Inst}
@@ -15,9 +17,11 @@ use Rattle.elf_image.specs.declared.relocation.TheConstants.{R_RISCV_GOT_HI20, R
 use Rattle.elf_image.specs.declared.symbol.TheConstants.{STT_GNU_IFUNC}
 use Rattle.elf_code.specs.LoadedNumbers.{loaded_number}
 use Rattle.rv_code.specs.layout.FunctionLists.{address_end}
-use Rattle.elf_code.specs.Relocations.{Relocation, relocations, symbol_value, label, is_named, is_supported, is_call_pair}
+use Rattle.elf_code.specs.Relocations.{Relocation, relocations, symbol_value, label, is_named, is_supported}
+use Rattle.elf_code.specs.Relocations.{is_call_pair}
 use Rattle.elf_code.specs.Relocations.{is_pcrel_hi, is_pcrel_lo, Width, plus_width, minus_width, HasRelocation}
-use Rattle.elf_code.specs.Roles.{IsFullAt, lower_immediate, CallPair, CallTo, PcrelLo, PcrelHiTo, AbsoluteTo, IsAbsoluteLow}
+use Rattle.elf_code.specs.Roles.{IsFullAt, lower_immediate, CallPair, CallTo, PcrelLo, PcrelHiTo, AbsoluteTo}
+use Rattle.elf_code.specs.Roles.{IsAbsoluteLow}
 use Rattle.elf_code.specs.Cells.{IsOnly, is_plus, is_minus, IsDifference, can_be_cell, IsCodeLabel, HasCodeLabel}
 use Rattle.elf_code.specs.Cells.{IsInOneWhole, Counts, Difference}
 use Rattle.elf_code.specs.Fields.{HasField, HoldsDifference}
@@ -33,7 +37,8 @@ abbrev pub IsAddress : ℤ → Type 0
 IsAddress z = (pos 0 ≤ℤ z) × (z ≤ℤ pos address_end)
 
 -- A call has its two instructions, and the second jumps through the first's register. Through x0 it is a call of an
--- undefined weak symbol: then the upper immediate is 0, and so is the lower one where the AUIPC writes another register.
+-- undefined weak symbol: then the upper immediate is 0, and so is the lower one where the AUIPC writes another
+-- register.
 abbrev pub IsCall : Elf → Relocation → Type 0
 IsCall elf r =
     (pair : CallPair elf r)
@@ -59,7 +64,8 @@ HasLower elf r = (inst : Inst) × IsFullAt elf r.place inst × IsSome (lower_imm
 
 -- a relocation is on its instruction, with the right part of an absolute address
 pub data HasAbsolute (elf : Elf) (r : Relocation) (target : ℕ) : Type 0 where
-  upper : r.kind ≡ R_RISCV_HI20 → (rd : ℕ) → IsFullAt elf r.place (Lui rd (hi20 (pos target))) → HasAbsolute elf r target
+  upper : r.kind ≡ R_RISCV_HI20 → (rd : ℕ) → IsFullAt elf r.place (Lui rd (hi20 (pos target))) →
+      HasAbsolute elf r target
   lower : IsAbsoluteLow r.kind → (inst : Inst) → IsFullAt elf r.place inst →
       lower_immediate r.kind inst ≡ Some (lo12 (pos target)) → HasAbsolute elf r target
 
@@ -89,8 +95,8 @@ pub data IsBadUpper (elf : Elf) (r : Relocation) : Type 0 where
   no_auipc : IsTrue (is_pcrel_hi r.kind) → (HasAuipc elf r.place → ⊥) → IsBadUpper elf r
   alone : IsTrue (is_pcrel_hi r.kind) → (IsNamedByLow elf r.place → ⊥) → IsBadUpper elf r
 
--- an AUIPC and a lower part give no address; or their target is an entry of the global offset table that isn't loaded or
--- holds another number. The place of both is the AUIPC's.
+-- an AUIPC and a lower part give no address; or their target is an entry of the global offset table that isn't loaded
+-- or holds another number. The place of both is the AUIPC's.
 pub data IsBadPair (elf : Elf) (r : Relocation) : Type 0 where
   address : (target : ℤ) → PcrelHiTo elf r target → (IsAddress target → ⊥) → IsBadPair elf r
   slot : r.kind ≡ R_RISCV_GOT_HI20 → (slot : ℕ) → PcrelHiTo elf r (pos slot) →
@@ -108,10 +114,11 @@ pub record IsBadAbsolute (elf : Elf) (r : Relocation) : Type 0 where
   pub absolute : IsAbsoluteKind r.kind
   pub unfit : HasAbsolute elf r target → ⊥
 
--- the field of a difference holds another number; or a code address is added, set or subtracted, and isn't in a difference
--- of two labels
+-- the field of a difference holds another number; or a code address is added, set or subtracted, and isn't in a
+-- difference of two labels
 pub data IsBadDifference (elf : Elf) (r : Relocation) : Type 0 where
-  number : (width : Width) (to from : ℤ) → IsDifference elf r width to from → (HoldsDifference elf r width to from → ⊥) →
+  number : (width : Width) (to from : ℤ) → IsDifference elf r width to from →
+      (HoldsDifference elf r width to from → ⊥) →
       IsBadDifference elf r
   unpaired : (width : Width) → (plus_width r.kind ≡ Some width) ⊎ (minus_width r.kind ≡ Some width) →
       IsCodeLabel elf (label elf r) → (IsPaired elf r.place width → ⊥) → IsBadDifference elf r

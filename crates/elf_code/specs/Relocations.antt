@@ -1,6 +1,7 @@
 -- The relocations of a file that count, and what they say: those of loaded sections other than .eh_frame.
 -- gABI, "Relocation"; psABI, "Relocations".
-use Rattle.std.specs.Prelude.{◌≡◌, ℕ, zero, suc, ℤ, pos, ◌+ℤ◌, ◌+◌, ◌/◌, ◌==◌, ◌&&◌, ◌||◌, not, nat_le, if◌then◌else◌, Bool, List}
+use Rattle.std.specs.Prelude.{◌≡◌, ℕ, zero, suc, ℤ, pos, ◌+ℤ◌, ◌+◌, ◌/◌, ◌==◌, ◌&&◌, ◌||◌, not, nat_le, if◌then◌else◌}
+use Rattle.std.specs.Prelude.{Bool, List}
 use Rattle.std.specs.Prelude.{[], ◌∷◌, Option, Some, None, slice_get, flat_map, codes, Contains}
 use Rattle.std.specs.Option.{option_map_or}
 use Rattle.std.specs.Str.{bytes_eq}
@@ -36,7 +37,8 @@ relocation_at file section offset = record {
 -- the n entries from an offset on
 unfoldable pub entries_from : List ℕ → Section → ℕ → ℕ → List Relocation
 entries_from file section offset zero = []
-entries_from file section offset (suc n) = relocation_at file section offset ∷ entries_from file section (offset + RELA_SIZE) n
+entries_from file section offset (suc n) = relocation_at file section offset
+    ∷ entries_from file section (offset + RELA_SIZE) n
 
 abbrev pub is_named : Section → List ℕ → Bool
 is_named section name = bytes_eq section.name.now name
@@ -88,7 +90,8 @@ is_call_pair kind = kind == r.R_RISCV_CALL || kind == r.R_RISCV_CALL_PLT
 -- the upper part of a distance from an AUIPC
 abbrev pub is_pcrel_hi : ℕ → Bool
 is_pcrel_hi kind =
-    kind == r.R_RISCV_GOT_HI20 || kind == r.R_RISCV_TLS_GOT_HI20 || kind == r.R_RISCV_TLS_GD_HI20 || kind == r.R_RISCV_PCREL_HI20
+    kind == r.R_RISCV_GOT_HI20 || kind == r.R_RISCV_TLS_GOT_HI20 || kind == r.R_RISCV_TLS_GD_HI20
+    || kind == r.R_RISCV_PCREL_HI20
 
 -- the lower part, of an AUIPC that the symbol names
 abbrev pub is_pcrel_lo : ℕ → Bool
@@ -138,7 +141,8 @@ is_add kind = kind == r.R_RISCV_ADD32 || kind == r.R_RISCV_ADD64
 abbrev pub is_supported : ℕ → Bool
 is_supported kind =
     is_ignored kind || is_address kind || is_call_pair kind || is_pcrel_hi kind || is_pcrel_lo kind || is_absolute kind
-    || is_pc_difference kind || kind == r.R_RISCV_IRELATIVE || (nat_le r.R_RISCV_ADD8 kind && nat_le kind r.R_RISCV_SUB64)
+    || is_pc_difference kind || kind == r.R_RISCV_IRELATIVE
+    || (nat_le r.R_RISCV_ADD8 kind && nat_le kind r.R_RISCV_SUB64)
     || (nat_le r.R_RISCV_SUB6 kind && nat_le kind r.R_RISCV_SET32) || kind == r.R_RISCV_SET_ULEB128
     || kind == r.R_RISCV_SUB_ULEB128
 

@@ -1,7 +1,8 @@
 -- Roles: which part of an address the immediate of an instruction holds, by the relocations that apply to it.
 -- psABI, "Relocations": "Procedure Calls", "PC-Relative Symbol Addresses", "Absolute Addresses". Only four-byte
 -- instructions have roles.
-use Rattle.std.specs.Prelude.{◌≡◌, ◌≢◌, ◌⊎◌, ℕ, ◌+◌, ◌<◌, ◌≤◌, ℤ, pos, ◌+ℤ◌, ◌*ℤ◌, ◌==◌, ◌||◌, if◌then◌else◌, IsTrue, IsSome}
+use Rattle.std.specs.Prelude.{◌≡◌, ◌≢◌, ◌⊎◌, ℕ, ◌+◌, ◌<◌, ◌≤◌, ℤ, pos, ◌+ℤ◌, ◌*ℤ◌, ◌==◌, ◌||◌, if◌then◌else◌, IsTrue}
+use Rattle.std.specs.Prelude.{IsSome}
 use Rattle.std.specs.Prelude.{Option, Some, None, Contains}
 use Rattle.rv_code.specs.declared.inst.Inst.{Inst}
 use Rattle.rv_code.specs.declared.inst.Inst.TheVariants.{Auipc, Jalr, Lui}
@@ -13,9 +14,11 @@ use Rattle.rv_code.specs.declared.placed.Role.{Role}
 use Rattle.rv_code.specs.declared.placed.Role.TheVariants.{Plain, CallHi, CallLo, Hi, Lo, AbsHi, AbsLo}
 use Rattle.rv_code.specs.isa.Action.{action_of}
 use Rattle.elf_image.specs.declared.elf.Elf.{Elf}
-use Rattle.elf_image.specs.declared.relocation.TheConstants.{R_RISCV_PCREL_LO12_I, R_RISCV_HI20, R_RISCV_LO12_I, R_RISCV_LO12_S}
+use Rattle.elf_image.specs.declared.relocation.TheConstants.{R_RISCV_PCREL_LO12_I, R_RISCV_HI20, R_RISCV_LO12_I}
+use Rattle.elf_image.specs.declared.relocation.TheConstants.{R_RISCV_LO12_S}
 use Rattle.elf_code.specs.Parts.{HasInst, IsStart}
-use Rattle.elf_code.specs.Relocations.{Relocation, relocations, symbol_value, label, is_call_pair, is_pcrel_hi, is_pcrel_lo}
+use Rattle.elf_code.specs.Relocations.{Relocation, relocations, symbol_value, label, is_call_pair, is_pcrel_hi}
+use Rattle.elf_code.specs.Relocations.{is_pcrel_lo}
 
 -- a four-byte instruction of a code part starts at an address
 pub record IsFullAt (elf : Elf) (a : ℕ) (inst : Inst) : Type 0 where
@@ -39,7 +42,8 @@ immediate_s _ = None
 -- by the relocation's type
 abbrev pub lower_immediate : ℕ → Inst → Option ℤ
 lower_immediate kind inst =
-    if kind == R_RISCV_PCREL_LO12_I || kind == R_RISCV_LO12_I then immediate_i (action_of inst) else immediate_s (action_of inst)
+    if kind == R_RISCV_PCREL_LO12_I || kind == R_RISCV_LO12_I then immediate_i (action_of inst) else immediate_s
+    (action_of inst)
 
 abbrev pub IsAbsoluteLow : ℕ → Type 0
 IsAbsoluteLow kind = (kind ≡ R_RISCV_LO12_I) ⊎ (kind ≡ R_RISCV_LO12_S)
@@ -117,7 +121,8 @@ pub data Claims (elf : Elf) (r : Relocation) (a key : ℕ) (role : Role) : Type 
   -- as they are; the AUIPC counts as one that names itself, and the JALR has no role.
   weak_call : (pair : CallPair elf r) → pair.base ≡ 0 → a ≡ r.place → key ≡ r.place → role ≡ CallHi r.place →
       Claims elf r a key role
-  hi : (target : ℕ) → PcrelHiTo elf r (pos target) → a ≡ r.place → key ≡ r.place → role ≡ Hi target → Claims elf r a key role
+  hi : (target : ℕ) → PcrelHiTo elf r (pos target) → a ≡ r.place → key ≡ r.place → role ≡ Hi target →
+      Claims elf r a key role
   lo : (hi target : ℕ) → PcrelLoTo elf r hi (pos target) → a ≡ r.place → key ≡ hi → role ≡ Lo hi target →
       Claims elf r a key role
   abs_hi : (target : ℕ) → AbsoluteTo elf r target → r.kind ≡ R_RISCV_HI20 → (rd : ℕ) (imm : ℤ) →

@@ -1,3 +1,3 @@
-//! The code of an ELF file: its parts and relocations, the roles of instructions, code cells and functions, and the faults of
-//! these. Definitions alone.
+//! The code of an ELF file: its parts and relocations, the roles of instructions, code cells and functions, and the
+//! faults of these. Definitions alone.
 #![tactic(auto)]

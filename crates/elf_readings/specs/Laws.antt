@@ -1,5 +1,5 @@
--- Two readings of one file have the same fields, but keep their names and lists at other places in memory, so they aren't
--- equal values. What is said of the file's code is the same for both.
+-- Two readings of one file have the same fields, but keep their names and lists at other places in memory, so they
+-- aren't equal values. What is said of the file's code is the same for both.
 use Rattle.std.specs.Prelude.{◌≡◌, ◌↔◌, ℕ, List, length, map}
 use Rattle.rb_bytes.specs.declared.fault.Fault.{Fault}
 use Rattle.rb_bytes.specs.declared.fault.FaultKind.{FaultKind}
@@ -17,7 +17,8 @@ use Rattle.elf_image.specs.file.ParsedFile.{IsElfOf}
 pub record HaveSameCode (elf elf' : Elf) (tabled : List (ℕ × ℕ)) : Type 0 where
   pub faults : (kind : FaultKind) (place : ℕ) → HasCodeFault elf tabled kind place ↔ HasCodeFault elf' tabled kind place
   pub free : IsFree (HasCodeFault elf tabled) ↔ IsFree (HasCodeFault elf' tabled)
-  pub answers : (fault : Fault) → IsAnswered (HasCodeFault elf tabled) fault ↔ IsAnswered (HasCodeFault elf' tabled) fault
+  pub answers : (fault : Fault) → IsAnswered (HasCodeFault elf tabled) fault ↔ IsAnswered
+      (HasCodeFault elf' tabled) fault
   pub starts : (starts : List ℕ) → AreStarts elf starts ↔ AreStarts elf' starts
   pub code_addresses : (a : ℕ) → IsCodeAddress elf tabled a ↔ IsCodeAddress elf' tabled a
   pub functions : (funcs : List Func) → AreFunctions elf tabled funcs ↔ AreFunctions elf' tabled funcs
@@ -27,13 +28,16 @@ pub record HaveSameCode (elf elf' : Elf) (tabled : List (ℕ × ℕ)) : Type 0 w
 abbrev pub bounds : Func → ℕ × ℕ
 bounds f = (f.start, f.end)
 
--- The lists that are made of it, whichever reading they are made of, are the same. Of functions that is said of their bounds.
+-- The lists that are made of it, whichever reading they are made of, are the same. Of functions that is said of their
+-- bounds.
 pub record HaveOneList (elf elf' : Elf) (tabled : List (ℕ × ℕ)) : Type 0 where
   pub starts : (xs ys : List ℕ) → AreStarts elf xs → AreStarts elf' ys → xs ≡ ys
   pub roles : (xs ys : List (ℕ × Role)) → AreRoles elf xs → AreRoles elf' ys → xs ≡ ys
   pub cells : (xs ys : List CodeCell) → AreCells elf tabled xs → AreCells elf' tabled ys → xs ≡ ys
-  pub functions : (xs ys : List Func) → AreFunctions elf tabled xs → AreFunctions elf' tabled ys → map bounds xs ≡ map bounds ys
-  pub function_count : (xs ys : List Func) → AreFunctions elf tabled xs → AreFunctions elf' tabled ys → length xs ≡ length ys
+  pub functions : (xs ys : List Func) → AreFunctions elf tabled xs → AreFunctions elf' tabled ys →
+      map bounds xs ≡ map bounds ys
+  pub function_count : (xs ys : List Func) → AreFunctions elf tabled xs → AreFunctions elf' tabled ys →
+      length xs ≡ length ys
 
 -- for all files, and all ranges of code with exception tables
 abbrev pub ReadingLaw : Type 0

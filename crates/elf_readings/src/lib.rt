@@ -3,8 +3,8 @@
 
 ghost use Rattle.elf_readings.specs.Laws.{ReadingLaw};
 
-/// Whatever is found in one reading of a file's code holds of every other reading: its faults, which of them is answered,
-/// its functions, the starts of its instructions, its roles and its code cells.
+/// Whatever is found in one reading of a file's code holds of every other reading: its faults, which of them is
+/// answered, its functions, the starts of its instructions, its roles and its code cells.
 pub fn reading_law()
     ensures { ReadingLaw }
 {}

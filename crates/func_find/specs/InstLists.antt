@@ -54,7 +54,8 @@ pub record IsFirstIn (elf : Elf) (parts : List Part) (fault : Fault) : Type 0 wh
   pub place : ℕ
   pub starts : StartsIn elf part.start part.end place
   pub is : IsFaultBefore elf part.end place fault
-  pub earlier : (p : Part) (a : ℕ) → Contains parts p → StartsIn elf p.start p.end a → a < place → IsGoodBefore elf p.end a
+  pub earlier : (p : Part) (a : ℕ) → Contains parts p → StartsIn elf p.start p.end a → a < place →
+      IsGoodBefore elf p.end a
 
 abbrev pub IsFirstRefusal : Elf → List Part → Refusal → Type 0
 IsFirstRefusal elf parts (refusal.Fault fault) = IsFirstIn elf parts fault
@@ -75,6 +76,8 @@ pub record IsFunctionOf (elf : Elf) (wholes : List Part) (part : Part) (func : F
 
 -- parts and the functions that they are, one for one
 pub record AreFunctionsOf (elf : Elf) (wholes parts : List Part) (funcs : List Func) : Type 0 where
-  pub only : (func : Func) → Contains funcs func → (part : Part) × Contains parts part × IsFunctionOf elf wholes part func
-  pub each : (part : Part) → Contains parts part → (func : Func) × Contains funcs func × IsFunctionOf elf wholes part func
+  pub only : (func : Func) → Contains funcs func → (part : Part) × Contains parts part
+      × IsFunctionOf elf wholes part func
+  pub each : (part : Part) → Contains parts part → (func : Func) × Contains funcs func
+      × IsFunctionOf elf wholes part func
   pub ordered : AllPairs (λ f g. f.end ≤ g.start) funcs

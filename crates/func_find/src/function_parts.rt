@@ -33,7 +33,8 @@ pub fn kept_parts(
     requires starts { AreStarts elf.now starts.now }
     requires parts { AreCodeParts elf.now parts.now }
     ensures { IfOk result
-        (λ kept. (tabled : List (ℕ × ℕ)) → AreRefs elf.now tabled refs.now → AreFunctionParts elf.now tabled kept.items) }
+        (λ kept. (tabled : List (ℕ × ℕ)) → AreRefs elf.now tabled refs.now →
+        AreFunctionParts elf.now tabled kept.items) }
 {
     if !have_nops(alloc, elf, starts, parts)? {
         return Ok(Vec::from_slice(alloc, parts)?);
@@ -57,8 +58,8 @@ fn have_nops(alloc: Global, elf: &Elf, starts: &[u64], parts: &[Part]) -> Result
     Ok(false)
 }
 
-// The parts that are functions, by address. `starts` and `parts` are those of the file, and `referred` the addresses that are
-// referred to.
+// The parts that are functions, by address. `starts` and `parts` are those of the file, and `referred` the addresses
+// that are referred to.
 fn function_parts(
     alloc: Global,
     elf: &Elf,

@@ -1,5 +1,6 @@
 // The instructions of functions, with their roles.
-ghost use Rattle.std.specs.Prelude.{◌≡◌, ◌↔◌, ◌<◌, ◌≤◌, ℕ, List, [], ◌∷◌, All, AllPairs, Contains, IfOk, IfErr, IfSome, IfNone};
+ghost use Rattle.std.specs.Prelude.{◌≡◌, ◌↔◌, ◌<◌, ◌≤◌, ℕ, List, [], ◌∷◌, All, AllPairs, Contains, IfOk, IfErr, IfSome};
+ghost use Rattle.std.specs.Prelude.{IfNone};
 ghost use Rattle.std.specs.Prelude.{IsTrue, length, slice_index_or};
 ghost use Rattle.rv_code.specs.declared.placed.Role.{Role};
 ghost use Rattle.elf_code.specs.FileCode.{AreRoles};
@@ -15,8 +16,8 @@ use rb_bytes::fault::{Fault, FaultKind, NoMemory, Refusal};
 use rv_code::{Func, Inst, Placed, Role};
 use std::alloc::Global;
 
-/// The functions that these parts are, or the fault of the first of their instructions that can't be there. `wholes` are
-/// the whole parts of the file, and `roles` its roles.
+/// The functions that these parts are, or the fault of the first of their instructions that can't be there. `wholes`
+/// are the whole parts of the file, and `roles` its roles.
 pub fn functions_of(
     alloc: Global,
     elf: &Elf,
@@ -144,8 +145,8 @@ fn is_auipc(inst: &Inst) -> bool
     matches!(*inst, Inst::Auipc { .. })
 }
 
-// The role of the instruction at an address. `near` is how many roles are of instructions below the address asked for last:
-// addresses that go up walk along the roles.
+// The role of the instruction at an address. `near` is how many roles are of instructions below the address asked for
+// last: addresses that go up walk along the roles.
 fn role_at(roles: &[(u64, Role)], near: &mut usize, address: u64) -> Option<Role>
     requires { AllPairs (λ r s. r.0 < s.0) roles.now }
     ensures some { IfSome result (λ role. Contains roles.now (address, role)) }
@@ -168,7 +169,8 @@ fn count_below(roles: &[(u64, Role)], near: usize, address: u64) -> usize
     requires { AllPairs (λ r s. r.0 < s.0) roles.now }
     ensures bound { result ≤ length roles.now }
     ensures below { (k : ℕ) (d : ℕ × Role) → k < result → (slice_index_or roles.now k d).0 < address }
-    ensures above { (k : ℕ) (d : ℕ × Role) → result ≤ k → k < length roles.now → address ≤ (slice_index_or roles.now k d).0 }
+    ensures above { (k : ℕ) (d : ℕ × Role) → result ≤ k → k < length roles.now →
+        address ≤ (slice_index_or roles.now k d).0 }
 {
     for index in known_below(roles, near, address)..roles.len() {
         if roles[index].0 >= address {

@@ -29,8 +29,8 @@ pub struct Referred {
 }
 
 impl Referred {
-    /// The addresses that a branch or jump, a role, a cell or the entry point names. `starts` and `parts` are those of the
-    /// file.
+    /// The addresses that a branch or jump, a role, a cell or the entry point names. `starts` and `parts` are those of
+    /// the file.
     pub fn new(
         alloc: Global,
         elf: &Elf,
@@ -41,7 +41,8 @@ impl Referred {
         requires starts { AreStarts elf.now starts.now }
         requires parts { AreCodeParts elf.now parts.now }
         ensures { IfOk result
-            (λ r. (tabled : List (ℕ × ℕ)) → AreRefs elf.now tabled refs.now → AreReferred elf.now tabled r.addresses.items) }
+            (λ r. (tabled : List (ℕ × ℕ)) → AreRefs elf.now tabled refs.now →
+            AreReferred elf.now tabled r.addresses.items) }
     {
         let mut addresses = Vec::new(alloc);
         addresses.push(elf.entry)?;
@@ -69,7 +70,8 @@ fn push_targets(
 ) -> Result<(), NoMemory>
     requires starts { AreStarts elf.now starts.now }
     requires parts { AreCodeParts elf.now parts.now }
-    ensures { OnOk result (Gains addresses.old.items addresses.new.items (λ a. Any (λ p. PartGoesTo elf.now p a) parts.now)) }
+    ensures { OnOk result (Gains addresses.old.items addresses.new.items
+        (λ a. Any (λ p. PartGoesTo elf.now p a) parts.now)) }
 {
     for part in parts {
         push_targets_of(addresses, elf, part.end, starts_in(starts, part))?;

@@ -3,7 +3,8 @@ ghost use Rattle.std.specs.Prelude.{◌≡◌, ◌↔◌, ◌<◌, ℕ, AllPairs
 ghost use Rattle.elf_image.specs.faults.LowestPlace.{IsLowest};
 ghost use Rattle.code_starts.specs.Parts.{ArePartsApart};
 ghost use Rattle.rv_reloc.specs.Places.{IsPlaceOf};
-ghost use Rattle.func_find.specs.Targets.{CallsInside, HasMisled, IsCodeIn, InSomePart, IsInsideIn, IsMisled, JumpsNowhere};
+ghost use Rattle.func_find.specs.Targets.{CallsInside, HasMisled, IsCodeIn, InSomePart, IsInsideIn, IsMisled};
+ghost use Rattle.func_find.specs.Targets.{JumpsNowhere};
 
 use code_starts::parts::{Part, part_at};
 use code_starts::start_index::Starts;

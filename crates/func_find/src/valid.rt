@@ -12,7 +12,8 @@ use rv_code::Inst;
 pub fn valid_before(elf: &Elf, end: u64, address: u64) -> Option<(Inst, u8)>
     requires { address < end }
     ensures there { IfSome result (λ r. IsValidBefore elf.now end address r.0 r.1) }
-    ensures only { (inst : Inst) (bytes : ℕ) → IsValidBefore elf.now end address inst bytes → result ≡ Some (inst, bytes) }
+    ensures only { (inst : Inst) (bytes : ℕ) → IsValidBefore elf.now end address inst bytes →
+        result ≡ Some (inst, bytes) }
 {
     match inst_before(elf, end, address) {
         Some(found) => {

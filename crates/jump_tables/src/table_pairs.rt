@@ -10,7 +10,12 @@ use rb_bytes::fault::NoMemory;
 use rv_code::{CodeCell, Func, Inst, Placed, RETURN_ADDRESS, Role, ZERO};
 use std::alloc::Global;
 
-/// The pairs of an indirect jump through a table and an address of its function that a cell names, by jump and by address.
+// How many pairs may be there before those of a jump: each jump of a function has one with each of its labels, so that
+// few bytes could ask for any number. A function of 4,000 jumps through tables with 4,000 labels has as many.
+const MOST_PAIRS: usize = 1 << 24;
+
+/// The pairs of an indirect jump through a table and an address of its function that a cell names, by jump and by
+/// address. Memory is wanting where there are more than any program has.
 pub fn tables(
     alloc: Global,
     funcs: &[Func],
@@ -50,10 +55,13 @@ fn push_pairs(
     Ok(())
 }
 
-// Appends the pairs of a jump and each of these addresses.
+// Appends the pairs of a jump and each of these addresses, if there aren't too many before.
 fn push_row(pairs: &mut Vec<(u64, u64)>, jump: u64, labels: &[u64]) -> Result<(), NoMemory>
     ensures { OnOk result (Gains pairs.old.items pairs.new.items (λ e. (e.0 ≡ jump) × Contains labels.now e.1)) }
 {
+    if pairs.len() > MOST_PAIRS {
+        return Err(NoMemory);
+    }
     for label in labels {
         pairs.push((jump, *label))?;
     }
@@ -66,9 +74,9 @@ fn has_table_jump(insts: &[Placed]) -> bool
     insts.iter().any(|inst| is_table_jump(inst))
 }
 
-/// Whether an instruction is an indirect jump through a table: a JALR that saves nothing, holds no part of an address and
-/// isn't a return.
-pub fn is_table_jump(inst: &Placed) -> bool
+// Whether an instruction is an indirect jump through a table: a JALR that saves nothing, holds no part of an address
+// and isn't a return.
+fn is_table_jump(inst: &Placed) -> bool
     ensures { IsTrue result ↔ IsTableJump inst.now }
 {
     if inst.role != Role::Plain {

@@ -1,3 +1,4 @@
 pub mod Computations
 pub mod HalfForms
 pub mod SomeNumber
+pub mod PartsOfInst

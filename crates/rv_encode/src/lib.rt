@@ -12,6 +12,7 @@ mod jump;
 mod layout;
 mod memory;
 mod operand;
+pub mod same;
 mod word;
 
 pub use front::encode;

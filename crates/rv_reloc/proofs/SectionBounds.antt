@@ -130,7 +130,8 @@ module _ (file : List ℕ) (phase a n : ℕ) where
       let one = each s in
       let rest = none_pass test c each none ss in
       let sum = count-append test (span file phase a n s) (spans file ss phase a n) in
-      ap (count_by test) (flat_map-cons (span file phase a n) s ss) ∙ (let e : count_by test (span file phase a n s ++ spans file ss phase a n) ≡ 0 = omega (arith, sum, one, rest, none) in e)
+      ap (count_by test) (flat_map-cons (span file phase a n) s ss)
+      ∙ (let e : count_by test (span file phase a n s ++ spans file ss phase a n) ≡ 0 = omega (arith, sum, one, rest, none) in e)
 
   some_pass : (test : Relocation → Bool) (c : ℕ) → ((s : Section) → count_by test (span file phase a n s) ≡ c) → 1 ≤ c →
       (sections : List Section) → length sections ≤ count_by test (spans file sections phase a n)

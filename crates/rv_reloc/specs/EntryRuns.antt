@@ -1,4 +1,5 @@
--- Relocations that stand one behind another, by their numbers: that of number k stands so many bytes behind k times its size.
+-- Relocations that stand one behind another, by their numbers: that of number k stands so many bytes behind k times
+-- its size.
 use Rattle.std.specs.Prelude.{◌≡◌, ◌≤◌, ℕ, ◌+◌, ◌-◌, ◌*◌, List, ◌++◌, All, map}
 use Rattle.std.specs.List.{range_with_len, flat_map}
 use Rattle.elf_image.specs.declared.section.Section.{Section}

@@ -1,5 +1,5 @@
--- The classes by which the relocations of one place are looked up: calls, upper parts, and labels that are added or set,
--- or subtracted, for each width.
+-- The classes by which the relocations of one place are looked up: calls, upper parts, and labels that are added or
+-- set, or subtracted, for each width.
 use Rattle.std.specs.Prelude.{ℕ, ◌+◌, ◌*◌, if◌then◌else◌, Bool, Option, Some, None}
 use Rattle.elf_code.specs.Relocations.{Width, Bits, Uleb128, plus_width, minus_width, is_call_pair, is_pcrel_hi}
 

@@ -2,7 +2,8 @@
 use Rattle.std.specs.Prelude.{◌≢◌, ◌⊎◌, ◌≤◌, length}
 use Rattle.elf_image.specs.declared.elf.Elf.{Elf}
 use Rattle.elf_code.specs.Relocations.{Relocation}
-use Rattle.elf_code.specs.ReferenceFaults.{IsBadField, IsBadCall, IsBadUpper, IsBadLower, IsBadAbsolute, IsBadDifference}
+use Rattle.elf_code.specs.ReferenceFaults.{IsBadField, IsBadCall, IsBadUpper, IsBadLower, IsBadAbsolute}
+use Rattle.elf_code.specs.ReferenceFaults.{IsBadDifference}
 use Rattle.rv_reloc.specs.Pairs.{MakesNoAddress}
 
 -- the file has no symbol of the relocation's index

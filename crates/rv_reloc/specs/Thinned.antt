@@ -9,11 +9,13 @@ use Rattle.rv_reloc.specs.AppliesTo.{end_of}
 abbrev pub for_section : Section → Relocation → Relocation
 for_section s r = record r { section = s }
 
--- Of each relocation a list keeps one for a section that starts no sooner, and one for a section that ends no later. One
--- alone passes a test that doesn't ask for sections where one alone of all does.
+-- Of each relocation a list keeps one for a section that starts no sooner, and one for a section that ends no later.
+-- One alone passes a test that doesn't ask for sections where one alone of all does.
 pub record IsThinned (full kept : List Relocation) : Type 0 where
   pub back : (r : Relocation) → Contains kept r → Contains full r
-  pub starts : (r : Relocation) → Contains full r → (s : Section) × Contains kept (for_section s r) × (r.section.addr ≤ s.addr)
-  pub ends : (r : Relocation) → Contains full r → (s : Section) × Contains kept (for_section s r) × (end_of s ≤ end_of r.section)
+  pub starts : (r : Relocation) → Contains full r → (s : Section) × Contains kept (for_section s r)
+      × (r.section.addr ≤ s.addr)
+  pub ends : (r : Relocation) → Contains full r → (s : Section) × Contains kept (for_section s r)
+      × (end_of s ≤ end_of r.section)
   pub counts : (test : Relocation → Bool) → ((s : Section) (r : Relocation) → test (for_section s r) ≡ test r) →
       (count_by test kept ≡ count_by test full) ⊎ ((2 ≤ count_by test kept) × (2 ≤ count_by test full))

@@ -57,8 +57,8 @@ fn names_bad_entry(
     }
 }
 
-/// The lowest place of a relocation for an entry of the global offset table that doesn't hold its label. Entries are asked
-/// once for each lower part of an AUIPC that has such relocations, however many these are.
+/// The lowest place of a relocation for an entry of the global offset table that doesn't hold its label. Entries are
+/// asked once for each lower part of an AUIPC that has such relocations, however many these are.
 pub fn lowest_bad_entry(
     elf: &Elf,
     starts: &Starts,

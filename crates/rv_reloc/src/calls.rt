@@ -46,7 +46,8 @@ impl CallInsts {
     /// The address to which the JALR jumps from `place`, if it jumps through the register of the AUIPC.
     pub fn target(&self, place: u64) -> Option<u64>
         ensures is { IfSome result (GoesTo place self.now) }
-        ensures each { IsThrough self.now → IsAddress (pair_target place self.now.auipc.imm self.now.jalr.imm) → IsSome result }
+        ensures each { IsThrough self.now → IsAddress (pair_target place self.now.auipc.imm self.now.jalr.imm) →
+            IsSome result }
     {
         if self.is_through() {
             address_of(pair_target(place, self.auipc.imm, self.jalr.imm))
@@ -85,10 +86,8 @@ fn jalr_at(elf: &Elf, starts: &Starts, parts: &[Part], address: u64) -> Option<J
     ensures only { (link base : ℕ) (imm : ℤ) → IsFullAt elf.now address (Jalr link base imm) →
         result ≡ Some (record { base = base; imm = imm }) }
 {
-    match full_at(elf, starts, parts, address) {
-        Some(inst) => jalr_of(&inst),
-        None => None,
-    }
+    let inst = full_at(elf, starts, parts, address)?;
+    jalr_of(&inst)
 }
 
 // The JALR after the instruction at an address, in the same part.
@@ -97,20 +96,16 @@ fn jump_after(elf: &Elf, starts: &Starts, parts: &[Part], address: u64) -> Optio
     requires parts { AreCodeParts elf.now parts.now }
     ensures there { IfSome result
         (λ j. (start end : ℕ) → IsStartIn elf.now start end address → IsJumpAfter elf.now start end address j) }
-    ensures only { (start end : ℕ) (j : Jump) → IsStartIn elf.now start end address → IsJumpAfter elf.now start end address j →
+    ensures only { (start end : ℕ) (j : Jump) → IsStartIn elf.now start end address →
+        IsJumpAfter elf.now start end address j →
         result ≡ Some j }
     ensures room { OnSome result (address + 4 < 2 ^ 64) }
 {
-    match part_at(parts, address) {
-        Some(part) => {
-            if part.end - address <= 4 {
-                None
-            } else {
-                jalr_at(elf, starts, parts, address + 4)
-            }
-        }
-        None => None,
+    let part = part_at(parts, address)?;
+    if part.end - address <= 4 {
+        return None;
     }
+    jalr_at(elf, starts, parts, address + 4)
 }
 
 /// The call at an address.
@@ -121,13 +116,9 @@ pub fn call_at(elf: &Elf, starts: &Starts, parts: &[Part], address: u64) -> Opti
     ensures only { (c : CallInsts) → IsCallAt elf.now address c → result ≡ Some c }
     ensures room { OnSome result (address + 4 < 2 ^ 64) }
 {
-    match auipc_at(elf, starts, parts, address) {
-        Some(auipc) => match jump_after(elf, starts, parts, address) {
-            Some(jalr) => Some(CallInsts { auipc, jalr }),
-            None => None,
-        },
-        None => None,
-    }
+    let auipc = auipc_at(elf, starts, parts, address)?;
+    let jalr = jump_after(elf, starts, parts, address)?;
+    Some(CallInsts { auipc, jalr })
 }
 
 /// Whether a relocation for a call is not on one, or on one that goes to no address.

@@ -1,5 +1,6 @@
 // The fields that can be cells.
-ghost use Rattle.std.specs.Prelude.{◌≡◌, ◌↔◌, ℕ, ℤ, ◌+◌, ◌<◌, ◌≤◌, ◌++◌, ◌^◌, IsTrue, IsSomeAnd, IfSome, IfOk, OnOk, OnSome, All};
+ghost use Rattle.std.specs.Prelude.{◌≡◌, ◌↔◌, ℕ, ℤ, ◌+◌, ◌<◌, ◌≤◌, ◌++◌, ◌^◌, IsTrue, IsSomeAnd, IfSome, IfOk, OnOk};
+ghost use Rattle.std.specs.Prelude.{OnSome, All};
 ghost use Rattle.std.specs.Prelude.{List, Contains, Some, map, option_map};
 ghost use Rattle.elf_code.specs.Cells.{Field, address_width};
 ghost use Rattle.elf_code.specs.FileCode.{AreStarts};
@@ -47,8 +48,8 @@ fn is_free_byte(elf: &Elf, address: u64) -> bool
     }
 }
 
-/// Whether all bytes of a field come from the file, and none is one of its headers.
-pub fn are_free(elf: &Elf, place: u64, width: u8) -> bool
+// Whether all bytes of a field come from the file, and none is one of its headers.
+fn are_free(elf: &Elf, place: u64, width: u8) -> bool
     requires low { IsLow elf.now }
     requires width { 0 < width }
     ensures { IsTrue result ↔ AreFree elf.now place width }
@@ -89,8 +90,8 @@ pub fn code_field(elf: &Elf, starts: &Starts, place: u64, width: u8) -> Option<C
     }
 }
 
-/// How many bytes an address has that a relocation of a whole one sets.
-pub fn address_width(kind: u32) -> u8
+// How many bytes an address has that a relocation of a whole one sets.
+fn address_width(kind: u32) -> u8
     ensures { result ≡ address_width kind }
 {
     if kind == R_RISCV_32 { 4 } else { 8 }
@@ -196,7 +197,8 @@ pub fn fields_of(
     requires wholes { ArePartsApart wholes.now }
     requires records { AreRecords elf.now records.now }
     ensures { (tabled : List (ℕ × ℕ)) → AreWholeParts elf.now tabled wholes.now →
-        IfOk result (λ fields. AreFound (λ r f. IsFieldOf elf.now tabled (seen r) f) records.now (map as_field fields.items)) }
+        IfOk result (λ fields. AreFound (λ r f. IsFieldOf elf.now tabled (seen r) f) records.now
+        (map as_field fields.items)) }
 {
     let mut fields = Vec::new(alloc);
     for (index, relocation) in records.iter().enumerate() {

@@ -108,8 +108,8 @@ pub fn cells(alloc: Global, counted: &[Candidate]) -> Result<Vec<CodeCell>, NoMe
     Ok(cells)
 }
 
-/// The fields that count, of all that can be cells, by address. `starts`, `parts`, `wholes`, `records`, `labels` and `lows` are
-/// those of the file.
+/// The fields that count, of all that can be cells, by address. `starts`, `parts`, `wholes`, `records`, `labels` and
+/// `lows` are those of the file.
 pub fn counted_fields(
     alloc: Global,
     elf: &Elf,

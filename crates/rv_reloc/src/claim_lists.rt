@@ -73,7 +73,8 @@ fn claims_at(
     ensures each { (key : ℕ) (role : Role) → Claims elf.now (seen relocation.now) relocation.now.place key role →
         IsSomeAnd result.0 (λ c. c.key ≡ key) }
     ensures after_is { IfSome result.1 (IsClaimOf elf.now (seen relocation.now) (relocation.now.place + 4)) }
-    ensures after_each { (key : ℕ) (role : Role) → Claims elf.now (seen relocation.now) (relocation.now.place + 4) key role →
+    ensures after_each { (key : ℕ) (role : Role) → Claims elf.now (seen relocation.now)
+        (relocation.now.place + 4) key role →
         IsSomeAnd result.1 (λ c. c.key ≡ key) }
 {
     if is_call_pair(relocation.kind) {

@@ -3,7 +3,8 @@ ghost use Rattle.std.specs.Prelude.{◌≡◌, ◌+◌, ◌<◌, ◌^◌, ℕ, I
 ghost use Rattle.rv_code.specs.declared.placed.Role.{Role};
 ghost use Rattle.elf_image.specs.declared.elf.Elf.{Elf};
 ghost use Rattle.elf_code.specs.FileCode.{AreStarts};
-ghost use Rattle.elf_code.specs.Relocations.{Relocation, relocations, is_call_pair, is_pcrel_hi, is_pcrel_lo, is_absolute};
+ghost use Rattle.elf_code.specs.Relocations.{Relocation, relocations, is_call_pair, is_pcrel_hi, is_pcrel_lo};
+ghost use Rattle.elf_code.specs.Relocations.{is_absolute};
 ghost use Rattle.elf_code.specs.Roles.{Claims};
 ghost use Rattle.elf_code.specs.ReferenceFaults.{IsMisfit, IsLoMismatch};
 ghost use Rattle.rv_reloc.specs.Calls.{IsTheCallAt};
@@ -28,21 +29,20 @@ use rv_code::Role;
 fn call_claim(relocation: &Record, call: &CallInsts) -> Option<Claim>
     requires kind { IsTrue (is_call_pair relocation.now.kind) }
     ensures is { (elf : Elf) → Contains (relocations elf) (seen relocation.now) →
-        IsTheCallAt elf relocation.now.place call.now → IfSome result (IsClaimOf elf (seen relocation.now) relocation.now.place) }
+        IsTheCallAt elf relocation.now.place call.now →
+        IfSome result (IsClaimOf elf (seen relocation.now) relocation.now.place) }
     ensures each { (elf : Elf) → Contains (relocations elf) (seen relocation.now) →
         IsTheCallAt elf relocation.now.place call.now → (IsMisfit elf (seen relocation.now) → ⊥) →
         (key : ℕ) (role : Role) → Claims elf (seen relocation.now) relocation.now.place key role →
         IsSomeAnd result (λ c. c.key ≡ key) }
 {
-    match call.named(relocation.place) {
-        Some(target) => Some(Claim {
-            at: relocation.place,
-            kind: relocation.kind,
-            key: relocation.place,
-            role: Role::CallHi { target },
-        }),
-        None => None,
-    }
+    let target = call.named(relocation.place)?;
+    Some(Claim {
+        at: relocation.place,
+        kind: relocation.kind,
+        key: relocation.place,
+        role: Role::CallHi { target },
+    })
 }
 
 // The claim of a call to its JALR.
@@ -52,22 +52,21 @@ fn call_low_claim(relocation: &Record, call: &CallInsts) -> Option<Claim>
     ensures is { (elf : Elf) → Contains (relocations elf) (seen relocation.now) →
         IsTheCallAt elf relocation.now.place call.now →
         IfSome result (IsClaimOf elf (seen relocation.now) (relocation.now.place + 4)) }
-    ensures each { (elf : Elf) → IsTheCallAt elf relocation.now.place call.now → (IsMisfit elf (seen relocation.now) → ⊥) →
+    ensures each { (elf : Elf) → IsTheCallAt elf relocation.now.place call.now →
+        (IsMisfit elf (seen relocation.now) → ⊥) →
         (key : ℕ) (role : Role) → Claims elf (seen relocation.now) (relocation.now.place + 4) key role →
         IsSomeAnd result (λ c. c.key ≡ key) }
 {
-    match call.target(relocation.place) {
-        Some(target) => Some(Claim {
-            at: relocation.place + 4,
-            kind: relocation.kind,
-            key: relocation.place,
-            role: Role::CallLo {
-                hi: relocation.place,
-                target,
-            },
-        }),
-        None => None,
-    }
+    let target = call.target(relocation.place)?;
+    Some(Claim {
+        at: relocation.place + 4,
+        kind: relocation.kind,
+        key: relocation.place,
+        role: Role::CallLo {
+            hi: relocation.place,
+            target,
+        },
+    })
 }
 
 /// The claims of a call to its AUIPC and to its JALR.
@@ -86,7 +85,8 @@ pub fn call_claims(
     ensures each { (key : ℕ) (role : Role) → Claims elf.now (seen relocation.now) relocation.now.place key role →
         IsSomeAnd result.0 (λ c. c.key ≡ key) }
     ensures low_is { IfSome result.1 (IsClaimOf elf.now (seen relocation.now) (relocation.now.place + 4)) }
-    ensures low_each { (key : ℕ) (role : Role) → Claims elf.now (seen relocation.now) (relocation.now.place + 4) key role →
+    ensures low_each { (key : ℕ) (role : Role) → Claims elf.now (seen relocation.now)
+        (relocation.now.place + 4) key role →
         IsSomeAnd result.1 (λ c. c.key ≡ key) }
 {
     match call_at(elf, starts, parts, relocation.place) {
@@ -118,18 +118,14 @@ pub fn upper_claim(
     ensures each { (key : ℕ) (role : Role) → Claims elf.now (seen relocation.now) relocation.now.place key role →
         IsSomeAnd result (λ c. c.key ≡ key) }
 {
-    match first_low(lows, relocation.place) {
-        Some(low) => match low_address(elf, starts, parts, &low) {
-            Some(target) => Some(Claim {
-                at: relocation.place,
-                kind: relocation.kind,
-                key: relocation.place,
-                role: Role::Hi { target },
-            }),
-            None => None,
-        },
-        None => None,
-    }
+    let low = first_low(lows, relocation.place)?;
+    let target = low_address(elf, starts, parts, &low)?;
+    Some(Claim {
+        at: relocation.place,
+        kind: relocation.kind,
+        key: relocation.place,
+        role: Role::Hi { target },
+    })
 }
 
 /// The claim of a lower part to its instruction.
@@ -143,18 +139,14 @@ pub fn lower_claim(elf: &Elf, starts: &Starts, parts: &[Part], relocation: &Reco
     ensures each { (key : ℕ) (role : Role) → Claims elf.now (seen relocation.now) relocation.now.place key role →
         IsSomeAnd result (λ c. c.key ≡ key) }
 {
-    match low_of(elf, starts, parts, relocation) {
-        Some(low) => match low_address(elf, starts, parts, &low) {
-            Some(target) => Some(Claim {
-                at: relocation.place,
-                kind: relocation.kind,
-                key: low.hi,
-                role: Role::Lo { hi: low.hi, target },
-            }),
-            None => None,
-        },
-        None => None,
-    }
+    let low = low_of(elf, starts, parts, relocation)?;
+    let target = low_address(elf, starts, parts, &low)?;
+    Some(Claim {
+        at: relocation.place,
+        kind: relocation.kind,
+        key: low.hi,
+        role: Role::Lo { hi: low.hi, target },
+    })
 }
 
 fn absolute_role(kind: u32, target: u64) -> Role
@@ -183,18 +175,14 @@ pub fn absolute_claim(
     ensures each { (key : ℕ) (role : Role) → Claims elf.now (seen relocation.now) relocation.now.place key role →
         IsSomeAnd result (λ c. c.key ≡ key) }
 {
-    match absolute_target(elf, starts, relocation) {
-        Some(target) => {
-            if !has_absolute(elf, starts, parts, relocation, target) {
-                return None;
-            }
-            Some(Claim {
-                at: relocation.place,
-                kind: relocation.kind,
-                key: target,
-                role: absolute_role(relocation.kind, target),
-            })
-        }
-        None => None,
+    let target = absolute_target(elf, starts, relocation)?;
+    if !has_absolute(elf, starts, parts, relocation, target) {
+        return None;
     }
+    Some(Claim {
+        at: relocation.place,
+        kind: relocation.kind,
+        key: target,
+        role: absolute_role(relocation.kind, target),
+    })
 }

@@ -1,5 +1,6 @@
 // Differences of labels, and which of them are at fault.
-ghost use Rattle.std.specs.Prelude.{◌≡◌, ◌↔◌, ◌⊎◌, Some, option_map, ℕ, ℤ, IsTrue, IfSome, IsSomeAnd, All, List, Contains, map};
+ghost use Rattle.std.specs.Prelude.{◌≡◌, ◌↔◌, ◌⊎◌, Some, option_map, ℕ, ℤ, IsTrue, IfSome, IsSomeAnd, All, List};
+ghost use Rattle.std.specs.Prelude.{Contains, map};
 ghost use Rattle.elf_image.specs.declared.elf.Elf.{Elf};
 ghost use Rattle.elf_code.specs.Cells.{IsDifference, HasCodeLabel, IsInOneWhole};
 ghost use Rattle.elf_code.specs.FileCode.{AreStarts};
@@ -37,8 +38,8 @@ pub struct Difference {
     pub from: i128,
 }
 
-// The difference of the labels that are added or set, and subtracted. Here and below, `near` is about where the relocation
-// stands.
+// The difference of the labels that are added or set, and subtracted. Here and below, `near` is about where the
+// relocation stands.
 fn labels_difference(
     elf: &Elf,
     records: &[Record],
@@ -177,9 +178,9 @@ pub fn is_bad_difference(
         || is_unpaired(elf, starts, records, near, relocation)
 }
 
-/// Whether a relocation makes a difference with a code address that no cell can hold, and not of two labels of one whole
-/// part.
-pub fn is_narrow(
+// Whether a relocation makes a difference with a code address that no cell can hold, and not of two labels of one whole
+// part.
+fn is_narrow(
     elf: &Elf,
     starts: &Starts,
     wholes: &[Part],
@@ -223,7 +224,8 @@ pub fn lowest_narrow(elf: &Elf, starts: &Starts, wholes: &[Part], records: &[Rec
     requires starts { AreStarts elf.now starts.now }
     requires wholes { ArePartsApart wholes.now }
     requires records { AreRecords elf.now records.now }
-    ensures { (tabled : List (ℕ × ℕ)) → AreWholeParts elf.now tabled wholes.now → IsLowest (IsNarrowDiff elf.now tabled) result }
+    ensures { (tabled : List (ℕ × ℕ)) → AreWholeParts elf.now tabled wholes.now →
+        IsLowest (IsNarrowDiff elf.now tabled) result }
 {
     let mut lowest = None;
     for (index, relocation) in records.iter().enumerate() {

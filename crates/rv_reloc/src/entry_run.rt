@@ -4,8 +4,8 @@ ghost use Rattle.rv_reloc.specs.AppliesTo.{end_of, last_start, first_end};
 
 use crate::applies_to::AppliesTo;
 
-/// Relocations that stand one behind another and apply to the same sections. That of number k stands `phase` bytes behind k
-/// times the size of a relocation.
+/// Relocations that stand one behind another and apply to the same sections. That of number k stands `phase` bytes
+/// behind k times the size of a relocation.
 #[derive(Clone, Copy)]
 pub struct EntryRun<'a> {
     pub applies_to: AppliesTo<'a>,

@@ -33,7 +33,8 @@ fn check_relocations(records: &[Record], lows: &[Low], mismatch: Option<u64>) ->
     requires { IsNonDecreasingBy (λ l. l.hi) lows.now }
     ensures { (elf : Elf) (tabled : List (ℕ × ℕ)) → AreRecords elf records.now → AreLows elf lows.now →
         IsLowest (HasReferenceFault elf tabled kind.RelocMismatch) mismatch →
-        MatchResult result (λ _. LacksBelow (HasReferenceFault elf tabled) 12) (IsAnswered (HasReferenceFault elf tabled)) }
+        MatchResult result (λ _. LacksBelow (HasReferenceFault elf tabled) 12)
+        (IsAnswered (HasReferenceFault elf tabled)) }
 {
     refuse_at(FaultKind::RelocType, lowest_reloc_type(records))?;
     refuse_at(FaultKind::RelocMismatch, mismatch)?;
@@ -58,8 +59,9 @@ fn check_cells(elf: &Elf, starts: &Starts, wholes: &[Part], records: &[Record]) 
     refuse_at(FaultKind::AlreadyMoved, lowest_already_moved(&elf.sections))
 }
 
-/// The first of the faults `RelocType`, `RelocMismatch`, `LoMismatch`, `NarrowDiff`, `IfuncOrPlt` and `AlreadyMoved`. All lists
-/// are those of the file, `counted` the fields that count; `misfit` is the lowest place of a relocation that doesn't fit.
+/// The first of the faults `RelocType`, `RelocMismatch`, `LoMismatch`, `NarrowDiff`, `IfuncOrPlt` and `AlreadyMoved`.
+/// All lists are those of the file, `counted` the fields that count; `misfit` is the lowest place of a relocation that
+/// doesn't fit.
 pub fn check(
     elf: &Elf,
     starts: &Starts,

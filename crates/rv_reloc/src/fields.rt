@@ -1,5 +1,6 @@
 // The fields to which relocations apply: whether they lie in their sections, and whether they hold differences.
-ghost use Rattle.std.specs.Prelude.{◌≡◌, ◌↔◌, ◌≤◌, ◌<◌, ◌+◌, ◌%◌, ◌^◌, ℤ, pos, ◌-ℤ◌, IsTrue, IfOk, All, List, ℕ, Some, length};
+ghost use Rattle.std.specs.Prelude.{◌≡◌, ◌↔◌, ◌≤◌, ◌<◌, ◌+◌, ◌%◌, ◌^◌, ℤ, pos, ◌-ℤ◌, IsTrue, IfOk, All, List, ℕ, Some};
+ghost use Rattle.std.specs.Prelude.{length};
 ghost use Rattle.std.specs.Prelude.{option_map};
 ghost use Rattle.std.specs.Int.{int_rem_euclid};
 ghost use Rattle.elf_code.specs.Fields.{leb_field, width_size, fixed_size, field_size, HasField, bytes_of_bits};
@@ -180,8 +181,8 @@ pub fn holds_difference(
     }
 }
 
-/// What is known of the numbers in LEB128 to which relocations apply, and of their bytes after those that a difference can
-/// fill.
+/// What is known of the numbers in LEB128 to which relocations apply, and of their bytes after those that a difference
+/// can fill.
 pub fn known_tails(alloc: Global, elf: &Elf, records: &[Record]) -> Result<Vec<Known>, NoMemory>
     requires { IsLow elf.now }
     ensures { IfOk result (λ known. All (IsKnown elf.now) known.items) }

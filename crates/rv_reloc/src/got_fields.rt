@@ -75,13 +75,9 @@ fn slot_of(
     if !has_label_at(labels, low.hi) {
         return None;
     }
-    match low_target(elf, starts, parts, low) {
-        Some(number) => match natural(number) {
-            Some(slot) => named_field(elf, starts, labels, low.hi, slot),
-            None => None,
-        },
-        None => None,
-    }
+    let number = low_target(elf, starts, parts, low)?;
+    let slot = natural(number)?;
+    named_field(elf, starts, labels, low.hi, slot)
 }
 
 /// The entries of the table that can be cells.

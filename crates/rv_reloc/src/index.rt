@@ -6,7 +6,8 @@ ghost use Rattle.elf_code.specs.Relocations.{HasRelocation, is_call_pair, is_pcr
 ghost use Rattle.rv_reloc.specs.declared.records.Record.{Record};
 ghost use Rattle.rv_reloc.specs.Index.{class, class_beside, width_code, plus_class, minus_class};
 ghost use Rattle.rv_reloc.specs.Labels.{width_of};
-ghost use Rattle.rv_reloc.specs.Records.{has_key, IsBelow, IsFrom, AreInOrder, AreRecords, IsSplit, HasKeyAt, FindsOnly};
+ghost use Rattle.rv_reloc.specs.Records.{has_key, IsBelow, IsFrom, AreInOrder, AreRecords, IsSplit, HasKeyAt};
+ghost use Rattle.rv_reloc.specs.Records.{FindsOnly};
 
 use crate::labels::{FieldWidth, minus_width, plus_width};
 use crate::records::Record;
@@ -116,7 +117,8 @@ fn ends_before(records: &[Record], index: usize, place: u64, at: u64) -> bool
 
 // Whether the one of an index isn't, if there is one.
 fn begins_from(records: &[Record], index: usize, place: u64, at: u64) -> bool
-    ensures { IsTrue result → index < length records.now → (d : Record) → IsFrom place at (slice_index_or records.now index d) }
+    ensures { IsTrue result → index < length records.now → (d : Record) →
+        IsFrom place at (slice_index_or records.now index d) }
 {
     if records.len() <= index {
         return true;
@@ -137,7 +139,8 @@ fn has_key_at(records: &[Record], index: usize, place: u64, at: u64) -> bool
     index < records.len() && records[index].place == place && class(records[index].kind) == at
 }
 
-// Whether there is one of a class at a place. Here and below, `near` is an index about which those of the place may stand.
+// Whether there is one of a class at a place. Here and below, `near` is an index about which those of the place may
+// stand.
 fn has(records: &[Record], near: usize, place: u64, at: u64) -> bool
     requires { AreInOrder records.now }
     ensures { IsTrue result ↔ Any (λ r. IsTrue (has_key place at r)) records.now }
@@ -145,7 +148,8 @@ fn has(records: &[Record], near: usize, place: u64, at: u64) -> bool
     has_key_at(records, count_near(records, near, place, at), place, at)
 }
 
-/// The only one of a class at a place, if there is exactly one. `near` is an index about which those of the place may stand.
+/// The only one of a class at a place, if there is exactly one. `near` is an index about which those of the place may
+/// stand.
 pub fn only<'a>(records: &[Record<'a>], near: usize, place: u64, at: u64) -> Option<Record<'a>>
     requires { AreInOrder records.now }
     ensures is { IfSome result (IsOnly (has_key place at) records.now) }
@@ -170,8 +174,8 @@ pub fn has_call(records: &[Record], near: usize, place: u64) -> bool
     has(records, near, place, CALL_CLASS)
 }
 
-/// Whether a relocation for an upper part that is not a call's applies to a place. `near` is an index about which those of the
-/// place may stand.
+/// Whether a relocation for an upper part that is not a call's applies to a place. `near` is an index about which
+/// those of the place may stand.
 pub fn has_upper(records: &[Record], near: usize, place: u64) -> bool
     requires { AreInOrder records.now }
     ensures { (elf : Elf) → AreRecords elf records.now →

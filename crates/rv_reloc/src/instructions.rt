@@ -61,10 +61,9 @@ pub fn auipc_at(elf: &Elf, starts: &Starts, parts: &[Part], address: u64) -> Opt
     requires starts { AreStarts elf.now starts.now }
     requires parts { AreCodeParts elf.now parts.now }
     ensures there { IfSome result (λ u. IsFullAt elf.now address (Auipc u.rd u.imm)) }
-    ensures only { (rd : ℕ) (imm : ℤ) → IsFullAt elf.now address (Auipc rd imm) → result ≡ Some (record { rd = rd; imm = imm }) }
+    ensures only { (rd : ℕ) (imm : ℤ) → IsFullAt elf.now address (Auipc rd imm) →
+        result ≡ Some (record { rd = rd; imm = imm }) }
 {
-    match full_at(elf, starts, parts, address) {
-        Some(inst) => auipc_of(&inst),
-        None => None,
-    }
+    let inst = full_at(elf, starts, parts, address)?;
+    auipc_of(&inst)
 }

@@ -1,5 +1,6 @@
 // The lower parts of distances, by the AUIPC that they name.
-ghost use Rattle.std.specs.Prelude.{◌≡◌, ◌<◌, ◌≤◌, ℕ, IfOk, OnOk, IfSome, IsSome, Some, Contains, length, slice_index_or};
+ghost use Rattle.std.specs.Prelude.{◌≡◌, ◌<◌, ◌≤◌, ℕ, IfOk, OnOk, IfSome, IsSome, Some, Contains, length};
+ghost use Rattle.std.specs.Prelude.{slice_index_or};
 ghost use Rattle.std.specs.List.Sorted.{IsNonDecreasingBy, IsPermutation};
 ghost use Rattle.elf_code.specs.FileCode.{AreStarts};
 ghost use Rattle.elf_code.specs.Roles.{immediate_i, immediate_s, lower_immediate};
@@ -78,13 +79,9 @@ pub fn low_of(elf: &Elf, starts: &Starts, parts: &[Part], relocation: &Record) -
         return None;
     }
     let hi = symbol_value(elf, relocation);
-    match full_at(elf, starts, parts, relocation.place) {
-        Some(inst) => match lower_immediate(relocation.kind, &inst) {
-            Some(imm) => Some(Low { hi, imm }),
-            None => None,
-        },
-        None => None,
-    }
+    let inst = full_at(elf, starts, parts, relocation.place)?;
+    let imm = lower_immediate(relocation.kind, &inst)?;
+    Some(Low { hi, imm })
 }
 
 // The lower parts of relocations, one relocation after another.

@@ -37,8 +37,8 @@ fn push_first<'a>(runs: &mut VecDeque<EntryRun<'a>>, run: &EntryRun<'a>) -> Resu
     Ok(())
 }
 
-// Takes the first runs of two lists, of which the second begins in the first, up to where one ends. What they have in common
-// becomes one run.
+// Takes the first runs of two lists, of which the second begins in the first, up to where one ends. What they have in
+// common becomes one run.
 fn merge_common<'a>(
     done: &mut VecDeque<EntryRun<'a>>,
     left: &mut VecDeque<EntryRun<'a>>,
@@ -124,7 +124,8 @@ fn merge_next<'a>(
     }
 }
 
-// The runs of two lists as one list. If in each the runs are in order and no two have an entry in common, so it is in this.
+// The runs of two lists as one list. If in each the runs are in order and no two have an entry in common, so it is in
+// this.
 fn merged<'a>(
     alloc: Global,
     mut left: VecDeque<EntryRun<'a>>,
@@ -143,8 +144,8 @@ fn merged<'a>(
     Ok(done)
 }
 
-/// The relocations of runs as runs of which no two have one in common, by their phases and numbers. To which sections those
-/// apply that several had is kept as far as it tells.
+/// The relocations of runs as runs of which no two have one in common, by their phases and numbers. To which sections
+/// those apply that several had is kept as far as it tells.
 pub fn merged_runs<'a>(
     alloc: Global,
     runs: &[EntryRun<'a>],

@@ -34,8 +34,8 @@ use elf_image::lowest::{lower, place_if};
 use rb_bytes::fault::NoMemory;
 use std::alloc::Global;
 
-/// Whether a relocation names a symbol that the file doesn't have.
-pub fn has_bad_symbol(elf: &Elf, relocation: &Record) -> bool
+// Whether a relocation names a symbol that the file doesn't have.
+fn has_bad_symbol(elf: &Elf, relocation: &Record) -> bool
     ensures { IsTrue result ↔ HasBadSymbol elf.now (seen relocation.now) }
 {
     relocation.symbol != 0 && elf.symbols.len() <= relocation.symbol as usize
@@ -47,8 +47,9 @@ fn is_either(one: bool, other: bool) -> bool
     one || other
 }
 
-/// Whether a relocation is not on the instructions that it is for, or these say something else. `near` is about where it stands.
-pub fn is_misplaced(
+// Whether a relocation is not on the instructions that it is for, or these say something else. `near` is about where
+// it stands.
+fn is_misplaced(
     elf: &Elf,
     starts: &Starts,
     parts: &[Part],
@@ -80,7 +81,8 @@ fn has_bad_field(elf: &Elf, known: &[Known], relocation: &Record) -> bool
     has_bad_symbol(elf, relocation) || !has_field(elf, known, relocation)
 }
 
-// Whether a relocation doesn't fit, whatever the entries of the global offset table hold. `near` is about where it stands.
+// Whether a relocation doesn't fit, whatever the entries of the global offset table hold. `near` is about where it
+// stands.
 fn is_unfit(
     elf: &Elf,
     starts: &Starts,
@@ -141,8 +143,8 @@ fn lowest_unfit(
     lowest
 }
 
-/// The lowest place of a relocation that doesn't fit what it applies to. `starts`, `parts`, `lows`, `labels` and `records` are
-/// those of the file.
+/// The lowest place of a relocation that doesn't fit what it applies to. `starts`, `parts`, `lows`, `labels` and
+/// `records` are those of the file.
 pub fn lowest_misfit(
     alloc: Global,
     elf: &Elf,

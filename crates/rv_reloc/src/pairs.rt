@@ -30,10 +30,8 @@ pub fn low_target(elf: &Elf, starts: &Starts, parts: &[Part], low: &Low) -> Opti
     ensures is { IfSome result (IsTargetOf elf.now low.now) }
     ensures only { (z : ℤ) → IsTargetOf elf.now low.now z → result ≡ Some z }
 {
-    match auipc_at(elf, starts, parts, low.hi) {
-        Some(auipc) => Some(pair_target(low.hi, auipc.imm, low.imm)),
-        None => None,
-    }
+    let auipc = auipc_at(elf, starts, parts, low.hi)?;
+    Some(pair_target(low.hi, auipc.imm, low.imm))
 }
 
 /// The address that it makes.
@@ -44,10 +42,8 @@ pub fn low_address(elf: &Elf, starts: &Starts, parts: &[Part], low: &Low) -> Opt
     ensures each { (z : ℤ) → IsTargetOf elf.now low.now z → IsAddress z → IsSome result }
     ensures once { (z : ℤ) → IsTargetOf elf.now low.now z → IfSome result (λ t. z ≡ pos t) }
 {
-    match low_target(elf, starts, parts, low) {
-        Some(number) => address_of(number),
-        None => None,
-    }
+    let number = low_target(elf, starts, parts, low)?;
+    address_of(number)
 }
 
 // The AUIPC of a lower part, if both make no address.
@@ -57,15 +53,11 @@ fn far_of(elf: &Elf, starts: &Starts, parts: &[Part], low: &Low) -> Option<u64>
     ensures is { IfSome result (IsFar elf.now low.now) }
     ensures only { (a : ℕ) → IsFar elf.now low.now a → result ≡ Some a }
 {
-    match low_target(elf, starts, parts, low) {
-        Some(number) => {
-            if address_of(number).is_some() {
-                return None;
-            }
-            Some(low.hi)
-        }
-        None => None,
+    let number = low_target(elf, starts, parts, low)?;
+    if address_of(number).is_some() {
+        return None;
     }
+    Some(low.hi)
 }
 
 // The AUIPCs of lower parts that make no address with them, one lower part after another.

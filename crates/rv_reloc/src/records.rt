@@ -105,8 +105,8 @@ fn sort_records(records: &mut Vec<Record>) -> Result<(), NoMemory>
     Ok(())
 }
 
-/// All relocations that count, by place. One that applies to several sections is kept for at most two of them, so tables that
-/// share entries are read in the time of these.
+/// All relocations that count, by place. One that applies to several sections is kept for at most two of them, so
+/// tables that share entries are read in the time of these.
 pub fn records<'a>(alloc: Global, elf: &'a Elf<'a>) -> Result<Vec<Record<'a>>, NoMemory>
     ensures { IfOk result (λ records. AreRecords elf.now records.items) }
 {

@@ -34,8 +34,8 @@ pub struct Refs {
 }
 
 /// The references of a file; or the first of the faults `RelocType`, `RelocMismatch`, `LoMismatch`, `NarrowDiff`,
-/// `IfuncOrPlt` and `AlreadyMoved`. `starts` are those of the file's instructions, and `whole` the ranges with exception
-/// tables, by their starts and ends. psABI, "Relocations".
+/// `IfuncOrPlt` and `AlreadyMoved`. `starts` are those of the file's instructions, and `whole` the ranges with
+/// exception tables, by their starts and ends. psABI, "Relocations".
 pub fn references(
     alloc: Global,
     elf: &Elf,

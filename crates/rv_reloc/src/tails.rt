@@ -1,5 +1,6 @@
 // Numbers in LEB128, which may be as long as they like: their ends, found once for all that end together.
-ghost use Rattle.std.specs.Prelude.{◌≡◌, ◌<◌, ◌≤◌, ◌+◌, ◌-◌, ◌*◌, ◌^◌, ◌↔◌, ℕ, ℤ, pos, negsuc, ◌∷◌, [], ◌%◌, List, IsTrue, IfOk};
+ghost use Rattle.std.specs.Prelude.{◌≡◌, ◌<◌, ◌≤◌, ◌+◌, ◌-◌, ◌*◌, ◌^◌, ◌↔◌, ℕ, ℤ, pos, negsuc, ◌∷◌, [], ◌%◌, List};
+ghost use Rattle.std.specs.Prelude.{IsTrue, IfOk};
 ghost use Rattle.std.specs.Prelude.{IfSome, OnSome, OnOk, All, length, Option};
 ghost use Rattle.std.specs.List.Sorted.{IsPermutation};
 ghost use Rattle.rb_bytes.specs.Leb.{is_last, low_bits, high_bits};
@@ -219,8 +220,8 @@ fn holds_sign(elf: &Elf, known: &[Known], address: u64, sign: i128) -> bool
     }
 }
 
-// Whether the number in LEB128 at an address holds the lowest bits of a number, of which so many bytes can differ from its
-// sign.
+// Whether the number in LEB128 at an address holds the lowest bits of a number, of which so many bytes can differ from
+// its sign.
 fn holds_within(elf: &Elf, known: &[Known], address: u64, number: i128, steps: u8) -> bool
     requires low { IsLow elf.now }
     requires known { All (IsKnown elf.now) known.now }

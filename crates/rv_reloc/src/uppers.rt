@@ -64,8 +64,8 @@ fn is_upper(
     }
 }
 
-/// Whether a relocation for a lower part is on no instruction that can have one, or names no upper part. `near` is an index
-/// about which the relocation for the upper part may stand.
+/// Whether a relocation for a lower part is on no instruction that can have one, or names no upper part. `near` is an
+/// index about which the relocation for the upper part may stand.
 pub fn is_bad_lower(
     elf: &Elf,
     starts: &Starts,

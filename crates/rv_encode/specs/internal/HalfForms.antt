@@ -1,12 +1,16 @@
 -- The halfwords of each instruction: one case an instruction, where `IsHalf` has one a row.
 use Rattle.std.specs.Prelude.{◌≡◌, ◌⊎◌, ℕ, ℤ, pos}
 use Rattle.rv_code.specs.isa.Bits.{signed}
-use Rattle.rv_code.specs.isa.HalfRows.{Row, Matches, expansion, Opens, OpensArithmetic, OpensPair, OpensJump, rd, rs2, six_bits}
-use Rattle.rv_code.specs.isa.HalfRows.{upper_register, lower_register, word_offset, double_offset, branch_offset, C_ADDI4SPN}
-use Rattle.rv_code.specs.isa.HalfRows.{C_ADDI, C_ADDIW, C_LI, C_ADDI16SP, C_LUI, C_SRLI, C_SRAI, C_ANDI, C_J, C_SLLI, C_LWSP}
+use Rattle.rv_code.specs.isa.HalfRows.{Row, Matches, expansion, Opens, OpensArithmetic, OpensPair, OpensJump, rd, rs2}
+use Rattle.rv_code.specs.isa.HalfRows.{six_bits}
+use Rattle.rv_code.specs.isa.HalfRows.{upper_register, lower_register, word_offset, double_offset, branch_offset}
+use Rattle.rv_code.specs.isa.HalfRows.{C_ADDI4SPN}
+use Rattle.rv_code.specs.isa.HalfRows.{C_ADDI, C_ADDIW, C_LI, C_ADDI16SP, C_LUI, C_SRLI, C_SRAI, C_ANDI, C_J, C_SLLI}
+use Rattle.rv_code.specs.isa.HalfRows.{C_LWSP}
 use Rattle.rv_code.specs.isa.HalfRows.{C_LDSP, C_JR, C_MV, C_EBREAK, C_JALR, C_ADD, C_SWSP, C_SDSP}
 use Rattle.rv_code.specs.declared.inst.Inst.{Inst}
-use Rattle.rv_code.specs.declared.inst.Inst.TheVariants.{Lui, Jal, Jalr, Beq, Bne, Lw, Ld, Sw, Sd, Addi, Andi, Slli, Srli, Srai}
+use Rattle.rv_code.specs.declared.inst.Inst.TheVariants.{Lui, Jal, Jalr, Beq, Bne, Lw, Ld, Sw, Sd, Addi, Andi, Slli}
+use Rattle.rv_code.specs.declared.inst.Inst.TheVariants.{Srli, Srai}
 use Rattle.rv_code.specs.declared.inst.Inst.TheVariants.{Add, Sub, Xor, Or, And, Addiw, Addw, Subw, Ebreak}
 
 -- the halfword is one of the row, and the row expands it to this instruction
@@ -76,7 +80,8 @@ HasForm half (Ld rd rs1 imm) = AccessesDouble half 3 rd rs1 imm ⊎ IsRowOf C_LD
 HasForm half (Sw rs1 rs2 imm) = AccessesWord half 6 rs2 rs1 imm ⊎ IsRowOf C_SWSP half (Sw rs1 rs2 imm)
 HasForm half (Sd rs1 rs2 imm) = AccessesDouble half 7 rs2 rs1 imm ⊎ IsRowOf C_SDSP half (Sd rs1 rs2 imm)
 HasForm half (Addi rd rs1 imm) =
-    ((IsRowOf C_ADDI half (Addi rd rs1 imm) ⊎ IsRowOf C_LI half (Addi rd rs1 imm)) ⊎ IsRowOf C_ADDI16SP half (Addi rd rs1 imm)) ⊎
+    ((IsRowOf C_ADDI half (Addi rd rs1 imm) ⊎ IsRowOf C_LI half (Addi rd rs1 imm))
+    ⊎ IsRowOf C_ADDI16SP half (Addi rd rs1 imm)) ⊎
     IsRowOf C_ADDI4SPN half (Addi rd rs1 imm)
 HasForm half (Andi rd rs1 imm) = IsRowOf C_ANDI half (Andi rd rs1 imm)
 HasForm half (Slli rd rs1 imm) = IsRowOf C_SLLI half (Slli rd rs1 imm)

@@ -18,7 +18,8 @@ loop-relocation-preserved c =
     c.claims_at-claim.result.0 c.claims_at-claim.result.1
     c.loop-relocation-test.true
     (get_or_default _ _ _ _ c.loop-relocation-test.true) c.in_ok-push_some.ensures.is c.in_ok-push_some-2.ensures.is
-    c.claims_at-claim.ensures.is c.claims_at-claim.ensures.each c.claims_at-claim.ensures.after_is c.claims_at-claim.ensures.after_each c.loop-relocation.invariant
+    c.claims_at-claim.ensures.is c.claims_at-claim.ensures.each c.claims_at-claim.ensures.after_is c.claims_at-claim.ensures.after_each
+    c.loop-relocation.invariant
 
 pub returns : goal.returns
 returns c =

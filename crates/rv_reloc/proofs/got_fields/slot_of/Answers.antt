@@ -20,31 +20,31 @@ returns-then-not-has_label_at-clause-only c = λ f is.
     let e : false ≡ true = sym c.if-not-has_label_at.true ∙ c.has_label_at.ensures.1 has in
     absurd (cc)
 
-pub returns-in-Some-natural-clause-is : goal.returns-in-Some-natural-clause-is
-returns-in-Some-natural-clause-is c =
-    let number = c.in-Some.number in
+pub returns-clause-is : goal.returns-clause-is
+returns-clause-is c =
+    let number = c.in_ok-number.number in
     let fits : FitsSigned w128 number = search rules in
-    let slot = c.in-Some-natural.ensures.there ∙ to_z-of_z w128 number fits in
+    let slot = c.in_ok-slot.ensures.there ∙ to_z-of_z w128 number fits in
     some-only _
-    (λ f entry. slot-made c.args.elf.now c.args.low.now number c.in-Some-natural.slot f c.in-Some.ensures.is slot entry)
+    (λ f entry. slot-made c.args.elf.now c.args.low.now number c.in_ok-slot.slot f c.in_ok-number.ensures.is slot entry)
     c.named_field.ensures.is
 
-pub returns-in-Some-natural-clause-only : goal.returns-in-Some-natural-clause-only
-returns-in-Some-natural-clause-only c = λ f is.
-    let number = c.in-Some.number in
+pub returns-clause-only : goal.returns-clause-only
+returns-clause-only c = λ f is.
+    let number = c.in_ok-number.number in
     let fits : FitsSigned w128 number = search rules in
-    let slot = c.in-Some-natural.ensures.there ∙ to_z-of_z w128 number fits in
-    c.named_field.ensures.only f (slot-named c.args.elf.now c.args.low.now number c.in-Some-natural.slot f
-    (λ z makes. same_some _ _ _ c.in-Some.is (c.low_target.ensures.only z makes)) slot is)
+    let slot = c.in_ok-slot.ensures.there ∙ to_z-of_z w128 number fits in
+    c.named_field.ensures.only f (slot-named c.args.elf.now c.args.low.now number c.in_ok-slot.slot f
+    (λ z makes. same_some _ _ _ c.in_ok-number.was (c.low_target.ensures.only z makes)) slot is)
 
-pub returns-in-None-natural-clause-only : goal.returns-in-None-natural-clause-only
-returns-in-None-natural-clause-only c = λ f is.
-    let number = c.in-Some.number in
+pub returns-in_err-slot-clause-only : goal.returns-in_err-slot-clause-only
+returns-in_err-slot-clause-only c = λ f is.
+    let number = c.in_ok-number.number in
     let fits : FitsSigned w128 number = search rules in
     let whole = to_z-of_z w128 number fits in
     absurd (slot-missing c.args.elf.now c.args.low.now number f c.requires.low
-    (λ z makes. same_some _ _ _ c.in-Some.is (c.low_target.ensures.only z makes))
-    (λ a e. not_small a (λ small. let g = c.in-None-natural.ensures.each a small (e ∙ sym whole) in absurd (cc))) is)
+    (λ z makes. same_some _ _ _ c.in_ok-number.was (c.low_target.ensures.only z makes))
+    (λ a e. not_small a (λ small. let g = c.in_err-slot.ensures.each a small (e ∙ sym whole) in absurd (cc))) is)
 
-pub returns-in-None-clause-only : goal.returns-in-None-clause-only
-returns-in-None-clause-only c = λ f is. absurd (not_found _ _ c.in-None.is (c.low_target.ensures.only _ is.names))
+pub returns-in_err-number-clause-only : goal.returns-in_err-number-clause-only
+returns-in_err-number-clause-only c = λ f is. absurd (not_found _ _ c.in_err-number.was (c.low_target.ensures.only _ is.names))

@@ -7,15 +7,15 @@ use Rattle.rv_reloc.proofs.InstructionFields.{as_auipc}
 use Rattle.rb_bytes.proofs.Options.{same_some, not_found}
 use Rattle.rv_reloc.proofs.instructions.auipc_at.Goals as goal
 
-pub returns-in-Some-clause-there : goal.returns-in-Some-clause-there
-returns-in-Some-clause-there c =
+pub returns-clause-there : goal.returns-clause-there
+returns-clause-there c =
     subst (λ (o : Option Upper). IfSome o (λ u. IsFullAt c.args.elf.now c.args.address (Auipc u.rd u.imm)))
     (sym c.auipc_of.ensures)
-    (as_auipc (IsFullAt c.args.elf.now c.args.address) c.in-Some.inst c.in-Some.ensures.there)
+    (as_auipc (IsFullAt c.args.elf.now c.args.address) c.in_ok-inst.inst c.in_ok-inst.ensures.there)
 
-pub returns-in-Some-clause-only : goal.returns-in-Some-clause-only
-returns-in-Some-clause-only c = λ rd imm full.
-    c.auipc_of.ensures ∙ ap auipc_of (same_some _ _ _ c.in-Some.is (c.full_at.ensures.only (Auipc rd imm) full))
+pub returns-clause-only : goal.returns-clause-only
+returns-clause-only c = λ rd imm full.
+    c.auipc_of.ensures ∙ ap auipc_of (same_some _ _ _ c.in_ok-inst.was (c.full_at.ensures.only (Auipc rd imm) full))
 
-pub returns-in-None-clause-only : goal.returns-in-None-clause-only
-returns-in-None-clause-only c = λ rd imm full. absurd (not_found _ _ c.in-None.is (c.full_at.ensures.only (Auipc rd imm) full))
+pub returns-in_err-inst-clause-only : goal.returns-in_err-inst-clause-only
+returns-in_err-inst-clause-only c = λ rd imm full. absurd (not_found _ _ c.in_err-inst.was (c.full_at.ensures.only (Auipc rd imm) full))

@@ -7,25 +7,25 @@ use Rattle.rv_reloc.proofs.Only.{some-only}
 use Rattle.rb_bytes.proofs.Options.{same_some, not_found}
 use Rattle.rv_reloc.proofs.pairs.low_address.Goals as goal
 
-pub returns-in-Some-clause-is : goal.returns-in-Some-clause-is
-returns-in-Some-clause-is c =
-    let fits : FitsSigned w128 c.in-Some.number = search rules in
+pub returns-clause-is : goal.returns-clause-is
+returns-clause-is c =
+    let fits : FitsSigned w128 c.in_ok-number.number = search rules in
     some-only c.address_of.result
     (λ t same. subst (IsTargetOf c.args.elf.now c.args.low.now)
-    (sym (same ∙ to_z-of_z w128 _ fits)) c.in-Some.ensures.is) c.address_of.ensures.there
+    (sym (same ∙ to_z-of_z w128 _ fits)) c.in_ok-number.ensures.is) c.address_of.ensures.there
 
-pub returns-in-Some-clause-each : goal.returns-in-Some-clause-each
-returns-in-Some-clause-each c = λ z is address.
-    let fits : FitsSigned w128 c.in-Some.number = search rules in
+pub returns-clause-each : goal.returns-clause-each
+returns-clause-each c = λ z is address.
+    let fits : FitsSigned w128 c.in_ok-number.number = search rules in
     c.address_of.ensures.exact.1
-    (subst IsAddress (sym (to_z-of_z w128 _ fits ∙ same_some _ _ _ c.in-Some.is (c.low_target.ensures.only z is))) address)
+    (subst IsAddress (sym (to_z-of_z w128 _ fits ∙ same_some _ _ _ c.in_ok-number.was (c.low_target.ensures.only z is))) address)
 
-pub returns-in-Some-clause-once : goal.returns-in-Some-clause-once
-returns-in-Some-clause-once c = λ z is.
-    let fits : FitsSigned w128 c.in-Some.number = search rules in
+pub returns-clause-once : goal.returns-clause-once
+returns-clause-once c = λ z is.
+    let fits : FitsSigned w128 c.in_ok-number.number = search rules in
     some-only c.address_of.result
     (λ t same. sym
-    (same ∙ to_z-of_z w128 _ fits ∙ same_some _ _ _ c.in-Some.is (c.low_target.ensures.only z is))) c.address_of.ensures.there
+    (same ∙ to_z-of_z w128 _ fits ∙ same_some _ _ _ c.in_ok-number.was (c.low_target.ensures.only z is))) c.address_of.ensures.there
 
-pub returns-in-None-clause-each : goal.returns-in-None-clause-each
-returns-in-None-clause-each c = λ z is address. absurd (not_found _ _ c.in-None.is (c.low_target.ensures.only z is))
+pub returns-in_err-number-clause-each : goal.returns-in_err-number-clause-each
+returns-in_err-number-clause-each c = λ z is address. absurd (not_found _ _ c.in_err-number.was (c.low_target.ensures.only z is))
