@@ -21,7 +21,3 @@ IsLineBefore s t = (s.out < t.out) ⊎ ((s.out ≡ t.out) × IsEmptyBefore s t)
 pub record AreInLineOrder (spans lines : List Span) : Type 0 where
   pub same : IsPermutation spans lines
   pub ordered : AllPairs IsLineBefore lines
-
--- the text of a map, whatever the order of its spans
-abbrev pub IsMapText : List Span → List ℕ → Type 0
-IsMapText spans text = (lines : List Span) × AreInLineOrder spans lines × (text ≡ map_text lines)

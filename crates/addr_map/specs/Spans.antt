@@ -1,5 +1,5 @@
 -- The map from old code to new code: where an instruction went, which one owns a byte, and which maps are valid.
-use Rattle.std.specs.Prelude.{◌≡◌, ◌≢◌, ◌⊎◌, ℕ, ◌+◌, ◌%◌, ◌<◌, ◌≤◌, ◌==◌, ◌&&◌, nat_lt, nat_le, Bool, IsTrue, List, Option}
+use Rattle.std.specs.Prelude.{◌≡◌, ◌≢◌, ◌⊎◌, ℕ, ◌+◌, ◌%◌, ◌<◌, ◌==◌, ◌&&◌, nat_lt, nat_le, Bool, IsTrue, List, Option}
 use Rattle.std.specs.Prelude.{All, AllPairs, Any, find, is_some, option_map, unwrap_or}
 use Rattle.addr_map.specs.declared.span.Span.{Span}
 
@@ -28,10 +28,6 @@ is_new_code spans p = is_some (owner spans p)
 -- It is one unbroken stretch, from a start to before an end.
 abbrev pub IsStretch : List Span → ℕ → ℕ → Type 0
 IsStretch spans start end = (p : ℕ) → is_new_code spans p ≡ (nat_le start p && nat_lt p end)
-
--- It is one that begins at a start.
-abbrev pub IsUnbrokenFrom : List Span → ℕ → Type 0
-IsUnbrokenFrom spans start = (end : ℕ) × (start ≤ end) × IsStretch spans start end
 
 -- a span with bytes, at a place where an instruction can stand, and not at 0
 abbrev pub IsPlaced : Span → Type 0

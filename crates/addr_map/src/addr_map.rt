@@ -4,7 +4,7 @@ ghost use Rattle.rb_io.specs.CallResults.{IfTook};
 ghost use Rattle.rb_io.specs.FaultCounts.{Rose};
 ghost use Rattle.rb_io.specs.TakenText.{TakesAll, TakesPrefix};
 ghost use Rattle.addr_map.specs.MapText.{AreInLineOrder, map_text};
-ghost use Rattle.addr_map.specs.Spans.{ShareNoByte, moved, owner};
+ghost use Rattle.addr_map.specs.Spans.{ShareNoByte, moved, new, owner};
 
 use crate::new_order::NewOrder;
 use crate::old_order::OldOrder;
@@ -37,8 +37,9 @@ impl Model for AddrMap {
 }
 
 impl AddrMap {
-    /// Takes the spans of a map, in any order: one for each instruction, with no byte in two of them. Takes the time of two
-    /// sorts, less where stretches of them are in order, and about 65 bytes for each span, of which it keeps about 40.
+    /// Takes the spans of a map, in any order: one for each instruction, with no byte in two of them. Takes the time
+    /// of two sorts, less where stretches of them are in order, and about 65 bytes for each span, of which it keeps
+    /// about 40.
     pub fn new(alloc: Global, spans: Vec<Span>) -> Result<AddrMap, NoMemory>
         requires once { AllPairs (λ s t. s.input ≢ t.input) spans.items }
         requires disjoint { AllPairs ShareNoByte spans.items }
@@ -58,6 +59,13 @@ impl AddrMap {
         ensures { result ≡ moved self.now a }
     {
         self.by_old.moved(a)
+    }
+
+    /// The new address of the instruction at `a`; an address at which none is stays as it is.
+    pub fn new_address(&self, a: u64) -> u64
+        ensures { result ≡ new self.now a }
+    {
+        self.moved(a).unwrap_or(a)
     }
 
     /// The address of the instruction to which the new byte at `p` belongs. None exactly where no span has the byte.
@@ -94,7 +102,8 @@ impl AddrMap {
     pub fn print<O: Sink>(&self, out: &mut O) -> Put
         ensures whole { IfTook result (λ n. n ≡ length (map_text self.now)) }
         ensures all { IfTook result (λ n. TakesAll (O.seen out.old).taken (O.seen out.new).taken (map_text self.now)) }
-        ensures front { result ≡ Put.Failed → TakesPrefix (O.seen out.old).taken (O.seen out.new).taken (map_text self.now) }
+        ensures front { result ≡ Put.Failed → TakesPrefix (O.seen out.old).taken (O.seen out.new).taken
+            (map_text self.now) }
         ensures failed { result ≡ Put.Failed → Rose (O.seen out.old).faults (O.seen out.new).faults }
         ensures never_falls { (O.seen out.old).faults ≤ (O.seen out.new).faults }
     {

@@ -104,7 +104,8 @@ impl NewOrder {
 #[tactic(auto, using(crate::proofs::Owners::holder_here, crate::proofs::Owners::holder_none, crate::proofs::Owners::holder_next))]
 fn holders_of(alloc: Global, lens: &[u8]) -> Result<Vec<usize>, NoMemory>
     ensures count { IfOk result (λ holders. length holders.items ≡ length lens.now) }
-    ensures held { IfOk result (λ holders. (i : ℕ) → i < length lens.now → IsHolder lens.now i (slice_index holders.items i)) }
+    ensures held { IfOk result (λ holders. (i : ℕ) → i < length lens.now →
+        IsHolder lens.now i (slice_index holders.items i)) }
 {
     let mut holders = Vec::with_capacity(alloc, lens.len())?;
     let mut holder = 0;

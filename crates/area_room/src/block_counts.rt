@@ -9,8 +9,8 @@ ghost use Rattle.area_room.specs.Need.{AreBlocksOf};
 use crate::bounds::count_below;
 use rv_code::{Block, Func};
 
-/// How many blocks have an instruction that starts in a range: those that start in it, and perhaps the last one that starts
-/// before it. `starts` says where each starts.
+/// How many blocks have an instruction that starts in a range: those that start in it, and perhaps the last one that
+/// starts before it. `starts` says where each starts.
 pub(crate) fn count_blocks_in(
     funcs: &[Func],
     blocks: &[Block],

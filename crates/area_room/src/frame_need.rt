@@ -91,7 +91,8 @@ fn sum_of_needs(
     sum
 }
 
-// What the entries that are made of one need: one for each block in its range, row of it, and bound of another in its range.
+// What the entries that are made of one need: one for each block in its range, row of it, and bound of another in its
+// range.
 fn entry_need(funcs: &[Func], blocks: &[Block], starts: &[u64], bounds: &[u64], entry: &Fde) -> u64
     requires laid { AreLaidOut funcs.now }
     requires blocks { AreBlocksOf funcs.now blocks.now }

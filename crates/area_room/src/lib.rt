@@ -1,4 +1,5 @@
-//! The room that a file has for new code and its tables: how many bytes these need at most, and where there are so many.
+//! The room that a file has for new code and its tables: how many bytes these need at most, and where there are so
+//! many.
 #![tactic(auto)]
 
 mod block_counts;

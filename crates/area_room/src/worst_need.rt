@@ -22,9 +22,9 @@ fn code_need(funcs: &[Func], blocks: &[Block]) -> u64
     sum
 }
 
-/// How many bytes the new area takes at most: the worst sizes of all blocks, and what the unwind table that the file loads and
-/// its index need. In a malformed table the entries before the first malformed one count. A sum that doesn't fit is given as
-/// the greatest number of 64 bits.
+/// How many bytes the new area takes at most: the worst sizes of all blocks, and what the unwind table that the file
+/// loads and its index need. In a malformed table the entries before the first malformed one count. A sum that doesn't
+/// fit is given as the greatest number of 64 bits.
 pub fn need(alloc: Global, elf: &Elf<'_>, funcs: &[Func], blocks: &[Block]) -> Result<u64, NoMemory>
     requires laid { AreLaidOut funcs.now }
     requires blocks { spec.AreBlocksOf funcs.now blocks.now }

@@ -93,10 +93,11 @@ one_strip c a (p ∷ ps) h t d some =
     rest = laid_from (a + length_of p) ps
 
     leads : Leads (span_for a p ∷ laid_from (a + length_of p) ps) a (span_for a p)
-    leads = record { out = refl; first = λ u k some. pick u (Contains-cons_cases (span_for a p) (laid_from (a + length_of p) ps) u k) } where
-      pick : (u : Span) → (span_for a p ≡ u) ⊎ Contains (laid_from (a + length_of p) ps) u → p.placed.addr ≤ u.input
-      pick u (inl e) = let x : p.placed.addr ≡ u.input = ap (λ (s : Span). s.input) e in omega (arith, x)
-      pick u (inr k) = let x = from_on (suc p.placed.addr) (a + length_of p) ps h.1 u k in omega (arith, x)
+    leads = record { out = refl; first = λ u k some. pick u (Contains-cons_cases (span_for a p) (laid_from (a + length_of p) ps) u k) }
+      where
+        pick : (u : Span) → (span_for a p ≡ u) ⊎ Contains (laid_from (a + length_of p) ps) u → p.placed.addr ≤ u.input
+        pick u (inl e) = let x : p.placed.addr ≡ u.input = ap (λ (s : Span). s.input) e in omega (arith, x)
+        pick u (inr k) = let x = from_on (suc p.placed.addr) (a + length_of p) ps h.1 u k in omega (arith, x)
 
     follows : Follows (laid_from (a + length_of p) ps) t → Follows (span_for a p ∷ laid_from (a + length_of p) ps) t
     follows f = record {
@@ -181,7 +182,8 @@ in_part (s ∷ ss) (f ∷ fs) a t c =
     by more (inl d) = record { k = zero; among = d }
     by more (inr d) = let r = more d in record { k = suc r.k; among = r.among }
 
-part_in : (k : ℕ) (ss : List Strip) (fs : List Form) (a : ℕ) (t : Span) → Contains (part k ss fs a) t → Contains (laid_from a (pieces_of ss fs)) t
+part_in : (k : ℕ) (ss : List Strip) (fs : List Form) (a : ℕ) (t : Span) → Contains (part k ss fs a) t →
+    Contains (laid_from a (pieces_of ss fs)) t
 part_in k [] fs a t c = absurd (Contains-nil t c)
 part_in k (s ∷ ss) [] a t c = absurd (Contains-nil t c)
 part_in zero (s ∷ ss) (f ∷ fs) a t c =
@@ -215,7 +217,8 @@ module _ (code : ProgramCode) (blocks : List Block) (order : List ℕ) (laid : A
   plan : (k : ℕ) (r : IsPart (strips_of code.funcs blocks order) fs base k) → Planned code blocks order k r.s
   plan k r = planned code blocks are order perm k r.s r.at
 
-  begins : (k : ℕ) (r : IsPart (strips_of code.funcs blocks order) fs base k) → block_start code.funcs (plan k r).b ≡ first_in r.s.inner r.s.last
+  begins : (k : ℕ) (r : IsPart (strips_of code.funcs blocks order) fs base k) →
+      block_start code.funcs (plan k r).b ≡ first_in r.s.inner r.s.last
   begins k r =
       let x = plan k r in
       let e : slice_get (map (block_start code.funcs) blocks) x.m ≡ Some (block_start code.funcs x.b) =
@@ -331,7 +334,8 @@ module _ (code : ProgramCode) (blocks : List Block) (order : List ℕ) (laid : A
           let x = b p has in
           omega (arith, x, same)
 
-    follows_all : Follows (laid_from r.from (pieces_of_strip r.s r.form)) t → Follows (spans_of (strips_of code.funcs blocks order) base fs) t
+    follows_all : Follows (laid_from r.from (pieces_of_strip r.s r.form)) t →
+        Follows (spans_of (strips_of code.funcs blocks order) base fs) t
     follows_all f = record {
       t = f.t;
       among = part_in k (strips_of code.funcs blocks order) fs base f.t (subst (λ (l : List Span). Contains l f.t) (sym r.is) f.among);

@@ -49,9 +49,11 @@ main_leap new a p (form.Branch inverted size jump) = by size
     by Half = record { reach = 2 ^ 8; from = a; to = to } ∷ []
     by Full = record { reach = 2 ^ 12; from = a; to = to } ∷ []
     by Long = jal (a + 4) to ∷ []
-main_leap new a p (form.Goto half) = record { reach = if half then 2 ^ 11 else 2 ^ 20; from = a; to = new_target new p } ∷ []
+main_leap new a p (form.Goto half) = record { reach = if half then 2 ^ 11 else 2 ^ 20; from = a; to = new_target new p }
+    ∷ []
 main_leap new a p form.Dropped = []
-main_leap new a p _ = option_map_or (λ t. record { reach = reach_of p.len p; from = a; to = new t } ∷ []) (target_of p) []
+main_leap new a p _ = option_map_or (λ t. record { reach = reach_of p.len p; from = a; to = new t } ∷ [])
+    (target_of p) []
 
 -- the jump that is added after it
 abbrev pub added_leap : (ℕ → ℕ) → ℕ → Placed → Form → List Leap

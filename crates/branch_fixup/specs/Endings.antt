@@ -10,8 +10,8 @@ use Rattle.rv_code.specs.declared.placed.Func.{Func}
 use Rattle.rv_code.specs.layout.ProgramCode.{is_code_address}
 use Rattle.rv_code.specs.layout.Flow.{falls_at}
 
--- The address into which the i-th instruction of a function falls,
--- if it does and some function has an instruction there.
+-- The address into which the i-th instruction of a function falls, if it does and some function has an instruction
+-- there.
 abbrev pub fall_of : List Func → Func → ℕ → Placed → Option ℕ
 fall_of funcs func i p =
     if falls_at func i p && is_code_address funcs (p.addr + p.len) then Some (p.addr + p.len) else None

@@ -31,7 +31,8 @@ begins_of ss k = option_map (λ s. first_in s.inner s.last) (slice_get ss k)
 
 -- the k-th block has the instruction at an address, so far into it
 abbrev pub IsAt : List Strip → ℕ → ℕ → ℕ → Type 0
-IsAt ss k offset a = IsSomeAnd (slice_get ss k) (λ s. (first_in s.inner s.last + offset ≡ a) × Any (λ p. p.addr ≡ a) (insts_in s))
+IsAt ss k offset a = IsSomeAnd (slice_get ss k) (λ s. (first_in s.inner s.last + offset ≡ a)
+    × Any (λ p. p.addr ≡ a) (insts_in s))
 
 -- The end of the k-th block, whose branch or jump goes to an address.
 pub record IsBlockEnd (ss : List Strip) (s : Strip) (lead : Option ℕ) (t : BlockEnd) : Type 0 where
@@ -44,6 +45,7 @@ pub record IsBlockEnd (ss : List Strip) (s : Strip) (lead : Option ℕ) (t : Blo
 pub record AreEnds (ss : List Strip) (n : ℕ) (ts : List BlockEnd) (fs : List Form) : Type 0 where
   pub block_ends : length ts ≡ n
   pub forms : length fs ≡ n
-  pub shortest : (k : ℕ) (s : Strip) → k < n → slice_get ss k ≡ Some s → IsShortest s (begins_of ss (k + 1)) (form_at fs k)
+  pub shortest : (k : ℕ) (s : Strip) → k < n → slice_get ss k ≡ Some s →
+      IsShortest s (begins_of ss (k + 1)) (form_at fs k)
   pub are_block_ends : (k : ℕ) (s : Strip) → k < n → slice_get ss k ≡ Some s →
       IsBlockEnd ss s (lead_of s (form_at fs k)) (end_at ts k)

@@ -1,5 +1,4 @@
--- Which forms blocks in an order have: those of the table of endings, that reach,
--- and that are locally the least.
+-- Which forms blocks in an order have: those of the table of endings, that reach, and that are locally the least.
 use Rattle.std.specs.Prelude.{◌≡◌, ℕ, ◌==◌, if◌then◌else◌, true, false, IsTrue, IfSome, List, [], ◌∷◌, Option, Some}
 use Rattle.std.specs.Prelude.{None, slice_get, slice_set}
 use Rattle.std.specs.List.{list_all}
@@ -50,21 +49,23 @@ FallsShort spans p f = list_all lands (main_leap (new spans) (new spans p.addr) 
 -- The k-th block, which is in form f, can't have the next shorter one with all others as they are:
 -- at the addresses that then follow it doesn't reach.
 abbrev pub IsLeast : List Strip → ℕ → List Form → ℕ → Strip → Form → Type 0
-IsLeast ss base fs k s f = IfSome (shorter s.last.len f) (λ g. FallsShort (spans_of ss base (slice_set fs k g)) s.last g)
+IsLeast ss base fs k s f = IfSome (shorter s.last.len f)
+    (λ g. FallsShort (spans_of ss base (slice_set fs k g)) s.last g)
 
 -- the forms of blocks, from an address on
 pub record AreForms (ss : List Strip) (base : ℕ) (fs : List Form) : Type 0 where
   pub by_table : EndByTable ss fs
   pub reach : AllLand (new (spans_of ss base fs)) base (pieces_of ss fs)
-  pub least : (k : ℕ) (s : Strip) (f : Form) → slice_get ss k ≡ Some s → slice_get fs k ≡ Some f → IsLeast ss base fs k s f
+  pub least : (k : ℕ) (s : Strip) (f : Form) → slice_get ss k ≡ Some s → slice_get fs k ≡ Some f →
+      IsLeast ss base fs k s f
 
 -- where the new code ends
 abbrev pub new_code_end : List Strip → ℕ → List Form → ℕ
 new_code_end ss base fs = end_from base (pieces_of ss fs)
 
--- The spans are a valid map of functions,
--- for whatever roles, code cells and entry point these are the blocks.
+-- The spans are a valid map of functions, for whatever roles, code cells and entry point these are the blocks.
 abbrev pub AreMap : List Func → List Block → List Span → Type 0
 AreMap funcs blocks spans =
-    (roles : List (ℕ × Role)) (cells : List CodeCell) (entry : ℕ) → AreBlocks (program_code funcs roles cells entry) blocks →
+    (roles : List (ℕ × Role)) (cells : List CodeCell) (entry : ℕ) →
+    AreBlocks (program_code funcs roles cells entry) blocks →
     IsMap (λ a. IsTrue (is_code_address funcs a)) (IsNamed (program_code funcs roles cells entry)) spans

@@ -46,7 +46,8 @@ is_enough ts fs k f = option_map_or (λ reach. reaches reach (from_at ts fs k) (
 abbrev pub is_enough_at : List BlockEnd → List ℕ → ℕ → Form → Bool
 is_enough_at ts places k f =
     option_map_or (λ reach.
-    reaches reach (slice_index places k + (end_at ts k).before) (slice_index places (end_at ts k).to + (end_at ts k).offset))
+    reaches reach (slice_index places k + (end_at ts k).before)
+    (slice_index places (end_at ts k).to + (end_at ts k).offset))
     (form_reach f) true
 
 -- the next longer form

@@ -67,6 +67,8 @@ worst_between funcs blocks order i j = worst_total funcs blocks (take (j + 1 - i
 -- Nearness: from each block to one into which it leads, both included, there are at most so many bytes.
 pub record AreNear (funcs : List Func) (blocks : List Block) (order : List ℕ) : Type 0 where
   pub ahead : (i j a : ℕ) → i ≤ j → IsSomeAnd (block_in blocks order i) (λ b. BlockLeads funcs b a) →
-      IsSomeAnd (block_in blocks order j) (λ c. BlockHolds funcs c a) → worst_between funcs blocks order i j ≤ near_limit
+      IsSomeAnd (block_in blocks order j) (λ c. BlockHolds funcs c a) →
+      worst_between funcs blocks order i j ≤ near_limit
   pub back : (i j a : ℕ) → j ≤ i → IsSomeAnd (block_in blocks order i) (λ b. BlockLeads funcs b a) →
-      IsSomeAnd (block_in blocks order j) (λ c. BlockHolds funcs c a) → worst_between funcs blocks order j i ≤ near_limit
+      IsSomeAnd (block_in blocks order j) (λ c. BlockHolds funcs c a) →
+      worst_between funcs blocks order j i ≤ near_limit

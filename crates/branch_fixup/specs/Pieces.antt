@@ -1,5 +1,4 @@
--- The new code, instruction by instruction: in which form each one is, how long that makes it,
--- and so where it is.
+-- The new code, instruction by instruction: in which form each one is, how long that makes it, and so where it is.
 use Rattle.std.specs.Prelude.{◌≡◌, ℕ, ◌+◌, if◌then◌else◌, Bool, List, [], ◌∷◌}
 use Rattle.rv_code.specs.declared.layout.Form.{Form}
 use Rattle.rv_code.specs.declared.layout.Form.TheVariants.{Plain, Jump, Branch, Goto, Dropped}
@@ -38,8 +37,8 @@ piece_length len Dropped = 0
 abbrev pub length_of : Piece → ℕ
 length_of p = piece_length p.placed.len p.form
 
--- Pieces one after another from an address on: their spans. A jump that is left out has an empty one,
--- at the address at which the next piece begins.
+-- Pieces one after another from an address on: their spans. A jump that is left out has an empty one, at the address
+-- at which the next piece begins.
 abbrev pub laid_from : ℕ → List Piece → List Span
 laid_from a [] = []
 laid_from a (p ∷ ps) = record { out = a; len = length_of p; input = p.placed.addr } ∷ laid_from (a + length_of p) ps

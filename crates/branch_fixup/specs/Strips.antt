@@ -1,5 +1,5 @@
--- The blocks in their new order, each with what the forms and the new code need of it,
--- so that no list of functions is looked up any more.
+-- The blocks in their new order, each with what the forms and the new code need of it, so that no list of functions
+-- is looked up any more.
 use Rattle.std.specs.Prelude.{ℕ, ◌-◌, Bool, true, false, List, [], ◌∷◌, ◌++◌, Option, Some, None, map, take, drop}
 use Rattle.std.specs.Prelude.{slice_get, option_map, option_and_then}
 use Rattle.std.specs.List.{filter_map}
@@ -13,8 +13,8 @@ use Rattle.addr_map.specs.declared.span.Span.{Span}
 use Rattle.branch_fixup.specs.Pieces.{Piece, as_it_is, laid_from}
 use Rattle.branch_fixup.specs.Endings.{fall_of}
 
--- A block: its instructions before the last one, that one, whether its function moves as one piece,
--- and the address into which the last one falls.
+-- A block: its instructions before the last one, that one, whether its function moves as one piece, and the address
+-- into which the last one falls.
 pub record Strip : Type 0 where
   pub inner : List Placed
   pub last : Placed

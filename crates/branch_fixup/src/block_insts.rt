@@ -76,8 +76,8 @@ pub fn first_address(block: &BlockInsts) -> u64
     }
 }
 
-// The address into which the instruction at a place of a function falls, if it does and an instruction is there. `index` is
-// the function's.
+// The address into which the instruction at a place of a function falls, if it does and an instruction is there.
+// `index` is the function's.
 fn fall_of(funcs: &[Func], index: usize, func: &Func, place: usize, inst: &Placed) -> Option<u64>
     requires laid { AreLaidOut funcs.now }
     requires func { slice_get funcs.now index ≡ Some func.now }

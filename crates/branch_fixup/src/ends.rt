@@ -26,7 +26,8 @@ pub fn ends(
     requires direct { AreDirect funcs.now }
     requires blocks { AreBlocksOf funcs.now blocks.now }
     requires order { HasAllBlocks blocks.now order.now }
-    ensures { IfOk result (λ r. AreEnds (strips_of funcs.now blocks.now order.now) (length order.now) r.0.items r.1.items) }
+    ensures { IfOk result (λ r. AreEnds (strips_of funcs.now blocks.now order.now)
+        (length order.now) r.0.items r.1.items) }
 {
     let starts = block_starts(alloc, funcs, blocks)?;
     let places = places_in(alloc, order)?;

@@ -38,7 +38,8 @@ pub fn forms(
     requires some { 0 < base }
     requires room { base + sum_by (worst_size_of_block funcs.now) blocks.now < 2 ^ 64 }
     ensures forms { IfOk result (λ r. AreForms (planned_strips funcs.now blocks.now plan.now) base r.0.items) }
-    ensures spans { IfOk result (λ r. r.1.items ≡ spans_of (planned_strips funcs.now blocks.now plan.now) base r.0.items) }
+    ensures spans { IfOk result (λ r. r.1.items ≡ spans_of (planned_strips funcs.now blocks.now plan.now) base
+        r.0.items) }
     ensures map { IfOk result (λ r. AreMap funcs.now blocks.now r.1.items) }
 
     // The new code is one stretch, and takes no more than all worst sizes.

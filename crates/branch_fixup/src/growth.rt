@@ -1,7 +1,9 @@
 // Forms that grow in rounds: each round is one pass over the blocks.
-ghost use Rattle.std.specs.Prelude.{◌≡◌, ℕ, ◌+◌, ◌^◌, ◌<◌, ◌≤◌, length, IfOk, OnOk, MatchBool, map, slice_index, sum_by, true};
+ghost use Rattle.std.specs.Prelude.{◌≡◌, ℕ, ◌+◌, ◌^◌, ◌<◌, ◌≤◌, length, IfOk, OnOk, MatchBool, map, slice_index};
+ghost use Rattle.std.specs.Prelude.{sum_by, true};
 ghost use Rattle.branch_fixup.specs.Endings.{end_of_form};
-ghost use Rattle.branch_fixup.specs.Growth.{is_enough_at, end_at, left_of, AreBlockEnds, AreGrown, AreEnough, block_offset};
+ghost use Rattle.branch_fixup.specs.Growth.{is_enough_at, end_at, left_of, AreBlockEnds, AreGrown, AreEnough};
+ghost use Rattle.branch_fixup.specs.Growth.{block_offset};
 
 use crate::lengths::{form_reach, longer, piece_length, reaches};
 use crate::settling::settle;
@@ -35,7 +37,8 @@ pub(crate) fn places(
     ensures len { IfOk result (λ v. length v.items ≡ length block_ends.now + 1) }
     ensures at { IfOk result (λ v.
         (i : ℕ) → i ≤ length block_ends.now → slice_index v.items i ≡ block_offset block_ends.now forms.now i) }
-    ensures low { IfOk result (λ v. (i : ℕ) → i ≤ length block_ends.now → block_offset block_ends.now forms.now i < 2 ^ 62) }
+    ensures low { IfOk result (λ v. (i : ℕ) → i ≤ length block_ends.now →
+        block_offset block_ends.now forms.now i < 2 ^ 62) }
 {
     let mut places = Vec::new(alloc);
     let mut at = 0;
@@ -73,11 +76,13 @@ fn grow_once(block_ends: &[BlockEnd], places: &[u64], forms: &mut [Form]) -> boo
     requires block_ends { AreBlockEnds block_ends.now }
     requires len { length places.now ≡ length block_ends.now + 1 }
     requires low { (i : ℕ) → i ≤ length block_ends.now → block_offset block_ends.now forms.old i < 2 ^ 62 }
-    requires placed { (i : ℕ) → i ≤ length block_ends.now → slice_index places.now i ≡ block_offset block_ends.now forms.old i }
+    requires placed { (i : ℕ) → i ≤ length block_ends.now →
+        slice_index places.now i ≡ block_offset block_ends.now forms.old i }
     requires sound { AreGrown block_ends.now forms.old }
     ensures sound { AreGrown block_ends.now forms.new }
     ensures same { map end_of_form forms.new ≡ map end_of_form forms.old }
-    ensures ends { MatchBool result (sum_by left_of forms.new < sum_by left_of forms.old) (AreEnough block_ends.now forms.new) }
+    ensures ends { MatchBool result (sum_by left_of forms.new < sum_by left_of forms.old)
+        (AreEnough block_ends.now forms.new) }
 {
     let mut grew = false;
     for i in 0..forms.len() {

@@ -19,8 +19,8 @@ pub fn places_in(alloc: Global, order: &[usize]) -> Result<Vec<usize>, AllocErro
     Ok(places)
 }
 
-/// The block that holds an address, by its place in the plan, and how far into it that is. Blocks are looked at first from
-/// that of the index `near` on.
+/// The block that holds an address, by its place in the plan, and how far into it that is. Blocks are looked at first
+/// from that of the index `near` on.
 pub fn find(starts: &[u64], places: &[usize], near: usize, address: u64) -> (usize, u64)
     requires ascending { AllPairs (λ a b. a < b) starts.now }
     requires one_each { length places.now ≡ length starts.now }

@@ -1,6 +1,7 @@
-// Forms that grow one after another. A form that grew makes only the ways over its block longer, so only the branches and
-// jumps that go there are looked at again.
-ghost use Rattle.std.specs.Prelude.{◌≡◌, ℕ, ◌+◌, ◌^◌, ◌<◌, ◌≤◌, length, All, IfOk, OnOk, MatchBool, map, slice_index, sum_by};
+// Forms that grow one after another. A form that grew makes only the ways over its block longer, so only the branches
+// and jumps that go there are looked at again.
+ghost use Rattle.std.specs.Prelude.{◌≡◌, ℕ, ◌+◌, ◌^◌, ◌<◌, ◌≤◌, length, All, IfOk, OnOk, MatchBool, map, slice_index};
+ghost use Rattle.std.specs.Prelude.{sum_by};
 ghost use Rattle.branch_fixup.specs.Endings.{end_of_form};
 ghost use Rattle.branch_fixup.specs.Growth.{end_at, left_of, AreBlockEnds, AreGrown, block_offset};
 ghost use Rattle.branch_fixup.specs.Ways.{crosses, is_enough_by, AreStarts, AreLonger, AreLongerOver, AreSettling};
@@ -45,8 +46,8 @@ fn is_enough_by(block_ends: &[BlockEnd], places: &[u64], more: u64, k: usize, fo
     }
 }
 
-// Block `p` has grown by some bytes. Makes the ways over it longer, and adds the blocks whose forms don't reach any more.
-// All of those are in a range of blocks.
+// Block `p` has grown by some bytes. Makes the ways over it longer, and adds the blocks whose forms don't reach any
+// more. All of those are in a range of blocks.
 fn lengthen(
     block_ends: &[BlockEnd],
     places: &[u64],
@@ -120,8 +121,8 @@ fn grow_block(
     Ok(true)
 }
 
-// Each of some blocks grows by a step, if it doesn't reach. Tells whether one grew, and adds the blocks that don't reach
-// then.
+// Each of some blocks grows by a step, if it doesn't reach. Tells whether one grew, and adds the blocks that don't
+// reach then.
 fn grow_blocks(
     block_ends: &[BlockEnd],
     places: &[u64],
@@ -203,8 +204,8 @@ fn grow_from(
     }
 }
 
-/// Grows forms one at a time until each reaches. A pass over all blocks has to confirm it: ways are followed only where a
-/// form that can grow may reach at the start.
+/// Grows forms one at a time until each reaches. A pass over all blocks has to confirm it: ways are followed only
+/// where a form that can grow may reach at the start.
 pub fn settle(alloc: Global, block_ends: &[BlockEnd], forms: &mut [Form]) -> Result<(), AllocError>
     requires block_ends { AreBlockEnds block_ends.now }
     requires sound { AreGrown block_ends.now forms.old }

@@ -23,7 +23,8 @@ use Rattle.rv_code.specs.isa.AddressParts.{IsAuipc, IsLui, TakesLower}
 abbrev pub FitsRole : Role → Inst → ℕ → Type 0
 FitsRole role.Plain inst bytes = Unit {0}
 FitsRole (role.CallHi target) inst bytes = IsAuipc inst × (bytes ≡ 4) × (target ≤ address_end)
-FitsRole (role.CallLo hi target) inst bytes = TakesLower inst × (bytes ≡ 4) × (target ≤ address_end) × (hi ≤ address_end)
+FitsRole (role.CallLo hi target) inst bytes = TakesLower inst × (bytes ≡ 4) × (target ≤ address_end)
+    × (hi ≤ address_end)
 FitsRole (role.Hi target) inst bytes = IsAuipc inst × (bytes ≡ 4) × (target ≤ address_end)
 FitsRole (role.Lo hi target) inst bytes = TakesLower inst × (bytes ≡ 4) × (target ≤ address_end) × (hi ≤ address_end)
 FitsRole (role.AbsHi target) inst bytes = IsLui inst × (bytes ≡ 4) × (target ≤ address_end)

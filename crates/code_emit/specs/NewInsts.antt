@@ -46,10 +46,10 @@ pub record Made : Type 0 where
   pub inst : Inst
   pub bytes : ℕ
 
--- an instruction that keeps its width, at a: a branch or jump goes to its target,
--- and an address is split anew
+-- an instruction that keeps its width, at a: a branch or jump goes to its target, and an address is split anew
 abbrev pub kept : (ℕ → ℕ) → ℕ → Placed → Inst
-kept new a p = option_map_or (λ t. with_distance p.inst (distance (new t) a)) (target_of p) (made_anew new p.addr p.role p.inst)
+kept new a p = option_map_or (λ t. with_distance p.inst (distance (new t) a)) (target_of p)
+    (made_anew new p.addr p.role p.inst)
 
 abbrev pub jump_to : ℕ → ℕ → Made
 jump_to t a = record { inst = Jal 0 (distance t a); bytes = 4 }
@@ -71,7 +71,8 @@ made new a p form.Jump = record { inst = kept new a p; bytes = p.len } ∷ jump_
 made new a p (form.Branch inverted size jump) =
     branch_to (if inverted then new (p.addr + p.len) else new_target new p) p.inst inverted size a
     ++ added new p jump (a + bytes_of_size size)
-made new a p (form.Goto half) = record { inst = Jal 0 (distance (new_target new p) a); bytes = if half then 2 else 4 } ∷ []
+made new a p (form.Goto half) = record { inst = Jal 0 (distance (new_target new p) a); bytes = if half then 2 else 4 }
+    ∷ []
 made new a p form.Dropped = []
 
 -- what stands for pieces from a on

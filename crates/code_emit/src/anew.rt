@@ -2,13 +2,14 @@
 ghost use Rattle.std.specs.Prelude.{◌≡◌, ◌<◌, ◌^◌, pos, ◌≤ℤ◌, ◌-ℤ◌};
 ghost use Rattle.rv_code.specs.isa.HiLo.{hi20, lo12};
 ghost use Rattle.move_law.specs.RelocatedValues.{distance};
-ghost use Rattle.move_law.specs.FaithfulRewrite.{with_immediate, made_anew};
+ghost use Rattle.move_law.specs.FaithfulRewrite.{made_anew};
 ghost use Rattle.code_emit.specs.NewInsts.{with_distance, turned, kept};
 ghost use Rattle.branch_fixup.specs.Distances.{new_target};
 ghost use Rattle.code_emit.specs.Inputs.{AreLow, HasLowTargets};
 ghost use Rattle.addr_map.specs.Spans.{new};
 
 use addr_map::AddrMap;
+use move_law::with_immediate;
 use rv_code::flow::target;
 use rv_code::{Inst, Placed, Role};
 
@@ -50,30 +51,6 @@ fn lower(v: i64) -> i64
     ensures { result ≡ lo12 v }
 {
     v - 4096 * upper(v)
-}
-
-// An instruction with another immediate, where it can have one of an address.
-fn with_immediate(inst: &Inst, imm: i64) -> Inst
-    ensures { result ≡ with_immediate inst.now imm }
-{
-    match *inst {
-        Inst::Lui { rd, .. } => Inst::Lui { rd, imm },
-        Inst::Auipc { rd, .. } => Inst::Auipc { rd, imm },
-        Inst::Addi { rd, rs1, .. } => Inst::Addi { rd, rs1, imm },
-        Inst::Jalr { rd, rs1, .. } => Inst::Jalr { rd, rs1, imm },
-        Inst::Lb { rd, rs1, .. } => Inst::Lb { rd, rs1, imm },
-        Inst::Lh { rd, rs1, .. } => Inst::Lh { rd, rs1, imm },
-        Inst::Lw { rd, rs1, .. } => Inst::Lw { rd, rs1, imm },
-        Inst::Ld { rd, rs1, .. } => Inst::Ld { rd, rs1, imm },
-        Inst::Lbu { rd, rs1, .. } => Inst::Lbu { rd, rs1, imm },
-        Inst::Lhu { rd, rs1, .. } => Inst::Lhu { rd, rs1, imm },
-        Inst::Lwu { rd, rs1, .. } => Inst::Lwu { rd, rs1, imm },
-        Inst::Sb { rs1, rs2, .. } => Inst::Sb { rs1, rs2, imm },
-        Inst::Sh { rs1, rs2, .. } => Inst::Sh { rs1, rs2, imm },
-        Inst::Sw { rs1, rs2, .. } => Inst::Sw { rs1, rs2, imm },
-        Inst::Sd { rs1, rs2, .. } => Inst::Sd { rs1, rs2, imm },
-        _ => *inst,
-    }
 }
 
 /// A branch or a JAL with another distance.

@@ -24,7 +24,8 @@ fn push_full(code: &mut Vec<u8>, word: u32) -> Result<(), AllocError>
 #[tactic(auto, using(crate::proofs::Coded::adds_half, crate::proofs::Coded::adds_full))]
 pub fn push(code: &mut Vec<u8>, inst: &Inst, want: Width) -> Result<(), AllocError>
     requires { IsEncodable want inst.now }
-    ensures ok { OnOk result (Adds code.old.items code.new.items (record { inst = inst.now; bytes = bytes want } ∷ [])) }
+    ensures ok { OnOk result (Adds code.old.items code.new.items (record { inst = inst.now; bytes = bytes want }
+        ∷ [])) }
 {
     match encode(inst, want) {
         Some(Word::Half(half)) => push_half(code, half),

@@ -56,7 +56,8 @@ fn code(
     requires one_each { length forms.now ≡ length order.now }
     ensures { IfOk result
         (λ code. (base : ℕ) → AreMapped (strips_of funcs.now blocks.now order.now) forms.now base moved.now →
-        Adds [] code.items (made_from (new moved.now) base (pieces_of (strips_of funcs.now blocks.now order.now) forms.now))) }
+        Adds [] code.items (made_from (new moved.now) base
+        (pieces_of (strips_of funcs.now blocks.now order.now) forms.now))) }
 {
     let start = code_start(funcs, blocks, order, moved);
     let mut code = Vec::new(alloc);
@@ -70,9 +71,9 @@ fn code(
 
 /// The bytes of the new code, and for each code cell its address, its width in bytes and its new content.
 ///
-/// The blocks are all those of the functions, the plan has each once, and the forms, one for each block in the plan's order,
-/// are those that `branch_fixup::forms` gives. The map has the spans that it gives, and all of them end at most at 7fff0000
-/// (hexadecimal).
+/// The blocks are all those of the functions, the plan has each once, and the forms, one for each block in the plan's
+/// order, are those that `branch_fixup::forms` gives. The map has the spans that it gives, and all of them end at most
+/// at 7fff0000 (hexadecimal).
 pub fn emit(
     alloc: Global,
     funcs: &[Func],
@@ -93,7 +94,8 @@ pub fn emit(
     // the code is that of one stretch of bytes
     ensures length { IfOk result
         (λ e. (base : ℕ) → AreMapped (strips_of funcs.now blocks.now plan.now.order.items) forms.now base moved.now →
-        base + length e.code.items ≡ new_code_end (strips_of funcs.now blocks.now plan.now.order.items) base forms.now) }
+        base + length e.code.items ≡ new_code_end (strips_of funcs.now blocks.now plan.now.order.items) base
+        forms.now) }
 
     // its instructions are those of the blocks in their forms, and no others
     ensures made { IfOk result
@@ -104,10 +106,12 @@ pub fn emit(
     // in every rewrite with this map that has the code there, each instruction is kept, and goes on to what followed it
     ensures insts { IfOk result
         (λ e. (base : ℕ) → AreMapped (strips_of funcs.now blocks.now plan.now.order.items) forms.now base moved.now →
-        (r : Rewrite) → Puts r funcs.now moved.now base e.code.items → All (KeepsInst r (Goes r.output)) (insts_of funcs.now)) }
+        (r : Rewrite) → Puts r funcs.now moved.now base e.code.items →
+        All (KeepsInst r (Goes r.output)) (insts_of funcs.now)) }
     ensures goes_on { IfOk result
         (λ e. (base : ℕ) → AreMapped (strips_of funcs.now blocks.now plan.now.order.items) forms.now base moved.now →
-        (r : Rewrite) → Puts r funcs.now moved.now base e.code.items → All (GoesOn r (Goes r.output)) (insts_of funcs.now)) }
+        (r : Rewrite) → Puts r funcs.now moved.now base e.code.items →
+        All (GoesOn r (Goes r.output)) (insts_of funcs.now)) }
     ensures cells { IfOk result (λ e. e.cells.items ≡ map (new_cell (new moved.now)) cells.now) }
 {
     let order = plan.order.as_slice();

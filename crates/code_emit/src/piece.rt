@@ -81,7 +81,8 @@ fn branch_goal(moved: &AddrMap, p: &Placed, inverted: bool) -> u64
     requires lows { AreLow moved.now }
     requires targets { HasLowTargets p.now }
     ensures low { result < 2 ^ 62 }
-    ensures value { result ≡ (if inverted then new moved.now (p.now.addr + p.now.len) else new_target (new moved.now) p.now) }
+    ensures value { result ≡ (if inverted then new moved.now (p.now.addr + p.now.len) else new_target
+        (new moved.now) p.now) }
 {
     if inverted {
         new_of(moved, p.addr + p.len as u64)

@@ -1,3 +1,4 @@
+mod GivenNames
 pub mod InArea
 pub mod NamedParts
 pub mod ReadFiles

@@ -1,5 +1,6 @@
 -- The symbols of a written file, beside those of its input. gABI, "Symbol Table".
-use Rattle.std.specs.Prelude.{◌≡◌, ℕ, ◌+◌, ◌*◌, ◌==◌, is_some, min, if◌then◌else◌, List, Some, IsFalse, IsTrue, MatchOption, IfSome}
+use Rattle.std.specs.Prelude.{◌≡◌, ℕ, ◌+◌, ◌*◌, ◌==◌, is_some, min, if◌then◌else◌, List, Some, IsFalse, IsTrue}
+use Rattle.std.specs.Prelude.{MatchOption, IfSome}
 use Rattle.std.specs.Prelude.{length, filter, take, drop}
 use Rattle.addr_map.specs.declared.span.Span.{Span}
 use Rattle.addr_map.specs.Spans.{moved}
@@ -61,7 +62,8 @@ new_info symbols added table = if added == 0 then table.info else local_count sy
 pub record AreNewSymbols (old new : List Symbol) (funcs : List Func) (spans : List Span) (cold : List ℕ) (text : ℕ)
     (table new_table : Section) : Type 0 where
   pub info : new_table.info ≡ new_info old (length (named_parts old funcs cold)) table
-  pub front : GoTogether (IsNewSymbol funcs spans text) (take (local_count old table) old) (take (local_count old table) new)
+  pub front : GoTogether (IsNewSymbol funcs spans text) (take (local_count old table) old)
+      (take (local_count old table) new)
   pub added : GoTogether (IsColdSymbol old funcs spans text) (named_parts old funcs cold)
       (take (length (named_parts old funcs cold)) (drop (local_count old table) new))
   pub behind : GoTogether (IsNewSymbol funcs spans text) (drop (local_count old table) old)

@@ -1,5 +1,5 @@
-// The names of sections and symbols by the places at which they begin, so that those which are ends of one text need not be
-// compared byte by byte. gABI, "String Table".
+// The names of sections and symbols by the places at which they begin, so that those which are ends of one text need
+// not be compared byte by byte. gABI, "String Table".
 ghost use Rattle.std.specs.Prelude.{◌≡◌, ◌+◌, ◌++◌, IfSome, IsTrue, List, length};
 ghost use Rattle.std.proofs.Props.{props};
 ghost use Rattle.elf_image.specs.declared.section.Section.{Section};
@@ -8,7 +8,7 @@ ghost use Rattle.elf_image.specs.faults.Truncation.{IsReadable};
 ghost use Rattle.elf_image.specs.file.Header.{e_shnum};
 ghost use Rattle.elf_image.specs.file.ParsedFile.{AreSections, AreSymbolsOf};
 ghost use Rattle.elf_image.specs.file.Symbols.{symbol_table};
-ghost use Rattle.elf_check.specs.EntryNames.{AreNamed, IsEnd};
+ghost use Rattle.elf_check.specs.EntryNames.{AreNamed, IsEnd, WasRead};
 
 use crate::name_parts::behind;
 use elf_image::Elf;
@@ -85,6 +85,22 @@ fn names_of_symbols<'a>(file: &'a [u8]) -> EntryNames<'a>
     }
 }
 
+// The names of the sections of a file that was read.
+fn section_names<'a>(elf: &Elf<'a>) -> EntryNames<'a>
+    requires { WasRead elf.now }
+    ensures { AreNamed (λ s. s.name.now) result 0 elf.now.sections.items }
+{
+    names_of_sections(elf.file)
+}
+
+// The names of the symbols of a file that was read.
+fn symbol_names<'a>(elf: &Elf<'a>) -> EntryNames<'a>
+    requires { WasRead elf.now }
+    ensures { AreNamed (λ s. s.name.now) result 0 elf.now.symbols.items }
+{
+    names_of_symbols(elf.file)
+}
+
 // Whether a zero byte ends a name that begins at a place.
 fn is_ended(texts: &[u8], place: u32, name: &[u8]) -> bool
     ensures { IsTrue result → IsEnd texts.now place (place + length name.now) }
@@ -128,7 +144,7 @@ impl<'a> KeptNames<'a> {
         ensures old { AreNamed (λ s. s.name.now) result.old 0 elf.now.sections.items }
         ensures new { AreNamed (λ s. s.name.now) result.new 0 written.now.sections.items }
     {
-        KeptNames::new(names_of_sections(elf.file), names_of_sections(written.file))
+        KeptNames::new(section_names(elf), section_names(written))
     }
 
     /// The names of the symbols of the input and of the written file.
@@ -138,11 +154,11 @@ impl<'a> KeptNames<'a> {
         ensures old { AreNamed (λ s. s.name.now) result.old 0 elf.now.symbols.items }
         ensures new { AreNamed (λ s. s.name.now) result.new 0 written.now.symbols.items }
     {
-        KeptNames::new(names_of_symbols(elf.file), names_of_symbols(written.file))
+        KeptNames::new(symbol_names(elf), symbol_names(written))
     }
 
-    // Whether the name that begins at a place stays, whose old text is given: it ends within the old table of names, as each
-    // name does in a file without a fault.
+    // Whether the name that begins at a place stays, whose old text is given: it ends within the old table of names,
+    // as each name does in a file without a fault.
     fn stays(&self, place: u32, name: &[u8]) -> bool
         ensures { IsTrue result → text_of self.now.new.texts.now place ≡ text_of self.now.old.texts.now place }
     {

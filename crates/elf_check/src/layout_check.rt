@@ -1,5 +1,5 @@
-// Whether a file that was written is laid out as it must be: its header, its table of program headers, and what stands behind
-// the bytes that it loads. gABI, "ELF Header", "Program Header" and "Section Header".
+// Whether a file that was written is laid out as it must be: its header, its table of program headers, and what stands
+// behind the bytes that it loads. gABI, "ELF Header", "Program Header" and "Section Header".
 ghost use Rattle.std.specs.Prelude.{◌≡◌, ◌+◌, ◌*◌, ◌++◌, ◌≤◌, IfOk, IsTrue, length, map, max};
 ghost use Rattle.elf_image.specs.file.Header.{e_shoff};
 ghost use Rattle.elf_image.specs.memory.Break.{rounded_up};
@@ -126,7 +126,8 @@ fn ends_with_headers(new: Header, sections: &[Section], end: u64) -> Result<bool
 pub fn is_laid_out(tables: &SectionTables) -> Result<bool, Unwritable>
     requires { IsArranged tables.now }
     ensures { IfOk result (λ holds. IsTrue holds →
-        spec.HasFileLayout tables.now.elf.now tables.now.new.now tables.now.tables.now tables.now.area tables.now.shift) }
+        spec.HasFileLayout tables.now.elf.now tables.now.new.now tables.now.tables.now tables.now.area
+        tables.now.shift) }
 {
     let elf = tables.elf;
     let new = tables.new;

@@ -110,7 +110,8 @@ impl<'a> NewNames<'a> {
     ghost use Rattle.elf_plan.specs.ColdSymbols.{named_around};
     ghost use Rattle.elf_plan.specs.FirstNames.{AreFirstNames};
     ghost use Rattle.elf_plan.specs.NameTables.{place_of_names};
-    ghost use Rattle.elf_check.specs.NewNames.{HaveNewNames, cold_names, extended, name_behind, names_added, table_bytes};
+    ghost use Rattle.elf_check.specs.NewNames.{HaveNewNames, cold_names, extended, name_behind, names_added};
+    ghost use Rattle.elf_check.specs.NewNames.{table_bytes};
     ghost use Rattle.elf_plan.specs.NewSections.{adds_ranges};
 
     // What follows the name of the symbol of the cold part that begins at an address, if it gets one.
@@ -123,7 +124,8 @@ impl<'a> NewNames<'a> {
         requires laid_out { AreLaidOut self.now.funcs.now }
         requires names { AreFirstNames self.now.tables.now.elf.now.symbols.items names.now }
         ensures { IfSome result (λ rest. bytes.now ≡
-            name_behind (named_around self.now.tables.now.elf.now.symbols.items self.now.funcs.now address) ++ rest.now) }
+            name_behind (named_around self.now.tables.now.elf.now.symbols.items self.now.funcs.now address)
+            ++ rest.now) }
     {
         match named_around(names, self.funcs, address) {
             Some(symbol) => behind_name(bytes, symbol.name, b".cold"),
@@ -153,7 +155,8 @@ impl<'a> NewNames<'a> {
     fn are_cold(&self, names: &BTreeMap<u64, Symbol>, bytes: &[u8]) -> bool
         requires laid_out { AreLaidOut self.now.funcs.now }
         requires names { AreFirstNames self.now.tables.now.elf.now.symbols.items names.now }
-        ensures { IsTrue result → bytes.now ≡ cold_names self.now.tables.now.elf.now self.now.funcs.now self.now.cold.now }
+        ensures { IsTrue result → bytes.now ≡ cold_names self.now.tables.now.elf.now self.now.funcs.now
+            self.now.cold.now }
     {
         match self.behind_cold_names(names, bytes) {
             Some(rest) => rest.is_empty(),

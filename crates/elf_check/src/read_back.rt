@@ -192,7 +192,8 @@ fn has_names_and_symbols(
         HaveNewNames source.now.elf.now tables.now.new.now tables.now.tables.now tables.now.area source.now.funcs.now
         source.now.cold.now) }
     ensures symbols { IfOk result (λ holds. IsTrue holds →
-        HaveNewSymbols source.now.elf.now tables.now.new.now source.now.funcs.now source.now.map.now source.now.cold.now) }
+        HaveNewSymbols source.now.elf.now tables.now.new.now source.now.funcs.now source.now.map.now
+        source.now.cold.now) }
 {
     if !has_names(source.names, tables, source.funcs, source.cold) {
         return Ok(false);
@@ -219,7 +220,8 @@ fn has_new_tables(
         AreaStands plan.now.area source.now.tables.now code.now new.now.file.now →
         AreNewSections source.now.elf.now new.now source.now.tables.now
         plan.now.area plan.now.shift code.now) }
-    ensures headers { IfOk result (λ holds. IsTrue holds → HasNewHeaders source.now.elf.now new.now source.now.tables.now
+    ensures headers { IfOk result (λ holds. IsTrue holds →
+        HasNewHeaders source.now.elf.now new.now source.now.tables.now
         plan.now.area plan.now.shift) }
     ensures names { IfOk result (λ holds. IsTrue holds → HaveNewNames source.now.elf.now new.now source.now.tables.now
         plan.now.area source.now.funcs.now source.now.cold.now) }
@@ -245,8 +247,8 @@ fn has_new_tables(
     has_names_and_symbols(alloc, source, &tables)
 }
 
-/// Whether the reader takes a file, and finds the sections, program headers, names, symbols and layout in it that the file
-/// must have. The bytes of its new area aren't looked at.
+/// Whether the reader takes a file, and finds the sections, program headers, names, symbols and layout in it that the
+/// file must have. The bytes of its new area aren't looked at.
 pub fn is_accepted(
     alloc: Global,
     source: &SectionSource,

@@ -99,9 +99,11 @@ impl<'a> SectionTables<'a> {
         requires arranged { IsArranged self.now }
         requires old { AreNamed (λ s. s.name.now) names.now.old 0 self.now.elf.now.sections.items }
         requires new { AreNamed (λ s. s.name.now) names.now.new 0 self.now.new.now.sections.items }
-        ensures called { IsTrue result → (i : ℕ) (s n : Section) → slice_get self.now.elf.now.sections.items i ≡ Some s →
+        ensures called { IsTrue result → (i : ℕ) (s n : Section) →
+            slice_get self.now.elf.now.sections.items i ≡ Some s →
             slice_get self.now.new.now.sections.items i ≡ Some n → n.name.now ≡ new_name s }
-        ensures follows { IsTrue result → (i : ℕ) (s n : Section) → slice_get self.now.elf.now.sections.items i ≡ Some s →
+        ensures follows { IsTrue result → (i : ℕ) (s n : Section) →
+            slice_get self.now.elf.now.sections.items i ≡ Some s →
             slice_get self.now.new.now.sections.items i ≡ Some n →
             Follows self.now.tables.now self.now.shift self.now.elf.now.file.now self.now.new.now.file.now
             (contents_of self.now.elf.now self.now.tables.now self.now.area self.now.shift i s) s n }

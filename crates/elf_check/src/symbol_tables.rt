@@ -74,7 +74,8 @@ impl<'a> SymbolTables<'a> {
         requires laid_out { AreLaidOut self.now.code.funcs.now }
         requires fragments { AreFragments self.now.code.funcs.now self.now.code.map.now self.now.code.fragments.now }
         ensures { IfOk result (λ holds. IsTrue holds →
-            AreNewSymbols self.now.old.now self.now.new.now self.now.code.funcs.now self.now.code.map.now self.now.cold.now
+            AreNewSymbols self.now.old.now self.now.new.now self.now.code.funcs.now self.now.code.map.now
+            self.now.cold.now
             self.now.code.text table.now new_table.now) }
     {
         let parts = self.code.named_parts(alloc, firsts, self.cold)?;

@@ -16,6 +16,7 @@ pub record HoldsTables {Y Z : Type 0} (tables : List (String Y × Vec ℕ Z)) (l
       (λ a. Stands layout.bytes.items (a - layout.area.start) (bytes_called tables (codes ".eh_frame_hdr")))
 
 -- A file that was made, with these tables in its area.
-pub record IsMadeWith {Y Z : Type 0} (s : Source) (tables : List (String Y × Vec ℕ Z)) (tight : Bool) (w : List ℕ) : Type 0 where
+pub record IsMadeWith {Y Z : Type 0} (s : Source) (tables : List (String Y × Vec ℕ Z)) (tight : Bool)
+    (w : List ℕ) : Type 0 where
   pub made : IsMade s tight w
   pub has_tables : HoldsTables tables made.layout

@@ -1,5 +1,6 @@
 -- What a written file has of its input's memory, and what else it has there.
-use Rattle.std.specs.Prelude.{◌≡◌, ◌⊎◌, ℕ, ◌+◌, ◌<◌, ◌≤◌, Bool, List, Contains, Some, IsTrue, IsFalse, IsSome, slice_index}
+use Rattle.std.specs.Prelude.{◌≡◌, ◌⊎◌, ℕ, ◌+◌, ◌<◌, ◌≤◌, Bool, List, Contains, Some, IsTrue, IsFalse, IsSome}
+use Rattle.std.specs.Prelude.{slice_index}
 use Rattle.std.specs.Prelude.{length}
 use Rattle.elf_image.specs.declared.segment.Segment.{Segment}
 use Rattle.elf_image.specs.memory.Image.{image_byte, is_load, is_loaded_with}
@@ -17,7 +18,8 @@ pub record CarriesSegment (input output : List ℕ) (changed : ℕ → Bool) (p 
 
 abbrev pub CarriesSegments : List ℕ → List ℕ → (ℕ → Bool) → List Segment → List Segment → Type 0
 CarriesSegments input output changed ps qs =
-    (p : Segment) → Contains ps p → IsTrue (is_load p) → (q : Segment) × Contains qs q × CarriesSegment input output changed p q
+    (p : Segment) → Contains ps p → IsTrue (is_load p) →
+    (q : Segment) × Contains qs q × CarriesSegment input output changed p q
 
 -- an address of the input in the written file
 pub record CarriesByte (output : List ℕ) (changed : Bool) (ps qs : List Segment) (a byte : ℕ) : Type 0 where
@@ -32,4 +34,5 @@ CarriesImage input output changed ps qs =
 
 -- bytes in memory, from an address on
 abbrev pub HoldsBytes : List ℕ → List Segment → ℕ → List ℕ → Type 0
-HoldsBytes file segments a bytes = (j : ℕ) → j < length bytes → image_byte file segments (a + j) ≡ Some (slice_index bytes j)
+HoldsBytes file segments a bytes = (j : ℕ) → j < length bytes →
+    image_byte file segments (a + j) ≡ Some (slice_index bytes j)

@@ -1,5 +1,6 @@
 -- Code cells as numbers that are put over the bytes of a file.
-use Rattle.std.specs.Prelude.{◌≡◌, ℕ, zero, suc, ◌+◌, ◌-◌, ◌/◌, ◌%◌, ◌<◌, ◌≤◌, nat_le, if◌then◌else◌, Bool, false, List, [], ◌∷◌}
+use Rattle.std.specs.Prelude.{◌≡◌, ℕ, zero, suc, ◌+◌, ◌-◌, ◌/◌, ◌%◌, ◌<◌, ◌≤◌, nat_le, if◌then◌else◌, Bool, false, List}
+use Rattle.std.specs.Prelude.{[], ◌∷◌}
 use Rattle.std.specs.Prelude.{flat_map, length, min, IsSomeAnd, slice_index_or}
 use Rattle.std.specs.Option.{option_map_or}
 use Rattle.elf_image.specs.declared.elf.Elf.{Elf}
@@ -45,7 +46,8 @@ pub record IsCellNumber (elf : Elf) (shift : Shift) (cell : ℕ × ℕ × ℕ) (
   pub width : number.width ≡ cell.1
   pub value : number.value ≡ cell.2
 
-pub record AreCellNumbers (elf : Elf) (shift : Shift) (cells : List (ℕ × ℕ × ℕ)) (numbers : List NumberAt) : Type 0 where
+pub record AreCellNumbers (elf : Elf) (shift : Shift) (cells : List (ℕ × ℕ × ℕ))
+    (numbers : List NumberAt) : Type 0 where
   pub count : length numbers ≡ length cells
   pub each : (i : ℕ) (c : ℕ × ℕ × ℕ) (n : NumberAt) → i < length cells →
       IsCellNumber elf shift (slice_index_or cells i c) (slice_index_or numbers i n)

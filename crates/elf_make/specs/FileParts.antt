@@ -23,7 +23,8 @@ use Rattle.elf_make.specs.PartPlaces.{IsAbove, IsBehind}
 use Rattle.elf_make.specs.Source.{Source}
 
 -- Where the loaded bytes of the input and the new area stand, for new code and for tables of these sizes.
-pub record IsLaidOut (elf : Elf) (tight : Bool) (code : List ℕ) (frames index : Option ℕ) (layout : Layout) : Type 0 where
+pub record IsLaidOut (elf : Elf) (tight : Bool) (code : List ℕ) (frames index : Option ℕ)
+    (layout : Layout) : Type 0 where
   pub executable : Segment
   pub found : executable_segment elf.segments.items ≡ Some (layout.code, executable)
   pub area : layout.area ≡ area_of elf.segments.items tight (length code) frames index
@@ -58,7 +59,8 @@ pub record IsPut (layout : Layout) (input tail : List ℕ) (cells : List NumberA
   pub cells_fit : All (CanPut (size_of layout.parts + length tail)) cells
   pub fields_fit : All (CanPut (size_of layout.parts + length tail)) fields
   pub table_fits : table_at + length (segment_table segments) ≤ size_of layout.parts + length tail
-  pub assembled : IsAssembled layout.parts input layout.bytes.items tail cells table_at (segment_table segments) fields w
+  pub assembled : IsAssembled layout.parts input layout.bytes.items tail cells table_at
+      (segment_table segments) fields w
 
 -- All of it.
 pub record IsMade (s : Source) (tight : Bool) (w : List ℕ) : Type 0 where
@@ -69,7 +71,8 @@ pub record IsMade (s : Source) (tight : Bool) (w : List ℕ) : Type 0 where
   pub are_cells : AreCellNumbers s.elf layout.shift s.cells cells
   -- the program headers, and where their table stands
   pub segments : List Segment
-  pub are_headers : AreNewHeaders layout.shift.from layout.shift.by layout.area layout.code s.elf.segments.items segments
+  pub are_headers : AreNewHeaders layout.shift.from layout.shift.by layout.area layout.code s.elf.segments.items
+      segments
   pub table_at : ℕ
   pub table_place : IsTablePlace s.elf layout.area layout.shift (size_of layout.parts) table_at
   -- the fields of the file's header

@@ -16,7 +16,8 @@ pub record IsAbove (segments : List Segment) (area : Area) (parts : Parts) : Typ
 
 -- the area behind the executable segment: what is loaded there moves, if there is anything
 abbrev pub MovesFrom : Option ℕ → List Segment → Area → Shift → Parts → Type 0
-MovesFrom None segments area shift parts = (parts.low ≡ 0) × (parts.high ≡ 0) × (parts.behind_at ≡ area_offset area area.end)
+MovesFrom None segments area shift parts = (parts.low ≡ 0) × (parts.high ≡ 0)
+    × (parts.behind_at ≡ area_offset area area.end)
 MovesFrom (Some low) segments area shift parts =
     (parts.low ≡ low) × (parts.high ≡ loads_end segments) × (parts.behind_at ≡ low + shift.by)
 

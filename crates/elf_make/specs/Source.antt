@@ -1,5 +1,6 @@
 -- What a file is written of, and where its new code stands.
-use Rattle.std.specs.Prelude.{ℕ, ◌+◌, ◌-◌, ◌<◌, ◌≤◌, ◌||◌, if◌then◌else◌, Bool, List, Option, String, Vec, codes, length}
+use Rattle.std.specs.Prelude.{ℕ, ◌+◌, ◌-◌, ◌<◌, ◌≤◌, ◌||◌, if◌then◌else◌, Bool, List, Option, String, Vec, codes}
+use Rattle.std.specs.Prelude.{length}
 use Rattle.std.specs.List.{list_any}
 use Rattle.rv_code.specs.declared.layout.Emitted.{Emitted}
 use Rattle.elf_image.specs.declared.elf.Elf.{Elf}
@@ -37,8 +38,8 @@ source_of elf emitted spans tables = record {
 abbrev pub source_area : Source → Bool → Area
 source_area s tight = area_of s.elf.segments.items tight (length s.code) s.frames s.index
 
--- The map puts the new code behind the executable segment, or in a segment of its own if tight,
--- and all of the new area has room there.
+-- The map puts the new code behind the executable segment, or in a segment of its own if tight, and all of the new
+-- area has room there.
 pub record HasPlace (s : Source) (tight : Bool) : Type 0 where
   pub some : 0 < length s.code
   pub stretch : IsStretch s.spans (area_start_of s.elf.segments.items tight)
@@ -46,11 +47,11 @@ pub record HasPlace (s : Source) (tight : Bool) : Type 0 where
   pub fits : (source_area s tight).end - (source_area s tight).start ≤
       (if tight then room_above s.elf.segments.items else room s.elf.segments.items)
 
--- The bytes in memory that may differ: those of code cells, of the field of the entry point,
--- and of hidden fields.
+-- The bytes in memory that may differ: those of code cells, of the field of the entry point, and of hidden fields.
 abbrev pub cell_range : ℕ × ℕ × ℕ → Range
 cell_range cell = record { start = cell.0; size = cell.1 }
 
 abbrev pub is_changed : Source → Bool → ℕ → Bool
 is_changed s tight a =
-    list_any (λ cell. is_in_range a (cell_range cell)) s.cells || is_in_entry_field s.elf a || is_hidden_field s.elf tight a
+    list_any (λ cell. is_in_range a (cell_range cell)) s.cells || is_in_entry_field s.elf a
+    || is_hidden_field s.elf tight a

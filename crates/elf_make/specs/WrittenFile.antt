@@ -16,8 +16,7 @@ use Rattle.elf_make.specs.FrontBytes.{KeepsFront}
 use Rattle.elf_plan.specs.NewSegments.{AreNewHeaders}
 use Rattle.elf_make.specs.Source.{Source, is_changed, source_area}
 
--- Code cells are fields that the file loads,
--- of which none shares a byte with another or with the file's headers.
+-- Code cells are fields that the file loads, of which none shares a byte with another or with the file's headers.
 pub record CanHold (elf : Elf) (cell : ℕ × ℕ × ℕ) : Type 0 where
   pub width : (cell.1 ≡ 4) ⊎ (cell.1 ≡ 8)
   pub fits : cell.2 < 256 ^ cell.1
@@ -36,8 +35,8 @@ pub record KeepsPlaces (elf : Elf) (tight : Bool) (w : List ℕ) : Type 0 where
   pub break_start_is : break_start elf.segments.items ≡ break_start (segments_of w)
   pub break_bound_is : break_bound elf.segments.items ≡ break_bound (segments_of w)
 
--- The program headers are those of the input, of which the executable segment's has an index,
--- and one more where a file is tight.
+-- The program headers are those of the input, of which the executable segment's has an index, and one more where a
+-- file is tight.
 abbrev pub FollowsHeaders : Source → Bool → List ℕ → Type 0
 FollowsHeaders s tight w =
     let segments = s.elf.segments.items in

@@ -67,7 +67,8 @@ fn pieces(
     Ok(pieces)
 }
 
-// Where a code cell stands in the written file, and what it holds. One that a segment doesn't load whole has no such place.
+// Where a code cell stands in the written file, and what it holds. One that a segment doesn't load whole has no such
+// place.
 fn cell_number(elf: &Elf, shift: &Shift, cell: &(u64, u8, u64)) -> Result<NumberAt, Unwritable>
     ensures { IfOk result (IsCellNumber elf.now shift.now cell.now) }
 {

@@ -176,8 +176,9 @@ fn place_bytes(
     Ok(())
 }
 
-/// Where contents that are written from an offset on will end, in an order of their indices. No file is so large that they
-/// would be written for nothing, and none is many times as large as the input: such a file has zeros before a huge alignment.
+/// Where contents that are written from an offset on will end, in an order of their indices. No file is so large that
+/// they would be written for nothing, and none is many times as large as the input: such a file has zeros before a
+/// huge alignment.
 pub fn contents_end<'a>(
     elf: &Elf<'a>,
     contents: &[Contents],
@@ -201,8 +202,8 @@ pub fn contents_end<'a>(
     Ok(end)
 }
 
-/// Writes the contents of sections behind the loaded bytes, in an order of their indices, and sets what their headers say
-/// of them.
+/// Writes the contents of sections behind the loaded bytes, in an order of their indices, and sets what their headers
+/// say of them.
 pub fn place_contents<'a>(
     elf: &Elf<'a>,
     contents: &[Contents],

@@ -49,7 +49,8 @@ impl Layout {
         tables: &[Table],
     ) -> Result<Layout, Unwritable>
         requires { IsPlanOf elf.now tables.now code.now plan.now.area.tight plan.now }
-        ensures laid_out { IfOk result (IsLaidOut elf.now plan.now.area.tight code.now (spec.table_size tables.now (codes ".eh_frame"))
+        ensures laid_out { IfOk result (IsLaidOut elf.now plan.now.area.tight code.now
+            (spec.table_size tables.now (codes ".eh_frame"))
             (spec.table_size tables.now (codes ".eh_frame_hdr"))) }
         ensures tables { IfOk result (HoldsTables tables.now) }
     {
@@ -76,8 +77,8 @@ impl Layout {
     }
 }
 
-/// Whether a map puts the new code into a segment of its own: no byte of it stands where it would start behind the executable
-/// segment.
+/// Whether a map puts the new code into a segment of its own: no byte of it stands where it would start behind the
+/// executable segment.
 pub fn is_above(elf: &Elf, map: &AddrMap) -> Result<bool, Unwritable>
     ensures { IfOk result (λ above. above ≡ is_none (owner map.now (area_start elf.now.segments.items))) }
 {

@@ -47,7 +47,8 @@ fn put_together(
     requires can { PartsFit layout.now.parts (length elf.now.file.now) (length layout.now.bytes.items) }
     requires base { tail.now.base ≡ size_of layout.now.parts }
     ensures { IfOk result
-        (λ w. IsPut layout.now elf.now.file.now tail.now.bytes.items cells.now segments.now fields.now table_at w.items) }
+        (λ w. IsPut layout.now elf.now.file.now tail.now.bytes.items cells.now segments.now fields.now table_at
+        w.items) }
 {
     let mut table = Vec::new(alloc);
     put_segments(&mut table, segments)?;

@@ -26,8 +26,8 @@ use elf_plan::unwritable::Unwritable;
 use elf_plan::weights::weight_by;
 use std::alloc::Global;
 
-// How many times the bytes of the input the tables of names and the copied contents may take together. Where no bytes are
-// shared they take about once as many.
+// How many times the bytes of the input the tables of names and the copied contents may take together. Where no bytes
+// are shared they take about once as many.
 const MOST_COPIES: u64 = 16;
 
 /// The sections of a written file.

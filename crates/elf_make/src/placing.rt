@@ -65,8 +65,8 @@ fn can_stand(parts: &Parts, input: usize, area: usize) -> bool
         && parts.high <= input
 }
 
-/// How the loaded bytes of the input lie beside an area of so many bytes. Where they can't, as where the area would stand
-/// on the file's header, no memory has room for the file.
+/// How the loaded bytes of the input lie beside an area of so many bytes. Where they can't, as where the area would
+/// stand on the file's header, no memory has room for the file.
 pub fn parts_of(
     segments: &[Segment],
     area: &Area,
@@ -77,7 +77,8 @@ pub fn parts_of(
     ensures can { IfOk result (λ parts. PartsFit parts input bytes) }
     ensures header { IfOk result (λ parts. 64 ≤ parts.keep) }
     ensures above { IfOk result (λ parts. area.now.tight ≡ true → spec.IsAbove segments.now area.now parts) }
-    ensures behind { IfOk result (λ parts. area.now.tight ≡ false → spec.IsBehind segments.now area.now shift.now parts) }
+    ensures behind { IfOk result (λ parts. area.now.tight ≡ false →
+        spec.IsBehind segments.now area.now shift.now parts) }
 {
     let parts = if area.tight {
         tight_parts(segments, area)?

@@ -14,7 +14,8 @@ abbrev pub header_patches : ℕ → List ℕ → List NumberAt → List Patch
 header_patches table_at table fields = record { offset = table_at; bytes = table } ∷ map patch_of fields
 
 -- It was joined of its parts, got a tail, and had code cells and then headers put over its bytes.
-pub record IsAssembled (parts : Parts) (input area tail : List ℕ) (cells : List NumberAt) (table_at : ℕ) (table : List ℕ)
+pub record IsAssembled (parts : Parts) (input area tail : List ℕ) (cells : List NumberAt) (table_at : ℕ)
+    (table : List ℕ)
     (fields : List NumberAt) (written : List ℕ) : Type 0 where
   pub base : List ℕ
   pub joined : HasParts parts input area base

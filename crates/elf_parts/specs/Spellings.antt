@@ -52,18 +52,6 @@ pub record SegmentFits (p : Segment) : Type 0 where
   pub memsz : p.memsz < 256 ^ 8
   pub align : p.align < 256 ^ 8
 
-pub record SectionFits (s : SectionHeader) : Type 0 where
-  pub name : s.name < 256 ^ 4
-  pub kind : s.kind < 256 ^ 4
-  pub flags : s.flags < 256 ^ 8
-  pub addr : s.addr < 256 ^ 8
-  pub offset : s.offset < 256 ^ 8
-  pub size : s.size < 256 ^ 8
-  pub link : s.link < 256 ^ 4
-  pub info : s.info < 256 ^ 4
-  pub align : s.align < 256 ^ 8
-  pub entsize : s.entsize < 256 ^ 8
-
 -- tables of them
 unfoldable pub segment_table : List Segment → List ℕ
 segment_table [] = []

@@ -1,10 +1,10 @@
 // Headers and symbols written as bytes. gABI, "Program Header", "Section Header" and "Symbol Table".
 ghost use Rattle.std.specs.Prelude.{◌≡◌, ◌++◌, All, OnOk};
-ghost use Rattle.byteorder.specs.Endian.{little_bytes};
 ghost use Rattle.elf_parts.specs.Spellings as spec;
 
 use elf_image::{SectionHeader, Segment};
 use rb_bytes::fault::NoMemory;
+use rb_bytes::little::{put_u8, put_u16, put_u32, put_u64};
 
 /// An entry of the symbol table, with its fields in the order of the file. gABI, "Symbol Table".
 #[derive(Clone, Copy, PartialEq, Eq, Debug)]
@@ -23,36 +23,8 @@ pub struct SymbolEntry {
     pub size: u64,
 }
 
-fn put_u8(out: &mut Vec<u8>, value: u8) -> Result<(), NoMemory>
-    ensures { OnOk result (out.new.items ≡ out.old.items ++ little_bytes 1 value) }
-{
-    out.extend_from_slice(&value.to_le_bytes())?;
-    Ok(())
-}
-
-fn put_u16(out: &mut Vec<u8>, value: u16) -> Result<(), NoMemory>
-    ensures { OnOk result (out.new.items ≡ out.old.items ++ little_bytes 2 value) }
-{
-    out.extend_from_slice(&value.to_le_bytes())?;
-    Ok(())
-}
-
-fn put_u32(out: &mut Vec<u8>, value: u32) -> Result<(), NoMemory>
-    ensures { OnOk result (out.new.items ≡ out.old.items ++ little_bytes 4 value) }
-{
-    out.extend_from_slice(&value.to_le_bytes())?;
-    Ok(())
-}
-
-fn put_u64(out: &mut Vec<u8>, value: u64) -> Result<(), NoMemory>
-    ensures { OnOk result (out.new.items ≡ out.old.items ++ little_bytes 8 value) }
-{
-    out.extend_from_slice(&value.to_le_bytes())?;
-    Ok(())
-}
-
-/// Appends a program header.
-pub fn put_segment(out: &mut Vec<u8>, p: &Segment) -> Result<(), NoMemory>
+// Appends a program header.
+fn put_segment(out: &mut Vec<u8>, p: &Segment) -> Result<(), NoMemory>
     ensures bytes { OnOk result (out.new.items ≡ out.old.items ++ spec.segment_bytes p.now) }
     ensures fits { OnOk result (spec.SegmentFits p.now) }
 {
@@ -79,8 +51,8 @@ pub fn put_segments(out: &mut Vec<u8>, segments: &[Segment]) -> Result<(), NoMem
     Ok(())
 }
 
-/// Appends a section header.
-pub fn put_section(out: &mut Vec<u8>, s: &SectionHeader) -> Result<(), NoMemory>
+// Appends a section header.
+fn put_section(out: &mut Vec<u8>, s: &SectionHeader) -> Result<(), NoMemory>
     ensures { OnOk result (out.new.items ≡ out.old.items ++ spec.section_header_bytes s.now) }
 {
     put_u32(out, s.name)?;

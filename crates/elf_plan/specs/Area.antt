@@ -1,5 +1,6 @@
 -- The new area: the new code, and behind it the tables that are loaded.
-use Rattle.std.specs.Prelude.{ℕ, ◌+◌, ◌-◌, ◌&&◌, nat_le, nat_lt, max, min, if◌then◌else◌, Bool, List, Option, Some, None, fold}
+use Rattle.std.specs.Prelude.{ℕ, ◌+◌, ◌-◌, ◌&&◌, nat_le, nat_lt, max, min, if◌then◌else◌, Bool, List, Option, Some}
+use Rattle.std.specs.Prelude.{None, fold}
 use Rattle.std.specs.Prelude.{filter, map}
 use Rattle.std.specs.Option.{option_map_or}
 use Rattle.elf_image.specs.declared.segment.Segment.{Segment}
@@ -29,7 +30,8 @@ lower_start None p = Some p.offset
 lower_start (Some low) p = Some (min p.offset low)
 
 abbrev pub lowest_behind : ℕ → List Segment → Option ℕ
-lowest_behind offset segments = fold lower_start None (filter (λ p. has_file_bytes p && nat_le offset p.offset) segments)
+lowest_behind offset segments = fold lower_start None (filter (λ p. has_file_bytes p && nat_le offset p.offset)
+    segments)
 
 -- The executable segment, of a file that has one; else a header of zeros.
 abbrev pub no_segment : Segment

@@ -1,5 +1,6 @@
 -- Where the contents of the input's sections are in a written file. gABI, "Section Header".
-use Rattle.std.specs.Prelude.{ℕ, ◌+◌, ◌==◌, ◌&&◌, ◌||◌, not, nat_le, if◌then◌else◌, Bool, false, List, [], Option, None, String}
+use Rattle.std.specs.Prelude.{ℕ, ◌+◌, ◌==◌, ◌&&◌, ◌||◌, not, nat_le, if◌then◌else◌, Bool, false, List, [], Option, None}
+use Rattle.std.specs.Prelude.{String}
 use Rattle.std.specs.Prelude.{Vec, string_bytes, codes, position, take, drop}
 use Rattle.std.specs.List.{list_any}
 use Rattle.std.specs.Option.{option_map_or}
@@ -16,7 +17,8 @@ use Rattle.elf_plan.specs.declared.area.Area.{Area}
 use Rattle.elf_plan.specs.declared.area.Shift.{Shift}
 use Rattle.elf_plan.specs.declared.section_bytes.TheConstants.{SHT_NULL}
 use Rattle.elf_plan.specs.declared.sections.Contents.{Contents}
-use Rattle.elf_plan.specs.declared.sections.Contents.TheVariants.{Dropped, Inactive, Kept, Copied, SectionNames, Symbols, SymbolNames}
+use Rattle.elf_plan.specs.declared.sections.Contents.TheVariants.{Dropped, Inactive, Kept, Copied, SectionNames}
+use Rattle.elf_plan.specs.declared.sections.Contents.TheVariants.{Symbols, SymbolNames}
 use Rattle.elf_plan.specs.declared.sections.Contents.TheVariants.{Given}
 use Rattle.elf_plan.specs.Area.{loads_end}
 use Rattle.elf_plan.specs.NameTables.{place_of_symbols, place_of_names}
@@ -32,8 +34,7 @@ has_code_addresses name = bytes_eq name (codes ".debug_macro") || bytes_eq name 
 abbrev pub is_left_out : Section → Bool
 is_left_out s = (s.kind == SHT_RELA) || (not (is_loaded s) && has_code_addresses s.name.now)
 
--- Bytes of the file are among those that keep their offsets,
--- or that move with a segment behind the executable one.
+-- Bytes of the file are among those that keep their offsets, or that move with a segment behind the executable one.
 abbrev pub moves_with : ℕ → ℕ → ℕ → Segment → Bool
 moves_with file_end start end p =
     is_load p && (nat_le file_end p.offset && (nat_le p.offset start && nat_le end (p.offset + p.filesz)))
@@ -43,8 +44,8 @@ stays segments area shift start end =
     if area.tight then nat_le end (loads_end segments)
     else nat_le end shift.from || list_any (moves_with shift.from start end) segments
 
--- The table of a name takes the place of the section of an index: not those of the unwind tables,
--- which stand in the new area.
+-- The table of a name takes the place of the section of an index: not those of the unwind tables, which stand in the
+-- new area.
 abbrev pub is_at : ℕ → Option ℕ → Bool
 is_at index place = option_map_or (λ i. i == index) place false
 
@@ -66,8 +67,8 @@ own_contents segments area shift s =
     else if is_loaded s && ((s.size == 0) || stays segments area shift s.offset (s.offset + s.size)) then Kept
     else Copied
 
--- Where those of the section of an index are, by the indices of the tables of names and symbols,
--- and by the table that takes its place.
+-- Where those of the section of an index are, by the indices of the tables of names and symbols, and by the table
+-- that takes its place.
 abbrev pub contents_by : ℕ → Option ℕ → Option ℕ → Option ℕ → Contents → ℕ → Section → Contents
 contents_by names symbols symbol_names table own index s =
     if names == index then SectionNames
@@ -78,5 +79,6 @@ contents_by names symbols symbol_names table own index s =
 
 abbrev pub contents_of : {Y Z : Type 0} → Elf → List (String Y × Vec ℕ Z) → Area → Shift → ℕ → Section → Contents
 contents_of elf tables area shift index s =
-    contents_by (e_shstrndx elf.file.now) (place_of_symbols elf) (place_of_names elf) (table_for tables elf.sections.items index)
+    contents_by (e_shstrndx elf.file.now) (place_of_symbols elf) (place_of_names elf)
+    (table_for tables elf.sections.items index)
     (own_contents elf.segments.items area shift s) index s

@@ -1,6 +1,7 @@
 -- How a written file is laid out: the fields of its header, its table of program headers, and what stands behind
 -- the bytes that it loads. gABI, "ELF Header", "Program Header" and "Section Header".
-use Rattle.std.specs.Prelude.{◌≡◌, ℕ, ◌+◌, ◌-◌, ◌*◌, ◌||◌, nat_lt, max, if◌then◌else◌, Bool, false, true, List, [], ◌∷◌, ◌++◌}
+use Rattle.std.specs.Prelude.{◌≡◌, ℕ, ◌+◌, ◌-◌, ◌*◌, ◌||◌, nat_lt, max, if◌then◌else◌, Bool, false, true, List, [], ◌∷◌}
+use Rattle.std.specs.Prelude.{◌++◌}
 use Rattle.std.specs.Prelude.{IsSomeAnd, IsTrue, String, Vec, length, map, slice_get, slice_range}
 use Rattle.std.specs.List.{list_any}
 use Rattle.std.specs.Option.{option_map_or}
@@ -35,7 +36,8 @@ abbrev pub loaded_end : List Segment → Area → Shift → ℕ
 loaded_end segments area shift =
     if area.tight
     then area_offset area area.end
-    else option_map_or (λ low. loads_end segments + shift.by) (lowest_behind shift.from segments) (area_offset area area.end)
+    else option_map_or (λ low. loads_end segments + shift.by) (lowest_behind shift.from segments)
+    (area_offset area area.end)
 
 -- The table of program headers.
 
@@ -72,13 +74,15 @@ contents_start elf area shift =
 
 -- A section has this offset and this index, and passes a test.
 abbrev pub PassesAt : List Section → (ℕ → Section → Bool) → ℕ × ℕ → Type 0
-PassesAt sections test place = IsSomeAnd (slice_get sections place.1) (λ s. (s.offset ≡ place.0) × IsTrue (test place.1 s))
+PassesAt sections test place = IsSomeAnd (slice_get sections place.1)
+    (λ s. (s.offset ≡ place.0) × IsTrue (test place.1 s))
 
 -- The contents of the section of an index stand at the least multiple of their alignment, of which 0 is none,
 -- at or behind an offset, and end before another.
 abbrev pub StandsBehind : List Section → ℕ → ℕ → ℕ → Type 0
 StandsBehind sections start index end =
-    IsSomeAnd (slice_get sections index) (λ n. (n.offset ≡ rounded_up (max 1 n.align) start) × (end ≡ n.offset + n.size))
+    IsSomeAnd (slice_get sections index) (λ n. (n.offset ≡ rounded_up (max 1 n.align) start)
+    × (end ≡ n.offset + n.size))
 
 -- those of the sections of some indices, one behind another
 abbrev pub StandFrom : List Section → ℕ → List ℕ → ℕ → Type 0
@@ -90,7 +94,8 @@ StandFrom sections start (index ∷ indices) end =
 abbrev pub added_ranges : Bool → ℕ → List ℕ
 added_ranges adds count = if adds then (count - 1) ∷ [] else []
 
-pub record HasFileLayout {Y Z : Type 0} (elf new : Elf) (tables : List (String Y × Vec ℕ Z)) (area : Area) (shift : Shift)
+pub record HasFileLayout {Y Z : Type 0} (elf new : Elf) (tables : List (String Y × Vec ℕ Z)) (area : Area)
+    (shift : Shift)
     : Type 0 where
   pub header : KeepsHeaderFields elf.file.now new.file.now
   pub table : e_phoff new.file.now ≡ table_place elf area shift
@@ -100,7 +105,8 @@ pub record HasFileLayout {Y Z : Type 0} (elf new : Elf) (tables : List (String Y
   -- where these contents stand, and where they end
   pub end : ℕ
   pub stand : StandFrom new.sections.items (contents_start elf area shift)
-      (map (λ place. place.1) order ++ added_ranges (adds_ranges elf.sections.items tables) (length new.sections.items)) end
+      (map (λ place. place.1) order ++ added_ranges (adds_ranges elf.sections.items tables) (length new.sections.items))
+      end
   -- The section headers come last.
   pub headers : e_shoff new.file.now ≡ rounded_up 8 end
   pub size : length new.file.now ≡ e_shoff new.file.now + SHDR_SIZE * length new.sections.items

@@ -12,8 +12,7 @@ pub record HasByte (funcs : List Func) (spans : List Span) (f b : ℕ) : Type 0 
   pub low : span.out ≤ b
   pub high : b < span.out + span.len
 
--- The new code from an address on, for so many bytes, is that of one function,
--- and no more of it follows there.
+-- The new code from an address on, for so many bytes, is that of one function, and no more of it follows there.
 pub record IsFragment (funcs : List Func) (spans : List Span) (f to size : ℕ) : Type 0 where
   pub own : All (λ s. 0 < s.len → to ≤ s.out → s.out < to + size →
       (function_at funcs s.input ≡ Some f) × (s.out + s.len ≤ to + size)) spans

@@ -1,7 +1,9 @@
 -- The program headers of a written file, and where their bytes are. gABI, "Program Header".
-use Rattle.std.specs.Prelude.{◌≡◌, ℕ, ◌+◌, ◌-◌, ◌*◌, ◌<◌, ◌==◌, ◌&&◌, not, nat_le, nat_lt, max, min, if◌then◌else◌, Bool}
+use Rattle.std.specs.Prelude.{◌≡◌, ℕ, ◌+◌, ◌-◌, ◌*◌, ◌<◌, ◌==◌, ◌&&◌, not, nat_le, nat_lt, max, min, if◌then◌else◌}
+use Rattle.std.specs.Prelude.{Bool}
 use Rattle.std.specs.Prelude.{true, false}
-use Rattle.std.specs.Prelude.{List, Option, Some, None, String, Vec, IfSome, IsSomeAnd, codes, length, map, option_map, slice_get}
+use Rattle.std.specs.Prelude.{List, Option, Some, None, String, Vec, IfSome, IsSomeAnd, codes, length, map, option_map}
+use Rattle.std.specs.Prelude.{slice_get}
 use Rattle.std.specs.Prelude.{unwrap_or}
 use Rattle.std.specs.List.{list_any}
 use Rattle.std.specs.Option.{option_map_or}
@@ -35,8 +37,8 @@ abbrev pub is_unloaded : List Segment → Segment → Bool
 is_unloaded segments p =
     not (is_load p) && (nat_lt 0 p.filesz && not (list_any (loads_one p.offset (p.offset + p.filesz)) segments))
 
--- They follow the first section that holds them all, of those whose contents stand in the file,
--- aren't loaded, and are written behind the loaded bytes.
+-- They follow the first section that holds them all, of those whose contents stand in the file, aren't loaded, and
+-- are written behind the loaded bytes.
 abbrev pub can_hold : Contents → Section → Bool
 can_hold contents s = is_written contents && (not (is_loaded s) && not (s.kind == SHT_NOBITS))
 
@@ -149,5 +151,6 @@ outline_of new tables area shift = record {
 
 abbrev pub HasNewHeaders : {Y Z : Type 0} → Elf → Elf → List (String Y × Vec ℕ Z) → Area → Shift → Type 0
 HasNewHeaders elf new tables area shift = IfSome (executable_segment elf.segments.items) (λ e.
-    ArePlaced (contents_of elf tables area shift) elf.segments.items elf.sections.items (map (λ n. n.offset) new.sections.items)
+    ArePlaced (contents_of elf tables area shift) elf.segments.items elf.sections.items
+    (map (λ n. n.offset) new.sections.items)
     (outline_of new tables area shift) e.0 new.segments.items)

@@ -34,12 +34,15 @@ first_for loaded extents p =
     else None
 
 -- Where the contents of sections are is what is known of each by its index.
-pub record AreContents (contents : ℕ → Section → Contents) (sections : List Section) (found : List Contents) : Type 0 where
+pub record AreContents (contents : ℕ → Section → Contents) (sections : List Section)
+    (found : List Contents) : Type 0 where
   pub count : length found ≡ length sections
-  pub each : (i : ℕ) (s : Section) (c : Contents) → slice_get sections i ≡ Some s → slice_get found i ≡ Some c → c ≡ contents i s
+  pub each : (i : ℕ) (s : Section) (c : Contents) → slice_get sections i ≡ Some s → slice_get found i ≡ Some c →
+      c ≡ contents i s
 
 -- the sections that headers follow
-pub record AreHomes (segments : List Segment) (sections : List Section) (found : List Contents) (homes : List (Option ℕ)) :
+pub record AreHomes (segments : List Segment) (sections : List Section) (found : List Contents)
+    (homes : List (Option ℕ)) :
     Type 0 where
   pub count : length homes ≡ length segments
   pub each : (contents : ℕ → Section → Contents) → AreContents contents sections found → (i : ℕ) (p : Segment)

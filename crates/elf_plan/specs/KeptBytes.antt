@@ -1,5 +1,5 @@
--- The bytes of the input that keep their offsets in a written file,
--- or move with the segments behind the executable one.
+-- The bytes of the input that keep their offsets in a written file, or move with the segments behind the executable
+-- one.
 use Rattle.std.specs.Prelude.{ℕ, ◌≤◌, ◌<◌, ◌⊎◌, ◌↔◌, IsTrue, List}
 use Rattle.elf_image.specs.declared.extent.Extent.{Extent}
 use Rattle.elf_image.specs.declared.segment.Segment.{Segment}

@@ -1,5 +1,6 @@
 -- The sections of a written file, beside those of its input. gABI, "Section Header".
-use Rattle.std.specs.Prelude.{◌≡◌, ℕ, ◌+◌, ◌-◌, ◌%◌, ◌==◌, ◌&&◌, is_none, is_some, min, max, if◌then◌else◌, Bool, List, []}
+use Rattle.std.specs.Prelude.{◌≡◌, ℕ, ◌+◌, ◌-◌, ◌%◌, ◌==◌, ◌&&◌, is_none, is_some, min, max, if◌then◌else◌, Bool, List}
+use Rattle.std.specs.Prelude.{[]}
 use Rattle.std.specs.Prelude.{Some, IfSome, IsTrue, String, Vec, string_bytes, codes, find, length, slice_get}
 use Rattle.std.specs.Option.{option_map_or}
 use Rattle.std.specs.Str.{bytes_eq}
@@ -7,7 +8,8 @@ use Rattle.rv_code.specs.isa.Op.{flag}
 use Rattle.elf_image.specs.declared.elf.Elf.{Elf}
 use Rattle.elf_image.specs.declared.section.Section.{Section}
 use Rattle.elf_image.specs.declared.relocation.TheConstants.{SHT_RELA}
-use Rattle.elf_image.specs.declared.section.TheConstants.{SHT_NOBITS, SHT_PROGBITS, SHT_STRTAB, SHF_ALLOC, SHF_EXECINSTR}
+use Rattle.elf_image.specs.declared.section.TheConstants.{SHT_NOBITS, SHT_PROGBITS, SHT_STRTAB, SHF_ALLOC}
+use Rattle.elf_image.specs.declared.section.TheConstants.{SHF_EXECINSTR}
 use Rattle.elf_image.specs.file.Header.{e_shstrndx}
 use Rattle.elf_image.specs.file.SectionNames.{is_loaded, names_debug, section_called}
 use Rattle.elf_image.specs.file.Sections.{holds_code}
@@ -15,7 +17,8 @@ use Rattle.elf_plan.specs.declared.area.Area.{Area}
 use Rattle.elf_plan.specs.declared.area.Shift.{Shift}
 use Rattle.elf_plan.specs.declared.section_bytes.TheConstants.{SHT_NULL}
 use Rattle.elf_plan.specs.declared.sections.Contents.{Contents}
-use Rattle.elf_plan.specs.declared.sections.Contents.TheVariants.{Dropped, Inactive, Kept, Copied, SectionNames, Symbols, SymbolNames}
+use Rattle.elf_plan.specs.declared.sections.Contents.TheVariants.{Dropped, Inactive, Kept, Copied, SectionNames}
+use Rattle.elf_plan.specs.declared.sections.Contents.TheVariants.{Symbols, SymbolNames}
 use Rattle.elf_plan.specs.declared.sections.Contents.TheVariants.{Given}
 use Rattle.elf_plan.specs.Area.{moved_by, area_offset}
 use Rattle.elf_plan.specs.Contents.{contents_of, section_bytes}
@@ -46,8 +49,8 @@ pub record HoldsContents (w bytes : List ℕ) (n : Section) : Type 0 where
   pub size : n.size ≡ length bytes
   pub aligned : IsAligned n
 
--- A header of no section says nothing but its name. One that was loaded and has the name of a debug table still says that it is
--- loaded, since the name would mean it otherwise.
+-- A header of no section says nothing but its name. One that was loaded and has the name of a debug table still says
+-- that it is loaded, since the name would mean it otherwise.
 abbrev pub flags_left : Section → ℕ
 flags_left s = if is_loaded s && names_debug s.name.now then SHF_ALLOC else 0
 
@@ -107,7 +110,8 @@ abbrev pub given_bytes : {Y Z : Type 0} → List (String Y × Vec ℕ Z) → ℕ
 given_bytes tables t = option_map_or (λ table. table.1.items) (slice_get tables t) []
 
 -- by where the contents are
-abbrev pub Follows : {Y Z : Type 0} → List (String Y × Vec ℕ Z) → Shift → List ℕ → List ℕ → Contents → Section → Section → Type 0
+abbrev pub Follows : {Y Z : Type 0} → List (String Y × Vec ℕ Z) → Shift → List ℕ → List ℕ → Contents → Section →
+    Section → Type 0
 Follows tables shift file w Dropped s n = IsDropped s n
 Follows tables shift file w Inactive s n = IsInactive w s n
 Follows tables shift file w Kept s n = IsKept shift w s n
@@ -153,22 +157,24 @@ adds_ranges sections tables =
 abbrev pub At : List Section → ℕ → (Section → Type 0) → Type 0
 At sections index P = IfSome (slice_get sections index) P
 
--- All sections: those of the input, then the new code, the unwind table and its index,
--- and the table of ranges.
+-- All sections: those of the input, then the new code, the unwind table and its index, and the table of ranges.
 pub record AreNewSections {Y Z : Type 0} (elf new : Elf) (tables : List (String Y × Vec ℕ Z)) (area : Area)
     (shift : Shift) (code : List ℕ) : Type 0 where
   pub names_at : e_shstrndx new.file.now ≡ e_shstrndx elf.file.now
   pub count : length new.sections.items ≡ (length elf.sections.items + 1)
       + (flag (is_some area.frames) + (flag (is_some area.index) + flag (adds_ranges elf.sections.items tables)))
-  pub called : (i : ℕ) (s n : Section) → slice_get elf.sections.items i ≡ Some s → slice_get new.sections.items i ≡ Some n →
+  pub called : (i : ℕ) (s n : Section) → slice_get elf.sections.items i ≡ Some s →
+      slice_get new.sections.items i ≡ Some n →
       n.name.now ≡ new_name s
-  pub follows : (i : ℕ) (s n : Section) → slice_get elf.sections.items i ≡ Some s → slice_get new.sections.items i ≡ Some n →
+  pub follows : (i : ℕ) (s n : Section) → slice_get elf.sections.items i ≡ Some s →
+      slice_get new.sections.items i ≡ Some n →
       Follows tables shift elf.file.now new.file.now (contents_of elf tables area shift i s) s n
   pub text : At new.sections.items (length elf.sections.items)
       (IsInArea new.file.now area (codes ".text") code (SHF_ALLOC + SHF_EXECINSTR) area.start 16)
   pub frames : IfSome area.frames (λ a. At new.sections.items (length elf.sections.items + 1)
       (IsInArea new.file.now area (codes ".eh_frame") (bytes_called tables (codes ".eh_frame")) SHF_ALLOC a 8))
-  pub index : IfSome area.index (λ a. At new.sections.items ((length elf.sections.items + 1) + flag (is_some area.frames))
+  pub index : IfSome area.index (λ a. At new.sections.items
+      ((length elf.sections.items + 1) + flag (is_some area.frames))
       (IsInArea new.file.now area (codes ".eh_frame_hdr") (bytes_called tables (codes ".eh_frame_hdr")) SHF_ALLOC a 4))
   pub ranges : IsTrue (adds_ranges elf.sections.items tables) → At new.sections.items (length new.sections.items - 1)
       (IsAdded new.file.now (codes ".debug_rnglists") (bytes_called tables (codes ".debug_rnglists")) 0 0 1)

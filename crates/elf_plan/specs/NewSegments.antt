@@ -1,5 +1,6 @@
 -- How the program headers of a written file follow those of the input.
-use Rattle.std.specs.Prelude.{◌≡◌, ◌⊎◌, ℕ, ◌+◌, ◌-◌, ◌<◌, ◌≤◌, ◌&&◌, ◌==◌, not, Bool, true, false, List, ◌∷◌, ◌++◌, take, drop}
+use Rattle.std.specs.Prelude.{◌≡◌, ◌⊎◌, ℕ, ◌+◌, ◌-◌, ◌<◌, ◌≤◌, ◌&&◌, ◌==◌, not, Bool, true, false, List, ◌∷◌, ◌++◌}
+use Rattle.std.specs.Prelude.{take, drop}
 use Rattle.std.specs.Prelude.{length, IsTrue, slice_index_or}
 use Rattle.elf_image.specs.declared.segment.Segment.{Segment}
 use Rattle.elf_image.specs.declared.segment.TheConstants.{PT_LOAD, PF_R, PF_X, PT_GNU_EH_FRAME}
@@ -81,13 +82,15 @@ area_segment area align = record {
 abbrev pub inserted : ℕ → Segment → List Segment → List Segment
 inserted at new segments = take at segments ++ (new ∷ drop at segments)
 
--- All headers: those of the input, and where the area has a segment of its own, one more behind the last that is loaded.
+-- All headers: those of the input, and where the area has a segment of its own, one more behind the last that is
+-- loaded.
 pub record AreNewHeaders (file_end step : ℕ) (area : Area) (code : ℕ) (ps qs : List Segment) : Type 0 where
   pub renewed : List Segment
   pub are : AreRenewed file_end step area.end area.tight (grows_at area.tight code) ps renewed
   pub kept : area.tight ≡ false → qs ≡ renewed
   pub at : ℕ
   pub within : at ≤ length ps
-  pub behind : area.tight ≡ true → (k : ℕ) (d : Segment) → at ≤ k → k < length ps → is_load (slice_index_or ps k d) ≡ false
+  pub behind : area.tight ≡ true → (k : ℕ) (d : Segment) → at ≤ k → k < length ps →
+      is_load (slice_index_or ps k d) ≡ false
   pub last : area.tight ≡ true → 0 < at → (d : Segment) → is_load (slice_index_or ps (at - 1) d) ≡ true
   pub more : area.tight ≡ true → qs ≡ inserted at (area_segment area (greatest_align ps)) renewed

@@ -22,7 +22,8 @@ abbrev pub AreNewEach : Places → ℕ → List Segment → Type 0
 AreNewEach places code qs = (contents : ℕ → Section → Contents) →
     AreContents contents places.elf.now.sections.items places.contents.now →
     (i : ℕ) (p q : Segment) → slice_get places.elf.now.segments.items i ≡ Some p → slice_get qs i ≡ Some q →
-    IsNewHeader contents places.elf.now.segments.items places.elf.now.sections.items places.sections_at.now (outline places)
+    IsNewHeader contents places.elf.now.segments.items places.elf.now.sections.items places.sections_at.now
+    (outline places)
     (grows_at places.area.tight code i) p q
 
 -- all headers, of which the executable segment's has an index

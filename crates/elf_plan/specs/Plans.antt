@@ -19,7 +19,8 @@ use Rattle.elf_plan.specs.NewAreas.{area_for}
 pub record Arranges {Y Z : Type 0} (elf : Elf) (tables : List (String Y × Vec ℕ Z)) (area : Area) (shift : Shift)
     (contents : List Contents) (order : List (ℕ × ℕ)) : Type 0 where
   pub contents_are : AreContents (contents_of elf tables area shift) elf.sections.items contents
-  pub order_is : ListsPairs (PassesAt elf.sections.items (λ i s. is_written (contents_of elf tables area shift i s))) order
+  pub order_is : ListsPairs (PassesAt elf.sections.items (λ i s. is_written (contents_of elf tables area shift i s)))
+      order
 
 -- A plan for a file with this new code and these tables, with an area in a segment of its own or not.
 pub record IsPlanOf {Y Z : Type 0} (elf : Elf) (tables : List (String Y × Vec ℕ Z)) (code : List ℕ) (tight : Bool)

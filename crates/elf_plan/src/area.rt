@@ -156,8 +156,8 @@ pub fn area_of(
     })
 }
 
-/// The addresses of an unwind table of so many bytes, and of its index, in an area that starts at an address with so many bytes
-/// of code.
+/// The addresses of an unwind table of so many bytes, and of its index, in an area that starts at an address with so
+/// many bytes of code.
 pub fn table_places(start: u64, code: usize, frames: usize) -> Result<(u64, u64), NoMemory>
     ensures frames { IfOk result (λ places. spec.table_start 8 (start + code) (Some frames) ≡ Some places.0) }
     ensures index { IfOk result (λ places. (index : ℕ) →

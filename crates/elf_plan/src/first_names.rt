@@ -35,7 +35,8 @@ pub fn named_around<'a>(
     address: u64,
 ) -> Option<Symbol<'a>>
     requires { AreLaidOut funcs.now }
-    ensures { (symbols : List Symbol) → AreFirstNames symbols names.now → result ≡ spec.named_around symbols funcs.now address }
+    ensures { (symbols : List Symbol) → AreFirstNames symbols names.now →
+        result ≡ spec.named_around symbols funcs.now address }
 {
     names.get(&start_around(funcs, address)?).copied()
 }

@@ -42,8 +42,8 @@ fn function_start(funcs: &[Func], place: usize) -> Option<u64>
     funcs.get(place).map(|f| f.start)
 }
 
-/// All fragments, by address. The spans of a map lie in the order of their bytes, share none, and are of functions; where they
-/// weren't, no file would be written.
+/// All fragments, by address. The spans of a map lie in the order of their bytes, share none, and are of functions;
+/// where they weren't, no file would be written.
 pub fn fragments(alloc: Global, funcs: &[Func], map: &AddrMap) -> Result<Vec<Fragment>, Unwritable>
     requires { AreLaidOut funcs.now }
     ensures { IfOk result (λ fragments. AreFragments funcs.now map.now fragments.items) }

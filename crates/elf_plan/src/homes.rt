@@ -93,7 +93,8 @@ fn all_first(
     segments: &[Segment],
 ) -> Result<Vec<Option<usize>>, NoMemory>
     requires { AreInOrder loaded.now.sorted.items loaded.now.reaches.items }
-    ensures { IfOk result (λ homes. homes.items ≡ map (spec.first_for loaded.now.sorted.items extents.now) segments.now) }
+    ensures { IfOk result (λ homes. homes.items ≡ map (spec.first_for loaded.now.sorted.items extents.now)
+        segments.now) }
 {
     let mut homes = Vec::new(alloc);
     for p in segments {

@@ -56,7 +56,8 @@ fn count_before(ranges: &[Extent], end: u128) -> usize
     requires { IsNonDecreasingBy (λ s. s.start) ranges.now }
     ensures bound { result ≤ length ranges.now }
     ensures below { (k : ℕ) (d : Extent) → k < result → (slice_index_or ranges.now k d).start < end }
-    ensures above { (k : ℕ) (d : Extent) → result ≤ k → k < length ranges.now → end ≤ (slice_index_or ranges.now k d).start }
+    ensures above { (k : ℕ) (d : Extent) → result ≤ k → k < length ranges.now →
+        end ≤ (slice_index_or ranges.now k d).start }
 {
     ranges.partition_point(|s| (s.start as u128) < end)
 }

@@ -14,7 +14,8 @@ use elf_image::code_segment::executable_segment;
 use elf_image::named::{EH_FRAME, EH_FRAME_HDR};
 use std::alloc::Global;
 
-/// What is planned for a written file before it is made. By one plan the file is made, and compared when it is read back.
+/// What is planned for a written file before it is made. By one plan the file is made, and compared when it is read
+/// back.
 #[derive(Drop)]
 pub struct Plan {
     /// The index of the executable segment's header in the input.

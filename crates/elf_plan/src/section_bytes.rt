@@ -33,7 +33,8 @@ pub fn bytes_of<'a>(file: &'a [u8], section: &Section) -> &'a [u8]
     &rest[..(section.size as usize).min(rest.len())]
 }
 
-/// The flags that are left of a section's header: that it is loaded, where it could be taken for a debug table otherwise.
+/// The flags that are left of a section's header: that it is loaded, where it could be taken for a debug table
+/// otherwise.
 pub fn flags_left(section: &Section) -> u64
     ensures { result ≡ flags_left section.now }
 {

@@ -137,7 +137,8 @@ pub struct Sections<'a> {
 }
 
 impl<'a> Sections<'a> {
-    ghost use Rattle.std.specs.Prelude.{◌≡◌, ℕ, List, Option, Some, None, IfOk, position, slice_get, unwrap_or, option_map};
+    ghost use Rattle.std.specs.Prelude.{◌≡◌, ℕ, List, Option, Some, None, IfOk, position, slice_get, unwrap_or};
+    ghost use Rattle.std.specs.Prelude.{option_map};
     ghost use Rattle.std.specs.Option.{option_map_or};
     ghost use Rattle.elf_image.specs.declared.segment.Segment.{Segment};
     ghost use Rattle.elf_plan.specs.declared.area.Area.{Area};
@@ -158,7 +159,8 @@ impl<'a> Sections<'a> {
 
     // Where the contents are of a section that isn't replaced.
     fn own_contents(&self, section: &Section) -> Contents
-        ensures { (segments : List Segment) (area : Area) (shift : Shift) → Keeps segments area shift self.now.kept.now →
+        ensures { (segments : List Segment) (area : Area) (shift : Shift) →
+            Keeps segments area shift self.now.kept.now →
             result ≡ spec.own_contents segments area shift section.now }
     {
         if is_inactive(section) {
@@ -175,7 +177,8 @@ impl<'a> Sections<'a> {
 
     // Where the section of an index stands, if its contents are written behind the loaded bytes.
     fn written_at(&self, index: usize) -> Option<u64>
-        ensures { (segments : List Segment) (area : Area) (shift : Shift) → Keeps segments area shift self.now.kept.now →
+        ensures { (segments : List Segment) (area : Area) (shift : Shift) →
+            Keeps segments area shift self.now.kept.now →
             result ≡ offset_if (is_written_by self.now segments area shift) index
             (slice_get self.now.elf.now.sections.items index) }
     {
@@ -186,7 +189,8 @@ impl<'a> Sections<'a> {
     }
 
     fn offset_if_written(&self, index: usize, section: &Section) -> Option<u64>
-        ensures { (segments : List Segment) (area : Area) (shift : Shift) → Keeps segments area shift self.now.kept.now →
+        ensures { (segments : List Segment) (area : Area) (shift : Shift) →
+            Keeps segments area shift self.now.kept.now →
             result ≡ offset_if (is_written_by self.now segments area shift) index (Some section.now) }
     {
         if self.contents_of(index, section).is_written() {
@@ -198,9 +202,11 @@ impl<'a> Sections<'a> {
 
     /// The sections whose contents are written behind the loaded bytes: their offsets and indices, ascending.
     pub fn order(&self, alloc: Global) -> Result<Vec<(u64, usize)>, Unwritable>
-        ensures { (segments : List Segment) (area : Area) (shift : Shift) → Keeps segments area shift self.now.kept.now →
+        ensures { (segments : List Segment) (area : Area) (shift : Shift) →
+            Keeps segments area shift self.now.kept.now →
             IfOk result (λ order.
-            ListsPairs (PassesAt self.now.elf.now.sections.items (is_written_by self.now segments area shift)) order.items) }
+            ListsPairs (PassesAt self.now.elf.now.sections.items (is_written_by self.now segments area shift))
+            order.items) }
     {
         let mut order = Vec::new(alloc);
         for i in 0..self.elf.sections.len() {
@@ -219,8 +225,9 @@ impl<'a> Sections<'a> {
     pub fn contents(&self, alloc: Global) -> Result<Vec<Contents>, NoMemory>
         ensures { IfOk result (λ found. (segments : List Segment) (area : Area) (shift : Shift) →
             Keeps segments area shift self.now.kept.now →
-            AreContents (λ i s. spec.contents_by self.now.own.section_names self.now.own.symbols self.now.own.symbol_names
-            (position (spec.is_at i) self.now.replaced.now) (spec.own_contents segments area shift s) i s)
+            AreContents (λ i s. spec.contents_by self.now.own.section_names self.now.own.symbols
+            self.now.own.symbol_names (position (spec.is_at i) self.now.replaced.now)
+            (spec.own_contents segments area shift s) i s)
             self.now.elf.now.sections.items found.items) }
     {
         let mut contents = Vec::new(alloc);
@@ -232,9 +239,10 @@ impl<'a> Sections<'a> {
 
     /// Where the contents of the section of an index are.
     pub fn contents_of(&self, index: usize, section: &Section) -> Contents
-        ensures { (segments : List Segment) (area : Area) (shift : Shift) → Keeps segments area shift self.now.kept.now →
-            result ≡ spec.contents_by self.now.own.section_names self.now.own.symbols self.now.own.symbol_names (position
-            (spec.is_at index) self.now.replaced.now)
+        ensures { (segments : List Segment) (area : Area) (shift : Shift) →
+            Keeps segments area shift self.now.kept.now →
+            result ≡ spec.contents_by self.now.own.section_names self.now.own.symbols self.now.own.symbol_names
+            (position (spec.is_at index) self.now.replaced.now)
             (spec.own_contents segments area shift section.now) index section.now }
     {
         if self.own.section_names == index {

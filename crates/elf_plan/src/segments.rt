@@ -99,9 +99,11 @@ fn index_for(area: &Area, p: &Segment) -> Option<u64>
 impl<'a> Places<'a> {
     ghost use Rattle.std.specs.Prelude.{◌+◌, ◌*◌, IsTrue, if◌then◌else◌, length, option_map, slice_get, unwrap_or};
     ghost use Rattle.std.specs.Option.{option_map_or};
-    ghost use Rattle.elf_plan.specs.HeaderPlaces.{beside, moved_header, names_table, new_header, place_behind, place_in};
+    ghost use Rattle.elf_plan.specs.HeaderPlaces.{beside, moved_header, names_table, new_header, place_behind};
+    ghost use Rattle.elf_plan.specs.HeaderPlaces.{place_in};
     ghost use Rattle.elf_plan.specs.PlacedHeaders.{AreMade, AreNewEach, outline};
-    ghost use Rattle.elf_plan.specs.NewSegments.{AreNewHeaders, AreRenewed, CanGrow, CanGrowAt, IsRenewed, area_segment};
+    ghost use Rattle.elf_plan.specs.NewSegments.{AreNewHeaders, AreRenewed, CanGrow, CanGrowAt, IsRenewed};
+    ghost use Rattle.elf_plan.specs.NewSegments.{area_segment};
     ghost use Rattle.elf_plan.specs.NewSegments.{grown, grows_at};
     ghost use Rattle.file_room.specs.Room.{greatest_align};
     ghost use Rattle.std.specs.Prelude.{◌≡◌, ◌≤◌, ◌<◌, ◌&&◌, not, IfOk, true, false};
@@ -195,7 +197,8 @@ impl<'a> Places<'a> {
         align: u64,
     ) -> Result<Segment, Unwritable>
         requires { 0 < align }
-        ensures renewed { IfOk result (IsRenewed self.now.shift.from self.now.shift.by self.now.area.end self.now.area.tight false
+        ensures renewed { IfOk result (IsRenewed self.now.shift.from self.now.shift.by self.now.area.end
+            self.now.area.tight false
             p.now) }
         ensures is { IfOk result (λ q. q ≡ moved_header (outline self.now) align
             (option_map (place_in self.now.elf.now.sections.items self.now.sections_at.now p.now) home) p.now) }
@@ -218,9 +221,11 @@ impl<'a> Places<'a> {
         align: u64,
     ) -> Result<Segment, Unwritable>
         requires align { 0 < align }
-        requires grows { is_code ≡ true → self.now.area.tight ≡ false → CanGrow self.now.shift.from self.now.area.end p.now }
+        requires grows { is_code ≡ true → self.now.area.tight ≡ false →
+            CanGrow self.now.shift.from self.now.area.end p.now }
         requires greatest { align ≡ greatest_align self.now.elf.now.segments.items }
-        ensures renewed { IfOk result (IsRenewed self.now.shift.from self.now.shift.by self.now.area.end self.now.area.tight
+        ensures renewed { IfOk result (IsRenewed self.now.shift.from self.now.shift.by self.now.area.end
+            self.now.area.tight
             (not self.now.area.tight && is_code) p.now) }
         ensures is { IfOk result (λ q. q ≡ (if not self.now.area.tight && is_code
             then grown self.now.area.end p.now
@@ -241,7 +246,8 @@ impl<'a> Places<'a> {
 
     // The headers of the input's segments, of which the executable one has an index.
     fn all_renewed(&self, alloc: Global, code: usize) -> Result<Vec<Segment>, Unwritable>
-        requires { CanGrowAt self.now.shift.from self.now.area.end self.now.area.tight code self.now.elf.now.segments.items }
+        requires { CanGrowAt self.now.shift.from self.now.area.end self.now.area.tight code
+            self.now.elf.now.segments.items }
         ensures renewed { IfOk result (λ qs. AreRenewed self.now.shift.from self.now.shift.by self.now.area.end
             self.now.area.tight (grows_at self.now.area.tight code) self.now.elf.now.segments.items qs.items) }
         ensures each { IfOk result (λ qs. AreNewEach self.now code qs.items) }

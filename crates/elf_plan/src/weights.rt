@@ -48,7 +48,8 @@ fn sections_weight(sections: &[Section]) -> u64
 // The name of a cold part that begins at an address of the input.
 fn cold_weight(names: &BTreeMap<u64, Symbol>, funcs: &[Func], address: u64) -> u64
     requires { AreLaidOut funcs.now }
-    ensures { (symbols : List Symbol) → AreFirstNames symbols names.now → result ≡ spec.cold_weight symbols funcs.now address }
+    ensures { (symbols : List Symbol) → AreFirstNames symbols names.now →
+        result ≡ spec.cold_weight symbols funcs.now address }
 {
     match named_around(names, funcs, address) {
         Some(symbol) => weight_of(symbol.name),

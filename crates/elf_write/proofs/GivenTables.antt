@@ -275,7 +275,8 @@ module _ {Y Z : Type 0} (elf new : Elf) (tables : List (String Y × Vec ℕ Z)) 
       pub given_stands : (table : String Y × Vec ℕ Z) → find (λ t. bytes_eq (string_bytes t.0) name) tables ≡ Some table →
           takes_table elf i s ≡ true → section_bytes new.file.now n ≡ bytes_called tables name
       given_stands table found takes =
-          let (t, place, there) = given_is_called (λ (u : String Y × Vec ℕ Z). is_at i (place_replaced elf.sections.items (string_bytes u.0)))
+          let (t, place, there) = given_is_called (λ (u : String Y × Vec ℕ Z). is_at i
+          (place_replaced elf.sections.items (string_bytes u.0)))
           (λ u. bytes_eq (string_bytes u.0) name) tables table found (λ u. same_table (string_bytes u.0)) in
           let given : contents_of elf tables area shift i s ≡ Given t =
           ap (λ (o : Option ℕ). if e_shstrndx elf.file.now == i then SectionNames

@@ -1,6 +1,7 @@
 -- The tables that are given stand in the written file.
 use Rattle.std.proofs.Common.{◌≡◌, ℕ, List, Option, Some, None, Bool, true, false, refl, sym, ap, ◌∙◌, subst, arith}
-use Rattle.std.specs.Prelude.{find, if◌then◌else◌, is_none, is_some, slice_get, position, IfSome, IsSomeAnd, IsTrue, String, Vec, string_bytes}
+use Rattle.std.specs.Prelude.{find, if◌then◌else◌, is_none, is_some, slice_get, position, IfSome, IsSomeAnd, IsTrue, String, Vec}
+use Rattle.std.specs.Prelude.{string_bytes}
 use Rattle.std.specs.Prelude.{codes}
 use Rattle.std.specs.Option.{option_map_or}
 use Rattle.std.specs.Str.{bytes_eq}
@@ -16,7 +17,8 @@ use Rattle.elf_plan.specs.declared.area.Area.{Area}
 use Rattle.elf_plan.specs.declared.area.Shift.{Shift}
 use Rattle.elf_plan.specs.Contents.{place_replaced, section_bytes}
 use Rattle.elf_plan.specs.NewSections.{AreNewSections, bytes_called}
-use Rattle.elf_write.specs.TablePlaces.{ArePlaced, Holds, HoldsAt, KeepsTables, TablesStand, has_place, is_given, takes_table, takes_table_at}
+use Rattle.elf_write.specs.TablePlaces.{ArePlaced, Holds, HoldsAt, KeepsTables, TablesStand, has_place, is_given, takes_table}
+use Rattle.elf_write.specs.TablePlaces.{takes_table_at}
 use Rattle.elf_write.proofs.AddedSections.{absent_stays, ranges_stand}
 use Rattle.elf_write.proofs.AreaTables.{frames_stand, index_stands, no_frames_stand}
 use Rattle.elf_write.proofs.GivenTables.{FirstAt, first_at, given_stands, new_called, no_frames, same_bytes}

@@ -1,4 +1,5 @@
 pub mod TablePlaces
+pub mod WriterInputs
 pub use Rattle.elf_plan.specs.Area
 pub use Rattle.elf_plan.specs.Contents
 pub use Rattle.elf_plan.specs.NameWeight

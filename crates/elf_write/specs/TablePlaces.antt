@@ -1,5 +1,7 @@
--- Where given tables stand in a written file: which sections of the input take one, and what the sections that names mean hold.
-use Rattle.std.specs.Prelude.{◌≡◌, ◌≢◌, ℕ, ◌==◌, ◌&&◌, ◌||◌, not, false, true, Bool, List, None, IfSome, IsSomeAnd, IsTrue, All, EachIndex}
+-- Where given tables stand in a written file: which sections of the input take one, and what the sections that names
+-- mean hold.
+use Rattle.std.specs.Prelude.{◌≡◌, ◌≢◌, ℕ, ◌==◌, ◌&&◌, ◌||◌, not, false, true, Bool, List, None, IfSome, IsSomeAnd}
+use Rattle.std.specs.Prelude.{IsTrue, All, EachIndex}
 use Rattle.std.specs.Prelude.{String, Vec, codes, find, is_some, slice_get, string_bytes}
 use Rattle.std.specs.Option.{option_map_or}
 use Rattle.std.specs.Str.{bytes_eq}
@@ -26,7 +28,8 @@ takes_table elf index s = not (is_own_section elf index) && not (is_left_out s)
 abbrev pub takes_table_at : Elf → ℕ → Bool
 takes_table_at elf index = option_map_or (takes_table elf index) (slice_get elf.sections.items index) false
 
--- The section that a table's name means takes it, if there is one. The unwind table and its index stand in the new area.
+-- The section that a table's name means takes it, if there is one. The unwind table and its index stand in the new
+-- area.
 abbrev pub has_place : Elf → List ℕ → Bool
 has_place elf name = option_map_or (takes_table_at elf) (place_replaced elf.sections.items name) true
 
@@ -66,8 +69,8 @@ HoldsAt f name address bytes = IsSomeAnd (section_called f.sections.items name) 
 abbrev pub is_given : {Y Z : Type 0} → List (String Y × Vec ℕ Z) → List ℕ → Bool
 is_given tables name = is_some (find (λ t. bytes_eq (string_bytes t.0) name) tables)
 
--- The tables of a written file: those in the new area, and those of debug data. Of the latter those that aren't given stay, and one
--- that the input hasn't isn't written, but for that of ranges.
+-- The tables of a written file: those in the new area, and those of debug data. Of the latter those that aren't given
+-- stay, and one that the input hasn't isn't written, but for that of ranges.
 pub record TablesStand {Y Z : Type 0} (elf new : Elf) (tables : List (String Y × Vec ℕ Z)) (area : Area) : Type 0 where
   pub frames : IfSome area.frames (λ a. HoldsAt new (codes ".eh_frame") a (bytes_called tables (codes ".eh_frame")))
   pub no_frames : area.frames ≡ None → section_called new.sections.items (codes ".eh_frame") ≡ None

@@ -50,8 +50,8 @@ fn has_place(elf: &Elf, own: OwnSections, name: &[u8]) -> bool
     }
 }
 
-// Whether each table that is given has a place: it is the unwind table or its index, or the section that its name means can
-// hold it, or the input has no such section.
+// Whether each table that is given has a place: it is the unwind table or its index, or the section that its name
+// means can hold it, or the input has no such section.
 fn are_placed(elf: &Elf, own: OwnSections, tables: &[Table]) -> bool
     requires { IsOwnOf elf.now own }
     ensures { IsTrue result → spec.ArePlaced elf.now tables.now }

@@ -5,6 +5,7 @@ ghost use Rattle.elf_image.specs.file.ParsedFile.{IsElfOf};
 ghost use Rattle.rv_code.specs.layout.FunctionLists.{AreLaidOut};
 ghost use Rattle.elf_check.specs.NewTables.{HasNewTables, area_for};
 ghost use Rattle.elf_write.specs.TablePlaces.{ArePlaced, KeepsTables, TablesStand};
+ghost use Rattle.elf_write.specs.WriterInputs.{AreInputs};
 ghost use Rattle.elf_make.specs.Source.{HasPlace, source_of};
 ghost use Rattle.elf_make.specs.WrittenFile.{AreApart, CanHold, IsWritten};
 
@@ -33,15 +34,12 @@ fn written(
     map: &AddrMap,
     tables: &[Table],
 ) -> Result<Vec<u8>, Unwritable>
-    requires read { IsElfOf elf.now.file.now elf.now }
-    requires sound { IsSound elf.now.file.now }
-    requires bytes { All (λ b. b < 256) elf.now.file.now }
-    requires cells { All (CanHold elf.now) emitted.now.cells.items }
-    requires apart { AllPairs AreApart emitted.now.cells.items }
-    requires laid_out { AreLaidOut funcs.now }
-    ensures written { IfOk result (λ w. (tight : Bool) → HasPlace (source_of elf.now emitted.now map.now tables.now) tight →
+    requires { AreInputs elf.now funcs.now emitted.now }
+    ensures written { IfOk result (λ w. (tight : Bool) →
+        HasPlace (source_of elf.now emitted.now map.now tables.now) tight →
         IsWritten (source_of elf.now emitted.now map.now tables.now) tight w.items) }
-    ensures tables { IfOk result (λ w. (tight : Bool) → HasPlace (source_of elf.now emitted.now map.now tables.now) tight →
+    ensures tables { IfOk result (λ w. (tight : Bool) →
+        HasPlace (source_of elf.now emitted.now map.now tables.now) tight →
         HasNewTables elf.now tables.now emitted.now.code.items funcs.now cold.now map.now tight w.items) }
     ensures placed { OnOk result (ArePlaced elf.now tables.now) }
     ensures kept { OnOk result (KeepsTables elf.now) }
@@ -67,8 +65,8 @@ fn written(
     Ok(file)
 }
 
-/// The written file, by the functions of the input, the addresses of their cold parts, the new code and the new contents of
-/// code cells, the map, and the tables that are written anew.
+/// The written file, by the functions of the input, the addresses of their cold parts, the new code and the new
+/// contents of code cells, the map, and the tables that are written anew.
 ///
 /// What is written is read back, so no file is ever answered that the reader refuses, or whose sections, program
 /// headers or symbols aren't what they must be; but for the bytes of the new area, which need no look.
@@ -87,9 +85,11 @@ pub fn write(
     requires cells { All (CanHold elf.now) emitted.now.cells.items }
     requires apart { AllPairs AreApart emitted.now.cells.items }
     requires laid_out { AreLaidOut funcs.now }
-    ensures written { IfOk result (λ w. (tight : Bool) → HasPlace (source_of elf.now emitted.now map.now tables.now) tight →
+    ensures written { IfOk result (λ w. (tight : Bool) →
+        HasPlace (source_of elf.now emitted.now map.now tables.now) tight →
         IsWritten (source_of elf.now emitted.now map.now tables.now) tight w.items) }
-    ensures tables { IfOk result (λ w. (tight : Bool) → HasPlace (source_of elf.now emitted.now map.now tables.now) tight →
+    ensures tables { IfOk result (λ w. (tight : Bool) →
+        HasPlace (source_of elf.now emitted.now map.now tables.now) tight →
         HasNewTables elf.now tables.now emitted.now.code.items funcs.now cold.now map.now tight w.items) }
     // The tables stand in what is read of the file.
     ensures stand { IfOk result (λ w. (tight : Bool) →

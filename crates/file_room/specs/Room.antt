@@ -1,6 +1,7 @@
 -- Where the new area begins and how much room it has: behind the executable segment, or in a segment of its
 -- own above all others. gABI, "Program Header".
-use Rattle.std.specs.Prelude.{ℕ, ◌+◌, ◌-◌, ◌*◌, ◌==◌, ◌&&◌, nat_le, nat_lt, if◌then◌else◌, Bool, List, length, map, filter}
+use Rattle.std.specs.Prelude.{ℕ, ◌+◌, ◌-◌, ◌*◌, ◌==◌, ◌&&◌, nat_le, nat_lt, if◌then◌else◌, Bool, List, length, map}
+use Rattle.std.specs.Prelude.{filter}
 use Rattle.std.specs.Prelude.{fold, max, min}
 use Rattle.std.specs.Option.{option_map_or}
 use Rattle.elf_image.specs.declared.segment.Segment.{Segment}
@@ -25,7 +26,8 @@ area_start segments = rounded_up area_align (code_end segments)
 
 -- the pages on which the segments at or above an address start, also those without memory
 abbrev pub pages_from : ℕ → List Segment → List ℕ
-pages_from end segments = map (λ p. rounded_down page_size p.vaddr) (filter (λ p. is_load p && nat_le end p.vaddr) segments)
+pages_from end segments = map (λ p. rounded_down page_size p.vaddr)
+    (filter (λ p. is_load p && nat_le end p.vaddr) segments)
 
 -- The area ends at or below the lowest of them, and below the address that ends all.
 abbrev pub limit_above : ℕ → List Segment → ℕ

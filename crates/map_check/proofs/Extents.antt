@@ -15,14 +15,6 @@ use Rattle.addr_map.specs.Spans.{has_byte}
 use Rattle.map_check.specs.BadSpans.{IsSharing}
 use Rattle.map_check.specs.internal.SpanLists.{AreExtentsOf, extent_of, span_at, no_span}
 
-pub extents_none : (spans : List Span) (es : List Extent) → es ≡ [] → AreExtentsOf spans 0 es
-extents_none spans es none = subst (AreExtentsOf spans 0) (sym none) (record {
-  only = λ e here. let within = here.1 in absurd (omega (arith, within));
-  each = λ k below. absurd (omega arith);
-  apart = λ i j d less within. absurd (omega arith);
-  some = λ k d within. absurd (omega arith);
-})
-
 pub extents_skip : (spans : List Span) (k : ℕ) (es : List Extent) → (span_at spans k).len ≤ 0 → AreExtentsOf spans k es →
     AreExtentsOf spans (k + 1) es
 extents_skip spans k es empty are = record {

@@ -5,12 +5,10 @@ use Rattle.std.proofs.Common.{inl, inr, ⊎_elim, Option, Some, None, IfSome, Is
 use Rattle.std.specs.Prelude.{◌==◌, ◌||◌}
 use Rattle.std.specs.List.{count_by, list_any}
 use Rattle.std.specs.List.Sorted.{IsNonDecreasingBy}
-use Rattle.std.proofs.lemmas.List.{map-append, take_more, drop_all}
-use Rattle.std.proofs.lemmas.Grind.{flat_map-append}
-use Rattle.std.specs.List.{slice_get}
+use Rattle.std.proofs.lemmas.List.{map-append}
 use Rattle.elf_image.specs.faults.LowestPlace.{IsLowest}
 use Rattle.map_check.specs.BadSpans.{IsMiscounted}
-use Rattle.std.proofs.Common.{take, drop, drop-cons, add-one, append-nil, ◌⊎◌}
+use Rattle.std.proofs.Common.{◌⊎◌}
 use Rattle.std.proofs.lemmas.Bool.{cases_eq, cases_lt, eq-eqb, ne_eqb, eqb-true}
 use Rattle.rv_code.specs.declared.placed.Placed.{Placed}
 use Rattle.rv_code.specs.declared.placed.Func.{Func}
@@ -136,11 +134,6 @@ first_address b spans bs rises climbs = record {
     not_le : (m a : ℕ) → (m ≤ a → ⊥) → a < m
     not_le m a no_it = ⊎_elim (λ (less : a < m). less) (λ (more : m ≤ a). absurd (no_it more)) (cases_lt a m)
 
-Rises-from : (low more : ℕ) (spans : List Span) → low ≤ more → Rises more spans → Rises low spans
-unfolding Rises
-Rises-from low more [] le rises = tt
-Rises-from low more (s ∷ spans) le rises = let from : more ≤ s.input = rises.0 in (omega arith, rises.1)
-
 Climbs-from : (low more : ℕ) (bs : List ℕ) → low ≤ more → Climbs more bs → Climbs low bs
 unfolding Climbs
 Climbs-from low more [] le climbs = tt
@@ -256,35 +249,3 @@ miscounted_lowest funcs spans o sorted laid is =
           (λ (below : IsSomeAnd o (λ p. p ≤ a) → ⊥). absurd (wrong (first.same a below ∙ wanted_is a funcs)))
           (at_or_not o a);
     }
-
-pub addresses_more : (funcs : List Func) (i : ℕ) (d : Func) → i < length funcs →
-    addresses (take (i + 1) funcs) ≡ addresses (take i funcs) ++ map (λ p. p.addr) (get_or funcs i d).insts.items
-addresses_more funcs i d within =
-    ap addresses (take_more funcs i d within)
-    ∙ ap (map (λ (p : Placed). p.addr)) (flat_map-append (λ (f : Func). f.insts.items) (take i funcs) (get_or funcs i d ∷ [])
-    ∙ ap (λ l. insts_of (take i funcs) ++ l) (append-nil (get_or funcs i d).insts.items))
-    ∙ map-append (λ (p : Placed). p.addr) (insts_of (take i funcs)) (get_or funcs i d).insts.items
-
-pub difference_same : (spans : List Span) (i b : ℕ) (bs rest : List ℕ) (d : Span) → i < length spans → (get_or spans i d).input ≡ b →
-    bs ≡ b ∷ rest → first_difference (drop i spans) bs ≡ first_difference (drop (i + 1) spans) rest
-difference_same spans i b bs rest d within same is =
-    ap (λ l. first_difference l bs) (drop-cons spans i d within) ∙ ap (first_difference (get_or spans i d ∷ drop (suc i) spans)) is
-    ∙ ap (λ t. cond t (first_difference (drop (suc i) spans) rest) (Some (min (get_or spans i d).input b)))
-    (eq-eqb (get_or spans i d).input b same)
-    ∙ ap (λ j. first_difference (drop j spans) rest) (sym (add-one i))
-
-pub difference_here : (spans : List Span) (i b : ℕ) (bs rest : List ℕ) (d : Span) → i < length spans → (get_or spans i d).input ≢ b →
-    bs ≡ b ∷ rest → first_difference (drop i spans) bs ≡ Some (min (get_or spans i d).input b)
-difference_here spans i b bs rest d within other is =
-    ap (λ l. first_difference l bs) (drop-cons spans i d within) ∙ ap (first_difference (get_or spans i d ∷ drop (suc i) spans)) is
-    ∙ ap (λ t. cond t (first_difference (drop (suc i) spans) rest) (Some (min (get_or spans i d).input b)))
-    (ne_eqb (get_or spans i d).input b other)
-
-pub difference_span : (spans : List Span) (i : ℕ) (bs : List ℕ) (d : Span) → i < length spans → bs ≡ [] →
-    first_difference (drop i spans) bs ≡ Some (get_or spans i d).input
-difference_span spans i bs d within is =
-    ap (λ l. first_difference l bs) (drop-cons spans i d within) ∙ ap (first_difference (get_or spans i d ∷ drop (suc i) spans)) is
-
-pub difference_end : (spans : List Span) (i : ℕ) (bs : List ℕ) → length spans ≤ i → first_difference (drop i spans) bs ≡ slice_get bs 0
-difference_end spans i [] past = ap (λ l. first_difference l []) (drop_all i spans past)
-difference_end spans i (a ∷ bs) past = ap (λ l. first_difference l (a ∷ bs)) (drop_all i spans past)

@@ -6,26 +6,16 @@ use Rattle.std.proofs.lemmas.Bool.{and_parts, eq-eqb, ne_eqb, eqb-true}
 use Rattle.rv_code.specs.declared.inst.Inst.{Inst}
 use Rattle.rv_code.specs.isa.InstBytes.{Decodes}
 use Rattle.elf_image.specs.declared.elf.Elf.{Elf}
-use Rattle.elf_image.specs.memory.LoadedBytes.{byte_at}
 use Rattle.elf_code.specs.Parts.{halfword_in}
 use Rattle.elf_image.specs.memory.Executables.{Executable, executable_read, memory_of, AreCodeBytes}
 use Rattle.move_law.specs.Rewrite.{width_at, HasAt, Goes, stays, jumps}
 use Rattle.code_starts.specs.LoadedMemory.{IsLow}
 use Rattle.map_check.proofs.LowFiles.{no_byte}
-use Rattle.map_check.specs.internal.OutputCode.{IsOnlyAt, FindsAt, Jumps, byte_or_zero, leads_to}
+use Rattle.map_check.specs.internal.OutputCode.{IsOnlyAt, FindsAt, Jumps, leads_to}
 use Rattle.rv_code.specs.declared.inst.Inst.TheVariants.{Jal}
 use Rattle.rv_code.specs.machine.Machine.{plus}
 use Rattle.rv_code.specs.isa.TwosComplement.{unsigned64}
 use Rattle.std.specs.Prelude.{ℤ}
-
-pub half_is : (elf : Elf) (a low_byte high_byte : ℕ) (after : Option ℕ) → IsLow elf → low_byte ≡ byte_or_zero elf (Some a) →
-    high_byte ≡ byte_or_zero elf after → IfSome after (λ b. b ≡ a + 1) → IfNone after (2 ^ 64 ≤ a + 1) →
-    low_byte + 256 * high_byte ≡ halfword_in (memory_of (executable_read elf)) a
-half_is elf a low_byte high_byte (Some b) low first second there gone =
-    (λ i. first i + 256 * (second ∙ ap (λ (c : ℕ). unwrap_or (byte_at elf c) 0) there) i)
-half_is elf a low_byte high_byte None low first second there gone =
-    let none = no_byte elf (a + 1) low (omega (arith, gone)) in
-    (λ i. first i + 256 * (second ∙ sym (ap (λ (o : Option ℕ). unwrap_or o 0) none)) i)
 
 -- the width of an instruction is that of its bytes
 pub width_is : (half : ℕ) (next : Option ℕ) (inst : Inst) (bytes : ℕ) → Decodes half next inst bytes →
@@ -40,18 +30,6 @@ width_is half next inst bytes (inr d) =
   where
     long : (h : ℕ) → h % 4 ≡ 3 → (n : ℕ) → n ≡ 4 → n ≡ (if h % 4 == 3 then 4 else 2)
     long h is n e = e ∙ sym (ap (λ (t : Bool). if t then 4 else 2) (eq-eqb (h % 4) 3 is))
-
--- the halfword after the first, as far as it is loaded
-pub next_is : (elf : Elf) (a h : ℕ) (after : Option ℕ) → IsLow elf →
-    IfSome after (λ b. (b ≡ a + 2) × (h ≡ halfword_in (memory_of (executable_read elf)) b)) →
-    IfNone after ((2 ^ 64 ≤ a + 2) × (h ≡ 0)) → h ≡ halfword_in (memory_of (executable_read elf)) (a + 2)
-next_is elf a h (Some b) low there gone =
-    let at = there.0 in let is = there.1 in is ∙ ap (halfword_in (memory_of (executable_read elf))) at
-next_is elf a h None low there gone =
-    let high = gone.0 in
-    let first = no_byte elf (a + 2) low (omega (arith, high)) in
-    let second = no_byte elf (a + 2 + 1) low (omega (arith, high)) in
-    gone.1 ∙ sym (λ i. unwrap_or (first i) 0 + 256 * unwrap_or (second i) 0)
 
 -- what the decoder answers
 pub decoded : (elf : Elf) (a half next width : ℕ) (o : Option (Inst × ℕ)) → half ≡ halfword_in (memory_of (executable_read elf)) a →
@@ -82,12 +60,6 @@ decoded elf a half next width (Some r) first second third code found only none =
   where
     same : r.1 ≡ width_at (executable_read elf) a
     same = width_is half (Some next) r.0 r.1 found ∙ ap (λ (h : ℕ). if h % 4 == 3 then 4 else 2) first
-
-pub no_inst : (elf : Elf) (a half width : ℕ) → half ≡ halfword_in (memory_of (executable_read elf)) a →
-    width ≡ (if half % 4 == 3 then 4 else 2) →
-    (AreCodeBytes (executable_read elf) a width → ⊥) → FindsAt (executable_read elf) a None
-no_inst elf a half width first second none = λ inst has. none
-    (subst (AreCodeBytes (executable_read elf) a) (sym (second ∙ ap (λ (h : ℕ). if h % 4 == 3 then 4 else 2) first)) has.code)
 
 pub width_then : (half width : ℕ) → half % 4 ≡ 3 → width ≡ 4 → width ≡ (if half % 4 == 3 then 4 else 2)
 width_then half width long is = is ∙ sym (ap (λ (t : Bool). if t then 4 else 2) (eq-eqb (half % 4) 3 long))

@@ -90,9 +90,6 @@ module _ (elf : Elf) (o : ℕ) where
   has : ℕ × Segment → Bool
   has e = list_any (is_in_range o) (hidden_in_segment elf e)
 
-  all_headers : List (ℕ × Segment)
-  all_headers = enumerate_from 0 elf.segments.items
-
   header_is : (k : ℕ) (d : Segment) → k < length elf.segments.items →
       get_or (enumerate_from 0 elf.segments.items) k (0, d) ≡ (k, get_or elf.segments.items k d)
   header_is k d within =

@@ -17,7 +17,6 @@ mod Layouts
 mod LineTexts
 mod LowFiles
 mod LowestItems
-mod MadeAgain
 mod MapTexts
 mod NamedSpans
 mod NextInsts

@@ -5,10 +5,9 @@ use Rattle.std.specs.Prelude.{decimal}
 use Rattle.rb_bytes.specs.Text.{hexadecimal}
 use Rattle.std.proofs.lemmas.Grind.{flat_map-append}
 use Rattle.std.proofs.lemmas.List.Elements.{All-push}
-use Rattle.std.proofs.lemmas.List.{nil_from_length}
 use Rattle.addr_map.specs.declared.span.Span.{Span}
 use Rattle.addr_map.specs.MapText.{span_line, map_text}
-use Rattle.map_check.specs.MapReading.{FitsLine, IsMapOfLines, IsFirstBadLine}
+use Rattle.map_check.specs.MapReading.{FitsLine}
 use Rattle.map_check.proofs.LineTexts.{line_spelled}
 
 -- the lines read so far, and what is left
@@ -33,21 +32,3 @@ shorter left rest s line =
     let two = length-append (decimal s.len) (32 ∷ (hexadecimal s.input ++ 10 ∷ rest)) in
     let three = length-append (hexadecimal s.input) (10 ∷ rest) in
     omega (arith, whole, one, two, three)
-
-pub read_all : (text left : List ℕ) (spans : List Span) → HasRead text spans left → length left ≡ 0 → IsMapOfLines text spans
-read_all text left spans read none = record {
-  text_is = read.text_is ∙ ap (λ l. map_text spans ++ l) (nil_from_length left none) ∙ append-nil (map_text spans);
-  fit = read.fit;
-}
-
-pub read_bad : (text left : List ℕ) (spans : List Span) (n : ℕ) → HasRead text spans left → (length left ≡ 0 → ⊥) →
-    ((s : Span) (rest : List ℕ) → FitsLine s → left ≡ span_line s ++ rest → ⊥) → n ≡ length spans + 1 → IsFirstBadLine text n
-read_bad text left spans n read some bad is = record {
-  before = spans;
-  good = read.fit;
-  rest = left;
-  text_is = read.text_is;
-  goes_on = λ none. some (ap length none);
-  bad = λ begins. bad begins.0 begins.1 begins.2 begins.3;
-  number_is = is;
-}

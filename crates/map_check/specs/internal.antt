@@ -5,6 +5,5 @@ pub mod InstRows
 pub mod KeptBytes
 pub mod LineNumbers
 pub mod OutputCode
-pub mod PartsOfInst
 pub mod SpanLists
 pub mod Verdicts

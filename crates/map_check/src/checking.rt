@@ -17,7 +17,7 @@ use crate::changes::Changes;
 use crate::clause::{Clause, Verdict};
 use crate::code_spans::lowest_outside;
 use crate::headers::Headers;
-use crate::insts::{lowest_unfollowed, lowest_unkept};
+use crate::insts::{Demand, lowest_unmet};
 use crate::layout::keeps_layout;
 use crate::names::lowest_bad_span;
 use crate::rows::new_of;
@@ -110,11 +110,11 @@ fn check_code(
         Some(a) => return Verdict::Unfaithful(Clause::SpanBytes, a),
         None => {}
     }
-    match lowest_unkept(output, table, funcs) {
+    match lowest_unmet(Demand::Kept, output, table, funcs) {
         Some(a) => return Verdict::Unfaithful(Clause::Instruction, a),
         None => {}
     }
-    match lowest_unfollowed(output, table, funcs) {
+    match lowest_unmet(Demand::Followed, output, table, funcs) {
         Some(a) => return Verdict::Unfaithful(Clause::Next, a),
         None => {}
     }

@@ -1,6 +1,5 @@
 // Fields of a file's headers that a rewriting changes.
-ghost use Rattle.std.specs.Prelude.{Bool, ◌≡◌, ◌≤◌, ◌<◌, ◌+◌, ◌*◌, ◌⊎◌, ◌||◌, IfNone, IfSome, find, length, nat_le};
-ghost use Rattle.std.specs.Prelude.{option_copied};
+ghost use Rattle.std.specs.Prelude.{Bool, ◌≡◌, ◌≤◌, ◌<◌, ◌+◌, ◌*◌, ◌⊎◌, ◌||◌, IfNone, IfSome, length, nat_le};
 ghost use Rattle.std.specs.List.{enumerate_from, flat_map, list_any};
 ghost use Rattle.elf_image.specs.declared.elf.Elf.{Elf};
 ghost use Rattle.elf_image.specs.declared.segment.TheConstants.{PHDR_SIZE};
@@ -8,12 +7,12 @@ ghost use Rattle.elf_image.specs.memory.CodeSegment.{executable_end, executable_
 ghost use Rattle.elf_image.specs.memory.HiddenFields.{e_entry_field, hidden_fields, hidden_in_segment};
 ghost use Rattle.elf_image.specs.memory.HiddenFields.{is_executable_segment};
 ghost use Rattle.elf_image.specs.memory.HiddenFields.{is_hidden_field, only, section_fields};
-ghost use Rattle.elf_image.specs.memory.LoadedBytes.{address_of, is_in_range, loads_range};
+ghost use Rattle.elf_image.specs.memory.LoadedBytes.{address_of, is_in_range};
 ghost use Rattle.code_starts.specs.LoadedMemory.{IsLow};
 ghost use Rattle.map_check.specs.internal.Headers.{AreHeadersOf, file_fields};
 
-use elf_image::code_segment::executable_segment;
-use elf_image::segment::{PHDR_SIZE, PT_GNU_EH_FRAME};
+use elf_image::code_segment::{executable_end, executable_segment, is_executable_segment};
+use elf_image::segment::{PHDR_SIZE, PT_GNU_EH_FRAME, entry_segment};
 use elf_image::{Elf, Segment};
 
 /// What tells which fields of a file's headers are hidden.
@@ -25,13 +24,6 @@ pub struct Headers {
     pub entry: Option<u64>,
     /// The index of the executable segment, and its program header.
     pub executable: Option<(usize, Segment)>,
-}
-
-// The first segment that loads the field `e_entry` whole.
-fn entry_segment(segments: &[Segment]) -> Option<&Segment>
-    ensures { option_copied result ≡ find (loads_range e_entry_field) segments.now }
-{
-    segments.iter().find(|p| p.loads_range(0x18, 8))
 }
 
 // The address of the field `e_entry`, if one segment loads it whole.
@@ -72,28 +64,6 @@ fn or_has(found: bool, is_hidden: bool, start: u128, size: u64, offset: u128) ->
         ≡ (found || list_any (is_in_range offset) (only is_hidden (record { start = start; size = size }))) }
 {
     found || is_hidden && has(start, size, offset)
-}
-
-// The offset past the executable segment's bytes.
-fn executable_end(executable: Option<(usize, Segment)>) -> u128
-    ensures { (elf : Elf) → executable ≡ executable_segment elf.segments.items →
-        result ≡ executable_end elf.segments.items }
-{
-    match executable {
-        Some((_, p)) => p.offset as u128 + p.filesz as u128,
-        None => 0,
-    }
-}
-
-// Whether an index is that of the executable segment.
-fn is_executable_segment(executable: Option<(usize, Segment)>, index: usize) -> bool
-    ensures { (elf : Elf) → executable ≡ executable_segment elf.segments.items →
-        result ≡ is_executable_segment elf index }
-{
-    match executable {
-        Some((at, _)) => at == index,
-        None => false,
-    }
 }
 
 // Whether the table of program headers moves.

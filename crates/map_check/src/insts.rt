@@ -1,24 +1,24 @@
 // All instructions of the input.
-ghost use Rattle.std.specs.Prelude.{◌≡◌, ◌+◌, ◌<◌, ℕ, Contains, length, slice_index_or};
+ghost use Rattle.std.specs.Prelude.{◌≡◌, ◌+◌, ◌<◌, ◌↔◌, ℕ, Contains, IsTrue, length, slice_index_or};
 ghost use Rattle.std.specs.List.Sorted.{IsNonDecreasingBy};
 ghost use Rattle.rv_code.specs.declared.placed.Placed.{Placed};
 ghost use Rattle.rv_code.specs.layout.Flow.{insts_of};
 ghost use Rattle.rv_code.specs.layout.FunctionLists.{AreLaidOut};
 ghost use Rattle.elf_image.specs.declared.elf.Elf.{Elf};
 ghost use Rattle.sym_machine.specs.internal.FunctionOrder.{addr_at};
-ghost use Rattle.move_law.specs.Rewrite.{Rewrite, Goes};
-ghost use Rattle.move_law.specs.FaithfulRewrite.{GoesOn, IsMapOf, KeepsInst};
+ghost use Rattle.move_law.specs.Rewrite.{Rewrite};
+ghost use Rattle.move_law.specs.FaithfulRewrite.{IsMapOf};
 ghost use Rattle.move_law.specs.FaithfulRewrite as faithful;
 ghost use Rattle.code_starts.specs.LoadedMemory.{IsLow};
-ghost use Rattle.map_check.specs.internal.InstRows.{IsChecked, IsJudgedOf};
+ghost use Rattle.map_check.specs.internal.InstRows.{IsChecked, IsJudgedOf, Meets};
 
 use crate::keeps::{goes_on, keeps_inst};
 use crate::names::span_of;
 use addr_map::Span;
 use elf_image::Elf;
 use elf_image::lowest::{lower, place_if};
-use rv_code::Func;
 use rv_code::flow::is_call;
+use rv_code::{Func, Placed};
 
 // The address of the instruction after the i-th of a function.
 fn next_in(func: &Func, i: usize) -> Option<u64>
@@ -51,60 +51,53 @@ fn next_at(table: &[Span], func: &Func, i: usize) -> Option<u64>
     }
 }
 
-fn lowest_unkept_in(output: &Elf, table: &[Span], func: &Func) -> Option<u64>
+/// What is asked of each instruction of the input.
+#[derive(Clone, Copy)]
+pub enum Demand {
+    /// That it is kept.
+    Kept,
+    /// That control goes on from its end to what followed it.
+    Followed,
+}
+
+// Whether an instruction is as is asked, where `next` is the address of the one to which control goes after it.
+fn meets(demand: Demand, output: &Elf, table: &[Span], p: &Placed, next: Option<u64>) -> bool
+    requires low { IsLow output.now }
+    requires sorted { IsNonDecreasingBy (λ s. s.input) table.now }
+    ensures { (r : Rewrite) → IsChecked r output.now table.now → faithful.next r p.now ≡ next →
+        IsTrue result ↔ Meets demand r p.now }
+{
+    match demand {
+        Demand::Kept => keeps_inst(output, table, p, next),
+        Demand::Followed => goes_on(output, table, p, next),
+    }
+}
+
+fn lowest_unmet_in(demand: Demand, output: &Elf, table: &[Span], func: &Func) -> Option<u64>
     requires low { IsLow output.now }
     requires sorted { IsNonDecreasingBy (λ s. s.input) table.now }
     ensures { (r : Rewrite) → IsChecked r output.now table.now → IsMapOf r → AreLaidOut r.code.funcs →
-        Contains r.code.funcs func.now → IsJudgedOf (KeepsInst r (Goes r.output)) func.now.insts.items result }
+        Contains r.code.funcs func.now → IsJudgedOf (Meets demand r) func.now.insts.items result }
 {
     let mut lowest = None;
     for i in 0..func.insts.len() {
         let p = &func.insts[i];
-        let kept = keeps_inst(output, table, p, next_at(table, func, i));
-        lowest = lower(lowest, place_if(!kept, p.addr));
+        let met = meets(demand, output, table, p, next_at(table, func, i));
+        lowest = lower(lowest, place_if(!met, p.addr));
     }
     lowest
 }
 
-/// The lowest address of an instruction that isn't kept.
-pub fn lowest_unkept(output: &Elf, table: &[Span], funcs: &[Func]) -> Option<u64>
+/// The lowest address of an instruction that isn't as is asked.
+pub fn lowest_unmet(demand: Demand, output: &Elf, table: &[Span], funcs: &[Func]) -> Option<u64>
     requires low { IsLow output.now }
     requires sorted { IsNonDecreasingBy (λ s. s.input) table.now }
     ensures { (r : Rewrite) → IsChecked r output.now table.now → IsMapOf r → AreLaidOut funcs.now →
-        r.code.funcs ≡ funcs.now → IsJudgedOf (KeepsInst r (Goes r.output)) (insts_of funcs.now) result }
+        r.code.funcs ≡ funcs.now → IsJudgedOf (Meets demand r) (insts_of funcs.now) result }
 {
     let mut lowest = None;
     for func in funcs {
-        lowest = lower(lowest, lowest_unkept_in(output, table, func));
-    }
-    lowest
-}
-
-fn lowest_unfollowed_in(output: &Elf, table: &[Span], func: &Func) -> Option<u64>
-    requires low { IsLow output.now }
-    requires sorted { IsNonDecreasingBy (λ s. s.input) table.now }
-    ensures { (r : Rewrite) → IsChecked r output.now table.now → IsMapOf r → AreLaidOut r.code.funcs →
-        Contains r.code.funcs func.now → IsJudgedOf (GoesOn r (Goes r.output)) func.now.insts.items result }
-{
-    let mut lowest = None;
-    for i in 0..func.insts.len() {
-        let p = &func.insts[i];
-        let kept = goes_on(output, table, p, next_at(table, func, i));
-        lowest = lower(lowest, place_if(!kept, p.addr));
-    }
-    lowest
-}
-
-/// The lowest address of an instruction from whose end control doesn't go on to what followed it.
-pub fn lowest_unfollowed(output: &Elf, table: &[Span], funcs: &[Func]) -> Option<u64>
-    requires low { IsLow output.now }
-    requires sorted { IsNonDecreasingBy (λ s. s.input) table.now }
-    ensures { (r : Rewrite) → IsChecked r output.now table.now → IsMapOf r → AreLaidOut funcs.now →
-        r.code.funcs ≡ funcs.now → IsJudgedOf (GoesOn r (Goes r.output)) (insts_of funcs.now) result }
-{
-    let mut lowest = None;
-    for func in funcs {
-        lowest = lower(lowest, lowest_unfollowed_in(output, table, func));
+        lowest = lower(lowest, lowest_unmet_in(demand, output, table, func));
     }
     lowest
 }

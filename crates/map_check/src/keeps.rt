@@ -10,11 +10,11 @@ ghost use Rattle.code_starts.specs.LoadedMemory.{IsLow};
 ghost use Rattle.map_check.specs.internal.InstRows.{IsChecked, calls_to};
 
 use crate::others::keeps_other;
-use crate::output::{goes, moved_by, width_at};
+use crate::output::{goes, width_at};
 use crate::rows::{found_in_span, gets_to, keeps_branch, new_of};
 use addr_map::Span;
 use elf_image::Elf;
-use rv_code::flow::{is_branch, is_plain_jump};
+use rv_code::flow::{is_branch, is_plain_jump, moved_by};
 use rv_code::{Action, Inst, Placed, ZERO};
 
 // Whether an instruction at a place is a JAL that writes this register, and leads to another place.
@@ -75,15 +75,7 @@ pub fn keeps_inst(output: &Elf, table: &[Span], p: &Placed, next: Option<u64>) -
             let target = moved_by(p.addr, imm);
             keeps_branch(output, table, p, test, wanted, rs1, rs2, target, next)
         }
-        Action::Compute { .. } => keeps_other(output, table, p),
-        Action::JumpTo { .. } => keeps_other(output, table, p),
-        Action::Upper { .. } => keeps_other(output, table, p),
-        Action::UpperPc { .. } => keeps_other(output, table, p),
-        Action::Load { .. } => keeps_other(output, table, p),
-        Action::Store { .. } => keeps_other(output, table, p),
-        Action::Fence => keeps_other(output, table, p),
-        Action::SystemCall => keeps_other(output, table, p),
-        Action::Breakpoint => keeps_other(output, table, p),
+        _ => keeps_other(output, table, p),
     }
 }
 

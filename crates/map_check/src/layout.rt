@@ -1,23 +1,14 @@
 // What a program finds of the layout of its file.
-ghost use Rattle.std.specs.Prelude.{◌≡◌, ◌≤◌, ◌↔◌, IfSome, IsTrue, find, option_copied};
+ghost use Rattle.std.specs.Prelude.{◌≡◌, ◌↔◌, IsTrue};
 ghost use Rattle.elf_image.specs.file.ParsedFile.{IsElfOf};
 ghost use Rattle.elf_image.specs.memory.Break.{break_bound, break_start, page_size, rounded_down, table_address};
-ghost use Rattle.elf_image.specs.memory.LoadedBytes.{loads_range};
 ghost use Rattle.move_law.specs.FaithfulRewrite.{KeepsLayout, KeepsTable};
 ghost use Rattle.move_law.specs.Rewrite.{Rewrite};
 ghost use Rattle.map_check.specs.internal.KeptBytes.{AreBytesOf};
 
-use elf_image::segment::PHDR_SIZE;
+use elf_image::segment::{PHDR_SIZE, range_segment};
 use elf_image::start::{BREAK_ROOM, PAGE_SIZE, writable_end};
 use elf_image::{Elf, Segment};
-
-// The first segment that loads a range of the file.
-fn range_segment(segments: &[Segment], start: u64, size: u64) -> Option<&Segment>
-    ensures first { option_copied result ≡ find (loads_range (record { start = start; size = size })) segments.now }
-    ensures within { IfSome result (λ p. p.now.offset ≤ start) }
-{
-    segments.iter().find(|p| p.loads_range(start, size))
-}
 
 // Where the table of program headers is loaded, 0 where no segment loads it from the file.
 fn table_address(elf: &Elf) -> u128

@@ -17,7 +17,6 @@ mod numbers;
 mod others;
 mod output;
 mod rows;
-mod same;
 mod spans;
 mod text;
 

@@ -24,8 +24,8 @@ fn has_leading_zero(digits: &[u8]) -> bool
     digits.len() > 1 && digits[0] == b'0'
 }
 
-/// The number whose hexadecimal text this is.
-pub fn hex_of(digits: &[u8]) -> Option<u64>
+// The number whose hexadecimal text this is.
+fn hex_of(digits: &[u8]) -> Option<u64>
     ensures some { IfSome result (λ n. digits.now ≡ hexadecimal n) }
     ensures small { IfSome result (λ n. n < 2 ^ 64) }
     ensures none { IfNone result ((n : ℕ) → n < 2 ^ 64 → digits.now ≡ hexadecimal n → ⊥) }

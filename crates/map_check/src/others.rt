@@ -7,15 +7,15 @@ ghost use Rattle.move_law.specs.Rewrite.{Rewrite};
 ghost use Rattle.move_law.specs.Rewrite as rewrite;
 ghost use Rattle.move_law.specs.RelocatedValues.{distance};
 ghost use Rattle.move_law.specs.FaithfulRewrite.{HasInSpan, made_anew};
-ghost use Rattle.move_law.specs.FaithfulRewrite as faithful;
 ghost use Rattle.code_starts.specs.LoadedMemory.{IsLow};
 ghost use Rattle.map_check.specs.internal.InstRows.{IsChecked};
 
 use crate::rows::{found_in_span, new_of};
-use crate::same::is_same;
 use addr_map::Span;
 use elf_image::Elf;
+use move_law::with_immediate;
 use rv_code::{Inst, Placed, Role};
+use rv_encode::same::is_same;
 
 // How far one address is from another.
 fn distance(to: u64, from: u64) -> i128
@@ -61,30 +61,6 @@ fn lower_part(v: i128) -> i64
 {
     let whole = shifted(upper(v));
     small_difference(v, whole)
-}
-
-// An instruction with another immediate, where it can have one of an address.
-fn with_immediate(inst: &Inst, imm: i64) -> Inst
-    ensures { result ≡ faithful.with_immediate inst.now imm }
-{
-    match *inst {
-        Inst::Lui { rd, .. } => Inst::Lui { rd, imm },
-        Inst::Auipc { rd, .. } => Inst::Auipc { rd, imm },
-        Inst::Addi { rd, rs1, .. } => Inst::Addi { rd, rs1, imm },
-        Inst::Jalr { rd, rs1, .. } => Inst::Jalr { rd, rs1, imm },
-        Inst::Lb { rd, rs1, .. } => Inst::Lb { rd, rs1, imm },
-        Inst::Lh { rd, rs1, .. } => Inst::Lh { rd, rs1, imm },
-        Inst::Lw { rd, rs1, .. } => Inst::Lw { rd, rs1, imm },
-        Inst::Ld { rd, rs1, .. } => Inst::Ld { rd, rs1, imm },
-        Inst::Lbu { rd, rs1, .. } => Inst::Lbu { rd, rs1, imm },
-        Inst::Lhu { rd, rs1, .. } => Inst::Lhu { rd, rs1, imm },
-        Inst::Lwu { rd, rs1, .. } => Inst::Lwu { rd, rs1, imm },
-        Inst::Sb { rs1, rs2, .. } => Inst::Sb { rs1, rs2, imm },
-        Inst::Sh { rs1, rs2, .. } => Inst::Sh { rs1, rs2, imm },
-        Inst::Sw { rs1, rs2, .. } => Inst::Sw { rs1, rs2, imm },
-        Inst::Sd { rs1, rs2, .. } => Inst::Sd { rs1, rs2, imm },
-        _ => *inst,
-    }
 }
 
 // An instruction by its role with the parts of new addresses.

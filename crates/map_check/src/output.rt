@@ -13,6 +13,7 @@ ghost use Rattle.map_check.specs.internal.OutputCode.{FindsAt, Jumps, byte_or_ze
 
 use crate::code_bytes::are_code_bytes;
 use elf_image::Elf;
+use rv_code::flow::moved_by;
 use rv_code::{Inst, ZERO};
 use rv_decode::decode;
 
@@ -81,13 +82,6 @@ fn jumps(elf: &Elf, from: u64, to: u64) -> bool
         Some((inst, _)) => leads_to(&inst, from, to),
         None => false,
     }
-}
-
-/// The address at a distance from another.
-pub fn moved_by(address: u64, distance: i64) -> u64
-    ensures { result ≡ plus address (unsigned64 distance) }
-{
-    address.wrapping_add(distance.cast_unsigned())
 }
 
 /// Whether control goes from one place to another.

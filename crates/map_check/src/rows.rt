@@ -10,9 +10,10 @@ ghost use Rattle.code_starts.specs.LoadedMemory.{IsLow};
 ghost use Rattle.map_check.specs.internal.InstRows.{FindsBranch, FindsInSpan, IsChecked, Leads};
 
 use crate::names::span_of;
-use crate::output::{goes, inst_at, moved_by};
+use crate::output::{goes, inst_at};
 use addr_map::Span;
 use elf_image::Elf;
+use rv_code::flow::moved_by;
 use rv_code::{Action, Inst, Placed, Test};
 
 /// An instruction of the output, where it stands, and its width.

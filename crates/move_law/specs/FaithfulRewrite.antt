@@ -1,10 +1,12 @@
--- A faithful rewrite: what the output has, instruction by instruction, for the code of the input, and byte by byte for all
--- else. From these facts alone follows that the output keeps the input's runs.
-use Rattle.std.specs.Prelude.{◌≡◌, ℕ, zero, suc, ◌%◌, ◌^◌, ◌≤◌, ◌==◌, ◌||◌, if◌then◌else◌, ℤ, pos, Bool, true, false, not, IsTrue}
+-- A faithful rewrite: what the output has, instruction by instruction, for the code of the input, and byte by byte
+-- for all else. From these facts alone follows that the output keeps the input's runs.
+use Rattle.std.specs.Prelude.{◌≡◌, ℕ, zero, suc, ◌%◌, ◌^◌, ◌≤◌, ◌==◌, ◌||◌, if◌then◌else◌, ℤ, pos, Bool, true, false}
+use Rattle.std.specs.Prelude.{not, IsTrue}
 use Rattle.std.specs.Prelude.{IsFalse, IsSome, IfSome, Option, Some, All, Any, length, option_map}
 use Rattle.std.specs.List.{list_any}
 use Rattle.rv_code.specs.declared.inst.Inst.{Inst}
-use Rattle.rv_code.specs.declared.inst.Inst.TheVariants.{Lui, Auipc, Jal, Jalr, Lb, Lh, Lw, Ld, Lbu, Lhu, Lwu, Sb, Sh, Sw, Sd}
+use Rattle.rv_code.specs.declared.inst.Inst.TheVariants.{Lui, Auipc, Jal, Jalr, Lb, Lh, Lw, Ld, Lbu, Lhu, Lwu, Sb, Sh}
+use Rattle.rv_code.specs.declared.inst.Inst.TheVariants.{Sw, Sd}
 use Rattle.rv_code.specs.declared.inst.Inst.TheVariants.{Addi}
 use Rattle.rv_code.specs.declared.action.Test.{Test}
 use Rattle.rv_code.specs.declared.action.Action.{Action}
@@ -36,10 +38,11 @@ use Rattle.move_law.specs.RelocatedValues.{distance, number_of_symbol}
 abbrev pub IsMapOf : Rewrite → Type 0
 IsMapOf r = IsMap (λ a. IsTrue (is_code_address r.code.funcs a)) (IsNamed r.code) r.spans
 
--- Instructions. L says from which place of the output control gets to which other one; in a faithful rewrite it is `Goes`.
+-- Instructions. L says from which place of the output control gets to which other one; in a faithful rewrite it is
+-- `Goes`.
 
--- The instruction to which control goes after another, if it goes on: after one that saves a return address the next one
--- of its function; after any other the one that starts where it ends, in whatever function. There may be none.
+-- The instruction to which control goes after another, if it goes on: after one that saves a return address the next
+-- one of its function; after any other the one that starts where it ends, in whatever function. There may be none.
 abbrev pub next : Rewrite → Placed → Option ℕ
 next r p =
     if is_call (action_at p)
@@ -91,8 +94,8 @@ pub record KeepsCall (r : Rewrite) (p : Placed) (rd : ℕ) (target : ℕ) : Type
   pub has : HasInSpan r p (Jal rd imm)
   pub goes_to : plus (out r p.addr) (unsigned64 imm) ≡ out r target
 
--- A conditional branch is there, on the same registers, with its condition or with the opposite one. Where the condition
--- holds, control gets to what stands for its target, and where it doesn't, to the next instruction.
+-- A conditional branch is there, on the same registers, with its condition or with the opposite one. Where the
+-- condition holds, control gets to what stands for its target, and where it doesn't, to the next instruction.
 pub data KeepsBranch (r : Rewrite) (L : ℕ → ℕ → Type 0) (p : Placed) (test : Test) (wanted : Bool)
     (rs1 rs2 target : ℕ) : Type 0 where
   same : (inst : Inst) (imm : ℤ) → HasInSpan r p inst → action_of inst ≡ Branch test wanted rs1 rs2 imm →
@@ -102,19 +105,20 @@ pub data KeepsBranch (r : Rewrite) (L : ℕ → ℕ → Type 0) (p : Placed) (te
       L (inst_end r p.addr) (out r target) → GetsToNext r L p (plus (out r p.addr) (unsigned64 imm)) →
       KeepsBranch r L p test wanted rs1 rs2 target
 
--- By what an instruction does: a JAL that saves nothing may be left out, if control gets from where it went to what stands
--- for its target. Any other instruction but JALs and branches is there, made anew.
+-- By what an instruction does: a JAL that saves nothing may be left out, if control gets from where it went to what
+-- stands for its target. Any other instruction but JALs and branches is there, made anew.
 abbrev pub KeepsAction : Rewrite → (ℕ → ℕ → Type 0) → Placed → Action → Type 0
 KeepsAction r L p (Jump zero imm) = L (out r p.addr) (out r (plus p.addr (unsigned64 imm)))
 KeepsAction r L p (Jump (suc rd) imm) = KeepsCall r p (suc rd) (plus p.addr (unsigned64 imm))
-KeepsAction r L p (Branch test wanted rs1 rs2 imm) = KeepsBranch r L p test wanted rs1 rs2 (plus p.addr (unsigned64 imm))
+KeepsAction r L p (Branch test wanted rs1 rs2 imm) = KeepsBranch r L p test wanted rs1 rs2
+    (plus p.addr (unsigned64 imm))
 KeepsAction r L p action = HasInSpan r p (made_anew (out r) p.addr p.role p.inst)
 
 abbrev pub KeepsInst : Rewrite → (ℕ → ℕ → Type 0) → Placed → Type 0
 KeepsInst r L p = KeepsAction r L p (action_at p)
 
--- Control goes on from the end of an instruction: not after a jump that saves nothing, nor after a branch, of which it is
--- said above where control goes.
+-- Control goes on from the end of an instruction: not after a jump that saves nothing, nor after a branch, of which
+-- it is said above where control goes.
 abbrev pub goes_on : Action → Bool
 goes_on (Jump rd imm) = not (rd == 0)
 goes_on (JumpTo rd rs1 imm) = not (rd == 0)
@@ -138,7 +142,8 @@ pub record SameRights (r : Rewrite) (a : ℕ) : Type 0 where
 -- the bytes that may change: those of code cells, of the field of the entry point, and of hidden fields
 abbrev pub may_change : Rewrite → ℕ → Bool
 may_change r a =
-    list_any (λ cell. is_in_range a (code_cell_range cell)) r.code.cells || is_in_entry_field r.input a || is_hidden_field r.input
+    list_any (λ cell. is_in_range a (code_cell_range cell)) r.code.cells || is_in_entry_field r.input a
+    || is_hidden_field r.input
     r.tight a
 
 -- a byte that the input loads

@@ -96,13 +96,14 @@ pub record RelatedData (r : Rewrite) (c : SymState) (b : ByteState) : Type 0 whe
   pub loaded : (a byte : ℕ) → is_loaded_with PF_W r.output.segments a ≡ false → memory_of r.output a ≡ Some byte →
       b.memory a ≡ byte
 
--- Where the input's program is at an instruction of a function, control gets from the output's pc to what stands for that.
+-- Where the input's program is at an instruction of a function, control gets from the output's pc to what stands for
+-- that.
 -- The place is even, or nothing could be fetched there.
 abbrev pub RelatedPc : Rewrite → (ℕ → ℕ → Type 0) → ℕ → ℕ → Type 0
 RelatedPc r L c b = IsTrue (is_code_address r.code.funcs c) → (b % 2 ≡ 0) × L b (out r c)
 
--- The state c on the input and the state b on the output are related. L says from which place of the output control gets
--- to which other one.
+-- The state c on the input and the state b on the output are related. L says from which place of the output control
+-- gets to which other one.
 pub record SimulationRelation (r : Rewrite) (L : ℕ → ℕ → Type 0) (c : SymState) (b : ByteState) : Type 0 where
   pub pc : RelatedPc r L c.pc b.pc
   pub rest : RelatedData r c b

@@ -11,8 +11,8 @@ pub record IsFirsts (firsts column : List ℕ) : Type 0 where
   pub count : length firsts ≡ (length column + 63) / 64
   pub each : (k : ℕ) → k < length firsts → slice_index firsts k ≡ slice_index column (64 * k)
 
--- the levels over a column, the lowest first: each has the firsts of what is below it, and the highest, or the column where
--- there is none, has at most 64 members
+-- the levels over a column, the lowest first: each has the firsts of what is below it, and the highest, or the column
+-- where there is none, has at most 64 members
 abbrev pub AreLevels : List ℕ → List (Vec ℕ Global) → Type 0
 AreLevels column [] = length column ≤ 64
 AreLevels column (firsts ∷ levels) = IsFirsts firsts.items column × AreLevels firsts.items levels

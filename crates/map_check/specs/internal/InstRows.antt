@@ -16,8 +16,10 @@ use Rattle.addr_map.specs.declared.span.Span.{Span}
 use Rattle.addr_map.specs.Spans.{is_of}
 use Rattle.move_law.specs.Rewrite.{Rewrite, width_at, out, Goes}
 use Rattle.elf_image.specs.memory.Executables.{executable_read}
-use Rattle.move_law.specs.FaithfulRewrite.{HasInSpan, GetsToNext}
+use Rattle.move_law.specs.FaithfulRewrite.{GoesOn, HasInSpan, KeepsInst, GetsToNext}
 use Rattle.map_check.specs.Lacking.{LacksAt}
+use Rattle.map_check.specs.declared.insts.Demand.{Demand}
+use Rattle.map_check.specs.declared.insts.Demand.TheVariants.{Kept, Followed}
 use Rattle.map_check.specs.declared.rows.Found.{Found}
 
 -- the output that was read, and the spans in the order of their inputs, each input once
@@ -58,3 +60,8 @@ calls_to _ rd from to = false
 pub record IsJudgedOf (P : Placed → Type 0) (insts : List Placed) (o : Option ℕ) : Type 0 where
   pub all : IfNone o (All P insts)
   pub lowest : IsLowest (LacksAt P (λ p. p.addr) insts) o
+
+-- an instruction is as is asked
+abbrev pub Meets : Demand → Rewrite → Placed → Type 0
+Meets Kept r = KeepsInst r (Goes r.output)
+Meets Followed r = GoesOn r (Goes r.output)

@@ -4,7 +4,8 @@ use Rattle.area_room.specs.EntryNeeds.{has_inst_in}
 use Rattle.rb_bytes.proofs.RangeCounts.{count-none}
 use Rattle.area_room.proofs.BlockStretches.{are_of_functions, count_by_starts, none_in_empty, place_within, starts_ascend}
 use Rattle.area_room.proofs.block_counts.count_blocks_in.Goals as goal
-use Rattle.area_room.proofs.block_counts.count_blocks_in.Goals.{else-before-gt0-via-then-before-gt0+else-has_inst_in, else-before-gt0-via-else-before-gt0}
+use Rattle.area_room.proofs.block_counts.count_blocks_in.Goals.{else-before-gt0-via-then-before-gt0+else-has_inst_in}
+use Rattle.area_room.proofs.block_counts.count_blocks_in.Goals.{else-before-gt0-via-else-before-gt0}
 
 abbrev first_block : Block
 first_block = record { func = 0; first = 0; last = 0 }

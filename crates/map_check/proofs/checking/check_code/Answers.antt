@@ -14,26 +14,26 @@ returns-in-Some c = λ r ch of map before.
     first_false r 2 clause.SpanBytes c.in-Some.a refl before
     (lowest_in_code r c.args.output.now c.args.table.now ch _ c.in-Some.ensures.lowest)
 
-pub returns-in-Some-lowest_unkept : goal.returns-in-Some-lowest_unkept
-returns-in-Some-lowest_unkept c = λ r ch of map before.
+pub returns-in-Some-lowest_unmet : goal.returns-in-Some-lowest_unmet
+returns-in-Some-lowest_unmet c = λ r ch of map before.
     let same = ap (λ (k : ProgramCode). k.funcs) of.code_is in
     let three = holds_next r 2 3 clause.SpanBytes refl refl before
     (lowest_in_code r c.args.output.now c.args.table.now ch _ c.in-None.ensures.lowest) in
-    first_false r 3 clause.Instruction c.in-Some-lowest_unkept.a refl three
+    first_false r 3 clause.Instruction c.in-Some-lowest_unmet.a refl three
     (judged_of (KeepsInst r (Goes r.output)) c.args.funcs.now r.code.funcs _ same
-    (c.in-Some-lowest_unkept.ensures r ch map c.requires.laid same)).lowest
+    (c.in-Some-lowest_unmet.ensures r ch map c.requires.laid same)).lowest
 
-pub returns-in-Some-lowest_unfollowed : goal.returns-in-Some-lowest_unfollowed
-returns-in-Some-lowest_unfollowed c = λ r ch of map before.
+pub returns-in-Some-lowest_unmet-2 : goal.returns-in-Some-lowest_unmet-2
+returns-in-Some-lowest_unmet-2 c = λ r ch of map before.
     let same = ap (λ (k : ProgramCode). k.funcs) of.code_is in
     let three = holds_next r 2 3 clause.SpanBytes refl refl before
     (lowest_in_code r c.args.output.now c.args.table.now ch _ c.in-None.ensures.lowest) in
     let four = holds_next r 3 4 clause.Instruction refl refl three
     (judged_of (KeepsInst r (Goes r.output)) c.args.funcs.now r.code.funcs _ same
-    (c.in-None-lowest_unkept.ensures r ch map c.requires.laid same)).lowest in
-    first_false r 4 clause.Next c.in-Some-lowest_unfollowed.a refl four
+    (c.in-None-lowest_unmet.ensures r ch map c.requires.laid same)).lowest in
+    first_false r 4 clause.Next c.in-Some-lowest_unmet-2.a refl four
     (judged_of (GoesOn r (Goes r.output)) c.args.funcs.now r.code.funcs _ same
-    (c.in-Some-lowest_unfollowed.ensures r ch map c.requires.laid same)).lowest
+    (c.in-Some-lowest_unmet-2.ensures r ch map c.requires.laid same)).lowest
 
 pub returns-then-output-new_of : goal.returns-then-output-new_of
 returns-then-output-new_of c = λ r ch of map before.
@@ -42,10 +42,10 @@ returns-then-output-new_of c = λ r ch of map before.
     (lowest_in_code r c.args.output.now c.args.table.now ch _ c.in-None.ensures.lowest) in
     let four = holds_next r 3 4 clause.Instruction refl refl three
     (judged_of (KeepsInst r (Goes r.output)) c.args.funcs.now r.code.funcs _ same
-    (c.in-None-lowest_unkept.ensures r ch map c.requires.laid same)).lowest in
+    (c.in-None-lowest_unmet.ensures r ch map c.requires.laid same)).lowest in
     let five = holds_next r 4 5 clause.Next refl refl four
     (judged_of (GoesOn r (Goes r.output)) c.args.funcs.now r.code.funcs _ same
-    (c.in-None-lowest_unfollowed.ensures r ch map c.requires.laid same)).lowest in
+    (c.in-None-lowest_unmet-2.ensures r ch map c.requires.laid same)).lowest in
     let entry = ap (λ (x : Executable). x.entry) ch.output_is in
     let moved = new_is r c.args.output.now c.args.table.now ch c.args.input.now.entry
     ∙ ap (λ (e : Elf). out r e.entry) (sym of.input_is) in
@@ -57,9 +57,9 @@ pub returns : goal.returns
 returns c = λ r ch of map before.
     let same = ap (λ (k : ProgramCode). k.funcs) of.code_is in
     let kept = judged_of (KeepsInst r (Goes r.output)) c.args.funcs.now r.code.funcs _ same
-    (c.in-None-lowest_unkept.ensures r ch map c.requires.laid same) in
+    (c.in-None-lowest_unmet.ensures r ch map c.requires.laid same) in
     let followed = judged_of (GoesOn r (Goes r.output)) c.args.funcs.now r.code.funcs _ same
-    (c.in-None-lowest_unfollowed.ensures r ch map c.requires.laid same) in
+    (c.in-None-lowest_unmet-2.ensures r ch map c.requires.laid same) in
     let three = holds_next r 2 3 clause.SpanBytes refl refl before
     (lowest_in_code r c.args.output.now c.args.table.now ch _ c.in-None.ensures.lowest) in
     let four = holds_next r 3 4 clause.Instruction refl refl three kept.lowest in
