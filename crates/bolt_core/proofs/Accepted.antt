@@ -30,7 +30,7 @@ use Rattle.bolt_core.specs.Limits.{IsTooLarge}
 use Rattle.bolt_core.specs.NewCode.{IsLaidOutBy}
 use Rattle.bolt_core.specs.ProfileOrder.{ArePartsBy, ArePartsOf, IsProfileOrder, cold_starts, counts_of}
 use Rattle.bolt_core.specs.internal.TableLimits.{IsHeavy}
-use Rattle.bolt_core.specs.TableFaults.{HasTableFault}
+use Rattle.bolt_core.specs.TableFaults.{HasCarryingFault}
 use Rattle.bolt_core.specs.Refusals.{CanStand, Fit, IsInput, IsRefusal, misplaced, no_place, not_carried, too_heavy, too_large, unreadable}
 
 -- a program with its functions and blocks as slices
@@ -52,7 +52,7 @@ pub start_by : {funcs : List Func} {blocks : List Block} (p : ReadProgram) → f
 start_by p same_funcs same_blocks start is = is ∙ ap (λ (x : Program). new_start x) (same_program p same_funcs same_blocks)
 
 pub stands_by : {funcs : List Func} {blocks : List Block} (p : ReadProgram) → funcs ≡ p.funcs.items →
-    blocks ≡ p.blocks.items → IsFree (HasPlacementFault funcs blocks) → IsFree (HasTableFault p.elf) →
+    blocks ≡ p.blocks.items → IsFree (HasPlacementFault funcs blocks) → IsFree (HasCarryingFault p.elf) →
     no_program_room (program_seen p) ≡ None → CanStand (program_of p.elf funcs p.refs blocks)
 stands_by p same_funcs same_blocks placed carried room = record {
   moves = record { placed = placed; carried = carried };
@@ -101,11 +101,11 @@ module _ {file profile : List ℕ} {x : Program} (is : IsInput file profile x) w
   misplaced_refusal refusal.Memory has = tt
 
   pub not_carried_refusal : IsFree (HasPlacementFault x.code.funcs x.blocks) → (r : Refusal) →
-      IsRefusalBy (HasTableFault x.elf) r → IsRefusal file profile r
+      IsRefusalBy (HasCarryingFault x.elf) r → IsRefusal file profile r
   not_carried_refusal placed (refusal.Fault fault) has = not_carried x is placed has
   not_carried_refusal placed refusal.Memory has = tt
 
-  pub no_place_refusal : IsFree (HasPlacementFault x.code.funcs x.blocks) → IsFree (HasTableFault x.elf) → (r : Refusal) →
+  pub no_place_refusal : IsFree (HasPlacementFault x.code.funcs x.blocks) → IsFree (HasCarryingFault x.elf) → (r : Refusal) →
       IsRefusalFor (λ fault. no_program_room x ≡ Some fault) r → IsRefusal file profile r
   no_place_refusal placed carried (refusal.Fault fault) none = no_place x is (record { placed = placed; carried = carried }) none
   no_place_refusal placed carried refusal.Memory none = tt

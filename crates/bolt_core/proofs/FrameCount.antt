@@ -1,5 +1,6 @@
 -- The count of the entries of a written frame table: its runs take no more room than `need` has for them.
-use Rattle.std.proofs.Common.{◌≡◌, ◌≢◌, ℕ, zero, ◌+◌, ◌-◌, ◌*◌, ◌<◌, ◌≤◌, ◌⊎◌, ◌∙◌, inl, inr, List, [], ◌∷◌, ◌++◌, length, refl, sym, ap, subst}
+use Rattle.std.proofs.Common.{◌≡◌, ◌≢◌, ℕ, zero, ◌+◌, ◌-◌, ◌*◌, ◌<◌, ◌≤◌, ◌⊎◌, ◌∙◌, inl, inr, List, [], ◌∷◌, ◌++◌, length, refl, sym, ap}
+use Rattle.std.proofs.Common.{subst}
 use Rattle.std.proofs.Common.{arith, Option, Some, None, Bool, true, false, cond, sum_by, map, filter, take, drop}
 use Rattle.std.specs.Prelude.{Contains, AllPairs, nat_le, option_map, option_and_then, ◌||◌}
 use Rattle.std.specs.Option.{option_map_or}
@@ -143,7 +144,8 @@ module _ (is_marked : Fde → Bool) (list : List Fde) (made : (f : Fde) → Cont
         let same : x.row ≡ row = ap (λ (o : Option FrameAnswer). option_map_or (λ (y : FrameAnswer). y.row) o row) (sym h) in
         among row same (row_among a f.rows None row g)
 
-  source : (a : ℕ) (x : FrameAnswer) → at a ≡ Some x → Source at run_size blocks (block_start funcs) (HasInst funcs) list cuts piece_size a x
+  source : (a : ℕ) (x : FrameAnswer) → at a ≡ Some x → Source at run_size blocks (block_start funcs) (HasInst funcs) list cuts piece_size a
+      x
   source a x e = by (find (λ g. is_in_range g a) list) refl e where
     from : (f : Fde) → find (λ g. is_in_range g a) list ≡ Some f → answer_of is_marked f a ≡ Some x →
         Source at run_size blocks (block_start funcs) (HasInst funcs) list cuts piece_size a x
@@ -188,7 +190,8 @@ module _ (is_marked : Fde → Bool) (list : List Fde) (made : (f : Fde) → Cont
       AreRunsOf (carried (answer_at is_marked list) spans) runs →
       sum_by (λ r. run_size r.answer) runs ≤ sum_by (λ f. piece_count funcs blocks list f * piece_size f) list
   frame_count spans disjoint once laid runs are =
-      let all = counted at run_size blocks (block_start funcs) (HasInst funcs) list cuts piece_size source spans disjoint once laid runs are in
+      let all = counted at run_size blocks (block_start funcs) (HasInst funcs) list cuts piece_size source spans disjoint once laid runs are
+      in
       let more = sum_by-le-sum_by (λ f. length (cuts f) * piece_size f) (λ f. piece_count funcs blocks list f * piece_size f) list
       (λ f. mul-le (length (cuts f)) (piece_size f) (piece_count funcs blocks list f) (piece_size f) (few_cuts f) (omega arith)) in
       omega (arith, all, more)

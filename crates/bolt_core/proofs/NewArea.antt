@@ -40,9 +40,6 @@ both_false : (a b : Bool) → a ≡ true → (a && b) ≡ false → b ≡ false
 both_false true b h e = e
 both_false false b h e = absurd (cc)
 
-room_of : List Segment → Bool → ℕ
-room_of segments tight = cond tight (room_above segments) (room segments)
-
 fits_in : (segments : List Segment) (n : ℕ) (tight : Bool) → is_tight segments n ≡ tight → has_no_room segments n ≡ false → 0
     < n →
     Fits n (area_start_of segments tight) (cond tight (room_above segments) (room segments))

@@ -64,7 +64,8 @@ module _ {A B F : Type 0} (at : ℕ → Option A) (weight : A → ℕ) (blocks :
         let g = y.out in
         omega (arith, less, e, f, g)
 
-    cut : (r : Run A) → RunStart at spans r → HasPlace (λ (q : Run A). weight q.answer) (λ (p : F × ℕ). size p.0) BeginsAt (all_owned cuts size list) r
+    cut : (r : Run A) → RunStart at spans r → HasPlace (λ (q : Run A). weight q.answer) (λ (p : F × ℕ). size p.0) BeginsAt
+        (all_owned cuts size list) r
     cut r b = by (laid b.s b.among b.bytes) where
       o : Source b.s.input r.answer
       o = sources b.s.input r.answer b.answer

@@ -135,10 +135,6 @@ reach_inst len a t _ near goes low there short = absurd (cc)
 -- The functions of a program in which no branch leaves a whole one.
 module _ (elf : Elf) (funcs : List Func) (blocks : List Block) (laid : AreLaidOut funcs)
     (free : IsFree (HasPlacementFault funcs blocks)) where
-  not_false : (b : Bool) → (b ≡ true → ⊥) → b ≡ false
-  not_false true h = absurd (h refl)
-  not_false false h = refl
-
   -- where a short branch of a whole function goes
   inside : (func : Func) (p : Placed) → Contains funcs func → Contains func.insts.items p → IsTrue func.whole →
       IsTrue (is_short p) → (t : ℕ) → target_of p ≡ Some t → func_holds t func ≡ true

@@ -15,23 +15,23 @@ use Rattle.dw_unit.specs.Tables.{sections_of}
 use Rattle.table_set.specs.TableFaults as tables
 use Rattle.table_set.specs.TableLimits.{IsTooHeavy, abbreviations}
 use Rattle.table_set.proofs.SoundUnits.{units_sound}
-use Rattle.bolt_core.specs.TableFaults.{HasTableFault}
+use Rattle.bolt_core.specs.TableFaults.{HasCarryingFault}
 
 module _ (elf : Elf) where
   -- no fault of tables is that of a registration
-  from_tables : (kind : FaultKind) (place : ℕ) → tables.HasTableFault elf kind place → HasTableFault elf kind place
+  from_tables : (kind : FaultKind) (place : ℕ) → tables.HasTableFault elf kind place → HasCarryingFault elf kind place
   from_tables fault.RegisteredFrames place has = absurd (cc)
   from_tables kind place has = has
 
   module _ (unregistered : (place : ℕ) → IsRegisteredFrames elf place → ⊥) where
-    to_tables : (kind : FaultKind) (place : ℕ) → HasTableFault elf kind place → tables.HasTableFault elf kind place
+    to_tables : (kind : FaultKind) (place : ℕ) → HasCarryingFault elf kind place → tables.HasTableFault elf kind place
     to_tables fault.RegisteredFrames place has = absurd (unregistered place has)
     to_tables kind place has = has
 
-    pub tables_free : IsFree (tables.HasTableFault elf) → IsFree (HasTableFault elf)
+    pub tables_free : IsFree (tables.HasTableFault elf) → IsFree (HasCarryingFault elf)
     tables_free free kind place has = free kind place (to_tables kind place has)
 
-    pub tables_refused : (r : Refusal) → IsRefusalBy (tables.HasTableFault elf) r → IsRefusalBy (HasTableFault elf) r
+    pub tables_refused : (r : Refusal) → IsRefusalBy (tables.HasTableFault elf) r → IsRefusalBy (HasCarryingFault elf) r
     tables_refused (refusal.Fault f) is = record {
       present = from_tables f.kind f.place is.present;
       first = λ kind lower place has. is.first kind lower place (to_tables kind place has);
@@ -41,11 +41,11 @@ module _ (elf : Elf) where
     tables_refused refusal.Memory is = tt
 
   -- those of debug data are among them
-  pub debug_free : IsFree (HasTableFault elf) → IsFree (tables.HasDebugFault elf)
+  pub debug_free : IsFree (HasCarryingFault elf) → IsFree (tables.HasDebugFault elf)
   debug_free free kind place has = free kind place (from_tables kind place has.1)
 
   -- its units can be read
-  pub sound_units : IsFree (HasTableFault elf) → IsFree (HasDwarfFault (unit_fault_places (sections_of elf)))
+  pub sound_units : IsFree (HasCarryingFault elf) → IsFree (HasDwarfFault (unit_fault_places (sections_of elf)))
   sound_units free = units_sound elf (λ kind place has. free kind place (from_tables kind place has))
 
 -- the declarations of units don't weigh too much

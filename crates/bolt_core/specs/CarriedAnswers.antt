@@ -1,5 +1,5 @@
--- What tables of a written file answer at new code, and what is kept of them. DWARF 5, sections 2.17, 2.6 and 6; LSB, "The
--- .eh_frame section".
+-- What tables of a written file answer at new code, and what is kept of them. DWARF 5, sections 2.17, 2.6 and 6; LSB,
+-- "The .eh_frame section".
 use Rattle.std.specs.Prelude.{IsTrue, List, codes}
 use Rattle.elf_image.specs.declared.elf.Elf.{Elf}
 use Rattle.rb_bytes.specs.FirstFault.{IsFree}
@@ -19,6 +19,7 @@ pub record CarriesTables (spans : List Span) (i f : Elf) : Type 0 where
   pub sound : IsFree (HasTableFault f)
   pub ends : IsTrue (has_frames i) → EndsWithMark (bytes_of f (codes ".eh_frame"))
   pub index : IsTrue (has_index i) → StandsIndex f
-  -- units, their entries and line units are kept, changed in place by the offsets of these lists, and so is all other debug data
+  -- units, their entries and line units are kept, changed in place by the offsets of these lists, and so is all other
+  -- debug data
   pub lists : List ListAt
   pub kept : IsDebugKept spans lists i f

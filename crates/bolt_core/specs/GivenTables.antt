@@ -1,5 +1,6 @@
 -- The tables that are written anew, by the names of their sections.
-use Rattle.std.specs.Prelude.{◌≡◌, ◌==◌, ◌++◌, ◌||◌, ℕ, not, List, [], ◌∷◌, Option, Some, None, is_some, String, Vec, string_bytes}
+use Rattle.std.specs.Prelude.{◌≡◌, ◌==◌, ◌++◌, ◌||◌, ℕ, not, List, [], ◌∷◌, Option, Some, None, is_some, String, Vec}
+use Rattle.std.specs.Prelude.{string_bytes}
 use Rattle.std.specs.Prelude.{codes, if◌then◌else◌, length, map}
 use Rattle.std.specs.declared.alloc.Global.{Global}
 use Rattle.elf_image.specs.declared.elf.Elf.{Elf}
@@ -40,7 +41,8 @@ debug_listed d =
 -- The table of ranges, where the file has one or ranges are written: entries with a low and a high address get some.
 abbrev pub ranges_given : Elf → List ℕ → Option (List ℕ)
 ranges_given elf bytes =
-    if is_some (section_called elf.sections.items (codes ".debug_rnglists")) || not (length bytes == 0) then Some bytes else None
+    if is_some (section_called elf.sections.items (codes ".debug_rnglists"))
+    || not (length bytes == 0) then Some bytes else None
 
 -- Debug tables are always among them: without a section of its name one is empty, and isn't written.
 abbrev pub listed : Option (List ℕ) → Option (List ℕ) → Option (List ℕ) → DebugContents → List (List ℕ × List ℕ)

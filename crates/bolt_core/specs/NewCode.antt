@@ -17,4 +17,5 @@ pub record IsLaidOutBy (x : Program) (order : List ℕ) (spans : List Span) (cod
   pub forms : List Form
   pub are_forms : AreForms (strips_of x.code.funcs x.blocks order) (new_start x) forms
   pub spans_are : AreInLineOrder (spans_of (strips_of x.code.funcs x.blocks order) (new_start x) forms) spans
-  pub made : Adds [] code (made_from (new spans) (new_start x) (pieces_of (strips_of x.code.funcs x.blocks order) forms))
+  pub made : Adds [] code (made_from (new spans) (new_start x)
+      (pieces_of (strips_of x.code.funcs x.blocks order) forms))

@@ -18,8 +18,8 @@ use Rattle.program.specs.Program.{Program}
 abbrev pub counts_of : Program → List ℕ → ℕ → ℕ → ℕ
 counts_of x profile = count_in profile x.elf x.code.funcs
 
--- The hot and the cold part of each function: blocks are linked along the edges between them,
--- by counts of pairs of instructions.
+-- The hot and the cold part of each function: blocks are linked along the edges between them, by counts of pairs of
+-- instructions.
 pub record ArePartsOf (counts : ℕ → ℕ → ℕ) (pairs : List Counted) (funcs : List Func) (cells : List CodeCell)
     (blocks : List Block) (parts : Chains) : Type 0 where
   pub pairs_are : ArePairs counts pairs
@@ -34,7 +34,8 @@ abbrev pub ArePartsBy : Program → List ℕ → List Counted → Chains → Typ
 ArePartsBy x profile pairs parts = ArePartsOf (counts_of x profile) pairs x.code.funcs x.code.cells x.blocks parts
 
 -- The order of all blocks, each by its place in the list of blocks.
-pub record IsProfileOrder (x : Program) (profile : List ℕ) (pairs : List Counted) (parts : Chains) (order : List ℕ) : Type 0 where
+pub record IsProfileOrder (x : Program) (profile : List ℕ) (pairs : List Counted) (parts : Chains)
+    (order : List ℕ) : Type 0 where
   pub parts_are : ArePartsBy x profile pairs parts
   pub placed : IsPlacement x.code.funcs x.blocks parts pairs (block_weight pairs x.code.funcs) order
 

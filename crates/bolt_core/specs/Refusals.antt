@@ -18,7 +18,7 @@ use Rattle.table_set.specs.TableLimits.{IsTooHeavy}
 use Rattle.bolt_core.specs.Limits.{IsTooLarge}
 use Rattle.bolt_core.specs.NewCode.{IsLaidOutBy}
 use Rattle.bolt_core.specs.ProfileOrder.{ArePartsBy, IsProfileOrder, cold_starts}
-use Rattle.bolt_core.specs.TableFaults.{HasTableFault}
+use Rattle.bolt_core.specs.TableFaults.{HasCarryingFault}
 
 -- neither the file nor the profile is too long
 pub record Fit (file profile : List ℕ) : Type 0 where
@@ -33,16 +33,16 @@ pub record IsInput (file profile : List ℕ) (x : Program) : Type 0 where
 -- nothing keeps a program's code from being placed, and its tables from being carried
 pub record CanMove (x : Program) : Type 0 where
   pub placed : IsFree (HasPlacementFault x.code.funcs x.blocks)
-  pub carried : IsFree (HasTableFault x.elf)
+  pub carried : IsFree (HasCarryingFault x.elf)
 
 -- and it has room
 pub record CanStand (x : Program) : Type 0 where
   pub moves : CanMove x
   pub room : no_program_room x ≡ None
 
--- Length comes first, of the file and then of the profile; then why the file isn't read as a program; what keeps its code
--- from being placed; what keeps its tables from being carried; want of room; and then the other limits, of which the
--- weights of tables are the last.
+-- Length comes first, of the file and then of the profile; then why the file isn't read as a program; what keeps its
+-- code from being placed; what keeps its tables from being carried; want of room; and then the other limits, of which
+-- the weights of tables are the last.
 pub data IsRefused (file profile : List ℕ) (fault : Fault) : Type 0 where
   long_file : file_limit < length file → fault ≡ fault_at TooLarge 0 → IsRefused file profile fault
   long_profile : length file ≤ file_limit → file_limit < length profile → fault ≡ fault_at TooLarge 1 →
@@ -51,7 +51,7 @@ pub data IsRefused (file profile : List ℕ) (fault : Fault) : Type 0 where
   misplaced : (x : Program) → IsInput file profile x → IsAnswered (HasPlacementFault x.code.funcs x.blocks) fault →
       IsRefused file profile fault
   not_carried : (x : Program) → IsInput file profile x → IsFree (HasPlacementFault x.code.funcs x.blocks) →
-      IsAnswered (HasTableFault x.elf) fault → IsRefused file profile fault
+      IsAnswered (HasCarryingFault x.elf) fault → IsRefused file profile fault
   no_place : (x : Program) → IsInput file profile x → CanMove x → no_program_room x ≡ Some fault →
       IsRefused file profile fault
   too_large : (x : Program) → IsInput file profile x → CanStand x → (pairs : List Counted) (parts : Chains) →

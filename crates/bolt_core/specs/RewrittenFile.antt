@@ -44,7 +44,8 @@ rewrite_of x written spans = record {
 -- machine, with the same arguments and input, the same system calls and the same status.
 abbrev pub KeepsRuns : Program → List ℕ → List Span → Type 0
 KeepsRuns x written spans = (args : List (List ℕ)) (input : List ℕ) → FitStack args →
-    (n : ℕ) (trace : List Event) (status : ℕ) → SymRuns (program (rewrite_of x written spans)) args input n trace status →
+    (n : ℕ) (trace : List Event) (status : ℕ) → SymRuns (program (rewrite_of x written spans)) args input n trace status
+    →
     (m : ℕ) × (m ≤ 3 * n + 1) × Runs written args input m trace status
 
 -- Every other run is matched as far as it goes.
@@ -57,7 +58,8 @@ KeepsRunsSoFar x written spans = (args : List (List ℕ)) (input : List ℕ) →
 -- those that follow from the input and the map, with these tables.
 abbrev pub FollowsTables : Program → Chains → List ReadTable → List ℕ → List Span → List ℕ → Type 0
 FollowsTables x parts given code spans written =
-    HasNewTables x.elf given code x.code.funcs (cold_starts x.code.funcs x.blocks parts) spans (is_tight_program x) written
+    HasNewTables x.elf given code x.code.funcs (cold_starts x.code.funcs x.blocks parts) spans
+    (is_tight_program x) written
 
 -- The program headers of the written file are those of the input, of which the executable segment's may grow;
 -- and one more where the new code has a segment of its own.
@@ -66,7 +68,8 @@ FollowsSegments x given code written =
     let segments = x.elf.segments.items in
     let area = area_for x.elf given code (is_tight_program x) in
     let shift = shift_of segments area in
-    IfSome (executable_segment segments) (λ e. AreNewHeaders shift.from shift.by area e.0 segments (segments_of written))
+    IfSome (executable_segment segments) (λ e. AreNewHeaders shift.from shift.by area e.0 segments
+    (segments_of written))
 
 -- what is counted of it
 abbrev pub counts_of_rewrite : Program → List ℕ → List Counted → List Span → RewriteCounts
@@ -89,8 +92,7 @@ pub record IsRewritten (file profile written : List ℕ) (spans : List Span) (co
   pub fits : (place : ℕ) →
       IsTooLarge program.elf program.code.funcs (cold_starts program.code.funcs program.blocks parts) place → ⊥
   pub light : IsTooHeavy program.elf spans → ⊥
-  -- the written file is one that its reader accepts, and a faithful rewrite,
-  -- so it keeps the runs of the input
+  -- the written file is one that its reader accepts, and a faithful rewrite, so it keeps the runs of the input
   pub sound : IsSound written
   pub faithful : IsFaithful (rewrite_of program written spans)
   pub runs : KeepsRuns program written spans

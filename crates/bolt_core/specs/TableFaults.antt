@@ -7,6 +7,6 @@ use Rattle.frame_rewrite.specs.Faults.{IsRegisteredFrames}
 use Rattle.table_set.specs.TableFaults as tables
 
 -- that a program tells of its unwind table itself, and the faults of tables
-abbrev pub HasTableFault : Elf → FaultKind → ℕ → Type 0
-HasTableFault elf fault.RegisteredFrames place = IsRegisteredFrames elf place
-HasTableFault elf kind place = tables.HasTableFault elf kind place
+abbrev pub HasCarryingFault : Elf → FaultKind → ℕ → Type 0
+HasCarryingFault elf fault.RegisteredFrames place = IsRegisteredFrames elf place
+HasCarryingFault elf kind place = tables.HasTableFault elf kind place

@@ -48,8 +48,8 @@ fn cold_start(funcs: &[Func], blocks: &[Block], hot: &[usize], cold: &[usize]) -
     }
 }
 
-/// For each function with a hot and a cold part the address in the input of the cold part's first instruction, in the order
-/// of functions.
+/// For each function with a hot and a cold part the address in the input of the cold part's first instruction, in the
+/// order of functions.
 pub fn cold_starts(
     alloc: Global,
     funcs: &[Func],

@@ -45,8 +45,8 @@ pub fn check_lengths(file: &[u8], profile: &[u8]) -> Result<(), Refusal>
     Ok(())
 }
 
-/// Refuses a program that passes one of the other limits: on its code, at 2 and 3, on its headers, at 5, or on the names that
-/// are written, at 6. `cold` has the addresses of the cold parts that get a name.
+/// Refuses a program that passes one of the other limits: on its code, at 2 and 3, on its headers, at 5, or on the
+/// names that are written, at 6. `cold` has the addresses of the cold parts that get a name.
 pub fn check_sizes(
     alloc: Global,
     elf: &Elf<'_>,

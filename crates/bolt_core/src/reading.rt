@@ -2,7 +2,7 @@
 ghost use Rattle.std.specs.Prelude.{IfErr, IfOk, OnOk};
 ghost use Rattle.rb_bytes.specs.FirstFault.{IsFree, IsRefusalBy};
 ghost use Rattle.table_set.specs.AllTables.{AllComeFrom};
-ghost use Rattle.bolt_core.specs.TableFaults.{HasTableFault};
+ghost use Rattle.bolt_core.specs.TableFaults.{HasCarryingFault};
 
 use elf_image::Elf;
 use frame_rewrite::registered_frames;
@@ -13,8 +13,8 @@ use table_set::{AllTables, read_all};
 /// Reads the tables that are carried to moved code, or says what keeps them from that.
 pub fn read_tables(alloc: Global, elf: &Elf<'_>) -> Result<AllTables, Refusal>
     ensures come { IfOk result (λ tables. AllComeFrom tables elf.now) }
-    ensures free { OnOk result (IsFree (HasTableFault elf.now)) }
-    ensures fault { IfErr result (IsRefusalBy (HasTableFault elf.now)) }
+    ensures free { OnOk result (IsFree (HasCarryingFault elf.now)) }
+    ensures fault { IfErr result (IsRefusalBy (HasCarryingFault elf.now)) }
 {
     match registered_frames(elf) {
         Some(place) => return Err(Refusal::Fault(Fault::at(FaultKind::RegisteredFrames, place))),

@@ -1,5 +1,6 @@
 // The tables that are given to be written.
-ghost use Rattle.std.specs.Prelude.{◌≡◌, ◌++◌, IfOk, IfSome, IsTrue, OnOk, Option, Some, None, if◌then◌else◌, is_some, map, option_map};
+ghost use Rattle.std.specs.Prelude.{◌≡◌, ◌++◌, IfOk, IfSome, IsTrue, OnOk, Option, Some, None, if◌then◌else◌, is_some};
+ghost use Rattle.std.specs.Prelude.{map, option_map};
 ghost use Rattle.frame_rewrite.specs.Index.{has_frames, has_index};
 ghost use Rattle.bolt_core.specs.GivenTables.{ranges_given, table_if, table_seen};
 ghost use Rattle.bolt_core.specs.internal.CarriedTables.{AreListedOf};
@@ -29,7 +30,8 @@ fn has_index(elf: &Elf) -> bool
     has_frames(elf) && has_index_header(&elf.segments)
 }
 
-// The index of a written unwind table, which stands behind so many bytes of code from a start on; none where the file has none.
+// The index of a written unwind table, which stands behind so many bytes of code from a start on; none where the file
+// has none.
 fn new_index(
     alloc: Global,
     elf: &Elf,
@@ -86,8 +88,8 @@ fn ranges_if(elf: &Elf, ranges: Vec<u8>) -> Option<Vec<u8>>
     }
 }
 
-/// The tables of a file in their new contents, and the index of its unwind table, by the names of their sections. The new code
-/// has so many bytes from a start on.
+/// The tables of a file in their new contents, and the index of its unwind table, by the names of their sections. The
+/// new code has so many bytes from a start on.
 pub fn listed(
     alloc: Global,
     elf: &Elf,

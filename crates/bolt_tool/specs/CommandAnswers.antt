@@ -7,7 +7,8 @@ use Rattle.cli_base.specs.declared.status.Status.TheVariants as status
 use Rattle.cli_base.specs.Status.{exit_number}
 use Rattle.cli_base.specs.Served.{IsInputKept, IsServed}
 use Rattle.cli_base.specs.World.{World}
-use Rattle.bolt_tool.specs.CommandLine.{Command, Rewrite, Map, Run, RunSymbols, Record, Repair, Lookup, Sample, Verify, Frames}
+use Rattle.bolt_tool.specs.CommandLine.{Command, Rewrite, Map, Run, RunSymbols, Record, Repair, Lookup, Sample, Verify}
+use Rattle.bolt_tool.specs.CommandLine.{Frames}
 use Rattle.bolt_tool.specs.Lines.{usage_line}
 use Rattle.cli_base.specs.PrintedLines.{PrintsOnly, FailsAtLine}
 use Rattle.cli_run.specs.recording.RecordAnswers.{RecordAnswers, RecordCompletes}
@@ -38,27 +39,34 @@ CommandAnswers (Some (Run args)) answer old new = RunAnswers byte_mode args old 
 CommandAnswers (Some (RunSymbols args)) answer old new = RunAnswers symbol_mode args old new answer
 CommandAnswers (Some (Record args)) answer old new = RecordAnswers args old new answer
 CommandAnswers (Some (Repair names)) answer old new = RepairAnswers names old new answer
-CommandAnswers (Some (Lookup args)) answer old new = LookAnswers (looking_up question.Report args.address) args.file old new answer
+CommandAnswers (Some (Lookup args)) answer old new = LookAnswers (looking_up question.Report args.address) args.file old
+    new answer
 CommandAnswers (Some (Sample args)) answer old new = SampleAnswers args old new answer
 CommandAnswers (Some (Verify names)) answer old new = VerifyAnswers names old new answer
-CommandAnswers (Some (Frames args)) answer old new = LookAnswers (looking_up question.Frames args.address) args.file old new answer
+CommandAnswers (Some (Frames args)) answer old new = LookAnswers (looking_up question.Frames args.address) args.file old
+    new answer
 CommandAnswers None answer old new = UsageAnswers answer old new
 
--- A rewrite is done, a map is printed, a profile is repaired, an address is looked up, a sample is made and an output is judged,
--- or memory runs out, where no fault is present and no count rose. A run of a file that can be run answers how that comes out.
+-- A rewrite is done, a map is printed, a profile is repaired, an address is looked up, a sample is made and an output
+-- is judged, or memory runs out, where no fault is present and no count rose. A run of a file that can be run answers
+-- how that comes out.
 abbrev pub Completes : Option Command → Status → World → World → Type 0
 Completes (Some (Rewrite names)) answer old new =
-    IsTrue old.files.told → OfInputs old names.inputs (IsAccepted IsRefused) → NoneRoseWriting names old new → IsOkOrNoMemory answer
+    IsTrue old.files.told → OfInputs old names.inputs (IsAccepted IsRefused) → NoneRoseWriting names old new →
+    IsOkOrNoMemory answer
 Completes (Some (Map names)) answer old new =
-    IsTrue old.files.told → OfInputs old names (IsAccepted IsRefused) → NoInputErrors names old new → IsOkOrNoMemory answer
+    IsTrue old.files.told → OfInputs old names (IsAccepted IsRefused) → NoInputErrors names old new →
+    IsOkOrNoMemory answer
 Completes (Some (Run args)) answer old new = CompletesRun byte_mode args answer old new
 Completes (Some (RunSymbols args)) answer old new = CompletesRun symbol_mode args answer old new
 Completes (Some (Record args)) answer old new = RecordCompletes args answer old new
 Completes (Some (Repair names)) answer old new = RepairCompletes names answer old new
-Completes (Some (Lookup args)) answer old new = LookCompletes (looking_up question.Report args.address) args.file answer old new
+Completes (Some (Lookup args)) answer old new = LookCompletes (looking_up question.Report args.address) args.file answer
+    old new
 Completes (Some (Sample args)) answer old new = SampleCompletes args answer old new
 Completes (Some (Verify names)) answer old new = VerifyCompletes names answer old new
-Completes (Some (Frames args)) answer old new = LookCompletes (looking_up question.Frames args.address) args.file answer old new
+Completes (Some (Frames args)) answer old new = LookCompletes (looking_up question.Frames args.address) args.file answer
+    old new
 Completes None answer old new = Unit {0}
 
 -- the command doesn't touch standard input
@@ -70,14 +78,16 @@ LeavesInput _ = Unit {0}
 
 -- What a command does, or arguments that are none: its answer, and the world after it.
 abbrev pub Serves : Option Command → Status → World → World → Type 0
-Serves command answer old new = IsServed (CommandAnswers command answer old new) (Completes command answer old new) old new
+Serves command answer old new = IsServed (CommandAnswers command answer old new) (Completes command answer old new) old
+    new
 
 -- standard input stays as it was after a refusal, and by a command that doesn't touch it
 abbrev pub KeepsInput : {Input : Type 0} → Option Command → Status → Input → Input → Type 0
 KeepsInput command answer old new = IsInputKept (LeavesInput command) answer old new
 
 -- A process does a command, and exits with the number of its answer.
-pub record Exits {Input : Type 0} (command : Option Command) (code : ExitCode) (old new : World) (before after : Input) :
+pub record Exits {Input : Type 0} (command : Option Command) (code : ExitCode) (old new : World)
+    (before after : Input) :
     Type 0 where
   pub answer : Status
   pub code_is : exit_status code ≡ exit_number answer

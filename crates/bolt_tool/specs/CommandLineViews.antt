@@ -2,7 +2,8 @@
 use Rattle.std.specs.Prelude.{◌≢◌, Bool, true, false, List, [], ◌∷◌, map, string_bytes}
 use Rattle.std.specs.Option.{option_map}
 use Rattle.rv_memory.specs.Limits.{IsWithinLimits}
-use Rattle.bolt_tool.specs.CommandLine.{Token, Positional, Named, Expected, AnyToken, OnlyPositional, tokens, positionals}
+use Rattle.bolt_tool.specs.CommandLine.{Token, Positional, Named, Expected, AnyToken, OnlyPositional, tokens}
+use Rattle.bolt_tool.specs.CommandLine.{positionals}
 use Rattle.bolt_tool.specs.CommandLine.{RewriteNames}
 use Rattle.cli_base.specs.Inputs.{inputs_read}
 use Rattle.cli_check.specs.RepairNames.{repair_given}
@@ -10,7 +11,8 @@ use Rattle.cli_check.specs.VerifyNames.{verify_given}
 use Rattle.cli_look.specs.LookupArgs.{lookup_given}
 use Rattle.cli_look.specs.SampleArgs.{IsSampleNumber, sample_given}
 use Rattle.cli_run.specs.RunArgs.{RunArgs, RecordArgs}
-use Rattle.bolt_tool.specs.CommandLine.{Command, Rewrite, Map, Run, RunSymbols, Record, Repair, Lookup, Sample, Verify, Frames}
+use Rattle.bolt_tool.specs.CommandLine.{Command, Rewrite, Map, Run, RunSymbols, Record, Repair, Lookup, Sample, Verify}
+use Rattle.bolt_tool.specs.CommandLine.{Frames}
 use Rattle.cli_run.specs.declared.running.RunMode.{RunMode}
 use Rattle.cli_run.specs.declared.running.RunMode.TheVariants as mode
 use Rattle.bolt_tool.specs.declared.command_line.Token.{Token as TokenRead}

@@ -12,5 +12,6 @@ usage_line =
 abbrev pub summary_line : RewriteCounts → List ℕ
 summary_line counts =
     codes "moved " ++ decimal counts.functions ++ codes " functions, " ++ decimal counts.instructions
-    ++ codes " instructions, " ++ decimal counts.bytes ++ codes " bytes; " ++ decimal counts.hot ++ codes " hot blocks; "
+    ++ codes " instructions, " ++ decimal counts.bytes ++ codes " bytes; " ++ decimal counts.hot
+    ++ codes " hot blocks; "
     ++ decimal counts.ignored ++ codes " profile lines ignored\n"

@@ -15,8 +15,8 @@ pub mod serving;
 pub use commands::tool;
 pub use serving::serve;
 
-/// Where a file was rewritten, the functions at each byte of new code are those of the byte's owner, with the place of control in
-/// each.
+/// Where a file was rewritten, the functions at each byte of new code are those of the byte's owner, with the place of
+/// control in each.
 pub fn frames_law()
     ensures { FramesLaw }
 {}

@@ -1,5 +1,5 @@
-// The command `rewrite`: a rewrite is made, with all texts that say what it is, and only then are the output, the map and
-// the summary written.
+// The command `rewrite`: a rewrite is made, with all texts that say what it is, and only then are the output, the map
+// and the summary written.
 ghost use Rattle.std.specs.Prelude.{◌≡◌, ◌≢◌, ◌≤◌, IfOk, Some};
 ghost use Rattle.rb_io.specs.Views.{FilesGoOn, SourceSeen};
 ghost use Rattle.bolt_tool.specs.CommandAnswers.{Serves};

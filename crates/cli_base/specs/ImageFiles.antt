@@ -1,5 +1,5 @@
--- Files that are images, for the commands that look at nothing but what a file loads: those in which the reader finds nothing
--- wrong, and whose code passes no limit.
+-- Files that are images, for the commands that look at nothing but what a file loads: those in which the reader finds
+-- nothing wrong, and whose code passes no limit.
 use Rattle.std.specs.Prelude.{◌≡◌, ℕ, ◌<◌, ◌≤◌, List, length}
 use Rattle.rb_bytes.specs.Fault.{fault_at}
 use Rattle.rb_bytes.specs.declared.fault.Fault.{Fault}

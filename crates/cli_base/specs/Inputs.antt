@@ -23,7 +23,8 @@ inputs_read a = record { file = a.file.now; profile = a.profile.now }
 -- P holds of the contents of the input and of the profile, both being there
 abbrev pub OfInputs : World → InputNames → (List ℕ → List ℕ → Type 0) → Type 0
 OfInputs w names P =
-    IsSomeAnd (w.files.content names.file) (λ file. IsSomeAnd (w.files.content names.profile) (λ profile. P file profile))
+    IsSomeAnd (w.files.content names.file) (λ file. IsSomeAnd (w.files.content names.profile)
+    (λ profile. P file profile))
 
 -- both files were read whole, and are these bytes
 pub record AreRead (content : List ℕ → Option (List ℕ)) (names : InputNames) (file profile : List ℕ) : Type 0 where
@@ -52,7 +53,8 @@ module _ (Refused : List ℕ → List ℕ → Fault → Type 0) where
         → PrintsOnly (refused_line fault) old new → IsStopped names old new answer
     at_refusal : (fault : Fault) → answer ≡ status.WriteFault → HasInputFault names old fault
         → FailsAtLine (refused_line fault) old new → IsStopped names old new answer
-    at_file : answer ≡ status.ReadFault → ReadRose old new names.file ⊎ ReadRose old new names.profile → IsSilent old new
+    at_file : answer ≡ status.ReadFault → ReadRose old new names.file ⊎ ReadRose old new names.profile →
+        IsSilent old new
         → IsStopped names old new answer
     no_memory : answer ≡ status.NoMemory → IsSilent old new → IsStopped names old new answer
 

@@ -15,10 +15,14 @@ abbrev pub refused_end : FaultKind → ℕ → ℕ → List ℕ
 refused_end NoRoom need room = codes ": need " ++ decimal need ++ codes " room " ++ decimal room ++ codes "\n"
 refused_end _ need room = codes "\n"
 
-abbrev pub refused_line : Fault → List ℕ
-refused_line fault =
+-- up to the place of the fault
+abbrev pub refused_front : Fault → List ℕ
+refused_front fault =
     codes "refused " ++ decimal (number_of fault.kind) ++ codes " " ++ name_of fault.kind ++ codes " at "
-    ++ hexadecimal fault.place ++ refused_end fault.kind fault.need fault.room
+    ++ hexadecimal fault.place
+
+abbrev pub refused_line : Fault → List ℕ
+refused_line fault = refused_front fault ++ refused_end fault.kind fault.need fault.room
 
 -- how a run ended, after how many steps
 
@@ -37,7 +41,8 @@ cause_name Break = codes "Break"
 
 -- a trap at an address
 abbrev pub trapped_line : ℕ → Cause → ℕ → List ℕ
-trapped_line pc cause steps = codes "[trapped " ++ cause_name cause ++ codes " at " ++ hexadecimal pc ++ after_steps steps
+trapped_line pc cause steps = codes "[trapped " ++ cause_name cause ++ codes " at " ++ hexadecimal pc
+    ++ after_steps steps
 
 abbrev pub reason_name : Reason → List ℕ
 reason_name reason.NotCode = codes "NotCode"

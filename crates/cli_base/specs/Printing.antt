@@ -12,7 +12,8 @@ use Rattle.cli_base.specs.declared.status.Status.TheVariants as status
 -- The line was printed, and `done` answered; or a prefix of it; or none of it, out of memory.
 pub data LinePrinted (answer done : Status) (text : List ℕ) (before after : SinkSeen) : Type 0 where
   all_printed : answer ≡ done → TakesAll before.taken after.taken text → LinePrinted answer done text before after
-  prefix_printed : answer ≡ status.WriteFault → Rose before.faults after.faults → TakesPrefix before.taken after.taken text
+  prefix_printed : answer ≡ status.WriteFault → Rose before.faults after.faults →
+      TakesPrefix before.taken after.taken text
       → LinePrinted answer done text before after
   none_printed : answer ≡ status.NoMemory → after.taken ≡ before.taken → LinePrinted answer done text before after
 

@@ -11,7 +11,8 @@ use Rattle.cli_base.specs.declared.status.Status.{Status}
 use Rattle.cli_base.specs.declared.status.Status.TheVariants as status
 
 -- The file of a name has more than so many bytes, and is refused; it can't be read; or memory ran out.
-pub data IsUnread (name : List ℕ) (limit : ℕ) (old new : FilesSeen) (before after : SinkSeen) (answer : Status) : Type 0 where
+pub data IsUnread (name : List ℕ) (limit : ℕ) (old new : FilesSeen) (before after : SinkSeen)
+    (answer : Status) : Type 0 where
   too_long : (fault : Fault) → fault ≡ fault_at TooLarge 0
       → (IsTrue old.told → IsSomeAnd (old.content name) (λ file. limit < length file))
       → LinePrinted answer (status.Refused fault) (refused_line fault) before after

@@ -10,8 +10,8 @@ use program::has_too_much_code;
 use rb_bytes::fault::{Fault, FaultKind, Refusal};
 use std::alloc::Global;
 
-/// The image of a file of at most 64 MiB, or the fault for which it is none: the faults 1 to 8, and then `TooLarge` at 2 for
-/// its code.
+/// The image of a file of at most 64 MiB, or the fault for which it is none: the faults 1 to 8, and then `TooLarge` at
+/// 2 for its code.
 pub fn file_image<'file>(alloc: Global, file: &'file [u8]) -> Result<Elf<'file>, Refusal>
     requires fits { length file.now ≤ file_limit }
     ensures fields { IfOk result (IsElfOf file.now) }

@@ -56,7 +56,8 @@ fn read_both<F: Files>(
     ensures profile_fits { result ≡ Outcome.Whole → length profile.new.items ≤ file_limit }
     ensures failed { result ≡ Outcome.Failed →
         Rose ((F.seen files.old).read_faults args.now.file.now) ((F.seen files.new).read_faults args.now.file.now)
-        ⊎ Rose ((F.seen files.old).read_faults args.now.profile.now) ((F.seen files.new).read_faults args.now.profile.now) }
+        ⊎ Rose ((F.seen files.old).read_faults args.now.profile.now)
+        ((F.seen files.new).read_faults args.now.profile.now) }
     ensures kept { Unchanged (F.seen files.old).content (F.seen files.new).content }
     ensures files_go_on { FilesGoOn (F.seen files.old) (F.seen files.new) }
 {

@@ -1,8 +1,8 @@
 // The lines of refusals and of runs.
 ghost use Rattle.std.specs.Prelude.{◌≡◌, ◌*◌, ◌++◌, OnOk, OnErr, IfOk, codes};
 ghost use Rattle.rb_bytes.specs.Text.{hexadecimal};
-ghost use Rattle.cli_base.specs.Lines.{refused_line, refused_end, after_steps, ended_line, cause_name, trapped_line};
-ghost use Rattle.cli_base.specs.Lines.{reason_name, stuck_line, out_of_steps_line};
+ghost use Rattle.cli_base.specs.Lines.{refused_front, refused_line, refused_end, after_steps, ended_line, cause_name};
+ghost use Rattle.cli_base.specs.Lines.{trapped_line, reason_name, stuck_line, out_of_steps_line};
 
 use rb_bytes::fault::{Fault, FaultKind, NoMemory};
 use rb_bytes::text::{put_decimal, put_hex};
@@ -11,7 +11,8 @@ use std::alloc::Global;
 use sym_machine::Reason;
 
 fn put_refused_end(line: &mut Vec<u8>, fault: &Fault) -> Result<(), NoMemory>
-    ensures { OnOk result (line.new.items ≡ line.old.items ++ refused_end fault.now.kind fault.now.need fault.now.room) }
+    ensures { OnOk result (line.new.items ≡ line.old.items
+        ++ refused_end fault.now.kind fault.now.need fault.now.room) }
 {
     if fault.kind == FaultKind::NoRoom {
         line.extend_from_slice(b": need ")?;
@@ -23,9 +24,9 @@ fn put_refused_end(line: &mut Vec<u8>, fault: &Fault) -> Result<(), NoMemory>
     Ok(())
 }
 
-/// The line for a file that is refused.
-pub fn refused(alloc: Global, fault: &Fault) -> Result<Vec<u8>, NoMemory>
-    ensures { IfOk result (λ line. line.items ≡ refused_line fault.now) }
+/// The line for a file that is refused, up to the place of the fault.
+pub fn refused_front(alloc: Global, fault: &Fault) -> Result<Vec<u8>, NoMemory>
+    ensures { IfOk result (λ line. line.items ≡ refused_front fault.now) }
 {
     let mut line = Vec::from_slice(alloc, b"refused ")?;
     put_decimal(&mut line, fault.kind.number() as u64)?;
@@ -33,6 +34,14 @@ pub fn refused(alloc: Global, fault: &Fault) -> Result<Vec<u8>, NoMemory>
     line.extend_from_slice(fault.kind.name().as_bytes())?;
     line.extend_from_slice(b" at ")?;
     put_hex(&mut line, fault.place)?;
+    Ok(line)
+}
+
+/// The line for a file that is refused.
+pub fn refused(alloc: Global, fault: &Fault) -> Result<Vec<u8>, NoMemory>
+    ensures { IfOk result (λ line. line.items ≡ refused_line fault.now) }
+{
+    let mut line = refused_front(alloc, fault)?;
     put_refused_end(&mut line, fault)?;
     Ok(line)
 }

@@ -9,8 +9,8 @@ use program::{Program, check_code, read_program};
 use rb_bytes::fault::Refusal;
 use std::alloc::Global;
 
-/// The program of a file of at most 64 MiB, or the fault for which it is none: the faults 1 to 17, and then `TooLarge` for
-/// its code.
+/// The program of a file of at most 64 MiB, or the fault for which it is none: the faults 1 to 17, and then `TooLarge`
+/// for its code.
 pub fn file_program<'file>(alloc: Global, file: &'file [u8]) -> Result<Program<'file>, Refusal>
     requires { length file.now ≤ file_limit }
     ensures program { IfOk result (λ program. IsFileProgram file.now (program_seen program)) }

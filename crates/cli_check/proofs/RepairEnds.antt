@@ -11,7 +11,7 @@ use Rattle.cli_base.specs.declared.status.Status.{Status}
 use Rattle.cli_base.proofs.FaultCounts.{rose_after}
 use Rattle.cli_base.proofs.InputAnswering.{IsBetween, stopped_completes}
 use Rattle.cli_check.specs.Phases.{RepairWritten, all_written, fails_at_file, fails_at_lines}
-use Rattle.cli_check.specs.RepairAnswers.{IsMadeOf, NoneRoseRepairing, RepairAnswers, RepairServes, at_lines, at_out, done, stopped}
+use Rattle.cli_check.specs.RepairAnswers.{IsRepairOfFiles, NoneRoseRepairing, RepairAnswers, RepairServes, at_lines, at_out, done, stopped}
 use Rattle.cli_check.specs.RepairNames.{RepairNames}
 use Rattle.cli_check.specs.RepairedFiles.{CannotRepair, too_long}
 
@@ -20,7 +20,7 @@ long_refused file profile fault is = too_long is
 
 -- what was made is written after both files were read
 module _ (names : RepairNames) (written printed : List ℕ) (old mid new : World) (between : IsBetween old mid)
-    (made : IsMadeOf names.inputs old.files written printed) where
+    (made : IsRepairOfFiles names.inputs old.files written printed) where
   holds : HoldsFile names.out written mid new → HoldsFile names.out written old new
   holds file = record {
     text_is = λ told. file.text_is (between.go_on.told_kept ∙ told);

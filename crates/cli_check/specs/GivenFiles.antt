@@ -32,12 +32,12 @@ pub record AreGiven (content : List ℕ → Option (List ℕ)) (names : VerifyNa
   pub map : IsGiven map_limit (content names.map) given.map
 
 -- a file can't be read, or memory ran out
-pub data IsUnread (name : List ℕ) (old new : FilesSeen) (answer : Status) : Type 0 where
-  failed : answer ≡ status.ReadFault → Rose (old.read_faults name) (new.read_faults name) → IsUnread name old new answer
-  no_memory : answer ≡ status.NoMemory → IsUnread name old new answer
+pub data IsUnreadable (name : List ℕ) (old new : FilesSeen) (answer : Status) : Type 0 where
+  failed : answer ≡ status.ReadFault → Rose (old.read_faults name) (new.read_faults name) → IsUnreadable name old new answer
+  no_memory : answer ≡ status.NoMemory → IsUnreadable name old new answer
 
 -- one of the three can't be read, or memory ran out
 pub data IsUngiven (names : VerifyNames) (old new : FilesSeen) (answer : Status) : Type 0 where
-  input : IsUnread names.input old new answer → IsUngiven names old new answer
-  output : IsUnread names.output old new answer → IsUngiven names old new answer
-  map : IsUnread names.map old new answer → IsUngiven names old new answer
+  input : IsUnreadable names.input old new answer → IsUngiven names old new answer
+  output : IsUnreadable names.output old new answer → IsUngiven names old new answer
+  map : IsUnreadable names.map old new answer → IsUngiven names old new answer

@@ -14,7 +14,7 @@ use Rattle.cli_check.specs.RepairNames.{RepairNames}
 use Rattle.cli_check.specs.RepairedFiles.{CannotRepair, IsRepairOf}
 
 -- both files were read, and this was made of them
-pub record IsMadeOf (names : InputNames) (files : FilesSeen) (written printed : List ℕ) : Type 0 where
+pub record IsRepairOfFiles (names : InputNames) (files : FilesSeen) (written printed : List ℕ) : Type 0 where
   pub file : List ℕ
   pub profile : List ℕ
   pub are_read : IsTrue files.told → AreRead files.content names file profile
@@ -23,13 +23,13 @@ pub record IsMadeOf (names : InputNames) (files : FilesSeen) (written printed : 
 -- The profile was written and the lines printed; or the write fails, of the file, which alone may have changed, or of
 -- the lines; or nothing was written.
 pub data RepairAnswers (names : RepairNames) (old new : World) (answer : Status) : Type 0 where
-  done : answer ≡ status.Ok → (written printed : List ℕ) → IsMadeOf names.inputs old.files written printed
+  done : answer ≡ status.Ok → (written printed : List ℕ) → IsRepairOfFiles names.inputs old.files written printed
       → HoldsFile names.out written old new → TakesAll old.output.taken new.output.taken printed
       → RepairAnswers names old new answer
-  at_out : answer ≡ status.WriteFault → (written printed : List ℕ) → IsMadeOf names.inputs old.files written printed
+  at_out : answer ≡ status.WriteFault → (written printed : List ℕ) → IsRepairOfFiles names.inputs old.files written printed
       → WriteRose old new names.out → new.output.taken ≡ old.output.taken
       → UnchangedBut names.out old.files.content new.files.content → RepairAnswers names old new answer
-  at_lines : answer ≡ status.WriteFault → (written printed : List ℕ) → IsMadeOf names.inputs old.files written printed
+  at_lines : answer ≡ status.WriteFault → (written printed : List ℕ) → IsRepairOfFiles names.inputs old.files written printed
       → HoldsFile names.out written old new → FailsToPrint printed old new → RepairAnswers names old new answer
   stopped : IsStopped CannotRepair names.inputs old new answer → RepairAnswers names old new answer
 

@@ -1,8 +1,8 @@
 -- What a verdict is answered by: its line, and how the command ends.
-use Rattle.std.specs.Prelude.{ℕ, List, ◌++◌, codes, decimal}
-use Rattle.rb_bytes.specs.Fault.{number_of, name_of}
+use Rattle.std.specs.Prelude.{ℕ, List, ◌++◌, codes}
 use Rattle.rb_bytes.specs.Text.{hexadecimal}
 use Rattle.rb_bytes.specs.declared.fault.Fault.{Fault}
+use Rattle.cli_base.specs.Lines.{refused_front}
 use Rattle.cli_base.specs.declared.status.Status.{Status}
 use Rattle.cli_base.specs.declared.status.Status.TheVariants as status
 use Rattle.map_check.specs.declared.clause.Clause.{Clause}
@@ -32,6 +32,4 @@ status_of (verdict.Unfaithful clause place) = status.Unfaithful clause place
 
 -- the line for an output that is refused
 abbrev pub refused_output_line : Fault → List ℕ
-refused_output_line fault =
-    codes "refused " ++ decimal (number_of fault.kind) ++ codes " " ++ name_of fault.kind ++ codes " at "
-    ++ hexadecimal fault.place ++ codes " in OUT\n"
+refused_output_line fault = refused_front fault ++ codes " in OUT\n"

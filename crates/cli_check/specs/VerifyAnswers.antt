@@ -23,8 +23,8 @@ OfFiles w names P =
 abbrev pub OfTold : World → VerifyNames → (List ℕ → List ℕ → List ℕ → Type 0) → Type 0
 OfTold w names P = IsTrue w.files.told → OfFiles w names P
 
--- No file was written. A verdict is printed, or a refusal; or its line fails; or a file can't be read, or memory ran out,
--- and nothing was printed.
+-- No file was written. A verdict is printed, or a refusal; or its line fails; or a file can't be read, or memory ran
+-- out, and nothing was printed.
 pub data VerifyAnswers (names : VerifyNames) (old new : World) (answer : Status) : Type 0 where
   judged : (v : Verdict) → answer ≡ status_of v → OfTold old names (λ i o m. IsVerdictOn i o m v) →
       PrintsOnly (verdict_line v) old new → VerifyAnswers names old new answer

@@ -2,7 +2,7 @@
 ghost use Rattle.std.specs.Prelude.{IfErr, IfOk, IsTrue};
 ghost use Rattle.rb_io.specs.Names.{Unchanged};
 ghost use Rattle.rb_io.specs.Views.{FilesGoOn};
-ghost use Rattle.cli_check.specs.GivenFiles.{AreGiven, FitsLimit, IsGiven, IsUngiven, IsUnread};
+ghost use Rattle.cli_check.specs.GivenFiles.{AreGiven, FitsLimit, IsGiven, IsUngiven, IsUnreadable};
 ghost use Rattle.program.specs.Limits.{file_limit};
 ghost use Rattle.cli_check.specs.VerifyNames.{verify_given};
 
@@ -33,7 +33,7 @@ fn read_within<F: Files>(
     ensures given { IfOk result (λ given. IsTrue (F.seen files.old).told →
         IsGiven limit ((F.seen files.old).content name.now) given) }
     ensures fits { IfOk result (FitsLimit limit) }
-    ensures unread { IfErr result (IsUnread name.now (F.seen files.old) (F.seen files.new)) }
+    ensures unread { IfErr result (IsUnreadable name.now (F.seen files.old) (F.seen files.new)) }
     ensures kept { Unchanged (F.seen files.old).content (F.seen files.new).content }
     ensures files_go_on { FilesGoOn (F.seen files.old) (F.seen files.new) }
 {

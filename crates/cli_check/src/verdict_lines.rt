@@ -3,9 +3,10 @@ ghost use Rattle.std.specs.Prelude.{◌≡◌, IfOk};
 ghost use Rattle.cli_check.specs.VerdictLines.{clause_name, refused_output_line, status_of, verdict_line};
 
 use cli_base::Status;
+use cli_base::lines::refused_front;
 use map_check::{Clause, Verdict};
 use rb_bytes::fault::{Fault, NoMemory};
-use rb_bytes::text::{put_decimal, put_hex};
+use rb_bytes::text::put_hex;
 use std::alloc::Global;
 
 fn clause_name(clause: Clause) -> &'static [u8]
@@ -48,12 +49,7 @@ pub fn verdict_line(alloc: Global, verdict: Verdict) -> Result<Vec<u8>, NoMemory
 pub fn refused_output(alloc: Global, fault: &Fault) -> Result<Vec<u8>, NoMemory>
     ensures { IfOk result (λ line. line.items ≡ refused_output_line fault.now) }
 {
-    let mut line = Vec::from_slice(alloc, b"refused ")?;
-    put_decimal(&mut line, fault.kind.number() as u64)?;
-    line.extend_from_slice(b" ")?;
-    line.extend_from_slice(fault.kind.name().as_bytes())?;
-    line.extend_from_slice(b" at ")?;
-    put_hex(&mut line, fault.place)?;
+    let mut line = refused_front(alloc, fault)?;
     line.extend_from_slice(b" in OUT\n")?;
     Ok(line)
 }

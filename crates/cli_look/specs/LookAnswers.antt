@@ -1,4 +1,5 @@
--- What holds at the end of a command that reads one file and prints what is said of it, by its answer. It writes no file.
+-- What holds at the end of a command that reads one file and prints what is said of it, by its answer. It writes no
+-- file.
 use Rattle.std.specs.Prelude.{◌≡◌, ℕ, List, Some, IsTrue, IsSomeAnd}
 use Rattle.rb_bytes.specs.declared.fault.Fault.{Fault}
 use Rattle.rb_io.specs.FaultCounts.{Rose}
@@ -27,12 +28,15 @@ module _ (look : Looking) (name : List ℕ) where
   HasLookFault w fault = IsTrue w.files.told → IsSomeAnd (w.files.content name) (λ file. look.Refuses file fault)
 
   pub data LookAnswers (old new : World) (answer : Status) : Type 0 where
-    printed : answer ≡ status.Ok → (text : List ℕ) → IsSaidOf old text → PrintsOnly text old new → LookAnswers old new answer
+    printed : answer ≡ status.Ok → (text : List ℕ) → IsSaidOf old text → PrintsOnly text old new →
+        LookAnswers old new answer
     at_text : answer ≡ status.WriteFault → (text : List ℕ) → IsSaidOf old text → FailsAtLine text old new
         → LookAnswers old new answer
-    refused : (fault : Fault) → answer ≡ status.Refused fault → HasLookFault old fault → PrintsOnly (refused_line fault) old new
+    refused : (fault : Fault) → answer ≡ status.Refused fault → HasLookFault old fault →
+        PrintsOnly (refused_line fault) old new
         → LookAnswers old new answer
-    at_refusal : (fault : Fault) → answer ≡ status.WriteFault → HasLookFault old fault → FailsAtLine (refused_line fault) old new
+    at_refusal : (fault : Fault) → answer ≡ status.WriteFault → HasLookFault old fault →
+        FailsAtLine (refused_line fault) old new
         → LookAnswers old new answer
     at_file : answer ≡ status.ReadFault → ReadRose old new name → IsSilent old new → LookAnswers old new answer
     no_memory : answer ≡ status.NoMemory → IsSilent old new → LookAnswers old new answer

@@ -31,7 +31,8 @@ module _ (question : Question) where
   pub data CannotLookUp (file : List ℕ) (fault : Fault) : Type 0 where
     too_long : file_limit < length file → fault ≡ fault_at TooLarge 0 → CannotLookUp file fault
     unsound : length file ≤ file_limit → IsFirstFault file fault → CannotLookUp file fault
-    bad_table : (elf : Elf) → IsSoundElf file elf → IsAnswered (HasFaultFor question elf) fault → CannotLookUp file fault
+    bad_table : (elf : Elf) → IsSoundElf file elf → IsAnswered (HasFaultFor question elf) fault →
+        CannotLookUp file fault
     much_code : (elf : Elf) → IsSoundElf file elf → IsFree (HasFaultFor question elf) → HasTooMuchCode file
         → fault ≡ fault_at TooLarge 2 → CannotLookUp file fault
 

@@ -2,9 +2,8 @@
 use Rattle.std.specs.Prelude.{ℕ, List}
 use Rattle.rb_bytes.specs.declared.fault.FaultKind.{FaultKind}
 use Rattle.elf_image.specs.declared.elf.Elf.{Elf}
-use Rattle.table_set.specs.TableFaults.{HasTableFault}
+use Rattle.table_set.specs.TableFaults.{HasDebugFault, HasTableFault}
 use Rattle.lookup_core.specs.Report.{report}
-use Rattle.inline_frames.specs.Faults.{HasChainFault}
 use Rattle.inline_frames.specs.Frames.{frames_text}
 use Rattle.cli_look.specs.declared.question.Question.{Question}
 use Rattle.cli_look.specs.declared.question.Question.TheVariants as question
@@ -16,4 +15,4 @@ answer_text question.Frames address elf = frames_text elf address
 -- functions are found without frame tables
 abbrev pub HasFaultFor : Question → Elf → FaultKind → ℕ → Type 0
 HasFaultFor question.Report elf = HasTableFault elf
-HasFaultFor question.Frames elf = HasChainFault elf
+HasFaultFor question.Frames elf = HasDebugFault elf

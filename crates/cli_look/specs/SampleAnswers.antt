@@ -21,7 +21,8 @@ module _ (args : SampleArgs) where
 
     -- other names than these two have what they had
     abbrev pub OthersKept : Type 0
-    OthersKept = (name : List ℕ) → name ≢ args.file → name ≢ args.profile → new.files.content name ≡ old.files.content name
+    OthersKept = (name : List ℕ) → name ≢ args.file → name ≢ args.profile →
+        new.files.content name ≡ old.files.content name
 
     -- both hold their bytes
     pub record HoldBoth : Type 0 where
@@ -32,10 +33,12 @@ module _ (args : SampleArgs) where
     -- Both files were written and the line printed; or a write fails: of the file, which alone may have changed, of the
     -- profile, after the file, or of the line, after both.
     pub data SampleWritten (line : List ℕ) (answer : Status) : Type 0 where
-      all_written : answer ≡ status.Ok → HoldBoth → TakesAll old.output.taken new.output.taken line → SampleWritten line answer
+      all_written : answer ≡ status.Ok → HoldBoth → TakesAll old.output.taken new.output.taken line →
+          SampleWritten line answer
       fails_at_file : answer ≡ status.WriteFault → WriteRose old new args.file → new.output.taken ≡ old.output.taken
           → UnchangedBut args.file old.files.content new.files.content → SampleWritten line answer
-      fails_at_profile : answer ≡ status.WriteFault → WriteRose old new args.profile → new.output.taken ≡ old.output.taken
+      fails_at_profile : answer ≡ status.WriteFault → WriteRose old new args.profile →
+          new.output.taken ≡ old.output.taken
           → HoldsFile → OthersKept → SampleWritten line answer
       fails_at_line : answer ≡ status.WriteFault → HoldBoth → FailsToPrint line old new → SampleWritten line answer
 

@@ -22,7 +22,8 @@ fn write_sample<F: Files, O: Sink>(
 ) -> Status
     requires { args.now.file.now ≢ args.now.profile.now }
     ensures written { (input : SourceSeen) → SampleWritten (sample_given args.now) file.now profile.now
-        (world (F.seen files.old) input (O.seen out.old)) (world (F.seen files.new) input (O.seen out.new)) line.now result }
+        (world (F.seen files.old) input (O.seen out.old)) (world (F.seen files.new) input (O.seen out.new)) line.now
+        result }
     ensures files_go_on { FilesGoOn (F.seen files.old) (F.seen files.new) }
     ensures never_falls { (O.seen out.old).faults ≤ (O.seen out.new).faults }
 {

@@ -63,7 +63,8 @@ fn are_hex(digits: &[u8]) -> bool
 // The number that digits write, if it is below 2^64.
 fn value(digits: &[u8]) -> Option<u64>
     requires digits { IsTrue (list_all char.is_ascii_hexdigit digits.now) }
-    ensures { result ≡ (if nat_lt (digits_value 16 digits.now) (2 ^ 64) then Some (digits_value 16 digits.now) else None) }
+    ensures { result ≡ (if nat_lt (digits_value 16 digits.now) (2 ^ 64) then Some
+        (digits_value 16 digits.now) else None) }
 {
     let mut value = 0;
     for c in digits {

@@ -44,9 +44,6 @@ pub passed_is : (content : Option (List ℕ)) (buffer slice : List ℕ) → slic
     content ≡ Some slice
 passed_is content buffer slice passed is = is ∙ ap Some (sym passed)
 
-pub passed_fits : (buffer slice : List ℕ) → slice ≡ buffer → length buffer ≤ file_limit → length slice ≤ file_limit
-passed_fits buffer slice passed fits = subst (λ (f : List ℕ). length f ≤ file_limit) (sym passed) fits
-
 -- two names of a file's content
 same_content : (content : Option (List ℕ)) (one other : List ℕ) → content ≡ Some one → content ≡ Some other → one ≡ other
 same_content content one other is is' = ap (λ o. unwrap_or o one) (sym is ∙ is')

@@ -56,7 +56,8 @@ fn finish<F: Files, O: Sink>(
     files: &mut F,
     out: &mut O,
 ) -> Status
-    ensures finished { (input seen : SourceSeen) → Finished result name.now recorded.now.text.items recorded.now.ran.steps
+    ensures finished { (input seen : SourceSeen) → Finished result name.now recorded.now.text.items
+        recorded.now.ran.steps
         (world (F.seen files.old) input (O.seen out.old)) (world (F.seen files.new) seen (O.seen out.new))
         (answered recorded.now.ran.end) }
     ensures files_go_on { FilesGoOn (F.seen files.old) (F.seen files.new) }

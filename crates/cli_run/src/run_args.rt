@@ -1,7 +1,7 @@
 // What is run, and with what.
 
-/// The file that is run, the arguments that the program gets, which don't hold the file's name, and the most steps that it
-/// may do.
+/// The file that is run, the arguments that the program gets, which don't hold the file's name, and the most steps
+/// that it may do.
 #[derive(Clone, Copy)]
 pub struct RunArgs<'a> {
     pub file: &'a str,

@@ -1,4 +1,5 @@
-// The command `run`: the file is read whole, and then runs on the byte machine or, with `--symbols`, on the symbol machine.
+// The command `run`: the file is read whole, and then runs on the byte machine or, with `--symbols`, on the symbol
+// machine.
 ghost use Rattle.rv_memory.specs.Limits.{IsWithinLimits};
 ghost use Rattle.cli_base.specs.Served.{IsInputKept};
 ghost use Rattle.cli_run.specs.RunArgs.{run_given};

@@ -42,7 +42,8 @@ abbrev pub AreListedOf : Elf → ℕ → ℕ → AllWritten → List ReadTable �
 AreListedOf elf start code w = AreListed elf start code w.eh.bytes.items w.ranges.bytes.items (debug_contents w)
 
 -- the tables that are given to be written, carried from those of a file
-pub record AreNewTables (elf : Elf) (t : AllTables) (spans : List Span) (start code : ℕ) (given : List ReadTable) : Type 0 where
+pub record AreNewTables (elf : Elf) (t : AllTables) (spans : List Span) (start code : ℕ)
+    (given : List ReadTable) : Type 0 where
   pub written : AllWritten
   pub are_carried : AreCarried elf spans t written
   pub are_listed : AreListedOf elf start code written given

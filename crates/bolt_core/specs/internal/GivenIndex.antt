@@ -25,8 +25,10 @@ pub record IsIndexFor (start code : ℕ) (eh index : List ℕ) : Type 0 where
   pub is : IsIndexOf (frames_at start code) (index_at start code eh) (frames false (frames_at start code) eh).list index
   pub size : length index ≡ 12 + 8 * length (frames false (frames_at start code) eh).list
 
--- the tables that are given for a file, by the new contents of the unwind table, of that of ranges, and of other debug tables
-pub record AreListed (elf : Elf) (start code : ℕ) (eh ranges : List ℕ) (debug : DebugContents) (tables : List ReadTable) :
+-- the tables that are given for a file, by the new contents of the unwind table, of that of ranges, and of other
+-- debug tables
+pub record AreListed (elf : Elf) (start code : ℕ) (eh ranges : List ℕ) (debug : DebugContents)
+    (tables : List ReadTable) :
     Type 0 where
   pub index : Option (List ℕ)
   pub are : map table_seen tables

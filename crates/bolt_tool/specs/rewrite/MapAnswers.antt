@@ -10,7 +10,8 @@ use Rattle.cli_base.specs.Inputs.{InputNames, IsStopped}
 use Rattle.cli_base.specs.World.{World}
 
 pub data MapAnswers (names : InputNames) (old new : World) (answer : Status) : Type 0 where
-  printed : answer ≡ status.Ok → (made : MadeRewrite) → IsMadeOf names old.files made → PrintsOnly (map_text made.spans) old new
+  printed : answer ≡ status.Ok → (made : MadeRewrite) → IsMadeOf names old.files made →
+      PrintsOnly (map_text made.spans) old new
       → MapAnswers names old new answer
   at_text : answer ≡ status.WriteFault → (made : MadeRewrite) → IsMadeOf names old.files made
       → FailsAtLine (map_text made.spans) old new → MapAnswers names old new answer

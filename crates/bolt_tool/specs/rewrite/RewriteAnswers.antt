@@ -28,7 +28,8 @@ pub record HoldBoth (names : RewriteNames) (written map : List ℕ) (old new : W
   pub map_is : IsTrue old.files.told → new.files.content names.map ≡ Some map
   pub others : OthersKept names old new
 
--- A write fails: of the output, which alone may have changed; of the map, after the output; or of the summary, after both.
+-- A write fails: of the output, which alone may have changed; of the map, after the output; or of the summary, after
+-- both.
 pub data StopsWriting (names : RewriteNames) (written map summary : List ℕ) (old new : World) : Type 0 where
   at_out : WriteRose old new names.out → new.output.taken ≡ old.output.taken
       → UnchangedBut names.out old.files.content new.files.content → StopsWriting names written map summary old new

@@ -12,8 +12,8 @@ use Rattle.cli_base.specs.WrittenFiles.{HoldsFile}
 use Rattle.cli_base.specs.declared.status.Status.{Status}
 use Rattle.cli_base.specs.declared.status.Status.TheVariants as status
 
--- The profile was written and then the line printed, and `came` answered; or the profile fails, or the line; or neither was
--- written, out of memory.
+-- The profile was written and then the line printed, and `came` answered; or the profile fails, or the line; or
+-- neither was written, out of memory.
 pub data ProfileWritten (result came : Status) (out text line : List ℕ) (old new : World) : Type 0 where
   written : result ≡ came → HoldsFile out text old new → TakesAll old.output.taken new.output.taken line
       → ProfileWritten result came out text line old new

@@ -12,7 +12,8 @@ use Rattle.edge_record.specs.MoveCounts.{taken}
 use Rattle.program.specs.Program.{Program}
 use Rattle.cli_run.specs.recording.RecordRuns.{record_machine, record_mode, moving_steps}
 use Rattle.cli_run.specs.run.RunOutcomes.{Ending, answer_of}
-use Rattle.cli_run.specs.run.RunAnswers.{Taking, ComesOut, StopsRun, FileAnswers, IsComplete, IsExact, NoRunErrors, outside}
+use Rattle.cli_run.specs.run.RunAnswers.{Taking, ComesOut, StopsRun, FileAnswers, IsComplete, IsExact, NoRunErrors}
+use Rattle.cli_run.specs.run.RunAnswers.{outside}
 use Rattle.cli_base.specs.ProgramFiles.{IsFileProgram}
 use Rattle.cli_run.specs.RunArgs.{RecordArgs}
 use Rattle.cli_base.specs.Served.{IsServed}
@@ -33,13 +34,15 @@ module _ (program : Program) (args : RecordArgs) (old new : World) where
         ComesOut (record_machine program args.run.args) args.run.limit (outside old) (outside new) Takes ending
     pub moves : List Move
     pub state : ByteState
-    pub gone : ByteMoves ((record_machine program args.run.args).start comes_out.input) (moving_steps ending comes_out.steps)
+    pub gone : ByteMoves ((record_machine program args.run.args).start comes_out.input)
+        (moving_steps ending comes_out.steps)
         moves state
     pub text_is : IsEdgeText program.elf program.code.funcs (taken program.code.funcs program.blocks moves) text
 
   -- how a run is answered that got under way
   pub data RecordsRun (answer : Status) : Type 0 where
-    recorded : (ending : Ending Cause) (text : List ℕ) → answer ≡ answer_of (record_machine program args.run.args) ending
+    recorded : (ending : Ending Cause) (text : List ℕ) →
+        answer ≡ answer_of (record_machine program args.run.args) ending
         → IsProfiled TakesAll ending text → HoldsFile args.out text old new → RecordsRun answer
     at_profile : (ending : Ending Cause) → answer ≡ status.WriteFault → WriteRose old new args.out
         → ComesOut (record_machine program args.run.args) args.run.limit (outside old) (outside new) TakesNone ending
@@ -51,7 +54,8 @@ module _ (program : Program) (args : RecordArgs) (old new : World) where
         → Unchanged old.files.content new.files.content → RecordsRun answer
 
 -- how a recorded run is answered that got under way, and that this is exact
-pub record IsAnsweredRecording (program : Program) (args : RecordArgs) (old new : World) (answer : Status) : Type 0 where
+pub record IsAnsweredRecording (program : Program) (args : RecordArgs) (old new : World)
+    (answer : Status) : Type 0 where
   pub records : RecordsRun program args old new answer
   pub exact : IsExact (record_machine program args.run.args) args.run.limit old.input.left answer
 

@@ -1,5 +1,5 @@
--- Runs that are recorded. They are runs on the byte machine, and what is recorded of them are moves between the blocks of
--- the file's code.
+-- Runs that are recorded. They are runs on the byte machine, and what is recorded of them are moves between the
+-- blocks of the file's code.
 use Rattle.std.specs.Prelude.{◌-◌, ℕ, List}
 use Rattle.rv_code.specs.declared.cause.Cause.{Cause}
 use Rattle.program.specs.Program.{Program}

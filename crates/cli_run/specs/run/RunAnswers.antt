@@ -1,5 +1,5 @@
--- What holds at the end of a run, by its answer. What is said of its steps is said of some input of bytes, which is the one
--- that standard input tells, where it tells its bytes.
+-- What holds at the end of a run, by its answer. What is said of its steps is said of some input of bytes, which is
+-- the one that standard input tells, where it tells its bytes.
 use Rattle.std.specs.Prelude.{◌≡◌, ◌⊎◌, ℕ, ◌<◌, ◌≤◌, List, Option, Some, IsTrue, IsSomeAnd}
 use Rattle.std.specs.Io.KnownBytes.{append_known}
 use Rattle.rb_io.specs.FaultCounts.{Rose}
@@ -25,8 +25,8 @@ Taking = Option (List ℕ) → Option (List ℕ) → List ℕ → Type 0
 
 -- A machine with a program in it does at most `limit` steps.
 module _ {V X C : Type 0} (machine : Loaded V X C) (limit : ℕ) (before after : Outside) where
-  -- The whole run comes out so. Its output was taken, and then of the closing line as much as `Takes` says; and what is left
-  -- of the input is what the run leaves.
+  -- The whole run comes out so. Its output was taken, and then of the closing line as much as `Takes` says; and what
+  -- is left of the input is what the run leaves.
   pub record ComesOut (Takes : Taking) (ending : Ending C) : Type 0 where
     pub input : List ℕ
     pub input_is : before.input.left ≡ as_told before.input.left input
@@ -71,7 +71,8 @@ module _ {V X C : Type 0} (machine : Loaded V X C) (limit : ℕ) (before after :
   -- how a run is answered that was cut short
   pub data StopsRun (answer : Status) : Type 0 where
     at_input : answer ≡ status.ReadFault → Rose before.input.faults after.input.faults → StopsAtRead → StopsRun answer
-    at_output : answer ≡ status.WriteFault → Rose before.output.faults after.output.faults → StopsAtWrite → StopsRun answer
+    at_output : answer ≡ status.WriteFault → Rose before.output.faults after.output.faults → StopsAtWrite →
+        StopsRun answer
     out_of_memory : answer ≡ status.NoMemory → StopsAnywhere → StopsRun answer
 
   -- how a run is answered that got under way
@@ -101,9 +102,11 @@ module _ {P V X C : Type 0} (mode : Mode P V X C) (args : RunArgs) where
   -- Where nothing is run, standard input stays as it was. U holds of a run that got under way.
   pub data FileAnswers (U : Type 0) (old new : World) (answer : Status) : Type 0 where
     under_way : U → FileAnswers U old new answer
-    refused : (fault : Fault) → answer ≡ status.Refused fault → HasRunFault old fault → PrintsOnly (refused_line fault) old new
+    refused : (fault : Fault) → answer ≡ status.Refused fault → HasRunFault old fault →
+        PrintsOnly (refused_line fault) old new
         → new.input ≡ old.input → FileAnswers U old new answer
-    at_refusal : (fault : Fault) → answer ≡ status.WriteFault → HasRunFault old fault → FailsAtLine (refused_line fault) old new
+    at_refusal : (fault : Fault) → answer ≡ status.WriteFault → HasRunFault old fault →
+        FailsAtLine (refused_line fault) old new
         → new.input ≡ old.input → FileAnswers U old new answer
     at_file : answer ≡ status.ReadFault → ReadRose old new args.file → IsSilent old new → new.input ≡ old.input
         → FileAnswers U old new answer
@@ -130,11 +133,13 @@ IsRunAnswer _ = ⊥
 -- where the input is told, the answer says how the run comes out, unless it was cut short
 abbrev pub IsExact : {V X C : Type 0} → Loaded V X C → ℕ → Option (List ℕ) → Status → Type 0
 IsExact {C = C} machine limit left answer = (input : List ℕ) → left ≡ Some input →
-    (ending : Ending C) (steps : ℕ) (trace : List Event) (rest : List ℕ) → RunsTo machine input limit ending steps trace rest →
+    (ending : Ending C) (steps : ℕ) (trace : List Event) (rest : List ℕ) →
+    RunsTo machine input limit ending steps trace rest →
     (answer ≡ answer_of machine ending) ⊎ IsCutShort answer
 
 -- how a run is answered that got under way, and that this is exact
-pub record IsAnsweredRun {V X C : Type 0} (machine : Loaded V X C) (limit : ℕ) (before after : Outside) (answer : Status) :
+pub record IsAnsweredRun {V X C : Type 0} (machine : Loaded V X C) (limit : ℕ) (before after : Outside)
+    (answer : Status) :
     Type 0 where
   pub answers : AnswersRun machine limit before after answer
   pub exact : IsExact machine limit before.input.left answer
@@ -145,13 +150,14 @@ pub record NoRunErrors (args : RunArgs) (old new : World) : Type 0 where
   pub input : Rose old.input.faults new.input.faults → ⊥
   pub out : Rose old.output.faults new.output.faults → ⊥
 
--- Of a file that can be run: where no I/O errors occurred, the answer says how a run came out. It is exact for the machine
--- with the file's program, unless it was cut short.
+-- Of a file that can be run: where no I/O errors occurred, the answer says how a run came out. It is exact for the
+-- machine with the file's program, unless it was cut short.
 pub record IsComplete {P V X C : Type 0} (mode : Mode P V X C) (args : RunArgs) (file : List ℕ) (left : Option (List ℕ))
     (answer : Status) (NoErrors : Type 0) : Type 0 where
   pub some : NoErrors → IsRunAnswer answer
   pub exactly : IsCutShort answer
-      ⊎ ((program : P) × (mode.IsProgram file program × IsExact (mode.machine program args.args) args.limit left answer))
+      ⊎ ((program : P) × (mode.IsProgram file program × IsExact (mode.machine program args.args) args.limit left
+      answer))
 
 -- none occurred where no count of faults rose
 abbrev pub RunCompletes : {P V X C : Type 0} → Mode P V X C → RunArgs → List ℕ → Status → World → World → Type 0

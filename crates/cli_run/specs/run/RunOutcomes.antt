@@ -33,8 +33,8 @@ module _ {V X C : Type 0} (machine : Loaded V X C) where
   answer_of (HaltsAt pc cause) = machine.halted pc cause
   answer_of RunsOn = status.OutOfSteps
 
-  -- The run with this input comes out so after n steps, made these calls, and leaves this of its input. The step that ends
-  -- is counted and the one that halts isn't, but both are among the first `limit`.
+  -- The run with this input comes out so after n steps, made these calls, and leaves this of its input. The step that
+  -- ends is counted and the one that halts isn't, but both are among the first `limit`.
   abbrev pub RunsTo : List ℕ → ℕ → Ending C → ℕ → List Event → List ℕ → Type 0
   RunsTo input limit (Ends value) n trace rest =
       (n ≤ limit) × ((run : Run machine.step (machine.start input) n trace value) × (run.state.input ≡ rest))

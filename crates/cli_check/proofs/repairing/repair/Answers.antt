@@ -4,7 +4,7 @@ use Rattle.cli_base.specs.Printing.{Refuses}
 use Rattle.cli_base.specs.World.{World, world}
 use Rattle.cli_base.proofs.FaultCounts.{go_on_after}
 use Rattle.cli_base.proofs.InputAnswering.{IsBetween, is_stopped, stops_too}
-use Rattle.cli_check.specs.RepairAnswers.{IsMadeOf, stopped}
+use Rattle.cli_check.specs.RepairAnswers.{IsRepairOfFiles, stopped}
 use Rattle.cli_check.specs.RepairNames.{RepairNames, repair_given}
 use Rattle.cli_check.specs.RepairedFiles.{CannotRepair}
 use Rattle.cli_check.proofs.RepairEnds.{ends, long_refused, serves}
@@ -42,7 +42,7 @@ returns-in-Ok-repaired g c = λ input.
     let new : World = world (g.F.Files.seen c.write_repaired.new.files) input (g.O.Sink.seen c.write_repaired.new.out) in
     let between : IsBetween old mid =
     record { contents = c.in-Ok.ensures.kept; go_on = c.in-Ok.ensures.files_go_on; output_is = c.in-Ok.ensures.unprinted } in
-    let made : IsMadeOf names.inputs old.files c.in-Ok-repaired.made.profile.items c.in-Ok-repaired.made.lines.items =
+    let made : IsRepairOfFiles names.inputs old.files c.in-Ok-repaired.made.profile.items c.in-Ok-repaired.made.lines.items =
     record {
       file = c.in-Ok.inputs.file.items;
       profile = c.in-Ok.inputs.profile.items;
