@@ -4,8 +4,8 @@ use crate::analysis::check_rows;
 use std::test::Fail;
 
 const DISTANCES: &str = "\
-# The upper parts of distances, GOT_HI20 for a symbol of value 0, with lower parts, as the code sequences of the models of
-# thread-local storage have them.
+# The upper parts of distances, GOT_HI20 for a symbol of value 0, with lower parts, as the code sequences of the models
+# of thread-local storage have them.
 segment rw 1000 20000
 writable .data 20000 0000000000000000
 headers behind
@@ -125,8 +125,8 @@ code .text 10078 lui a0,0; addi a0,a0,7; exit
 - loaded .rodata 10088 f4ffffff | reloc 10088 PLT32 1007c => cells 10088 4 1007c 10088
 - loaded .rodata 10088 f3ffffff | reloc 10088 PLT32 1007c => refused RelocMismatch 10088
 
-# Those of 8 and 16 bits, and those that are set, of 6, 8, 16 and 32 bits and in LEB128: refused, unless both labels are in
-# a function that stays whole, of which the end counts as one; they are no cells there.
+# Those of 8 and 16 bits, and those that are set, of 6, 8, 16 and 32 bits and in LEB128: refused, unless both labels are
+# in a function that stays whole, of which the end counts as one; they are no cells there.
 code .text 10078 lui a0,0; addi a0,a0,7; exit
 loaded .rodata 10088 1000000000000000
 - reloc 10088 ADD8 10088 | reloc 10088 SUB8 10078 => refused NarrowDiff 10088
@@ -166,7 +166,8 @@ loaded .rodata 10088 0400000000000000
 - reloc 10088 ADD32 1007c | reloc 10088 ADD32 10078 => refused RelocMismatch 10088
 - reloc 10088 SUB32 1007c | reloc 10088 SUB32 10078 => refused RelocMismatch 10088
 
-# A code address that is added twice; one that is subtracted alone; and a number in LEB128 that goes on behind its section.
+# A code address that is added twice; one that is subtracted alone; and a number in LEB128 that goes on behind its
+# section.
 code .text 10078 lui a0,0; addi a0,a0,7; exit
 - loaded .rodata 10088 04000000 | reloc 10088 ADD32 1007c | reloc 10088 ADD32 1007c | reloc 10088 SUB32 10078
   => refused RelocMismatch 10088

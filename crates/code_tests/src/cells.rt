@@ -3,8 +3,8 @@ use crate::analysis::check_rows;
 use std::test::Fail;
 
 const CELLS: &str = "\
-# The address of an instruction is one; those of its middle and of the code's end aren't. The file's header has the entry
-# point, which is no cell: the header is written anew.
+# The address of an instruction is one; those of its middle and of the code's end aren't. The file's header has the
+# entry point, which is no cell: the header is written anew.
 code .text 10078 lui a0,0; addi a0,a0,7; exit
 - loaded .data 10088 7c00010000000000 | reloc 10088 64 => cells 10088 8 1007c
 - loaded .data 10088 7e00010000000000 | reloc 10088 64 => cells
@@ -23,30 +23,31 @@ zeroed .bss 20000 8
 headers behind
 - reloc 20000 ADD32 1007c | reloc 20000 SUB32 1007c => cells
 
-# A difference, an address that begins in its middle, and a difference that shares bytes with that address alone: the first
-# and the last count.
+# A difference, an address that begins in its middle, and a difference that shares bytes with that address alone: the
+# first and the last count.
 code .text 10078 lui a0,0; addi a0,a0,7; exit
 loaded .data 10088 00007c00010000000000
-- reloc 1008e ADD32 1007c | reloc 1008e SUB32 1007c | reloc 1008a 64 | reloc 10088 ADD32 7d007c | reloc 10088 SUB32 1007c
+- reloc 1008e ADD32 1007c | reloc 1008e SUB32 1007c | reloc 1008a 64
+reloc 10088 ADD32 7d007c | reloc 10088 SUB32 1007c
   => cells 10088 4 7d007c 1007c 1008e 4 1007c 1007c
 
-# A label that is no address doesn't matter where the difference is no cell: behind the first bytes of an address, and in
-# the file's header, whose entry point is the first instruction.
+# A label that is no address doesn't matter where the difference is no cell: behind the first bytes of an address, and
+# in the file's header, whose entry point is the first instruction.
 code .text 10078 lui a0,0; addi a0,a0,7; exit
 - loaded .data 10088 7800010000000000 | reloc 10088 64 | reloc 1008c ADD32 1007c | reloc 1008c SUB32 -fffeff84
   => cells 10088 8 10078
 - loaded .data 10018 78000100 | reloc 10018 ADD32 10078 | reloc 10018 SUB32 -100000000 => cells
 
-# A field for the address behind a function. Zeros there have no code address; a nop has one, and becomes a function by the
-# field that names it.
+# A field for the address behind a function. Zeros there have no code address; a nop has one, and becomes a function by
+# the field that names it.
 loaded .data 10080 7c00010000000000
 function f 10078 4
 reloc 10080 64
 - code .text 10078 jal zero,0; .word 00000000 => cells | functions 10078 1007c
 - code .text 10078 jal zero,0; nop => cells 10080 8 1007c | functions 10078 1007c 1007c 10080
 
-# Two functions, and a field of one byte for the difference of a label and the first one's start. Both labels have to be of
-# one whole function; its end is one of its labels.
+# Two functions, and a field of one byte for the difference of a label and the first one's start. Both labels have to be
+# of one whole function; its end is one of its labels.
 code .text 10078 lui a0,0; addi a0,a0,7; exit
 function f 10078 8
 function g 10080 8

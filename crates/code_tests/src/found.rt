@@ -85,8 +85,8 @@ code .text 10078 lui a0,0; addi a0,a0,7; exit
   => cells 10088 4 1007c 7fff0000
 - loaded .rodata 10088 f4ffffff00000000 | reloc 10088 32_PCREL 1007c | reloc 10088 NONE 0 => cells 10088 4 1007c 10088
 
-# Distances from labels that are no addresses; a label alone; eight bytes in a section of four; and a distance that is set,
-# which no cell can hold.
+# Distances from labels that are no addresses; a label alone; eight bytes in a section of four; and a distance that is
+# set, which no cell can hold.
 code .text 10078 lui a0,0; addi a0,a0,7; exit
 - loaded .rodata 10088 7b000280 | reloc 10088 ADD32 1007c | reloc 10088 SUB32 7fff0001 => refused RelocMismatch 10088
 - loaded .rodata 10088 80000100 | reloc 10088 ADD32 1007c | reloc 10088 SUB32 -4 => refused RelocMismatch 10088

@@ -35,7 +35,8 @@ fn lay_out(alloc: Global, file: &[u8], whole: &[(u64, u64)]) -> Result<Layout, R
     })
 }
 
-// The function, the first and the last instruction of each block; each jump with an address; and the blocks of each edge.
+// The function, the first and the last instruction of each block; each jump with an address; and the blocks of each
+// edge.
 fn put_layout(text: &mut Vec<u8>, layout: &Layout) -> Result<(), Fail> {
     text.extend_from_slice(b"blocks")?;
     for block in &layout.blocks {
@@ -85,8 +86,8 @@ like falling
 # 10084, and the system call at 10080 is taken to return.
 - code .text 10078 jal ra,12; exit; addi a0,zero,1; jalr zero,0(ra) => blocks 0 0 2 0 3 4 targets edges 0 1
 
-# A function of two instructions whose second is a call back to its first: it is the last one, so it falls nowhere. In the
-# second file the function goes on with the exit, into which the call falls, in one block.
+# A function of two instructions whose second is a call back to its first: it is the last one, so it falls nowhere. In
+# the second file the function goes on with the exit, into which the call falls, in one block.
 code .text 10078 addi a0,zero,1; jal ra,-4; exit
 - function f 10078 8 => blocks 0 0 1 1 0 1 targets edges
 - function f 10078 10 => blocks 0 0 3 targets edges

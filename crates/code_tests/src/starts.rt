@@ -15,8 +15,8 @@ code .text 10078 lui a0,0; addi a0,a0,7; exit
 
 // How many starts there are, and the last two of them.
 const LAST_STARTS: &str = "\
-# Instructions of two bytes, one of four around the 64th halfword, before it, in it and behind it, and one of two: the first
-# byte of each is 05 or 13.
+# Instructions of two bytes, one of four around the 64th halfword, before it, in it and behind it, and one of two: the
+# first byte of each is 05 or 13.
 - code .text 10078 .rept 62 .half 0505; addi a0,a0,1; .half 0505 => 40 100f4 100f8
 - code .text 10078 .rept 63 .half 0505; addi a0,a0,1; .half 0505 => 41 100f6 100fa
 - code .text 10078 .rept 64 .half 0505; addi a0,a0,1; .half 0505 => 42 100f8 100fc

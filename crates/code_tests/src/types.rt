@@ -3,8 +3,8 @@ use crate::analysis::check_rows;
 use std::test::Fail;
 
 const TYPES: &str = "\
-# Types that aren't supported: those of a dynamic linker, those that linkers alone make, reserved numbers, and descriptors
-# of thread-local storage. Each is for the first instruction, a LUI, with the address 0.
+# Types that aren't supported: those of a dynamic linker, those that linkers alone make, reserved numbers, and
+# descriptors of thread-local storage. Each is for the first instruction, a LUI, with the address 0.
 code .text 10078 lui a0,0; addi a0,a0,7; exit
 - reloc 10078 type=3 => refused RelocType 10078
 - reloc 10078 type=4 => refused RelocType 10078
@@ -70,8 +70,8 @@ code .text 10078 lui a0,0; addi a0,a0,7; exit
 - reloc 10078 type=60 => roles | cells
 - reloc 10078 type=61 => roles | cells
 
-# CALL, CALL_PLT, the upper and lower parts of distances, 32_PCREL and PLT32 don't fit a LUI; IRELATIVE is for an indirect
-# function.
+# CALL, CALL_PLT, the upper and lower parts of distances, 32_PCREL and PLT32 don't fit a LUI; IRELATIVE is for an
+# indirect function.
 code .text 10078 lui a0,0; addi a0,a0,7; exit
 - reloc 10078 type=18 => refused RelocMismatch 10078
 - reloc 10078 type=19 => refused RelocMismatch 10078
@@ -85,8 +85,8 @@ code .text 10078 lui a0,0; addi a0,a0,7; exit
 - reloc 10078 type=58 => refused IfuncOrPlt 10078
 - reloc 10078 type=59 => refused RelocMismatch 10078
 
-# The table has the null symbol and one more. The relocation stands at 88 in the file, and its symbol's index, the high 32
-# bits of `r_info`, at 94. gABI, \"Relocation\".
+# The table has the null symbol and one more. The relocation stands at 88 in the file, and its symbol's index, the high
+# 32 bits of `r_info`, at 94. gABI, \"Relocation\".
 code .text 10078 lui a0,0; addi a0,a0,7; exit
 label p 10078
 reloc 10078 NONE @p

@@ -20,7 +20,8 @@ HasText (answer.Halted pc cause) = Unit {0}
 HasText _ = ⊥
 
 -- The run answered `came` after n steps, and what is given out is `given` after m.
-pub data IsFinished (funcs : List Func) (said : List Counted) (came : Answer Cause) (n : ℕ) (given : Answer Cause) (m : ℕ)
+pub data IsFinished (funcs : List Func) (said : List Counted) (came : Answer Cause) (n : ℕ) (given : Answer Cause)
+    (m : ℕ)
     (text : List ℕ) : Type 0 where
   told : HasText came → came ≡ given → n ≡ m → IsTextOf funcs said text → IsFinished funcs said came n given m text
   untold : (HasText came → ⊥) → came ≡ given → n ≡ m → text ≡ [] → IsFinished funcs said came n given m text

@@ -59,7 +59,8 @@ pub fn watch_run<I: Source, O: Sink>(
 fn note(counts: &mut EdgeCounts, watched: &Watched, from: u64, to: u64) -> Result<(), NoMemory>
     requires { count_among from to (said_of counts.old) < 2 ^ 64 - 1 }
     ensures { OnOk result ((x y : ℕ) → count_among x y (said_of counts.new)
-        ≡ count_among x y (said_of counts.old) + (if watches watched.now (from, to) && is_pair x y (from, to, 1) then 1 else 0)) }
+        ≡ count_among x y (said_of counts.old) + (if watches watched.now (from, to)
+        && is_pair x y (from, to, 1) then 1 else 0)) }
 {
     if watched.counts(from, to) {
         counts.add(from, to)?;

@@ -65,7 +65,8 @@ fn code_range(funcs: &[Func]) -> (u64, usize)
 fn insert_insts(code: &mut AddressSet, sources: &mut AddressSet, funcs: &[Func])
     requires code_room { All (λ f. All (λ p. HasRoomFor code.old p.addr) f.insts.items) funcs.now }
     requires source_room { All (λ f. All (λ p. HasRoomFor sources.old p.addr) f.insts.items) funcs.now }
-    ensures code { (a : ℕ) → in_set code.new a ≡ (list_any (λ f. starts_at f.insts.items a) funcs.now || in_set code.old a) }
+    ensures code { (a : ℕ) → in_set code.new a ≡ (list_any (λ f. starts_at f.insts.items a) funcs.now
+        || in_set code.old a) }
     ensures sources { (a : ℕ) →
         in_set sources.new a ≡ (list_any (λ f. saves_at f.insts.items a) funcs.now || in_set sources.old a) }
     ensures code_room { HaveSameRoom code.old code.new }

@@ -24,14 +24,15 @@ place_text funcs a = hexadecimal (start_at funcs a) ++ codes " " ++ hexadecimal 
 
 abbrev pub edge_line : List Func → Counted → List ℕ
 edge_line funcs p =
-    codes "1 @" ++ place_text funcs p.0 ++ codes " 1 @" ++ place_text funcs p.1 ++ codes " 0 " ++ decimal p.2 ++ codes "\n"
+    codes "1 @" ++ place_text funcs p.0 ++ codes " 1 @" ++ place_text funcs p.1 ++ codes " 0 " ++ decimal p.2
+    ++ codes "\n"
 
 -- the lines of pairs, in their order
 abbrev pub text_of_pairs : List Func → List Counted → List ℕ
 text_of_pairs funcs pairs = flat_map (edge_line funcs) (split_counts pairs)
 
--- Each pair of positive count has its lines, in order. Read as a profile, the text says these counts, and each line says
--- one.
+-- Each pair of positive count has its lines, in order. Read as a profile, the text says these counts, and each line
+-- says one.
 pub record IsEdgeText (elf : Elf) (funcs : List Func) (counts : ℕ → ℕ → ℕ) (text : List ℕ) : Type 0 where
   pub pairs : List Counted
   pub are_pairs : ArePairs counts pairs

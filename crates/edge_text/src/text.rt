@@ -1,18 +1,17 @@
 // The lines of a profile.
-ghost use Rattle.std.specs.Prelude.{◌≡◌, ◌++◌, ◌<◌, All, IfOk, OnOk, decimal, flat_map};
+ghost use Rattle.std.specs.Prelude.{◌≡◌, ◌++◌, ◌<◌, All, IfOk, OnOk, flat_map};
 ghost use Rattle.rv_code.specs.layout.FunctionLists.{AreLaidOut};
 ghost use Rattle.edge_text.specs.EdgeText.{edge_line, place_text, start_at, text_of_pairs};
 
 use crate::splitting::split_counts;
 use edge_profile::places::place_of;
-use itoa::Buffer;
 use rb_bytes::fault::NoMemory;
-use rb_bytes::text::put_hex;
+use rb_bytes::text::{put_count, put_hex};
 use rv_code::Func;
 use std::alloc::Global;
 
-/// The text of a profile with these pairs, each of positive count: the addresses of a pair and its count. A count that a
-/// line can't hold takes several.
+/// The text of a profile with these pairs, each of positive count: the addresses of a pair and its count. A count that
+/// a line can't hold takes several.
 pub fn edge_text(
     alloc: Global,
     funcs: &[Func],
@@ -62,13 +61,6 @@ fn put_place(text: &mut Vec<u8>, funcs: &[Func], address: u64) -> Result<(), NoM
     put_hex(text, start)?;
     text.push(b' ')?;
     put_hex(text, address.saturating_sub(start))?;
-    Ok(())
-}
-
-fn put_count(text: &mut Vec<u8>, count: u128) -> Result<(), NoMemory>
-    ensures { OnOk result (text.new.items ≡ text.old.items ++ decimal count) }
-{
-    text.extend_from_slice(Buffer::new().format(count).as_bytes())?;
     Ok(())
 }
 

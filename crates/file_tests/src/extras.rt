@@ -61,7 +61,8 @@ const PT_GNU_RELRO: u32 = 0x6474_e552;
 
 const PT_RISCV_ATTRIBUTES: u32 = 0x7000_0003;
 
-// Types of sections, and the flag of thread storage. gABI, "Section Types", "Section Attribute Flags"; psABI, "Attributes".
+// Types of sections, and the flag of thread storage. gABI, "Section Types", "Section Attribute Flags"; psABI,
+// "Attributes".
 const SHT_NULL: u32 = 0;
 
 const SHT_NOTE: u32 = 7;

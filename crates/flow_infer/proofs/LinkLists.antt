@@ -10,7 +10,6 @@ use Rattle.std.proofs.lemmas.Option.{same_Some}
 use Rattle.std.proofs.lemmas.List.{append-nil}
 use Rattle.rv_code.specs.layout.Lists.{ListsAll}
 use Rattle.rv_code.specs.layout.ProgramCode.{ProgramCode}
-use Rattle.rb_bytes.proofs.Members.{Contains-nil}
 use Rattle.flow_infer.specs.declared.flow.Link.{Link}
 use Rattle.flow_infer.specs.declared.source.Source.{Source}
 use Rattle.flow_infer.specs.Links.{CountedEnds, IsLinkBefore, a_block, counted_ends, rank}
@@ -135,20 +134,6 @@ module _ (s : Source) (first end : ℕ) (range : IsFunctionRange s.blocks.now fi
     each = λ e (within, below). (old code of).each e (within, (same code of e within).1 below);
     ordered = (old code of).ordered;
   }
-
-  pub none_upto : (links : List Link) → links ≡ [] → AreLinksUpto s first end 0 (first + 1) links
-  none_upto links none code of = subst (λ (ls : List Link).
-      ListsAll (IsLinkUpto code s first end 0 (first + 1)) (IsLinkBefore s.blocks.now) (map counted_ends ls)) (sym none) (record {
-        only = λ e is_in. absurd (Contains-nil e is_in);
-        each = λ e (within, below). absurd (⊎_elim (λ (less : rank e.0 < 0). omega arith)
-            (λ (same, less). at e.0 e.1 e.2 within same less) below);
-        ordered = λ i j d less within. absurd (omega arith);
-      })
-    where
-      at : (o p : Option ℕ) (c : ℕ) → IsLinkWithin code s first end (o, p, c) → rank o ≡ 0 → rank p < first + 1 → ⊥
-      at (Some k) p c within same less = absurd (omega arith)
-      at None None c within same less = within.link.0
-      at None (Some j) c within same less = let from : first ≤ j = within.from in omega arith
 
   -- After the ways in come the ways from the first block.
   pub ways_in_done : (links : List Link) → AreLinksUpto s first end 0 (end + 1) links → AreLinksUpto s first end (first + 1) 0 links

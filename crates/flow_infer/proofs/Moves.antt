@@ -42,14 +42,6 @@ moved_one heights first nodes links place a b d new steady within same a_is b_is
       same = same_set links place d new same;
     }
 
-pub moved_on : (heights : List ℕ) (first nodes : ℕ) (a b c : List Link) → HasMoved heights first nodes a b →
-    HasMoved heights first nodes b c → HasMoved heights first nodes a c
-moved_on heights first nodes a b c p q = record { steady = q.steady; same = p.same ∙ q.same }
-
-pub unmoved : (heights : List ℕ) (first nodes : ℕ) (links : List Link) → IsSteady heights first nodes links →
-    HasMoved heights first nodes links links
-unmoved heights first nodes links steady = record { steady = steady; same = refl }
-
 pub lifted : (old new : List ℕ) (first step : ℕ) (links : List Link) (distances : List ℕ) → length new ≡ length old →
     IsSteady old first (length old) links →
     ((n : ℕ) → n < length old → get_or new n 0 ≡ raised step (get_or distances n 0) (get_or old n 0)) →

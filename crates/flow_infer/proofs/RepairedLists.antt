@@ -161,20 +161,6 @@ module _ (s : Source) (sources : AreSources s) where
       all : length new.prices.items ≡ end
       all = let some = function.some in omega (arith, at, priced, some)
 
-  pub repaired_none : (flow : Flow) → flow.links.items ≡ [] → flow.prices.items ≡ [] → IsSettled flow.links.items flow.prices.items →
-      AreRepaired s flow
-  repaired_none flow no_links no_prices settled = record {
-    settled = settled;
-    listed = λ code of. subst (λ (ls : List Link). ListsAll (IsLinkWithin code s 0 (length flow.prices.items))
-        (IsLinkBefore s.blocks.now) (map counted_ends ls)) (sym no_links) (record {
-          only = λ e is_in. absurd (let (k, within, there) = is_in in omega arith);
-          each = λ e w. absurd (let to = w.to in let none = ap length no_prices in omega arith);
-          ordered = λ i j d less within. absurd (omega arith);
-        });
-    within = let none = ap length no_prices in omega arith;
-    parted = λ j k before from within. absurd (let none = ap length no_prices in omega arith);
-  }
-
   block_inside : (code : ProgramCode) (o p : Option ℕ) → AreEnds code s.blocks.now s.edges.now o p → a_block o p < length s.blocks.now
   block_inside code (Some k) (Some t) edge =
       (All-contains (λ (e : ℕ × ℕ). (e.0 < length s.blocks.now) × (e.1 < length s.blocks.now)) s.edges.now (k, t)

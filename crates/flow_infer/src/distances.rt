@@ -1,10 +1,11 @@
 // How far nodes are from nodes that need flow, by what links on the way lack for room.
-ghost use Rattle.std.specs.Prelude.{◌≡◌, ◌<◌, ◌^◌, ℕ, All, IfOk, IfSome, OnOk, length};
+ghost use Rattle.std.specs.Prelude.{◌≡◌, ◌<◌, ℕ, All, IfOk, IfSome, OnOk, length};
 ghost use Rattle.std.specs.BinaryHeap.{heap_items};
-ghost use Rattle.flow_infer.specs.Heights.{AreArcs, AreNodes, IsArcOf, IsSteady};
+ghost use Rattle.flow_infer.specs.Heights.{AreNodes, IsArcOf};
+ghost use Rattle.flow_infer.specs.Networks.{IsNetwork};
 
 use crate::arcs::Arc;
-use crate::flow::Link;
+use crate::network::Network;
 use crate::rooms::slack_at;
 use rb_bytes::fault::NoMemory;
 use std::alloc::Global;
@@ -22,28 +23,15 @@ pub struct Distances {
 }
 
 /// Dijkstra's search, from the nodes that need flow back to the nearest one that has some to spare.
-pub fn find_distances(
-    alloc: Global,
-    links: &[Link],
-    heights: &[u64],
-    first: usize,
-    around: &[Vec<Arc>],
-    spare: &[u128],
-    need: &[u128],
-) -> Result<Distances, NoMemory>
-    requires few { length heights.now < 2 ^ 63 }
-    requires steady { IsSteady heights.now first (length heights.now) links.now }
-    requires around { length around.now ≡ length heights.now }
-    requires arcs { AreArcs (length links.now) (length heights.now) around.now }
-    requires spare { length spare.now ≡ length heights.now }
-    requires need { length need.now ≡ length heights.now }
-    ensures { IfOk result (λ d. length d.of_nodes.items ≡ length heights.now) }
+pub fn find_distances(alloc: Global, network: &Network<'_>) -> Result<Distances, NoMemory>
+    requires { IsNetwork network.now }
+    ensures { IfOk result (λ d. length d.of_nodes.items ≡ length network.now.heights.now) }
 {
-    let nodes = heights.len();
+    let nodes = network.heights.len();
     let mut of_nodes = vec![in alloc; u64::MAX; nodes]?;
     let mut queue = BinaryHeap::new(alloc);
     for n in 0..nodes {
-        if need[n] > 0 {
+        if network.need[n] > 0 {
             of_nodes[n] = 0;
             push_node(&mut queue, 0, n)?;
         }
@@ -52,7 +40,7 @@ pub fn find_distances(
         let Some((distance, n)) = pop_node(&mut queue) else {
             break;
         };
-        if spare[n] > 0 {
+        if network.spare[n] > 0 {
             return Ok(Distances {
                 of_nodes,
                 nearest: distance,
@@ -61,15 +49,8 @@ pub fn find_distances(
         if distance > of_nodes[n] {
             continue;
         }
-        queue_sources(
-            &mut queue,
-            &mut of_nodes,
-            links,
-            heights,
-            first,
-            &around[n],
-            distance,
-        )?;
+        let arcs = &network.around[n];
+        queue_sources(&mut queue, &mut of_nodes, network, arcs, distance)?;
     }
     Ok(Distances {
         of_nodes,
@@ -81,23 +62,25 @@ pub fn find_distances(
 fn queue_sources(
     queue: &mut BinaryHeap<(Reverse<u64>, usize)>,
     of_nodes: &mut [u64],
-    links: &[Link],
-    heights: &[u64],
-    first: usize,
+    network: &Network<'_>,
     arcs: &[Arc],
     distance: u64,
 ) -> Result<(), NoMemory>
-    requires few { length heights.now < 2 ^ 63 }
-    requires steady { IsSteady heights.now first (length heights.now) links.now }
-    requires arcs { All (IsArcOf (length links.now) (length heights.now)) arcs.now }
-    requires distances { length of_nodes.old ≡ length heights.now }
-    requires queue { AreNodes (length heights.now) (heap_items queue.old) }
-    ensures { OnOk result (AreNodes (length heights.now) (heap_items queue.new)) }
+    requires network { IsNetwork network.now }
+    requires arcs { All (IsArcOf (length network.now.links.now) (length network.now.heights.now)) arcs.now }
+    requires distances { length of_nodes.old ≡ length network.now.heights.now }
+    requires queue { AreNodes (length network.now.heights.now) (heap_items queue.old) }
+    ensures { OnOk result (AreNodes (length network.now.heights.now) (heap_items queue.new)) }
 {
     for arc in arcs {
-        let farther = distance.saturating_add(slack_at(
-            links, arc.link, heights, first, !arc.along,
-        ));
+        let slack = slack_at(
+            network.links,
+            arc.link,
+            network.heights,
+            network.first,
+            !arc.along,
+        );
+        let farther = distance.saturating_add(slack);
         if farther < of_nodes[arc.head] {
             of_nodes[arc.head] = farther;
             push_node(queue, farther, arc.head)?;

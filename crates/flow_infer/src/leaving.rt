@@ -7,7 +7,7 @@ ghost use Rattle.rv_code.specs.layout.Flow as flow;
 ghost use Rattle.flow_infer.specs.Links as links;
 
 use crate::entries::far_target;
-use rv_code::flow::{falls, is_branch, is_call, is_plain_jump};
+use rv_code::flow::{ends_block, falls, is_call};
 use rv_code::{Func, Inst, Placed, ZERO};
 
 /// Whether control can leave a function by the last instruction of a block, which has this place in the function.
@@ -44,13 +44,6 @@ fn jumps_out(func: &Func, inst: &Placed) -> bool
         return false;
     }
     far_target(func, inst).is_some()
-}
-
-// Whether a block ends with it: a conditional branch, or a jump that saves no return address.
-fn ends_block(inst: &Placed) -> bool
-    ensures { IsTrue result ↔ EndsBlock inst.now }
-{
-    is_branch(&inst.inst) || is_plain_jump(&inst.inst)
 }
 
 // Whether it is a function's last instruction, and control falls out of the function or goes on in another one.

@@ -10,6 +10,7 @@ mod joining;
 mod leaving;
 mod lifting;
 mod links;
+mod network;
 mod nodes;
 mod pushing;
 mod repairing;

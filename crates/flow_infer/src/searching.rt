@@ -1,9 +1,10 @@
 // Nodes from which flow can go to nodes that need it at the present heights.
-ghost use Rattle.std.specs.Prelude.{◌≡◌, ◌<◌, ◌^◌, ℕ, All, IfOk, length};
-ghost use Rattle.flow_infer.specs.Heights.{AreArcs, IsArcOf, IsSteady};
+ghost use Rattle.std.specs.Prelude.{◌≡◌, ◌<◌, All, IfOk, length};
+ghost use Rattle.flow_infer.specs.Heights.{IsArcOf};
+ghost use Rattle.flow_infer.specs.Networks.{IsNetwork};
 
 use crate::arcs::Arc;
-use crate::flow::Link;
+use crate::network::Network;
 use crate::rooms::room_at;
 use rb_bytes::fault::NoMemory;
 use std::alloc::Global;
@@ -19,29 +20,16 @@ pub struct Found {
 }
 
 /// Searches from the nodes that need flow back over links that have room at these heights, breadth first.
-pub fn search(
-    alloc: Global,
-    links: &[Link],
-    heights: &[u64],
-    first: usize,
-    around: &[Vec<Arc>],
-    spare: &[u128],
-    need: &[u128],
-) -> Result<Found, NoMemory>
-    requires few { length heights.now < 2 ^ 63 }
-    requires steady { IsSteady heights.now first (length heights.now) links.now }
-    requires around { length around.now ≡ length heights.now }
-    requires arcs { AreArcs (length links.now) (length heights.now) around.now }
-    requires spare { length spare.now ≡ length heights.now }
-    requires need { length need.now ≡ length heights.now }
-    ensures places { IfOk result (λ s. length s.places.items ≡ length heights.now) }
-    ensures order { IfOk result (λ s. All (λ n. n < length heights.now) s.order.items) }
+pub fn search(alloc: Global, network: &Network<'_>) -> Result<Found, NoMemory>
+    requires { IsNetwork network.now }
+    ensures places { IfOk result (λ s. length s.places.items ≡ length network.now.heights.now) }
+    ensures order { IfOk result (λ s. All (λ n. n < length network.now.heights.now) s.order.items) }
 {
-    let nodes = heights.len();
+    let nodes = network.heights.len();
     let mut places = vec![in alloc; nodes; nodes]?;
     let mut order = Vec::new(alloc);
     for n in 0..nodes {
-        if need[n] > 0 {
+        if network.need[n] > 0 {
             places[n] = order.len();
             order.push(n)?;
         }
@@ -52,10 +40,10 @@ pub fn search(
             break;
         }
         let n = order[next];
-        if spare[n] > 0 {
+        if network.spare[n] > 0 {
             meets = true;
         }
-        push_sources(&mut order, &mut places, links, heights, first, &around[n])?;
+        push_sources(&mut order, &mut places, network, &network.around[n])?;
     }
     Ok(Found {
         order,
@@ -68,23 +56,27 @@ pub fn search(
 fn push_sources(
     order: &mut Vec<usize>,
     places: &mut [usize],
-    links: &[Link],
-    heights: &[u64],
-    first: usize,
+    network: &Network<'_>,
     arcs: &[Arc],
 ) -> Result<(), NoMemory>
-    requires few { length heights.now < 2 ^ 63 }
-    requires steady { IsSteady heights.now first (length heights.now) links.now }
-    requires arcs { All (IsArcOf (length links.now) (length heights.now)) arcs.now }
-    requires places { length places.old ≡ length heights.now }
-    requires order { All (λ n. n < length heights.now) order.old.items }
-    ensures { All (λ n. n < length heights.now) order.new.items }
+    requires network { IsNetwork network.now }
+    requires arcs { All (IsArcOf (length network.now.links.now) (length network.now.heights.now)) arcs.now }
+    requires places { length places.old ≡ length network.now.heights.now }
+    requires order { All (λ n. n < length network.now.heights.now) order.old.items }
+    ensures { All (λ n. n < length network.now.heights.now) order.new.items }
 {
     for arc in arcs {
         if places[arc.head] < places.len() {
             continue;
         }
-        if room_at(links, arc.link, heights, first, !arc.along) == 0 {
+        let room = room_at(
+            network.links,
+            arc.link,
+            network.heights,
+            network.first,
+            !arc.along,
+        );
+        if room == 0 {
             continue;
         }
         places[arc.head] = order.len();

@@ -8,6 +8,7 @@ use crate::arcs::{Arc, arcs};
 use crate::distances::find_distances;
 use crate::flow::Link;
 use crate::lifting::lift;
+use crate::network::Network;
 use crate::nodes::{is_balanced, sum_flows, surplus, total};
 use crate::pushing::wave;
 use crate::searching::search;
@@ -90,13 +91,21 @@ fn round(
     }
     let mut spare = surplus(alloc, &sums.into, &sums.out_of)?;
     let mut need = surplus(alloc, &sums.out_of, &sums.into)?;
-    let found = search(alloc, links, heights, first, around, &spare, &need)?;
+    let network = Network {
+        links,
+        heights,
+        first,
+        around,
+        spare: &spare,
+        need: &need,
+    };
+    let found = search(alloc, &network)?;
     if found.meets {
         let moved = total(&spare);
         wave(links, heights, first, around, &found, &mut spare, &mut need);
         return Ok(Progress::Moved(moved));
     }
-    let distances = find_distances(alloc, links, heights, first, around, &spare, &need)?;
+    let distances = find_distances(alloc, &network)?;
     lift(
         heights,
         first,

@@ -1,6 +1,7 @@
 -- Flows put in place of counts keep the order, and each pair has its flow, or else its count.
 use Rattle.std.proofs.Common.{◌≡◌, ◌∙◌, ◌+◌, ◌<◌, ◌⊎◌, ℕ, suc, Bool, true, false, List, [], ◌∷◌, ◌++◌, Option, Some, None, All, AllPairs}
-use Rattle.std.proofs.Common.{append_assoc, drop, Contains, length, get_or, arith, ap, sym, subst, inl, inr, refl, ⊎_elim, cond, find, if◌then◌else◌}
+use Rattle.std.proofs.Common.{append_assoc, drop, Contains, length, get_or, arith, ap, sym, subst, inl, inr, refl, ⊎_elim, cond, find}
+use Rattle.std.proofs.Common.{if◌then◌else◌}
 use Rattle.std.specs.Prelude.{◌==◌, filter, nat_lt}
 use Rattle.std.specs.Option.{option_map_or}
 use Rattle.std.proofs.Math.Seq.{drop-cons}

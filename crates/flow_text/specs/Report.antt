@@ -1,6 +1,7 @@
 -- The lines that show a flow: for each function with a count the prices of its blocks and its links, and how many links
 -- there are with how much change.
-use Rattle.std.specs.Prelude.{ℕ, ℤ, pos, ◌==◌, Bool, List, [], ◌++◌, Option, Some, None, codes, decimal, filter, flat_map}
+use Rattle.std.specs.Prelude.{ℕ, ℤ, pos, ◌==◌, Bool, List, [], ◌++◌, Option, Some, None, codes, decimal, filter}
+use Rattle.std.specs.Prelude.{flat_map}
 use Rattle.std.specs.Prelude.{if◌then◌else◌, length, nat_lt, slice_index_or}
 use Rattle.std.specs.Fmt.{signed_decimal}
 use Rattle.std.specs.List.{list_any, range_with_len}
@@ -17,7 +18,8 @@ use Rattle.flow_text.specs.RepairedCounts.{start_at}
 -- the price of the block at a place
 abbrev pub price_line : List Func → List Block → List ℤ → ℕ → List ℕ
 price_line funcs blocks prices k =
-    codes "price " ++ hexadecimal (start_at funcs blocks k) ++ codes " " ++ signed_decimal (slice_index_or prices k (pos 0))
+    codes "price " ++ hexadecimal (start_at funcs blocks k) ++ codes " "
+    ++ signed_decimal (slice_index_or prices k (pos 0))
     ++ codes "\n"
 
 -- a block by where it starts; what lies outside
@@ -28,7 +30,8 @@ end_name funcs blocks None = codes "-"
 -- a link with its count and its flow
 abbrev pub link_line : List Func → List Block → Link → List ℕ
 link_line funcs blocks l =
-    codes "link " ++ end_name funcs blocks l.from ++ codes " " ++ end_name funcs blocks l.to ++ codes " " ++ decimal l.count
+    codes "link " ++ end_name funcs blocks l.from ++ codes " " ++ end_name funcs blocks l.to ++ codes " "
+    ++ decimal l.count
     ++ codes " " ++ decimal l.flow ++ codes "\n"
 
 -- the links of a function, in their order

@@ -1,5 +1,5 @@
 // The lines of prices, of links and of the total.
-ghost use Rattle.std.specs.Prelude.{◌≡◌, ◌++◌, ◌<◌, ◌^◌, All, OnOk, decimal, length};
+ghost use Rattle.std.specs.Prelude.{◌≡◌, ◌++◌, ◌<◌, ◌^◌, All, OnOk, length};
 ghost use Rattle.rv_code.specs.layout.FunctionMembers.{IsOfFunction};
 ghost use Rattle.flow_infer.specs.Flows.{change, distance};
 ghost use Rattle.flow_text.specs.LinkLists.{IsBetween, IsPlaceIn};
@@ -9,7 +9,7 @@ use crate::flows::start_at;
 use flow_infer::Link;
 use itoa::Buffer;
 use rb_bytes::fault::NoMemory;
-use rb_bytes::text::put_hex;
+use rb_bytes::text::{put_count, put_hex};
 use rv_code::{Block, Func};
 
 /// Appends the line of the price of the block at a place.
@@ -84,13 +84,6 @@ fn put_end(
         Some(place) => put_hex(text, start_at(funcs, blocks, place))?,
         None => text.push(b'-')?,
     }
-    Ok(())
-}
-
-fn put_count(text: &mut Vec<u8>, count: u128) -> Result<(), NoMemory>
-    ensures { OnOk result (text.new.items ≡ text.old.items ++ decimal count) }
-{
-    text.extend_from_slice(Buffer::new().format(count).as_bytes())?;
     Ok(())
 }
 

@@ -7,8 +7,8 @@ ghost use Rattle.flow_text.specs.MergedFlows.{some_flow, with_flows};
 use rb_bytes::fault::NoMemory;
 use std::alloc::Global;
 
-/// Pairs of addresses with their counts, where each pair that has a flow has it in place of its count, or isn't there if
-/// that is 0. Both lists are in order, and so is the result.
+/// Pairs of addresses with their counts, where each pair that has a flow has it in place of its count, or isn't there
+/// if that is 0. Both lists are in order, and so is the result.
 pub fn with_flows(
     alloc: Global,
     flows: &[(u64, u64, u128)],

@@ -15,7 +15,8 @@ use rb_bytes::fault::NoMemory;
 use rv_code::{Block, Func};
 use std::alloc::Global;
 
-/// The prices and links of each function that has a count, and a last line with the number of links and the total change.
+/// The prices and links of each function that has a count, and a last line with the number of links and the total
+/// change.
 pub fn report(
     alloc: Global,
     funcs: &[Func],

@@ -1,5 +1,6 @@
 -- What is counted from unit to unit, and which other unit calls a unit most.
-use Rattle.std.specs.Prelude.{ℕ, ◌==◌, ◌&&◌, if◌then◌else◌, not, nat_lt, List, Option, length, filter, sum_by, slice_index}
+use Rattle.std.specs.Prelude.{ℕ, ◌==◌, ◌&&◌, if◌then◌else◌, not, nat_lt, List, Option, length, filter, sum_by}
+use Rattle.std.specs.Prelude.{slice_index}
 use Rattle.std.specs.List.{range_with_len, reduce}
 use Rattle.func_place.specs.declared.calls.UnitCall.{UnitCall}
 

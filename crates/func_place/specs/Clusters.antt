@@ -29,7 +29,8 @@ joined_clusters a b cluster u = if has_unit (a ++ b) u then a ++ b else cluster 
 -- u's cluster b goes behind its caller's cluster a, where that is another one and both have at most the limit
 abbrev pub appended : List ℕ → List ℕ → List ℕ → ℕ → (ℕ → List ℕ) → ℕ → List ℕ
 appended sizes a b u cluster =
-    if not (has_unit a u) && nat_le (total sizes a + total sizes b) near_limit then joined_clusters a b cluster else cluster
+    if not (has_unit a u) && nat_le (total sizes a + total sizes b) near_limit then joined_clusters a b cluster else
+    cluster
 
 -- one unit is taken
 abbrev pub take_unit : List ℕ → (ℕ → Option ℕ) → (ℕ → List ℕ) → ℕ → ℕ → List ℕ

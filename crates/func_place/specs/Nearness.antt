@@ -6,8 +6,8 @@ use Rattle.rv_code.specs.layout.BlockOrders.{func_of_block}
 use Rattle.rv_code.specs.layout.WorstSizes.{near_limit, worst_at}
 use Rattle.func_place.specs.Units.{AreTied}
 
--- From one block to another of a function that is tied to its function, both included,
--- there are so few bytes by worst size that a JAL reaches.
+-- From one block to another of a function that is tied to its function, both included, there are so few bytes by
+-- worst size that a JAL reaches.
 abbrev pub AreTiedNear : List Func → List Block → List ℕ → Type 0
 AreTiedNear funcs blocks order = (i j : ℕ) → i ≤ j → j < length order →
     AreTied funcs (func_of_block blocks (slice_index order i)) (func_of_block blocks (slice_index order j)) →

@@ -30,5 +30,6 @@ pub record IsPlacement (funcs : List Func) (blocks : List Block) (chains : Chain
     (weight : Block → ℕ) (order : List ℕ) : Type 0 where
   pub units : List ℕ
   pub are_units : AreUnits funcs units
-  pub ordered : IsUnitOrder (by_unit (unit_size funcs units blocks) units) (by_unit (unit_sum units weight blocks) units)
+  pub ordered : IsUnitOrder (by_unit (unit_size funcs units blocks) units)
+      (by_unit (unit_sum units weight blocks) units)
       (unit_calls funcs units pairs) (unit_part (hot_of chains) units) (unit_part (cold_of chains) units) order

@@ -30,4 +30,5 @@ denser_by heat size u heat' size' v =
 -- the rank of clusters by their first units
 abbrev pub denser : List ℕ → List ℕ → (ℕ → List ℕ) → ℕ → ℕ → Bool
 denser sizes heats cluster u v =
-    denser_by (total heats (cluster u)) (total sizes (cluster u)) u (total heats (cluster v)) (total sizes (cluster v)) v
+    denser_by (total heats (cluster u)) (total sizes (cluster u)) u (total heats (cluster v))
+    (total sizes (cluster v)) v

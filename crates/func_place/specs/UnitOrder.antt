@@ -17,7 +17,8 @@ unit_clusters sizes heats calls taken = clusters_of sizes (heaviest_caller heats
 
 -- The hot units are taken by heat and form clusters. The clusters stand by density, and after them the cold
 -- units, by number. All go into bands in this order.
-pub record IsUnitOrder (sizes heats : List ℕ) (calls : List UnitCall) (hot cold : ℕ → List ℕ) (order : List ℕ) : Type 0 where
+pub record IsUnitOrder (sizes heats : List ℕ) (calls : List UnitCall) (hot cold : ℕ → List ℕ)
+    (order : List ℕ) : Type 0 where
   pub taken : List ℕ
   pub taken_is : IsInOrder (hotter heats) (hot_units heats) taken
   pub ranked : List ℕ

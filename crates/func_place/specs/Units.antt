@@ -1,5 +1,4 @@
--- Units: functions that have to stay near each other,
--- as a branch, a JAL or a fall leads from one into the other.
+-- Units: functions that have to stay near each other, as a branch, a JAL or a fall leads from one into the other.
 use Rattle.std.specs.Prelude.{◌≡◌, ℕ, ◌+◌, ◌<◌, ◌≤◌, ◌==◌, IsTrue, List, Some, if◌then◌else◌, length, map, filter}
 use Rattle.std.specs.Prelude.{slice_index, slice_get, sum_by}
 use Rattle.std.specs.List.{range_with_len, flat_map}

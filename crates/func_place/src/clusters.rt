@@ -1,12 +1,14 @@
 // Clusters of hot units.
-ghost use Rattle.std.specs.Prelude.{◌≡◌, ◌≢◌, ℕ, ◌+◌, ◌<◌, ◌≤◌, ◌^◌, ◌++◌, None, Some, List, All, length, sum, sum_by, OnOk};
+ghost use Rattle.std.specs.Prelude.{◌≡◌, ◌≢◌, ℕ, ◌+◌, ◌<◌, ◌≤◌, ◌^◌, ◌++◌, None, Some, List, All, length, sum, sum_by};
+ghost use Rattle.std.specs.Prelude.{OnOk};
 ghost use Rattle.std.specs.Prelude.{IfOk, slice_index, slice_index_or};
 ghost use Rattle.std.specs.List.{flat_map};
 ghost use Rattle.func_place.specs.Clusters.{alone, appended, clusters_of, AreWithinLimit};
 ghost use Rattle.func_place.specs.Ranks.{begins};
 ghost use Rattle.func_place.specs.UnitOrder.{unit_clusters};
 ghost use Rattle.func_place.specs.internal.Groups.{group_of};
-ghost use Rattle.func_place.specs.internal.ClusterState.{state_of, count_of, size_at, heat_at, Merges, Keeps, IsValidState};
+ghost use Rattle.func_place.specs.internal.ClusterState.{state_of, count_of, size_at, heat_at, Merges, Keeps};
+ghost use Rattle.func_place.specs.internal.ClusterState.{IsValidState};
 
 use crate::callers::heaviest_callers;
 use crate::calls::UnitCall;

@@ -22,8 +22,8 @@ pub fn first_long(funcs: &[Func], sizes: &[u128]) -> Option<u64>
     None
 }
 
-/// The address of the first instruction of a function that goes out of it, where the function keeps its inner bytes and the
-/// instruction can't reach far.
+/// The address of the first instruction of a function that goes out of it, where the function keeps its inner bytes
+/// and the instruction can't reach far.
 pub fn first_kept(funcs: &[Func]) -> Option<u64>
     ensures { MatchOption result (All StaysIn funcs.now) (IsFirstKept funcs.now) }
 {

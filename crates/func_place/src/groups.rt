@@ -93,7 +93,8 @@ impl Groups {
         requires grouped { IsGrouped (grouping_of self.now) }
         ensures len { IfOk result (λ v. length v.items ≡ length (grouping_of self.now).lists) }
         ensures same_group { IfOk result (λ v. (u : ℕ) → u < length (grouping_of self.now).lists →
-            slice_index (grouping_of self.now).numbers (slice_index v.items u) ≡ slice_index (grouping_of self.now).numbers u) }
+            slice_index (grouping_of self.now).numbers (slice_index v.items u) ≡
+            slice_index (grouping_of self.now).numbers u) }
         ensures lowest { IfOk result (λ v. (u w : ℕ) → u < length (grouping_of self.now).lists →
             w < length (grouping_of self.now).lists →
             slice_index (grouping_of self.now).numbers w ≡ slice_index (grouping_of self.now).numbers u →

@@ -1,5 +1,6 @@
 // The place of each block in the new code.
-ghost use Rattle.std.specs.Prelude.{◌≡◌, ℕ, ◌<◌, ◌≤◌, ◌^◌, All, IfOk, IfErr, OnOk, MatchOption, length, map, sum, sum_by};
+ghost use Rattle.std.specs.Prelude.{◌≡◌, ℕ, ◌<◌, ◌≤◌, ◌^◌, All, IfOk, IfErr, OnOk, MatchOption, length, map, sum};
+ghost use Rattle.std.specs.Prelude.{sum_by};
 ghost use Rattle.rb_bytes.specs.declared.fault.Refusal.{Refusal};
 ghost use Rattle.rv_code.specs.layout.FunctionMembers.{IsOfFunction};
 ghost use Rattle.rv_code.specs.declared.placed.Block.{Block};
@@ -55,8 +56,9 @@ pub fn place(
     place_by(alloc, funcs, blocks, chains, profile.pairs(), &weights)
 }
 
-/// All blocks in their new order, by a profile's pairs with their counts and the weights that these give to blocks; or the
-/// first of the faults `UnitTooLong` and `KeptBranch`. `chains` has the blocks of the hot and the cold part of each function.
+/// All blocks in their new order, by a profile's pairs with their counts and the weights that these give to blocks; or
+/// the first of the faults `UnitTooLong` and `KeptBranch`. `chains` has the blocks of the hot and the cold part of
+/// each function.
 pub fn place_by(
     alloc: Global,
     funcs: &[Func],
@@ -89,9 +91,9 @@ pub fn place_by(
     Ok(Plan { order })
 }
 
-/// The units of functions, and the worst size of each, where code can be placed; or the first of the faults `UnitTooLong`
-/// and `KeptBranch`.
-pub fn sized_units(
+// The units of functions, and the worst size of each, where code can be placed; or the first of the faults
+// `UnitTooLong` and `KeptBranch`.
+fn sized_units(
     alloc: Global,
     funcs: &[Func],
     blocks: &[Block],
@@ -118,8 +120,9 @@ pub fn sized_units(
     Ok((units, sizes))
 }
 
-/// All blocks in their new order. `units` and `sizes` are those of the functions, and `weights` how often each block runs.
-pub fn order_blocks(
+// All blocks in their new order. `units` and `sizes` are those of the functions, and `weights` how often each block
+// runs.
+fn order_blocks(
     alloc: Global,
     funcs: &[Func],
     blocks: &[Block],

@@ -1,5 +1,6 @@
 // The order of units.
-ghost use Rattle.std.specs.Prelude.{◌≡◌, ℕ, ◌<◌, ◌≤◌, ◌^◌, ◌++◌, All, length, OnOk, IfOk, sum, sum_by, map, slice_index};
+ghost use Rattle.std.specs.Prelude.{◌≡◌, ℕ, ◌<◌, ◌≤◌, ◌^◌, ◌++◌, All, length, OnOk, IfOk, sum, sum_by, map};
+ghost use Rattle.std.specs.Prelude.{slice_index};
 ghost use Rattle.func_place.specs.UnitOrder.{IsUnitOrder, cold_units};
 ghost use Rattle.func_place.specs.internal.Groups.{list_at};
 ghost use Rattle.func_place.specs.Clusters.{AreWithinLimit};

@@ -9,26 +9,23 @@ use std::alloc::Global;
 use std::test::Fail;
 use test_files::words::push_bytes;
 
-// An unsigned number, and its bytes.
-const UNSIGNED: &str = "\
-2 02
-127 7f
-128 8001
-129 8101
-12857 b964
-18446744073709551615 ffffffffffffffffff01";
-
-// A signed number, and its bytes.
-const SIGNED: &str = "\
-2 02
--2 7e
-127 ff00
--127 817f
-128 8001
--128 807f
-129 8101
--129 ff7e
--9223372036854775808 8080808080808080807f";
+// A number, and its bytes.
+const EXAMPLES: &str = "\
+unsigned 2 02
+unsigned 127 7f
+unsigned 128 8001
+unsigned 129 8101
+unsigned 12857 b964
+unsigned 18446744073709551615 ffffffffffffffffff01
+signed 2 02
+signed -2 7e
+signed 127 ff00
+signed -127 817f
+signed 128 8001
+signed -128 807f
+signed 129 8101
+signed -129 ff7e
+signed -9223372036854775808 8080808080808080807f";
 
 /// The unsigned number at the front, and how many bytes it has.
 fn read_unsigned(bytes: &[u8]) -> Result<(u64, usize), Gap> {
@@ -50,48 +47,47 @@ fn bytes_of(alloc: Global, digits: &str) -> Result<Vec<u8>, Fail> {
     Ok(bytes)
 }
 
-#[test]
-fn unsigned_examples_of_the_standard(rt: HostRuntime) -> Result<(), Fail> {
-    for line in UNSIGNED.lines() {
-        let (number, digits) = line.split_once(' ').ok_or("no bytes")?;
-        let number = number.parse::<u64>()?;
-        let spelling = bytes_of(rt.alloc(), digits)?;
-        let mut out = bytes_of(rt.alloc(), "07")?;
-        put_uleb(&mut out, number)?;
-        assert!(rt;
-            out.as_slice().get(1..) == Some(spelling.as_slice()),
-            "{line}"
-        );
-        assert!(rt;
-            read_unsigned(&spelling) == Ok((number, spelling.len())),
-            "{line}"
-        );
+// Appends the bytes of a number.
+fn put_number(out: &mut Vec<u8>, kind: &str, number: &str) -> Result<(), Fail> {
+    if kind == "signed" {
+        put_sleb(out, number.parse::<i64>()?)?;
+    } else {
+        put_uleb(out, number.parse::<u64>()?)?;
     }
     Ok(())
 }
 
+// The number at the front, and how many bytes it has.
+fn number_shown(alloc: Global, kind: &str, bytes: &[u8]) -> Result<String, Fail> {
+    let shown = if kind == "signed" {
+        format!(in alloc; "{:?}", read_signed(bytes))?
+    } else {
+        format!(in alloc; "{:?}", read_unsigned(bytes))?
+    };
+    Ok(shown)
+}
+
 #[test]
-fn signed_examples_of_the_standard(rt: HostRuntime) -> Result<(), Fail> {
-    for line in SIGNED.lines() {
-        let (number, digits) = line.split_once(' ').ok_or("no bytes")?;
-        let number = number.parse::<i64>()?;
+fn examples_of_the_standard(rt: HostRuntime) -> Result<(), Fail> {
+    for line in EXAMPLES.lines() {
+        let (kind, rest) = line.split_once(' ').ok_or("no number")?;
+        let (number, digits) = rest.split_once(' ').ok_or("no bytes")?;
         let spelling = bytes_of(rt.alloc(), digits)?;
         let mut out = bytes_of(rt.alloc(), "07")?;
-        put_sleb(&mut out, number)?;
+        put_number(&mut out, kind, number)?;
         assert!(rt;
             out.as_slice().get(1..) == Some(spelling.as_slice()),
             "{line}"
         );
-        assert!(rt;
-            read_signed(&spelling) == Ok((number, spelling.len())),
-            "{line}"
-        );
+        let shown = number_shown(rt.alloc(), kind, &spelling)?;
+        let wanted = format!(in rt.alloc(); "Ok(({number}, {}))", spelling.len())?;
+        assert_eq!(rt; shown.as_str(), wanted.as_str(), "{line}");
     }
     Ok(())
 }
 
-// Unsigned and signed numbers that are longer than need be, with something after them; whose bytes end first; and with one
-// more bit than 64 hold.
+// Unsigned and signed numbers that are longer than need be, with something after them; whose bytes end first; and with
+// one more bit than 64 hold.
 const SPELLINGS: &str = "\
 unsigned 85808080808080808080800099 Ok((5, 12))
 signed ffff7f99 Ok((-1, 3))
@@ -108,11 +104,7 @@ fn long_short_and_wide_spellings(rt: HostRuntime) -> Result<(), Fail> {
         let (kind, rest) = line.split_once(' ').ok_or("no bytes")?;
         let (digits, wanted) = rest.split_once(' ').ok_or("no number")?;
         let bytes = bytes_of(rt.alloc(), digits)?;
-        let shown = if kind == "signed" {
-            format!(in rt.alloc(); "{:?}", read_signed(&bytes))?
-        } else {
-            format!(in rt.alloc(); "{:?}", read_unsigned(&bytes))?
-        };
+        let shown = number_shown(rt.alloc(), kind, &bytes)?;
         assert_eq!(rt; shown.as_str(), wanted, "{line}");
     }
     Ok(())

@@ -37,8 +37,8 @@ fn check_rows(rt: &impl Abort, alloc: Global, table: &str) -> Result<(), Fail> {
     Ok(())
 }
 
-// The flags, the entry point and the place of the program headers; how many segments and symbols there are; the cuts; and
-// the bytes at an instruction and behind the code.
+// The flags, the entry point and the place of the program headers; how many segments and symbols there are; the cuts;
+// and the bytes at an instruction and behind the code.
 const FIELDS: &str = "(0, 65656, 64) 1 0 [65656, 65672] Some(5) None";
 
 fn fields(alloc: Global, elf: &Elf<'_>) -> Result<String, Fail> {
@@ -139,8 +139,8 @@ fn changed_fields_are_refused(rt: HostRuntime) -> Result<(), Fail> {
     check_rows(&rt, rt.alloc(), CHANGED)
 }
 
-// The example's segment ends at 88 in the file. Its program headers stand at 160, behind all else, the second of them at 198,
-// and the file ends at 1d0. A header is its type, flags, offset, address, and sizes in the file and in memory.
+// The example's segment ends at 88 in the file. Its program headers stand at 160, behind all else, the second of them
+// at 198, and the file ends at 1d0. A header is its type, flags, offset, address, and sizes in the file and in memory.
 const SEGMENTS: &str = "\
 # A second segment must share no address: it begins behind the first, where that ends, and one address below.
 like exit7

@@ -9,4 +9,5 @@ pub record AreSeparate (s t : Span) : Type 0 where
 
 -- span number j, from each before it
 abbrev pub IsSeparateFromFormer : List Span → ℕ → Type 0
-IsSeparateFromFormer spans j = (i : ℕ) (d : Span) → i < j → AreSeparate (slice_index_or spans i d) (slice_index_or spans j d)
+IsSeparateFromFormer spans j = (i : ℕ) (d : Span) → i < j →
+    AreSeparate (slice_index_or spans i d) (slice_index_or spans j d)

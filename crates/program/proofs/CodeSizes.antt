@@ -1,6 +1,6 @@
 -- The bytes of code of a file that was read.
 use Rattle.std.proofs.Common.{◌≡◌, ◌∙◌, sym, ap, subst, refl, ℕ, suc, ◌+◌, ◌-◌, ◌≤◌, ◌<◌, List, [], ◌∷◌, Some, length, map, take}
-use Rattle.std.proofs.Common.{get_or, arith, cond, Bool, true, false, IsTrue}
+use Rattle.std.proofs.Common.{get_or, arith, cond}
 use Rattle.std.proofs.lemmas.List.{take_all}
 use Rattle.std.proofs.lemmas.List.Sums.{sum_by-cons, sum_by_more, sum_by_more_le}
 use Rattle.std.specs.List.{slice_get, range_with_len, sum_by}
@@ -8,7 +8,7 @@ use Rattle.elf_image.specs.declared.elf.Elf.{Elf}
 use Rattle.elf_image.specs.declared.section.Section.{Section}
 use Rattle.elf_image.specs.file.ParsedFile.{IsSectionAt, IsElfOf}
 use Rattle.elf_image.specs.file.Sections.{section_header, section_headers, holds_code}
-use Rattle.program.specs.Limits.{code_size_limit, header_code_bytes, HasTooMuchCode}
+use Rattle.program.specs.Limits.{code_size_limit, header_code_bytes}
 use Rattle.program.specs.internal.ReadSections.{section_code_bytes}
 
 -- a section that was read has the bytes of code of its header
@@ -58,12 +58,3 @@ module _ (items seen : List Section) (same : seen ≡ items) (i room : ℕ)
       let whole : sum_by section_code_bytes (take i items) ≡ sum_by section_code_bytes items = ap (sum_by section_code_bytes)
       (take_all i items beyond) in
       omega arith
-
--- what the test says of a file that was read, by either of its names
-pub code_fits : (file other : List ℕ) (answer : Bool) → file ≡ other → (HasTooMuchCode file → IsTrue answer) → answer ≡ false
-    → HasTooMuchCode other → ⊥
-code_fits file other answer same tells below much = let above = tells (subst HasTooMuchCode (sym same) much) in absurd (cc)
-
-pub code_passes : (file other : List ℕ) (answer : Bool) → file ≡ other → (IsTrue answer → HasTooMuchCode file) → answer ≡ true
-    → HasTooMuchCode other
-code_passes file other answer same tells above = subst HasTooMuchCode same (tells above)

@@ -28,7 +28,8 @@ pub fn new_start(alloc: Global, program: &Program<'_>) -> Result<u64, Refusal>
     ensures start { IfOk result (λ start. start ≡ spec.new_start (program_seen program.now)) }
     ensures some { IfOk result (λ start. 0 < start) }
     ensures room { OnOk result (spec.no_program_room (program_seen program.now) ≡ None) }
-    ensures refused { IfErr result (IsRefusalFor (λ fault. spec.no_program_room (program_seen program.now) ≡ Some fault)) }
+    ensures refused { IfErr result (IsRefusalFor (λ fault. spec.no_program_room
+        (program_seen program.now) ≡ Some fault)) }
 {
     let elf = &program.elf;
     let need = need(alloc, elf, &program.funcs, &program.blocks)?;

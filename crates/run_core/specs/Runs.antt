@@ -67,7 +67,8 @@ module _ {M S C : Type 0} (state_of : M → List ℕ → S) (step : S → Outcom
     pub taken_is : after.output.taken ≡ append_known before.output.taken (output trace)
 
   -- The next step halts. The machine is in the state before it.
-  pub record HasHalted (pc : ℕ) (cause : C) (old now : M) (input : List ℕ) (n : ℕ) (before after : Outside) : Type 0 where
+  pub record HasHalted (pc : ℕ) (cause : C) (old now : M) (input : List ℕ) (n : ℕ)
+      (before after : Outside) : Type 0 where
     pub rest : List ℕ
     pub trace : List Event
     pub halts : HaltsAfter step (state_of old input) n trace pc cause
@@ -95,7 +96,8 @@ module _ {M S C : Type 0} (state_of : M → List ℕ → S) (step : S → Outcom
   -- A step that ends is counted, and one that halts or fails isn't, but all are among the first `limit` steps. Going
   -- says that the steps are up.
   abbrev pub MachineRunAnswers : Answer C → ℕ → ℕ → M → M → List ℕ → Outside → Outside → Type 0
-  MachineRunAnswers answer.Going limit n old now input before after = (n ≡ limit) × RunComesTo old now input n before after
+  MachineRunAnswers answer.Going limit n old now input before after = (n ≡ limit)
+      × RunComesTo old now input n before after
   MachineRunAnswers (answer.Ended status) limit n old now input before after =
       (n ≤ limit) × HasEnded status old now input n before after
   MachineRunAnswers (answer.Halted pc cause) limit n old now input before after =
@@ -104,7 +106,8 @@ module _ {M S C : Type 0} (state_of : M → List ℕ → S) (step : S → Outcom
       (n < limit) × HasFailedToRead old input n before after
   MachineRunAnswers answer.WriteFault limit n old now input before after =
       (n < limit) × HasFailedToWrite old input n before after
-  MachineRunAnswers answer.Memory limit n old now input before after = (n < limit) × RunComesTo old now input n before after
+  MachineRunAnswers answer.Memory limit n old now input before after = (n < limit)
+      × RunComesTo old now input n before after
 
   -- There is an input, the source's own where it tells its bytes, with which the run answers so. It can answer only so
   -- with this input, but for faults and want of memory.

@@ -1,14 +1,16 @@
 // System calls, by the registers that name them. Linux, syscall(2) and asm-generic/unistd.h.
 ghost use Rattle.std.specs.Prelude.{◌≡◌, ◌==◌, ◌||◌};
 
-/// The registers of arguments, of the result, and of a call's number. psABI, "Integer Register
-/// Convention".
+/// The register of the first argument, and of the result. psABI, "Integer Register Convention".
 pub const A0: u8 = 10;
 
+/// The register of the second argument.
 pub const A1: u8 = 11;
 
+/// The register of the third argument.
 pub const A2: u8 = 12;
 
+/// The register of a call's number.
 pub const A7: u8 = 17;
 
 /// The numbers of calls.
@@ -32,9 +34,10 @@ const STANDARD_ERROR: u64 = 2;
 /// The most bytes that one call moves.
 pub const MOST_MOVED: u64 = 65536;
 
-/// `EBADF` and `ENOSYS` as results: the negatives of 9 and of 38.
+/// `EBADF` as a result: the negative of 9.
 pub const BAD_FILE: u64 = 0xffff_ffff_ffff_fff7;
 
+/// `ENOSYS` as a result: the negative of 38.
 pub const NO_SUCH_CALL: u64 = 0xffff_ffff_ffff_ffda;
 
 /// The system calls that the machine knows.

@@ -25,7 +25,8 @@ abbrev pub Becomes : ByteOutcome → Stepped → Machine → Machine → List �
 Becomes outcome result old new input = core.Becomes state_of outcome (answered result) old new input
 
 -- what holds of a step by its answer, with whether the source was found at its end, before and after it
-abbrev pub StepAnswers : (ByteState → ByteOutcome → Type 0) → Stepped → Machine → Machine → Bool → Bool → Outside → Outside
+abbrev pub StepAnswers : (ByteState → ByteOutcome → Type 0) → Stepped → Machine → Machine → Bool → Bool → Outside →
+    Outside
     → Type 0
 StepAnswers step result old new ended ends before after =
     core_step.StepAnswers state_of step (answered result) old new ended ends before after

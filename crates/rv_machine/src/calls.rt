@@ -49,7 +49,8 @@ impl<'a> Machine<'a> {
     }
 
     fn refuse_call(&mut self, next: u64) -> Stepped
-        ensures { (input : List ℕ) → Becomes (calls (state_of self.old input) next Unknown) result self.old self.new input }
+        ensures { (input : List ℕ) → Becomes (calls (state_of self.old input) next Unknown) result self.old self.new
+            input }
     {
         self.registers[A0 as usize] = NO_SUCH_CALL;
         self.pc = next;

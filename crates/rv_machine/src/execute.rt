@@ -18,7 +18,8 @@ impl<'a> Machine<'a> {
     pub(crate) fn execute(&mut self, action: Action, next: u64) -> Stepped
         requires registers { HasRegisters action }
         requires no_call { action ≢ Action.SystemCall }
-        ensures { (input : List ℕ) → Becomes (effect action next (state_of self.old input)) result self.old self.new input }
+        ensures { (input : List ℕ) → Becomes (effect action next (state_of self.old input)) result self.old self.new
+            input }
     {
         match action {
             Action::Compute {

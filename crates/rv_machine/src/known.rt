@@ -16,7 +16,8 @@ pub struct KnownAction {
     pub length: u8,
 }
 
-/// What was decoded last of the halfwords that share a place in this table, so that loops decode their instructions once.
+/// What was decoded last of the halfwords that share a place in this table, so that loops decode their instructions
+/// once.
 #[derive(Drop)]
 pub struct KnownActions {
     pub entries: Vec<KnownAction>,

@@ -51,5 +51,7 @@ module _ (place next : ℕ → Option ℕ) (numbers : List ℕ) (n : ℕ)
     where
       cases : (t : Bool) → (q == n) ≡ t → get_or (numbers ++ n ∷ []) i 0 ≡ q
       cases true e = let same : Some (length numbers) ≡ Some i = sym (next-new q (eqb-true q n e)) ∙ found in
-          let here : length numbers ≡ i = cc in ap (λ k. get_or (numbers ++ n ∷ []) k 0) (sym here) ∙ number_last numbers n ∙ sym (eqb-true q n e)
-      cases false e = let there : place q ≡ Some i = sym (next-old q e) ∙ found in number_before numbers n i (held q i there) ∙ numbered q i there
+          let here : length numbers ≡ i = cc in ap (λ k. get_or (numbers ++ n ∷ []) k 0) (sym here) ∙ number_last numbers n
+          ∙ sym (eqb-true q n e)
+      cases false e = let there : place q ≡ Some i = sym (next-old q e) ∙ found in number_before numbers n i (held q i there)
+          ∙ numbered q i there

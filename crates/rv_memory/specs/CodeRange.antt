@@ -1,5 +1,6 @@
 -- Addresses that no program may write, whatever its break.
-use Rattle.std.specs.Prelude.{◌≡◌, ◌≤◌, ◌+◌, ◌-◌, ◌⊎◌, ℕ, ◌&&◌, ◌||◌, nat_le, nat_lt, min, Bool, true, false, List, length}
+use Rattle.std.specs.Prelude.{◌≡◌, ◌≤◌, ◌+◌, ◌-◌, ◌⊎◌, ℕ, ◌&&◌, ◌||◌, nat_le, nat_lt, min, Bool, true, false, List}
+use Rattle.std.specs.Prelude.{length}
 use Rattle.elf_image.specs.declared.segment.Segment.{Segment}
 use Rattle.elf_image.specs.declared.segment.TheConstants.{PF_W, PF_X}
 use Rattle.elf_image.specs.memory.Image.{has_flag, is_loaded_with}
@@ -17,8 +18,8 @@ is_ever_writable segments from to q = (is_loaded_with PF_W segments q || in_stac
 abbrev pub loaded_size : Segment → ℕ
 loaded_size p = min p.filesz p.memsz
 
--- They may be executed and never be written: not by the segment's own rights, nor in the stack, nor in what a break can gain
--- that starts and ends there. The file has them all.
+-- They may be executed and never be written: not by the segment's own rights, nor in the stack, nor in what a break
+-- can gain that starts and ends there. The file has them all.
 pub record IsFixedCode (file : List ℕ) (from to : ℕ) (p : Segment) : Type 0 where
   pub executable : has_flag PF_X p ≡ true
   pub unwritable : has_flag PF_W p ≡ false

@@ -15,7 +15,8 @@ is_zero_filled m a = in_stack a || (nat_le m.break_start a && nat_lt a m.break_t
 
 -- the byte where nothing was written: the image's, or 0
 abbrev pub unwritten_byte : Memory → ℕ → ℕ
-unwritten_byte m a = if is_zero_filled m a then 0 else unwrap_or (image_byte m.elf.now.file.now m.elf.now.segments.items a) 0
+unwritten_byte m a = if is_zero_filled m a then 0 else unwrap_or
+    (image_byte m.elf.now.file.now m.elf.now.segments.items a) 0
 
 abbrev pub memory_of : Memory → ℕ → ℕ
 memory_of m a = unwrap_or (page_byte m.pages a) (unwritten_byte m a)

@@ -1,10 +1,10 @@
 -- How a program starts, and its runs. The stack and its auxiliary vector are as the System V ABI has them for other
 -- processors ("Process Initialization"), with Linux's AT_RANDOM. The bytes of a file, of arguments and of input are
 -- below 256, and arguments hold no zero byte.
-use Rattle.std.specs.Prelude.{ℕ, ◌+◌, ◌-◌, ◌*◌, ◌^◌, ◌&&◌, ◌||◌, ◌==◌, nat_lt, nat_le, if◌then◌else◌, Bool, List, [], ◌∷◌, ◌++◌}
+use Rattle.std.specs.Prelude.{ℕ, ◌+◌, ◌-◌, ◌*◌, ◌^◌, ◌&&◌, ◌||◌, ◌==◌, nat_lt, nat_le, if◌then◌else◌, Bool, List, []}
+use Rattle.std.specs.Prelude.{◌∷◌, ◌++◌}
 use Rattle.std.specs.Prelude.{length, flat_map, replicate, slice_index, unwrap_or, codes}
-use Rattle.rv_code.specs.machine.Machine.{Space, low_bytes, Event, Run, SoFar, HaltsAfter}
-use Rattle.rv_code.specs.declared.cause.Cause.{Cause}
+use Rattle.rv_code.specs.machine.Machine.{Space, low_bytes, Event, Run, SoFar}
 use Rattle.rv_code.specs.machine.Step.{ByteState, Steps}
 use Rattle.elf_image.specs.declared.segment.Segment.{Segment}
 use Rattle.elf_image.specs.declared.segment.TheConstants.{PF_R, PF_W, PF_X, PHDR_SIZE}
@@ -89,7 +89,8 @@ space_of segments = record {
 }
 
 abbrev pub start_memory : List ℕ → List (List ℕ) → ℕ → ℕ
-start_memory file args a = if in_stack a then stack_byte file args a else unwrap_or (image_byte file (segments_of file) a) 0
+start_memory file args a = if in_stack a then stack_byte file args a else unwrap_or
+    (image_byte file (segments_of file) a) 0
 
 -- every register is 0 but the stack pointer, which is register 2
 abbrev pub start_registers : List (List ℕ) → ℕ → ℕ
@@ -108,10 +109,6 @@ start file args input = record {
 -- The n-th step of the file, run with these arguments and this input, ends with this status, after these calls.
 abbrev pub Runs : List ℕ → List (List ℕ) → List ℕ → ℕ → List Event → ℕ → Type 0
 Runs file args input n trace status = Run Steps (start file args input) n trace status
-
--- After n steps that neither end nor trap, with these calls, the next one traps, at this pc for this cause.
-abbrev pub TrapsAfter : List ℕ → List (List ℕ) → List ℕ → ℕ → List Event → ℕ → Cause → Type 0
-TrapsAfter file args input n trace pc cause = HaltsAfter Steps (start file args input) n trace pc cause
 
 -- Its first n steps neither end nor trap, and make these calls.
 pub record RunsSoFar (file : List ℕ) (args : List (List ℕ)) (input : List ℕ) (n : ℕ) (trace : List Event) : Type 0 where

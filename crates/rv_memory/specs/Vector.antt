@@ -6,4 +6,5 @@ use Rattle.rv_memory.specs.Start.{random_address}
 
 -- by the address and the count of program headers and the entry point
 abbrev pub vector : ℕ → ℕ → ℕ → List ℕ
-vector table count entry = 3 ∷ table ∷ 4 ∷ PHDR_SIZE ∷ 5 ∷ count ∷ 6 ∷ page_size ∷ 9 ∷ entry ∷ 25 ∷ random_address ∷ 0 ∷ 0 ∷ []
+vector table count entry = 3 ∷ table ∷ 4 ∷ PHDR_SIZE ∷ 5 ∷ count ∷ 6 ∷ page_size ∷ 9 ∷ entry ∷ 25 ∷ random_address ∷ 0
+    ∷ 0 ∷ []

@@ -1,5 +1,6 @@
 // The code of a program that nothing changes while it runs.
-ghost use Rattle.std.specs.Prelude.{◌≡◌, ◌↔◌, ◌≤◌, ◌+◌, ◌-◌, ◌^◌, ◌⊎◌, ℕ, IsTrue, Some, false, true, length, slice_index};
+ghost use Rattle.std.specs.Prelude.{◌≡◌, ◌↔◌, ◌≤◌, ◌+◌, ◌-◌, ◌^◌, ◌⊎◌, ℕ, IsTrue, Some, false, true, length};
+ghost use Rattle.std.specs.Prelude.{slice_index};
 ghost use Rattle.std.specs.Prelude.{unwrap_or};
 ghost use Rattle.elf_image.specs.declared.segment.TheConstants.{PF_X};
 ghost use Rattle.elf_image.specs.declared.segment.Segment.{Segment};
@@ -34,7 +35,8 @@ fn lie_apart(from: u64, to: u64, start: u64, end: u64) -> bool
     end <= from
 }
 
-/// What the file has of the segment of the entry point, where that may be executed and never be written. Empty elsewhere.
+/// What the file has of the segment of the entry point, where that may be executed and never be written. Empty
+/// elsewhere.
 pub fn code_range(elf: &Elf, break_start: u64, break_bound: u64) -> CodeRange
     ensures fixed { (q : ℕ) → is_in_code result q ≡ true →
         is_ever_writable elf.now.segments.items break_start break_bound q ≡ false }

@@ -3,8 +3,10 @@ ghost use Rattle.elf_image.specs.declared.segment.TheConstants.{PF_X};
 ghost use Rattle.elf_image.specs.memory.Image.{image_byte, is_loaded_with};
 ghost use Rattle.rv_memory.specs.CodeRange.{is_in_code, is_ever_writable};
 ghost use Rattle.rv_memory.specs.Pages.{page_byte};
-ghost use Rattle.std.specs.Prelude.{◌≡◌, ◌↔◌, ◌<◌, ◌≤◌, ◌^◌, ◌+◌, ◌-◌, ◌*◌, ◌%◌, ◌&&◌, ◌==◌, ℕ, Bool, false, None, Some, IfOk};
-ghost use Rattle.std.specs.Prelude.{IsOk, IsTrue, OnErr, IfSome, IsSome, length, nat_le, nat_lt, true, slice_index, unwrap_or};
+ghost use Rattle.std.specs.Prelude.{◌≡◌, ◌↔◌, ◌<◌, ◌≤◌, ◌^◌, ◌+◌, ◌-◌, ◌*◌, ◌%◌, ◌&&◌, ◌==◌, ℕ, Bool, false, None};
+ghost use Rattle.std.specs.Prelude.{Some, IfOk};
+ghost use Rattle.std.specs.Prelude.{IsOk, IsTrue, OnErr, IfSome, IsSome, length, nat_le, nat_lt, true, slice_index};
+ghost use Rattle.std.specs.Prelude.{unwrap_or};
 ghost use Rattle.std.specs.Prelude.{if◌then◌else◌};
 
 use crate::code_range::{CodeRange, code_range};
@@ -45,13 +47,14 @@ pub struct Memory<'a> {
         unwrap_or (image_byte elf.now.file.now elf.now.segments.items q) 0
         ≡ slice_index elf.now.file.now (code.offset + (q - code.from)) },
     pub ghost code_within: { code.offset + (code.to - code.from) ≤ length elf.now.file.now },
-    // It is as it was loaded, also where a page is_in_code it.
+    // Code is as it was loaded, also where a page has bytes of it.
     pub ghost code_stays: { (q byte : ℕ) → is_in_code code q ≡ true → page_byte pages q ≡ Some byte →
         byte ≡ unwrap_or (image_byte elf.now.file.now elf.now.segments.items q) 0 },
 }
 
 impl<'a> Memory<'a> {
-    ghost use Rattle.rv_memory.specs.Memory.{memory_of, unwritten_byte, HasRoom, Keeps, space_in, break_after, byte_after};
+    ghost use Rattle.rv_memory.specs.Memory.{memory_of, unwritten_byte, HasRoom, Keeps, space_in, break_after};
+    ghost use Rattle.rv_memory.specs.Memory.{byte_after};
     ghost use Rattle.rv_memory.specs.Memory.{gained_by_break, reads, writes, executes, may};
     ghost use Rattle.elf_image.specs.memory.Break.{writable_end, break_start};
     ghost use Rattle.rv_memory.specs.Start.{in_stack, space_of};
@@ -61,7 +64,8 @@ impl<'a> Memory<'a> {
     pub fn new(alloc: Global, elf: &'a Elf<'a>) -> Memory<'a>
         requires { writable_end elf.now.segments.items ≤ 2 ^ 63 }
         ensures bytes { (q : ℕ) →
-            memory_of result q ≡ (if in_stack q then 0 else unwrap_or (image_byte elf.now.file.now elf.now.segments.items q) 0) }
+            memory_of result q ≡ (if in_stack q then 0 else unwrap_or
+            (image_byte elf.now.file.now elf.now.segments.items q) 0) }
         ensures space { space_in result ≡ space_of elf.now.segments.items }
         ensures break_is { result.program_break ≡ break_start elf.now.segments.items }
     {
@@ -115,7 +119,8 @@ impl<'a> Memory<'a> {
     /// The halfwords at an address and after it, where both are in code that no program may write: the file has them.
     pub fn code_halves(&self, address: u64) -> Option<(u16, u16)>
         ensures first { IfSome result (λ halves. halves.0 ≡ little (memory_bytes (memory_of self.now) address 2)) }
-        ensures second { IfSome result (λ halves. halves.1 ≡ little (memory_bytes (memory_of self.now) (plus address 2) 2)) }
+        ensures second { IfSome result (λ halves. halves.1 ≡ little
+            (memory_bytes (memory_of self.now) (plus address 2) 2)) }
         ensures first_runs { IfSome result (λ halves. all_may (executes self.now) address 2 ≡ true) }
         ensures second_runs { IfSome result (λ halves. all_may (executes self.now) (plus address 2) 2 ≡ true) }
         ensures there { IsSome result ↔ ((self.now.code.from ≤ address) × (address + 4 ≤ self.now.code.to)) }

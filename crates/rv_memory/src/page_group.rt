@@ -1,5 +1,6 @@
 // A few pages whose numbers lie close together.
-ghost use Rattle.std.specs.Prelude.{◌≡◌, ◌<◌, ◌≤◌, ◌==◌, ℕ, None, Some, IfOk, IsOk, OnErr, length, slice_index, if◌then◌else◌};
+ghost use Rattle.std.specs.Prelude.{◌≡◌, ◌<◌, ◌≤◌, ◌==◌, ℕ, None, Some, IfOk, IsOk, OnErr, length, slice_index};
+ghost use Rattle.std.specs.Prelude.{if◌then◌else◌};
 
 use rb_bytes::fault::NoMemory;
 use rb_lanes::rank;
@@ -45,7 +46,8 @@ impl PageGroup {
     /// Adds a page. Where memory runs out, none is added.
     pub fn insert(&mut self, number: u64, place: usize) -> Result<(), NoMemory>
         requires { place_in self.old number ≡ None }
-        ensures added { IsOk result → (q : ℕ) → place_in self.new q ≡ (if q == number then Some place else place_in self.old q) }
+        ensures added { IsOk result → (q : ℕ) → place_in self.new q ≡
+            (if q == number then Some place else place_in self.old q) }
         ensures kept { OnErr result ((q : ℕ) → place_in self.new q ≡ place_in self.old q) }
     {
         self.numbers.reserve(1)?;

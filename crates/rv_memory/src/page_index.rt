@@ -1,5 +1,6 @@
 // Where each page stands, by its number.
-ghost use Rattle.std.specs.Prelude.{◌≡◌, ◌<◌, ◌==◌, ℕ, None, Some, IfOk, IsOk, OnErr, length, slice_index, if◌then◌else◌};
+ghost use Rattle.std.specs.Prelude.{◌≡◌, ◌<◌, ◌==◌, ℕ, None, Some, IfOk, IsOk, OnErr, length, slice_index};
+ghost use Rattle.std.specs.Prelude.{if◌then◌else◌};
 
 use crate::page_group::PageGroup;
 use rb_bytes::fault::NoMemory;
@@ -40,7 +41,8 @@ impl PageIndex {
     /// Adds a page. Where memory runs out, none is added.
     pub fn insert(&mut self, number: u64, place: usize) -> Result<(), NoMemory>
         requires { place_of self.old number ≡ None }
-        ensures added { IsOk result → (q : ℕ) → place_of self.new q ≡ (if q == number then Some place else place_of self.old q) }
+        ensures added { IsOk result → (q : ℕ) → place_of self.new q ≡
+            (if q == number then Some place else place_of self.old q) }
         ensures kept { OnErr result ((q : ℕ) → place_of self.new q ≡ place_of self.old q) }
     {
         if let Some(group) = self.groups.get_mut(&(number / GROUP_SIZE)) {

@@ -1,6 +1,8 @@
 // The pages that a program wrote.
-ghost use Rattle.std.specs.Prelude.{◌≡◌, ◌<◌, ◌≤◌, ◌+◌, ◌*◌, ◌-◌, ◌/◌, ◌%◌, ◌^◌, ◌==◌, ◌&&◌, ℕ, false, None, Some, IfSome, IfOk};
-ghost use Rattle.std.specs.Prelude.{IsOk, IsSome, IsTrue, is_some, OnErr, length, slice_index, nat_le, nat_lt, if◌then◌else◌};
+ghost use Rattle.std.specs.Prelude.{◌≡◌, ◌<◌, ◌≤◌, ◌+◌, ◌*◌, ◌-◌, ◌/◌, ◌%◌, ◌^◌, ◌==◌, ◌&&◌, ℕ, false, None, Some};
+ghost use Rattle.std.specs.Prelude.{IfSome, IfOk};
+ghost use Rattle.std.specs.Prelude.{IsOk, IsSome, IsTrue, is_some, OnErr, length, slice_index, nat_le, nat_lt};
+ghost use Rattle.std.specs.Prelude.{if◌then◌else◌};
 ghost use Rattle.rv_memory.specs.PageIndex.{place_of};
 ghost use Rattle.rv_memory.specs.Patches.{is_width};
 
@@ -91,7 +93,8 @@ impl Pages {
     pub fn put(&mut self, address: u64, count: u8, number: u64) -> bool
         requires few { count ≤ 8 }
         requires within { address % 4096 + count ≤ 4096 }
-        ensures put { IsTrue result → (q : ℕ) → page_byte self.new q ≡ byte_put self.old address (low_bytes count number) q }
+        ensures put { IsTrue result → (q : ℕ) → page_byte self.new q ≡ byte_put self.old address
+            (low_bytes count number) q }
         ensures kept { result ≡ false → (q : ℕ) → page_byte self.new q ≡ page_byte self.old q }
         ensures there { result ≡ is_some (page_byte self.old address) }
     {
@@ -150,7 +153,8 @@ impl Pages {
         requires new { place_of self.old.index number ≡ None }
         requires whole { length page.now ≡ 4096 }
         ensures added { IsOk result → (q : ℕ) →
-            page_byte self.new q ≡ (if q / 4096 == number then Some (slice_index page.now (q % 4096)) else page_byte self.old q) }
+            page_byte self.new q ≡ (if q / 4096 == number then Some (slice_index page.now (q % 4096)) else page_byte
+            self.old q) }
         ensures kept { OnErr result ((q : ℕ) → page_byte self.new q ≡ page_byte self.old q) }
     {
         self.bytes.reserve(PAGE_SIZE)?;

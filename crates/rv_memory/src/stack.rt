@@ -1,16 +1,15 @@
 // The stack of a program that starts: the numbers at the stack pointer, and its arguments.
-ghost use Rattle.std.specs.Prelude.{◌≡◌, ◌+◌, ◌*◌, ◌-◌, ◌<◌, ◌≤◌, ◌++◌, ◌∷◌, [], ◌%◌, ◌^◌, IfOk, IfSome, OnOk, find};
-ghost use Rattle.std.specs.Prelude.{option_copied, length, flat_map, map, string_bytes, String};
+ghost use Rattle.std.specs.Prelude.{◌≡◌, ◌+◌, ◌*◌, ◌-◌, ◌<◌, ◌≤◌, ◌++◌, ◌∷◌, [], ◌%◌, ◌^◌, IfOk, OnOk};
+ghost use Rattle.std.specs.Prelude.{length, flat_map, map, string_bytes, String};
 ghost use Rattle.rv_code.specs.machine.Machine.{low_bytes};
 ghost use Rattle.rv_memory.specs.Vector.{vector};
 ghost use Rattle.rv_memory.specs.Limits.{IsWithinLimits};
 ghost use Rattle.elf_image.specs.file.Header.{e_phoff, e_entry, segments_of};
-ghost use Rattle.elf_image.specs.memory.LoadedBytes.{loads_range};
 ghost use Rattle.elf_image.specs.memory.Break.{table_address, rounded_down};
 ghost use Rattle.rv_memory.specs.Start.{program_arguments, texts, texts_address, text_addresses};
 ghost use Rattle.rv_memory.specs.Start.{random_address, start_bytes, stack_pointer, stack_bytes};
 
-use elf_image::segment::PHDR_SIZE;
+use elf_image::segment::{PHDR_SIZE, range_segment};
 use elf_image::start::PAGE_SIZE;
 use elf_image::{Elf, Segment};
 use rb_bytes::fault::NoMemory;
@@ -82,14 +81,6 @@ fn put_addresses(out: &mut Vec<u8>, address: u64, args: &[String]) -> Result<(),
         next += arg.len() as u64 + 1;
     }
     Ok(())
-}
-
-// The first segment that loads a range of the file.
-fn range_segment(segments: &[Segment], start: u64, size: u64) -> Option<&Segment>
-    ensures first { option_copied result ≡ find (loads_range (record { start = start; size = size })) segments.now }
-    ensures within { IfSome result (λ p. p.now.offset ≤ start) }
-{
-    segments.iter().find(|p| p.loads_range(start, size))
 }
 
 // Where the table of program headers is loaded, 0 where no segment loads it from the file.

@@ -106,7 +106,8 @@ marked_more numbers recent n k size marked at i within = cases (get_or (numbers 
           let same = ap (λ (x : ℕ). get_or recent (x % 8192) 0) (number_before numbers n i less) in omega arith
       | inr more ↦
           let same : i ≡ length numbers = omega (arith, within, length-append numbers (n ∷ [])) in
-          absurd (apart (ap (λ (x : ℕ). get_or (numbers ++ n ∷ []) x 0 % 8192) same ∙ ap (λ (x : ℕ). x % 8192) (number_last numbers n) ∙ sym at))
+          absurd (apart (ap (λ (x : ℕ). get_or (numbers ++ n ∷ []) x 0 % 8192) same ∙ ap (λ (x : ℕ). x % 8192) (number_last numbers n)
+          ∙ sym at))
     ]
 
     cases : (t : Bool) → (get_or (numbers ++ n ∷ []) i 0 % 8192 == k) ≡ t →

@@ -1,6 +1,7 @@
 -- What the symbol machine can do with values. A rule gives a result, or none where the machine doesn't know one that
 -- holds wherever the code lies. On numbers the rules are those of the byte machine.
-use Rattle.std.specs.Prelude.{ℕ, zero, suc, ◌-◌, ◌^◌, ◌==◌, ◌&&◌, ◌||◌, if◌then◌else◌, Bool, true, false, List, ◌∷◌, Option}
+use Rattle.std.specs.Prelude.{ℕ, zero, suc, ◌-◌, ◌^◌, ◌==◌, ◌&&◌, ◌||◌, if◌then◌else◌, Bool, true, false, List, ◌∷◌}
+use Rattle.std.specs.Prelude.{Option}
 use Rattle.std.specs.Prelude.{Some, None, option_map}
 use Rattle.std.specs.Option.{option_or}
 use Rattle.rv_code.specs.declared.op.Op.{Op}
@@ -10,7 +11,8 @@ use Rattle.rv_code.specs.declared.action.Operand.TheVariants.{Register, Immediat
 use Rattle.rv_code.specs.declared.action.Test.{Test}
 use Rattle.rv_code.specs.declared.action.Test.TheVariants.{Equal}
 use Rattle.rv_code.specs.declared.action.Extension.{Extension}
-use Rattle.rv_code.specs.declared.action.Extension.TheVariants.{Signed8, Signed16, Signed32, Whole64, Zero8, Zero16, Zero32}
+use Rattle.rv_code.specs.declared.action.Extension.TheVariants.{Signed8, Signed16, Signed32, Whole64, Zero8, Zero16}
+use Rattle.rv_code.specs.declared.action.Extension.TheVariants.{Zero32}
 use Rattle.rv_code.specs.declared.placed.Func.{Func}
 use Rattle.rv_code.specs.declared.placed.Role.{Role}
 use Rattle.rv_code.specs.declared.placed.Role.TheVariants as role

@@ -7,12 +7,11 @@ use Rattle.rv_code.specs.declared.cell.CodeCell.{CodeCell}
 use Rattle.rv_code.specs.declared.cell.CellKind.{CellKind}
 use Rattle.rv_code.specs.declared.cell.CellKind.TheVariants as kind
 use Rattle.rv_code.specs.declared.placed.Func.{Func}
-use Rattle.rv_code.specs.machine.Machine.{Event, Run, SoFar, HaltsAfter}
+use Rattle.rv_code.specs.machine.Machine.{Event, Run, SoFar}
 use Rattle.elf_image.specs.declared.elf.Elf.{Elf}
 use Rattle.elf_image.specs.memory.LoadedBytes.{Range, is_in_range, address_of}
 use Rattle.elf_image.specs.memory.Break.{break_start}
 use Rattle.rv_memory.specs.Start.{start_memory, start_registers, space_of}
-use Rattle.sym_machine.specs.declared.outcome.Reason.{Reason}
 use Rattle.sym_machine.specs.declared.value.Pointer.TheVariants.{Code}
 use Rattle.sym_machine.specs.declared.value.CodeSymbol.{CodeSymbol}
 use Rattle.sym_machine.specs.declared.value.CodeSymbol.TheVariants.{Points, Diff}
@@ -92,11 +91,8 @@ program_start p args input = sym_start p.elf p.cells p.tight args input
 abbrev pub SymRuns : SymProgram → List (List ℕ) → List ℕ → ℕ → List Event → ℕ → Type 0
 SymRuns p args input n trace status = Run (SymSteps p.funcs) (program_start p args input) n trace status
 
--- After n steps that neither end nor stick, with these calls, the machine is stuck, at this pc for this reason.
-abbrev pub SticksAfter : SymProgram → List (List ℕ) → List ℕ → ℕ → List Event → ℕ → Reason → Type 0
-SticksAfter p args input n trace pc why = HaltsAfter (SymSteps p.funcs) (program_start p args input) n trace pc why
-
 -- Its first n steps neither end nor stick, and make these calls.
-pub record SymRunsSoFar (p : SymProgram) (args : List (List ℕ)) (input : List ℕ) (n : ℕ) (trace : List Event) : Type 0 where
+pub record SymRunsSoFar (p : SymProgram) (args : List (List ℕ)) (input : List ℕ) (n : ℕ)
+    (trace : List Event) : Type 0 where
   pub state : SymState
   pub so_far : SoFar (SymSteps p.funcs) (program_start p args input) n trace state

@@ -1,7 +1,8 @@
 -- One step of the symbol machine. A step is a list of conditions, each with the reason for which the machine is stuck
 -- where it is the first that fails. For all instructions they stand in one order: FellOff, Break, CallArg for a
 -- register, Operate, Compare, NotCode, EndOfFunction, Access, Hidden, CallArg for a byte that is written out, Mixed.
-use Rattle.std.specs.Prelude.{◌≡◌, ℕ, ◌*◌, ◌%◌, ◌^◌, ◌||◌, ◌==◌, if◌then◌else◌, Bool, true, false, not, List, [], ◌∷◌, Option}
+use Rattle.std.specs.Prelude.{◌≡◌, ℕ, ◌*◌, ◌%◌, ◌^◌, ◌||◌, ◌==◌, if◌then◌else◌, Bool, true, false, not, List, [], ◌∷◌}
+use Rattle.std.specs.Prelude.{Option}
 use Rattle.std.specs.Prelude.{Some, None, length, take, drop, min, map}
 use Rattle.std.specs.List.{list_any}
 use Rattle.rv_code.specs.declared.action.Extension.{Extension}
@@ -14,7 +15,8 @@ use Rattle.rv_code.specs.declared.placed.Role.{Role}
 use Rattle.rv_code.specs.isa.TwosComplement.{unsigned64}
 use Rattle.rv_code.specs.isa.Extension.{bytes_of}
 use Rattle.rv_code.specs.layout.Flow.{placed_at, action_at}
-use Rattle.rv_code.specs.machine.Machine.{plus, set_register, all_may, memory_bytes, put, State, may_read, may_write, with_break}
+use Rattle.rv_code.specs.machine.Machine.{plus, set_register, all_may, memory_bytes, put, State, may_read, may_write}
+use Rattle.rv_code.specs.machine.Machine.{with_break}
 use Rattle.rv_code.specs.machine.Machine.{Event, Call, Read, Write, Exit, Brk, Unknown, call_of, most_moved, bad_file}
 use Rattle.rv_code.specs.machine.Machine.{no_such_call, Outcome, Going, Ended, Halts}
 use Rattle.rv_code.specs.machine.Step.{a0, a1, a2, a7}
@@ -84,7 +86,8 @@ stores_at s next n bytes a = checks s reason.Access (all_may (may_write s) a n) 
 abbrev pub stores : SymState → ℕ → ℕ → Value → Option Value → SymOutcome
 stores s next n value at =
     needs s reason.Operate at
-    (λ v. needs s reason.Operate (stored n value) (λ bytes. needs s reason.Access (number v) (stores_at s next n bytes)))
+    (λ v. needs s reason.Operate (stored n value) (λ bytes. needs s reason.Access (number v)
+    (stores_at s next n bytes)))
 
 -- Branches, and jumps through registers.
 
@@ -134,7 +137,8 @@ writes_output s next file at size held =
 -- standard input is file 0, standard output and standard error are files 1 and 2
 abbrev pub read_call : SymState → ℕ → ℕ → ℕ → ℕ → SymOutcome
 read_call s next file at size =
-    if file == 0 then reads_input s next at size (take (min size most_moved) s.input) else refuses_file s next 63 file at size
+    if file == 0 then reads_input s next at size (take (min size most_moved) s.input) else refuses_file s next 63 file
+    at size
 
 abbrev pub write_call : SymState → ℕ → ℕ → ℕ → ℕ → SymOutcome
 write_call s next file at size =
@@ -163,8 +167,10 @@ effect funcs role (Branch test wanted rs1 rs2 imm) next s =
     branches s next (plus s.pc (unsigned64 imm)) wanted (tested test (s.registers rs1) (s.registers rs2))
 effect funcs role (Jump rd imm) next s = jumps s rd (plus s.pc (unsigned64 imm))
 effect funcs role (JumpTo rd rs1 imm) next s = jumps_to funcs s role rd (s.registers rs1) (unsigned64 imm)
-effect funcs role (Upper rd imm) next s = writes_register s next rd (upper_of_address role (unsigned64 imm * 4096 % 2 ^ 64))
-effect funcs role (UpperPc rd imm) next s = needs s reason.Operate (upper_of_distance role s.pc) (writes_register s next rd)
+effect funcs role (Upper rd imm) next s = writes_register s next rd
+    (upper_of_address role (unsigned64 imm * 4096 % 2 ^ 64))
+effect funcs role (UpperPc rd imm) next s = needs s reason.Operate (upper_of_distance role s.pc)
+    (writes_register s next rd)
 effect funcs role (Load e rd rs1 imm) next s = loads s next e rd (place funcs role (s.registers rs1) (unsigned64 imm))
 effect funcs role (Store n rs1 rs2 imm) next s =
     stores s next n (s.registers rs2) (place funcs role (s.registers rs1) (unsigned64 imm))
@@ -178,7 +184,8 @@ instruction funcs pc = if pc % 2 == 0 then placed_at funcs pc else None
 
 -- what a step comes to
 abbrev pub sym_step : List Func → SymState → SymOutcome
-sym_step funcs s = needs s reason.FellOff (instruction funcs s.pc) (λ p. effect funcs p.role (action_at p) (plus s.pc p.len) s)
+sym_step funcs s = needs s reason.FellOff (instruction funcs s.pc)
+    (λ p. effect funcs p.role (action_at p) (plus s.pc p.len) s)
 
 -- The step from s comes to o.
 abbrev pub SymSteps : List Func → SymState → SymOutcome → Type 0

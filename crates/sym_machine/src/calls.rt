@@ -40,7 +40,8 @@ impl<'a> SymMachine<'a> {
     ghost use Rattle.run_core.specs.Inputs.{outside_of};
     ghost use Rattle.run_core.specs.States.{Same};
     ghost use Rattle.sym_machine.specs.declared.value.Value.TheVariants.{Num};
-    ghost use Rattle.sym_machine.specs.SymStep.{argument, calls, refuses_file, read_call, reads_input, write_call, writes_output};
+    ghost use Rattle.sym_machine.specs.SymStep.{argument, calls, refuses_file, read_call, reads_input, write_call};
+    ghost use Rattle.sym_machine.specs.SymStep.{writes_output};
     ghost use Rattle.sym_machine.specs.MachineState.{state_of, registers_of, Becomes, StepAnswers};
     ghost use Rattle.sym_machine.specs.internal.Calls.{buffer_in};
     ghost use Rattle.sym_machine.specs.Values.{number};
@@ -75,7 +76,11 @@ impl<'a> SymMachine<'a> {
     fn return_value(&mut self, value: u64, next: u64) -> SymStepped
         ensures going { result ≡ SymStepped.Going }
         ensures state { (input : List ℕ) → Same
-            (record (state_of self.old input) { pc = next; registers = set_register a0 (Num value) (registers_of self.old) })
+            (record (state_of self.old input) {
+              pc = next;
+              registers = set_register a0 (Num value)
+                  (registers_of self.old);
+            })
             (state_of self.new input) }
         ensures code { self.new.code ≡ self.old.code }
     {
@@ -234,7 +239,8 @@ impl<'a> SymMachine<'a> {
         input: &mut I,
         out: &mut O,
     ) -> SymStepped
-        ensures answer { StepAnswers (λ s o. o ≡ argument s a7 (λ n. calls s next n (call_of n))) result self.old self.new
+        ensures answer { StepAnswers (λ s o. o ≡ argument s a7 (λ n. calls s next n (call_of n))) result self.old
+            self.new
             input_end.old.reached input_end.new.reached
             (outside_of (I.seen input.old) (O.seen out.old))
             (outside_of (I.seen input.new) (O.seen out.new)) }

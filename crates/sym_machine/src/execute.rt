@@ -30,7 +30,8 @@ impl<'a> SymMachine<'a> {
     ghost use Rattle.rv_code.specs.isa.Extension.{bytes_of};
     ghost use Rattle.rv_code.specs.isa.TwosComplement.{unsigned64};
     ghost use Rattle.sym_machine.specs.Rules.{combined, base_of, computed, place, loaded_symbol};
-    ghost use Rattle.sym_machine.specs.SymStep.{effect, needs, writes_register, branches, jumps, jumps_to, loads, loads_at};
+    ghost use Rattle.sym_machine.specs.SymStep.{effect, needs, writes_register, branches, jumps, jumps_to, loads};
+    ghost use Rattle.sym_machine.specs.SymStep.{loads_at};
     ghost use Rattle.sym_machine.specs.MachineState.{state_of, registers_of, funcs_of, changes};
     ghost use Rattle.sym_machine.specs.internal.Memory.{memory_at};
     ghost use Rattle.sym_machine.specs.internal.Accesses.{ChangesRegistersOnly};
@@ -40,7 +41,8 @@ impl<'a> SymMachine<'a> {
     pub(crate) fn change(&self, role: Role, action: Action, next: u64) -> Result<Change, Reason>
         requires { ChangesRegistersOnly action }
         ensures { (input : List ℕ) →
-            changes (state_of self.now input) result ≡ effect (funcs_of self.now) role action next (state_of self.now input) }
+            changes (state_of self.now input) result ≡ effect (funcs_of self.now) role action next
+            (state_of self.now input) }
     {
         match action {
             Action::Compute {
@@ -110,7 +112,8 @@ impl<'a> SymMachine<'a> {
 
     fn on_registers(&self, op: Op, first: u8, second: u8) -> Option<Value>
         ensures { result
-            ≡ combined (funcs_of self.now) (registers_of self.now) op (Operand.Register first) (Operand.Register second) }
+            ≡ combined (funcs_of self.now) (registers_of self.now) op (Operand.Register first)
+            (Operand.Register second) }
     {
         let left = self.register(first);
         let right = self.register(second);
@@ -162,7 +165,8 @@ impl<'a> SymMachine<'a> {
     ) -> Result<Change, Reason>
         ensures { (input : List ℕ) → let s = state_of self.now input in
             changes s result
-            ≡ branches s next (plus s.pc offset) wanted (tested test (registers_of self.now rs1) (registers_of self.now rs2)) }
+            ≡ branches s next (plus s.pc offset) wanted
+            (tested test (registers_of self.now rs1) (registers_of self.now rs2)) }
     {
         match tested(test, self.register(rs1), self.register(rs2)) {
             Some(holds) => Ok(go_to(self.way(wanted, holds, offset, next))),
@@ -184,14 +188,16 @@ impl<'a> SymMachine<'a> {
     }
 
     fn jump_by(&self, rd: u8, offset: u64) -> Result<Change, Reason>
-        ensures { (input : List ℕ) → let s = state_of self.now input in changes s result ≡ jumps s rd (plus s.pc offset) }
+        ensures { (input : List ℕ) → let s = state_of self.now input in
+            changes s result ≡ jumps s rd (plus s.pc offset) }
     {
         Ok(self.jump(rd, self.pc.wrapping_add(offset)))
     }
 
     // Jumps, and saves the return address.
     fn jump(&self, rd: u8, target: u64) -> Change
-        ensures { (input : List ℕ) → changes (state_of self.now input) (Ok result) ≡ jumps (state_of self.now input) rd target }
+        ensures { (input : List ℕ) → changes (state_of self.now input) (Ok result) ≡ jumps
+            (state_of self.now input) rd target }
     {
         Change {
             rd,
@@ -263,7 +269,8 @@ impl<'a> SymMachine<'a> {
         address: u64,
         next: u64,
     ) -> Result<Change, Reason>
-        ensures { (input : List ℕ) → let s = state_of self.now input in changes s result ≡ loads_at s next extension rd address }
+        ensures { (input : List ℕ) → let s = state_of self.now input in
+            changes s result ≡ loads_at s next extension rd address }
     {
         let count = extension.bytes();
         if !self

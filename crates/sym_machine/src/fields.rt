@@ -72,7 +72,8 @@ fn marked(alloc: Global, fields: &[Field], size: usize) -> Result<Vec<bool>, NoM
 fn mark(marks: &mut [bool], field: &Field)
     ensures size { length marks.new ≡ length marks.old }
     ensures marked { (o : ℕ) → o < length marks.old →
-        slice_index_or marks.new o false ≡ (slice_index_or marks.old o false || is_in_range o (range_of_field field.now)) }
+        slice_index_or marks.new o false ≡ (slice_index_or marks.old o false
+        || is_in_range o (range_of_field field.now)) }
 {
     if field.start >= marks.len() as u128 {
         return;

@@ -1,18 +1,20 @@
 // Hidden fields of a file's headers.
-ghost use Rattle.std.specs.Prelude.{◌≡◌, ◌≤◌, ◌<◌, ◌+◌, ◌-◌, ◌*◌, ◌^◌, ◌++◌, ◌&&◌, ◌||◌, ℕ, IfOk, IfSome, OnOk, map, length};
-ghost use Rattle.std.specs.Prelude.{Bool, nat_le, option_map, option_copied, find, is_none, List};
+ghost use Rattle.std.specs.Prelude.{◌≡◌, ◌≤◌, ◌<◌, ◌+◌, ◌-◌, ◌*◌, ◌^◌, ◌++◌, ◌&&◌, ◌||◌, ℕ, IfOk, IfSome, OnOk, map};
+ghost use Rattle.std.specs.Prelude.{length};
+ghost use Rattle.std.specs.Prelude.{Bool, nat_le, option_map, is_none};
 ghost use Rattle.std.specs.List.{list_any, flat_map, enumerate_from};
 ghost use Rattle.elf_image.specs.declared.elf.Elf.{Elf};
 ghost use Rattle.elf_image.specs.declared.segment.Segment.{Segment};
 ghost use Rattle.elf_image.specs.memory.CodeSegment.{executable_segment, executable_end};
-ghost use Rattle.elf_image.specs.memory.LoadedBytes.{is_in_range, loads_range, address_of};
-ghost use Rattle.elf_image.specs.memory.HiddenFields.{only, e_entry_field, hidden_in_segment, hidden_fields, is_hidden_field};
+ghost use Rattle.elf_image.specs.memory.LoadedBytes.{is_in_range, address_of};
+ghost use Rattle.elf_image.specs.memory.HiddenFields.{only, e_entry_field, hidden_in_segment, hidden_fields};
+ghost use Rattle.elf_image.specs.memory.HiddenFields.{is_hidden_field};
 ghost use Rattle.elf_image.specs.memory.HiddenFields.{is_executable_segment};
 ghost use Rattle.sym_machine.specs.internal.Fields.{range_of_field, AreLow};
 
 use crate::fields::{Field, Fields};
-use elf_image::code_segment::executable_segment;
-use elf_image::segment::{PHDR_SIZE, PT_GNU_EH_FRAME};
+use elf_image::code_segment::{executable_end, executable_segment, is_executable_segment};
+use elf_image::segment::{PHDR_SIZE, PT_GNU_EH_FRAME, entry_segment};
 use elf_image::{Elf, Segment};
 use rb_bytes::fault::NoMemory;
 use std::alloc::Global;
@@ -25,32 +27,6 @@ fn push_if(out: &mut Vec<Field>, test: bool, start: u128, size: u64) -> Result<(
         out.push(Field { start, size })?;
     }
     Ok(())
-}
-
-// The offset past the executable segment's bytes.
-fn executable_end(executable: Option<(usize, Segment)>) -> u128
-    ensures { (segments : List Segment) → executable ≡ executable_segment segments → result ≡ executable_end segments }
-{
-    match executable {
-        Some((_, p)) => p.offset as u128 + p.filesz as u128,
-        None => 0,
-    }
-}
-
-fn is_executable_segment(executable: Option<(usize, Segment)>, index: usize) -> bool
-    ensures { (elf : Elf) → executable ≡ executable_segment elf.segments.items → result ≡ is_executable_segment elf index }
-{
-    match executable {
-        Some((at, _)) => at == index,
-        None => false,
-    }
-}
-
-// The first segment that loads the field `e_entry` whole.
-fn entry_segment(segments: &[Segment]) -> Option<&Segment>
-    ensures { option_copied result ≡ find (loads_range e_entry_field) segments.now }
-{
-    segments.iter().find(|p| p.loads_range(0x18, 8))
 }
 
 /// The address of the loaded field `e_entry`, if one segment loads it whole.

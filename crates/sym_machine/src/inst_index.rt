@@ -1,5 +1,6 @@
 // The instructions of functions by their addresses.
-ghost use Rattle.std.specs.Prelude.{◌≡◌, ◌<◌, ◌≤◌, ◌%◌, ◌^◌, ◌+◌, ℕ, List, None, IfSome, IfNone, IsTrue, length, slice_index_or};
+ghost use Rattle.std.specs.Prelude.{◌≡◌, ◌<◌, ◌≤◌, ◌%◌, ◌^◌, ◌+◌, ℕ, List, None, IfSome, IfNone, IsTrue, length};
+ghost use Rattle.std.specs.Prelude.{slice_index_or};
 ghost use Rattle.std.specs.List.Sorted.{IsNonDecreasingBy};
 ghost use Rattle.rv_code.specs.declared.placed.Func.{Func};
 ghost use Rattle.rv_code.specs.declared.placed.Placed.{Placed};
@@ -74,7 +75,8 @@ impl<'a> InstIndex<'a> {
 fn inst_at(funcs: &[Func], at: InstPlace) -> Placed
     requires func { at.func < length funcs.now }
     requires inst { (d : Func) → at.inst < length (slice_index_or funcs.now at.func d).insts.items }
-    ensures { (d : Func) (e : Placed) → result ≡ slice_index_or (slice_index_or funcs.now at.func d).insts.items at.inst e }
+    ensures { (d : Func) (e : Placed) → result ≡ slice_index_or (slice_index_or funcs.now at.func d).insts.items at.inst
+        e }
 {
     let insts: &[Placed] = &funcs[at.func].insts;
     insts[at.inst]
@@ -135,7 +137,8 @@ fn insts_up_to(insts: &[Placed], address: u64) -> usize
     requires { IsNonDecreasingBy (λ p. p.addr) insts.now }
     ensures bound { result ≤ length insts.now }
     ensures below { (k : ℕ) (d : Placed) → k < result → (slice_index_or insts.now k d).addr ≤ address }
-    ensures above { (k : ℕ) (d : Placed) → result ≤ k → k < length insts.now → address < (slice_index_or insts.now k d).addr }
+    ensures above { (k : ℕ) (d : Placed) → result ≤ k → k < length insts.now →
+        address < (slice_index_or insts.now k d).addr }
 {
     insts.partition_point(|p| p.addr <= address)
 }

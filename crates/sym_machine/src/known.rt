@@ -23,7 +23,8 @@ pub struct KnownInst {
     pub found: Option<Decoded>,
 }
 
-/// What was found last at the addresses that share a place in this table, so that loops look up their instructions once.
+/// What was found last at the addresses that share a place in this table, so that loops look up their instructions
+/// once.
 #[derive(Drop)]
 pub struct KnownInsts {
     pub entries: Vec<KnownInst>,

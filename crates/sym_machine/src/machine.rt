@@ -66,7 +66,8 @@ impl<'a> SymMachine<'a> {
     // Does what an instruction does, or is stuck.
     pub(crate) fn apply(&mut self, change: Result<Change, Reason>) -> SymStepped
         ensures code { self.new.code ≡ self.old.code }
-        ensures answer { (input : List ℕ) → Becomes (changes (state_of self.old input) change) result self.old self.new input }
+        ensures answer { (input : List ℕ) → Becomes (changes (state_of self.old input) change) result self.old self.new
+            input }
     {
         match change {
             Ok(change) => self.write_register(change.rd, change.value, change.next),

@@ -1,6 +1,8 @@
 // A program's memory, with symbols and hidden bytes.
-ghost use Rattle.std.specs.Prelude.{◌≡◌, ◌<◌, ◌≤◌, ◌^◌, ◌+◌, ◌==◌, ◌&&◌, ℕ, List, true, false, None, Some, IfOk, IsOk, IsTrue};
-ghost use Rattle.std.specs.Prelude.{OnErr, IfSome, nat_le, nat_lt, if◌then◌else◌, option_map, length, map, replicate, not};
+ghost use Rattle.std.specs.Prelude.{◌≡◌, ◌<◌, ◌≤◌, ◌^◌, ◌+◌, ◌==◌, ◌&&◌, ℕ, List, true, false, None, Some, IfOk, IsOk};
+ghost use Rattle.std.specs.Prelude.{IsTrue};
+ghost use Rattle.std.specs.Prelude.{OnErr, IfSome, nat_le, nat_lt, if◌then◌else◌, option_map, length, map, replicate};
+ghost use Rattle.std.specs.Prelude.{not};
 ghost use Rattle.std.specs.List.{list_any};
 
 use crate::accesses::Stored;
@@ -145,7 +147,8 @@ impl<'a> SymMemory<'a> {
         self.bytes.bytes(address, count)
     }
 
-    /// The symbol of `count` successive bytes from an address on, if they are successive bytes of one, kept in one width.
+    /// The symbol of `count` successive bytes from an address on, if they are successive bytes of one, kept in one
+    /// width.
     pub fn symbol(&self, address: u64, count: u8) -> Option<SymbolBytes>
         requires { count ≤ 8 }
         ensures { result ≡ symbol_in (memory_bytes (memory_at self.now) address count) }

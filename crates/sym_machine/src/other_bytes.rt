@@ -1,5 +1,6 @@
 // The bytes of memory that are no numbers.
-ghost use Rattle.std.specs.Prelude.{◌≡◌, ◌<◌, ◌≤◌, ◌+◌, ◌*◌, ◌-◌, ◌/◌, ◌%◌, ◌^◌, ◌==◌, ◌&&◌, ℕ, None, Some, IfOk, IsOk, IsSome};
+ghost use Rattle.std.specs.Prelude.{◌≡◌, ◌<◌, ◌≤◌, ◌+◌, ◌*◌, ◌-◌, ◌/◌, ◌%◌, ◌^◌, ◌==◌, ◌&&◌, ℕ, None, Some, IfOk, IsOk};
+ghost use Rattle.std.specs.Prelude.{IsSome};
 ghost use Rattle.std.specs.Prelude.{OnErr, length, slice_index, slice_index_or, nat_le, nat_lt, if◌then◌else◌, true};
 ghost use Rattle.rv_memory.specs.PageIndex.{place_of};
 
@@ -44,7 +45,8 @@ pub struct OtherBytes {
     pub ghost held: { (q i : ℕ) → place_of index q ≡ Some i → i < length numbers.items },
     pub ghost numbered: { (q i : ℕ) → place_of index q ≡ Some i → slice_index numbers.items i ≡ q },
     pub ghost at_hand: { length recent.items ≡ 8192 },
-    pub ghost marked: { (i : ℕ) → i < length numbers.items → 0 < slice_index recent.items (slice_index numbers.items i % 8192) },
+    pub ghost marked: { (i : ℕ) → i < length numbers.items →
+        0 < slice_index recent.items (slice_index numbers.items i % 8192) },
 }
 
 impl OtherBytes {
@@ -129,7 +131,8 @@ impl OtherBytes {
     /// Puts a byte at an address whose group is there.
     pub fn put(&mut self, address: u64, byte: OtherByte)
         requires { has_group self.old address ≡ true }
-        ensures written { (q : ℕ) → other_byte self.new q ≡ (if q == address then Some byte else other_byte self.old q) }
+        ensures written { (q : ℕ) → other_byte self.new q ≡
+            (if q == address then Some byte else other_byte self.old q) }
         ensures groups { (q : ℕ) → has_group self.new q ≡ has_group self.old q }
     {
         if let Some(place) = self.place(address / GROUP_SIZE as u64) {

@@ -123,7 +123,8 @@ impl<'a> InstIndex<'a> {
 }
 
 fn joined_address(target: u64, base: Value) -> Option<Value>
-    ensures { result ≡ (if is_abs target base then Some (Value.Sym (CodeSymbol.Points (Pointer.Code target))) else None) }
+    ensures { result ≡ (if is_abs target base then Some (Value.Sym (CodeSymbol.Points (Pointer.Code target))) else
+        None) }
 {
     if is_abs(target, base) {
         Some(Value::Sym(CodeSymbol::Points(Pointer::Code(target))))

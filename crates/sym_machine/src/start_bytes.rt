@@ -1,5 +1,6 @@
 // The bytes at the start that are no numbers: of code cells, of hidden fields and of the entry point.
-ghost use Rattle.std.specs.Prelude.{◌≡◌, ◌≤◌, ◌<◌, ◌+◌, ◌-◌, ◌*◌, ◌^◌, ◌==◌, ◌&&◌, ◌||◌, ℕ, List, Bool, All, Some, None, IfOk};
+ghost use Rattle.std.specs.Prelude.{◌≡◌, ◌≤◌, ◌<◌, ◌+◌, ◌-◌, ◌*◌, ◌^◌, ◌==◌, ◌&&◌, ◌||◌, ℕ, List, Bool, All, Some};
+ghost use Rattle.std.specs.Prelude.{None, IfOk};
 ghost use Rattle.std.specs.Prelude.{OnOk, map, length, if◌then◌else◌, nat_le, nat_lt, min, Contains, true};
 ghost use Rattle.std.specs.List.{list_any};
 ghost use Rattle.std.specs.Option.{option_or};
@@ -40,7 +41,8 @@ impl OtherBytes {
     ghost use Rattle.sym_machine.specs.internal.SpecialBytes.{covers_header, covers_between};
 
     fn add_byte(&mut self, address: u64, byte: OtherByte) -> Result<(), NoMemory>
-        ensures { OnOk result ((q : ℕ) → other_byte self.new q ≡ (if q == address then Some byte else other_byte self.old q)) }
+        ensures { OnOk result ((q : ℕ) → other_byte self.new q ≡
+            (if q == address then Some byte else other_byte self.old q)) }
     {
         self.reserve(address)?;
         self.put(address, byte);
@@ -67,7 +69,8 @@ impl OtherBytes {
     // Hides `size` bytes from an address on.
     fn hide(&mut self, start: u64, size: u64) -> Result<(), NoMemory>
         requires { start + size ≤ 2 ^ 64 }
-        ensures { OnOk result ((q : ℕ) → special self.new q ≡ hidden_over (record { start = start; size = size }) self.old q) }
+        ensures { OnOk result ((q : ℕ) → special self.new q ≡ hidden_over (record { start = start; size = size })
+            self.old q) }
     {
         for index in 0..size {
             self.add_byte(start + index, OtherByte::Hidden)?;
@@ -90,14 +93,15 @@ impl OtherBytes {
         Ok(())
     }
 
-    // The hidden bytes that a segment loads: they are bytes of the file's header or of the table of program headers, so no
-    // others are looked at.
+    // The hidden bytes that a segment loads: they are bytes of the file's header or of the table of program headers,
+    // so no others are looked at.
     fn hide_in_segment(&mut self, elf: &Elf, fields: &Fields, p: &Segment) -> Result<(), NoMemory>
         requires low { AreLow elf.now.segments.items }
         requires one { Contains elf.now.segments.items p.now }
         ensures { OnOk result ((tight : Bool) → map range_of_field fields.now.list.items ≡ hidden_fields elf.now tight →
             (q : ℕ) → special self.new q
-            ≡ (if covers_header elf.now q p.now && is_hidden_field elf.now tight q then Some Hidden else special self.old q)) }
+            ≡ (if covers_header elf.now q p.now && is_hidden_field elf.now tight q then Some Hidden else special
+            self.old q)) }
     {
         let segments = elf.segments.as_slice();
         let table = PHDR_SIZE as u128 * segments.len() as u128;
@@ -118,7 +122,8 @@ impl OtherBytes {
         requires one { Contains elf.now.segments.items p.now }
         ensures { OnOk result ((tight : Bool) → map range_of_field fields.now.list.items ≡ hidden_fields elf.now tight →
             (q : ℕ) → special self.new q
-            ≡ (if covers_between from to q p.now && is_hidden_field elf.now tight q then Some Hidden else special self.old q)) }
+            ≡ (if covers_between from to q p.now && is_hidden_field elf.now tight q then Some Hidden else special
+            self.old q)) }
     {
         if p.kind != PT_LOAD {
             return Ok(());
@@ -141,7 +146,8 @@ impl OtherBytes {
     ) -> Result<(), NoMemory>
         requires { start + size ≤ 2 ^ 64 }
         ensures { OnOk result ((tight : Bool) → map range_of_field fields.now.list.items ≡ hidden_fields elf.now tight →
-            (q : ℕ) → special self.new q ≡ (if (nat_le start q && nat_lt q (start + size)) && is_hidden_field elf.now tight q
+            (q : ℕ) → special self.new q ≡ (if (nat_le start q && nat_lt q (start + size))
+            && is_hidden_field elf.now tight q
             then Some Hidden else special self.old q)) }
     {
         for index in 0..size {

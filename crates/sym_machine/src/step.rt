@@ -67,7 +67,8 @@ impl<'a> SymMachine<'a> {
         requires no_call { action ≢ Action.SystemCall }
         requires action { (i : Inst) × (action ≡ action_of i) }
         ensures answer { (input : List ℕ) →
-            Becomes (effect (funcs_of self.old) role action next (state_of self.old input)) result self.old self.new input }
+            Becomes (effect (funcs_of self.old) role action next (state_of self.old input)) result self.old self.new
+            input }
         ensures code { self.new.code ≡ self.old.code }
     {
         match action {

@@ -27,7 +27,8 @@ impl<'a> SymMachine<'a> {
     ) -> SymStepped
         requires { count ≤ 8 }
         ensures answer { (input : List ℕ) → let s = state_of self.old input in
-            Becomes (stores s next count value (place (funcs_of self.old) role base offset)) result self.old self.new input }
+            Becomes (stores s next count value (place (funcs_of self.old) role base offset)) result self.old self.new
+            input }
         ensures code { self.new.code ≡ self.old.code }
     {
         let Some(at) = self.code.address_of(role, base, offset) else {

@@ -4,8 +4,8 @@ ghost use Rattle.sym_machine.specs.Values.{same_pointer, same_comparing, same_sy
 
 use crate::value::{CodeSymbol, Comparing, Pointer, Value};
 
-/// Whether two pointers are the same.
-pub fn same_pointer(left: Pointer, right: Pointer) -> bool
+// Whether two pointers are the same.
+fn same_pointer(left: Pointer, right: Pointer) -> bool
     ensures { result ≡ same_pointer left right }
 {
     match left {

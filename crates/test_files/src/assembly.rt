@@ -1,5 +1,5 @@
-// Code from instructions in an assembler's words. ISA manual, "RV32/64G Instruction Set Listings"; psABI, "Integer Register
-// Convention".
+// Code from instructions in an assembler's words. ISA manual, "RV32/64G Instruction Set Listings"; psABI, "Integer
+// Register Convention".
 use crate::bytes::push_u32;
 use crate::error::BuildError;
 
@@ -142,8 +142,8 @@ fn encoded(mnemonic: &str, rest: &str) -> Result<(u32, usize), BuildError> {
     Ok((word, 4))
 }
 
-/// Appends instructions: `.rept` and a count stands before one that is repeated, and `exit` for `addi a7,zero,93; ecall`,
-/// which ends the program with the status in a0.
+/// Appends instructions: `.rept` and a count stands before one that is repeated, and `exit` for `addi a7,zero,93;
+/// ecall`, which ends the program with the status in a0.
 pub fn push_assembly(code: &mut Vec<u8>, text: &str) -> Result<(), BuildError> {
     for line in text.split("; ") {
         let mut words = line.split(' ');

@@ -5,8 +5,8 @@ use crate::error::BuildError;
 /// A paragraph is a name and the lines of a file.
 const PROGRAMS: &str = "\
 exit7
-# The smallest example, which ends with status 7. Its file has 352 bytes: its header, its program header at 40, code at 78,
-# names at 88, and at a0 the section headers: the null one, `.text` and `.shstrtab`.
+# The smallest example, which ends with status 7. Its file has 352 bytes: its header, its program header at 40, code at
+# 78, names at 88, and at a0 the section headers: the null one, `.text` and `.shstrtab`.
 code .text 10078 lui a0,0; addi a0,a0,7; exit
 
 countdown
@@ -116,8 +116,8 @@ reloc 20000 64 10090
 reloc 20008 64 10090
 
 headers-from-stack-at-10fd0
-# Loads the address of the program headers from the stack. Behind its code another segment is loaded, with 32 bytes of room
-# between them, which is enough for new code.
+# Loads the address of the program headers from the stack. Behind its code another segment is loaded, with 32 bytes of
+# room between them, which is enough for new code.
 code .text 10fd0 ld a0,40(sp); addi a0,a0,7; exit
 segment r 1000 11000
 loaded .rodata 11000 6e657874

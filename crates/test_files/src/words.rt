@@ -285,7 +285,8 @@ fn change(alloc: Global, file: &mut Vec<u8>, words: &str) -> Result<(), BuildErr
 /// Its first segment may be read and executed, and begins with the file at 10000.
 ///
 /// - `code NAME ADDR INSTRUCTION; ..`: a section of the first segment, whose address is the entry point
-/// - `loaded NAME ADDR BYTES`, `zeros NAME ADDR SIZE`, `writable NAME ADDR BYTES`, `zeroed NAME ADDR SIZE`: a section of the
+/// - `loaded NAME ADDR BYTES`, `zeros NAME ADDR SIZE`, `writable NAME ADDR BYTES`, `zeroed NAME ADDR SIZE`: a section
+/// of the
 ///   last segment; of the last the file has no bytes
 /// - `unloaded NAME 0 BYTES`: a section that isn't loaded
 /// - `segment r|rw OFFSET ADDR`: another segment
@@ -331,9 +332,10 @@ pub struct Row<'a> {
     pub wanted: &'a str,
 }
 
-/// The rows of a table of paragraphs, with an empty line between them. A paragraph begins with a line that tells what it is
-/// about, behind `# `, and with lines of a file that its rows share. A row is `- LINES => WANTED`: its own lines of the
-/// file, and what comes of it. Lines may stand in one with ` | ` between them. `like NAME` stands for the lines of a program.
+/// The rows of a table of paragraphs, with an empty line between them. A paragraph begins with a line that tells what
+/// it is about, behind `# `, and with lines of a file that its rows share. A row is `- LINES => WANTED`: its own lines
+/// of the file, and what comes of it. Lines may stand in one with ` | ` between them. `like NAME` stands for the lines
+/// of a program.
 pub fn rows(alloc: Global, table: &str) -> Result<Vec<Row<'_>>, BuildError> {
     let mut rows = Vec::new(alloc);
     for paragraph in table.split("\n\n") {

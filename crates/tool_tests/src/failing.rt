@@ -74,7 +74,8 @@ like exit7
 - fail files 2 => $ sample 1 out map | 223 WriteFault | none map | $ run out | 5 Ended(5) [ended 5 after 15 steps]/
 - fail files 3 => $ sample 1 out map | 0 Ok sample 1/";
 
-// A line that standard output doesn't take, or not whole: files are written before it. Each command has an output of its own.
+// A line that standard output doesn't take, or not whole: files are written before it. Each command has an output of
+// its own.
 const OUTPUT: &str = "\
 # A map, and what a repair changed.
 like countdown
@@ -95,7 +96,8 @@ like greeting
 - fail printed 2 => $ run in | 223 WriteFault hi | $ run --symbols in | 223 WriteFault hi
      | $ record in out | 223 WriteFault hi | text out
 - fail printed 3 => $ run in | 0 Ended(0) hi[ended 0 after 9 steps]/
-     | $ run --symbols in | 0 Ended(0) hi[ended 0 after 9 steps]/ | $ record in out | 0 Ended(0) hi[ended 0 after 9 steps]/
+     | $ run --symbols in | 0 Ended(0) hi[ended 0 after 9 steps]/
+     | $ record in out | 0 Ended(0) hi[ended 0 after 9 steps]/
 - room printed 1 => $ run in | 223 WriteFault h | $ run --symbols in | 223 WriteFault h
      | $ record in out | 223 WriteFault h | none out
 - room printed 19 => $ run in | 223 WriteFault hi[ended 0 after 9 steps]
@@ -123,7 +125,8 @@ like exit7
 # A refusal, and how the program is used.
 like exit7
 size 6
-- fail printed 1 => $ rewrite in profile out map | 223 WriteFault | none out | none map | $ map in profile | 223 WriteFault
+- fail printed 1 => $ rewrite in profile out map | 223 WriteFault | none out | none map
+     | $ map in profile | 223 WriteFault
      | $ run in | 223 WriteFault | $ run --symbols in | 223 WriteFault | $ record in out | 223 WriteFault | none out
      | $ repair in profile out | 223 WriteFault | none out | $ verify in in profile | 223 WriteFault
      | $ lookup in 10078 | 223 WriteFault | $ frames in 10078 | 223 WriteFault | $ nothing | 223 WriteFault

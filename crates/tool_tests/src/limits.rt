@@ -105,8 +105,8 @@ const NAMED: usize = 4_100;
 
 const NAME_LENGTH: usize = 1_000_000;
 
-// So many sections of one instruction, which returns. The first has the name, and the headers of the others, which stand at
-// the end of the file before that of `.shstrtab`, are given its place.
+// So many sections of one instruction, which returns. The first has the name, and the headers of the others, which
+// stand at the end of the file before that of `.shstrtab`, are given its place.
 fn named_alike(alloc: Global) -> Result<Vec<u8>, Fail> {
     let back = [0x67, 0x80, 0, 0];
     let name = vec![in alloc; b'n'; NAME_LENGTH]?;

@@ -1,12 +1,13 @@
-// Files that are cut, and tables that are malformed in one place: for which fault they are refused, and those beside them that
-// are not. Offsets are worked out by hand, by the ELF standard and DWARF 5.
+// Files that are cut, and tables that are malformed in one place: for which fault they are refused, and those beside
+// them that are not. Offsets are worked out by hand, by the ELF standard and DWARF 5.
 use crate::sessions::{files_with, play, play_rows};
 use std::alloc::Global;
 use std::process::Abort;
 use std::test::Fail;
 use test_files::words::file_in_words;
 
-// What is wrong with so many bytes of the example: its header is cut, or the program header, the segment, the section headers.
+// What is wrong with so many bytes of the example: its header is cut, or the program header, the segment, the section
+// headers.
 fn refusal_of_prefix(size: usize) -> &'static str {
     if size < 7 {
         "221 NotElf 0 0 0 refused 1 NotElf at 0/"
@@ -64,53 +65,63 @@ fn entries_nested_deep(rt: HostRuntime) -> Result<(), Fail> {
 
 // Tables of frames. The first entry is a common one, of version 4, of 20 bytes; those for code begin at 14.
 const FRAMES: &str = "\
-# A common entry, and one for the code that is right; then one that names a common entry past the section, and one that names an
-# entry for code.
+# A common entry, and one for the code that is right; then one that names a common entry past the section, and one that
+# names an entry for code.
 like exit7
 - unloaded .debug_frame 0 10000000ffffffff040008000478010c02000000140000000000000078000100000000001000000000000000
   => $ lookup in 10078 | 0 Ok unwind cfa r2+0 ra r1/
 - unloaded .debug_frame 0 10000000ffffffff040008000478010c02000000140000002c00000078000100000000001000000000000000
   => $ lookup in 10078 | 221 FrameFault 14 0 0 refused 21 FrameFault at 14/
-- unloaded .debug_frame 0 10000000ffffffff040008000478010c02000000140000000000000078000100000000001000000000000000140000001400000078000100000000001000000000000000
+- unloaded .debug_frame 0 10000000ffffffff040008000478010c020000001400000000000000780001000000000010000000000000001400\
+00001400000078000100000000001000000000000000
   => $ lookup in 10078 | 221 FrameFault 2c 0 0 refused 21 FrameFault at 2c/
 
 # States that are remembered and restored; and a restore with nothing remembered, also by a common entry.
 like exit7
-- unloaded .debug_frame 0 10000000ffffffff040008000478010c020000001c00000000000000780001000000000010000000000000000a0e100b410e2000
+- unloaded .debug_frame 0 10000000ffffffff040008000478010c020000001c00000000000000780001000000000010000000000000000a0e\
+100b410e2000
   => $ lookup in 10078 | 0 Ok unwind cfa r2+0 ra r1/
-- unloaded .debug_frame 0 10000000ffffffff040008000478010c020000001800000000000000780001000000000010000000000000000a0b410b
+- unloaded .debug_frame 0 10000000ffffffff040008000478010c020000001800000000000000780001000000000010000000000000000a0b\
+410b
   => $ lookup in 10078 | 221 FrameFault 14 0 0 refused 21 FrameFault at 14/
 - unloaded .debug_frame 0 10000000ffffffff040008000478010c02000b00140000000000000078000100000000001000000000000000
   => $ lookup in 10078 | 221 FrameFault 0 0 0 refused 21 FrameFault at 0/
 
-# Expressions that are longer than what is left of their entries, by DW_CFA_def_cfa_expression, where another entry follows, and
-# by DW_CFA_val_expression, of 2^64 - 1 bytes.
+# Expressions that are longer than what is left of their entries, by DW_CFA_def_cfa_expression, where another entry
+# follows, and by DW_CFA_val_expression, of 2^64 - 1 bytes.
 like exit7
-- unloaded .debug_frame 0 10000000ffffffff040008000478010c020000001800000000000000780001000000000010000000000000000f095000140000000000000078000100000000001000000000000000
+- unloaded .debug_frame 0 10000000ffffffff040008000478010c020000001800000000000000780001000000000010000000000000000f09\
+5000140000000000000078000100000000001000000000000000
   => $ lookup in 10078 | 221 FrameFault 14 0 0 refused 21 FrameFault at 14/
-- unloaded .debug_frame 0 10000000ffffffff040008000478010c020000002400000000000000780001000000000010000000000000001601ffffffffffffffffff0150000000
+- unloaded .debug_frame 0 10000000ffffffff040008000478010c020000002400000000000000780001000000000010000000000000001601\
+ffffffffffffffffff0150000000
   => $ lookup in 10078 | 221 FrameFault 14 0 0 refused 21 FrameFault at 14/
 
 # A unit of code in thirteen bytes, which is 4, and one of more than 64 bits; and an offset that runs past its entry.
 like exit7
-- unloaded .debug_frame 0 1c000000ffffffff040008008480808080808080808080800078010c02000000140000000000000078000100000000001000000000000000
+- unloaded .debug_frame 0 1c000000ffffffff040008008480808080808080808080800078010c020000001400000000000000780001000000\
+00001000000000000000
   => $ lookup in 10078 | 0 Ok unwind cfa r2+0 ra r1/
-- unloaded .debug_frame 0 18000000ffffffff04000800ffffffffffffffffff0278010c020000140000000000000078000100000000001000000000000000
+- unloaded .debug_frame 0 18000000ffffffff04000800ffffffffffffffffff0278010c020000140000000000000078000100000000001000\
+000000000000
   => $ lookup in 10078 | 221 FrameFault 0 0 0 refused 21 FrameFault at 0/
-- unloaded .debug_frame 0 10000000ffffffff040008000478010c020000001800000000000000780001000000000010000000000000000e808080140000000000000078000100000000001000000000000000
+- unloaded .debug_frame 0 10000000ffffffff040008000478010c020000001800000000000000780001000000000010000000000000000e80\
+8080140000000000000078000100000000001000000000000000
   => $ lookup in 10078 | 221 FrameFault 14 0 0 refused 21 FrameFault at 14/
 
 # The loaded table's entry names a common entry before the section, and itself.
 like countdown
-- loaded .eh_frame 10090 1400000000000000017a5200017801011b0c0200000000001000000020000000c8ffffff18000000480e100000000000
+- loaded .eh_frame 10090 1400000000000000017a5200017801011b0c0200000000001000000020000000c8ffffff18000000480e1000000000\
+00
   => $ lookup in 10078 | 221 FrameFault 18 0 0 refused 21 FrameFault at 18/
-- loaded .eh_frame 10090 1400000000000000017a5200017801011b0c0200000000001000000004000000c8ffffff18000000480e100000000000
+- loaded .eh_frame 10090 1400000000000000017a5200017801011b0c0200000000001000000004000000c8ffffff18000000480e1000000000\
+00
   => $ lookup in 10078 | 221 FrameFault 18 0 0 refused 21 FrameFault at 18/";
 
 // Units of debugging entries. The header takes c bytes, and the entry has the declaration 1.
 const UNITS: &str = "\
-# A form that the entry names (DW_FORM_indirect): of a number in LEB128, of itself and then that, of a value in the declaration,
-# an unknown one, and one of more than 64 bits.
+# A form that the entry names (DW_FORM_indirect): of a number in LEB128, of itself and then that, of a value in the
+# declaration, an unknown one, and one of more than 64 bits.
 like exit7
 unloaded .debug_abbrev 0 0111001c16000000
 - unloaded .debug_info 0 0b0000000500010800000000010f05 => $ lookup in 10078 | 0 Ok none/
@@ -170,20 +181,26 @@ unloaded .debug_info 0 0d0000000500010800000000010c000000
 const LINES: &str = "\
 # A sequence of 16 bytes with a row; an advance of more than 64 bits, and one that runs past the unit.
 like exit7
-- unloaded .debug_line 0 420000000500080029000000010101fb0e0d000101010100000001000001010108012f7300020108020b02612e630000612e6300000009027800010000000000010210000101
+- unloaded .debug_line 0 420000000500080029000000010101fb0e0d000101010100000001000001010108012f7300020108020b02612e6300\
+00612e6300000009027800010000000000010210000101
   => $ lookup in 10078 | 0 Ok line /s/a.c:1:0 stmt/
-- unloaded .debug_line 0 4b0000000500080029000000010101fb0e0d000101010100000001000001010108012f7300020108020b02612e630000612e63000000090278000100000000000102ffffffffffffffffff02000101
+- unloaded .debug_line 0 4b0000000500080029000000010101fb0e0d000101010100000001000001010108012f7300020108020b02612e6300\
+00612e63000000090278000100000000000102ffffffffffffffffff02000101
   => $ lookup in 10078 | 221 LineFault 0 0 0 refused 26 LineFault at 0/
-- unloaded .debug_line 0 400000000500080029000000010101fb0e0d000101010100000001000001010108012f7300020108020b02612e630000612e630000000902780001000000000001028080
+- unloaded .debug_line 0 400000000500080029000000010101fb0e0d000101010100000001000001010108012f7300020108020b02612e6300\
+00612e630000000902780001000000000001028080
   => $ lookup in 10078 | 221 LineFault 0 0 0 refused 26 LineFault at 0/
 
 # An advance of the line by 2^63 - 1, which is the most, and one of more bits; and more files than 64 bits can count.
 like exit7
-- unloaded .debug_line 0 4d0000000500080029000000010101fb0e0d000101010100000001000001010108012f7300020108020b02612e630000612e630000000902780001000000000003ffffffffffffffffff00010210000101
+- unloaded .debug_line 0 4d0000000500080029000000010101fb0e0d000101010100000001000001010108012f7300020108020b02612e6300\
+00612e630000000902780001000000000003ffffffffffffffffff00010210000101
   => $ lookup in 10078 | 0 Ok line /s/a.c:9223372036854775808:0 stmt/
-- unloaded .debug_line 0 4d0000000500080029000000010101fb0e0d000101010100000001000001010108012f7300020108020b02612e630000612e630000000902780001000000000003ffffffffffffffffff01010210000101
+- unloaded .debug_line 0 4d0000000500080029000000010101fb0e0d000101010100000001000001010108012f7300020108020b02612e6300\
+00612e630000000902780001000000000003ffffffffffffffffff01010210000101
   => $ lookup in 10078 | 221 LineFault 0 0 0 refused 26 LineFault at 0/
-- unloaded .debug_line 0 300000000500080028000000010101fb0e0d000101010100000001000001010108012f7300020108020bffffffffffffffffff02
+- unloaded .debug_line 0 300000000500080028000000010101fb0e0d000101010100000001000001010108012f7300020108020bffffffffff\
+ffffffff02
   => $ lookup in 10078 | 221 LineFault 0 0 0 refused 26 LineFault at 0/";
 
 #[test]

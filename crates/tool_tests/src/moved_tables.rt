@@ -2,11 +2,11 @@
 use crate::sessions::play_rows;
 use std::test::Fail;
 
-// In each row new code stands from 10090 on: 8 bytes of 10078, 4 of the third instruction at 10080, 4 of the second one at
-// 1007c, and 8 of the last two at 10088. The jump back at 10084 is left out.
+// In each row new code stands from 10090 on: 8 bytes of 10078, 4 of the third instruction at 10080, 4 of the second
+// one at 1007c, and 8 of the last two at 10088. The jump back at 10084 is left out.
 const COVERED: &str = "\
-# The loop with a unit from 10078 to 10090, and a block in it of 8 bytes from 10080 on. Entries are at c and 19; both have a
-# DW_AT_low_pc, and a DW_AT_high_pc in DW_FORM_data4.
+# The loop with a unit from 10078 to 10090, and a block in it of 8 bytes from 10080 on. Entries are at c and 19; both
+# have a DW_AT_low_pc, and a DW_AT_high_pc in DW_FORM_data4.
 like countdown
 profile 1 @10078 c 1 @10078 4 0 3
 profile 1 @10078 4 1 @10078 10 0 1
@@ -49,13 +49,15 @@ profile 1 @10078 4 1 @10078 10 0 1
 unloaded .debug_abbrev 0 011101110112060000020b011101120600000334000217000000
 unloaded .debug_info 0 2900000005000108000000000178000100000000001800000002800001000000000008000000030c0000000000
 unloaded .debug_loclists 0 11000000050008000000000004000c015005015100
-- => $ lookup in 10083 | 0 Ok covers c/covers 19/places 26 2 50/ | $ lookup in 10084 | 0 Ok covers c/covers 19/places 26 2 51/
+- => $ lookup in 10083 | 0 Ok covers c/covers 19/places 26 2 50/
+     | $ lookup in 10084 | 0 Ok covers c/covers 19/places 26 2 51/
      | $ rewrite in profile out map
      | 0 Ok moved 1 functions, 6 instructions, 24 bytes; 3 hot blocks; 0 profile lines ignored/
      | $ lookup out 10097 | 0 Ok covers c/ | $ lookup out 10098 | 0 Ok covers c/covers 19/places 26 2 50/
      | $ lookup out 1009b | 0 Ok covers c/covers 19/places 26 2 50/ | $ lookup out 1009c | 0 Ok covers c/
 
-# Three entries, at d, 12 and 17, that name one list of the 8 bytes from 10080 on. The output has it once, and all three name it.
+# Three entries, at d, 12 and 17, that name one list of the 8 bytes from 10080 on. The output has it once, and all three
+# name it.
 like countdown
 profile 1 @10078 c 1 @10078 4 0 3
 profile 1 @10078 4 1 @10078 10 0 1
@@ -64,8 +66,8 @@ unloaded .debug_info 0 19000000050001080000000001020c000000020c000000020c0000000
 unloaded .debug_rnglists 0 1000000005000800000000000480810488810400
 - => $ rewrite in profile out map
      | 0 Ok moved 1 functions, 6 instructions, 24 bytes; 3 hot blocks; 0 profile lines ignored/
-     | bytes out b5 19000000050001080000000001020c000000020c000000020c00000000130000000500080000000000079800010000000000\
-0400
+     | bytes out b5 19000000050001080000000001020c000000020c000000020c000000001300000005000800000000000798000100000000\
+000400
      | $ lookup out 10097 | 0 Ok none/ | $ lookup out 10098 | 0 Ok covers d/covers 12/covers 17/
      | $ lookup out 1009b | 0 Ok covers d/covers 12/covers 17/ | $ lookup out 1009c | 0 Ok none/";
 
@@ -80,7 +82,8 @@ like exit7
 - => $ sample 3 out map | $ rewrite out map moved spans
      | 0 Ok moved 4 functions, 41 instructions, 164 bytes; 10 hot blocks; 0 profile lines ignored/
      | starts spans 11150 4 11090/ | ends spans /111dc 4 11010/111e0 4 11014/111e4 8 11048/111ec 4 11070/111f0 4 11074/
-     | $ run out | 13 Ended(13) [ended 13 after 36 steps]/ | $ run --symbols out | 13 Ended(13) [ended 13 after 36 steps]/
+     | $ run out | 13 Ended(13) [ended 13 after 36 steps]/
+     | $ run --symbols out | 13 Ended(13) [ended 13 after 36 steps]/
      | $ run moved | 13 Ended(13) [ended 13 after 35 steps]/
      | $ lookup moved 111dc
      | 0 Ok line /s/sample.c:2:0 stmt/covers c/covers 2a/places 2a 40 9c/unwind cfa r2+16 ra r1 r1=[cfa-8]/
@@ -92,11 +95,12 @@ like exit7
 room files 20000
 - => $ sample 100 out map | $ rewrite out map moved spans
      | 0 Ok moved 101 functions, 1205 instructions, 4820 bytes; 301 hot blocks; 0 profile lines ignored/
-     | $ run out | 144 Ended(144) [ended 144 after 1055 steps]/ | $ run moved | 144 Ended(144) [ended 144 after 1005 steps]/
+     | $ run out | 144 Ended(144) [ended 144 after 1055 steps]/
+     | $ run moved | 144 Ended(144) [ended 144 after 1005 steps]/
      | $ verify out moved spans | 0 Ok faithful/
 
-# The third one, where f0 is called `__register_frame`, by a table of names in place of lines, and nothing names the unwind
-# table.
+# The third one, where f0 is called `__register_frame`, by a table of names in place of lines, and nothing names the
+# unwind table.
 like exit7
 - => $ sample 3 out map | patch out b0 00000000
      | patch out 2130 005f5f72656769737465725f6672616d65006631006632005f737461727400

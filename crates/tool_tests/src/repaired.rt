@@ -2,8 +2,8 @@
 use crate::sessions::play_rows;
 use std::test::Fail;
 
-// The blocks of the loop are at 10078, 1007c, 10080 and 10088. A price is what a unit more at the end of a link than at its
-// start costs, by which each link below can be judged.
+// The blocks of the loop are at 10078, 1007c, 10080 and 10088. A price is what a unit more at the end of a link than
+// at its start costs, by which each link below can be judged.
 const REPAIRED: &str = "\
 # Three times around the loop, and five times out of it: the way out isn't taken, which changes five counts.
 like countdown

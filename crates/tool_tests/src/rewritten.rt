@@ -10,8 +10,8 @@ like greeting
      | starts map 100a0 4 10078/ | ends map /100c0 4 10098/ | bytes out 9c 6869
      | $ run in | 0 Ended(0) hi[ended 0 after 9 steps]/ | $ run out | 0 Ended(0) hi[ended 0 after 9 steps]/
 
-# A loop that counts from three down: the jump back is dropped, and one into the loop is added. The new code is ADDI a0,x0,3;
-# JAL x0,8; ADDI a0,a0,-1; BNE a0,x0,-4; ADDI a7,x0,93; ECALL.
+# A loop that counts from three down: the jump back is dropped, and one into the loop is added. The new code is ADDI
+# a0,x0,3; JAL x0,8; ADDI a0,a0,-1; BNE a0,x0,-4; ADDI a7,x0,93; ECALL.
 like countdown
 - profile 1 @10078 c 1 @10078 4 0 3
   profile 1 @10078 4 1 @10078 10 0 1
@@ -33,22 +33,25 @@ loaded .eh_frame 10090 1400000000000000017a5200017801011b0c020000000000100000001
      | $ verify in out map | 0 Ok faithful/
      | $ run --symbols in | 0 Ended(0) [ended 0 after 13 steps]/ | $ run out | 0 Ended(0) [ended 0 after 11 steps]/
 
-# The loop with a line table of three lines for two instructions each: line 1 for the first two and where the last of them
-# went, and lines 2 and 3. The new unit has its header as it was, and the rows 1 at 10090, 2 at 10098, 1 at 1009c and 3 at 100a0
-# up to 100a8: DW_LNE_set_address, four special opcodes, DW_LNS_advance_pc and DW_LNE_end_sequence.
+# The loop with a line table of three lines for two instructions each: line 1 for the first two and where the last of
+# them went, and lines 2 and 3. The new unit has its header as it was, and the rows 1 at 10090, 2 at 10098, 1 at 1009c
+# and 3 at 100a0 up to 100a8: DW_LNE_set_address, four special opcodes, DW_LNS_advance_pc and DW_LNE_end_sequence.
 like countdown
-unloaded .debug_line 0 4c0000000500080029000000010101fb0e0d000101010100000001000001010108012f7300020108020b02612e630000612e630000000902780001000000000001020803010102080301010208000101
+unloaded .debug_line 0 4c0000000500080029000000010101fb0e0d000101010100000001000001010108012f7300020108020b02612e630000\
+612e630000000902780001000000000001020803010102080301010208000101
 - profile 1 @10078 c 1 @10078 4 0 3
   profile 1 @10078 4 1 @10078 10 0 1
   => $ rewrite in profile out map
      | 0 Ok moved 1 functions, 6 instructions, 24 bytes; 3 hot blocks; 0 profile lines ignored/
      | text map 10090 8 10078/10098 4 10080/1009c 0 10084/1009c 4 1007c/100a0 4 10088/100a4 4 1008c/
-     | bytes out a8 450000000500080029000000010101fb0e0d000101010100000001000001010108012f7300020108020b02612e630000612e63000000090290000100000000001283494c0208000101
+     | bytes out a8 450000000500080029000000010101fb0e0d000101010100000001000001010108012f7300020108020b02612e63000061\
+2e63000000090290000100000000001283494c0208000101
      | $ run in | 0 Ended(0) [ended 0 after 13 steps]/ | $ run out | 0 Ended(0) [ended 0 after 11 steps]/
 
 # The loop with an exception table: its function stays in one piece.
 like countdown
-loaded .eh_frame 10090 1400000000000000017a4c520001780102031b0c02000000140000001c000000c8ffffff18000000040000010000000000000000
+loaded .eh_frame 10090 1400000000000000017a4c520001780102031b0c02000000140000001c000000c8ffffff180000000400000100000000\
+00000000
 - profile 1 @10078 c 1 @10078 4 0 3
   profile 1 @10078 4 1 @10078 10 0 1
   => $ rewrite in profile out map
@@ -192,8 +195,8 @@ like exit7-at-10fd0
      | $ run in | 7 Ended(7) [ended 7 after 4 steps]/ | $ run out | 7 Ended(7) [ended 7 after 4 steps]/
      | $ rewrite out profile again map | 221 AlreadyMoved 1 0 0 refused 14 AlreadyMoved at 1/
 
-# New code above all: a third segment, which begins with the table of program headers, then of three entries, and has the
-# new code behind it.
+# New code above all: a third segment, which begins with the table of program headers, then of three entries, and has
+# the new code behind it.
 like exit7-at-10fe0
 - => $ rewrite in profile out map
      | 0 Ok moved 1 functions, 4 instructions, 16 bytes; 0 hot blocks; 0 profile lines ignored/

@@ -43,7 +43,8 @@ fn runs_end(rt: HostRuntime) -> Result<(), Fail> {
 
 const ON_SYMBOLS: &str = "\
 # Programs that end alike on the symbol machine and on the byte machine.
-- like exit7 => $ run in | 7 Ended(7) [ended 7 after 4 steps]/ | $ run --symbols in | 7 Ended(7) [ended 7 after 4 steps]/
+- like exit7 => $ run in | 7 Ended(7) [ended 7 after 4 steps]/
+     | $ run --symbols in | 7 Ended(7) [ended 7 after 4 steps]/
 - like greeting => $ run --symbols in | 0 Ended(0) hi[ended 0 after 9 steps]/
 - like countdown => $ run --symbols in | 0 Ended(0) [ended 0 after 13 steps]/
 - like switch-by-distances
@@ -51,7 +52,8 @@ const ON_SYMBOLS: &str = "\
 - like switch-by-addresses
   => $ run in | 0 Ended(0) [ended 0 after 5 steps]/ | $ run --symbols in | 0 Ended(0) [ended 0 after 5 steps]/
 - like call => $ run in | 0 Ended(0) [ended 0 after 4 steps]/ | $ run --symbols in | 0 Ended(0) [ended 0 after 4 steps]/
-- like falling => $ run in | 4 Ended(4) [ended 4 after 3 steps]/ | $ run --symbols in | 4 Ended(4) [ended 4 after 3 steps]/
+- like falling => $ run in | 4 Ended(4) [ended 4 after 3 steps]/
+     | $ run --symbols in | 4 Ended(4) [ended 4 after 3 steps]/
 - like addresses-in-data
   => $ run in | 0 Ended(0) [ended 0 after 7 steps]/ | $ run --symbols in | 0 Ended(0) [ended 0 after 7 steps]/
 - like address-in-pieces
@@ -71,8 +73,8 @@ const ON_SYMBOLS: &str = "\
 - like address-added-to => $ run in | 0 Ended(0) [ended 0 after 6 steps]/
      | $ run --symbols in | 227 Stuck 10080 Operate [stuck Operate at 10080 after 2 steps]/
 
-# What a rewriting changes is hidden: in a file without room for new code behind the old one, the table of program headers
-# is to move.
+# What a rewriting changes is hidden: in a file without room for new code behind the old one, the table of program
+# headers is to move.
 - like headers-from-stack-at-10fd0
   => $ run in | 71 Ended(71) [ended 71 after 4 steps]/ | $ run --symbols in | 71 Ended(71) [ended 71 after 4 steps]/
 - like headers-from-stack-at-10fe0 => $ run in | 71 Ended(71) [ended 71 after 4 steps]/
@@ -87,7 +89,8 @@ const RECORDINGS: &str = "\
 # A loop, and four steps of it: the last one goes back to 1007c.
 like countdown
 - => $ record in out | 0 Ended(0) [ended 0 after 13 steps]/
-     | text out 1 @10078 0 1 @10078 4 0 1/1 @10078 4 1 @10078 8 0 3/1 @10078 4 1 @10078 10 0 1/1 @10078 c 1 @10078 4 0 3/
+     | text out 1 @10078 0 1 @10078 4 0 1/1 @10078 4 1 @10078 8 0 3/1 @10078 4 1 @10078 10 0 1/1 @10078 c 1 @10078 4 0 \
+3/
 - => $ record in --steps=4 out word | 226 OutOfSteps [out of steps after 4 steps]/
      | text out 1 @10078 0 1 @10078 4 0 1/1 @10078 4 1 @10078 8 0 1/1 @10078 c 1 @10078 4 0 1/
 
@@ -98,7 +101,8 @@ code .text 10078 jal ra,12; exit; addi a0,zero,1; jalr zero,0(ra)
 
 # A jump to the next instruction, and one out of the code, which is not counted. The step after it traps.
 code .text 10078 jal zero,4; jalr zero,256(zero)
-- => $ record in out | 225 Trapped 100 Fetch [trapped Fetch at 100 after 2 steps]/ | text out 1 @10078 0 1 @10078 4 0 1/";
+- => $ record in out | 225 Trapped 100 Fetch [trapped Fetch at 100 after 2 steps]/
+     | text out 1 @10078 0 1 @10078 4 0 1/";
 
 #[test]
 fn runs_are_recorded(rt: HostRuntime) -> Result<(), Fail> {

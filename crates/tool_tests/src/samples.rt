@@ -28,11 +28,13 @@ fn one_function_is_run_and_recorded(rt: HostRuntime) -> Result<(), Fail> {
 $ run in | 5 Ended(5) [ended 5 after 15 steps]/ \
 | $ run --symbols in | 5 Ended(5) [ended 5 after 15 steps]/ \
 | $ record in out | 5 Ended(5) [ended 5 after 15 steps]/ \
-| text out 1 @11000 c 1 @11000 18 0 1/1 @11000 18 1 @11000 1c 0 1/1 @11000 2c 1 @11030 c 0 1/1 @11030 8 1 @11000 0 0 1/ \
+| text out 1 @11000 c 1 @11000 18 0 1/1 @11000 18 1 @11000 1c 0 1/1 @11000 2c 1 @11030 c 0 1/1 @11030 8 1 @11000 0 0 \
+1/ \
 | $ repair in out map | 0 Ok price 11000 0/price 11010 0/price 11018 0/price 1101c 0/link - 11000 1 1/\
 link 11000 11010 0 0/link 11000 11018 1 1/link 11010 1101c 0 0/link 11018 1101c 1 1/link 1101c - 1 1/\
 8 links, total change 0/ \
-| text map 1 @11000 c 1 @11000 18 0 1/1 @11000 18 1 @11000 1c 0 1/1 @11000 2c 1 @11030 c 0 1/1 @11030 8 1 @11000 0 0 1/";
+| text map 1 @11000 c 1 @11000 18 0 1/1 @11000 18 1 @11000 1c 0 1/1 @11000 2c 1 @11030 c 0 1/1 @11030 8 1 @11000 0 0 \
+1/";
     play_sample(&rt, rt.alloc(), &ONE_FUNCTION, session)?;
     Ok(())
 }

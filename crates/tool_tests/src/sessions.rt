@@ -119,7 +119,8 @@ fn answer(alloc: Global, files: &mut MemFiles, words: &str, line: &str) -> Resul
     Ok(shown)
 }
 
-// What is wanted of a file: that there is `none`, its whole `text`, how it `starts` or `ends`, or `bytes` from an offset on.
+// What is wanted of a file: that there is `none`, its whole `text`, how it `starts` or `ends`, or `bytes` from an
+// offset on.
 fn check_file(
     rt: &impl Abort,
     alloc: Global,

@@ -26,8 +26,8 @@ fn parse(line: &str) -> Option<Row> {
     })
 }
 
-// What stands behind an instruction, so that a0 tells what it did: LI a0,1 behind a branch, which is passed over where it is
-// taken, LD a0,16(s0) behind a store, else a NOP.
+// What stands behind an instruction, so that a0 tells what it did: LI a0,1 behind a branch, which is passed over where
+// it is taken, LD a0,16(s0) behind a store, else a NOP.
 fn follow(word: u64) -> &'static str {
     match word % 128 {
         0x63 => "addi a0,zero,1",
@@ -36,8 +36,8 @@ fn follow(word: u64) -> &'static str {
     }
 }
 
-// The file: for each row its operands are loaded from the data, and its result is stored there. Then write(1, data, s0 -
-// data) and exit(0).
+// The file: for each row its operands are loaded from the data, and its result is stored there. Then write(1, data, s0
+// - data) and exit(0).
 fn file(alloc: Global) -> Result<String, Fail> {
     let mut code = String::from_str(alloc, "flags 1\ncode .text 100b0 lui s0,80")?;
     let mut data = String::from_str(alloc, "\nsegment rw 3000 50000\nwritable .data 50000 ")?;

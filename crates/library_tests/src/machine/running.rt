@@ -40,8 +40,8 @@ fn number(words: &str, name: &str, default: u64) -> Result<u64, Fail> {
     }
 }
 
-/// A run of a file in words, with lines for its input (`input TEXT`), the limit of its steps, the read or write that fails
-/// (`fail input NUMBER`, `fail out NUMBER`), and the room for what it writes (`room out SIZE`).
+/// A run of a file in words, with lines for its input (`input TEXT`), the limit of its steps, the read or write that
+/// fails (`fail input NUMBER`, `fail out NUMBER`), and the room for what it writes (`room out SIZE`).
 pub fn run_in_words(alloc: Global, words: &str) -> Result<Run, Fail> {
     let file = file_in_words(alloc, words)?;
     let bytes = Vec::from_slice(alloc, said(words, "input ").unwrap_or("").as_bytes())?;

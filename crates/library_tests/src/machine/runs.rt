@@ -4,9 +4,9 @@ use std::test::Fail;
 use test_files::words::rows;
 
 const CALLS: &str = "\
-# A system call: a0 has a file, a1 a buffer of 16 bytes at the start of the data, a2 its size and a7 the call. Its result goes
-# behind the buffer. Then write(1, data, 24), and exit(0). First read and write of files that are open for it and others;
-# -9 is EBADF, and -38 ENOSYS.
+# A system call: a0 has a file, a1 a buffer of 16 bytes at the start of the data, a2 its size and a7 the call. Its
+# result goes behind the buffer. Then write(1, data, 24), and exit(0). First read and write of files that are open for
+# it and others; -9 is EBADF, and -38 ENOSYS.
 flags 1
 segment rw 3000 50000
 writable .data 50000 2e2e2e2e2e2e2e2e2e2e2e2e2e2e2e2e2e2e2e2e2e2e2e2e
@@ -74,8 +74,8 @@ writable .data 50000 2e
 - code .text 100b0 addi a0,zero,265; addi a7,zero,93; ecall => Ended(9) 3
 - code .text 100b0 addi a0,zero,-1; addi a7,zero,93; ecall => Ended(255) 3
 
-# The break stands at 51000, and brk(51018) raises it. The new bytes are zero, and are stored to and loaded from: the result
-# at 51000 and again at 51008. Then write(1, 51000, 24).
+# The break stands at 51000, and brk(51018) raises it. The new bytes are zero, and are stored to and loaded from: the
+# result at 51000 and again at 51008. Then write(1, 51000, 24).
 flags 1
 segment rw 3000 50000
 writable .data 50000 2e
@@ -92,16 +92,16 @@ code .rest 100d0 ecall; ld a2,0(a1); addi a0,zero,1; addi a2,zero,8; addi a7,zer
 - code .again 100cc addi a0,a1,0 => Trap 100d4 Load 9
 - code .again 100cc addi a0,a1,8 => Ended(0) 17 0000000000000000
 
-# Eight bytes are stored so that four of them stand in each of two pages: one below the page of the stack pointer, which holds
-# the start stack, and that page. The number is 0001234512345067, so the upper page begins with 45.
+# Eight bytes are stored so that four of them stand in each of two pages: one below the page of the stack pointer, which
+# holds the start stack, and that page. The number is 0001234512345067, so the upper page begins with 45.
 flags 1
 segment rw 3000 50000
 writable .data 50000 2e
 - code .text 100b0 srli a0,sp,12; slli a0,a0,12; lui a1,74565; slli a2,a1,20; add a1,a1,a2; addi a1,a1,103; sd a1,-4(a0)
   code .rest 100cc ld a2,-4(a0); sub a1,a1,a2; lbu a2,0(a0); add a0,a1,a2; exit => Ended(69) 13
 
-# The break goes from 51000 to 54000, back into eight bytes that were stored over the end of a page at 53000, and up again.
-# Two of them were kept, and the others are zero.
+# The break goes from 51000 to 54000, back into eight bytes that were stored over the end of a page at 53000, and up
+# again. Two of them were kept, and the others are zero.
 flags 1
 segment rw 3000 50000
 writable .data 50000 2e
@@ -110,8 +110,8 @@ writable .data 50000 2e
   => Ended(7) 17";
 
 const TRAPS: &str = "\
-# Past the end of the code; two bytes that begin a longer form, at the end of the code; JALR x0,0(x0). A step that traps isn't
-# counted. ISA manual, sections 1.4 and 1.5.
+# Past the end of the code; two bytes that begin a longer form, at the end of the code; JALR x0,0(x0). A step that traps
+# isn't counted. ISA manual, sections 1.4 and 1.5.
 flags 1
 segment rw 3000 50000
 writable .data 50000 2e2e2e2e2e2e2e2e
@@ -127,8 +127,8 @@ writable .data 50000 2e2e2e2e2e2e2e2e
 - code .text 100b0 .word 00000013; .word ffffffff => Trap 100b4 Illegal 1
 - code .text 100b0 .word 00000013; .word 00100073 => Trap 100b4 Break 1
 
-# LB x10,0(x0), and LB x10,0(x8) at the first byte past the data; SB x10,0(x8) of the code, and SD x10,1(x8) across the end of
-# the data.
+# LB x10,0(x0), and LB x10,0(x8) at the first byte past the data; SB x10,0(x8) of the code, and SD x10,1(x8) across the
+# end of the data.
 flags 1
 segment rw 3000 50000
 writable .data 50000 2e2e2e2e2e2e2e2e

@@ -6,8 +6,10 @@ use Rattle.rv_code.specs.declared.placed.Func.{Func}
 
 -- functions lie apart, by address; the instructions of each lie in it, by address
 pub record IsSearchable (funcs : List Func) : Type 0 where
-  pub ordered : (f : ℕ) (d : Func) → f < length funcs → (slice_index_or funcs f d).start < (slice_index_or funcs f d).end
-  pub apart : (f g : ℕ) (d : Func) → f < g → g < length funcs → (slice_index_or funcs f d).end ≤ (slice_index_or funcs g d).start
+  pub ordered : (f : ℕ) (d : Func) → f < length funcs →
+      (slice_index_or funcs f d).start < (slice_index_or funcs f d).end
+  pub apart : (f g : ℕ) (d : Func) → f < g → g < length funcs →
+      (slice_index_or funcs f d).end ≤ (slice_index_or funcs g d).start
   pub from : (f i : ℕ) (d : Func) (e : Placed) → f < length funcs → i < length (slice_index_or funcs f d).insts.items
       → (slice_index_or funcs f d).start ≤ (slice_index_or (slice_index_or funcs f d).insts.items i e).addr
   pub to : (f i : ℕ) (d : Func) (e : Placed) → f < length funcs → i < length (slice_index_or funcs f d).insts.items

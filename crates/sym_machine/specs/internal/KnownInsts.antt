@@ -16,4 +16,5 @@ abbrev pub IsKnown : List Func → KnownInst → Type 0
 IsKnown funcs e = e.found ≡ option_map decoded_inst (instruction funcs e.address)
 
 pub record AreKnown (funcs : List Func) (known : KnownInsts) : Type 0 where
-  pub at : (k : ℕ) (d : KnownInst) → k < length known.entries.items → IsKnown funcs (slice_index_or known.entries.items k d)
+  pub at : (k : ℕ) (d : KnownInst) → k < length known.entries.items →
+      IsKnown funcs (slice_index_or known.entries.items k d)

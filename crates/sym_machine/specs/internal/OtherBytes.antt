@@ -8,7 +8,8 @@ use Rattle.sym_machine.specs.declared.other_bytes.OtherBytes.{OtherBytes}
 
 -- the group of an address has the number of its eighth part; groups stand one after another, each at its place
 unfoldable pub byte_in : PageIndex → List (Option OtherByte) → ℕ → Option OtherByte
-byte_in index slots a = option_and_then (λ place. slice_index_or slots (place * 8 + a % 8) None) (place_of index (a / 8))
+byte_in index slots a = option_and_then (λ place. slice_index_or slots (place * 8 + a % 8) None)
+    (place_of index (a / 8))
 
 abbrev pub other_byte : OtherBytes → ℕ → Option OtherByte
 other_byte others a = byte_in others.index others.slots.items a
