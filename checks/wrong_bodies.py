@@ -101,12 +101,20 @@ def check(folder, crate, function=None):
     return run.returncode == 0, run.stdout
 
 
+# An answer names a goal that the edit took away: that is no sign of what the contract refuses.
+GONE = re.compile(r"error: `[^`]*`: `goal\.[^`]*`: module `[^`]*Goals`")
+
+
+def refusals(said):
+    """The lines that say why a check refused, but for those on goals that are gone."""
+    told = re.compile(r"(note: )?\S+:\d+:\d+: .*(error|is not proved|found no proof)")
+    return [line for line in said.splitlines() if told.match(line) and not GONE.search(line)]
+
+
 def reason(said):
     """The first line that says why a check refused."""
-    for line in said.splitlines():
-        if re.match(r"(note: )?\S+:\d+:\d+: .*error", line) or line.startswith("note: "):
-            return line[:160]
-    return said.strip().splitlines()[-1][:160] if said.strip() else "nothing was said"
+    told = refusals(said) or said.strip().splitlines()[-1:] or ["nothing was said"]
+    return told[0][:160]
 
 
 # A check that gave no verdict: its words were wrong, or the edited text can't be read.
@@ -122,6 +130,8 @@ def try_edit(folder, edit):
             (home / file).write_text(text)
         for function in dict.fromkeys([edit.function, None]):
             proved, said = check(folder, edit.crate, function)
+            if not proved and GONE.search(said) and not refusals(said):
+                return False, "NO VERDICT: only goals that answers name are gone"
             if not proved and not NO_VERDICT.search(said):
                 return True, f"refused ({function or 'whole crate'}): {reason(said)}"
             if not proved and not function:
