@@ -4,6 +4,7 @@ import concurrent.futures
 import os
 import re
 import subprocess
+import sys
 import tempfile
 import time
 
@@ -125,6 +126,11 @@ def build_large(path, mib):
     return next((at for at, part in zip(places, parts) if len(part.splitlines()) > 2), low)
 
 
+def apart(script, *words):
+    """What a script prints, in a process of its own: a child's peak counts what its parent had when it began."""
+    return output([sys.executable, os.path.abspath(script), *(str(word) for word in words)])
+
+
 def best_of(command, runs):
     """The best seconds of the clock, the peak in MiB, and what was printed, in one line."""
     best, peak, said = float("inf"), 0, ""
@@ -137,3 +143,7 @@ def best_of(command, runs):
             printed.seek(0)
             said = " / ".join(printed.read().decode(errors="replace").split("\n"))[:100]
     return best, peak, said
+
+
+if __name__ == "__main__":
+    print(build_large(sys.argv[1], int(sys.argv[2])))

@@ -8,36 +8,19 @@ import re
 import subprocess
 import tempfile
 
-from frames import after_leb, table_at
+from frames import table_at
+from mend import CALL_SITE, declarations
 
-CALL_SITE, CALL_SITE_PARAMETER, IMPLICIT_CONST = 0x48, 0x49, 0x21
-
-
-def call_tags(table):
-    """Where the tags of calls stand in `.debug_abbrev`."""
-    at, found = 0, []
-    while at < len(table):
-        at = after_leb(table, at)
-        if table[at - 1] == 0:  # the end of a table: its number is 0
-            continue
-        if table[at] == CALL_SITE:
-            found.append(at)
-        at = after_leb(table, at) + 1
-        while table[at:at + 2] != bytes(2):
-            name_end = after_leb(table, at)
-            at = after_leb(table, name_end)
-            if table[name_end] == IMPLICIT_CONST:
-                at = after_leb(table, at)
-        at += 2
-    return found
+CALL_SITE_PARAMETER = 0x49
 
 
 def copy_without_calls(path, copy):
     with open(path, "rb") as file:
         data = bytearray(file.read())
     _, first, size = table_at(path, ".debug_abbrev")
-    for place in call_tags(data[first:first + size]):
-        data[first + place] = CALL_SITE_PARAMETER
+    for tag, _ in declarations(bytes(data[first:first + size])):
+        if data[first + tag] == CALL_SITE:
+            data[first + tag] = CALL_SITE_PARAMETER
     with open(copy, "wb") as file:
         file.write(data)
 

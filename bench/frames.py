@@ -1,20 +1,15 @@
-#!/usr/bin/env python3
 """Mends the frame tables that GNU as made, in place; and compares those of an executable and of its rewritten file.
 
-    python3 bench/frames.py FILE..
-
 GNU as begins each common entry by changing the register of a frame address that isn't given yet, which DWARF 5
-doesn't allow (section 6.4.2.2). In all such entries of `.eh_frame` and `.debug_frame` of each FILE register and
-offset are given instead, in as many bytes. It wants `riscv64-unknown-elf-readelf`.
+doesn't allow (section 6.4.2.2). In all such entries of `.eh_frame` and `.debug_frame` register and offset are given
+instead, in as many bytes. `mend.py` does so for a file that is named.
 
-For other scripts `readelf` says for each address how the frame is unwound there, and `llvm-dwarfdump` what its entry
+`readelf` says for each address how the frame is unwound there, and `llvm-dwarfdump` what its entry
 says of exceptions; `gdb` unwinds a stopped program.
 """
 import bisect
 import re
 import shutil
-import subprocess
-import sys
 
 from profiles import CROSS, debug, output
 
@@ -201,10 +196,3 @@ def backtrace_problems(old, new, moved, name, words):
         if sp - before[0][1] != new_sp - after[0][1]:
             problems.append(f"gdb: the frame at {now:x} has another stack pointer than that at {was:x} before")
     return problems
-
-
-if __name__ == "__main__":
-    if len(sys.argv) < 2:
-        sys.exit("frames.py FILE..: mends the frame tables of these files")
-    for path in sys.argv[1:]:
-        mend_tables(path)

@@ -1,19 +1,22 @@
 #!/usr/bin/env python3
 """Seconds and memory of files that are made to be slow, and how both grow with the file.
 
-    python3 bench/hostile.py [--tool COMMAND] [--kib KIB] [--large] [--command NAME].. [KIND..]
+    python3 bench/hostile.py [--tool COMMAND] [--kib KIB] [--runs N] [--large] [--command NAME].. [KIND..]
 
-Each kind is a small file in which few bytes name much: names that are ends of one text, headers of sections over one
-table, an entry of an unwind table with a row for each instruction. A file of about KIB, one of twice and one of four
-times the size are made in a temporary folder, and COMMAND (`sudrepka` where it isn't given) does with each what NAME
-says, or all of COMMANDS: it rewrites it, verifies that, runs it on the symbol machine, repairs its profile, and of
-those with debug tables looks up an address, and the functions there. Each line has the kind, the command, the size,
-the seconds of the processor and the peak memory in MiB of the best of three runs, and by how much both grew since the
-file of half the size. Where a file takes less than 0.05 seconds or 32 MiB, its growth says nothing and is left out. No
-more is given than 4 GiB and 300 seconds. All growth has to be below 2.5: the script ends with status 1 where some
-isn't. What is known to be slow is run only where it is named. With --large those of LARGE are run, the last one at the
-size that is named there: 60,000 units over one table of declarations, a million lists that overlap, 64 MiB of rows at
-one address, a million entries for one range.
+Each kind is a small file in which few bytes name or say much: names that are ends of one text, headers of sections
+over one table, an entry of an unwind table with a row for each instruction, scopes each inside the next. A file of
+about KIB, one of twice and one of four times the size are made in a temporary folder, and COMMAND (`sudrepka` where it
+isn't given) does with each what NAME says, or all of COMMANDS: it rewrites it, verifies that, prints its map, records
+a run, runs it on the symbol machine, repairs its profile, and looks up an address, and the functions there. Each line
+has the kind, the command, the size, the seconds of the processor and the peak memory in MiB of the best of N runs
+(three), and by how much both grew since the file of half the size. Where a file takes less than 0.05 seconds or 32
+MiB, its growth says nothing and is left out.
+
+All growth has to be below 2.5, and where what is said has a bound, past which memory is said to be wanting (BOUNDED),
+the seconds at most a quarter and 4 millionths a byte; and no memory may be more than 64 times the file and 1 GiB
+beside. The script ends with status 1 where some isn't so. No more is given than 6 GiB and 300 seconds. With --large
+those of LARGE are run, the last one at the size that is named there: 60,000 units over one table of declarations, a
+million lists that overlap, 64 MiB of rows at one address, a million entries for one range.
 """
 import argparse
 import os
@@ -22,10 +25,14 @@ import subprocess
 import sys
 import tempfile
 
-from hostile_files import BASE, FILES, SLOW_FILES, SLOW_TABLES, TABLES, TEXT
+from hostile_files import BASE, BOUNDED_FILES, FILES, TEXT
+from hostile_tables import BOUNDED_TABLES, TABLES
+from hostile_units import BOUNDED_UNITS, UNITS
 
 MOST, LEAST_SECONDS, LEAST_MIB = 2.5, 0.05, 32
-MOST_MEMORY, MOST_SECONDS = 4 << 30, 300
+SECONDS, SECONDS_A_BYTE = 0.25, 4e-6
+MEMORY, MEMORY_A_BYTE = 1 << 30, 64
+MOST_MEMORY, MOST_SECONDS = 6 << 30, 300
 
 # Sizes in KiB of files whose tables are as large as any, or nearly so.
 LARGE = {"declarations": 3328, "lists": 8192, "line-address": 65500, "one-range": 28672}
@@ -33,14 +40,15 @@ LARGE = {"declarations": 3328, "lists": 8192, "line-address": 65500, "one-range"
 COMMANDS = {
     "rewrite": "rewrite {file} {profile} {out} {map}",
     "verify": "verify {file} {out} {map}",
+    "map": "map {file} {profile}",
+    "record": "record --steps 100000 {file} {recorded}",
     "symbols": "run --symbols --steps 100000 {file}",
     "repair": "repair {file} {profile} {repaired}",
     "lookup": "lookup {file} {address:x}",
     "frames": "frames {file} {address:x}",
 }
-# Those that look at tables.
-LOOKING = ["lookup", "frames"]
-KINDS = FILES | TABLES | SLOW_FILES | SLOW_TABLES
+BOUNDED = BOUNDED_FILES | BOUNDED_TABLES | BOUNDED_UNITS
+KINDS = FILES | TABLES | UNITS | BOUNDED
 
 
 def limit():
@@ -48,15 +56,16 @@ def limit():
     resource.setrlimit(resource.RLIMIT_CPU, (MOST_SECONDS, MOST_SECONDS))
 
 
-def measure(command):
-    """The processor's seconds and the peak in MiB of the best of three runs, and what the last one printed."""
+def measure(command, runs):
+    """The processor's seconds and the peak in MiB of the best of so many runs, and what the last one printed."""
     found = []
-    for _ in range(3):
+    for _ in range(runs):
         with tempfile.TemporaryFile() as said:
             process = subprocess.Popen(command, stdout=said, stderr=said, preexec_fn=limit)
             _, status, usage = os.wait4(process.pid, 0)
             said.seek(max(0, os.fstat(said.fileno()).st_size - 200))
-            last = said.read().decode(errors="replace").strip() or f"status {os.waitstatus_to_exitcode(status)}"
+            lines = said.read().decode(errors="replace").strip().splitlines()
+            last = lines[-1] if lines else f"status {os.waitstatus_to_exitcode(status)}"
         found.append((usage.ru_utime + usage.ru_stime, usage.ru_maxrss / 1024))
     return min(seconds for seconds, _ in found), min(peak for _, peak in found), last
 
@@ -74,6 +83,7 @@ def arguments():
     words = argparse.ArgumentParser(description="seconds and memory of files that are made to be slow")
     words.add_argument("--tool", default="sudrepka", help="the command that takes `rewrite ..`")
     words.add_argument("--kib", type=int, default=512)
+    words.add_argument("--runs", type=int, default=3)
     words.add_argument("--large", action="store_true", help="the kinds and sizes of LARGE")
     words.add_argument("--command", choices=list(COMMANDS), action="append", help="one of those that are run")
     words.add_argument("--make", help="writes the smallest file of each kind into this folder, and runs nothing")
@@ -83,13 +93,22 @@ def arguments():
 
 def make(given, kind, times, folder):
     """Makes a file of so many times the least size, and says what its files are called."""
-    parts = ("file", "profile", "out", "map", "repaired")
+    parts = ("file", "profile", "out", "map", "repaired", "recorded")
     names = {name: os.path.join(folder, f"{kind}.{times}.{name}") for name in parts}
     size = (LARGE[kind] // 4 if given.large else given.kib) * 1024 * times
     # in a process of its own, since a child's peak counts what its parent had when it began
     maker = [sys.executable, os.path.abspath(__file__), "--write", kind, str(size), names["file"], names["profile"]]
     subprocess.run(maker, check=True)
     return names | {"address": BASE + TEXT}
+
+
+def is_kept(kind, size, seconds, peak, grew):
+    """Whether figures of a file of so many bytes are as they have to be."""
+    if peak * (1 << 20) > MEMORY + MEMORY_A_BYTE * size:
+        return False
+    if kind in BOUNDED:
+        return seconds <= SECONDS + SECONDS_A_BYTE * size
+    return all(each is None or each < MOST for each in grew)
 
 
 def measure_growth(given, kind, command, files):
@@ -99,28 +118,28 @@ def measure_growth(given, kind, command, files):
         if command == "verify" and not os.path.exists(names["map"]):
             continue
         words = COMMANDS[command].format(**names).split()
-        seconds, peak, last = measure([*given.tool.split(), *words])
+        seconds, peak, last = measure([*given.tool.split(), *words], given.runs)
         grew = growth(seconds, before[0], LEAST_SECONDS), growth(peak, before[1], LEAST_MIB)
         before = (seconds, peak)
-        well = well and all(each is None or each < MOST for each in grew)
-        kib = os.path.getsize(names["file"]) // 1024
-        figures = f"{kib:6} KiB {seconds:8.3f} s {show(grew[0]):5} {peak:8.1f} MiB {show(grew[1]):5}"
-        print(f"{kind:18} {command:7} {figures} {last[-60:]}", flush=True)
+        size = os.path.getsize(names["file"]) + os.path.getsize(names["profile"])
+        kept = is_kept(kind, size, seconds, peak, grew)
+        well = well and kept
+        figures = f"{size // 1024:6} KiB {seconds:8.3f} s {show(grew[0]):5} {peak:8.1f} MiB {show(grew[1]):5}"
+        print(f"{kind:18} {command:7} {figures} {'' if kept else '! '}{last[-60:]}", flush=True)
     return well
 
 
 def main():
     given = arguments()
     well = True
-    for kind in given.kinds or (LARGE if given.large else FILES | TABLES):
+    for kind in given.kinds or (LARGE if given.large else KINDS):
         if given.make:
             make(given, kind, 1, given.make)
             continue
         with tempfile.TemporaryDirectory() as folder:
             files = [make(given, kind, times, folder) for times in (1, 2, 4)]
             for command in given.command or COMMANDS:
-                if kind in TABLES | SLOW_TABLES or command not in LOOKING:
-                    well = measure_growth(given, kind, command, files) and well
+                well = measure_growth(given, kind, command, files) and well
     sys.exit(0 if well else 1)
 
 

@@ -19,7 +19,7 @@ import sys
 import tempfile
 
 sys.path.insert(0, os.path.dirname(os.path.abspath(__file__)))
-from hostile import BASE, SHT_PROGBITS, TEXT, File  # noqa: E402
+from hostile_files import BASE, SHT_PROGBITS, TEXT, File  # noqa: E402
 from line_rows import table_size  # noqa: E402
 
 LENGTH = 96  # instructions of a function

@@ -33,7 +33,8 @@ import sys
 import tempfile
 
 sys.path.insert(0, os.path.dirname(os.path.abspath(__file__)))
-from debug_files import asked, best_of, build_large, build_with_tables, instructions  # noqa: E402
+import debug_files  # noqa: E402
+from debug_files import apart, asked, best_of, build_with_tables, instructions  # noqa: E402
 from frames import rows_by_readelf  # noqa: E402
 from line_rows import by_addr2line, by_gdb, by_llvm, in_force, sequences_by_llvm, sequences_by_readelf  # noqa: E402
 from profiles import CROSS, output, record  # noqa: E402
@@ -221,7 +222,7 @@ def compare(tool, name, path, folder, given):
 def time_large(tool, folder, sizes):
     for mib in sizes:
         path = os.path.join(folder, f"large-{mib}")
-        address = build_large(path, mib)
+        address = int(apart(debug_files.__file__, path, mib))
         size = os.path.getsize(path) / 2**20
         at = f"0x{address:x}"
         for name, command in (("lookup", [*tool, "lookup", path, at]), ("frames", [*tool, "frames", path, at]),

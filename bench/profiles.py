@@ -3,6 +3,7 @@ import os
 import shutil
 import subprocess
 import tempfile
+import threading
 import time
 
 CROSS = "riscv64-unknown-elf-"
@@ -42,10 +43,12 @@ def is_open(door):
 
 def debug(path, words, commands, given=b""):
     """What gdb prints of commands in a program that `qemu-riscv64` runs, with its standard input."""
-    with tempfile.TemporaryFile() as file, tempfile.TemporaryDirectory() as folder:
+    # under one name, which stands on the stack, so that the stacks of an input and its output are alike
+    folder = os.path.join(tempfile.gettempdir(), f"debugged-{os.getpid()}-{threading.get_ident()}")
+    with tempfile.TemporaryFile() as file:
         file.write(given)
         file.seek(0)
-        # under names of one length, which stand on the stack, so that the stacks of an input and its output are alike
+        os.makedirs(folder)
         program, door = shutil.copy(path, os.path.join(folder, "program")), os.path.join(folder, "door")
         machine = subprocess.Popen(["qemu-riscv64", "-g", door, program, *words], stdin=file, stdout=subprocess.DEVNULL,
                                    stderr=subprocess.DEVNULL)
@@ -57,6 +60,7 @@ def debug(path, words, commands, given=b""):
         finally:
             machine.kill()
             machine.wait()
+            shutil.rmtree(folder)
 
 
 def record(tool, path, words, profile):

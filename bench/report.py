@@ -1,14 +1,15 @@
 #!/usr/bin/env python3
 """All that is tried on real programs, in one table.
 
-    python3 bench/report.py [--tool COMMAND] [--sources FOLDER] [--keep FOLDER] [--jobs N] [--levels LEVEL..] \
-        [PROGRAM..]
+    python3 bench/report.py [--tool COMMAND] [--sources FOLDER] [--keep FOLDER] [--build] [--jobs N] \
+        [--levels LEVEL..] [PROGRAM..]
 
 The programs are those of Debian's source packages Lua, zlib, bzip2 and pugixml (`packages.py`; fetched into FOLDER,
 or into the cache of the user) and those of `programs/`. Each is built by GCC with GNU ld and by Clang with lld, with
 picolibc for RV64IMC: `debug` with all that `-g` makes, at each LEVEL (-O0 to -O3 and -Os where none is given); at -O2
 and -Os `bare` without debug data and unwind tables, and `tables` with unwind tables besides. Programs that unwind
 themselves are built in one way, `index`: with debug data, unwind tables and their index. N files are tried at a time.
+What is built goes into FOLDER, and isn't built again where it stands there; with --build that is all that is done.
 Of each file the table says, step by step, `yes` or `no`; what failed stands below the table, with its cause:
 
 - `record`, `repair`, `rewrite`, `verify` by COMMAND (`./sudrepka` where it isn't given), and `run --symbols` to the
@@ -16,11 +17,12 @@ Of each file the table says, step by step, `yes` or `no`; what failed stands bel
 - `alike`: both files run alike on `run` and on `qemu-riscv64`, and `readelf`, `eu-elflint`, `objdump`, `gdb` and
   `llvm-dwarfdump --verify` find nothing in the output that they don't find in the input;
 - `lookup` and `frames`: the same at moved instructions as at their owners;
-- `gdb`: the same lines, frames, arguments and locals where both programs stop at one instruction, hot or cold, and
-  breakpoints by line in the same functions.
+- `gdb`: the same lines, frames, arguments and locals where both programs stop at one instruction; the same but for frames
+  where both are put to one, hot or cold;
+- `breaks`: breakpoints of `gdb` by file and line lead to the same lines of the same functions.
 
-A second table has the way of a run through the code before and after, and that of `llvm-bolt-19`'s output, as
-`layout.py` counts it. It wants what `real_programs.py` wants.
+A second table counts the files of each program that passed a step, and a third has the way of a run through the code
+before and after, and that of `llvm-bolt-19`'s output, as `layout.py` counts it. It wants what `real_programs.py` wants.
 """
 import argparse
 import concurrent.futures
@@ -32,11 +34,11 @@ import sys
 import tempfile
 
 sys.path.insert(0, os.path.dirname(os.path.abspath(__file__)))
-import debugged  # noqa: E402
 from debug_files import bare_libraries, build_with_tables  # noqa: E402
+from debugged import Debugged, with_lines  # noqa: E402
 from heatmap import counts_of, edges_of, entry_of, functions_of  # noqa: E402
-from frames import mend_tables  # noqa: E402
 from layout import bolt_profile, way_of  # noqa: E402
+from mend import mend  # noqa: E402
 from packages import OWN, PACKAGES, fetch  # noqa: E402
 from profiles import output  # noqa: E402
 from real_programs import COMPILE, LINES, LINK, LONGER, MACHINE, NO_TABLES, OWN_TABLES, PICOLIBC  # noqa: E402
@@ -48,8 +50,12 @@ LEVELS = ["-O0", "-O1", "-O2", "-O3", "-Os"]
 OF_KIND = {"bare": ["-O2", "-Os"], "tables": ["-O2", "-Os"], "debug": LEVELS, "index": LEVELS}
 # The tables of distances of switches are extended there by instructions that the symbol machine doesn't follow.
 OF_LEVEL = {"-O0": ["-fno-jump-tables"]}
-STEPS = ["record", "repair", "symbols", "rewrite", "verify", "alike", "lookup", "frames", "gdb"]
+# Clang's own trap is no instruction: it stands in what no call reaches, as destructors of abstract classes.
+OF_COMPILER = {"gcc": [], "clang": ["-ftrap-function=abort"]}
+STEPS = ["record", "repair", "symbols", "rewrite", "verify", "alike", "lookup", "frames", "gdb", "breaks"]
 ASKED = 24  # addresses that are looked up, and at which gdb stops
+# Files of programs that unwind themselves which read the tables for it: these are others in an output.
+READERS = ["frame_index.c", "cxx_runtime.cc"]
 
 
 def kinds_of(program):
@@ -93,12 +99,18 @@ class Builder:
         for number, source in enumerate(files):
             made.append(f"{path}.{number}.o")
             cxx = ["-fno-rtti"] if source.endswith((".cc", ".cpp")) else []
-            own = [*KINDS[kind], level, *OF_LEVEL.get(level, []), *flags, *cxx]
+            own = [*KINDS[kind], level, *OF_LEVEL.get(level, []), *OF_COMPILER[compiler], *flags, *cxx]
             call([*front, *MACHINE, *COMPILE, *own, *include, "-w", "-isystem", os.path.join(PICOLIBC, "include"),
                   "-c", source, "-o", made[-1]])
         return made
 
     def build(self, path, program, compiler, kind, level):
+        if not os.path.exists(path):
+            made = path + ".part"
+            self.link(made, program, compiler, kind, level)
+            os.replace(made, path)
+
+    def link(self, path, program, compiler, kind, level):
         front, libraries = self.parts[compiler]
         if kind == "index":
             build_with_tables(path, program, compiler, (front, libraries), level)
@@ -106,19 +118,17 @@ class Builder:
             script = os.path.join(PROGRAMS, SCRIPTS.get(kind, "roomy.ld"))
             made = self.objects(path, program, compiler, kind, level)
             call([*front, *MACHINE, "-nostdlib", *LINK, "-T", script, *made, *libraries, "-o", path])
-            mend_tables(path)  # those of libraries, which GNU as made
             for name in made:
                 os.remove(name)
-        if compiler == "gcc" and kind != "bare":
-            # Linkers leave pairs of zeros in it for functions that they left out, at which a table ends.
-            call(["riscv64-unknown-elf-objcopy", "-R", ".debug_aranges", path])
+        mend(path)
 
 
 class Try:
     """All steps of one program."""
 
-    def __init__(self, tool, path, words, given, unwinds):
-        self.tool, self.path, self.words, self.given, self.unwinds = tool, path, words, given, unwinds
+    def __init__(self, tool, path, compiler, words, given, unwinds):
+        self.tool, self.path, self.compiler, self.words, self.given = tool, path, compiler, words, given
+        self.unwinds = unwinds
         self.results, self.problems = {}, []
 
     def at(self, end):
@@ -155,12 +165,21 @@ class Try:
         self.done("verify", "verify", self.path, self.at("moved"), self.at("map"))
         checks = Checks(self.tool, self.path, self.at("moved"), self.at("map"), self.given)
         self.compared(checks)
-        places = self.places(checks)
-        self.looked_up("lookup", places, checks.moved)
-        self.looked_up("frames", places, checks.moved)
-        if shutil.which("gdb-multiarch") and shutil.which("qemu-riscv64"):
-            found = debugged.stop_problems(self.path, self.at("moved"), checks.moved, places, self.words, self.given)
-            self.note("gdb", found + debugged.line_problems(self.path, self.at("moved"), places))
+        often, never = self.places([old for _, size, old in checks.spans if size])
+        self.looked_up("lookup", often + never, checks.moved)
+        self.looked_up("frames", often + never, checks.moved)
+        self.debugged(checks)
+
+    def debugged(self, checks):
+        """Asks gdb, where instructions have lines."""
+        kept = [old for _, size, old in checks.spans if size]
+        told = with_lines(self.path, kept, READERS if self.unwinds else ())
+        if not told or not shutil.which("gdb-multiarch") or not shutil.which("qemu-riscv64"):
+            return
+        often, never = self.places(told)
+        asked = Debugged(self.path, self.at("moved"), checks.moved, self.words, self.given, self.compiler)
+        self.note("gdb", asked.problems(asked.stops, often) + asked.problems(asked.puts, often + never))
+        self.note("breaks", asked.line_problems(often + never))
 
     def compared(self, checks):
         checks.runs(self.words, True)
@@ -168,15 +187,15 @@ class Try:
         checks.debugger(checks.disassembly())
         self.note("alike", checks.problems)
 
-    def places(self, checks):
-        """Instructions to ask of: from those that ran often to those that ran once, and others."""
+    def places(self, instructions):
+        """Some of these instructions: such as ran, from those that ran often to those that ran once, and others."""
         edges = edges_of(self.at("profile"), functions_of(self.path)[1])
-        kept = sorted(old for _, size, old in checks.spans if size)
+        kept = sorted(instructions)
         counts = counts_of(edges, entry_of(self.path), kept)
         ran = sorted((old for old in kept if counts[old]), key=lambda old: (-counts[old], old))
-        often = ran[::max(1, len(ran) // (ASKED * 3 // 4))]
         never = [old for old in kept if not counts[old]]
-        return often + never[::max(1, len(never) // (ASKED // 4))][:ASKED // 4]
+        some = lambda places, count: places[::max(1, len(places) // count)][:count]
+        return some(ran, ASKED * 3 // 4), some(never, ASKED // 4)
 
     def looked_up(self, name, places, moved):
         problems = []
@@ -226,40 +245,63 @@ class Report:
         return [(program, compiler, kind, level) for program in programs for compiler in self.builder.parts
                 for kind in kinds_of(program) for level in levels if level in OF_KIND[kind]]
 
+    def built(self, file):
+        program, compiler, kind, level = file
+        path = os.path.join(self.folder, f"{program}.{compiler}.{kind}{level}")
+        self.builder.build(path, program, compiler, kind, level)
+        return path
+
     def tried(self, file):
         program, compiler, kind, level = file
         package = PACKAGES.get(program)
         words, given = (list(package.words), package.input(self.sources)) if package else ([], b"")
-        path = os.path.join(self.folder, f"{program}.{compiler}.{kind}{level}")
-        found = Try(self.tool, path, words, given, program in UNWINDING)
-        self.builder.build(path, program, compiler, kind, level)
+        path = self.built(file)
+        found = Try(self.tool, path, compiler, words, given, program in UNWINDING)
         found.go()
         ways = found.ways() if (kind, level) == ("bare", "-O2") and found.results.get("rewrite") else []
         return os.path.basename(path), found, ways
 
     def table(self, files, jobs):
-        """Prints a row for each file, in order. Gives their problems and ways."""
+        """Prints a row for each file, in order. Gives what was found of each, and its ways."""
         print(f"| file | {' | '.join(STEPS)} |\n|---|{'---|' * len(STEPS)}", flush=True)
-        notes, ways = [], []
+        tried = []
         with concurrent.futures.ThreadPoolExecutor(jobs) as pool:
-            for name, found, its_ways in pool.map(self.tried, files):
+            for name, found, ways in pool.map(self.tried, files):
                 marks = [{True: "yes", False: "**no**", None: "-"}[found.results.get(step)] for step in STEPS]
                 print(f"| {name} | {' | '.join(marks)} |", flush=True)
-                notes += [f"{name}: {problem}" for problem in found.problems]
-                ways += [(name, its_ways)] if its_ways else []
-        return notes, ways
+                for problem in found.problems:
+                    print(f"{name}: {problem[:400]}", file=sys.stderr, flush=True)
+                tried.append((name, found, ways))
+        return tried
 
     def all(self, programs, levels, jobs):
-        """Prints both tables and the problems. Gives the number of these."""
-        notes, ways = self.table(self.files(programs, levels), jobs)
+        """Prints the tables and the problems. Gives the number of these."""
+        files = self.files(programs, levels)
+        tried = self.table(files, jobs)
+        print_counts(files, [found for _, found, _ in tried])
         print("\n| file | | way of a run |\n|---|---|---|")
-        for name, found in ways:
-            for when, way in found:
-                print(f"| {name if when == 'before' else ''} | {when} | {row_of(way, found[0][1])} |")
+        for name, _, ways in tried:
+            for when, way in ways:
+                print(f"| {name if when == 'before' else ''} | {when} | {row_of(way, ways[0][1])} |")
+        notes = [f"{name}: {problem}" for name, found, _ in tried for problem in found.problems]
         print(f"\n{len(notes)} problems")
         for note in notes:
             print(f"- {note[:400]}")
         return len(notes)
+
+
+def print_counts(files, tried):
+    """Prints a row for each program and compiler: how many of its files passed each step, of those that came to it."""
+    rows = {}
+    for (program, compiler, _, _), found in zip(files, tried):
+        rows.setdefault(f"{program}, {compiler}", []).append(found.results)
+    print(f"\n| program | files | {' | '.join(STEPS)} |\n|---|---|{'---|' * len(STEPS)}")
+    for name, results in rows.items():
+        cells = []
+        for step in STEPS:
+            marks = [result[step] for result in results if step in result]
+            cells.append("-" if not marks else str(len(marks)) if all(marks) else f"{sum(marks)} of {len(marks)}")
+        print(f"| {name} | {len(results)} | {' | '.join(cells)} |")
 
 
 def main():
@@ -268,6 +310,7 @@ def main():
     words.add_argument("--tool", default=os.path.join(ROOT, "sudrepka"), help="the command that takes `rewrite ..`")
     words.add_argument("--sources", default=cache, help="where the sources of packages are, or go")
     words.add_argument("--keep", help="a folder for all files")
+    words.add_argument("--build", action="store_true", help="only builds the files")
     words.add_argument("--jobs", type=int, default=1, help="how many files are tried at a time")
     words.add_argument("--levels", nargs="*", default=LEVELS, type=lambda level: "-" + level.lstrip("-"))
     words.add_argument("programs", nargs="*", default=[*PACKAGES, *sorted(LONGER)])
@@ -279,6 +322,9 @@ def main():
         folder = given.keep or room
         os.makedirs(folder, exist_ok=True)
         report = Report(given.tool.split(), folder, given.sources)
+        if given.build:
+            with concurrent.futures.ThreadPoolExecutor(given.jobs) as pool:
+                return list(pool.map(report.built, report.files(given.programs, given.levels)))
         problems = report.all(given.programs, given.levels, given.jobs)
     sys.exit(1 if problems else 0)
 

@@ -20,7 +20,7 @@ import sys
 import tempfile
 
 sys.path.insert(0, os.path.dirname(os.path.abspath(__file__)))
-from debug_files import build_large  # noqa: E402
+from debug_files import apart, build_large  # noqa: E402
 from layout import bolt_profile  # noqa: E402
 from profiles import CROSS, output, record  # noqa: E402
 from real_programs import ROOT  # noqa: E402
@@ -43,13 +43,13 @@ def commands(tool, folder):
 
 
 def prepare(tool, folder, mib):
-    """Makes the file, its profile, and the file without debug tables."""
+    """Makes the file, its profile, and the file without debug tables. Answers what the run that is recorded said."""
     path = os.path.join(folder, "in")
     build_large(path, mib)
     said = record(tool, path, [], os.path.join(folder, "profile"))
     bolt_profile(os.path.join(folder, "profile"), path, os.path.join(folder, "named"))
     output([CROSS + "objcopy", "--strip-debug", path, os.path.join(folder, "bare")])
-    return os.path.getsize(path) / MIB, said
+    return said
 
 
 def main():
@@ -61,7 +61,8 @@ def main():
     before = {}
     with tempfile.TemporaryDirectory() as folder:
         for size in given.sizes:
-            mib, said = prepare(given.tool.split(), folder, size)
+            said = apart(__file__, "--make", given.tool, folder, size).strip()
+            mib = os.path.getsize(os.path.join(folder, "in")) / MIB
             print(f"{mib:5.1f} MiB, recorded: {said}", flush=True)
             for name, command in commands(given.tool.split(), folder):
                 seconds, peak, well = measure(command, given.runs)
@@ -70,10 +71,13 @@ def main():
                     continue
                 last = before.get(name)
                 grown = f", {seconds / last[0]:4.2f} and {peak / last[1]:4.2f} of before" if last else ""
-                print(f"      {name:20} {seconds:8.2f} s {peak / MIB:8.0f} MiB, {peak / MIB / mib:5.1f} for each MiB{grown}",
-                      flush=True)
+                taken = f"{peak / MIB:8.0f} MiB, {peak / MIB / mib:5.1f} for each MiB"
+                print(f"      {name:20} {seconds:8.2f} s {taken}{grown}", flush=True)
                 before[name] = (seconds, peak)
 
 
 if __name__ == "__main__":
-    main()
+    if sys.argv[1:2] == ["--make"]:
+        print(prepare(sys.argv[2].split(), sys.argv[3], int(sys.argv[4])))
+    else:
+        main()

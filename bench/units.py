@@ -26,7 +26,8 @@ import subprocess
 import sys
 import tempfile
 
-from hostile import BASE, LEAST_MIB, LEAST_SECONDS, MOST, SHT_PROGBITS, TEXT, File, growth, show
+from hostile import LEAST_MIB, LEAST_SECONDS, MOST, growth, show
+from hostile_files import BASE, SHT_PROGBITS, TEXT, File
 from references import build
 
 PROGRAM, LIBRARIES = "units_bench", ["elf_image", "addr_map", "table_core", "dw_unit"]

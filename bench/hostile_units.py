@@ -1,0 +1,222 @@
+"""Files with units, lists and tables of addresses in which few bytes say much. A kind is a function from about how many
+bytes the file and its profile have to both. DWARF 5, sections 2.6, 2.17, 6.1.2 and 7."""
+import struct
+
+from hostile_files import BASE, NOP, RETURN, TEXT, debug_file, long_name, uleb
+from hostile_tables import nested_ranges
+
+
+def unit(entries, declarations=0):
+    """A compile unit of version 5, whose declarations stand there."""
+    contents = struct.pack("<HBBI", 5, 1, 8, declarations) + entries
+    return struct.pack("<I", len(contents)) + contents
+
+
+def declaration(code, tag, children, *attributes):
+    """The declaration of a code, with pairs of an attribute and a form."""
+    fields = uleb(code) + uleb(tag) + bytes([children]) + b"".join(uleb(name) + uleb(form) for name, form in attributes)
+    return fields + b"\0\0"
+
+
+def bounds(start, length):
+    """DW_AT_low_pc and DW_AT_high_pc of code from a place on."""
+    return struct.pack("<QI", BASE + TEXT + start, length)
+
+
+def units_over_declarations(size):
+    """Units of one entry, all over the same declarations, of which each uses the last; these are half of the file."""
+    least = 25
+    count = max(1, size // 2 // 8)
+    fields = ((0x11, 0x01), (0x12, 0x06))  # DW_AT_low_pc by DW_FORM_addr, DW_AT_high_pc by DW_FORM_data4
+    declarations = b"".join(declaration(code, 0x11, 0) for code in range(1, count))
+    declarations += declaration(count, 0x11, 0, *fields)
+    entry = uleb(count) + struct.pack("<QI", BASE + TEXT, 8)
+    units = unit(entry) * (size // 2 // (least + len(uleb(count)) - 1))
+    return debug_file({".debug_info": units, ".debug_abbrev": declarations + b"\0"})
+
+
+def units_at_declarations(size):
+    """Units that each begin their declarations at another one of a long table, and so have all that follow."""
+    count = size // 2 // 25
+    fields = ((0x11, 0x01), (0x12, 0x06))
+    table = b"".join(declaration(1, 0x11, 0, *fields) for _ in range(size // 2 // 9))
+    step = 9 * (len(table) // 9 // count)
+    units = b"".join(unit(b"\1" + struct.pack("<QI", BASE + TEXT, 8), step * k) for k in range(count))
+    return debug_file({".debug_info": units, ".debug_abbrev": table + b"\0"})
+
+
+def units_inside_declaration(size):
+    """Units without entries, whose declarations each begin at another place inside one long declaration."""
+    count = size // 2 // 13
+    step = 2 * (size // 4 // count)
+    table = b"\1" * (size // 2 // 2 * 2 + 1) + bytes(3)  # its attributes: DW_AT_sibling by DW_FORM_addr
+    return debug_file({".debug_info": b"".join(unit(b"\0", step * k) for k in range(count)), ".debug_abbrev": table})
+
+
+def nested_entries(size):
+    """Each entry is the child of the one before it."""
+    declarations = declaration(1, 0x0B, 1) + b"\0"  # DW_TAG_lexical_block
+    return debug_file({".debug_info": unit(b"\1" * (size // 2) + bytes(size // 2)), ".debug_abbrev": declarations})
+
+
+def entry_attributes(size):
+    """As many attributes of a declaration as entries that have it; none takes bytes in an entry."""
+    count = size // 2 // 4
+    attributes = ((0x2200 + k, 0x19) for k in range(count))  # DW_FORM_flag_present
+    declarations = declaration(1, 0x34, 0, *attributes) + declaration(2, 0x11, 1) + b"\0"
+    return debug_file({".debug_info": unit(b"\2" + b"\1" * (size // 2) + b"\0"), ".debug_abbrev": declarations})
+
+
+def lists_that_overlap(size):
+    """As many entries as ranges stand one behind another: the list of each begins one range after that of the entry
+    before it, and all end together."""
+    count = size // 8
+    declarations = declaration(1, 0x11, 1, (0x11, 0x01)) + declaration(2, 0x2E, 0, (0x55, 0x17)) + b"\0"
+    entries = b"".join(struct.pack("<BI", 2, 12 + 3 * k) for k in range(count))
+    info = unit(b"\1" + struct.pack("<Q", BASE + TEXT) + entries + b"\0")
+    ranges = b"\4\0\4" * count + b"\0"  # DW_RLE_offset_pair 0, 4
+    head = struct.pack("<IHBBI", 8 + len(ranges), 5, 8, 0, 0)
+    return debug_file({".debug_info": info, ".debug_abbrev": declarations, ".debug_rnglists": head + ranges})
+
+
+def one_list(size):
+    """Entries that all name one list of locations; it is half of the file."""
+    declarations = declaration(1, 0x11, 1, (0x11, 0x01), (0x12, 0x06)) + declaration(2, 0x34, 0, (0x02, 0x17)) + b"\0"
+    entries = struct.pack("<BI", 2, 12) * (size // 2 // 5)
+    info = unit(b"\1" + struct.pack("<QI", BASE + TEXT, 8) + entries + b"\0")
+    places = b"\4\0\0\1\x50" * (size // 2 // 5) + b"\4\0\4\1\x50\0"  # DW_LLE_offset_pair, and DW_OP_reg0
+    head = struct.pack("<IHBBI", 8 + len(places), 5, 8, 0, 0)
+    return debug_file({".debug_info": info, ".debug_abbrev": declarations, ".debug_loclists": head + places})
+
+
+def small_ranges(size):
+    """Entries of six bytes, each with a range: the index of an address, and a length."""
+    fields = ((0x11, 0x01), (0x12, 0x06), (0x73, 0x17))  # DW_AT_addr_base by DW_FORM_sec_offset
+    info = unit(b"\1" + bounds(0, 8) + struct.pack("<I", 8) + b"\2\0\4\0\0\0" * (size // 6) + b"\0")
+    addresses = struct.pack("<IHBBQ", 12, 5, 8, 0, BASE + TEXT)
+    scope = declaration(2, 0x0B, 0, (0x11, 0x29), (0x12, 0x06))  # by DW_FORM_addrx1 and DW_FORM_data4
+    declarations = declaration(1, 0x11, 1, *fields) + scope + b"\0"
+    return debug_file({".debug_info": info, ".debug_abbrev": declarations, ".debug_addr": addresses})
+
+
+def tables_of_nested_ranges(size):
+    """Two units, whose ranges in `.debug_aranges` are each inside the next one."""
+    count = size // 12
+    table = b"".join(struct.pack("<QQ", *bounds) for bounds in nested_ranges(count)) + bytes(16)
+    units = [unit(b"\1")] * 2
+    tables = []
+    for k, part in enumerate((table[: len(table) // 32 * 16] + bytes(16), table[len(table) // 32 * 16 :])):
+        contents = struct.pack("<HIBBI", 2, k * len(units[0]), 8, 0, 0) + part
+        tables.append(struct.pack("<I", len(contents)) + contents)
+    declarations = declaration(1, 0x11, 0) + b"\0"
+    names = {".debug_info": b"".join(units), ".debug_abbrev": declarations, ".debug_aranges": b"".join(tables)}
+    return debug_file(names, NOP * (count - 1) + RETURN)
+
+
+def location(start, end, expression):
+    """DW_LLE_offset_pair, with an expression."""
+    return b"\4" + uleb(start) + uleb(end) + uleb(len(expression)) + expression
+
+
+def halfwords(count):
+    """So many instructions of two bytes."""
+    return b"\x01\0" * (count - 1) + b"\x82\x80"  # c.nop, and c.jr ra
+
+
+def turns(count):
+    """A location list in which another register holds the value at each instruction of two bytes."""
+    return b"".join(location(2 * k, 2 * k + 2, bytes([0x50 + k % 2])) for k in range(count)) + b"\0"
+
+
+def variables(offsets):
+    """Variables with location lists, each at an offset behind the header of the table."""
+    return b"".join(struct.pack("<BI", 2, 12 + offset) for offset in offsets)
+
+
+def listed(entries, places, code, texts=b""):
+    """A unit of variables (declaration 2) with location lists, scopes (3) and inlined calls (4), over so much code."""
+    ranges = ((0x11, 0x01), (0x12, 0x06))  # DW_AT_low_pc by DW_FORM_addr, DW_AT_high_pc by DW_FORM_data4
+    declarations = declaration(1, 0x11, 1, *ranges)
+    declarations += declaration(2, 0x34, 0, (0x02, 0x17))  # DW_AT_location by DW_FORM_sec_offset
+    declarations += declaration(3, 0x0B, 0, *ranges)
+    declarations += declaration(4, 0x1D, 1, (0x03, 0x0E), *ranges)  # DW_AT_name by DW_FORM_strp
+    declarations += declaration(5, 0x2E, 1, *ranges) + b"\0"
+    info = unit(b"\1" + bounds(0, len(code)) + entries + b"\0")
+    tables = {".debug_info": info, ".debug_abbrev": declarations}
+    if places:
+        tables[".debug_loclists"] = struct.pack("<IHBBI", 8 + len(places), 5, 8, 0, 0) + places
+    if texts:
+        tables[".debug_str"] = texts
+    return debug_file(tables, code)
+
+
+def locations_that_overlap(size):
+    """Variables whose location lists begin one location after that of the one before, and all end together."""
+    count = size // 10
+    return listed(variables(5 * k for k in range(count)), location(0, 4, b"\x50") * count + b"\0", halfwords(2))
+
+
+def lists_at_all_stretches(size):
+    """As many variables with a location for all code as instructions, at each of which that of another one changes."""
+    count = size // 24
+    constant = location(0, 2 * count, b"\x50") + b"\0"
+    entries = variables(len(constant) * k for k in range(count + 1))
+    return listed(entries, constant * count + turns(count), halfwords(count))
+
+
+def expressions_in_force(size):
+    """A variable with many locations for all code, and another one whose location changes at each instruction."""
+    count = size // 17
+    constant = location(0, 2 * count, b"\x50") * count + b"\0"
+    return listed(variables((0, len(constant))), constant + turns(count), halfwords(count))
+
+
+def changing_expressions(size):
+    """A variable with many locations, each from an instruction on to the end: the further, the more are in force."""
+    count = size // 11
+    places = b"".join(location(2 * k, 2 * count, b"\x50") for k in range(count)) + b"\0"
+    return listed(variables((0,)), places, halfwords(count))
+
+
+def scopes_in_scopes(size):
+    """Scopes whose ranges are each inside that of the one before."""
+    count = size // 17
+    code = halfwords(2 * count)
+    return listed(b"".join(b"\3" + bounds(2 * k, len(code) - 4 * k) for k in range(count)), b"", code)
+
+
+def one_expression(size):
+    """Variables that all name one list, with an expression that is half of the file."""
+    places = location(0, 4, b"\x96" * (size // 2)) + b"\0"  # DW_OP_nop
+    return listed(variables([0] * (size // 2 // 5)), places, halfwords(2))
+
+
+def inlined_names(size):
+    """Inlined calls each inside the one before, whose names are ends of one text; it is half of the file."""
+    count = size // 2 // 18
+    calls = b"".join(b"\4" + struct.pack("<I", k * (size // 2) // count) + bounds(0, 4) for k in range(count))
+    return listed(b"\5" + bounds(0, 4) + calls + bytes(count + 1), b"", halfwords(2), long_name(size // 2) + b"\0")
+
+
+# Kinds whose time and memory grow as the file does.
+UNITS = {
+    "aranges": tables_of_nested_ranges,
+    "declarations": units_over_declarations,
+    "nested": nested_entries,
+    "one-list": one_list,
+    "small-ranges": small_ranges,
+}
+# Those in which a few bytes say so much that it has a bound.
+BOUNDED_UNITS = {
+    "attributes": entry_attributes,
+    "own-declarations": units_at_declarations,
+    "in-declaration": units_inside_declaration,
+    "lists": lists_that_overlap,
+    "location-lists": locations_that_overlap,
+    "list-stretches": lists_at_all_stretches,
+    "in-force": expressions_in_force,
+    "changing": changing_expressions,
+    "scopes": scopes_in_scopes,
+    "one-expression": one_expression,
+    "inlined-names": inlined_names,
+}
