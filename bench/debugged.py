@@ -48,13 +48,13 @@ def with_names(text, other):
 
 
 class Debugged:
-    """A program and its rewritten file, of which gdb is asked. Arguments of frames that wait for a call are compared where
-    the tables tell whether a call changes the register that one lies in: Clang's don't."""
+    """A program and its rewritten file, of which gdb is asked. Arguments of frames that wait for a call are compared
+    where the tables tell whether a call changes the register that one lies in: Clang's don't."""
 
     def __init__(self, old, new, moved, words, given, compiler):
         self.old, self.new, self.moved, self.words, self.given = old, new, moved, words, given
-        # Nothing is shown of arrays and structures, which hold code addresses of before, byte by byte; nor of values at entry,
-        # for which gdb takes a range without bytes at the start of a function, and these aren't carried.
+        # Nothing is shown of arrays and structures, which hold code addresses of before, byte by byte; nor of values at
+        # entry, for which gdb takes a range without bytes at the start of a function, and these aren't carried.
         self.marks = ["set print frame-arguments " + ("all" if compiler == "gcc" else "none"), "set print max-depth 0",
                       "set print entry-values no"]
         self.owners = {new: old for old, new in moved.items()}
@@ -71,13 +71,14 @@ class Debugged:
         return self.answers(path, ask + [word for _ in places for word in ("continue", *STOPPED)])
 
     def puts(self, path, places):
-        """Puts the program to each of the places, where it starts, with another number in each register and on the stack."""
+        """Puts the program to each of the places, where it starts, with another number in each register and word of the
+        stack."""
         ask = [word for place in places for word in (f"set var $pc = {place:#x}", *PUT)]
         return self.answers(path, ["set print elements 1", *FILLED, *ask])
 
     def silent(self, text):
-        """The labels of frames that wait for a call at which the line table of the input says no line. gdb takes the line
-        of what stands before it there, which may be other code by now."""
+        """The labels of frames that wait for a call at which the line table of the input says no line. gdb takes the
+        line of what stands before it there, which may be other code by now."""
         callers = [(int(at, 16) - 1, label) for label, at in CALLER.findall(text)]
         told = with_lines(self.old, [at for at, _ in callers])
         return [label for at, label in callers if at not in told]

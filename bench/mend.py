@@ -7,12 +7,12 @@
   bytes it is given (`frames.py`).
 - GCC ends the location of a variable that lies in a register which a call may change one byte before the end of the
   call. A debugger looks at that byte in a frame that waits for the call, and so doesn't read the register, which holds
-  something else by then. A rewritten file says of all bytes of an instruction what its input says of the first, so there
-  the register would be read. Bounds that lie inside of an instruction are moved to its start: then both files say of the
-  whole call what GCC says of its last byte. Only ranges that are given by two addresses are looked at, as GCC makes them
-  for RISC-V.
-- GCC says of a tail call, which is a jump, where it would return. That is where the next function starts, and moves with
-  it: then a backtrace through the call names a function that isn't there. The place stays, but under another name
+  something else by then. A rewritten file says of all bytes of an instruction what its input says of the first, so
+  there the register would be read. Bounds that lie inside of an instruction are moved to its start: then both files
+  say of the whole call what GCC says of its last byte. Only ranges that are given by two addresses are looked at, as
+  GCC makes them for RISC-V.
+- GCC says of a tail call, which is a jump, where it would return. That is where the next function starts, and moves
+  with it: then a backtrace through the call names a function that isn't there. The place stays, but under another name
   (DW_AT_entry_pc), so debuggers don't show frames of tail calls, in neither file.
 - Linkers leave pairs of zeros in `.debug_aranges` for functions that they left out. A table ends at such a pair, though
   some tools read on. They are put behind the others.
@@ -124,7 +124,7 @@ def mend_ranges(path):
 
 
 def mend(path):
-    """Mends all of these. Gives how many bounds of locations, declarations of tail calls and tables of ranges changed."""
+    """Mends all of these. Gives how many bounds of locations, declarations of calls and tables of ranges it changed."""
     mend_tables(path)
     return mend_locations(path), mend_tail_calls(path), mend_ranges(path)
 
@@ -134,4 +134,4 @@ if __name__ == "__main__":
         sys.exit("mend.py FILE..: mends the tables of these files")
     for name in sys.argv[1:]:
         bounds, calls, tables = mend(name)
-        print(f"{name}: mended {bounds} bounds of locations, {calls} declarations of tail calls, {tables} tables of ranges")
+        print(f"{name}: mended {bounds} bounds of locations, {calls} declarations of calls, {tables} tables of ranges")

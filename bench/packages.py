@@ -50,8 +50,8 @@ class Program:
 
 PACKAGES = {
     "lua": Program("lua5.4", "lua-5.4.4", ["src/*.c"], without=["luac.c"], words=["-"], given="work.lua",
-                   # a seed that isn't made of addresses
-                   flags=["-DLUA_USE_C89", "-Dluai_makeseed(L)=1u"]),
+                   # a seed not made of addresses, and no pieces of pointers in padding: runs would be stuck on them
+                   flags=["-DLUA_USE_C89", "-Dluai_makeseed(L)=1u", "-ftrivial-auto-var-init=zero"]),
     "zpipe": Program("zlib", "zlib-1.2.13.dfsg", ["*.c", "examples/zpipe.c"], given="deflate.c", length=16384,
                      without=["gzclose.c", "gzlib.c", "gzread.c", "gzwrite.c"]),
     "bzip2": Program("bzip2", "bzip2-1.0.8", ["[bcdhr]*.c"], own=["bzip_pipe.c"], given="compress.c", length=8192,

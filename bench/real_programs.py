@@ -206,7 +206,8 @@ class Checks:
         return sorted(found[1] - found[0])
 
     def readers(self):
-        for line in self.complaints([CROSS + "readelf", "-aW"], r"(?i)warning|error|corrupt|unknown section|overlap"):
+        said = r"readelf: |<(?i:corrupt|unknown)|(?i:unknown section)"
+        for line in self.complaints([CROSS + "readelf", "-aW"], said):
             self.say(f"readelf: {line}")
         if shutil.which("eu-elflint"):
             for line in self.complaints(["eu-elflint", "--gnu-ld"], r".", LABELS):
@@ -253,33 +254,41 @@ class Checks:
             self.say(f"objdump: {new[at][1]} at {at:x} is no instruction of the map")
         return new
 
-    def debugger(self, new):
-        if not shutil.which("gdb-multiarch"):
-            return
+    def single_names(self):
+        """The functions that have a name of their own, with their addresses before and after."""
         names = {}
         for line in output([CROSS + "nm", self.old]).splitlines():
             value, kind, name = line.split()[-3:] if len(line.split()) >= 3 else ("0", "U", "")
             if kind in "tT" and re.fullmatch(r"\w+", name) and int(value, 16) in self.moved:
-                names.setdefault(name, set()).add(self.moved[int(value, 16)])
+                names.setdefault(name, set()).add(int(value, 16))
         single = {name: places.pop() for name, places in names.items() if len(places) == 1}
         # gdb reads such sections, which take no memory, in place of what is at their addresses
         sections = output([CROSS + "readelf", "-SW", self.new]).replace("[", " ").splitlines()
         threads = [row.split() for row in sections if " NOBITS " in row]
         hidden = [(int(row[3], 16), int(row[5], 16)) for row in threads if "T" in row[7]]
-        single = {name: at for name, at in single.items() if not any(a - 8 < at < a + size for a, size in hidden)}
-        words = ["gdb-multiarch", "-batch", "-nx", "-ex", "set riscv use-compressed-breakpoints auto"]
-        for name in single:
-            words += ["-ex", f"output (long)&'{name}'", "-ex", "echo \\n", "-ex", f"x/2i &'{name}'", "-ex", "echo ;\\n"]
-        printed = output([*words, self.new]).split(";\n")
-        for (name, place), text in zip(single.items(), printed):
-            lines = text.strip().splitlines()
-            if not lines or lines[0].strip() != str(place):
+        seen = lambda at: not any(a - 8 < at < a + size for a, size in hidden)
+        return {name: (old, self.moved[old]) for name, old in single.items() if seen(self.moved[old])}
+
+    def debugger(self, new):
+        if not shutil.which("gdb-multiarch"):
+            return
+        single = self.single_names()
+        said = []
+        for path in (self.old, self.new):
+            words = ["gdb-multiarch", "-batch", "-nx", "-ex", "set riscv use-compressed-breakpoints auto"]
+            for name in single:
+                asked = (f"output (long)&'{name}'", "echo \\n", f"x/2i &'{name}'", "echo ;\\n")
+                words += [word for command in asked for word in ("-ex", command)]
+            said.append([text.strip().splitlines() for text in output([*words, path]).split(";\n")])
+        for (name, (old, place)), before, lines in zip(single.items(), *said):
+            if before[:1] != [str(old)]:
+                continue  # one of several destructors, which gdb names alike
+            if lines[:1] != [str(place)]:
                 self.say(f"gdb finds {name} at {lines[:1]}, not at {place:x}")
                 continue
             places = [int(found[1], 16) for line in lines[1:] if (found := re.search(r"0x([0-9a-f]+)", line))]
             if not places or any(at not in new and at < max(new) for at in places):
                 self.say(f"gdb reads other instructions in {name}: {lines[1:]}")
-
 
     def unwinding(self, place, words):
         """Compares the unwind tables, and the frames where both programs come to a function."""

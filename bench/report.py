@@ -17,8 +17,8 @@ Of each file the table says, step by step, `yes` or `no`; what failed stands bel
 - `alike`: both files run alike on `run` and on `qemu-riscv64`, and `readelf`, `eu-elflint`, `objdump`, `gdb` and
   `llvm-dwarfdump --verify` find nothing in the output that they don't find in the input;
 - `lookup` and `frames`: the same at moved instructions as at their owners;
-- `gdb`: the same lines, frames, arguments and locals where both programs stop at one instruction; the same but for frames
-  where both are put to one, hot or cold;
+- `gdb`: the same lines, frames, arguments and locals where both programs stop at one instruction; the same but for
+  frames where both are put to one, hot or cold;
 - `breaks`: breakpoints of `gdb` by file and line lead to the same lines of the same functions.
 
 A second table counts the files of each program that passed a step, and a third has the way of a run through the code
