@@ -8,7 +8,7 @@ and a small library that is loaded before it (made here by `cc`) refuses the one
 sample of one function once for each of its requests. It has to be out of memory, with nothing printed and no file
 written; or to do the same as where nothing is refused, where it could do without. A line says for each command how many
 requests it makes, and how often it was out of memory; the status is 1 where something else came. On 2026-11-29 nothing
-else came: of 2,729 requests of all commands, 733 of them of `rewrite`, 2,577 were answered as out of memory.
+else came: of 2,550 requests of all commands, 676 of them of `rewrite`, 2,398 were answered as out of memory.
 """
 from __future__ import annotations
 import argparse
