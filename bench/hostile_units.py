@@ -99,6 +99,29 @@ def small_ranges(size):
     return debug_file({".debug_info": info, ".debug_abbrev": declarations, ".debug_addr": addresses})
 
 
+def entries_of_unit(fields, entries, **tables):
+    """A unit over eight bytes of code, of entries that have one attribute, with tables of lists by their names."""
+    declarations = declaration(1, 0x11, 1, (0x11, 0x01), (0x12, 0x06)) + declaration(2, 0x34, 0, fields) + b"\0"
+    info = unit(b"\1" + struct.pack("<QI", BASE + TEXT, 8) + entries + b"\0")
+    heads = {f".debug_{name}": struct.pack("<IHBBI", 8 + len(x), 5, 8, 0, 0) + x for name, x in tables.items()}
+    return debug_file({".debug_info": info, ".debug_abbrev": declarations, **heads})
+
+
+def small_locations(size):
+    """Variables of two bytes, each with an expression that has none."""
+    return entries_of_unit((0x02, 0x18), b"\2\0" * (size // 2))  # DW_AT_location by DW_FORM_exprloc
+
+
+def one_range_list(size):
+    """Entries of five bytes that all name one list of ranges."""
+    return entries_of_unit((0x55, 0x17), struct.pack("<BI", 2, 12) * (size // 5), rnglists=b"\4\0\4\0")
+
+
+def default_locations(size):
+    """A list of items of two bytes: DW_LLE_default_location with an expression that has none."""
+    return entries_of_unit((0x02, 0x17), struct.pack("<BI", 2, 12), loclists=b"\5\0" * (size // 2) + b"\0")
+
+
 def tables_of_nested_ranges(size):
     """Two units, whose ranges in `.debug_aranges` are each inside the next one."""
     count = size // 12
@@ -203,14 +226,17 @@ UNITS = {
     "aranges": tables_of_nested_ranges,
     "declarations": units_over_declarations,
     "nested": nested_entries,
-    "one-list": one_list,
-    "small-ranges": small_ranges,
 }
 # Those in which a few bytes say so much that it has a bound.
 BOUNDED_UNITS = {
     "attributes": entry_attributes,
     "own-declarations": units_at_declarations,
     "in-declaration": units_inside_declaration,
+    "one-list": one_list,
+    "one-range-list": one_range_list,
+    "small-ranges": small_ranges,
+    "small-locations": small_locations,
+    "default-locations": default_locations,
     "lists": lists_that_overlap,
     "location-lists": locations_that_overlap,
     "list-stretches": lists_at_all_stretches,

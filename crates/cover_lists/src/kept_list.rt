@@ -13,7 +13,7 @@ pub struct KeptList {
     pub expressions: Vec<Vec<u8>>,
     /// The expressions that are in force where no bounds hold the address.
     pub defaults: Vec<Vec<u8>>,
-    /// The items of this list and of those that were kept before it, with the bytes of their expressions.
+    /// How many items this list and those that were kept before it have. Each 64 bytes of an expression count as one more.
     pub size: usize,
     ghost numbered: { All (λ (c : spec.Cover). c.group < length expressions.items) tree },
 }

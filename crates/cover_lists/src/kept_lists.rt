@@ -128,12 +128,15 @@ fn defaults_of(alloc: Global, places: &[Place<'_>]) -> Result<Vec<Vec<u8>>, NoMe
     Ok(copies)
 }
 
+// Of how many bytes an expression counts as one item more.
+const BYTES_OF_ITEM: usize = 64;
+
 // The size of what was kept before, with the items of a list.
 fn size_with(places: &[Place<'_>], before: usize) -> usize {
     let mut size = before;
     for place in places {
         size = size
-            .saturating_add(place.expression.len())
+            .saturating_add(place.expression.len() / BYTES_OF_ITEM)
             .saturating_add(1);
     }
     size

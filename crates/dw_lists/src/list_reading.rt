@@ -42,21 +42,19 @@ fn step_of<'a>(item: ListItem<'a>, base: u64, addresses: &Addresses) -> Option<S
         ≡ step_says more base result }
 {
     match item.bound {
-        Bound::Base(a) => match addresses.resolve(a) {
-            Some(base) => Some(Step::Base(base)),
-            None => None,
-        },
-        Bound::Between(a, b) => match addresses.resolve(a) {
-            Some(low) => match addresses.resolve(b) {
-                Some(high) => Some(placed(low as u128, high as u128, item.expression)),
-                None => None,
-            },
-            None => None,
-        },
-        Bound::Onward(a, len) => match addresses.resolve(a) {
-            Some(low) => Some(placed(low as u128, low as u128 + len as u128, item.expression)),
-            None => None,
-        },
+        Bound::Base(a) => {
+            let base = addresses.resolve(a)?;
+            Some(Step::Base(base))
+        }
+        Bound::Between(a, b) => {
+            let low = addresses.resolve(a)?;
+            let high = addresses.resolve(b)?;
+            Some(placed(low as u128, high as u128, item.expression))
+        }
+        Bound::Onward(a, len) => {
+            let low = addresses.resolve(a)? as u128;
+            Some(placed(low, low + len as u128, item.expression))
+        }
         Bound::Offsets(m, n) => Some(placed(
             base as u128 + m as u128,
             base as u128 + n as u128,

@@ -30,6 +30,20 @@ use table_core::form::{DW_FORM_loclistx, DW_FORM_rnglistx};
 pub struct ListSection<'a, 't> {
     pub bytes: &'a [u8],
     pub tables: &'t [DebugUnit<'a>],
+    /// How much of the file's lists is kept at most, as `most_kept` says.
+    pub most: usize,
+}
+
+// Of how many bytes of a file one is kept. Files of compilers have 150 for each, and more.
+const BYTES_OF_EACH: usize = 32;
+
+const KEPT_BESIDE: usize = 1 << 18;
+
+/// How many ranges, entries with ranges, items of location lists, and attributes that say where something is, are kept at
+/// most, each of these, of a file of so many bytes. An entry or item of a few bytes takes up to a KiB of memory until
+/// it is written, and lists that overlap are read each, so that few bytes could name any number.
+pub fn most_kept(file_size: usize) -> usize {
+    (file_size / BYTES_OF_EACH).saturating_add(KEPT_BESIDE)
 }
 
 fn starts_by(at: u64, table: &DebugUnit<'_>) -> bool
@@ -67,10 +81,8 @@ fn end_at(place: u64, bytes: &[u8]) -> u128
 fn end_of_table(table: &DebugUnit<'_>) -> Option<u128>
     ensures { result ≡ end_of_table table.now }
 {
-    match table.bytes {
-        Some(bytes) => Some(end_at(table.place, bytes)),
-        None => None,
-    }
+    let bytes = table.bytes?;
+    Some(end_at(table.place, bytes))
 }
 
 // Where a list at an offset has to end.
@@ -105,17 +117,12 @@ pub fn bytes_between(section: &[u8], at: u64, end: u128) -> &[u8]
 fn offset_of_index(section: &[u8], begin: Option<u64>, index: u64) -> Option<u64>
     ensures { (k : Kind) (u : Unit) → begin ≡ base k.base_name u → result ≡ spec.offset_of_index k section.now u index }
 {
-    match begin {
-        Some(begin) => {
-            let place = begin as u128 + 4 * index as u128;
-            if place + 4 <= section.len() as u128 {
-                Some(begin + LittleEndian::read_u32(&section[place as usize..]) as u64)
-            } else {
-                None
-            }
-        }
-        None => None,
+    let begin = begin?;
+    let place = begin as u128 + 4 * index as u128;
+    if place + 4 > section.len() as u128 {
+        return None;
     }
+    Some(begin + LittleEndian::read_u32(&section[place as usize..]) as u64)
 }
 
 fn index_form(kind: ListKind) -> u64
@@ -137,15 +144,11 @@ pub fn list_offset(kind: ListKind, section: &[u8], lists: Option<u64>, attr: Att
     } else {
         Some(attr.value)
     };
-    match offset {
-        Some(at) => {
-            if at < section.len() as u64 {
-                Some(at)
-            } else {
-                None
-            }
-        }
-        None => None,
+    let at = offset?;
+    if at < section.len() as u64 {
+        Some(at)
+    } else {
+        None
     }
 }
 

@@ -1,5 +1,5 @@
 // The ranges that the entries of a unit have. DWARF 5, section 2.17.
-ghost use Rattle.std.specs.Prelude.{◌≡◌, ◌++◌, ◌∷◌, [], List, ℕ, IfOk, map, option_map, option_and_then};
+ghost use Rattle.std.specs.Prelude.{◌≡◌, ◌+◌, ◌++◌, ◌∷◌, [], List, ℕ, IfOk, OnOk, map, option_map, option_and_then};
 ghost use Rattle.std.specs.List.Sorted.{IsNonDecreasingBy};
 ghost use Rattle.std.specs.Ordering.{nat_cmp};
 ghost use Rattle.std.specs.BTreeMap.{get};
@@ -10,7 +10,8 @@ ghost use Rattle.dw_unit.specs.CompUnits.{Unit};
 ghost use Rattle.dw_unit.specs.declared.attribute.TheConstants.{DW_AT_addr_base, DW_AT_high_pc};
 ghost use Rattle.dw_lists.specs.Faults as faults;
 ghost use Rattle.dw_lists.specs.Faults.{ListSections};
-ghost use Rattle.cover_lists.specs.Groups.{AreNumbered, Grow, HasRanges};
+ghost use Rattle.cover_lists.specs.Groups.{AreNumbered, Grow, HasRanges, covers_in};
+ghost use Rattle.cover_lists.specs.ListPlaces.{located_of};
 ghost use Rattle.dw_lists.specs.KnownLists.{AreKnown, IsGroupOf, IsLookedUp, range_list, IsNoted};
 ghost use Rattle.dw_lists.specs.Lists as lists;
 ghost use Rattle.dw_lists.specs.Lists.{ranges_kind, has_list};
@@ -42,9 +43,19 @@ pub fn known_number(known: &KnownLists, at: u64) -> Option<Option<usize>>
     known.get(&at).copied()
 }
 
-// How many ranges are kept at most before a list is read, beside one for each two bytes of the section, of which a range
-// has three at least: lists that overlap are read each, so that few bytes could name any number.
-const READ_AGAIN: usize = 1 << 22;
+// Adds a group of the ranges of a list. Memory is wanting where there would be more than so many in all.
+fn keep_group(groups: &mut Groups, places: &[Place<'_>], most: usize) -> Result<usize, NoMemory>
+    ensures number { IfOk result (λ n. n ≡ groups.old.count) }
+    ensures count { OnOk result (groups.new.count ≡ groups.old.count + 1) }
+    ensures covers { OnOk result (groups.new.covers.items
+        ≡ groups.old.covers.items ++ covers_in groups.old.count (map located_of places.now)) }
+{
+    if groups.covers.len().saturating_add(places.len()) > most {
+        return Err(NoMemory);
+    }
+    let group = add_group(groups, places)?;
+    Ok(group)
+}
 
 // Reads the list at an offset, and adds a group of its ranges; none if it can't be read.
 fn read_group(
@@ -63,10 +74,7 @@ fn read_group(
 {
     match list_at(alloc, ListKind::Ranges, section, unit, at)? {
         Some(places) => {
-            if groups.covers.len() > (section.bytes.len() / 2).saturating_add(READ_AGAIN) {
-                return Err(NoMemory);
-            }
-            let group = add_group(groups, &places)?;
+            let group = keep_group(groups, &places, section.most)?;
             Ok(Some(group))
         }
         None => Ok(None),
@@ -140,7 +148,7 @@ pub fn own_group(
             bounds: Some(bounds),
             expression: &[],
         };
-        let group = add_group(groups, &[place])?;
+        let group = keep_group(groups, &[place], section.most)?;
         return Ok(Some(group));
     }
     let Some(named) = attr_named(DW_AT_ranges, attrs) else {

@@ -88,7 +88,8 @@ fn read_all(
     Ok((ranged, placed))
 }
 
-/// What all entries say of ranges and of locations, or the first fault of the sections that they are read from.
+/// What all entries say of ranges and of locations, or the first fault of the sections that they are read from. No more
+/// is kept than `most`, as `most_kept` says.
 pub fn read_both(
     alloc: Global,
     info: &[u8],
@@ -96,6 +97,7 @@ pub fn read_both(
     addr: &[u8],
     ranges: &[u8],
     locations: &[u8],
+    most: usize,
 ) -> Result<BothEntries, Refusal>
     ensures ranges { IfOk result (λ r.
         ranges_read.AreRangesOf (list_sections_held info.now abbrevs.now addr.now ranges.now locations.now)
@@ -117,10 +119,12 @@ pub fn read_both(
         ranges: ListSection {
             bytes: ranges,
             tables: &range_tables,
+            most,
         },
         locations: ListSection {
             bytes: locations,
             tables: &location_tables,
+            most,
         },
     };
     let (ranged, placed) = read_all(alloc, &reader, &sections)?;

@@ -84,6 +84,9 @@ fn add_entry(
         IfOk result (λ f. IsGathering s u groups.old ranged.old.items groups.new ranged.new.items known.new (plain
         entry.now ∷ []) (before ++ entry.now.attrs) f) }
 {
+    if ranged.len() > section.most {
+        return Err(NoMemory);
+    }
     let faults = note_lists(alloc, section, unit, known, groups, &entry.attrs, others)?;
     let group = own_group(alloc, section, unit, known, groups, &entry.attrs)?;
     let index = ranges_index(&entry.attrs);

@@ -110,13 +110,15 @@ fn fault_places(
     }
 }
 
-/// The entries that have ranges, or the first fault of the sections that they are read from.
+/// The entries that have ranges, or the first fault of the sections that they are read from. No more is kept than
+/// `most`, as `most_kept` says.
 pub fn read_ranges(
     alloc: Global,
     info: &[u8],
     abbrevs: &[u8],
     addr: &[u8],
     ranges: &[u8],
+    most: usize,
 ) -> Result<RangedEntries, Refusal>
     ensures read { IfOk result (λ r. (locations : List ℕ) →
         AreRangesOf (list_sections_held info.now abbrevs.now addr.now ranges.now locations) r.groups r.ranged.items
@@ -131,6 +133,7 @@ pub fn read_ranges(
     let section = ListSection {
         bytes: ranges,
         tables: &tables,
+        most,
     };
     let progress = read_all(alloc, &reader, section, addr)?;
     let places = fault_places(&progress, reader.units(), &address_tables, &tables);

@@ -46,10 +46,6 @@ pub struct UnitLocations<'a, 't> {
     pub lists: UnitLists<'a>,
 }
 
-// How much is kept at most before a list is read, beside as much as the section has bytes: lists that overlap are read
-// each, so that few bytes could name any number of items.
-const READ_AGAIN: usize = 1 << 22;
-
 // The size of the lists that are kept.
 fn kept_size(lists: &[KeptList]) -> usize {
     match lists.last() {
@@ -76,7 +72,7 @@ fn read_number(
     match list_at(alloc, ListKind::Locations, unit.section, &unit.lists, at)? {
         Some(places) => {
             let before = kept_size(lists);
-            if before > unit.section.bytes.len().saturating_add(READ_AGAIN) {
+            if before.saturating_add(places.len()) > unit.section.most {
                 return Err(NoMemory);
             }
             let list = keep_list(alloc, &places, before)?;
@@ -314,6 +310,10 @@ fn locate(
         OnOk result (HasMore kept.old.lists.items kept.new.lists.items named.old.items named.new.items
         (attr_items s u entry.now.place name (attr name (plain entry.now)))) }
 {
+    let most = unit.section.most;
+    if kept.located.len() > most || named.len() > most {
+        return Err(NoMemory);
+    }
     let source = named_source(alloc, unit, known, &mut kept.lists, &entry.attrs, name)?;
     let index = index_of(&entry.attrs, name);
     let number = number_of(&source);

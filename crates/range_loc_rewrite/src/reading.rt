@@ -9,6 +9,7 @@ ghost use Rattle.list_units.specs.RangeReading.{AreRangesOf};
 
 use crate::location_lists::Places;
 use crate::range_lists::Ranges;
+use dw_lists::list_section::most_kept;
 use elf_image::Elf;
 use list_units::both_entries::{BothEntries, read_both};
 use rb_bytes::fault::Refusal;
@@ -29,7 +30,8 @@ pub fn read_entries(alloc: Global, elf: &Elf) -> Result<BothEntries, Refusal>
     let addr = contents_of(elf, b".debug_addr");
     let ranges = contents_of(elf, b".debug_rnglists");
     let locations = contents_of(elf, b".debug_loclists");
-    let entries = read_both(alloc, info, abbrevs, addr, ranges, locations)?;
+    let most = most_kept(elf.file.len());
+    let entries = read_both(alloc, info, abbrevs, addr, ranges, locations, most)?;
     Ok(entries)
 }
 
