@@ -1,7 +1,6 @@
 // The text of a map, in pieces of some lines, each of which is written from its end.
 ghost use Rattle.std.specs.Prelude.{◌≡◌, ◌+◌, ◌*◌, ◌++◌, ◌-◌, ◌<◌, ◌≤◌, OnErr, OnOk, ◌∷◌, decimal, drop, length};
-ghost use Rattle.std.specs.Prelude.{slice_range};
-ghost use Rattle.std.specs.Prelude.{take};
+ghost use Rattle.std.specs.Prelude.{slice_range, take};
 ghost use Rattle.rb_io.specs.CallResults.{IfTook};
 ghost use Rattle.rb_io.specs.FaultCounts.{Rose};
 ghost use Rattle.rb_io.specs.TakenText.{TakesAll, TakesPrefix};

@@ -1,7 +1,6 @@
 -- What is read of the tables that are written.
 use Rattle.std.proofs.Common.{◌≡◌, ◌∙◌, ◌<◌, ◌≤◌, ◌-◌, ◌+◌, ◌*◌, ◌^◌, ◌==◌, ◌++◌, ℕ, zero, suc, Bool, true, false, cond, List, [], ◌∷◌}
-use Rattle.std.proofs.Common.{Option, Some}
-use Rattle.std.proofs.Common.{None, Ok, Err, Result, refl, sym, ap, arith, length, take, drop, map, append_assoc, option_map}
+use Rattle.std.proofs.Common.{Option, Some, None, Ok, Err, Result, refl, sym, ap, arith, length, take, drop, map, append_assoc, option_map}
 use Rattle.std.specs.Prelude.{All, find, if◌then◌else◌, not}
 use Rattle.std.specs.List.{list_any}
 use Rattle.std.proofs.lemmas.Bool.Decides.{nat_tests}

@@ -1,7 +1,6 @@
 -- The units that runs say, whatever order their stretches stand in.
 use Rattle.std.proofs.Common.{◌≡◌, ◌∙◌, ◌<◌, ◌≤◌, ◌-◌, ◌+◌, ◌^◌, ℕ, suc, Bool, true, false, cond, List, [], ◌∷◌, Option, Some, None, refl}
-use Rattle.std.proofs.Common.{sym, ap, subst}
-use Rattle.std.proofs.Common.{arith, length, map, nat_le, nat_lt, option_map}
+use Rattle.std.proofs.Common.{sym, ap, subst, arith, length, map, nat_le, nat_lt, option_map}
 use Rattle.std.specs.Prelude.{◌&&◌, ◌||◌, All, find, if◌then◌else◌, option_and_then}
 use Rattle.std.specs.List.{list_any}
 use Rattle.std.specs.List.Sorted.{IsPermutation}

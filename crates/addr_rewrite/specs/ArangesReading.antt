@@ -1,7 +1,6 @@
 -- How tables of ranges of addresses are read, and found by address.
 use Rattle.std.specs.Prelude.{◌≡◌, ◌+◌, ◌==◌, ◌&&◌, ◌^◌, ◌<◌, ℕ, List, map, flat_map, not, if◌then◌else◌, Option, Some}
-use Rattle.std.specs.Prelude.{None, Ok, Err}
-use Rattle.std.specs.Prelude.{option_and_then, slice_get}
+use Rattle.std.specs.Prelude.{None, Ok, Err, option_and_then, slice_get}
 use Rattle.rb_bytes.specs.Readers.{bytes_at, number_read, and_then}
 use Rattle.table_core.specs.declared.range.Range.{Range}
 use Rattle.table_core.specs.DebugUnits.{Walked, first_place}

@@ -1,7 +1,6 @@
 -- Blocks as stretches of instructions that lie one behind another.
 use Rattle.std.proofs.Common.{◌≡◌, ◌⊎◌, ℕ, ◌+◌, ◌-◌, ◌<◌, ◌≤◌, ◌∙◌, Bool, true, false, List, [], ◌∷◌, length, get_or, take, drop, map}
-use Rattle.std.proofs.Common.{filter}
-use Rattle.std.proofs.Common.{All, AllPairs, Option, Some, None, arith, inl, inr, refl, sym, ap, subst}
+use Rattle.std.proofs.Common.{filter, All, AllPairs, Option, Some, None, arith, inl, inr, refl, sym, ap, subst}
 use Rattle.std.specs.Prelude.{◌&&◌, nat_lt, nat_le, slice_get, IsSomeAnd}
 use Rattle.std.specs.Option.{option_map_or}
 use Rattle.std.specs.List.{list_any}

@@ -1,7 +1,5 @@
 -- What an unwind table needs, by its entries as the code keeps them.
-use Rattle.std.proofs.Common.{◌≡◌, ℕ, ◌+◌, ◌*◌, ◌∙◌, Bool, true, Option, Some, None, List, [], ◌∷◌, length, map, ap, arith}
-use Rattle.std.proofs.Common.{sym}
-use Rattle.std.proofs.Common.{Bor, codes}
+use Rattle.std.proofs.Common.{◌≡◌, ℕ, ◌+◌, ◌*◌, ◌∙◌, Bool, true, Option, Some, None, List, [], ◌∷◌, length, map, ap, arith, sym, Bor, codes}
 use Rattle.std.specs.Prelude.{flat_map, sum_by, is_some, if◌then◌else◌}
 use Rattle.std.specs.Option.{option_copied}
 use Rattle.std.proofs.lemmas.List.Folds.{flat_map-map}

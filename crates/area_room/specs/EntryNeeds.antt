@@ -1,7 +1,6 @@
 -- How much room the entries that are made of one entry of an unwind table need, by what the code keeps of that one.
 use Rattle.std.specs.Prelude.{◌+◌, ◌-◌, ◌*◌, ◌&&◌, ℕ, Bool, List, [], ◌∷◌, nat_le, nat_lt, length, filter, flat_map}
-use Rattle.std.specs.Prelude.{take, drop}
-use Rattle.std.specs.Prelude.{sum_by}
+use Rattle.std.specs.Prelude.{take, drop, sum_by}
 use Rattle.std.specs.Option.{option_map_or}
 use Rattle.std.specs.List.{list_any}
 use Rattle.rv_code.specs.declared.placed.Block.{Block}

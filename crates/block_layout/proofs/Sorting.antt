@@ -1,6 +1,5 @@
 -- What a sort by counts and ends gives.
-use Rattle.std.proofs.Common.{◌≡◌, ◌<◌, ◌≤◌, ◌+◌, ◌∙◌, ℕ, true, false, List, length, get_or, arith, sym}
-use Rattle.std.proofs.Common.{inl, inr, ⊎_elim, AllPairs}
+use Rattle.std.proofs.Common.{◌≡◌, ◌<◌, ◌≤◌, ◌+◌, ◌∙◌, ℕ, true, false, List, length, get_or, arith, sym, inl, inr, ⊎_elim, AllPairs}
 use Rattle.std.specs.Ordering.{nat_cmp, is_lt, ordering_then}
 use Rattle.std.proofs.lemmas.Bool.{cases_lt, eq-eqb, lt-ltb, le-ltb}
 use Rattle.edge_profile.proofs.Neighbours.{all_pairs}

@@ -1,7 +1,6 @@
 -- The hot and the cold part of each function, from chains of blocks and their weights.
 use Rattle.std.specs.Prelude.{◌≡◌, ◌⊎◌, ◌<◌, ℕ, Bool, true, false, List, [], ◌++◌, Contains, IsSomeAnd, flat_map, fold}
-use Rattle.std.specs.Prelude.{length}
-use Rattle.std.specs.Prelude.{max, slice_get}
+use Rattle.std.specs.Prelude.{length, max, slice_get}
 use Rattle.std.specs.Option.{option_map_or}
 use Rattle.rv_code.specs.declared.placed.Func.{Func}
 use Rattle.rv_code.specs.declared.placed.Block.{Block}

@@ -1,7 +1,6 @@
 // Chains of blocks, linked one edge after another.
 ghost use Rattle.std.specs.Prelude.{◌≡◌, ◌≢◌, ◌⊎◌, ◌↔◌, ◌<◌, ◌≤◌, ℕ, IfOk, IsTrue, MatchBool, None, Some, true, false};
-ghost use Rattle.std.specs.Prelude.{length};
-ghost use Rattle.std.specs.Prelude.{slice_index, slice_index_or, slice_set};
+ghost use Rattle.std.specs.Prelude.{length, slice_index, slice_index_or, slice_set};
 ghost use Rattle.rv_code.specs.declared.placed.Block.{Block};
 ghost use Rattle.edge_profile.specs.BlockPlaces.{AreBlocksApart};
 ghost use Rattle.block_layout.specs.FirstLinks.{IsLinked, told, ends_of_edge};

@@ -1,7 +1,6 @@
 // The hot and the cold part of a function.
 ghost use Rattle.std.specs.Prelude.{◌≡◌, ◌↔◌, ◌+◌, ◌-◌, ◌<◌, ◌≤◌, ℕ, All, Contains, IfOk, IsTrue, MatchBool, None};
-ghost use Rattle.std.specs.Prelude.{false, length};
-ghost use Rattle.std.specs.Prelude.{slice_index, slice_index_or};
+ghost use Rattle.std.specs.Prelude.{false, length, slice_index, slice_index_or};
 ghost use Rattle.rv_code.specs.layout.Lists.{ListsNumbers};
 ghost use Rattle.block_layout.specs.Walks.{AreKept, IsHotList, links_of};
 

@@ -1,7 +1,6 @@
 -- The count of the entries of a written frame table: its runs take no more room than `need` has for them.
 use Rattle.std.proofs.Common.{◌≡◌, ◌≢◌, ℕ, zero, ◌+◌, ◌-◌, ◌*◌, ◌<◌, ◌≤◌, ◌⊎◌, ◌∙◌, inl, inr, List, [], ◌∷◌, ◌++◌, length, refl, sym, ap}
-use Rattle.std.proofs.Common.{subst}
-use Rattle.std.proofs.Common.{arith, Option, Some, None, Bool, true, false, cond, sum_by, map, filter, take, drop}
+use Rattle.std.proofs.Common.{subst, arith, Option, Some, None, Bool, true, false, cond, sum_by, map, filter, take, drop}
 use Rattle.std.specs.Prelude.{Contains, AllPairs, nat_le, option_map, option_and_then, ◌||◌}
 use Rattle.std.specs.Option.{option_map_or}
 use Rattle.std.specs.List.{find, list_any}

@@ -1,6 +1,5 @@
 -- Blocks into which code leads lie near one another, where those of tied functions do.
-use Rattle.std.proofs.Common.{◌≡◌, ◌∙◌, refl, sym, subst, ℕ, ◌+◌, Option, Some, None, Bool, true, false, List, inl, inr, ◌⊎◌}
-use Rattle.std.proofs.Common.{cond}
+use Rattle.std.proofs.Common.{◌≡◌, ◌∙◌, refl, sym, subst, ℕ, ◌+◌, Option, Some, None, Bool, true, false, List, inl, inr, ◌⊎◌, cond}
 use Rattle.std.specs.Prelude.{◌&&◌, Any, IsSomeAnd, slice_get, slice_index, option_and_then}
 use Rattle.std.proofs.lemmas.Option.{slice_get_within, get_or_from_slice_get}
 use Rattle.rv_code.specs.declared.placed.Block.{Block}

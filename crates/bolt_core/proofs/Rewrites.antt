@@ -259,8 +259,7 @@ module _ {file profile : List ℕ} (elf : Elf) (funcs : List Func) (refs : Refs)
           so_far = keeps_so_far input bytes w w_bytes sound spans faithful;
           ordered = ordered;
           code = emitted.code.items;
-          laid_out =
-              is_laid_out elf funcs refs blocks sound_code (input.program).blocks_are stands order spans emitted moved;
+          laid_out = is_laid_out elf funcs refs blocks sound_code (input.program).blocks_are stands order spans emitted moved;
           stretch = moved.stretch;
           code_stands =
               code_there elf funcs refs blocks sound_code (input.program).blocks_are stands order spans emitted moved given sizes w

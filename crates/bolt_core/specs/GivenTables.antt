@@ -1,7 +1,6 @@
 -- The tables that are written anew, by the names of their sections.
 use Rattle.std.specs.Prelude.{◌≡◌, ◌==◌, ◌++◌, ◌||◌, ℕ, not, List, [], ◌∷◌, Option, Some, None, is_some, String, Vec}
-use Rattle.std.specs.Prelude.{string_bytes}
-use Rattle.std.specs.Prelude.{codes, if◌then◌else◌, length, map}
+use Rattle.std.specs.Prelude.{string_bytes, codes, if◌then◌else◌, length, map}
 use Rattle.std.specs.declared.alloc.Global.{Global}
 use Rattle.elf_image.specs.declared.elf.Elf.{Elf}
 use Rattle.elf_image.specs.file.SectionNames.{section_called}

@@ -1,6 +1,5 @@
 -- The arguments of `run`, one after the other.
-use Rattle.std.proofs.Common.{◌≡◌, ℕ, ◌&&◌, nat_le, not, Bool, true, false, List, [], ◌∷◌, length, refl, arith, Option, Some}
-use Rattle.std.proofs.Common.{None, sum_by}
+use Rattle.std.proofs.Common.{◌≡◌, ℕ, ◌&&◌, nat_le, not, Bool, true, false, List, [], ◌∷◌, length, refl, arith, Option, Some, None, sum_by}
 use Rattle.std.specs.List.{list_all}
 use Rattle.std.proofs.lemmas.Bool.Decides.{nat_tests}
 use Rattle.rv_memory.specs.Limits.{IsWithinLimits}

@@ -1,7 +1,6 @@
 -- Which arguments are which command.
 use Rattle.std.specs.Prelude.{ℕ, ◌&&◌, ◌||◌, ◌==◌, nat_eq, nat_lt, nat_le, not, if◌then◌else◌, Bool, true, false, List}
-use Rattle.std.specs.Prelude.{[]}
-use Rattle.std.specs.Prelude.{◌∷◌, length, map, sum_by, option_and_then, Option, Some, None, codes}
+use Rattle.std.specs.Prelude.{[], ◌∷◌, length, map, sum_by, option_and_then, Option, Some, None, codes}
 use Rattle.std.specs.List.{starts_with, list_all, list_any, before_first, after_first}
 use Rattle.std.specs.Option.{option_map}
 use Rattle.std.specs.Str.{bytes_eq, byte}

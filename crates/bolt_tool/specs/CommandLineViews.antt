@@ -3,8 +3,7 @@ use Rattle.std.specs.Prelude.{◌≢◌, Bool, true, false, List, [], ◌∷◌,
 use Rattle.std.specs.Option.{option_map}
 use Rattle.rv_memory.specs.Limits.{IsWithinLimits}
 use Rattle.bolt_tool.specs.CommandLine.{Token, Positional, Named, Expected, AnyToken, OnlyPositional, tokens}
-use Rattle.bolt_tool.specs.CommandLine.{positionals}
-use Rattle.bolt_tool.specs.CommandLine.{RewriteNames}
+use Rattle.bolt_tool.specs.CommandLine.{positionals, RewriteNames}
 use Rattle.cli_base.specs.Inputs.{inputs_read}
 use Rattle.cli_check.specs.RepairNames.{repair_given}
 use Rattle.cli_check.specs.VerifyNames.{verify_given}

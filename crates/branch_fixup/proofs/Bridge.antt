@@ -40,8 +40,7 @@ pub record StripAt (f : ℕ → ℕ) (a : ℕ) (s : Strip) : Type 0 where
 strip_at : (f : ℕ → ℕ) (a : ℕ) (s : Strip) (x : Form) → PlacedFrom f a (pieces_of_strip s x) → StripAt f a s
 strip_at f a s x h = record {
   first = first s.inner h;
-  last = (split_placed f a (map as_it_is s.inner)
-      (record { placed = s.last; form = x } ∷ []) h).1.0 ∙ inner_end a s.inner;
+  last = (split_placed f a (map as_it_is s.inner) (record { placed = s.last; form = x } ∷ []) h).1.0 ∙ inner_end a s.inner;
 }
   where
     inner_end : (a : ℕ) (ps : List Placed) → end_from a (map as_it_is ps) ≡ a + before_of ps

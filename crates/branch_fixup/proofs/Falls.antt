@@ -13,8 +13,7 @@ use Rattle.rv_code.specs.layout.FunctionLists.{Follow, AreLaidOut, address_end}
 use Rattle.rv_code.specs.layout.Flow.{insts_of, falls_at, fall_target}
 use Rattle.branch_fixup.specs.BlockInsts.{func_starts_at}
 use Rattle.branch_fixup.specs.Endings.{fall_of}
-use Rattle.rv_code.proofs.lists.Follows.{follow_at, follow_next, follow_last, laid_func, inst_length, some_length}
-use Rattle.rv_code.proofs.lists.Follows.{funcs_apart, at_contains}
+use Rattle.rv_code.proofs.lists.Follows.{follow_at, follow_next, follow_last, laid_func, inst_length, some_length, funcs_apart, at_contains}
 use Rattle.branch_fixup.proofs.Lists.{at_flat, flat_at, find_found, found_find}
 use Rattle.rb_bytes.proofs.Tests.{bool_same}
 use Rattle.rb_bytes.proofs.ListLemmas.{slice_get_found, contains_at}

@@ -5,8 +5,7 @@ use Rattle.std.specs.Prelude.{slice_get, slice_index, Contains, AllPairs, option
 use Rattle.std.specs.Option.{option_map_or}
 use Rattle.std.proofs.lemmas.List.{length-map}
 use Rattle.std.proofs.lemmas.List.Elements.{Contains-push}
-use Rattle.std.proofs.lemmas.Option.{slice_get_within, get_or_from_slice_get, slice_get-get_or, slice_get-map, slice_get_past}
-use Rattle.std.proofs.lemmas.Option.{same_Some}
+use Rattle.std.proofs.lemmas.Option.{slice_get_within, get_or_from_slice_get, slice_get-get_or, slice_get-map, slice_get_past, same_Some}
 use Rattle.rv_code.specs.declared.placed.Placed.{Placed}
 use Rattle.rv_code.specs.declared.placed.Func.{Func}
 use Rattle.rv_code.specs.declared.placed.Block.{Block}
@@ -22,8 +21,7 @@ use Rattle.branch_fixup.proofs.Covered.{block_of, covers, blocks_apart}
 use Rattle.branch_fixup.proofs.Falls.{code_at}
 use Rattle.rv_code.proofs.lists.Follows.{follow_at, follow_up, laid_func, some_length, funcs_apart}
 use Rattle.branch_fixup.proofs.Orders.{order_within, order_has}
-use Rattle.branch_fixup.proofs.Planned.{StripOf, strip_for, in_block, block_in_insts, Planned, planned_length, planned_at}
-use Rattle.branch_fixup.proofs.Planned.{strip_length}
+use Rattle.branch_fixup.proofs.Planned.{StripOf, strip_for, in_block, block_in_insts, Planned, planned_length, planned_at, strip_length}
 use Rattle.rb_bytes.proofs.ListLemmas.{slice_get_found}
 
 pub first_there : (inner : List Placed) (last : Placed) → (p : Placed) × Contains (inner ++ last ∷ []) p ×

@@ -46,8 +46,7 @@ use Rattle.branch_fixup.proofs.Orders.{order_once}
 use Rattle.branch_fixup.proofs.Placed.{AreStrips, are_strips, before_is, strip_place, strips_once, upto_last}
 use Rattle.branch_fixup.proofs.Planned.{Planned, in_block, inner_goes_on, planned}
 use Rattle.branch_fixup.proofs.Sizes.{kept_falls}
-use Rattle.branch_fixup.proofs.BlockEndFacts.{FallsAfter, IsOfTable, Led, branch_end, led_branch, led_goto, lead_place}
-use Rattle.branch_fixup.proofs.BlockEndFacts.{block_ends_of}
+use Rattle.branch_fixup.proofs.BlockEndFacts.{FallsAfter, IsOfTable, Led, branch_end, led_branch, led_goto, lead_place, block_ends_of}
 use Rattle.branch_fixup.proofs.BlockEndsFound.{strip_code, strip_fall, strip_target}
 
 -- Lists of pieces.

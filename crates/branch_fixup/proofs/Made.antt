@@ -202,11 +202,9 @@ is_made funcs blocks order base g slice ts now zs forms_now fs e d h made grown 
     let same_2 : map end_of_form fs ≡ map end_of_form zs = same ∙ ap (map end_of_form) h in
     record {
       count = (let o = grown_2.one_each in let t = made_2.block_ends in omega (arith, o, t));
-      forms = are_forms funcs blocks order g.laid g.blocks_of g.perm base ts zs made_2 fs grown_2 same_2 g.direct
-          g.near enough_2;
+      forms = are_forms funcs blocks order g.laid g.blocks_of g.perm base ts zs made_2 fs grown_2 same_2 g.direct g.near enough_2;
       map = are_map funcs blocks order g.laid g.blocks_of g.perm base ts zs made_2 fs grown_2 same_2 g.even g.some;
-      room = in_room funcs blocks order g.laid g.blocks_of g.perm base ts zs made_2 fs grown_2 same_2 g.direct
-          g.near enough_2;
+      room = in_room funcs blocks order g.laid g.blocks_of g.perm base ts zs made_2 fs grown_2 same_2 g.direct g.near enough_2;
       short = are_short funcs blocks order g.laid g.blocks_of g.perm base ts zs made_2 fs grown_2 same_2;
     }
 

@@ -138,8 +138,7 @@ strips_once (s ∷ ss) are (g ∷ gs) =
     (once_strip (first_in s.inner s.last) (s.last.addr + s.last.len) s.inner s.last g i.follow i.lengths)
     (strips_once ss (record {
       each = λ k t at. are.each (suc k) t at;
-      differ = λ i j t u at_i at_j less.
-          are.differ (suc i) (suc j) t u at_i at_j (omega (arith, less));
+      differ = λ i j t u at_i at_j less. are.differ (suc i) (suc j) t u at_i at_j (omega (arith, less));
     }) gs)
     (λ p c. fresh_strips s ss gs (λ j t at. are.differ 0 (suc j) s t refl at (omega arith)) p.placed
     (piece_inst s.inner s.last g p c))

@@ -8,8 +8,7 @@ use Rattle.std.proofs.lemmas.List.{get_or-set_same, get_or-set_other}
 use Rattle.rv_code.specs.declared.layout.Form.{Form}
 use Rattle.branch_fixup.specs.declared.growth.BlockEnd.{BlockEnd}
 use Rattle.branch_fixup.specs.Pieces.{piece_length}
-use Rattle.branch_fixup.specs.Growth.{end_at, form_at, block_length, longer, is_enough, from_at, to_at, form_reach, left_of}
-use Rattle.branch_fixup.specs.Growth.{block_offset}
+use Rattle.branch_fixup.specs.Growth.{end_at, form_at, block_length, longer, is_enough, from_at, to_at, form_reach, left_of, block_offset}
 use Rattle.branch_fixup.specs.Growth.{AreBlockEnds, AreGrown}
 use Rattle.branch_fixup.specs.Distances.{reaches}
 use Rattle.branch_fixup.specs.Ways.{crosses, is_enough_by, AreStarts, IsLonger, AreLonger, AreLongerOver}

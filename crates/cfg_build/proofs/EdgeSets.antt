@@ -1,6 +1,5 @@
 -- The edges that a list of blocks has.
-use Rattle.std.proofs.Common.{◌≡◌, ◌∙◌, sym, subst, ap, ℕ, ◌<◌, ◌≤◌, ⊎_elim, List, Option, Some, All}
-use Rattle.std.proofs.Common.{map, length, arith}
+use Rattle.std.proofs.Common.{◌≡◌, ◌∙◌, sym, subst, ap, ℕ, ◌<◌, ◌≤◌, ⊎_elim, List, Option, Some, All, map, length, arith}
 use Rattle.std.specs.Prelude.{◌↔◌, AllPairs, Contains, IsSomeAnd, slice_get}
 use Rattle.std.specs.Option.{option_map, option_map_or}
 use Rattle.std.proofs.lemmas.List.Elements.{All-contains}
@@ -10,8 +9,7 @@ use Rattle.rv_code.specs.declared.placed.Func.{Func}
 use Rattle.rv_code.specs.declared.placed.Block.{Block}
 use Rattle.rv_code.specs.declared.cell.CodeCell.{CodeCell}
 use Rattle.rv_code.specs.layout.Blocks.{inst_at, func_of, IsBefore, block_start}
-use Rattle.rv_code.specs.layout.Edges.{AreTablePairs, IsPairOf, LeadsTo, jumps, falls_into, by_table, BeginsAt, IsEdge, IsEdgeIn}
-use Rattle.rv_code.specs.layout.Edges.{AreEdges}
+use Rattle.rv_code.specs.layout.Edges.{AreTablePairs, IsPairOf, LeadsTo, jumps, falls_into, by_table, BeginsAt, IsEdge, IsEdgeIn, AreEdges}
 use Rattle.rv_code.specs.layout.FunctionLists.{AreLaidOut}
 use Rattle.rv_code.specs.layout.FunctionMembers.{IsOfFunction}
 use Rattle.rb_bytes.proofs.ListLemmas.{pairs_in, pairs_map, slice_get_found}

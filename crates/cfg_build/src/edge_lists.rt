@@ -1,7 +1,6 @@
 // The edges between blocks.
 ghost use Rattle.std.specs.Prelude.{◌≡◌, ◌+◌, ◌<◌, ◌≤◌, ◌⊎◌, ◌↔◌, ℕ, List, All, Any, AllPairs, Contains, IfOk, IfSome};
-ghost use Rattle.std.specs.Prelude.{OnOk};
-ghost use Rattle.std.specs.Prelude.{Some, length, slice_get};
+ghost use Rattle.std.specs.Prelude.{OnOk, Some, length, slice_get};
 ghost use Rattle.rv_code.specs.declared.cell.CodeCell.{CodeCell};
 ghost use Rattle.rv_code.specs.layout.Edges.{AreEdges, AreTablePairs};
 ghost use Rattle.rv_code.specs.layout.FunctionLists.{AreLaidOut, IsLaidOut, address_end};

@@ -3,8 +3,7 @@ use Rattle.std.proofs.Common.{◌≡◌, ◌∙◌, ◌+◌, ◌-◌, ◌<◌, �
 use Rattle.std.proofs.Common.{Option, Some, None, option_map, refl, sym, ap, subst, arith, length-append}
 use Rattle.std.specs.Prelude.{All, Result, Ok, Err, OnOk, slice_get, slice_index_or}
 use Rattle.std.specs.Rc.{rc_value}
-use Rattle.std.proofs.lemmas.List.{append-nil, take-append-le, take-append-drop, get_or-reverse, length-reverse, length-map}
-use Rattle.std.proofs.lemmas.List.{drop_more}
+use Rattle.std.proofs.lemmas.List.{append-nil, take-append-le, take-append-drop, get_or-reverse, length-reverse, length-map, drop_more}
 use Rattle.std.proofs.lemmas.Option.{slice_get-map, slice_get-get_or}
 use Rattle.std.proofs.lemmas.Simd.{map-map}
 use Rattle.std.proofs.lemmas.List.Elements.{All-head, All-tail, All-weaker}

@@ -10,11 +10,9 @@ use Rattle.cfi_rows.specs.declared.instruction.Instruction.{Instruction}
 use Rattle.cfi_rows.specs.declared.instruction.Instruction.TheVariants.{Advance, SetLoc, DefCfa, DefCfaRegister, DefCfaOffset}
 use Rattle.cfi_rows.specs.declared.instruction.Instruction.TheVariants.{SetRule, Restore, RememberState, RestoreState, Nop}
 use Rattle.cfi_rows.specs.FrameRows.{Rules, Known, nothing_known, State, begins, step, moved_to, with_register, with_offset, with_cfa}
-use Rattle.cfi_rows.specs.FrameRows.{take_back, ends_row}
-use Rattle.cfi_rows.specs.FrameRows.{PlacedRow, rows, row_from, prepended, and_rows, then_rows, known_after}
+use Rattle.cfi_rows.specs.FrameRows.{take_back, ends_row, PlacedRow, rows, row_from, prepended, and_rows, then_rows, known_after}
 use Rattle.cfi_rows.specs.Outlines.{Outline, kind_of, outline_of, moved_outline, went_to, if_register, taken_back, outline_step}
-use Rattle.cfi_rows.specs.Outlines.{outline_after}
-use Rattle.cfi_rows.specs.Outlines.{outline_rows, counted, has_rule, frame_after}
+use Rattle.cfi_rows.specs.Outlines.{outline_after, outline_rows, counted, has_rule, frame_after}
 
 -- Steps
 

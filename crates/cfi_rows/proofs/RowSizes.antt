@@ -15,9 +15,8 @@ use Rattle.cfi_rows.specs.declared.instruction.Instruction.TheVariants.{SetRule,
 use Rattle.cfi_rows.specs.declared.row.Cfa.{Cfa}
 use Rattle.cfi_rows.specs.declared.row.Cfa.TheVariants.{Reg, Expr}
 use Rattle.cfi_rows.specs.declared.row.Rule.{Rule}
-use Rattle.cfi_rows.specs.FrameRows.{PlacedRow, RowValue, Rules, Known, State, rows, row_of, row_from, prepended, and_rows, then_rows}
-use Rattle.cfi_rows.specs.FrameRows.{step, ends_row}
-use Rattle.cfi_rows.specs.FrameRows.{with_cfa, with_register, with_offset, take_back, with_rule, without_rule, rule_of, restored}
+use Rattle.cfi_rows.specs.FrameRows.{PlacedRow, RowValue, Rules, Known, State, rows, row_of, row_from, prepended, and_rows, then_rows, step}
+use Rattle.cfi_rows.specs.FrameRows.{ends_row, with_cfa, with_register, with_offset, take_back, with_rule, without_rule, rule_of, restored}
 use Rattle.cfi_rows.specs.FrameRows.{moved_to, known_after}
 use Rattle.cfi_rows.specs.EntryCounts.{registers_set, cfa_bytes, rule_bytes, bytes_in}
 use Rattle.table_core.proofs.Pigeonhole.{weighed}
@@ -254,8 +253,7 @@ module _ (all : List Instruction) where
       let same : record {
         location = s.location;
         known = record { cfa = s.known.cfa; rules = with_rule r rule s.known.rules };
-        saved =
-            s.saved;
+        saved = s.saved;
       } ≡ t = cc in
       subst (λ (u : State). IsState u) same (record {
         known = record { cfa = h.known.cfa; rules = set_good 0 r rule s.known.rules (omega arith) c h.known.rules };
@@ -264,8 +262,7 @@ module _ (all : List Instruction) where
   step_good initial g (Restore r) c s t h e =
       let same : record {
         location = s.location;
-        known = record
-            { cfa = s.known.cfa; rules = restored r (rule_of r initial) s.known.rules };
+        known = record { cfa = s.known.cfa; rules = restored r (rule_of r initial) s.known.rules };
         saved = s.saved;
       } ≡ t = cc in
       subst (λ (u : State). IsState u) same (record {

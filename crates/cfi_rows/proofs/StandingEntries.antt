@@ -16,9 +16,8 @@ use Rattle.cfi_rows.specs.declared.instruction.Malformed.TheVariants.{Entry}
 use Rattle.cfi_rows.specs.FrameInstructions.{Read, instructions_at, pointer_at, stored_at}
 use Rattle.cfi_rows.specs.FrameRows.{rows, begins}
 use Rattle.cfi_rows.specs.Entries.{Cie, Fde, Frames, RawEntry, Front, Ends, Breaks, Stands, front_of, entry_of, walk, onward}
-use Rattle.cfi_rows.specs.Entries.{walked_entries}
-use Rattle.cfi_rows.specs.Entries.{cie_at, cie_in, cie_place, end_of, entry_named, is_named, is_cie, sound_if, fde_at, fde_sized}
-use Rattle.cfi_rows.specs.Entries.{fde_from, fde_by, fde_after, fde_made, fde_context, size_encoding, table_at, one_cie, one_fde}
+use Rattle.cfi_rows.specs.Entries.{walked_entries, cie_at, cie_in, cie_place, end_of, entry_named, is_named, is_cie, sound_if, fde_at}
+use Rattle.cfi_rows.specs.Entries.{fde_sized, fde_from, fde_by, fde_after, fde_made, fde_context, size_encoding, table_at, one_cie, one_fde}
 use Rattle.cfi_rows.specs.Entries.{frames_from, frames}
 use Rattle.cfi_rows.specs.declared.frame_table.Fde.{Fde as ReadFde}
 use Rattle.cfi_rows.specs.ReadEntries.{fde_of}

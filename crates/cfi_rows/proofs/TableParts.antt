@@ -1,7 +1,6 @@
 -- A table entry by entry.
-use Rattle.std.proofs.Common.{◌≡◌, ◌∙◌, ◌+◌, ◌++◌, ℕ, Bool, false, cond, List, [], ◌∷◌, Result, Ok, Err, Option, Some, None}
-use Rattle.std.proofs.Common.{refl, sym, ap, arith}
-use Rattle.std.proofs.Common.{append_assoc, drop, get_or, length, ◌-◌, ◌<◌}
+use Rattle.std.proofs.Common.{◌≡◌, ◌∙◌, ◌+◌, ◌++◌, ℕ, Bool, false, cond, List, [], ◌∷◌, Result, Ok, Err, Option, Some, None, refl, sym, ap}
+use Rattle.std.proofs.Common.{arith, append_assoc, drop, get_or, length, ◌-◌, ◌<◌}
 use Rattle.std.proofs.lemmas.List.{drop_more}
 use Rattle.std.specs.Prelude.{IsOkAnd, map}
 use Rattle.table_core.specs.ReadSteps.{and_so}
@@ -57,8 +56,7 @@ fde-more : (n : ℕ) (fs : List ReadFde) (e : RawEntry) (more : Frames) (f : Rea
     joined n fs (said (one_fde e r more)) ≡ joined n (fs ++ f ∷ []) (said more)
 fde-more n fs e more f (Ok x) h = λ i. record {
   cies = n + more.cies;
-  list = (ap (λ (y : ReadFde). fs ++ y ∷ map fde_of more.list) (sym h)
-      ∙ sym (append_assoc fs (f ∷ []) (map fde_of more.list))) i;
+  list = (ap (λ (y : ReadFde). fs ++ y ∷ map fde_of more.list) (sym h) ∙ sym (append_assoc fs (f ∷ []) (map fde_of more.list))) i;
   bad = more.bad;
 }
 fde-more n fs e more f (Err x) h = absurd h

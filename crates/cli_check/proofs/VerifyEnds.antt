@@ -11,8 +11,7 @@ use Rattle.cli_base.specs.Printing.{LinePrinted, all_printed, none_printed, pref
 use Rattle.cli_base.specs.World.{World}
 use Rattle.cli_base.specs.declared.status.Status.{Status}
 use Rattle.cli_base.specs.declared.status.Status.TheVariants as status
-use Rattle.cli_check.specs.GivenFiles.{AreBytesGiven, AreGiven, IsUngiven, failed, input, map, map_limit}
-use Rattle.cli_check.specs.GivenFiles.{no_memory as unread_memory}
+use Rattle.cli_check.specs.GivenFiles.{AreBytesGiven, AreGiven, IsUngiven, failed, input, map, map_limit, no_memory as unread_memory}
 use Rattle.cli_check.specs.GivenFiles.{output}
 use Rattle.cli_check.specs.Judged.{Announces, AreFilesGiven, IsJudged}
 use Rattle.cli_check.specs.VerdictLines.{status_of, verdict_line}

@@ -6,9 +6,8 @@ use Rattle.rb_bytes.specs.declared.fault.Fault.{Fault}
 use Rattle.program.specs.Program.{Program}
 use Rattle.cli_base.specs.Served.{IsInputKept}
 use Rattle.cli_base.specs.WrittenFiles.{HoldsFile}
-use Rattle.cli_run.specs.recording.RecordAnswers.{IsRecording, RecordAnswers, RecordServes, RecordsRun}
-use Rattle.cli_run.specs.recording.RecordAnswers.{NoneRoseRecording}
-use Rattle.cli_run.specs.recording.RecordAnswers.{recorded, at_profile, at_closing, stopped}
+use Rattle.cli_run.specs.recording.RecordAnswers.{IsRecording, RecordAnswers, RecordServes, RecordsRun, NoneRoseRecording, recorded}
+use Rattle.cli_run.specs.recording.RecordAnswers.{at_profile, at_closing, stopped}
 use Rattle.cli_run.specs.recording.RecordRuns.{record_machine, record_mode}
 use Rattle.cli_run.specs.run.RunOutcomes.{Ends, HaltsAt, RunsOn}
 use Rattle.cli_run.specs.run.RunAnswers.{at_input, at_output, out_of_memory, under_way, IsRunAnswer, IsExact}
@@ -132,8 +131,7 @@ module _ (args : RecordArgs) (old new : World) where
         done = done;
         completes = λ told other other_is can. record {
           some = λ quiet. said other told other_is can quiet answer done;
-          exactly =
-              other_exact record_mode args.run old new answer file other program (is told) other_is program_is exact;
+          exactly = other_exact record_mode args.run old new answer file other program (is told) other_is program_is exact;
         };
       }
 

@@ -23,8 +23,7 @@ use Rattle.cli_run.specs.recording.Phases as phase
 use Rattle.cli_run.specs.recording.RecordAnswers.{IsAnsweredRecording, RecordsRun, TakesNone, recorded, at_profile, at_closing, stopped}
 use Rattle.cli_run.specs.recording.RecordRuns.{record_machine, moving_steps}
 use Rattle.cli_run.specs.run.RunOutcomes.{Ending, Ends, HaltsAt, RunsOn, Loaded, answer_of, closing_line}
-use Rattle.cli_run.specs.run.RunAnswers.{Taking, ComesOut, out_of_memory, IsCutShort, IsExact, read_fault, write_fault}
-use Rattle.cli_run.specs.run.RunAnswers.{no_memory, outside}
+use Rattle.cli_run.specs.run.RunAnswers.{Taking, ComesOut, out_of_memory, IsCutShort, IsExact, read_fault, write_fault, no_memory, outside}
 use Rattle.cli_run.specs.RunArgs.{RecordArgs}
 use Rattle.cli_base.specs.World.{World}
 use Rattle.cli_base.specs.declared.status.Status.{Status}

@@ -1,6 +1,5 @@
 -- From what the steps of `run` come to, to the answers of the whole, in either mode.
-use Rattle.std.proofs.Common.{◌≡◌, ◌∙◌, ◌<◌, ◌≤◌, ◌⊎◌, sym, ap, subst, inl, inr, ℕ, List, length, Option, Some}
-use Rattle.std.proofs.Common.{None, IsTrue, IsSomeAnd}
+use Rattle.std.proofs.Common.{◌≡◌, ◌∙◌, ◌<◌, ◌≤◌, ◌⊎◌, sym, ap, subst, inl, inr, ℕ, List, length, Option, Some, None, IsTrue, IsSomeAnd}
 use Rattle.std.specs.Prelude.{unwrap_or}
 use Rattle.rb_io.specs.Names.{Unchanged}
 use Rattle.rb_io.specs.Views.{FilesGoOn, SinkSeen}
@@ -19,10 +18,8 @@ use Rattle.program.specs.Refusals.{IsRefusalFor}
 use Rattle.cli_base.specs.Reading.{IsUnread}
 use Rattle.cli_base.specs.Reading as reading
 use Rattle.cli_run.specs.run.RunAnswers.{AnswersRun, StopsRun, came_out, at_input, at_output, at_closing, out_of_memory, stopped}
-use Rattle.cli_run.specs.run.RunAnswers.{HasRunFault, IsUnderWay, FileAnswers, RunAnswers, under_way, refused, at_refusal}
-use Rattle.cli_run.specs.run.RunAnswers.{at_file}
-use Rattle.cli_run.specs.run.RunAnswers.{before_run, IsRunAnswer, IsCutShort, read_fault, no_memory, NoRunErrors, IsExact}
-use Rattle.cli_run.specs.run.RunAnswers.{outside}
+use Rattle.cli_run.specs.run.RunAnswers.{HasRunFault, IsUnderWay, FileAnswers, RunAnswers, under_way, refused, at_refusal, at_file}
+use Rattle.cli_run.specs.run.RunAnswers.{before_run, IsRunAnswer, IsCutShort, read_fault, no_memory, NoRunErrors, IsExact, outside}
 use Rattle.cli_run.specs.run.RunAnswers.{IsComplete, RunCompletes, RunServes}
 use Rattle.cli_run.specs.RunArgs.{RunArgs}
 use Rattle.cli_base.specs.World.{World}

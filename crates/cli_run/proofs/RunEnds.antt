@@ -14,9 +14,8 @@ use Rattle.run_core.specs.StepAnswers.{GivesOutput}
 use Rattle.run_core.proofs.OnlyAnswers.{IsAnswered, only_answer}
 use Rattle.run_core.proofs.Told.{told, told_is, none_told, append_known-nil}
 use Rattle.cli_base.specs.Printing.{all_printed, prefix_printed, none_printed}
-use Rattle.cli_run.specs.run.RunAnswers.{Taking, ComesOut, StopsAnywhere, AnswersRun, StopsRun, came_out, at_input, at_output}
-use Rattle.cli_run.specs.run.RunAnswers.{at_closing, out_of_memory, stopped, IsCutShort, read_fault, write_fault, no_memory}
-use Rattle.cli_run.specs.run.RunAnswers.{IsAnsweredRun, IsExact}
+use Rattle.cli_run.specs.run.RunAnswers.{Taking, ComesOut, StopsAnywhere, AnswersRun, StopsRun, came_out, at_input, at_output, at_closing}
+use Rattle.cli_run.specs.run.RunAnswers.{out_of_memory, stopped, IsCutShort, read_fault, write_fault, no_memory, IsAnsweredRun, IsExact}
 use Rattle.cli_run.specs.run.Phases.{SaysEnding, Closed, status_of}
 use Rattle.cli_run.specs.run.RunOutcomes.{Ending, Ends, HaltsAt, RunsOn, Loaded, answer_of, closing_line, RunsTo}
 use Rattle.cli_base.specs.declared.status.Status.{Status}

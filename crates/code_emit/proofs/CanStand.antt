@@ -50,15 +50,13 @@ same_can : (half : ℕ) (next : Option ℕ) (i : Inst) (n : ℕ) → Decodes hal
 same_can half next i n (inl d) =
     subst (λ (k : ℕ). CanBeEncoded (record { inst = i; bytes = k })) (sym d.two_bytes)
     (record {
-      encodable = λ _ none. none half next
-          (inl (record { is_half = d.is_half; two_bytes = refl; row = d.row }));
+      encodable = λ _ none. none half next (inl (record { is_half = d.is_half; two_bytes = refl; row = d.row }));
       length_is = refl;
     })
 same_can half next i n (inr d) =
     subst (λ (k : ℕ). CanBeEncoded (record { inst = i; bytes = k })) (sym d.four_bytes)
     (record {
-      encodable = λ _ none. none half next
-          (inr (record { is_full = d.is_full; four_bytes = refl; row = d.row }));
+      encodable = λ _ none. none half next (inr (record { is_full = d.is_full; four_bytes = refl; row = d.row }));
       length_is = refl;
     })
 
@@ -294,8 +292,7 @@ kept_can f a p x s rest h = by (target_of p) refl h
     by : (o : Option ℕ) → target_of p ≡ o →
         list_all lands (option_map_or (λ t. record { reach = reach_of p.len p; from = a; to = f t } ∷ []) o [] ++ rest) ≡ true →
         CanBeEncoded (record {
-          inst = option_map_or (λ t. with_distance p.inst (distance (f t) a)) (target_of p)
-              (made_anew f p.addr p.role p.inst);
+          inst = option_map_or (λ t. with_distance p.inst (distance (f t) a)) (target_of p) (made_anew f p.addr p.role p.inst);
           bytes = p.len;
         }) × (list_all lands rest ≡ true)
     by None e h = (rw e (anew_can f s.half s.next p.addr p.inst p.len s.decodes s.low p.role s.suits s.low_role), h)

@@ -11,8 +11,7 @@ use Rattle.rv_encode.specs.InstWords.{Encodes, bytes}
 use Rattle.elf_code.specs.Parts.{halfword_in}
 use Rattle.elf_image.specs.memory.Executables.{Executable, IsCodeByte, memory_of}
 use Rattle.code_emit.specs.NewInsts.{Made}
-use Rattle.code_emit.specs.Bytes.{half_bytes, full_bytes, half_in, StandsIn, AllStandIn, after_made, Adds, CanBeEncoded}
-use Rattle.code_emit.specs.Bytes.{AllCanBeEncoded}
+use Rattle.code_emit.specs.Bytes.{half_bytes, full_bytes, half_in, StandsIn, AllStandIn, after_made, Adds, CanBeEncoded, AllCanBeEncoded}
 use Rattle.code_emit.specs.Bytes.{width_of_bytes}
 use Rattle.code_emit.specs.Output.{HasCode}
 use Rattle.code_emit.proofs.Standing.{HasMade, HasAll}
@@ -76,8 +75,7 @@ stays_in old new o m h keeps s =
     record {
       within = omega (arith, within, h);
       some = some;
-      decodes = λ next is. rw first
-          (s.decodes next (λ four. is four ∙ ap Some (second four)));
+      decodes = λ next is. rw first (s.decodes next (λ four. is four ∙ ap Some (second four)));
     }
   where
     second : m.bytes ≡ 4 → half_in new (o + 2) ≡ half_in old (o + 2)

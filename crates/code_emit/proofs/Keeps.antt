@@ -27,8 +27,7 @@ use Rattle.move_law.specs.FaithfulRewrite.{next, GetsToNext, GoesOn, made_anew, 
 use Rattle.move_law.specs.FaithfulRewrite.{KeepsAction, KeepsInst}
 use Rattle.move_law.proofs.steps.Fetching.{plus_inside}
 use Rattle.branch_fixup.specs.Pieces.{piece_length, bytes_of_size, bytes_of_jump}
-use Rattle.branch_fixup.specs.Endings.{Kept, Branches, LeftOut, end_of_form, begins_at, ending}
-use Rattle.branch_fixup.specs.Endings.{Goes as EndGoes}
+use Rattle.branch_fixup.specs.Endings.{Kept, Branches, LeftOut, end_of_form, begins_at, ending, Goes as EndGoes}
 use Rattle.branch_fixup.specs.Distances.{new_target}
 use Rattle.code_emit.specs.NewInsts.{Made, with_distance, opposite_of, kept, branch_to, added, made}
 use Rattle.code_emit.proofs.Standing.{HasMade, HasAll, has_at, width_is}
@@ -116,8 +115,7 @@ module _ (r : Rewrite) (p : Placed) (f : Form) (fall after : Option â„•) (a : â„
       let width = width_is r.output (out r p.addr) inst bytes there in
       record {
         has = has_at r.output (out r p.addr) inst bytes there;
-        inside =
-            (k, t, within, is, (e, omega (arith, h, fits, width)));
+        inside = (k, t, within, is, (e, omega (arith, h, fits, width)));
       }
 
   -- from where it ends

@@ -97,8 +97,7 @@ lists_none P none =
     record {
       only = λ a (k, within, is). absurd (omega arith);
       each = λ a is. absurd (none a is);
-      ordered = λ i j d less within. absurd
-          (omega arith);
+      ordered = λ i j d less within. absurd (omega arith);
     }
 
 lists_cons : (P : ℕ → Type 0) (x : ℕ) (xs : List ℕ) → ListsNumbers P xs → ((a : ℕ) → P a → x < a) →
@@ -123,8 +122,7 @@ pub lists_append : (P Q : ℕ → Type 0) (xs ys : List ℕ) → ListsNumbers P 
 lists_append P Q xs ys left right less = record {
   only = λ a is_in. ⊎_elim (λ l. inl (left.only a l)) (λ r. inr (right.only a r)) (Contains-append_cases xs ys a is_in);
   each = λ a. ⊎_elim (λ l. Contains-append_left xs ys a (left.each a l)) (λ r. Contains-append_right xs ys a (right.each a r));
-  ordered =
-      pairs_append (λ a b. a < b) xs ys left.ordered right.ordered (λ a b l r. less a b (left.only a l) (right.only b r));
+  ordered = pairs_append (λ a b. a < b) xs ys left.ordered right.ordered (λ a b l r. less a b (left.only a l) (right.only b r));
 }
 
 -- those of one part

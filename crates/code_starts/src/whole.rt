@@ -1,7 +1,6 @@
 // Parts that stay in one piece: those that a range with an exception table names.
 ghost use Rattle.std.specs.Prelude.{◌≡◌, ◌↔◌, ◌⊎◌, ◌+◌, ◌<◌, ◌≤◌, ℕ, ℤ, pos, int_le, ◌≤ℤ◌, ◌<ℤ◌, List, IfOk, IsTrue};
-ghost use Rattle.std.specs.Prelude.{Any, map};
-ghost use Rattle.std.specs.Prelude.{length, slice_index_or};
+ghost use Rattle.std.specs.Prelude.{Any, map, length, slice_index_or};
 ghost use Rattle.elf_image.specs.declared.elf.Elf.{Elf};
 ghost use Rattle.elf_code.specs.Cells.{IsInOneWhole};
 ghost use Rattle.elf_code.specs.FileCode.{AreStarts};

@@ -1,7 +1,6 @@
 -- Which location lists are found at an address.
 use Rattle.std.proofs.Common.{◌≡◌, ◌≢◌, ◌∙◌, ◌+◌, ◌<◌, ◌≤◌, ◌==◌, ◌&&◌, ◌||◌, ◌++◌, ◌∷◌, [], ℕ, zero, suc, Bool, true, false, List, Option}
-use Rattle.std.proofs.Common.{Some, None}
-use Rattle.std.proofs.Common.{refl, sym, ap, arith, length, map, filter, drop, get_or, append_assoc, append-nil}
+use Rattle.std.proofs.Common.{Some, None, refl, sym, ap, arith, length, map, filter, drop, get_or, append_assoc, append-nil}
 use Rattle.std.specs.Prelude.{All, if◌then◌else◌, filter_map, slice_get}
 use Rattle.std.specs.Global.{Vec}
 use Rattle.std.specs.List.{list_any, range_with_len}

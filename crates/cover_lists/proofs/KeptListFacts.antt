@@ -1,7 +1,6 @@
 -- Lists that are kept: what they say.
 use Rattle.std.proofs.Common.{◌≡◌, ◌∙◌, ◌+◌, ◌<◌, ◌≤◌, ◌==◌, ◌&&◌, ◌||◌, ◌++◌, ◌∷◌, [], ℕ, zero, suc, Bool, true, false, List, Option, Some}
-use Rattle.std.proofs.Common.{None}
-use Rattle.std.proofs.Common.{refl, sym, ap, arith, length, map, filter, take, drop, get_or, append_assoc, append-nil}
+use Rattle.std.proofs.Common.{None, refl, sym, ap, arith, length, map, filter, take, drop, get_or, append_assoc, append-nil}
 use Rattle.std.specs.Prelude.{All, filter_map, option_map, slice_get}
 use Rattle.std.specs.Global.{Vec}
 use Rattle.std.specs.List.{list_any, range_with_len}

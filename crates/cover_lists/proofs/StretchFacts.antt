@@ -1,8 +1,7 @@
 -- Stretches of new code, span by span.
 use Rattle.std.proofs.Common.{◌≡◌, ◌∙◌, ◌+◌, ◌<◌, ◌≤◌, ◌∷◌, [], ℕ, zero, suc, Bool, true, false, List, Some, refl, sym, ap, arith, length}
 use Rattle.std.proofs.Common.{filter, get_or}
-use Rattle.std.specs.Prelude.{if◌then◌else◌, nat_le}
-use Rattle.std.specs.Prelude.{option_and_then, nat_lt, ◌&&◌, None}
+use Rattle.std.specs.Prelude.{if◌then◌else◌, nat_le, option_and_then, nat_lt, ◌&&◌, None}
 use Rattle.std.proofs.lemmas.Bool.Decides.{nat_tests}
 use Rattle.table_core.specs.AnswerRuns.{answer_over}
 use Rattle.cover_lists.specs.Stretches.{bounds_before}

@@ -1,7 +1,6 @@
 -- What is kept of location lists: which of their expressions are in force at an address.
 use Rattle.std.specs.Prelude.{◌≡◌, ◌+◌, ◌<◌, ◌≤◌, ℕ, List, [], ◌∷◌, ◌++◌, length, map, filter, filter_map, Option, Some}
-use Rattle.std.specs.Prelude.{flat_map}
-use Rattle.std.specs.Prelude.{option_map, is_some, slice_get}
+use Rattle.std.specs.Prelude.{flat_map, option_map, is_some, slice_get}
 use Rattle.std.specs.Global.{Vec}
 use Rattle.std.specs.List.{range_with_len}
 use Rattle.std.specs.Option.{option_map_or}

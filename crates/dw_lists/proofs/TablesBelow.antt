@@ -5,8 +5,7 @@ use Rattle.std.specs.Prelude.{if◌then◌else◌, nat_le, slice_get}
 use Rattle.std.specs.Option.{option_or}
 use Rattle.std.specs.List.Sorted.{IsNonDecreasingBy}
 use Rattle.std.proofs.lemmas.Option.{slice_get-get_or}
-use Rattle.table_core.specs.DebugUnits.{Walked, walked, units_from, unit_length, is_whole_unit, unit_bytes}
-use Rattle.table_core.specs.DebugUnits.{is_other_version}
+use Rattle.table_core.specs.DebugUnits.{Walked, walked, units_from, unit_length, is_whole_unit, unit_bytes, is_other_version}
 use Rattle.table_core.proofs.UnitsWalk.{behind_front}
 use Rattle.dw_lists.specs.Lists.{table_below}
 

@@ -1,7 +1,6 @@
 -- The faults of the two sections of lists, with those of units: of each the place that is answered.
 use Rattle.std.specs.Prelude.{◌-◌, ◌*◌, ◌==◌, ◌&&◌, ◌||◌, ℕ, Bool, false, not, List, ◌++◌, nat_le, length, drop, map}
-use Rattle.std.specs.Prelude.{filter}
-use Rattle.std.specs.Prelude.{filter_map, Option, is_some, Result, Ok, Err, flat_map, unwrap_or, option_map}
+use Rattle.std.specs.Prelude.{filter, filter_map, Option, is_some, Result, Ok, Err, flat_map, unwrap_or, option_map}
 use Rattle.std.specs.List.{list_any}
 use Rattle.std.specs.Option.{option_or, option_map_or}
 use Rattle.byteorder.specs.Endian.{little_number}

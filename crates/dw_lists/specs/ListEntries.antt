@@ -12,12 +12,11 @@ use Rattle.dw_lists.specs.declared.list_bound.Bound.{Bound}
 use Rattle.dw_lists.specs.declared.list_bound.Bound.TheVariants.{Base, Between, Onward, Offsets, Default}
 use Rattle.dw_lists.specs.declared.list_entry.TheConstants.{DW_RLE_end_of_list, DW_RLE_base_addressx}
 use Rattle.dw_lists.specs.declared.list_entry.TheConstants.{DW_RLE_startx_endx, DW_RLE_startx_length}
-use Rattle.dw_lists.specs.declared.list_entry.TheConstants.{DW_RLE_offset_pair, DW_RLE_base_address}
-use Rattle.dw_lists.specs.declared.list_entry.TheConstants.{DW_RLE_start_end, DW_RLE_start_length}
-use Rattle.dw_lists.specs.declared.list_entry.TheConstants.{DW_LLE_base_addressx, DW_LLE_startx_endx}
-use Rattle.dw_lists.specs.declared.list_entry.TheConstants.{DW_LLE_startx_length, DW_LLE_offset_pair}
-use Rattle.dw_lists.specs.declared.list_entry.TheConstants.{DW_LLE_default_location, DW_LLE_base_address}
-use Rattle.dw_lists.specs.declared.list_entry.TheConstants.{DW_LLE_start_end, DW_LLE_start_length}
+use Rattle.dw_lists.specs.declared.list_entry.TheConstants.{DW_RLE_offset_pair, DW_RLE_base_address, DW_RLE_start_end}
+use Rattle.dw_lists.specs.declared.list_entry.TheConstants.{DW_RLE_start_length, DW_LLE_base_addressx}
+use Rattle.dw_lists.specs.declared.list_entry.TheConstants.{DW_LLE_startx_endx, DW_LLE_startx_length}
+use Rattle.dw_lists.specs.declared.list_entry.TheConstants.{DW_LLE_offset_pair, DW_LLE_default_location}
+use Rattle.dw_lists.specs.declared.list_entry.TheConstants.{DW_LLE_base_address, DW_LLE_start_end, DW_LLE_start_length}
 
 -- an entry; its expression is empty where it has none
 pub record Item : Type 0 where

@@ -1,7 +1,6 @@
 -- How lists are read: entry by entry, with the base address that is in force.
 use Rattle.std.specs.Prelude.{◌≡◌, ◌+◌, ◌*◌, ℕ, suc, List, [], ◌∷◌, ◌++◌, Option, Some, None, option_map}
-use Rattle.std.specs.Prelude.{option_and_then}
-use Rattle.std.specs.Prelude.{Result, Ok, Err}
+use Rattle.std.specs.Prelude.{option_and_then, Result, Ok, Err}
 use Rattle.dw_unit.specs.declared.trouble.Trouble.{Trouble}
 use Rattle.dw_unit.specs.CompUnits.{number_in}
 use Rattle.dw_lists.specs.declared.list_kind.ListKind.{ListKind}

@@ -16,8 +16,7 @@ use Rattle.dw_lists.specs.declared.list_bound.Address.{Address}
 use Rattle.dw_lists.specs.declared.list_bound.Address.TheVariants.{Here, Index}
 use Rattle.dw_lists.specs.declared.list_bound.Bound.{Bound}
 use Rattle.dw_lists.specs.declared.list_bound.Bound.TheVariants.{Base, Between, Onward, Offsets, Default}
-use Rattle.dw_lists.specs.ListEntries.{Item}
-use Rattle.dw_lists.specs.ListEntries.{range_item, location_item, items_within}
+use Rattle.dw_lists.specs.ListEntries.{Item, range_item, location_item, items_within}
 use Rattle.cover_lists.specs.Located.{Located}
 
 abbrev pub resolved : (ℕ → Option ℕ) → Address → Option ℕ
@@ -69,8 +68,7 @@ locations_kind =
       item = location_item;
       base_name = DW_AT_loclists_base;
       index_form = DW_FORM_loclistx;
-      names_list =
-          is_located;
+      names_list = is_located;
     }
 
 abbrev pub has_list : Kind → Attr → Bool

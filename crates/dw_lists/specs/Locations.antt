@@ -1,6 +1,5 @@
 -- Which expressions are in force at an address. DWARF 5, section 2.6.
-use Rattle.std.specs.Prelude.{ℕ, List, [], ◌∷◌, ◌++◌, if◌then◌else◌, map, Ok}
-use Rattle.std.specs.Prelude.{Err, flat_map}
+use Rattle.std.specs.Prelude.{ℕ, List, [], ◌∷◌, ◌++◌, if◌then◌else◌, map, Ok, Err, flat_map}
 use Rattle.std.specs.Global.{Vec}
 use Rattle.std.specs.Option.{option_map_or}
 use Rattle.rb_bytes.specs.Readers.{bytes_at, number_read, and_then}

@@ -30,8 +30,7 @@ module _ (m : Moves) where
   abbrev first_patch : ℕ → List ℕ → Patch
   first_patch place left = record {
     place = place;
-    bytes = little_bytes 8
-        (unwrap_or (moved_address m (little_number 8 left)) (little_number 8 left));
+    bytes = little_bytes 8 (unwrap_or (moved_address m (little_number 8 left)) (little_number 8 left));
   }
 
   nil_of : (xs : List ℕ) → length xs ≡ 0 → xs ≡ []

@@ -1,6 +1,5 @@
 -- Attributes that are read stand one behind another.
-use Rattle.std.proofs.Common.{◌≡◌, ◌≤◌, ◌+◌, ◌-◌, ◌++◌, ◌∙◌, ℕ, List, [], ◌∷◌, Ok, Err, refl, ap, sym, subst, arith, length}
-use Rattle.std.proofs.Common.{length-append}
+use Rattle.std.proofs.Common.{◌≡◌, ◌≤◌, ◌+◌, ◌-◌, ◌++◌, ◌∙◌, ℕ, List, [], ◌∷◌, Ok, Err, refl, ap, sym, subst, arith, length, length-append}
 use Rattle.table_core.specs.AttributeForms.{shape_of}
 use Rattle.table_core.proofs.Numbers.{same_value, same_left}
 use Rattle.dw_unit.specs.declared.declaration.Spec.{Spec}

@@ -293,8 +293,7 @@ module _ (m : Moves) (own first : Bool) (e : Entry) (addr new_addr : List ℕ) (
     form = a.form;
     place = a.place;
     len = a.len;
-    value = unwrap_or
-        (new_list_offset m.lists e.place 85) 0;
+    value = unwrap_or (new_list_offset m.lists e.place 85) 0;
   }) (a.len == 8)
   changed_by a false f = and_from (is_sound_attr new_addr v (one a)) true (one_sound a ∙ f) refl
 

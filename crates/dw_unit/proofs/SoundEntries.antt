@@ -18,8 +18,7 @@ use Rattle.dw_unit.specs.declared.trouble.Trouble.TheVariants.{NoForm}
 use Rattle.table_core.specs.ReadSteps.{and_so}
 use Rattle.dw_unit.specs.Trouble.{Read, when, sound_if}
 use Rattle.dw_unit.specs.Declarations.{Declaration, table_at, is_named, has_spec, has_bad_high, is_low, is_high_form}
-use Rattle.dw_unit.specs.CompUnits.{Entry, Unit, UnitBounds, Sections, attr, attr_at, attrs_at, form_within, address_of, address_at}
-use Rattle.dw_unit.specs.CompUnits.{low_pc}
+use Rattle.dw_unit.specs.CompUnits.{Entry, Unit, UnitBounds, Sections, attr, attr_at, attrs_at, form_within, address_of, address_at, low_pc}
 use Rattle.dw_unit.specs.CompUnits.{may_repeat, are_named_once, end_of, units}
 use Rattle.dw_unit.specs.Faults.{HasDwarfFault, unit_fault_places, is_sound_attr, is_sound_unit, declarations_of}
 use Rattle.dw_unit.specs.Walking.{unit_bounds}

@@ -96,8 +96,7 @@ module _ (name form : ℕ) (name_small : name < 2 ^ 64) (form_small : form < 2 ^
         form = form_small;
         implicit = subst (λ (k : ℕ). k < 2 ^ 64) g (omega arith);
         some = zeros;
-        none = λ f.
-            sym g;
+        none = λ f. sym g;
       }
 
   by_read : (r : Read ℕ) (left rest : List ℕ) (s : Spec) → implicit_at form left ≡ r →

@@ -199,8 +199,7 @@ module _ (own : Declaration → Bool) where
         code = d.code;
         tag = d.tag;
         children = d.children;
-        specs =
-            changed_specs (own d) d;
+        specs = changed_specs (own d) d;
       } in
       let left_is : bytes_of_table (d ∷ ds) ++ (0 ∷ rest) ≡ left = append_assoc (declaration_bytes (own d) d) (bytes_of_table ds)
       (0 ∷ rest) in
@@ -228,8 +227,7 @@ module _ (own : Declaration → Bool) where
       record {
         d = n;
         is = ap (λ (b : Bool). if b then Some n else find (λ d. d.code == code) new) f;
-        changed = subst
-            (λ (x : Declaration). IsChangedDeclaration x n) same c;
+        changed = subst (λ (x : Declaration). IsChangedDeclaration x n) same c;
       } where
         or_old : Declaration → Option Declaration → Declaration
         or_old o (Some x) = x

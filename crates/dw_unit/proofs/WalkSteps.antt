@@ -1,7 +1,6 @@
 -- Steps of walks over attributes, entries and units that are written.
-use Rattle.std.proofs.Common.{◌≡◌, ◌<◌, ◌≤◌, ◌+◌, ◌++◌, ◌∙◌, ℕ, zero, suc, List, [], ◌∷◌, Option, Some, None, Ok, Err, Result}
-use Rattle.std.proofs.Common.{IfOk, IfSome, MatchOption, refl, ap, sym, subst, arith, length, drop, map, get_or}
-use Rattle.std.proofs.Common.{append_assoc}
+use Rattle.std.proofs.Common.{◌≡◌, ◌<◌, ◌≤◌, ◌+◌, ◌++◌, ◌∙◌, ℕ, zero, suc, List, [], ◌∷◌, Option, Some, None, Ok, Err, Result, IfOk, IfSome}
+use Rattle.std.proofs.Common.{MatchOption, refl, ap, sym, subst, arith, length, drop, map, get_or, append_assoc}
 use Rattle.std.proofs.lemmas.List.{drop_more}
 use Rattle.std.specs.Prelude.{flat_map}
 use Rattle.table_core.proofs.Numbers.{same_value, same_left}

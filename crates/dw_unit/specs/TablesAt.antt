@@ -7,6 +7,5 @@ use Rattle.dw_unit.specs.Told.{told_declaration}
 abbrev pub told_at : TableAt → Table
 told_at t = record {
   list = drop t.index (map told_declaration t.table.now.table.list.items);
-  end =
-      t.table.now.table.end;
+  end = t.table.now.table.end;
 }

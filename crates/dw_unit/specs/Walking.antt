@@ -15,8 +15,7 @@ walked_entry u place depth d attrs = record {
   unit = u.place;
   depth = depth;
   declaration = d;
-  attrs =
-      attrs;
+  attrs = attrs;
 }
 
 abbrev pub unit_bounds : ℕ → ℕ → Table → UnitBounds

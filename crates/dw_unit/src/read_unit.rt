@@ -37,8 +37,7 @@ fn unread(trouble: Trouble) -> UnitReading
       bad_form = None;
       bad_high = None;
       unformed = least (unformed (Err trouble));
-      entries =
-          None;
+      entries = None;
     } }
 {
     UnitReading {

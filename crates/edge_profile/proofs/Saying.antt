@@ -48,8 +48,7 @@ module _ (names : FunctionNames) (funcs : List Func) (text left rest line : List
         append_assoc counted (p ∷ []) (filter_map f (lines rest))
         ∙ ap (λ o. counted ++ cons_option o (filter_map f (lines rest))) (is symbols are)
         ∙ ap (λ ls. counted ++ filter_map f ls) (sym next) ∙ was.counted_is symbols are;
-    ignored_is = λ symbols are.
-        ap (λ n. ignored + n) (sym (counted_one symbols are)) ∙ was.ignored_is symbols are;
+    ignored_is = λ symbols are. ap (λ n. ignored + n) (sym (counted_one symbols are)) ∙ was.ignored_is symbols are;
     few =
         let more = length-append counted (p ∷ []) in
         let bound = was.few in

@@ -1,7 +1,6 @@
 -- Blocks that lie apart, and which of them has an instruction.
 use Rattle.std.specs.Prelude.{◌≡◌, ◌⊎◌, ◌<◌, ◌≤◌, ◌+◌, ◌==◌, ◌&&◌, ◌||◌, ℕ, Bool, false, List, Option, Some, None, All}
-use Rattle.std.specs.Prelude.{AllPairs}
-use Rattle.std.specs.Prelude.{length, nat_lt, nat_le, slice_index, slice_index_or, slice_set}
+use Rattle.std.specs.Prelude.{AllPairs, length, nat_lt, nat_le, slice_index, slice_index_or, slice_set}
 use Rattle.rv_code.specs.declared.placed.Func.{Func}
 use Rattle.rv_code.specs.declared.placed.Block.{Block}
 use Rattle.edge_profile.specs.Weights.{insts_of_block, starts_at}

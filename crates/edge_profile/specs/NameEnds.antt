@@ -1,7 +1,6 @@
 -- Names that are looked up from their ends: each is written backwards, so that those with one end begin alike.
 use Rattle.std.specs.Prelude.{◌≡◌, ◌<◌, ◌≤◌, ◌==◌, ℕ, zero, suc, false, List, [], ◌∷◌, ◌++◌, Option, Some, None}
-use Rattle.std.specs.Prelude.{option_map}
-use Rattle.std.specs.Prelude.{if◌then◌else◌, length, take, reverse, slice_index_or, bytes_eq, Vec}
+use Rattle.std.specs.Prelude.{option_map, if◌then◌else◌, length, take, reverse, slice_index_or, bytes_eq, Vec}
 use Rattle.std.specs.Ordering.{is_lt, nat_cmp}
 use Rattle.std.specs.Cmp.Lexicographic.{slice_cmp}
 use Rattle.std.specs.declared.alloc.Global.{Global}

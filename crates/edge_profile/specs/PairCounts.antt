@@ -1,7 +1,6 @@
 -- Which line names which pair of instructions, and the counts of pairs.
 use Rattle.std.specs.Prelude.{◌≡◌, ◌<◌, ℕ, ◌==◌, ◌&&◌, Bool, List, Option, Some, None, is_none, if◌then◌else◌, sum_by}
-use Rattle.std.specs.Prelude.{count_by}
-use Rattle.std.specs.Prelude.{filter_map, option_and_then}
+use Rattle.std.specs.Prelude.{count_by, filter_map, option_and_then}
 use Rattle.rv_code.specs.declared.placed.Func.{Func}
 use Rattle.rv_code.specs.layout.Lists.{ListsAll, IsPairBefore}
 use Rattle.elf_image.specs.declared.elf.Elf.{Elf}

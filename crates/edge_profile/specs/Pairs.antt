@@ -1,7 +1,6 @@
 -- Lists of counts, merged.
 use Rattle.std.specs.Prelude.{◌≡◌, ◌⊎◌, ◌+◌, ◌*◌, ◌^◌, ◌<◌, ◌≤◌, ◌==◌, ◌&&◌, ◌||◌, ℕ, Bool, true, false, List, All}
-use Rattle.std.specs.Prelude.{AllPairs}
-use Rattle.std.specs.Prelude.{if◌then◌else◌, ◌-◌, not, nat_lt, length, slice_index_or}
+use Rattle.std.specs.Prelude.{AllPairs, if◌then◌else◌, ◌-◌, not, nat_lt, length, slice_index_or}
 use Rattle.edge_profile.specs.PairCounts.{Counted, count_among, is_pair, total_count, IsCountedBefore}
 
 -- a pair is not after another

@@ -1,8 +1,7 @@
 // A line of a profile: its fields, and what they say.
 ghost use Rattle.std.specs.Prelude.{◌≡◌, ◌≢◌, ◌∷◌, [], IfSome, IfNone, length, option_map, bytes_eq};
 ghost use Rattle.edge_profile.specs.Grammar.{fields, branch_line};
-ghost use Rattle.edge_profile.specs.Fields.{line_read, place_read};
-ghost use Rattle.edge_profile.specs.Fields.{fields_in, list_of_eight, named_place_of};
+ghost use Rattle.edge_profile.specs.Fields.{line_read, place_read, fields_in, list_of_eight, named_place_of};
 
 use crate::split::split_once;
 use rb_bytes::number::{decimal_number, hex_number};

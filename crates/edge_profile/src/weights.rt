@@ -1,7 +1,6 @@
 // How often blocks run.
 ghost use Rattle.std.specs.Prelude.{◌≡◌, ◌+◌, ◌*◌, ◌<◌, ◌≤◌, ◌^◌, ◌&&◌, ◌||◌, ℕ, IfOk, IfSome, Some, true, false};
-ghost use Rattle.std.specs.Prelude.{if◌then◌else◌};
-ghost use Rattle.std.specs.Prelude.{IsTrue, length, map, not, slice_index, slice_index_or, sum};
+ghost use Rattle.std.specs.Prelude.{if◌then◌else◌, IsTrue, length, map, not, slice_index, slice_index_or, sum};
 ghost use Rattle.rv_code.specs.declared.placed.Block.{Block};
 ghost use Rattle.rv_code.specs.layout.FunctionLists.{AreLaidOut};
 ghost use Rattle.edge_profile.specs.BlockPlaces.{AreBlocksApart, IsHolder, begins_by, ends_from, has_inst, is_place};

@@ -9,8 +9,7 @@ use Rattle.run_core.specs.Inputs.{Outside, MayCome}
 use Rattle.run_core.specs.Runs.{steps_done}
 use Rattle.run_core.specs.StepAnswers.{StepAnswers, StepGoes, StepStops}
 use Rattle.run_core.proofs.Told.{as_told-prepend, told, told_before, told_bytes, told_is, told_may_come}
-use Rattle.run_core.proofs.Walking.{Walk, ends_run, fails_at_read, fails_at_write, halts_run, may_before, no_step, step_more}
-use Rattle.run_core.proofs.Walking.{steps_up}
+use Rattle.run_core.proofs.Walking.{Walk, ends_run, fails_at_read, fails_at_write, halts_run, may_before, no_step, step_more, steps_up}
 use Rattle.rv_code.specs.declared.cause.Cause.{Cause}
 use Rattle.rv_code.specs.machine.DeterminedRuns.{HasOneOutcome}
 use Rattle.rv_code.specs.machine.Machine.{Ended, Halts}

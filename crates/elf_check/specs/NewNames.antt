@@ -1,8 +1,7 @@
 -- The tables of names of a written file: those that were there, and behind them the names that are added.
 -- gABI, "String Table".
 use Rattle.std.specs.Prelude.{◌≡◌, ◌≢◌, ℕ, ◌==◌, ◌&&◌, nat_lt, if◌then◌else◌, is_some, Bool, List, Option, [], ◌∷◌}
-use Rattle.std.specs.Prelude.{◌++◌, IfSome, String, Vec}
-use Rattle.std.specs.Prelude.{codes, flat_map, length, slice_get}
+use Rattle.std.specs.Prelude.{◌++◌, IfSome, String, Vec, codes, flat_map, length, slice_get}
 use Rattle.std.specs.Option.{option_map_or}
 use Rattle.rv_code.specs.declared.placed.Func.{Func}
 use Rattle.elf_image.specs.declared.elf.Elf.{Elf}

@@ -1,7 +1,6 @@
 -- The symbols of a written file, beside those of its input. gABI, "Symbol Table".
 use Rattle.std.specs.Prelude.{◌≡◌, ℕ, ◌+◌, ◌*◌, ◌==◌, is_some, min, if◌then◌else◌, List, Some, IsFalse, IsTrue}
-use Rattle.std.specs.Prelude.{MatchOption, IfSome}
-use Rattle.std.specs.Prelude.{length, filter, take, drop}
+use Rattle.std.specs.Prelude.{MatchOption, IfSome, length, filter, take, drop}
 use Rattle.addr_map.specs.declared.span.Span.{Span}
 use Rattle.addr_map.specs.Spans.{moved}
 use Rattle.elf_image.specs.declared.elf.Elf.{Elf}

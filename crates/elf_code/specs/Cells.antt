@@ -1,8 +1,7 @@
 -- Code cells: the data fields that hold a code address, or a difference of labels of which one is a code address.
 -- psABI, "Relocations".
 use Rattle.std.specs.Prelude.{◌≡◌, ◌⊎◌, ℕ, ◌+◌, ◌/◌, ◌<◌, ◌==◌, ◌&&◌, ◌||◌, ℤ, pos, ◌≤ℤ◌, ◌<ℤ◌, if◌then◌else◌, Bool}
-use Rattle.std.specs.Prelude.{true, false}
-use Rattle.std.specs.Prelude.{IsTrue, IsSome, IfSome, List, Option, Some, Contains}
+use Rattle.std.specs.Prelude.{true, false, IsTrue, IsSome, IfSome, List, Option, Some, Contains}
 use Rattle.std.specs.List.{count_by}
 use Rattle.rv_code.specs.declared.cell.CodeCell.{CodeCell}
 use Rattle.rv_code.specs.declared.cell.CellKind.{CellKind}
@@ -13,8 +12,7 @@ use Rattle.elf_image.specs.memory.LoadedBytes.{file_offset, IsInHeaders}
 use Rattle.elf_code.specs.LoadedNumbers.{loaded_number}
 use Rattle.elf_code.specs.Parts.{IsStart, IsWholePart}
 use Rattle.elf_code.specs.Relocations.{Relocation, relocations, label, is_address, is_pc_difference, is_add, Width}
-use Rattle.elf_code.specs.Relocations.{Bits}
-use Rattle.elf_code.specs.Relocations.{Uleb128, plus_width, minus_width}
+use Rattle.elf_code.specs.Relocations.{Bits, Uleb128, plus_width, minus_width}
 use Rattle.elf_code.specs.Roles.{PcrelHiTo}
 
 -- Differences.

@@ -1,8 +1,7 @@
 -- The fields to which relocations apply: how many bytes they have, and what numbers they hold. psABI, "Relocations",
 -- "Field Symbols"; DWARF 5, section 7.6, for numbers in LEB128.
 use Rattle.std.specs.Prelude.{◌≡◌, ◌⊎◌, ℕ, zero, suc, ◌+◌, ◌-◌, ◌/◌, ◌%◌, ◌^◌, ◌≤◌, ℤ, pos, ◌-ℤ◌, ◌==◌, ◌||◌}
-use Rattle.std.specs.Prelude.{if◌then◌else◌}
-use Rattle.std.specs.Prelude.{IsTrue, IsSomeAnd, List, [], ◌∷◌, Option, Some, None, length, option_map}
+use Rattle.std.specs.Prelude.{if◌then◌else◌, IsTrue, IsSomeAnd, List, [], ◌∷◌, Option, Some, None, length, option_map}
 use Rattle.std.specs.Int.{int_rem_euclid}
 use Rattle.rb_bytes.specs.Leb.{is_last, low_bits, high_bits}
 use Rattle.elf_image.specs.declared.elf.Elf.{Elf}

@@ -11,8 +11,7 @@ use Rattle.rv_code.specs.layout.Flow.{target, falls}
 use Rattle.rv_code.specs.layout.ProgramCode.{RoleNames, CellNames}
 use Rattle.elf_image.specs.declared.elf.Elf.{Elf}
 use Rattle.elf_code.specs.Parts.{IsPart, IsCovered, IsCodePart, IsWholePart, StartsIn, HasValidInst, IsInstAt}
-use Rattle.elf_code.specs.Parts.{halfword_at}
-use Rattle.elf_code.specs.Parts.{length_at}
+use Rattle.elf_code.specs.Parts.{halfword_at, length_at}
 use Rattle.elf_code.specs.Roles.{HasRole, RoleIs}
 use Rattle.elf_code.specs.Cells.{IsCell}
 

@@ -1,8 +1,7 @@
 -- The parts of executable sections that can be functions, and the instructions in them. A part goes from one
 -- cut to the next.
 use Rattle.std.specs.Prelude.{◌≡◌, ◌≢◌, ℕ, ◌+◌, ◌*◌, ◌%◌, ◌<◌, ◌≤◌, ◌==◌, if◌then◌else◌, List, Option, Some, IsTrue}
-use Rattle.std.specs.Prelude.{Any}
-use Rattle.std.specs.Prelude.{unwrap_or}
+use Rattle.std.specs.Prelude.{Any, unwrap_or}
 use Rattle.rv_code.specs.declared.inst.Inst.{Inst}
 use Rattle.rv_code.specs.isa.InstBytes.{Decodes}
 use Rattle.elf_image.specs.declared.elf.Elf.{Elf}

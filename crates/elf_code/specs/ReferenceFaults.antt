@@ -1,13 +1,11 @@
 -- At which places the references of a file have a fault: relocations, the code that they speak of, and what says that
 -- a file selects its routines itself or was rewritten before.
 use Rattle.std.specs.Prelude.{◌≡◌, ◌≢◌, ◌⊎◌, ℕ, ◌%◌, ◌≤◌, ℤ, pos, ◌≤ℤ◌, IsTrue, IsFalse, IsSome, IsSomeAnd, true}
-use Rattle.std.specs.Prelude.{nat_eq, codes}
-use Rattle.std.specs.Prelude.{List, Some, Any, length, slice_get}
+use Rattle.std.specs.Prelude.{nat_eq, codes, List, Some, Any, length, slice_get}
 use Rattle.std.specs.List.{starts_with}
 use Rattle.rb_bytes.specs.declared.fault.FaultKind.{FaultKind}
 use Rattle.rb_bytes.specs.declared.fault.FaultKind.TheVariants.{RelocType, RelocMismatch, LoMismatch, NarrowDiff}
-use Rattle.rb_bytes.specs.declared.fault.FaultKind.TheVariants.{IfuncOrPlt}
-use Rattle.rb_bytes.specs.declared.fault.FaultKind.TheVariants.{AlreadyMoved}
+use Rattle.rb_bytes.specs.declared.fault.FaultKind.TheVariants.{IfuncOrPlt, AlreadyMoved}
 use Rattle.rv_code.specs.isa.HiLo.{hi20, lo12}
 use Rattle.rv_code.specs.declared.inst.Inst.{Inst}
 use Rattle.rv_code.specs.declared.inst.Inst.TheVariants.{Auipc, Lui}

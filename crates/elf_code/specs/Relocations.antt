@@ -1,8 +1,7 @@
 -- The relocations of a file that count, and what they say: those of loaded sections other than .eh_frame.
 -- gABI, "Relocation"; psABI, "Relocations".
 use Rattle.std.specs.Prelude.{◌≡◌, ℕ, zero, suc, ℤ, pos, ◌+ℤ◌, ◌+◌, ◌/◌, ◌==◌, ◌&&◌, ◌||◌, not, nat_le, if◌then◌else◌}
-use Rattle.std.specs.Prelude.{Bool, List}
-use Rattle.std.specs.Prelude.{[], ◌∷◌, Option, Some, None, slice_get, flat_map, codes, Contains}
+use Rattle.std.specs.Prelude.{Bool, List, [], ◌∷◌, Option, Some, None, slice_get, flat_map, codes, Contains}
 use Rattle.std.specs.Option.{option_map_or}
 use Rattle.std.specs.Str.{bytes_eq}
 use Rattle.rv_code.specs.isa.TwosComplement.{signed64}

@@ -2,8 +2,7 @@
 -- psABI, "Relocations": "Procedure Calls", "PC-Relative Symbol Addresses", "Absolute Addresses". Only four-byte
 -- instructions have roles.
 use Rattle.std.specs.Prelude.{◌≡◌, ◌≢◌, ◌⊎◌, ℕ, ◌+◌, ◌<◌, ◌≤◌, ℤ, pos, ◌+ℤ◌, ◌*ℤ◌, ◌==◌, ◌||◌, if◌then◌else◌, IsTrue}
-use Rattle.std.specs.Prelude.{IsSome}
-use Rattle.std.specs.Prelude.{Option, Some, None, Contains}
+use Rattle.std.specs.Prelude.{IsSome, Option, Some, None, Contains}
 use Rattle.rv_code.specs.declared.inst.Inst.{Inst}
 use Rattle.rv_code.specs.declared.inst.Inst.TheVariants.{Auipc, Jalr, Lui}
 use Rattle.rv_code.specs.declared.op.Op.TheVariants as op

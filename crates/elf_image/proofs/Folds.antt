@@ -1,6 +1,5 @@
 -- The lowest of what a function gives at each index, one more index at a time; and the lowest place, where it gives that of each.
-use Rattle.std.proofs.Common.{◌≡◌, subst, sym, refl, ℕ, ◌+◌, ◌≤◌, ◌<◌, ⊎_elim, Option, Some, None, min, IfSome, IsSomeAnd, arith}
-use Rattle.std.proofs.Common.{rules}
+use Rattle.std.proofs.Common.{◌≡◌, subst, sym, refl, ℕ, ◌+◌, ◌≤◌, ◌<◌, ⊎_elim, Option, Some, None, min, IfSome, IsSomeAnd, arith, rules}
 use Rattle.std.proofs.lemmas.Bool.{cases_lt}
 use Rattle.elf_image.specs.faults.LowestPlace.{IsLowest, SomeBelow, lower}
 use Rattle.elf_image.specs.internal.Folds.{IsLowestOf}

@@ -3,8 +3,7 @@ use Rattle.std.proofs.Common.{◌≡◌, ◌≢◌, ◌∙◌, sym, inl, inr, �
 use Rattle.std.proofs.Common.{Option, Some, None, nat_le, if◌then◌else◌, subst, ap, arith}
 use Rattle.std.proofs.lemmas.Bool.{eq-eqb}
 use Rattle.std.proofs.lemmas.Bool.Decides.{nat_tests, eqb_tells}
-use Rattle.elf_image.specs.faults.Truncation.{HasSymbolNames, IsUnnamedSymbol, IsUnnamedSymbolOf, HasHeader, IsTruncatedBeyond}
-use Rattle.elf_image.specs.faults.Truncation.{IsTruncated}
+use Rattle.elf_image.specs.faults.Truncation.{HasSymbolNames, IsUnnamedSymbol, IsUnnamedSymbolOf, HasHeader, IsTruncatedBeyond, IsTruncated}
 use Rattle.elf_image.specs.file.StringTables.{IsUnended}
 use Rattle.elf_image.specs.internal.TextEnds.{IsLastEnd}
 use Rattle.elf_image.specs.faults.LowestPlace.{IsLowest, SomeBelow}

@@ -41,8 +41,7 @@ use Rattle.elf_make.proofs.HiddenBytes.{hides-e_shoff, hides-e_shnum, hides-e_ph
 use Rattle.elf_make.proofs.HiddenBytes.{changed-cell, changed-e_entry}
 use Rattle.elf_make.proofs.LaidOut.{fit-above, stretch-within}
 use Rattle.elf_make.proofs.LeftBytes.{leaves-number, number-left, leaves-elsewhere, leaves-table}
-use Rattle.elf_make.proofs.MadeHeaders.{joined, headers, written-is, cells-within, with_cells-size, headers-within}
-use Rattle.elf_make.proofs.MadeHeaders.{segments-written}
+use Rattle.elf_make.proofs.MadeHeaders.{joined, headers, written-is, cells-within, with_cells-size, headers-within, segments-written}
 use Rattle.elf_make.proofs.MadeInput.{moved-none, input-once, file-once, offset-tight, tight-is, by-tight, from-is, found-file}
 use Rattle.elf_make.proofs.MadeInput.{parts-behind, keep-behind}
 use Rattle.elf_make.proofs.Loads.{moved-before}

@@ -8,8 +8,7 @@ use Rattle.std.proofs.lemmas.Nat.{div-add-mod', mod_below}
 use Rattle.elf_image.specs.declared.segment.Segment.{Segment}
 use Rattle.elf_image.specs.declared.segment.TheConstants.{PT_LOAD, PF_W}
 use Rattle.elf_image.specs.memory.Image.{is_load, end_of, has_memory, has_flag}
-use Rattle.elf_image.specs.memory.Break.{writable_end, break_start, break_bound, break_room, page_size, rounded_down}
-use Rattle.elf_image.specs.memory.Break.{rounded_up}
+use Rattle.elf_image.specs.memory.Break.{writable_end, break_start, break_bound, break_room, page_size, rounded_down, rounded_up}
 use Rattle.elf_plan.specs.declared.area.Area.{Area}
 use Rattle.elf_plan.specs.NewSegments.{IsRenewed, AreRenewed, AreNewHeaders, grows_at, inserted, area_segment}
 use Rattle.file_room.specs.Room.{greatest_align, highest_end, break_end, new_segment_start}

@@ -1,7 +1,6 @@
 -- What a written file has of its input's memory, and what else it has there.
 use Rattle.std.specs.Prelude.{◌≡◌, ◌⊎◌, ℕ, ◌+◌, ◌<◌, ◌≤◌, Bool, List, Contains, Some, IsTrue, IsFalse, IsSome}
-use Rattle.std.specs.Prelude.{slice_index}
-use Rattle.std.specs.Prelude.{length}
+use Rattle.std.specs.Prelude.{slice_index, length}
 use Rattle.elf_image.specs.declared.segment.Segment.{Segment}
 use Rattle.elf_image.specs.memory.Image.{image_byte, is_load, is_loaded_with}
 

@@ -1,7 +1,6 @@
 -- Code cells as numbers that are put over the bytes of a file.
 use Rattle.std.specs.Prelude.{◌≡◌, ℕ, zero, suc, ◌+◌, ◌-◌, ◌/◌, ◌%◌, ◌<◌, ◌≤◌, nat_le, if◌then◌else◌, Bool, false, List}
-use Rattle.std.specs.Prelude.{[], ◌∷◌}
-use Rattle.std.specs.Prelude.{flat_map, length, min, IsSomeAnd, slice_index_or}
+use Rattle.std.specs.Prelude.{[], ◌∷◌, flat_map, length, min, IsSomeAnd, slice_index_or}
 use Rattle.std.specs.Option.{option_map_or}
 use Rattle.elf_image.specs.declared.elf.Elf.{Elf}
 use Rattle.elf_image.specs.declared.segment.Segment.{Segment}

@@ -10,8 +10,7 @@ use Rattle.addr_map.specs.Spans.{IsStretch}
 use Rattle.elf_image.specs.memory.HiddenFields.{is_hidden_field, is_in_entry_field}
 use Rattle.elf_plan.specs.declared.area.Area.{Area}
 use Rattle.elf_plan.specs.Area.{area_of}
-use Rattle.file_room.specs.Room.{area_start_of}
-use Rattle.file_room.specs.Room.{room, room_above}
+use Rattle.file_room.specs.Room.{area_start_of, room, room_above}
 use Rattle.elf_plan.specs.TableSizes.{table_size}
 
 pub record Source : Type 0 where

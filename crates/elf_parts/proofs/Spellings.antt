@@ -3,8 +3,7 @@ use Rattle.std.proofs.Common.{◌≡◌, ◌∙◌, sym, ap, subst, refl, ℕ, z
 use Rattle.std.proofs.Common.{length, take, drop, get_or, arith, length-append}
 use Rattle.std.specs.Prelude.{All}
 use Rattle.std.proofs.Math.Seq.{drop-append-add}
-use Rattle.std.proofs.lemmas.List.{append-nil, append_assoc}
-use Rattle.std.proofs.lemmas.List.{get_or_append_left, get_or-append_right}
+use Rattle.std.proofs.lemmas.List.{append-nil, append_assoc, get_or_append_left, get_or-append_right}
 use Rattle.byteorder.specs.Endian.{little_number, little_bytes}
 use Rattle.byteorder.specs.Numbers.{length-bytes_low_first, little_number-reads_back}
 use Rattle.elf_image.specs.declared.segment.Segment.{Segment}
@@ -13,9 +12,8 @@ use Rattle.elf_image.specs.declared.section.SectionHeader.{SectionHeader}
 use Rattle.elf_image.specs.file.Header.{number_at, segment_at, segments_from}
 use Rattle.elf_parts.specs.declared.spell.SymbolEntry.{SymbolEntry}
 use Rattle.elf_parts.specs.Patches.{Stands}
-use Rattle.elf_parts.specs.Spellings.{Number, number, spelled, segment_bytes}
-use Rattle.elf_parts.specs.Spellings.{section_header_bytes}
-use Rattle.elf_parts.specs.Spellings.{symbol_entry_bytes, SegmentFits, segment_table, section_table}
+use Rattle.elf_parts.specs.Spellings.{Number, number, spelled, segment_bytes, section_header_bytes, symbol_entry_bytes, SegmentFits}
+use Rattle.elf_parts.specs.Spellings.{segment_table, section_table}
 use Rattle.elf_parts.proofs.Patches.{number_at-stands}
 
 -- Bytes that stand, in parts.

@@ -1,7 +1,6 @@
 -- The first range that holds the bytes of a header is that of the first section that does.
-use Rattle.std.proofs.Common.{◌≡◌, ◌∙◌, sym, ap, subst, refl, ℕ, ◌+◌, ◌<◌, ◌≤◌, ◌⊎◌, inl, inr, ◌&&◌, Bool, true}
-use Rattle.std.proofs.Common.{false, not}
-use Rattle.std.proofs.Common.{List, Option, Some, None, length, get_or, arith}
+use Rattle.std.proofs.Common.{◌≡◌, ◌∙◌, sym, ap, subst, refl, ℕ, ◌+◌, ◌<◌, ◌≤◌, ◌⊎◌, inl, inr, ◌&&◌, Bool, true, false, not, List, Option}
+use Rattle.std.proofs.Common.{Some, None, length, get_or, arith}
 use Rattle.std.specs.Prelude.{find, nat_le, nat_lt, map, option_map, slice_get, unwrap_or, if◌then◌else◌, IsSomeAnd}
 use Rattle.std.specs.List.{list_any, position_or_len}
 use Rattle.std.proofs.lemmas.Bool.{and_parts, and_right, lt-leb, ltb-true}

@@ -91,16 +91,14 @@ grows-added front last fragment some order gap = record {
   };
   keeps = λ f start end has. record {
     fragment = has.fragment;
-    there = Contains-append_left (front ++ last ∷ [])
-        (fragment ∷ []) has.fragment has.there;
+    there = Contains-append_left (front ++ last ∷ []) (fragment ∷ []) has.fragment has.there;
     func = has.func;
     low = has.low;
     high = has.high;
   };
   has = λ _. record {
     fragment = fragment;
-    there = Contains-push
-        (front ++ last ∷ []) fragment;
+    there = Contains-push (front ++ last ∷ []) fragment;
     func = refl;
     low = omega arith;
     high = omega arith;
@@ -153,8 +151,7 @@ grows-joined front last fragment some one meets = record {
   keeps = λ f start end has. ⊎_elim
       (λ (old : Contains front has.fragment). record {
         fragment = has.fragment;
-        there = Contains-append_left front
-            (longer ∷ []) has.fragment old;
+        there = Contains-append_left front (longer ∷ []) has.fragment old;
         func = has.func;
         low = has.low;
         high = has.high;
@@ -167,8 +164,7 @@ grows-joined front last fragment some one meets = record {
       record {
         fragment = longer;
         there = Contains-push front longer;
-        func = ap (λ (r : Fragment). r.func) is
-            ∙ has.func;
+        func = ap (λ (r : Fragment). r.func) is ∙ has.func;
         low = omega arith;
         high = omega arith;
       })
@@ -234,8 +230,7 @@ fragment-left funcs spans fragments r f to are there is low high = record {
       (λ (a : Apart q r). let b : q.end ≤ r.start = a.before in absurd (omega arith))
       other)
       (apart-fragments fragments are.sorted r q there has.bytes.there);
-  filled = λ b from below.
-      subst (λ (g : ℕ). HasByte funcs spans g b) is (are.filled r there b (omega arith) (omega arith));
+  filled = λ b from below. subst (λ (g : ℕ). HasByte funcs spans g b) is (are.filled r there b (omega arith) (omega arith));
   ends = λ k d within some at of.
       let s = get_or spans k d in
       let has = are.held k d within some in
@@ -334,8 +329,7 @@ fragments-more funcs spans s old new fragment is start end grows are = record {
           fragment = has.fragment;
           there = has.there;
           func = has.func;
-          low =
-              omega arith;
+          low = omega arith;
           high = omega arith;
         };
       });

@@ -1,7 +1,6 @@
 -- The new area: the new code, and behind it the tables that are loaded.
 use Rattle.std.specs.Prelude.{ℕ, ◌+◌, ◌-◌, ◌&&◌, nat_le, nat_lt, max, min, if◌then◌else◌, Bool, List, Option, Some}
-use Rattle.std.specs.Prelude.{None, fold}
-use Rattle.std.specs.Prelude.{filter, map}
+use Rattle.std.specs.Prelude.{None, fold, filter, map}
 use Rattle.std.specs.Option.{option_map_or}
 use Rattle.elf_image.specs.declared.segment.Segment.{Segment}
 use Rattle.elf_image.specs.memory.CodeSegment.{executable_segment}

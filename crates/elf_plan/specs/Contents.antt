@@ -1,7 +1,6 @@
 -- Where the contents of the input's sections are in a written file. gABI, "Section Header".
 use Rattle.std.specs.Prelude.{ℕ, ◌+◌, ◌==◌, ◌&&◌, ◌||◌, not, nat_le, if◌then◌else◌, Bool, false, List, [], Option, None}
-use Rattle.std.specs.Prelude.{String}
-use Rattle.std.specs.Prelude.{Vec, string_bytes, codes, position, take, drop}
+use Rattle.std.specs.Prelude.{String, Vec, string_bytes, codes, position, take, drop}
 use Rattle.std.specs.List.{list_any}
 use Rattle.std.specs.Option.{option_map_or}
 use Rattle.std.specs.Str.{bytes_eq}
@@ -18,8 +17,7 @@ use Rattle.elf_plan.specs.declared.area.Shift.{Shift}
 use Rattle.elf_plan.specs.declared.section_bytes.TheConstants.{SHT_NULL}
 use Rattle.elf_plan.specs.declared.sections.Contents.{Contents}
 use Rattle.elf_plan.specs.declared.sections.Contents.TheVariants.{Dropped, Inactive, Kept, Copied, SectionNames}
-use Rattle.elf_plan.specs.declared.sections.Contents.TheVariants.{Symbols, SymbolNames}
-use Rattle.elf_plan.specs.declared.sections.Contents.TheVariants.{Given}
+use Rattle.elf_plan.specs.declared.sections.Contents.TheVariants.{Symbols, SymbolNames, Given}
 use Rattle.elf_plan.specs.Area.{loads_end}
 use Rattle.elf_plan.specs.NameTables.{place_of_symbols, place_of_names}
 

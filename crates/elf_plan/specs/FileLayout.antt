@@ -1,8 +1,7 @@
 -- How a written file is laid out: the fields of its header, its table of program headers, and what stands behind
 -- the bytes that it loads. gABI, "ELF Header", "Program Header" and "Section Header".
 use Rattle.std.specs.Prelude.{◌≡◌, ℕ, ◌+◌, ◌-◌, ◌*◌, ◌||◌, nat_lt, max, if◌then◌else◌, Bool, false, true, List, [], ◌∷◌}
-use Rattle.std.specs.Prelude.{◌++◌}
-use Rattle.std.specs.Prelude.{IsSomeAnd, IsTrue, String, Vec, length, map, slice_get, slice_range}
+use Rattle.std.specs.Prelude.{◌++◌, IsSomeAnd, IsTrue, String, Vec, length, map, slice_get, slice_range}
 use Rattle.std.specs.List.{list_any}
 use Rattle.std.specs.Option.{option_map_or}
 use Rattle.elf_image.specs.declared.elf.Elf.{Elf}

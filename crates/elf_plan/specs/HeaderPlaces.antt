@@ -1,10 +1,7 @@
 -- The program headers of a written file, and where their bytes are. gABI, "Program Header".
 use Rattle.std.specs.Prelude.{◌≡◌, ℕ, ◌+◌, ◌-◌, ◌*◌, ◌<◌, ◌==◌, ◌&&◌, not, nat_le, nat_lt, max, min, if◌then◌else◌}
-use Rattle.std.specs.Prelude.{Bool}
-use Rattle.std.specs.Prelude.{true, false}
-use Rattle.std.specs.Prelude.{List, Option, Some, None, String, Vec, IfSome, IsSomeAnd, codes, length, map, option_map}
-use Rattle.std.specs.Prelude.{slice_get}
-use Rattle.std.specs.Prelude.{unwrap_or}
+use Rattle.std.specs.Prelude.{Bool, true, false, List, Option, Some, None, String, Vec, IfSome, IsSomeAnd, codes}
+use Rattle.std.specs.Prelude.{length, map, option_map, slice_get, unwrap_or}
 use Rattle.std.specs.List.{list_any}
 use Rattle.std.specs.Option.{option_map_or}
 use Rattle.elf_image.specs.declared.elf.Elf.{Elf}

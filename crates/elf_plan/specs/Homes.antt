@@ -1,7 +1,6 @@
 -- What is found of the sections that hold the bytes of program headers.
 use Rattle.std.specs.Prelude.{◌≡◌, ℕ, ◌+◌, ◌&&◌, not, nat_lt, if◌then◌else◌, List, Option, Some, None, find, length}
-use Rattle.std.specs.Prelude.{option_map}
-use Rattle.std.specs.Prelude.{slice_get, unwrap_or}
+use Rattle.std.specs.Prelude.{option_map, slice_get, unwrap_or}
 use Rattle.std.specs.List.{list_any}
 use Rattle.elf_image.specs.declared.section.Section.{Section}
 use Rattle.elf_image.specs.declared.extent.Extent.{Extent}

@@ -1,7 +1,6 @@
 -- The sections of a written file, beside those of its input. gABI, "Section Header".
 use Rattle.std.specs.Prelude.{◌≡◌, ℕ, ◌+◌, ◌-◌, ◌%◌, ◌==◌, ◌&&◌, is_none, is_some, min, max, if◌then◌else◌, Bool, List}
-use Rattle.std.specs.Prelude.{[]}
-use Rattle.std.specs.Prelude.{Some, IfSome, IsTrue, String, Vec, string_bytes, codes, find, length, slice_get}
+use Rattle.std.specs.Prelude.{[], Some, IfSome, IsTrue, String, Vec, string_bytes, codes, find, length, slice_get}
 use Rattle.std.specs.Option.{option_map_or}
 use Rattle.std.specs.Str.{bytes_eq}
 use Rattle.rv_code.specs.isa.Op.{flag}
@@ -18,8 +17,7 @@ use Rattle.elf_plan.specs.declared.area.Shift.{Shift}
 use Rattle.elf_plan.specs.declared.section_bytes.TheConstants.{SHT_NULL}
 use Rattle.elf_plan.specs.declared.sections.Contents.{Contents}
 use Rattle.elf_plan.specs.declared.sections.Contents.TheVariants.{Dropped, Inactive, Kept, Copied, SectionNames}
-use Rattle.elf_plan.specs.declared.sections.Contents.TheVariants.{Symbols, SymbolNames}
-use Rattle.elf_plan.specs.declared.sections.Contents.TheVariants.{Given}
+use Rattle.elf_plan.specs.declared.sections.Contents.TheVariants.{Symbols, SymbolNames, Given}
 use Rattle.elf_plan.specs.Area.{moved_by, area_offset}
 use Rattle.elf_plan.specs.Contents.{contents_of, section_bytes}
 use Rattle.elf_plan.specs.OldNames.{new_name}

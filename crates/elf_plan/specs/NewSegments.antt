@@ -1,7 +1,6 @@
 -- How the program headers of a written file follow those of the input.
 use Rattle.std.specs.Prelude.{◌≡◌, ◌⊎◌, ℕ, ◌+◌, ◌-◌, ◌<◌, ◌≤◌, ◌&&◌, ◌==◌, not, Bool, true, false, List, ◌∷◌, ◌++◌}
-use Rattle.std.specs.Prelude.{take, drop}
-use Rattle.std.specs.Prelude.{length, IsTrue, slice_index_or}
+use Rattle.std.specs.Prelude.{take, drop, length, IsTrue, slice_index_or}
 use Rattle.elf_image.specs.declared.segment.Segment.{Segment}
 use Rattle.elf_image.specs.declared.segment.TheConstants.{PT_LOAD, PF_R, PF_X, PT_GNU_EH_FRAME}
 use Rattle.elf_image.specs.memory.Image.{is_load, end_of}

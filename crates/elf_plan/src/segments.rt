@@ -103,8 +103,7 @@ impl<'a> Places<'a> {
     ghost use Rattle.elf_plan.specs.HeaderPlaces.{place_in};
     ghost use Rattle.elf_plan.specs.PlacedHeaders.{AreMade, AreNewEach, outline};
     ghost use Rattle.elf_plan.specs.NewSegments.{AreNewHeaders, AreRenewed, CanGrow, CanGrowAt, IsRenewed};
-    ghost use Rattle.elf_plan.specs.NewSegments.{area_segment};
-    ghost use Rattle.elf_plan.specs.NewSegments.{grown, grows_at};
+    ghost use Rattle.elf_plan.specs.NewSegments.{area_segment, grown, grows_at};
     ghost use Rattle.file_room.specs.Room.{greatest_align};
     ghost use Rattle.std.specs.Prelude.{◌≡◌, ◌≤◌, ◌<◌, ◌&&◌, not, IfOk, true, false};
     ghost use Rattle.elf_image.specs.declared.segment.TheConstants.{PT_LOAD};

@@ -9,9 +9,8 @@ use Rattle.elf_image.specs.declared.segment.TheConstants.{PHDR_SIZE}
 use Rattle.elf_image.specs.file.Header.{header_size}
 use Rattle.elf_image.specs.memory.LoadedBytes.{file_offset}
 use Rattle.elf_code.specs.Relocations.{Relocation, relocations, Width}
-use Rattle.elf_code.specs.Cells.{IsOnly, is_plus, is_minus, IsDifference, of_labels, of_place, IsCodeLabel, HasCodeLabel}
-use Rattle.elf_code.specs.Cells.{IsInOneWhole, Field, IsField, pointer, slot, difference, CanBeCell, Counts, counts}
-use Rattle.elf_code.specs.Cells.{gives_way, IsCell}
+use Rattle.elf_code.specs.Cells.{IsOnly, is_plus, is_minus, IsDifference, of_labels, of_place, IsCodeLabel, HasCodeLabel, IsInOneWhole}
+use Rattle.elf_code.specs.Cells.{Field, IsField, pointer, slot, difference, CanBeCell, Counts, counts, gives_way, IsCell}
 use Rattle.elf_code.proofs.Differences.{difference_counts}
 use Rattle.elf_readings.proofs.Alike.{bare, Alike, back}
 use Rattle.elf_readings.proofs.Relocations.{with_section, Twin, twin, count_alike}

@@ -14,8 +14,7 @@ use Rattle.elf_image.specs.declared.relocation.TheConstants.{R_RISCV_IRELATIVE}
 use Rattle.elf_image.specs.declared.symbol.TheConstants.{STT_GNU_IFUNC}
 use Rattle.elf_code.specs.Relocations.{Relocation}
 use Rattle.elf_code.specs.ReferenceFaults.{IsStubs, IsIfuncOrPlt, IsAlreadyMoved, HasReferenceFault}
-use Rattle.elf_code.specs.FunctionFaults.{IsBadEntry, IsBadInstruction, IsBareAuipc, IsInsideInstruction, IsBadTarget}
-use Rattle.elf_code.specs.FunctionFaults.{HasFunctionFault}
+use Rattle.elf_code.specs.FunctionFaults.{IsBadEntry, IsBadInstruction, IsBareAuipc, IsInsideInstruction, IsBadTarget, HasFunctionFault}
 use Rattle.elf_code.specs.CodeFaults.{HasCodeFault}
 use Rattle.elf_readings.proofs.Alike.{bare, bare_symbol, Alike, back, any_alike}
 use Rattle.elf_readings.proofs.Parts.{inst_of, starts_of, valid_of}

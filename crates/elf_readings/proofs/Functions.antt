@@ -3,11 +3,9 @@ use Rattle.std.proofs.Common.{◌∙◌, sym, subst, ℕ, ◌+◌, ◌≤◌, in
 use Rattle.rv_code.specs.declared.placed.Func.{Func}
 use Rattle.rv_code.specs.declared.placed.Placed.{Placed}
 use Rattle.elf_image.specs.declared.elf.Elf.{Elf}
-use Rattle.elf_code.specs.Functions.{IsNopAt, IsNopPart, IsReferred, IsFunctionPart, IsCodeAddress, AreInsts, IsFunction}
-use Rattle.elf_code.specs.Functions.{AreFunctions}
+use Rattle.elf_code.specs.Functions.{IsNopAt, IsNopPart, IsReferred, IsFunctionPart, IsCodeAddress, AreInsts, IsFunction, AreFunctions}
 use Rattle.elf_readings.proofs.Alike.{Alike, back}
-use Rattle.elf_readings.proofs.Parts.{part_of, covered_of, code_part_of, length_of, halfword_of, inst_of, starts_of, valid_of}
-use Rattle.elf_readings.proofs.Parts.{whole_of}
+use Rattle.elf_readings.proofs.Parts.{part_of, covered_of, code_part_of, length_of, halfword_of, inst_of, starts_of, valid_of, whole_of}
 use Rattle.elf_readings.proofs.Roles.{role_of, role_is_of}
 use Rattle.elf_readings.proofs.Cells.{cell_of}
 

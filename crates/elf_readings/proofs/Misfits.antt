@@ -8,14 +8,12 @@ use Rattle.elf_code.specs.LoadedNumbers.{loaded_number}
 use Rattle.elf_code.specs.Relocations.{Relocation, relocations, symbol_value, label, is_pcrel_lo, is_pcrel_hi, is_call_pair}
 use Rattle.elf_code.specs.Relocations.{is_supported, HasRelocation, Width}
 use Rattle.elf_code.specs.Cells.{is_plus, is_minus, IsCodeLabel}
-use Rattle.elf_code.specs.ReferenceFaults.{IsRelocType, IsCall, HasAuipc, IsNamedByLow, IsUpper, HasLower, HasAbsolute}
-use Rattle.elf_code.specs.ReferenceFaults.{IsPaired, IsBadField, IsBadCall, IsBadUpper, IsBadPair, IsBadLower}
-use Rattle.elf_code.specs.ReferenceFaults.{IsBadAbsolute, IsBadDifference, HasBadLabel, IsMisfit, IsRelocMismatch}
-use Rattle.elf_code.specs.ReferenceFaults.{IsLoMismatch, IsNarrow, IsNarrowDiff}
+use Rattle.elf_code.specs.ReferenceFaults.{IsRelocType, IsCall, HasAuipc, IsNamedByLow, IsUpper, HasLower, HasAbsolute, IsPaired}
+use Rattle.elf_code.specs.ReferenceFaults.{IsBadField, IsBadCall, IsBadUpper, IsBadPair, IsBadLower, IsBadAbsolute, IsBadDifference}
+use Rattle.elf_code.specs.ReferenceFaults.{HasBadLabel, IsMisfit, IsRelocMismatch, IsLoMismatch, IsNarrow, IsNarrowDiff}
 use Rattle.elf_readings.proofs.Alike.{bare_symbol, Alike, back, any_alike}
 use Rattle.elf_readings.proofs.Relocations.{with_section, bare_relocation, relocations_alike, Twin, flip, twin, symbol_alike}
-use Rattle.elf_readings.proofs.Roles.{label_alike, number_alike, field_of, holds_of, full_of, pair_of, call_of, low_of, hi_of}
-use Rattle.elf_readings.proofs.Roles.{absolute_of}
+use Rattle.elf_readings.proofs.Roles.{label_alike, number_alike, field_of, holds_of, full_of, pair_of, call_of, low_of, hi_of, absolute_of}
 use Rattle.elf_readings.proofs.Cells.{only_of, difference_of, code_label_of, has_code_label_of, one_whole_of, counts_of}
 
 pub has_relocation_of : (e e' : Elf) → Alike e e' → (Is Is' : Relocation → Type 0) →

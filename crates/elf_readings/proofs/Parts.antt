@@ -6,9 +6,8 @@ use Rattle.elf_image.specs.declared.section.Section.{Section}
 use Rattle.elf_image.specs.declared.symbol.Symbol.{Symbol}
 use Rattle.elf_image.specs.file.Cuts.{names_function, IsBound}
 use Rattle.elf_image.specs.file.Sections.{holds_code}
-use Rattle.elf_code.specs.Parts.{IsCut, IsInCode, IsPart, IsCovered, IsZeroPart, IsCodePart, length_at, length_in}
-use Rattle.elf_code.specs.Parts.{halfword_at, halfword_in, IsInstAt, IsInstIn, StartsIn, at_start, after, IsStartIn}
-use Rattle.elf_code.specs.Parts.{IsStart, HasInst, HasValidInst, IsWholePart}
+use Rattle.elf_code.specs.Parts.{IsCut, IsInCode, IsPart, IsCovered, IsZeroPart, IsCodePart, length_at, length_in, halfword_at, halfword_in}
+use Rattle.elf_code.specs.Parts.{IsInstAt, IsInstIn, StartsIn, at_start, after, IsStartIn, IsStart, HasInst, HasValidInst, IsWholePart}
 use Rattle.elf_image.specs.memory.LoadedBytes.{byte_at}
 use Rattle.elf_readings.proofs.Alike.{bare, bare_symbol, Alike, back, any_alike, memory}
 

@@ -1,8 +1,7 @@
 -- The tables that are given stand in the written file.
 use Rattle.std.proofs.Common.{◌≡◌, ℕ, List, Option, Some, None, Bool, true, false, refl, sym, ap, ◌∙◌, subst, arith}
 use Rattle.std.specs.Prelude.{find, if◌then◌else◌, is_none, is_some, slice_get, position, IfSome, IsSomeAnd, IsTrue, String, Vec}
-use Rattle.std.specs.Prelude.{string_bytes}
-use Rattle.std.specs.Prelude.{codes}
+use Rattle.std.specs.Prelude.{string_bytes, codes}
 use Rattle.std.specs.Option.{option_map_or}
 use Rattle.std.specs.Str.{bytes_eq}
 use Rattle.std.proofs.lemmas.Bool.{and_parts}
@@ -104,6 +103,5 @@ module _ {Y Z : Type 0} (elf new : Elf) (tables : List (String Y × Vec ℕ Z)) 
         (none_value (section_called elf.sections.items (codes ".debug_rnglists"))
         (and_parts (is_given tables (codes ".debug_rnglists"))
         (is_none (section_called elf.sections.items (codes ".debug_rnglists"))) adds).1);
-    absent = λ name debug absent differs.
-        absent_stays elf new tables area shift code are name debug absent differs;
+    absent = λ name debug absent differs. absent_stays elf new tables area shift code are name debug absent differs;
   }

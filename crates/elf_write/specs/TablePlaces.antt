@@ -1,8 +1,7 @@
 -- Where given tables stand in a written file: which sections of the input take one, and what the sections that names
 -- mean hold.
 use Rattle.std.specs.Prelude.{◌≡◌, ◌≢◌, ℕ, ◌==◌, ◌&&◌, ◌||◌, not, false, true, Bool, List, None, IfSome, IsSomeAnd}
-use Rattle.std.specs.Prelude.{IsTrue, All, EachIndex}
-use Rattle.std.specs.Prelude.{String, Vec, codes, find, is_some, slice_get, string_bytes}
+use Rattle.std.specs.Prelude.{IsTrue, All, EachIndex, String, Vec, codes, find, is_some, slice_get, string_bytes}
 use Rattle.std.specs.Option.{option_map_or}
 use Rattle.std.specs.Str.{bytes_eq}
 use Rattle.elf_image.specs.declared.elf.Elf.{Elf}

@@ -1,8 +1,7 @@
 -- Where the new area begins and how much room it has: behind the executable segment, or in a segment of its
 -- own above all others. gABI, "Program Header".
 use Rattle.std.specs.Prelude.{ℕ, ◌+◌, ◌-◌, ◌*◌, ◌==◌, ◌&&◌, nat_le, nat_lt, if◌then◌else◌, Bool, List, length, map}
-use Rattle.std.specs.Prelude.{filter}
-use Rattle.std.specs.Prelude.{fold, max, min}
+use Rattle.std.specs.Prelude.{filter, fold, max, min}
 use Rattle.std.specs.Option.{option_map_or}
 use Rattle.elf_image.specs.declared.segment.Segment.{Segment}
 use Rattle.elf_image.specs.declared.segment.TheConstants.{PHDR_SIZE}

@@ -1,7 +1,6 @@
 -- The ways of one block in from outside its function and out there, with their counts.
 use Rattle.std.proofs.Common.{◌≡◌, ◌<◌, ◌∙◌, get_or, length, sym, ap, subst, refl, ℕ, Bool, true, false, List, Option, Some, None, ⊎_elim}
-use Rattle.std.proofs.Common.{inl, inr, map}
-use Rattle.std.proofs.Common.{sum_by, if◌then◌else◌}
+use Rattle.std.proofs.Common.{inl, inr, map, sum_by, if◌then◌else◌}
 use Rattle.std.specs.Prelude.{◌==◌, ◌&&◌, ◌||◌, ◌↔◌, Contains, IsPermutation, IsSomeAnd, IsTrue, not, slice_get}
 use Rattle.std.specs.Option.{option_map_or}
 use Rattle.std.proofs.lemmas.Bool.{eq-eqb, eqb-true}

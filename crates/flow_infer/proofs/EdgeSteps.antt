@@ -16,8 +16,7 @@ use Rattle.flow_infer.specs.declared.flow.Link.{Link}
 use Rattle.flow_infer.specs.declared.source.Source.{Source}
 use Rattle.flow_infer.specs.Heights.{AreAmong, IsAmong}
 use Rattle.flow_infer.specs.Links.{link_count, rank}
-use Rattle.flow_infer.specs.Sources.{AreLinksUpto, AreSources, IsCodeOf, IsFunctionRange, IsLinkIn, IsLinkWithin}
-use Rattle.flow_infer.specs.Sources.{link_if}
+use Rattle.flow_infer.specs.Sources.{AreLinksUpto, AreSources, IsCodeOf, IsFunctionRange, IsLinkIn, IsLinkWithin, link_if}
 use Rattle.flow_infer.proofs.LinkLists.{all_pushed, rank_same, same_upto, step_upto}
 
 -- the rank of the target of the i-th edge, or past all of n blocks

@@ -1,7 +1,6 @@
 -- The law of least change: prices are summed over the links, and vanish from the sum by balance.
 use Rattle.std.proofs.Common.{◌≡◌, ◌+◌, ◌*◌, ◌<◌, ◌≤◌, ◌≤ℤ◌, ℕ, ℤ, pos, negsuc, List, [], ◌∷◌, Option, Some, None, refl, sym, ap, ◌∙◌}
-use Rattle.std.proofs.Common.{arith, length, map, get_or}
-use Rattle.std.proofs.Common.{sum_by, ⊎_elim, ◌⊎◌, eq-zero-or-pos, mul-zero, add-mul, mul-le-mul_right, one-mul}
+use Rattle.std.proofs.Common.{arith, length, map, get_or, sum_by, ⊎_elim, ◌⊎◌, eq-zero-or-pos, mul-zero, add-mul, mul-le-mul_right, one-mul}
 use Rattle.std.proofs.lemmas.List.Sums.{sum_by-cons}
 use Rattle.std.proofs.lemmas.List.{get_or_past}
 use Rattle.std.proofs.lemmas.List.Elements.{All-head, All-tail}

@@ -20,8 +20,7 @@ use Rattle.flow_infer.specs.Heights.{IsSettled}
 use Rattle.flow_infer.specs.Links.{AreEnds, CountedEnds, IsLinkBefore, a_block, counted_ends}
 use Rattle.flow_infer.specs.Repairing.{AreRepaired}
 use Rattle.flow_infer.specs.Repairs.{IsRepaired}
-use Rattle.flow_infer.specs.Sources.{AreLinksWithin, AreSources, IsCodeOf, IsFunctionFrom, IsFunctionRange, IsLinkWithin}
-use Rattle.flow_infer.specs.Sources.{PartsFunctions}
+use Rattle.flow_infer.specs.Sources.{AreLinksWithin, AreSources, IsCodeOf, IsFunctionFrom, IsFunctionRange, IsLinkWithin, PartsFunctions}
 
 -- Functions of blocks in order.
 

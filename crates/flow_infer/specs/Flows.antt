@@ -1,7 +1,6 @@
 -- Flows over links: that they balance, how much they change the counts, and prices that show that no change is less.
-use Rattle.std.specs.Prelude.{◌≡◌, ◌+◌, ◌-◌, ◌<◌, ◌==◌, ℕ, ℤ, pos, negsuc, ◌-ℤ◌, ◌≤ℤ◌, Bool, false, List, Option}
-use Rattle.std.specs.Prelude.{Some, None, All}
-use Rattle.std.specs.Prelude.{map, sum_by, slice_index_or, if◌then◌else◌}
+use Rattle.std.specs.Prelude.{◌≡◌, ◌+◌, ◌-◌, ◌<◌, ◌==◌, ℕ, ℤ, pos, negsuc, ◌-ℤ◌, ◌≤ℤ◌, Bool, false, List, Option, Some}
+use Rattle.std.specs.Prelude.{None, All, map, sum_by, slice_index_or, if◌then◌else◌}
 use Rattle.flow_infer.specs.declared.flow.Link.{Link}
 
 -- an end of a link is a block

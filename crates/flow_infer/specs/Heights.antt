@@ -1,7 +1,6 @@
 -- Heights of the nodes of one function, by which its flows are found: prices from 0 up, with one for what lies outside.
 use Rattle.std.specs.Prelude.{◌≡◌, ◌+◌, ◌-◌, ◌<◌, ◌≤◌, ℕ, Bool, List, Option, Some, None, All, IfSome, length}
-use Rattle.std.specs.Prelude.{if◌then◌else◌}
-use Rattle.std.specs.Prelude.{slice_index, slice_index_or, ℤ, pos, ◌-ℤ◌, Vec}
+use Rattle.std.specs.Prelude.{if◌then◌else◌, slice_index, slice_index_or, ℤ, pos, ◌-ℤ◌, Vec}
 use Rattle.std.specs.declared.alloc.Global.{Global}
 use Rattle.std.specs.declared.cmp.Reverse.{Reverse}
 use Rattle.flow_infer.specs.declared.flow.Link.{Link}

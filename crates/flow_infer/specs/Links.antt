@@ -1,8 +1,7 @@
 -- The links of functions: their edges, the ways in from outside and the ways out; and how often a profile says that
 -- each was taken.
 use Rattle.std.specs.Prelude.{◌≡◌, ◌⊎◌, ◌+◌, ◌<◌, ◌==◌, ◌&&◌, ℕ, Bool, false, not, List, Option, Some, None, IsTrue}
-use Rattle.std.specs.Prelude.{IsSomeAnd, Any}
-use Rattle.std.specs.Prelude.{Contains, length, map, slice_get, sum_by, if◌then◌else◌}
+use Rattle.std.specs.Prelude.{IsSomeAnd, Any, Contains, length, map, slice_get, sum_by, if◌then◌else◌}
 use Rattle.std.specs.Option.{option_map_or}
 use Rattle.rv_code.specs.declared.action.Action.{Action}
 use Rattle.rv_code.specs.declared.action.Action.TheVariants.{JumpTo}

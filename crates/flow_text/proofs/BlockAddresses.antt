@@ -1,6 +1,5 @@
 -- Where blocks that lie apart start and end: the addresses go up, and are those of instructions.
-use Rattle.std.proofs.Common.{◌≡◌, ◌∙◌, ◌<◌, ◌≤◌, ℕ, true, List, Option, Some, None, length, get_or, arith, ap, sym, subst, refl}
-use Rattle.std.proofs.Common.{⊎_elim}
+use Rattle.std.proofs.Common.{◌≡◌, ◌∙◌, ◌<◌, ◌≤◌, ℕ, true, List, Option, Some, None, length, get_or, arith, ap, sym, subst, refl, ⊎_elim}
 use Rattle.std.specs.Prelude.{IsSomeAnd, slice_get}
 use Rattle.std.specs.Option.{option_map_or}
 use Rattle.std.proofs.lemmas.Option.{get_or_from_slice_get, same_Some, slice_get-get_or, slice_get_within}

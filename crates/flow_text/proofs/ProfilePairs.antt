@@ -1,7 +1,6 @@
 -- The pairs of a profile that was read are pairs of instructions, and the links of a repaired one lie between blocks.
 use Rattle.std.proofs.Common.{◌≡◌, ◌∙◌, ◌+◌, ◌<◌, ℕ, Bool, true, false, List, [], ◌∷◌, Option, Some, None, Contains, length, arith, ap, sym}
-use Rattle.std.proofs.Common.{subst}
-use Rattle.std.proofs.Common.{refl, cond, filter_map, if◌then◌else◌, ⊎_elim}
+use Rattle.std.proofs.Common.{subst, refl, cond, filter_map, if◌then◌else◌, ⊎_elim}
 use Rattle.std.specs.Prelude.{◌==◌, ◌&&◌, IsSomeAnd, option_and_then, slice_get}
 use Rattle.std.specs.List.{cons_option}
 use Rattle.std.proofs.lemmas.Bool.{eqb-true}

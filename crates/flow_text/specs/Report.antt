@@ -1,8 +1,7 @@
 -- The lines that show a flow: for each function with a count the prices of its blocks and its links, and how many links
 -- there are with how much change.
 use Rattle.std.specs.Prelude.{ℕ, ℤ, pos, ◌==◌, Bool, List, [], ◌++◌, Option, Some, None, codes, decimal, filter}
-use Rattle.std.specs.Prelude.{flat_map}
-use Rattle.std.specs.Prelude.{if◌then◌else◌, length, nat_lt, slice_index_or}
+use Rattle.std.specs.Prelude.{flat_map, if◌then◌else◌, length, nat_lt, slice_index_or}
 use Rattle.std.specs.Fmt.{signed_decimal}
 use Rattle.std.specs.List.{list_any, range_with_len}
 use Rattle.rb_bytes.specs.Text.{hexadecimal}

@@ -1,7 +1,6 @@
 -- A table that is written answers at each address what its runs do.
 use Rattle.std.proofs.Common.{ℕ, zero, suc, ◌+◌, ◌≤◌, ◌<◌, ◌≡◌, ◌==◌, ◌&&◌, List, [], ◌∷◌, Option, Some, None, cond, leb, ltb, Bool, true}
-use Rattle.std.proofs.Common.{false, refl, sym, ◌∙◌, ap}
-use Rattle.std.proofs.Common.{subst, arith, length, take, drop, option_map}
+use Rattle.std.proofs.Common.{false, refl, sym, ◌∙◌, ap, subst, arith, length, take, drop, option_map}
 use Rattle.std.specs.Prelude.{All, IsTrue, IsSome, not}
 use Rattle.std.specs.Bool.{beq}
 use Rattle.std.specs.List.{position_or_len}
@@ -111,8 +110,7 @@ like-itself spans r = record {
   indirect = refl;
   table = refl;
   signal = refl;
-  start = λ m.
-      start-marked spans r m;
+  start = λ m. start-marked spans r m;
 }
 
 like-next : (spans : List Span) (r q : Run FrameAnswer) → Continues r q → IsLike spans r q.answer
@@ -214,8 +212,7 @@ group-answer is_marked spans place lo hi p r more a w before c e l =
       ra = like.ra;
       handler = ap (new spans) like.handler;
       indirect = like.indirect;
-      table =
-          like.table;
+      table = like.table;
       signal = like.signal;
       start = like.start;
     }) where

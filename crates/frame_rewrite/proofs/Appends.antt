@@ -1,7 +1,6 @@
 -- One append after another.
 use Rattle.std.proofs.Common.{ℕ, suc, ◌+◌, ◌-◌, ◌≤◌, ◌<◌, ◌≡◌, List, [], ◌∷◌, ◌++◌, Bool, true, false, refl, sym, ◌∙◌, ap, subst, arith}
-use Rattle.std.proofs.Common.{length, append_assoc}
-use Rattle.std.proofs.Common.{get_or, drop, take, add-one, length-append, flat_map}
+use Rattle.std.proofs.Common.{length, append_assoc, get_or, drop, take, add-one, length-append, flat_map}
 use Rattle.std.proofs.lemmas.Grind.{common_steps}
 use Rattle.std.proofs.lemmas.List.{append-nil, drop_more}
 use Rattle.std.specs.Prelude.{All}

@@ -27,8 +27,7 @@ augmentation_of k = record {
   encoding = Absptr;
   table = Some Absptr;
   handler = k.handler;
-  indirect =
-      k.indirect;
+  indirect = k.indirect;
   signal = k.signal;
 }
 
@@ -88,8 +87,7 @@ letters-back : (end h : ℕ) (indirect signal : Bool) → h < 2 ^ 64
       table = Some Absptr;
       handler = h;
       indirect = indirect;
-      signal =
-          signal;
+      signal = signal;
     })
 letters-back end h indirect true f = ap (λ (r : Read Augmentation). and_so r
     (λ read. letters_at end (0x4c ∷ 0x53 ∷ []) read.0 read.1)) (opened end h indirect f)
@@ -105,8 +103,7 @@ augmentation-back : (end h : ℕ) (indirect signal : Bool) (rest : List ℕ) →
         table = Some Absptr;
         handler = h;
         indirect = indirect;
-        signal =
-            signal;
+        signal = signal;
       },
       rest,
     )

@@ -19,8 +19,7 @@ use Rattle.cfi_rows.specs.FrameRows.{RowValue, Rules}
 use Rattle.frame_rewrite.specs.declared.cie_key.CieKey.{CieKey}
 use Rattle.frame_rewrite.specs.FrameAnswers.{FrameAnswer}
 use Rattle.frame_rewrite.specs.SpelledFrames.{spelled_block, spelled_cfa, spelled_rule, spelled_rules, spelled_row, spelled_row_before}
-use Rattle.frame_rewrite.specs.SpelledFrames.{spelled_rows}
-use Rattle.frame_rewrite.specs.SpelledFrames.{spelled_entries, zeros, padding, spelled_restores, spelled_location, are_low}
+use Rattle.frame_rewrite.specs.SpelledFrames.{spelled_rows, spelled_entries, zeros, padding, spelled_restores, spelled_location, are_low}
 use Rattle.frame_rewrite.specs.SpelledFrames.{start_of, last_end, fde_fields, fde_body, fde_entry, fde_entries, more_count}
 use Rattle.frame_rewrite.specs.Tables.{rules_bytes, run_size}
 use Rattle.frame_rewrite.proofs.NumbersBack.{length-little, length-zeros}

@@ -1,7 +1,6 @@
 -- Steps of the loops that write entries.
 use Rattle.std.proofs.Common.{ℕ, suc, ◌+◌, ◌-◌, ◌*◌, ◌≤◌, ◌<◌, ◌≡◌, ◌^◌, List, [], ◌∷◌, ◌++◌, Bool, refl, sym, ◌∙◌, ap, subst, arith}
-use Rattle.std.proofs.Common.{length, append_assoc}
-use Rattle.std.proofs.Common.{get_or, drop, take}
+use Rattle.std.proofs.Common.{length, append_assoc, get_or, drop, take}
 use Rattle.std.specs.Prelude.{All}
 use Rattle.std.proofs.lemmas.Grind.{flat_map-append}
 use Rattle.std.proofs.lemmas.List.{append-nil, drop_more}

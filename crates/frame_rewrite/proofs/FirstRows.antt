@@ -11,8 +11,7 @@ use Rattle.cfi_rows.specs.declared.instruction.Instruction.TheVariants.{Restore,
 use Rattle.cfi_rows.specs.declared.instruction.Malformed.{Malformed}
 use Rattle.cfi_rows.specs.FrameRows.{RowValue, Rules, Known, State, with_cfa, with_register, with_offset, take_back, row_from, prepended}
 use Rattle.cfi_rows.specs.FrameRows.{then_rows, rows, begins, PlacedRow, row_at}
-use Rattle.cfi_rows.specs.Entries.{RawEntry, Cie, Fde, fde_at, fde_made, sound_if, end_of, cie_in, cie_place}
-use Rattle.cfi_rows.specs.Entries.{frames, walked_entries}
+use Rattle.cfi_rows.specs.Entries.{RawEntry, Cie, Fde, fde_at, fde_made, sound_if, end_of, cie_in, cie_place, frames, walked_entries}
 use Rattle.frame_rewrite.proofs.ReadEntries.{IfFde, fde-so, fde-read, all-read}
 
 -- the first row begins at an address

@@ -1,7 +1,6 @@
 -- The index that is made of what is kept of entries is that of the entries.
 use Rattle.std.proofs.Common.{ℕ, suc, ◌+◌, ◌*◌, ◌≤◌, ◌<◌, ◌≡◌, List, [], ◌∷◌, ◌++◌, refl, sym, ◌∙◌, ap, subst, arith, length, map, get_or}
-use Rattle.std.proofs.Common.{flat_map}
-use Rattle.std.proofs.Common.{length-append}
+use Rattle.std.proofs.Common.{flat_map, length-append}
 use Rattle.std.specs.Prelude.{IsPermutation, AllPairs}
 use Rattle.std.specs.List.{swap}
 use Rattle.std.specs.List.Sorted.{IsNonDecreasingBy, apply_swaps, SwapsInRange}

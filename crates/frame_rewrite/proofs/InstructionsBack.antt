@@ -17,16 +17,14 @@ use Rattle.cfi_rows.specs.declared.row.Cfa.TheVariants.{Reg, Expr}
 use Rattle.cfi_rows.specs.declared.row.Rule.{Rule}
 use Rattle.cfi_rows.specs.declared.row.Rule.TheVariants as rule
 use Rattle.cfi_rows.specs.declared.instruction.Instruction.{Instruction}
-use Rattle.cfi_rows.specs.declared.instruction.Instruction.TheVariants.{SetLoc, DefCfa, SetRule, Restore, RememberState, RestoreState}
-use Rattle.cfi_rows.specs.declared.instruction.Instruction.TheVariants.{Nop}
+use Rattle.cfi_rows.specs.declared.instruction.Instruction.TheVariants.{SetLoc, DefCfa, SetRule, Restore, RememberState, RestoreState, Nop}
 use Rattle.cfi_rows.specs.declared.encoding.Encoding.TheVariants.{Absptr}
 use Rattle.cfi_rows.specs.FrameRows.{RowValue, Rules}
 use Rattle.cfi_rows.specs.FrameInstructions.{Read, Context, instruction_of, instruction_at, instructions_in, instructions_at}
 use Rattle.frame_rewrite.specs.FrameAnswers.{FrameAnswer}
 use Rattle.frame_rewrite.specs.SpelledFits.{CfaFits, RuleFits, RulesFit, RowFits}
 use Rattle.frame_rewrite.specs.SpelledFrames.{spelled_block, spelled_cfa, spelled_rule, spelled_rules, spelled_row, spelled_row_before}
-use Rattle.frame_rewrite.specs.SpelledFrames.{zeros}
-use Rattle.frame_rewrite.specs.SpelledFrames.{spelled_rows, spelled_restores, spelled_location, are_low}
+use Rattle.frame_rewrite.specs.SpelledFrames.{zeros, spelled_rows, spelled_restores, spelled_location, are_low}
 use Rattle.frame_rewrite.proofs.NumbersBack.{byte-back, uleb-back, sleb-back, block-back, number-back, length-zeros}
 
 -- what the writer's entries are read under

@@ -46,8 +46,7 @@ pub reads-as : (debug : Bool) (spans : List Span) (keys : List CieKey) (runs : R
     → All (IsReached spans runs) runs → IsSpelled debug spans keys runs bytes
     → frames debug address bytes ≡ record {
       cies = length keys;
-      list = made spans (length runs) (cie_size * length keys)
-          runs;
+      list = made spans (length runs) (cie_size * length keys) runs;
       bad = None;
     }
 reads-as debug spans keys runs bytes address f w r s =

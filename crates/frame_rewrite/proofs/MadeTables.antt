@@ -1,7 +1,6 @@
 -- What is said of a table that was written, besides its answers.
 use Rattle.std.proofs.Common.{ℕ, zero, suc, ◌+◌, ◌-◌, ◌*◌, ◌^◌, ◌≤◌, ◌<◌, ◌≡◌, List, [], ◌∷◌, ◌++◌, Option, Some, None, false, refl, sym}
-use Rattle.std.proofs.Common.{◌∙◌, ap, subst}
-use Rattle.std.proofs.Common.{arith, length, take, drop, length-append}
+use Rattle.std.proofs.Common.{◌∙◌, ap, subst, arith, length, take, drop, length-append}
 use Rattle.std.specs.Prelude.{All, IsTrue, IsSome, is_some, option_and_then, sum_by}
 use Rattle.std.proofs.lemmas.Grind.{common_steps, flat_map-append}
 use Rattle.std.proofs.lemmas.List.Elements.{All-nil, All-cons, All-head, All-tail, All-drop}

@@ -13,9 +13,8 @@ use Rattle.table_core.specs.ReadSteps.{and_so}
 use Rattle.cfi_rows.specs.FrameInstructions.{Read, whole}
 use Rattle.cfi_rows.specs.declared.instruction.Malformed.TheVariants.{Entry}
 use Rattle.cfi_rows.specs.Entries.{RawEntry, Front, Ends, Breaks, Stands, WalkedEntries, front_of, entry_of, walk, onward, walked_entries}
-use Rattle.cfi_rows.specs.Entries.{Head, head_at, sizes_at, return_register_at, augmentation_at}
-use Rattle.cfi_rows.specs.Entries.{Cie, Fde, cie_at, cie_by, cie_after, cie_made, head_context, end_of, fde_at, fde_made, sound_if}
-use Rattle.cfi_rows.specs.Entries.{frames}
+use Rattle.cfi_rows.specs.Entries.{Head, head_at, sizes_at, return_register_at, augmentation_at, Cie, Fde, cie_at, cie_by, cie_after}
+use Rattle.cfi_rows.specs.Entries.{cie_made, head_context, end_of, fde_at, fde_made, sound_if, frames}
 use Rattle.cfi_rows.specs.FrameInstructions.{instructions_at}
 use Rattle.cfi_rows.specs.FrameRows.{known_after, rows, begins, nothing_known}
 use Rattle.frame_rewrite.proofs.ReadEntries.{IfFde, IfCie, cie-so, fde-so, fde-read, all-by-cie}

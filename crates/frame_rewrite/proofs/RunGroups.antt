@@ -1,7 +1,6 @@
 -- Runs that ascend, and the first ones among them.
 use Rattle.std.proofs.Common.{ℕ, zero, suc, ◌+◌, ◌^◌, ◌≤◌, ◌<◌, ◌≡◌, ◌&&◌, List, [], ◌∷◌, Option, Some, None, cond, leb, ltb, Bool, true}
-use Rattle.std.proofs.Common.{false, refl}
-use Rattle.std.proofs.Common.{sym, ◌∙◌, ap, arith, take, drop}
+use Rattle.std.proofs.Common.{false, refl, sym, ◌∙◌, ap, arith, take, drop}
 use Rattle.std.specs.Prelude.{All}
 use Rattle.std.specs.Option.{option_or}
 use Rattle.std.proofs.lemmas.Bool.Decides.{nat_tests}

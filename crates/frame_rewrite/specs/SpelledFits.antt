@@ -1,7 +1,6 @@
 -- What fits the fields of a written frame table.
 use Rattle.std.specs.Prelude.{◌≡◌, ℕ, ◌+◌, ◌*◌, ◌++◌, ◌^◌, ◌<◌, ◌≤◌, Bool, List, [], ◌∷◌, All, length, take, drop}
-use Rattle.std.specs.Prelude.{FitsSigned, Some, slice_get}
-use Rattle.std.specs.Prelude.{IsSome}
+use Rattle.std.specs.Prelude.{FitsSigned, Some, slice_get, IsSome}
 use Rattle.std.specs.Int.{w64}
 use Rattle.addr_map.specs.declared.span.Span.{Span}
 use Rattle.table_core.specs.declared.run.Run.{Run}
@@ -15,8 +14,7 @@ use Rattle.cfi_rows.specs.RuleEntries.{Ascend}
 use Rattle.frame_rewrite.specs.declared.cie_key.CieKey.{CieKey}
 use Rattle.frame_rewrite.specs.FrameAnswers.{FrameAnswer}
 use Rattle.frame_rewrite.specs.SpelledFrames.{key_of, key_index, fde_body, more_count, start_of, cie_size}
-use Rattle.frame_rewrite.specs.SpelledFrames.{spelled_entries, table_entries}
-use Rattle.frame_rewrite.specs.SpelledFrames.{end_mark}
+use Rattle.frame_rewrite.specs.SpelledFrames.{spelled_entries, table_entries, end_mark}
 
 abbrev pub CfaFits : Cfa → Type 0
 CfaFits (Reg r n) = (r < 2 ^ 64) × FitsSigned w64 n

@@ -162,8 +162,7 @@ misled_from elf tabled starts roles wholes parts funcs are are_roles functions m
         (inl (record {
           to = to;
           target_is = aims;
-          no_code = λ is. none
-              ((IsCodeIn-address elf tabled starts parts are functions to).0 is);
+          no_code = λ is. none ((IsCodeIn-address elf tabled starts parts are functions to).0 is);
         }))
     found (pair code to has inside) =
         let (f, in_funcs, (q, in_insts, at, (end, placed))) = listed place code in

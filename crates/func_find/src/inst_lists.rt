@@ -1,7 +1,6 @@
 // The instructions of functions, with their roles.
 ghost use Rattle.std.specs.Prelude.{◌≡◌, ◌↔◌, ◌<◌, ◌≤◌, ℕ, List, [], ◌∷◌, All, AllPairs, Contains, IfOk, IfErr, IfSome};
-ghost use Rattle.std.specs.Prelude.{IfNone};
-ghost use Rattle.std.specs.Prelude.{IsTrue, length, slice_index_or};
+ghost use Rattle.std.specs.Prelude.{IfNone, IsTrue, length, slice_index_or};
 ghost use Rattle.rv_code.specs.declared.placed.Role.{Role};
 ghost use Rattle.elf_code.specs.FileCode.{AreRoles};
 ghost use Rattle.elf_code.specs.Parts.{IsCodePart};

@@ -22,9 +22,8 @@ use Rattle.rv_code.specs.layout.BlockOrders.{func_of_block, blocks_of_function, 
 use Rattle.func_place.specs.Nearness.{AreTiedNear}
 use Rattle.func_place.specs.Placement.{IsPlacement}
 use Rattle.func_place.specs.Units.{AreTied, itself, onward, backward, AreUnits, unit_size, members, unit_part, by_unit}
-use Rattle.func_place.proofs.Times.{times, times-append, times-flat_map, times-filter_in, times-filter_out, times-range_in}
-use Rattle.func_place.proofs.Times.{times-range_out, times-IsPermutation, times-get_or, permutation_from_times, sum-agree}
-use Rattle.func_place.proofs.Times.{sum-zero, sum-plus, sum-at}
+use Rattle.func_place.proofs.Times.{times, times-append, times-flat_map, times-filter_in, times-filter_out, times-range_in, times-range_out}
+use Rattle.func_place.proofs.Times.{times-IsPermutation, times-get_or, permutation_from_times, sum-agree, sum-zero, sum-plus, sum-at}
 use Rattle.func_place.proofs.UnitClasses.{units_inside}
 use Rattle.func_place.proofs.UnitLine.{line_of, line_times, flat, cut_of, order_times, AreOwned, sum_some, units_near}
 use Rattle.func_place.proofs.UnitSums.{no_block, no_if}

@@ -1,7 +1,6 @@
 -- The heaviest callers by the first calls of a list that is sorted by callee and caller.
-use Rattle.std.proofs.Common.{subst, set, ℕ, ◌≡◌, ◌≢◌, ◌⊎◌, ◌<◌, ◌≤◌, ◌+◌, ◌==◌, ◌&&◌, inl, inr, ⊎_elim, Bool, true, false, List}
-use Rattle.std.proofs.Common.{length, take, get_or, Option, None, Some, arith, refl, sym, ◌∙◌, ap, length-set}
-use Rattle.std.proofs.Common.{get_or-set_same, get_or-set_other}
+use Rattle.std.proofs.Common.{subst, set, ℕ, ◌≡◌, ◌≢◌, ◌⊎◌, ◌<◌, ◌≤◌, ◌+◌, ◌==◌, ◌&&◌, inl, inr, ⊎_elim, Bool, true, false, List, length}
+use Rattle.std.proofs.Common.{take, get_or, Option, None, Some, arith, refl, sym, ◌∙◌, ap, length-set, get_or-set_same, get_or-set_other}
 use Rattle.std.specs.Prelude.{if◌then◌else◌, slice_index, sum_by}
 use Rattle.std.proofs.lemmas.Grind.{common_steps}
 use Rattle.std.proofs.lemmas.Bool.{cases_eq, cases_lt, cases_Bool}

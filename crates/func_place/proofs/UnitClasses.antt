@@ -1,6 +1,5 @@
 -- Units, from the groups of functions by the pairs that lead into each other.
-use Rattle.std.proofs.Common.{subst, ℕ, ◌≡◌, ◌≢◌, ◌↔◌, ◌<◌, ◌≤◌, List, [], length, get_or, sym, ◌∙◌, ap, refl, arith, ⊎_elim, inl}
-use Rattle.std.proofs.Common.{inr}
+use Rattle.std.proofs.Common.{subst, ℕ, ◌≡◌, ◌≢◌, ◌↔◌, ◌<◌, ◌≤◌, List, [], length, get_or, sym, ◌∙◌, ap, refl, arith, ⊎_elim, inl, inr}
 use Rattle.std.specs.Prelude.{All, Contains, slice_index}
 use Rattle.std.proofs.lemmas.Bool.{cases_eq}
 use Rattle.std.proofs.lemmas.List.{get_or_default}

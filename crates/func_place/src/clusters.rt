@@ -1,7 +1,6 @@
 // Clusters of hot units.
 ghost use Rattle.std.specs.Prelude.{◌≡◌, ◌≢◌, ℕ, ◌+◌, ◌<◌, ◌≤◌, ◌^◌, ◌++◌, None, Some, List, All, length, sum, sum_by};
-ghost use Rattle.std.specs.Prelude.{OnOk};
-ghost use Rattle.std.specs.Prelude.{IfOk, slice_index, slice_index_or};
+ghost use Rattle.std.specs.Prelude.{OnOk, IfOk, slice_index, slice_index_or};
 ghost use Rattle.std.specs.List.{flat_map};
 ghost use Rattle.func_place.specs.Clusters.{alone, appended, clusters_of, AreWithinLimit};
 ghost use Rattle.func_place.specs.Ranks.{begins};

@@ -1,7 +1,6 @@
 -- Steps of following references.
 use Rattle.std.proofs.Common.{◌≡◌, ◌∙◌, ◌<◌, ◌≤◌, ◌+◌, ◌==◌, ℕ, zero, suc, Bool, true, false, cond, List, [], ◌∷◌, Option, Some, None, refl}
-use Rattle.std.proofs.Common.{sym, ap, subst, arith}
-use Rattle.std.proofs.Common.{drop, get_or, length, map}
+use Rattle.std.proofs.Common.{sym, ap, subst, arith, drop, get_or, length, map}
 use Rattle.std.specs.Prelude.{◌||◌, if◌then◌else◌, is_some, option_map}
 use Rattle.std.specs.BTreeMap.{BTreeMap, get, is_at}
 use Rattle.std.specs.BTreeSet.{BTreeSet, contains}

@@ -11,8 +11,7 @@ use Rattle.table_core.specs.Texts.{text_in}
 use Rattle.table_core.specs.declared.form.TheConstants.{DW_FORM_addr, DW_FORM_string, DW_FORM_strp, DW_FORM_line_strp}
 use Rattle.table_core.specs.declared.form.TheConstants.{DW_FORM_ref_addr, DW_FORM_ref_udata}
 use Rattle.dw_unit.specs.declared.entry.Attr.{Attr}
-use Rattle.dw_unit.specs.declared.attribute.TheConstants.{DW_AT_name, DW_AT_abstract_origin, DW_AT_specification}
-use Rattle.dw_unit.specs.declared.attribute.TheConstants.{DW_AT_str_offsets_base}
+use Rattle.dw_unit.specs.declared.attribute.TheConstants.{DW_AT_name, DW_AT_abstract_origin, DW_AT_specification, DW_AT_str_offsets_base}
 use Rattle.dw_unit.specs.Changes.{names_base}
 use Rattle.dw_unit.specs.CompUnits.{Entry, Unit, units, entries, attr, base, number_in, value_bytes}
 use Rattle.inline_frames.specs.Names.{name_sections, unit_of_entry, text_of_index, text_of, target_of, referred}

@@ -5,8 +5,7 @@ use Rattle.std.specs.List.{find}
 use Rattle.std.specs.Option.{option_or}
 use Rattle.elf_image.specs.declared.elf.Elf.{Elf}
 use Rattle.table_core.specs.declared.form.TheConstants.{DW_FORM_string, DW_FORM_strp, DW_FORM_line_strp}
-use Rattle.table_core.specs.declared.form.TheConstants.{DW_FORM_ref_addr}
-use Rattle.table_core.specs.declared.form.TheConstants.{DW_FORM_ref_udata}
+use Rattle.table_core.specs.declared.form.TheConstants.{DW_FORM_ref_addr, DW_FORM_ref_udata}
 use Rattle.table_core.specs.AttributeForms.{is_text_index}
 use Rattle.table_core.specs.Texts.{text_in}
 use Rattle.table_core.specs.Sections.{bytes_of}

@@ -20,8 +20,7 @@ use Rattle.line_rewrite.specs.LineMachine.{rows_from, rows_behind, sequences_fro
 use Rattle.line_rewrite.specs.LineMachine.{after_op, after_row, effect_of, start, advanced}
 use Rattle.line_rewrite.specs.WrittenPrograms.{after_rows}
 use Rattle.line_rewrite.proofs.Ascending.{Follow}
-use Rattle.line_rewrite.specs.Written.{IsRow, written_coding, unless, line_distance, above_base}
-use Rattle.line_rewrite.specs.Written.{step_ops, row_ops, rows_ops}
+use Rattle.line_rewrite.specs.Written.{IsRow, written_coding, unless, line_distance, above_base, step_ops, row_ops, rows_ops}
 
 -- operations that append rows and make t of r
 pub data Does (coding : Coding) : Registers → List LineOp → List Registers → Registers → Type 0 where

@@ -183,8 +183,7 @@ path_there directories file h = by (is_absolute file.name)
     by true = record { x = file.name; is = refl }
     by false = record {
       x = directory_path first.x.name file.directory directory.x.name ++ slash ∷ file.name;
-      is = rw
-          (first.is, directory.is) refl;
+      is = rw (first.is, directory.is) refl;
     }
 
 row_there : (u : LineUnit) (r : Registers) → r.file < length u.files

@@ -118,8 +118,7 @@ module _ (strings : Strings) (coding : Coding) (maximum : ℕ) (left : List ℕ)
             lengths = lengths;
             tables = take (length rest - length m) rest;
             directories = directories;
-            files =
-                files;
+            files = files;
           })
       header_is = rw (here, d, f) refl
 

@@ -25,8 +25,7 @@ use Rattle.line_rewrite.specs.LineUnits.{LineUnit, unit_in}
 use Rattle.line_rewrite.specs.FilePaths.{file_path, path_at}
 use Rattle.line_rewrite.specs.KeptUnits.{told_unit}
 use Rattle.line_rewrite.specs.Keeping.{AreKept, Begins}
-use Rattle.line_rewrite.specs.SequenceIndex.{all_numbered, kept_range, place_of, IsIndexOf, numbered_at, unit_sequence, IsFound}
-use Rattle.line_rewrite.specs.SequenceIndex.{IsSame}
+use Rattle.line_rewrite.specs.SequenceIndex.{all_numbered, kept_range, place_of, IsIndexOf, numbered_at, unit_sequence, IsFound, IsSame}
 use Rattle.line_rewrite.specs.Tables.{LineSections, line_at}
 use Rattle.line_rewrite.specs.UnitLists.{place_range, AreLines}
 use Rattle.line_rewrite.specs.Walks.{Ascends}

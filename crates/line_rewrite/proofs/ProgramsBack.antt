@@ -1,8 +1,7 @@
 -- Programs that are written for pieces: their operations are read again, take all of the bytes, and have few.
 use Rattle.std.proofs.Common.{◌≡◌, ◌<◌, ◌≤◌, ◌-◌, ◌+◌, ◌*◌, ◌^◌, ◌==◌, ◌++◌, ◌&&◌, ℕ, List, [], ◌∷◌, refl, arith, ◌∙◌, ap}
 use Rattle.std.specs.Bool.{beq}
-use Rattle.std.proofs.Common.{Bool, true, false, cond, not, nat_le, nat_lt, length, length-append, Option, Some, None}
-use Rattle.std.proofs.Common.{FitsSigned}
+use Rattle.std.proofs.Common.{Bool, true, false, cond, not, nat_le, nat_lt, length, length-append, Option, Some, None, FitsSigned}
 use Rattle.std.proofs.lemmas.Bool.Decides.{nat_tests}
 use Rattle.std.proofs.lemmas.Int.{ints}
 use Rattle.std.proofs.lemmas.List.Sums.{sum_by-cons}
@@ -21,8 +20,7 @@ use Rattle.line_rewrite.specs.declared.operation.LineOp.TheVariants.{EndSequence
 use Rattle.line_rewrite.specs.declared.run_writer.Going.{Going}
 use Rattle.line_rewrite.specs.Operations.{is_whole, whole_within}
 use Rattle.line_rewrite.specs.LineMachine.{after_row}
-use Rattle.line_rewrite.specs.Written.{IsRow, unless, line_distance, above_base, step_ops, row_ops, rows_ops, spelled}
-use Rattle.line_rewrite.specs.Written.{all_spelled}
+use Rattle.line_rewrite.specs.Written.{IsRow, unless, line_distance, above_base, step_ops, row_ops, rows_ops, spelled, all_spelled}
 use Rattle.line_rewrite.specs.WrittenPrograms.{Piece, piece_end, opened, close_ops, open_ops, run_ops, piece_ops, going_after, closing_ops}
 use Rattle.line_rewrite.proofs.PieceSequences.{program_ops}
 use Rattle.line_rewrite.proofs.RowOps.{spelled_append, first2, first3, first4, first5, first6, first7, first8}

@@ -89,8 +89,7 @@ ok_shortens x bytes = record {
 pub less_shortens : {X : Type 0} (k : ℕ) (bytes : List ℕ) (found : Result (X × List ℕ) Gap) → Shortens k bytes found →
     Shortens 0 bytes found
 less_shortens k bytes found s = record {
-  shorter = λ x rest e. let h : length rest + k ≤ length bytes = s.shorter x rest e in
-      omega arith;
+  shorter = λ x rest e. let h : length rest + k ≤ length bytes = s.shorter x rest e in omega arith;
   behind = s.behind;
 }
 

@@ -1,7 +1,6 @@
 -- What is written is read again.
-use Rattle.std.proofs.Common.{◌≡◌, ◌<◌, ◌≤◌, ◌-◌, ◌+◌, ◌^◌, ◌==◌, ◌++◌, ℕ, ℤ, List, [], ◌∷◌, refl, arith, sym, ◌∙◌, ap}
-use Rattle.std.proofs.Common.{append_assoc, length, length-append, drop, take, true, false, nat_lt, nat_le, Result, Ok}
-use Rattle.std.proofs.Common.{FitsSigned}
+use Rattle.std.proofs.Common.{◌≡◌, ◌<◌, ◌≤◌, ◌-◌, ◌+◌, ◌^◌, ◌==◌, ◌++◌, ℕ, ℤ, List, [], ◌∷◌, refl, arith, sym, ◌∙◌, ap, append_assoc}
+use Rattle.std.proofs.Common.{length, length-append, drop, take, true, false, nat_lt, nat_le, Result, Ok, FitsSigned}
 use Rattle.std.specs.Int.{w64}
 use Rattle.std.proofs.lemmas.Bool.Decides.{nat_tests}
 use Rattle.std.proofs.lemmas.Grind.{common_steps}

@@ -121,8 +121,7 @@ module _ (stmt : Bool) (files : ℕ) where
           ((cond b (rows_ops g.registers u.rows) (close_ops g ++ open_ops (written_coding stmt) u.start u.rows)
           ++ program_ops (written_coding stmt)
           (Some (record {
-            registers = after_rows
-                (cond b g.registers (opened (written_coding stmt) u.start)) u.rows;
+            registers = after_rows (cond b g.registers (opened (written_coding stmt) u.start)) u.rows;
             end = piece_end u;
           })) us) ++ more)
           ≡ cond b (u.rows ++ rows_on (piece_end u) us) []
@@ -201,8 +200,7 @@ module _ (stmt : Bool) (files : ℕ) where
           (cond b (rows_ops g.registers u.rows) (close_ops g ++ open_ops (written_coding stmt) u.start u.rows)
           ++ program_ops (written_coding stmt)
           (Some (record {
-            registers = after_rows
-                (cond b g.registers (opened (written_coding stmt) u.start)) u.rows;
+            registers = after_rows (cond b g.registers (opened (written_coding stmt) u.start)) u.rows;
             end = piece_end u;
           })) us)
           ≡ record { rows = whole; end = cond b (end_on (piece_end u) us) g.end } ∷ cond b (others_on (piece_end u) us) (strand u us)
@@ -295,8 +293,7 @@ module _ (stmt : Bool) (files : ℕ) where
           (cond b (rows_ops g.registers u.rows) (close_ops g ++ open_ops (written_coding stmt) u.start u.rows)
           ++ program_ops (written_coding stmt)
           (Some (record {
-            registers = after_rows
-                (cond b g.registers (opened (written_coding stmt) u.start)) u.rows;
+            registers = after_rows (cond b g.registers (opened (written_coding stmt) u.start)) u.rows;
             end = piece_end u;
           })) us)
           ≡ true

@@ -1,7 +1,6 @@
 -- The written table, read again: it has no fault, and says what its runs do.
-use Rattle.std.proofs.Common.{◌≡◌, ◌∙◌, ◌<◌, ◌+◌, ◌^◌, ℕ, zero, suc, Bool, true, false, cond, List, []}
-use Rattle.std.proofs.Common.{◌∷◌, Option, Some, None, refl, sym, ap, subst, arith, length, option_map}
-use Rattle.std.proofs.Common.{get_or}
+use Rattle.std.proofs.Common.{◌≡◌, ◌∙◌, ◌<◌, ◌+◌, ◌^◌, ℕ, zero, suc, Bool, true, false, cond, List, [], ◌∷◌, Option, Some, None, refl, sym}
+use Rattle.std.proofs.Common.{ap, subst, arith, length, option_map, get_or}
 use Rattle.std.proofs.lemmas.Option.{same_Some}
 use Rattle.std.specs.Prelude.{find, slice_get}
 use Rattle.std.specs.Option.{option_or}
@@ -21,8 +20,7 @@ use Rattle.line_rewrite.specs.WrittenUnits.{written_units}
 use Rattle.line_rewrite.specs.WrittenUnits as unit
 use Rattle.line_rewrite.proofs.FoundRows.{unit_stands, rows_filed, some_rows, piece_rows, moved_count}
 use Rattle.line_rewrite.proofs.HeadersBack.{written_unit, piece_program}
-use Rattle.line_rewrite.proofs.RunPieces.{with_pieces, pieces_closed, pieces, has_run, runs_begun, Codes, AllCode}
-use Rattle.line_rewrite.proofs.RunPieces.{Fits, AllFit, pieces_are}
+use Rattle.line_rewrite.proofs.RunPieces.{with_pieces, pieces_closed, pieces, has_run, runs_begun, Codes, AllCode, Fits, AllFit, pieces_are}
 use Rattle.line_rewrite.proofs.Strands.{ArePieceRows, ArePieces}
 use Rattle.line_rewrite.proofs.UnitSizes.{placed_count, begun_count}
 

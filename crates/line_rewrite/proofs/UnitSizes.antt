@@ -1,7 +1,6 @@
 -- How many bytes units that are written have, and how they are written part by part.
 use Rattle.std.proofs.Common.{◌≡◌, ◌≤◌, ◌<◌, ◌+◌, ◌-◌, ◌^◌, ◌++◌, ℕ, List, [], ◌∷◌, refl, sym, ◌∙◌, ap, arith, append_assoc, length}
-use Rattle.std.proofs.Common.{length-append, length-drop, length-set, drop, get_or, zero, suc, append-nil, subst, Option, Some}
-use Rattle.std.proofs.Common.{None}
+use Rattle.std.proofs.Common.{length-append, length-drop, length-set, drop, get_or, zero, suc, append-nil, subst, Option, Some, None}
 use Rattle.std.specs.Prelude.{All}
 use Rattle.std.proofs.lemmas.List.{at_drop_more}
 use Rattle.std.proofs.lemmas.List.Elements.{All-head, All-tail}

@@ -6,8 +6,7 @@ use Rattle.rb_bytes.specs.Options.{only_if}
 use Rattle.line_rewrite.specs.declared.content.TheConstants.{DW_LNCT_path, DW_LNCT_directory_index, DW_LNCT_MD5}
 use Rattle.line_rewrite.specs.declared.entry.Found as code
 use Rattle.line_rewrite.specs.Entries.{◌>>=◌, ok, Value, Format, Named, Strings, text_of, index_of, form_here}
-use Rattle.line_rewrite.specs.Entries.{read_value}
-use Rattle.line_rewrite.specs.Entries.{contents_at, named}
+use Rattle.line_rewrite.specs.Entries.{read_value, contents_at, named}
 use Rattle.line_rewrite.specs.KeptEntries.{told_name}
 
 -- as many as are counted, one after another

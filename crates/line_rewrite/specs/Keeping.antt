@@ -1,7 +1,6 @@
 -- Kept states of a walk.
 use Rattle.std.specs.Prelude.{◌≡◌, ◌≤◌, ◌<◌, ◌||◌, ℕ, zero, suc, Bool, false, List, [], ◌∷◌, ◌++◌, nat_le, nat_lt}
-use Rattle.std.specs.Prelude.{if◌then◌else◌}
-use Rattle.std.specs.Prelude.{length, drop, slice_index_or}
+use Rattle.std.specs.Prelude.{if◌then◌else◌, length, drop, slice_index_or}
 use Rattle.line_rewrite.specs.declared.coding.Coding.{Coding}
 use Rattle.line_rewrite.specs.declared.registers.Registers.{Registers}
 use Rattle.line_rewrite.specs.declared.kept.Kept.{Kept}

@@ -1,6 +1,5 @@
 -- The units of a line table, as they are kept.
-use Rattle.std.specs.Prelude.{⊤, ◌≡◌, ◌≤◌, ◌+◌, ℕ, All, List, length, map, sum_by, Option, Some, None}
-use Rattle.std.specs.Prelude.{position}
+use Rattle.std.specs.Prelude.{⊤, ◌≡◌, ◌≤◌, ◌+◌, ℕ, All, List, length, map, sum_by, Option, Some, None, position}
 use Rattle.rb_bytes.specs.declared.fault.FaultKind.TheVariants.{LineFault}
 use Rattle.rb_bytes.specs.declared.fault.Refusal.{Refusal}
 use Rattle.rb_bytes.specs.declared.fault.Refusal.TheVariants as refusal

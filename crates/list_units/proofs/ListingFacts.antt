@@ -20,8 +20,7 @@ use Rattle.dw_lists.specs.KnownLists.{location_list}
 use Rattle.dw_lists.specs.Lists.{locations_kind, has_list, list_of, list_offset}
 use Rattle.dw_lists.specs.UnitLists.{own_place}
 use Rattle.list_units.specs.Listing.{ListItem, list_index, list_named, item_of, attr_items, entry_items, unit_items, IsNameOf, AreNamesOf}
-use Rattle.list_units.specs.Listing.{HasMore}
-use Rattle.list_units.specs.Listing.{name_of, list_found, index_found}
+use Rattle.list_units.specs.Listing.{HasMore, name_of, list_found, index_found}
 use Rattle.list_units.proofs.LocationFacts.{number_same}
 use Rattle.list_units.proofs.PlainUnits.{whole}
 use Rattle.list_units.proofs.Zips.{zip_each, zip_push}

@@ -1,7 +1,6 @@
 -- Location lists that were read, and the attributes that name them.
 use Rattle.std.proofs.Common.{◌≡◌, ◌∙◌, ◌==◌, ◌<◌, ◌≤◌, ◌++◌, ◌∷◌, [], ℕ, Bool, true, false, List, Option, Some, None, BTreeMap, refl, sym}
-use Rattle.std.proofs.Common.{ap, subst, arith}
-use Rattle.std.proofs.Common.{length, filter, append-nil, append_assoc, cond, nat_cmp}
+use Rattle.std.proofs.Common.{ap, subst, arith, length, filter, append-nil, append_assoc, cond, nat_cmp}
 use Rattle.std.specs.Prelude.{All, if◌then◌else◌, flat_map, option_and_then}
 use Rattle.std.specs.BTreeMap.{get, is_at}
 use Rattle.std.specs.Global.{Vec}
@@ -26,8 +25,7 @@ use Rattle.dw_lists.specs.KnownLists.{location_list}
 use Rattle.dw_lists.specs.Lists.{locations_kind, list_offset, list_at}
 use Rattle.cover_lists.specs.Located.{Located, in_force}
 use Rattle.dw_lists.specs.Locations.{block_of, expressions_of, PlaceSaid, attr_says}
-use Rattle.list_units.specs.UnitLocations.{source_says, IsListed, IsSourceOf, IsNamedSource, AreRead, located_says, all_located}
-use Rattle.list_units.specs.UnitLocations.{located_of}
+use Rattle.list_units.specs.UnitLocations.{source_says, IsListed, IsSourceOf, IsNamedSource, AreRead, located_says, all_located, located_of}
 use Rattle.list_units.specs.UnitLocations.{IsHeld, IsNear, attr_said, AreLocated}
 use Rattle.dw_lists.proofs.RangeLists.{known_with}
 

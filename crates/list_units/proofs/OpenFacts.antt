@@ -1,7 +1,6 @@
 -- Entries that are open: what stays so, and the nearest ranges.
 use Rattle.std.proofs.Common.{◌≡◌, ◌∙◌, ◌+◌, ◌-◌, ◌<◌, ◌≤◌, ◌++◌, ◌∷◌, [], ℕ, Bool, true, false, List, Option, Some, None, refl, sym, ap}
-use Rattle.std.proofs.Common.{subst, arith}
-use Rattle.std.proofs.Common.{length, get_or, reverse}
+use Rattle.std.proofs.Common.{subst, arith, length, get_or, reverse}
 use Rattle.std.specs.Prelude.{if◌then◌else◌, filter_map, is_some, not, nat_le, nat_lt, slice_get}
 use Rattle.std.specs.List.{cons_option}
 use Rattle.std.specs.Option.{option_or, option_to_list}

@@ -1,7 +1,6 @@
 -- Entries of a unit with their ranges and locations, one entry more.
 use Rattle.std.proofs.Common.{◌≡◌, ◌∙◌, ◌+◌, ◌<◌, ◌≤◌, ◌++◌, ◌∷◌, [], ℕ, true, false, List, Option, None, BTreeMap, refl, sym, ap, subst}
-use Rattle.std.proofs.Common.{arith}
-use Rattle.std.proofs.Common.{length, reverse, append-nil, append_assoc, map, get_or, take, drop}
+use Rattle.std.proofs.Common.{arith, length, reverse, append-nil, append_assoc, map, get_or, take, drop}
 use Rattle.std.proofs.lemmas.Bool.{and_parts}
 use Rattle.std.proofs.lemmas.List.{drop_all, drop_more, take_all, take_more, map_push, reverse-append}
 use Rattle.dw_unit.proofs.UnitReadings.{flat-more}

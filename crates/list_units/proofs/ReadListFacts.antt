@@ -1,7 +1,6 @@
 -- The lists of a unit as they are read, one offset after another.
 use Rattle.std.proofs.Common.{◌≡◌, ◌≢◌, ◌∙◌, ◌==◌, ◌||◌, ◌&&◌, ◌++◌, ◌∷◌, [], ℕ, Bool, true, false, List, Option, Some, None, BTreeMap}
-use Rattle.std.proofs.Common.{refl, sym, ap}
-use Rattle.std.proofs.Common.{arith, map, filter, append-nil, append_assoc, cond, nat_cmp, subst}
+use Rattle.std.proofs.Common.{refl, sym, ap, arith, map, filter, append-nil, append_assoc, cond, nat_cmp, subst}
 use Rattle.std.specs.Prelude.{if◌then◌else◌, filter_map, is_some}
 use Rattle.std.specs.BTreeMap.{IsEmpty, get, is_at}
 use Rattle.std.specs.List.{find, cons_option}

@@ -16,8 +16,7 @@ use Rattle.dw_unit.specs.ListedEntries.{ListedEntry, listed}
 use Rattle.dw_unit.specs.ListedUnits.{listed_unit}
 use Rattle.dw_unit.specs.UnitReadings.{IsReading}
 use Rattle.dw_unit.proofs.Leasts.{least-append}
-use Rattle.dw_unit.proofs.UnitReadings.{places_more, unformed_more, bad_before, bad_now, still_good}
-use Rattle.dw_unit.proofs.UnitReadings.{oks-append, flat-more}
+use Rattle.dw_unit.proofs.UnitReadings.{places_more, unformed_more, bad_before, bad_now, still_good, oks-append, flat-more}
 use Rattle.cover_lists.specs.declared.groups.Groups.{Groups}
 use Rattle.cover_lists.specs.declared.groups.RangedEntry.{RangedEntry}
 use Rattle.list_units.specs.declared.range_reading.Progress.{Progress}

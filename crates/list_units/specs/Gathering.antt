@@ -52,8 +52,7 @@ seen_kept covers kept a =
       place = r.place;
       own = r.own;
       index = r.index;
-      held = group_holds covers r.group
-          a;
+      held = group_holds covers r.group a;
     })
     kept
 

@@ -1,7 +1,6 @@
 -- Lists that are written are read back.
 use Rattle.std.proofs.Common.{ℕ, zero, suc, ◌≤◌, ◌≡◌, ◌==◌, List, [], ◌∷◌, ◌++◌, Option, Some, Result, Ok, cond, Bool, false, refl, ◌∙◌, ap}
-use Rattle.std.proofs.Common.{subst, arith, length}
-use Rattle.std.proofs.Common.{append_assoc, length-append, map, option_map}
+use Rattle.std.proofs.Common.{subst, arith, length, append_assoc, length-append, map, option_map}
 use Rattle.std.specs.Prelude.{All}
 use Rattle.std.proofs.lemmas.List.Elements.{All-head, All-tail}
 use Rattle.rb_bytes.specs.Readers.{and_then}

@@ -19,8 +19,7 @@ use Rattle.dw_lists.specs.declared.list_kind.ListKind.{ListKind}
 use Rattle.dw_lists.specs.declared.list_kind.ListKind.TheVariants.{Ranges, Locations}
 use Rattle.dw_lists.specs.declared.named_list.NamedList.{NamedList}
 use Rattle.list_writer.specs.WrittenTables.{base_name, is_of, key, IsNaming, AreInOrder, IsListed, bytes_in, AreNames, Keeps, name_at}
-use Rattle.list_writer.specs.WrittenTables.{base_at}
-use Rattle.list_writer.specs.WrittenTables.{IsOffsetGiven, IsEntryPut, IsPut, ArePut, keys_end}
+use Rattle.list_writer.specs.WrittenTables.{base_at, IsOffsetGiven, IsEntryPut, IsPut, ArePut, keys_end}
 use Rattle.list_writer.proofs.WrittenLists.{longer_begins}
 
 -- a member of a list with one more

@@ -15,8 +15,7 @@ use Rattle.dw_lists.specs.declared.list_kind.ListKind.{ListKind}
 use Rattle.dw_lists.specs.declared.named_list.NamedList.{NamedList}
 use Rattle.dw_lists.specs.Faults.{is_list_table}
 use Rattle.list_writer.specs.WrittenTables.{bytes_in, base_name, Begins, AreNames, Keeps, base_at, IsPut, ArePut, keys_end, list_header}
-use Rattle.list_writer.specs.WrittenTables.{offset_of, list_offsets, list_table}
-use Rattle.list_writer.specs.WrittenTables.{IsTablePut, StandsAt, IsNamed, IsUnitWritten}
+use Rattle.list_writer.specs.WrittenTables.{offset_of, list_offsets, list_table, IsTablePut, StandsAt, IsNamed, IsUnitWritten}
 use Rattle.list_writer.proofs.PutEntries.{keeps_more, new_name, names_less, names_base}
 use Rattle.list_writer.proofs.SpelledEntries.{length-little}
 
@@ -180,8 +179,7 @@ module _ (lists : List (Vec ℕ)) (tables : List (List ℕ)) (count base : ℕ) 
         head = head;
         more = b.more;
         are = ap (λ (l : List ℕ). tables ++ l ∷ []) split;
-        at_is = omega
-            (arith, a, c, d, e, f, based);
+        at_is = omega (arith, a, c, d, e, f, based);
       }
 
   offset_stands : (i : ℕ) → i < count → StandsAt with_table (base + 4 * i) (little_bytes 4 (offset_of (4 * count) m i))
@@ -201,8 +199,7 @@ module _ (lists : List (Vec ℕ)) (tables : List (List ℕ)) (count base : ℕ) 
         before = tables;
         after = [];
         head = head;
-        more = p.more
-            ++ body;
+        more = p.more ++ body;
         are = ap (λ (l : List ℕ). tables ++ l ∷ []) split;
         at_is = omega (arith, a, d, e, based);
       }

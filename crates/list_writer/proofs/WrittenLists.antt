@@ -41,8 +41,7 @@ module _ (lists : List (Vec ℕ)) (old new : List ℕ) (known more : BTreeMap �
         before = old;
         more = [];
         is = made ∙ ap (λ (x : List ℕ). old ++ x) (sym (append-nil (bytes_in lists number)));
-        at =
-            refl;
+        at = refl;
       }
 
       again : AreListed lists new more

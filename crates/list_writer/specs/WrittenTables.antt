@@ -1,8 +1,7 @@
 -- Tables of lists that are written anew, and where the attributes of units' entries find their lists in them. DWARF 5,
 -- sections 7.28 and 7.29.
 use Rattle.std.specs.Prelude.{◌≡◌, ◌<◌, ◌≤◌, ◌+◌, ◌-◌, ◌*◌, ◌^◌, ℕ, zero, suc, Bool, true, IsTrue, List, [], ◌∷◌, ◌++◌}
-use Rattle.std.specs.Prelude.{All, Contains, length}
-use Rattle.std.specs.Prelude.{unwrap_or, slice_get, Option, Some, None, if◌then◌else◌}
+use Rattle.std.specs.Prelude.{All, Contains, length, unwrap_or, slice_get, Option, Some, None, if◌then◌else◌}
 use Rattle.std.specs.BTreeMap.{BTreeMap, get, is_at}
 use Rattle.std.specs.Global.{Vec}
 use Rattle.std.specs.Ordering.{nat_cmp}

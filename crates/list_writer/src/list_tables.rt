@@ -1,7 +1,6 @@
 // Tables of lists written anew. DWARF 5, sections 7.28 and 7.29.
-ghost use Rattle.std.specs.Prelude.{◌≡◌, ◌++◌, [], ◌+◌, ◌*◌, ◌<◌, ◌≤◌, ◌^◌, ℕ, List, Contains, Some, IfOk, OnOk};
-ghost use Rattle.std.specs.Prelude.{◌∷◌, length};
-ghost use Rattle.std.specs.Prelude.{◌≢◌, ◌-◌, unwrap_or, slice_index_or};
+ghost use Rattle.std.specs.Prelude.{◌≡◌, ◌++◌, [], ◌+◌, ◌*◌, ◌<◌, ◌≤◌, ◌^◌, ℕ, List, Contains, Some, IfOk, OnOk, ◌∷◌};
+ghost use Rattle.std.specs.Prelude.{length, ◌≢◌, ◌-◌, unwrap_or, slice_index_or};
 ghost use Rattle.std.specs.BTreeMap.{get};
 ghost use Rattle.std.specs.Ordering.{nat_cmp};
 ghost use Rattle.byteorder.specs.Endian.{little_bytes};
@@ -10,8 +9,7 @@ ghost use Rattle.dw_lists.specs.declared.list_kind.ListKind as kinds;
 ghost use Rattle.dw_lists.specs.declared.named_list.NamedList as code;
 ghost use Rattle.list_writer.specs.WrittenTables as spec;
 ghost use Rattle.list_writer.specs.WrittenTables.{bytes_in, base_name, AreInOrder, AreListed, IsListed, AreNames};
-ghost use Rattle.list_writer.specs.WrittenTables.{IsEntryPut, ArePut};
-ghost use Rattle.list_writer.specs.WrittenTables.{IsTablePut, IsUnitWritten, AreWritten, OwnsRise};
+ghost use Rattle.list_writer.specs.WrittenTables.{IsEntryPut, ArePut, IsTablePut, IsUnitWritten, AreWritten, OwnsRise};
 
 use dw_lists::list_kind::ListKind;
 use dw_lists::named_list::NamedList;

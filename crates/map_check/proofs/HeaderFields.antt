@@ -11,8 +11,7 @@ use Rattle.elf_image.specs.declared.elf.Elf.{Elf}
 use Rattle.elf_image.specs.declared.segment.Segment.{Segment}
 use Rattle.elf_image.specs.declared.segment.TheConstants.{PHDR_SIZE, PT_GNU_EH_FRAME}
 use Rattle.elf_image.specs.memory.CodeSegment.{executable_end}
-use Rattle.elf_image.specs.memory.HiddenFields.{hidden_in_segment, is_executable_segment, only, p_offset_field, place_fields}
-use Rattle.elf_image.specs.memory.HiddenFields.{size_fields}
+use Rattle.elf_image.specs.memory.HiddenFields.{hidden_in_segment, is_executable_segment, only, p_offset_field, place_fields, size_fields}
 use Rattle.elf_image.specs.memory.LoadedBytes.{Range, is_in_range}
 
 -- Lists of fields, one more at a time.

@@ -1,7 +1,6 @@
 -- From what is known of each clause to the verdict.
-use Rattle.std.proofs.Common.{◌≡◌, ◌<◌, ◌≤◌, ◌∙◌, ℕ, suc, All, Bool, IfNone, IsPermutation, List, None, Option, Some, ap}
-use Rattle.std.proofs.Common.{arith, subst, sym, ⊎_elim, IsTrue, true}
-use Rattle.std.proofs.Common.{Err, IfOk, Ok, Result}
+use Rattle.std.proofs.Common.{◌≡◌, ◌<◌, ◌≤◌, ◌∙◌, ℕ, suc, All, Bool, IfNone, IsPermutation, List, None, Option, Some, ap, arith, subst, sym}
+use Rattle.std.proofs.Common.{⊎_elim, IsTrue, true, Err, IfOk, Ok, Result}
 use Rattle.std.proofs.lemmas.Bool.{cases_lt}
 use Rattle.std.proofs.lemmas.List.Sorted.{All-permutation, IsPermutation-sym}
 use Rattle.rv_code.specs.declared.cell.CodeCell.{CodeCell}

@@ -1,7 +1,6 @@
 -- Bytes that a rewrite keeps, by the segments that load them.
-use Rattle.std.proofs.Common.{◌≡◌, ◌≢◌, ◌<◌, ◌≤◌, ◌+◌, ◌-◌, ◌∙◌, ℕ, Bool, true, false, List, refl, ap, sym, subst, cond, arith}
-use Rattle.std.proofs.Common.{⊎_elim, ◌↔◌, Option, Some, None, IsSome, IsTrue, IsFalse, unwrap_or, option_map}
-use Rattle.std.proofs.Common.{rules}
+use Rattle.std.proofs.Common.{◌≡◌, ◌≢◌, ◌<◌, ◌≤◌, ◌+◌, ◌-◌, ◌∙◌, ℕ, Bool, true, false, List, refl, ap, sym, subst, cond, arith, ⊎_elim, ◌↔◌}
+use Rattle.std.proofs.Common.{Option, Some, None, IsSome, IsTrue, IsFalse, unwrap_or, option_map, rules}
 use Rattle.std.specs.Prelude.{◌||◌}
 use Rattle.std.specs.List.{list_any, Contains}
 use Rattle.std.proofs.Common.{length, get_or, max, ◌^◌}

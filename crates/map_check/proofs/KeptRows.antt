@@ -1,6 +1,5 @@
 -- The rows of JALs, and where control goes on.
-use Rattle.std.proofs.Common.{◌≡◌, ◌∙◌, ℕ, ℤ, suc, zero, Bool, true, false, not, List, refl, ap, sym, subst}
-use Rattle.std.proofs.Common.{◌↔◌, IsTrue}
+use Rattle.std.proofs.Common.{◌≡◌, ◌∙◌, ℕ, ℤ, suc, zero, Bool, true, false, not, List, refl, ap, sym, subst, ◌↔◌, IsTrue}
 use Rattle.std.specs.Prelude.{◌==◌}
 use Rattle.std.proofs.lemmas.Bool.{and_parts, and_from, eq-eqb, eqb-true}
 use Rattle.rv_code.specs.declared.inst.Inst.{Inst}

@@ -1,7 +1,6 @@
 -- The lowest place of the items of a list that lack something, one more item at a time.
 use Rattle.std.proofs.Common.{◌≡◌, ◌≢◌, ◌<◌, ◌≤◌, ◌+◌, ◌∙◌, ℕ, Bool, true, false, not, List, length, get_or, take, arith, refl, ap, sym}
-use Rattle.std.proofs.Common.{subst}
-use Rattle.std.proofs.Common.{inl, inr, ⊎_elim, ◌⊎◌, ◌↔◌, Option, Some, None, IfNone, IsTrue, All, if◌then◌else◌, rules}
+use Rattle.std.proofs.Common.{subst, inl, inr, ⊎_elim, ◌⊎◌, ◌↔◌, Option, Some, None, IfNone, IsTrue, All, if◌then◌else◌, rules}
 use Rattle.std.proofs.lemmas.Bool.{cases_eq, cases_lt}
 use Rattle.std.proofs.lemmas.List.{take_all, get_or_default, get_or-take, length-take}
 use Rattle.std.proofs.lemmas.List.Elements.{All-more}

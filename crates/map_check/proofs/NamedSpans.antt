@@ -1,7 +1,6 @@
 -- Named addresses whose spans are empty.
 use Rattle.std.proofs.Common.{◌≡◌, ◌≢◌, ◌<◌, ◌≤◌, ◌∙◌, ℕ, suc, zero, Bool, true, false, List, [], ◌∷◌, length, get_or, arith, refl, ap, sym}
-use Rattle.std.proofs.Common.{subst, cond}
-use Rattle.std.proofs.Common.{inl, inr, ⊎_elim, ◌⊎◌, Option, Some, None, IfNone, IsTrue, if◌then◌else◌, find, rules}
+use Rattle.std.proofs.Common.{subst, cond, inl, inr, ⊎_elim, ◌⊎◌, Option, Some, None, IfNone, IsTrue, if◌then◌else◌, find, rules}
 use Rattle.std.specs.Prelude.{Any, ◌==◌}
 use Rattle.std.specs.List.{count_by}
 use Rattle.std.specs.List.Sorted.{IsNonDecreasingBy, IsPermutation}

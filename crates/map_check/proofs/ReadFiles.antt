@@ -1,6 +1,5 @@
 -- What is known of files that were read: they are loaded low, and their code cells share no byte.
-use Rattle.std.proofs.Common.{◌≡◌, sym, subst, ap, ℕ, ◌+◌, ◌<◌, ◌≤◌, ⊎_elim, true, List}
-use Rattle.std.proofs.Common.{All, arith, get_or, inl, inr}
+use Rattle.std.proofs.Common.{◌≡◌, sym, subst, ap, ℕ, ◌+◌, ◌<◌, ◌≤◌, ⊎_elim, true, List, All, arith, get_or, inl, inr}
 use Rattle.std.proofs.lemmas.Bool.{cases_lt}
 use Rattle.rb_bytes.proofs.ListLemmas.{all_of, pairs_in}
 use Rattle.rv_code.specs.declared.cell.CodeCell.{CodeCell}

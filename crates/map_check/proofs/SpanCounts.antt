@@ -1,7 +1,6 @@
 -- How many spans an address has.
 use Rattle.std.proofs.Common.{◌≡◌, ◌<◌, ◌≤◌, ◌+◌, ◌∙◌, ℕ, suc, zero, Bool, true, false, List, [], ◌∷◌, length, get_or, arith, refl, ap}
-use Rattle.std.proofs.Common.{cond}
-use Rattle.std.proofs.Common.{⊎_elim}
+use Rattle.std.proofs.Common.{cond, ⊎_elim}
 use Rattle.std.specs.Prelude.{Any}
 use Rattle.std.specs.List.{count_by}
 use Rattle.std.proofs.lemmas.Bool.{cases_Bool}

@@ -1,13 +1,11 @@
 -- A faithful rewrite: what the output has, instruction by instruction, for the code of the input, and byte by byte
 -- for all else. From these facts alone follows that the output keeps the input's runs.
 use Rattle.std.specs.Prelude.{◌≡◌, ℕ, zero, suc, ◌%◌, ◌^◌, ◌≤◌, ◌==◌, ◌||◌, if◌then◌else◌, ℤ, pos, Bool, true, false}
-use Rattle.std.specs.Prelude.{not, IsTrue}
-use Rattle.std.specs.Prelude.{IsFalse, IsSome, IfSome, Option, Some, All, Any, length, option_map}
+use Rattle.std.specs.Prelude.{not, IsTrue, IsFalse, IsSome, IfSome, Option, Some, All, Any, length, option_map}
 use Rattle.std.specs.List.{list_any}
 use Rattle.rv_code.specs.declared.inst.Inst.{Inst}
 use Rattle.rv_code.specs.declared.inst.Inst.TheVariants.{Lui, Auipc, Jal, Jalr, Lb, Lh, Lw, Ld, Lbu, Lhu, Lwu, Sb, Sh}
-use Rattle.rv_code.specs.declared.inst.Inst.TheVariants.{Sw, Sd}
-use Rattle.rv_code.specs.declared.inst.Inst.TheVariants.{Addi}
+use Rattle.rv_code.specs.declared.inst.Inst.TheVariants.{Sw, Sd, Addi}
 use Rattle.rv_code.specs.declared.action.Test.{Test}
 use Rattle.rv_code.specs.declared.action.Action.{Action}
 use Rattle.rv_code.specs.declared.action.Action.TheVariants.{Branch, Jump, JumpTo}

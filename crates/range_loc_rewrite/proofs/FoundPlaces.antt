@@ -1,6 +1,5 @@
 -- What is kept of locations answers what is said of them.
-use Rattle.std.proofs.Common.{◌≡◌, ◌∙◌, ◌++◌, ℕ, false, List, Option, Some, None, refl, sym, ap, subst}
-use Rattle.std.proofs.Common.{length, map, filter, nat_le, All}
+use Rattle.std.proofs.Common.{◌≡◌, ◌∙◌, ◌++◌, ℕ, false, List, Option, Some, None, refl, sym, ap, subst, length, map, filter, nat_le, All}
 use Rattle.std.specs.Prelude.{flat_map, option_map, slice_get}
 use Rattle.std.specs.List.{range_with_len}
 use Rattle.std.specs.List.Sorted.{IsNonDecreasing, IsPermutation}

@@ -65,8 +65,7 @@ module _ (s : ListSections) (covers : List Cover) where
       (λ (same : x ≡ e). inr (record {
         r = r;
         there = (0, omega arith, refl);
-        kept_as = subst (λ (y : Entry). IsKeptAs s covers u y r) same
-            k;
+        kept_as = subst (λ (y : Entry). IsKeptAs s covers u y r) same k;
       }))
       (λ (there : Contains es e). later u e rs (r ∷ rs) (λ q d. Contains-there r rs q d) (paired_entry u es rs e p there))
       (Contains-cons_cases x es e c)
@@ -113,8 +112,7 @@ module _ (s : ListSections) (covers : List Cover) where
         unit = Contains-there x us q.u q.unit;
         e = q.e;
         there = q.there;
-        kept_as =
-            q.kept_as;
+        kept_as = q.kept_as;
       })
       (contains_split front back r c)
 

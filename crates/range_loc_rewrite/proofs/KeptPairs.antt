@@ -71,8 +71,7 @@ module _ (s : ListSections) (covers : List Cover) where
               place = e.place;
               own = own_place u;
               index = ranges_index e.attrs;
-              held =
-                  list_any (holds_address a) ranges;
+              held = list_any (holds_address a) ranges;
             }
                 ∷ (seen_in s u es a ++ more a)
             seen a = same a ∙ ap (λ (o : Option (List Range)). (here o a ++ seen_in s u es a) ++ more a) is

@@ -313,8 +313,7 @@ module _ (s t : ListSections) (spans : List Span) (m : Moves) (tables : List (Li
             by None f g = absurd (cc)
             by (Some ls) f g = record {
               list = ls;
-              said = ap (option_and_then (list_at locations_kind s.locations s.units.addr u))
-                  fine.offset ∙ f;
+              said = ap (option_and_then (list_at locations_kind s.locations s.units.addr u)) fine.offset ∙ f;
             }
 
         abbrev item : ListItem

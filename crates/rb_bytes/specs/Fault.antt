@@ -3,15 +3,11 @@ use Rattle.std.specs.Prelude.{ℕ, List, codes}
 use Rattle.rb_bytes.specs.declared.fault.Fault.{Fault}
 use Rattle.rb_bytes.specs.declared.fault.FaultKind.{FaultKind}
 use Rattle.rb_bytes.specs.declared.fault.FaultKind.TheVariants.{NotElf, Truncated, Flags, NotStatic, ExecSegments}
-use Rattle.rb_bytes.specs.declared.fault.FaultKind.TheVariants.{WritableCode}
-use Rattle.rb_bytes.specs.declared.fault.FaultKind.TheVariants.{HighAddress, CompressedSection, RelocType}
-use Rattle.rb_bytes.specs.declared.fault.FaultKind.TheVariants.{RelocMismatch}
-use Rattle.rb_bytes.specs.declared.fault.FaultKind.TheVariants.{LoMismatch, NarrowDiff, IfuncOrPlt, AlreadyMoved}
-use Rattle.rb_bytes.specs.declared.fault.FaultKind.TheVariants.{BadEntry}
-use Rattle.rb_bytes.specs.declared.fault.FaultKind.TheVariants.{BadInstruction, BareAuipc, BadTarget, UnitTooLong}
-use Rattle.rb_bytes.specs.declared.fault.FaultKind.TheVariants.{KeptBranch}
-use Rattle.rb_bytes.specs.declared.fault.FaultKind.TheVariants.{RegisteredFrames, FrameFault, DwarfVersion, DwarfForm}
-use Rattle.rb_bytes.specs.declared.fault.FaultKind.TheVariants.{HighPcForm}
+use Rattle.rb_bytes.specs.declared.fault.FaultKind.TheVariants.{WritableCode, HighAddress, CompressedSection, RelocType}
+use Rattle.rb_bytes.specs.declared.fault.FaultKind.TheVariants.{RelocMismatch, LoMismatch, NarrowDiff, IfuncOrPlt}
+use Rattle.rb_bytes.specs.declared.fault.FaultKind.TheVariants.{AlreadyMoved, BadEntry, BadInstruction, BareAuipc}
+use Rattle.rb_bytes.specs.declared.fault.FaultKind.TheVariants.{BadTarget, UnitTooLong, KeptBranch, RegisteredFrames}
+use Rattle.rb_bytes.specs.declared.fault.FaultKind.TheVariants.{FrameFault, DwarfVersion, DwarfForm, HighPcForm}
 use Rattle.rb_bytes.specs.declared.fault.FaultKind.TheVariants.{DwarfFault, LineFault, NoRoom, TooLarge}
 
 -- the number of a kind; two kinds share the number 16

@@ -1,8 +1,7 @@
 -- LEB128 numbers. DWARF 5, section 7.6. Each byte carries seven bits of the number, the first byte the lowest. The
 -- top bit is set in every byte but the last.
 use Rattle.std.specs.Prelude.{◌≡◌, ◌≤◌, ◌++◌, ◌+◌, ◌-◌, ◌*◌, ◌/◌, ◌%◌, ◌^◌, ◌+ℤ◌, ◌-ℤ◌, ◌*ℤ◌, ℕ, zero, suc, ℤ, pos}
-use Rattle.std.specs.Prelude.{negsuc, Bool}
-use Rattle.std.specs.Prelude.{List, [], ◌∷◌, nat_lt, if◌then◌else◌, length, take, drop, Result, Ok, Err}
+use Rattle.std.specs.Prelude.{negsuc, Bool, List, [], ◌∷◌, nat_lt, if◌then◌else◌, length, take, drop, Result, Ok, Err}
 use Rattle.std.specs.List.{position_or_len}
 use Rattle.rb_bytes.specs.declared.gap.Gap.{Gap}
 use Rattle.rb_bytes.specs.declared.gap.Gap.TheVariants.{Short, Wide}

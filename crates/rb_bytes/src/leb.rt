@@ -3,8 +3,7 @@ ghost use Rattle.std.specs.Prelude.{◌≡◌, ◌<◌, ◌^◌, ◌++◌, FitsS
 ghost use Rattle.std.specs.Int.{w64};
 ghost use Rattle.std.specs.Option.{SomeIff};
 ghost use Rattle.rb_bytes.specs.Leb.{is_last, uleb_value, sleb_value, signed_bits, low_bits, high_bits};
-ghost use Rattle.rb_bytes.specs.Leb.{fits_seven_bits, uleb};
-ghost use Rattle.rb_bytes.specs.Leb.{sleb, IsShortestUleb, IsShortestSleb};
+ghost use Rattle.rb_bytes.specs.Leb.{fits_seven_bits, uleb, sleb, IsShortestUleb, IsShortestSleb};
 
 use crate::fault::NoMemory;
 

@@ -1,7 +1,6 @@
 // Files in memory.
 ghost use Rattle.std.specs.Prelude.{◌≡◌, ◌≢◌, ◌≤◌, ◌<◌, List, ℕ, Some, None, IsTrue, IsSomeAnd, [], IfOk, OnOk, OnErr};
-ghost use Rattle.std.specs.Prelude.{length};
-ghost use Rattle.std.specs.Prelude.{max, string_bytes, true, unwrap_or, is_none};
+ghost use Rattle.std.specs.Prelude.{length, max, string_bytes, true, unwrap_or, is_none};
 ghost use Rattle.std.specs.Option.{option_copied};
 ghost use Rattle.rb_io.specs.CallResults.{read_failed, write_failed};
 ghost use Rattle.rb_io.specs.Calls.{no_calls, after_call};

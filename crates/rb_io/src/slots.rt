@@ -1,7 +1,6 @@
 // The files in memory by name.
 ghost use Rattle.std.specs.Prelude.{◌≡◌, None, Some, IsTrue, IfOk, IsOk, OnOk, OnErr, length, max, unwrap_or};
-ghost use Rattle.std.specs.Prelude.{string_bytes, true};
-ghost use Rattle.std.specs.Prelude.{false};
+ghost use Rattle.std.specs.Prelude.{string_bytes, true, false};
 ghost use Rattle.rb_io.specs.MemFiles.{has_room};
 ghost use Rattle.rb_io.specs.Names.{Unchanged, UnchangedBut};
 ghost use Rattle.rb_io.specs.Slots.{content_at, room_at};

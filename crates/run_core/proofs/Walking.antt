@@ -187,8 +187,7 @@ module _ {M S C : Type 0} (state_of : M → List ℕ → S) (step : S → Outcom
       fails_at_read rise fails = runs_now answer.ReadFault n (
         below,
         record {
-          cause = λ under. let rose : between.input.faults < after.input.faults = fails.cause under in
-              omega (arith, rise, rose);
+          cause = λ under. let rose : between.input.faults < after.input.faults = fails.cause under in omega (arith, rise, rose);
           trace = came_now.trace;
           state = state_of mid rest_now;
           so_far = came_now.so_far;

@@ -4,8 +4,7 @@ use Rattle.std.specs.Prelude.{◌≡◌, ℕ, ◌<◌, ◌≤◌, ◌^◌, ℤ}
 use Rattle.rv_code.specs.isa.Reach.{IsWithin, Reaches}
 use Rattle.rv_code.specs.declared.inst.Inst.{Inst}
 use Rattle.rv_code.specs.declared.inst.Inst.TheVariants.{Lui, Auipc, Jal, Jalr, Beq, Bne, Blt, Bge, Bltu, Bgeu, Lb, Lh}
-use Rattle.rv_code.specs.declared.inst.Inst.TheVariants.{Lw, Ld}
-use Rattle.rv_code.specs.declared.inst.Inst.TheVariants.{Lbu, Lhu, Lwu, Sb, Sh, Sw, Sd, Addi}
+use Rattle.rv_code.specs.declared.inst.Inst.TheVariants.{Lw, Ld, Lbu, Lhu, Lwu, Sb, Sh, Sw, Sd, Addi}
 use Rattle.rv_code.specs.declared.placed.Width.{Width}
 use Rattle.rv_code.specs.declared.placed.Width.TheVariants as width
 

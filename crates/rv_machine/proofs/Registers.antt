@@ -8,12 +8,11 @@ use Rattle.rv_code.specs.isa.HalfRows.{C_BNEZ, C_SLLI, C_LWSP, C_LDSP, C_JR, C_M
 use Rattle.rv_code.specs.isa.InstBytes.{Decodes}
 use Rattle.rv_code.specs.isa.Action.{action_of}
 use Rattle.rv_code.specs.declared.inst.Inst.{Inst}
-use Rattle.rv_code.specs.declared.inst.Inst.TheVariants.{Lui, Auipc, Jal, Jalr, Lb, Lh, Lw, Ld, Lbu, Lhu, Lwu, Addi, Slti, Sltiu}
-use Rattle.rv_code.specs.declared.inst.Inst.TheVariants.{Xori, Ori, Andi, Slli, Srli, Srai, Add, Sub, Sll, Slt, Sltu, Xor, Srl}
-use Rattle.rv_code.specs.declared.inst.Inst.TheVariants.{Sra, Or, And, Addiw, Slliw, Srliw, Sraiw, Addw, Subw, Sllw, Srlw, Sraw}
-use Rattle.rv_code.specs.declared.inst.Inst.TheVariants.{Mul, Mulh, Mulhsu, Mulhu, Div, Divu, Rem, Remu, Mulw, Divw, Divuw, Remw}
-use Rattle.rv_code.specs.declared.inst.Inst.TheVariants.{Remuw, Sb, Sh, Sw, Sd, Beq, Bne, Blt, Bge, Bltu, Bgeu, Fence, Ecall}
-use Rattle.rv_code.specs.declared.inst.Inst.TheVariants.{Ebreak}
+use Rattle.rv_code.specs.declared.inst.Inst.TheVariants.{Lui, Auipc, Jal, Jalr, Lb, Lh, Lw, Ld, Lbu, Lhu, Lwu, Addi, Slti, Sltiu, Xori, Ori}
+use Rattle.rv_code.specs.declared.inst.Inst.TheVariants.{Andi, Slli, Srli, Srai, Add, Sub, Sll, Slt, Sltu, Xor, Srl, Sra, Or, And, Addiw}
+use Rattle.rv_code.specs.declared.inst.Inst.TheVariants.{Slliw, Srliw, Sraiw, Addw, Subw, Sllw, Srlw, Sraw, Mul, Mulh, Mulhsu, Mulhu, Div}
+use Rattle.rv_code.specs.declared.inst.Inst.TheVariants.{Divu, Rem, Remu, Mulw, Divw, Divuw, Remw, Remuw, Sb, Sh, Sw, Sd, Beq, Bne, Blt}
+use Rattle.rv_code.specs.declared.inst.Inst.TheVariants.{Bge, Bltu, Bgeu, Fence, Ecall, Ebreak}
 use Rattle.rv_machine.specs.State.{HasRegisters}
 
 register : (word rd : ℕ) → field word 7 5 ≡ rd → rd < 32

@@ -1,8 +1,7 @@
 -- Runs of addresses that don't wrap.
 use Rattle.std.proofs.Common.{◌≡◌, ◌∙◌, ◌⊎◌, inl, inr, sym, ap, refl, ℕ, zero, suc, ◌+◌, ◌-◌, ◌*◌, ◌^◌, ◌<◌, ◌≤◌, Bool, true}
 use Rattle.std.proofs.Common.{false, IsTrue, List, [], ◌∷◌, length, Option, Some, None, arith}
-use Rattle.std.specs.Prelude.{◌&&◌, ◌||◌, ◌==◌, nat_le, nat_lt, if◌then◌else◌, unwrap_or, slice_index}
-use Rattle.std.specs.Prelude.{max}
+use Rattle.std.specs.Prelude.{◌&&◌, ◌||◌, ◌==◌, nat_le, nat_lt, if◌then◌else◌, unwrap_or, slice_index, max}
 use Rattle.std.proofs.Common.{◌++◌}
 use Rattle.std.proofs.lemmas.List.{get_or_append_left, get_or-append_right}
 use Rattle.std.specs.List.{list_all, find}
@@ -14,8 +13,7 @@ use Rattle.std.proofs.lemmas.Bool.{lt-ltb, false_from_ne_true, cases_lt, or_case
 use Rattle.rv_code.specs.machine.Machine.{plus, put, all_may}
 use Rattle.elf_image.specs.declared.segment.Segment.{Segment}
 use Rattle.elf_image.specs.declared.elf.Elf.{Elf}
-use Rattle.elf_image.specs.memory.Image.{is_load, end_of, loads_address, segment_of, byte_of, image_byte, has_flag}
-use Rattle.elf_image.specs.memory.Image.{is_loaded_with}
+use Rattle.elf_image.specs.memory.Image.{is_load, end_of, loads_address, segment_of, byte_of, image_byte, has_flag, is_loaded_with}
 use Rattle.elf_image.proofs.LoadLemmas.{loads-parts, loads-from_parts, same_segment}
 use Rattle.rv_memory.specs.Pages.{is_within}
 use Rattle.rv_memory.specs.BlankPages.{misses}

@@ -1,7 +1,6 @@
 -- The byte that the pages have at an address.
 use Rattle.std.specs.Prelude.{◌≡◌, ℕ, ◌+◌, ◌-◌, ◌*◌, ◌/◌, ◌%◌, ◌&&◌, nat_le, nat_lt, if◌then◌else◌, Bool, List, length}
-use Rattle.std.specs.Prelude.{Option}
-use Rattle.std.specs.Prelude.{Some, slice_index}
+use Rattle.std.specs.Prelude.{Option, Some, slice_index}
 use Rattle.std.specs.Option.{option_map}
 use Rattle.rv_memory.specs.PageIndex.{place_of}
 use Rattle.rv_memory.specs.declared.page_index.PageIndex.{PageIndex}

@@ -2,8 +2,7 @@
 -- processors ("Process Initialization"), with Linux's AT_RANDOM. The bytes of a file, of arguments and of input are
 -- below 256, and arguments hold no zero byte.
 use Rattle.std.specs.Prelude.{ℕ, ◌+◌, ◌-◌, ◌*◌, ◌^◌, ◌&&◌, ◌||◌, ◌==◌, nat_lt, nat_le, if◌then◌else◌, Bool, List, []}
-use Rattle.std.specs.Prelude.{◌∷◌, ◌++◌}
-use Rattle.std.specs.Prelude.{length, flat_map, replicate, slice_index, unwrap_or, codes}
+use Rattle.std.specs.Prelude.{◌∷◌, ◌++◌, length, flat_map, replicate, slice_index, unwrap_or, codes}
 use Rattle.rv_code.specs.machine.Machine.{Space, low_bytes, Event, Run, SoFar}
 use Rattle.rv_code.specs.machine.Step.{ByteState, Steps}
 use Rattle.elf_image.specs.declared.segment.Segment.{Segment}

@@ -4,10 +4,8 @@ ghost use Rattle.elf_image.specs.memory.Image.{image_byte, is_loaded_with};
 ghost use Rattle.rv_memory.specs.CodeRange.{is_in_code, is_ever_writable};
 ghost use Rattle.rv_memory.specs.Pages.{page_byte};
 ghost use Rattle.std.specs.Prelude.{◌≡◌, ◌↔◌, ◌<◌, ◌≤◌, ◌^◌, ◌+◌, ◌-◌, ◌*◌, ◌%◌, ◌&&◌, ◌==◌, ℕ, Bool, false, None};
-ghost use Rattle.std.specs.Prelude.{Some, IfOk};
-ghost use Rattle.std.specs.Prelude.{IsOk, IsTrue, OnErr, IfSome, IsSome, length, nat_le, nat_lt, true, slice_index};
-ghost use Rattle.std.specs.Prelude.{unwrap_or};
-ghost use Rattle.std.specs.Prelude.{if◌then◌else◌};
+ghost use Rattle.std.specs.Prelude.{Some, IfOk, IsOk, IsTrue, OnErr, IfSome, IsSome, length, nat_le, nat_lt, true};
+ghost use Rattle.std.specs.Prelude.{slice_index, unwrap_or, if◌then◌else◌};
 
 use crate::code_range::{CodeRange, code_range};
 use crate::image::is_blank;
@@ -54,8 +52,7 @@ pub struct Memory<'a> {
 
 impl<'a> Memory<'a> {
     ghost use Rattle.rv_memory.specs.Memory.{memory_of, unwritten_byte, HasRoom, Keeps, space_in, break_after};
-    ghost use Rattle.rv_memory.specs.Memory.{byte_after};
-    ghost use Rattle.rv_memory.specs.Memory.{gained_by_break, reads, writes, executes, may};
+    ghost use Rattle.rv_memory.specs.Memory.{byte_after, gained_by_break, reads, writes, executes, may};
     ghost use Rattle.elf_image.specs.memory.Break.{writable_end, break_start};
     ghost use Rattle.rv_memory.specs.Start.{in_stack, space_of};
     ghost use Rattle.rv_code.specs.machine.Machine.{plus, memory_bytes, put, little, low_bytes, all_may};

@@ -1,8 +1,7 @@
 // The pages that a program wrote.
 ghost use Rattle.std.specs.Prelude.{◌≡◌, ◌<◌, ◌≤◌, ◌+◌, ◌*◌, ◌-◌, ◌/◌, ◌%◌, ◌^◌, ◌==◌, ◌&&◌, ℕ, false, None, Some};
-ghost use Rattle.std.specs.Prelude.{IfSome, IfOk};
-ghost use Rattle.std.specs.Prelude.{IsOk, IsSome, IsTrue, is_some, OnErr, length, slice_index, nat_le, nat_lt};
-ghost use Rattle.std.specs.Prelude.{if◌then◌else◌};
+ghost use Rattle.std.specs.Prelude.{IfSome, IfOk, IsOk, IsSome, IsTrue, is_some, OnErr, length, slice_index, nat_le};
+ghost use Rattle.std.specs.Prelude.{nat_lt, if◌then◌else◌};
 ghost use Rattle.rv_memory.specs.PageIndex.{place_of};
 ghost use Rattle.rv_memory.specs.Patches.{is_width};
 

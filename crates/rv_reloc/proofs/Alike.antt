@@ -6,8 +6,7 @@ use Rattle.elf_image.specs.declared.elf.Elf.{Elf}
 use Rattle.elf_image.specs.declared.section.Section.{Section}
 use Rattle.elf_code.specs.Cells.{IsDifference, of_labels, of_place, Field}
 use Rattle.elf_code.specs.Fields.{HoldsDifference}
-use Rattle.elf_code.specs.ReferenceFaults.{IsBadCall, IsBadUpper, IsBadLower, IsBadAbsolute, IsBadDifference, IsCall, HasAbsolute}
-use Rattle.elf_code.specs.ReferenceFaults.{IsNarrow}
+use Rattle.elf_code.specs.ReferenceFaults.{IsBadCall, IsBadUpper, IsBadLower, IsBadAbsolute, IsBadDifference, IsCall, HasAbsolute, IsNarrow}
 use Rattle.elf_code.specs.Relocations.{Relocation, relocations, Width, Bits}
 use Rattle.elf_code.specs.Roles.{CallPair, CallTo, PcrelLo, PcrelHiTo, PcrelLoTo, AbsoluteTo, Claims}
 use Rattle.rv_reloc.specs.declared.slots.SlotLabel.{SlotLabel}

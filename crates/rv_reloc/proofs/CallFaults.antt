@@ -143,8 +143,7 @@ jump_there elf parts a part (Some j) are holds inside (link, full) = λ start en
     (record { listed = holds.listed; above = omega arith; below = inside }) full.has.starts in
     record {
       link = link;
-      jalr = subst (λ (p : Part). HasInst elf p.start p.end (a + 4) (Jalr link j.base j.imm) 4)
-          (next_is ∙ sym here_is) full.has;
+      jalr = subst (λ (p : Part). HasInst elf p.start p.end (a + 4) (Jalr link j.base j.imm) 4) (next_is ∙ sym here_is) full.has;
     }
 
 pub jump_full : (elf : Elf) (start end a : ℕ) (j : Jump) → (after : IsJumpAfter elf start end a j) →

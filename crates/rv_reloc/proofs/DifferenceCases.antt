@@ -13,8 +13,7 @@ use Rattle.elf_code.specs.Cells.{IsOnly, same_width, is_plus, is_minus, IsDiffer
 use Rattle.elf_code.specs.Cells.{IsCodeLabel, HasCodeLabel, IsInOneWhole}
 use Rattle.elf_code.specs.Fields.{HoldsDifference}
 use Rattle.elf_code.specs.ReferenceFaults.{IsBadDifference, number, unpaired, IsPaired, IsNarrow}
-use Rattle.elf_code.specs.Relocations.{Relocation, relocations, Width, Bits, Uleb128, plus_width, minus_width}
-use Rattle.elf_code.specs.Relocations.{is_pc_difference, label}
+use Rattle.elf_code.specs.Relocations.{Relocation, relocations, Width, Bits, Uleb128, plus_width, minus_width, is_pc_difference, label}
 use Rattle.rv_reloc.proofs.Ordered.{count-cons, count-some, one_if}
 use Rattle.rv_reloc.specs.declared.differences.Difference.{Difference}
 use Rattle.rv_reloc.specs.Differences.{IsDifferenceOf, IsTheDifference, HoldsOther, IsUnpaired}
@@ -198,8 +197,7 @@ other-found elf r d false is only test = (
     to = d.to;
     from = d.from;
     is = is.is;
-    other = λ holds. let e : false ≡ true = test.1 holds in
-        absurd (cc);
+    other = λ holds. let e : false ≡ true = test.1 holds in absurd (cc);
   },
   λ _. refl,
 )

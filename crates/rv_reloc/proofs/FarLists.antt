@@ -28,8 +28,7 @@ far-makes elf far r are counts is = (
       let (l, low, far_is) = (are.all r.place).0 listed in
       record {
         number = far_is.number;
-        makes = target_upper elf r l far_is.number counts is low far_is.makes
-            (sym far_is.here);
+        makes = target_upper elf r l far_is.number counts is low far_is.makes (sym far_is.here);
         unfit = far_is.unfit;
       },
   λ makes. (are.all r.place).1 (

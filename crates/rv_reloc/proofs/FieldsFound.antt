@@ -13,8 +13,7 @@ use Rattle.elf_code.proofs.Differences.{difference_bits}
 use Rattle.rv_reloc.specs.declared.differences.Difference.{Difference}
 use Rattle.rv_reloc.specs.declared.labels.FieldWidth.{FieldWidth}
 use Rattle.rv_reloc.specs.declared.labels.FieldWidth.TheVariants.{Bits6, Bits8, Bits16, Bits32, Bits64, Uleb128}
-use Rattle.rv_reloc.specs.Candidates.{AreFree, cell_bytes, IsCellField, IsCodeField, IsDifferenceField, IsFieldOf, pointer}
-use Rattle.rv_reloc.specs.Candidates.{difference}
+use Rattle.rv_reloc.specs.Candidates.{AreFree, cell_bytes, IsCellField, IsCodeField, IsDifferenceField, IsFieldOf, pointer, difference}
 use Rattle.rv_reloc.specs.Differences.{IsDifferenceOf, IsTheDifference}
 use Rattle.rv_reloc.specs.Labels.{width_of}
 use Rattle.rv_reloc.specs.GotFields.{IsNamedField, NamesEntry}

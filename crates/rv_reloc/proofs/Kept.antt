@@ -1,6 +1,5 @@
 -- Relocations, and the records that are kept for them.
-use Rattle.std.proofs.Common.{◌≡◌, ◌∙◌, sym, subst, ap, ℕ, ◌↔◌, Bool, ◌==◌, ◌&&◌, IsTrue, List, map}
-use Rattle.std.proofs.Common.{Option, Some, IfSome}
+use Rattle.std.proofs.Common.{◌≡◌, ◌∙◌, sym, subst, ap, ℕ, ◌↔◌, Bool, ◌==◌, ◌&&◌, IsTrue, List, map, Option, Some, IfSome}
 use Rattle.std.specs.List.{Contains, Any}
 use Rattle.std.specs.List.Sorted.{IsPermutation}
 use Rattle.std.proofs.lemmas.List.Sorted.{IsPermutation-map}

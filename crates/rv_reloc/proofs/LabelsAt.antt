@@ -149,8 +149,7 @@ other-cases items place number y z is is' has =
       found = has.found;
       listed = has.listed;
       place_is = has.place_is;
-      below = subst
-          (λ (x : ℤ). has.found.label <ℤ x) (sym is) low;
+      below = subst (λ (x : ℤ). has.found.label <ℤ x) (sym is) low;
     }))
     (λ high. inr
     (record { found = has.found; listed = has.listed; place_is = has.place_is; above = next has.found.label high has.differs }))
@@ -174,6 +173,5 @@ at-cases items place y z same has =
       found = has.found;
       listed = has.listed;
       place_is = has.place_is;
-      above = subst
-          (λ (x : ℤ). x ≤ℤ has.found.label) same high;
+      above = subst (λ (x : ℤ). x ≤ℤ has.found.label) same high;
     }))

@@ -35,8 +35,7 @@ entry_cases elf r (IsBadPair.slot is entry makes unfit) =
     (record {
       number = pos entry;
       makes = makes;
-      unfit = λ (address : IsAddress (pos entry)). let upto = address.1 in
-          omega (arith, ints);
+      unfit = λ (address : IsAddress (pos entry)). let upto = address.1 in omega (arith, ints);
     }))
     (cases_lt entry 0x7fff0001)
 

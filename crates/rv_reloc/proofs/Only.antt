@@ -93,8 +93,7 @@ only-from_map {B = B} f test xs y is =
       record {
         listed = listed;
         passes = subst (λ (z : B). test z ≡ true) (sym same) is.passes;
-        alone = sym (count-map f test xs)
-            ∙ is.alone;
+        alone = sym (count-map f test xs) ∙ is.alone;
       },
       same,
     )

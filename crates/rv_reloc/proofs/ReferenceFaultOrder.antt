@@ -1,8 +1,7 @@
 -- The order of the faults of references, and what their absence says.
 use Rattle.std.proofs.Common.{◌≡◌, sym, subst, refl, ℕ, inl, inr, List, map, arith}
 use Rattle.std.specs.List.{Contains, All}
-use Rattle.rb_bytes.specs.declared.fault.FaultKind.TheVariants.{RelocType, RelocMismatch, LoMismatch, NarrowDiff, IfuncOrPlt}
-use Rattle.rb_bytes.specs.declared.fault.FaultKind.TheVariants.{AlreadyMoved}
+use Rattle.rb_bytes.specs.declared.fault.FaultKind.TheVariants.{RelocType, RelocMismatch, LoMismatch, NarrowDiff, IfuncOrPlt, AlreadyMoved}
 use Rattle.elf_image.specs.declared.elf.Elf.{Elf}
 use Rattle.elf_code.specs.Relocations.{Relocation, relocations}
 use Rattle.rb_bytes.specs.FirstFault.{LacksBelow, IsFree}

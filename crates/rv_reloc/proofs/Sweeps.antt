@@ -8,8 +8,7 @@ use Rattle.std.proofs.lemmas.Bool.{cases_lt}
 use Rattle.std.proofs.lemmas.List.Elements.{Contains-append_left, Contains-push, Contains-push_cases}
 use Rattle.std.proofs.lemmas.List.Quantifiers.{all_pairs_push}
 use Rattle.elf_image.specs.declared.elf.Elf.{Elf}
-use Rattle.elf_code.specs.Cells.{Field, Content, Address, Difference, CanBeCell, Counts, counts, gives_way, IsContentBefore}
-use Rattle.elf_code.specs.Cells.{IsFieldBefore}
+use Rattle.elf_code.specs.Cells.{Field, Content, Address, Difference, CanBeCell, Counts, counts, gives_way, IsContentBefore, IsFieldBefore}
 use Rattle.elf_code.proofs.Counts.{can_of, no_both}
 use Rattle.rv_reloc.specs.CountedFields.{IsFieldUpTo, AreCandidates, AreCounted}
 

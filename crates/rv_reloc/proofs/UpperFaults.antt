@@ -1,6 +1,5 @@
 -- Relocations for upper and lower parts that don't fit.
-use Rattle.std.proofs.Common.{◌≡◌, sym, subst, refl, ℕ, ℤ, ◌↔◌, Bool, true, false, not, ◌&&◌, IsTrue, IsSome, List}
-use Rattle.std.proofs.Common.{Option, Some, None}
+use Rattle.std.proofs.Common.{◌≡◌, sym, subst, refl, ℕ, ℤ, ◌↔◌, Bool, true, false, not, ◌&&◌, IsTrue, IsSome, List, Option, Some, None}
 use Rattle.std.specs.List.{Contains}
 use Rattle.elf_image.specs.declared.elf.Elf.{Elf}
 use Rattle.elf_code.specs.Relocations.{Relocation, HasRelocation, symbol_value, is_pcrel_hi, is_pcrel_lo, is_call_pair}

@@ -1,7 +1,6 @@
 -- Numbers in LEB128 in the memory that a file describes, from one of their bytes on.
 use Rattle.std.specs.Prelude.{◌≡◌, ◌<◌, ◌≤◌, ◌+◌, ◌^◌, ◌↔◌, ℕ, ℤ, pos, negsuc, Bool, true, IsTrue, IsSomeAnd, ◌%◌, List}
-use Rattle.std.specs.Prelude.{Option}
-use Rattle.std.specs.Prelude.{Some, None, length}
+use Rattle.std.specs.Prelude.{Option, Some, None, length}
 use Rattle.std.specs.Int.{int_rem_euclid}
 use Rattle.rb_bytes.specs.Leb.{is_last}
 use Rattle.elf_image.specs.declared.elf.Elf.{Elf}

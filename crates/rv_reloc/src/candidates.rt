@@ -1,7 +1,6 @@
 // The fields that can be cells.
 ghost use Rattle.std.specs.Prelude.{◌≡◌, ◌↔◌, ℕ, ℤ, ◌+◌, ◌<◌, ◌≤◌, ◌++◌, ◌^◌, IsTrue, IsSomeAnd, IfSome, IfOk, OnOk};
-ghost use Rattle.std.specs.Prelude.{OnSome, All};
-ghost use Rattle.std.specs.Prelude.{List, Contains, Some, map, option_map};
+ghost use Rattle.std.specs.Prelude.{OnSome, All, List, Contains, Some, map, option_map};
 ghost use Rattle.elf_code.specs.Cells.{Field, address_width};
 ghost use Rattle.elf_code.specs.FileCode.{AreStarts};
 ghost use Rattle.elf_image.specs.memory.LoadedBytes.{IsInHeaders};

@@ -1,7 +1,6 @@
 // The fields to which relocations apply: whether they lie in their sections, and whether they hold differences.
 ghost use Rattle.std.specs.Prelude.{◌≡◌, ◌↔◌, ◌≤◌, ◌<◌, ◌+◌, ◌%◌, ◌^◌, ℤ, pos, ◌-ℤ◌, IsTrue, IfOk, All, List, ℕ, Some};
-ghost use Rattle.std.specs.Prelude.{length};
-ghost use Rattle.std.specs.Prelude.{option_map};
+ghost use Rattle.std.specs.Prelude.{length, option_map};
 ghost use Rattle.std.specs.Int.{int_rem_euclid};
 ghost use Rattle.elf_code.specs.Fields.{leb_field, width_size, fixed_size, field_size, HasField, bytes_of_bits};
 ghost use Rattle.elf_code.specs.Fields.{HoldsDifference};

@@ -1,14 +1,12 @@
 // The labels that entries of the global offset table are to hold.
 ghost use Rattle.std.specs.Prelude.{◌≡◌, ◌↔◌, ◌<◌, ◌≤◌, ℕ, pos, IfOk, OnOk, IfSome, IsTrue, IsSomeAnd, Some, Contains};
-ghost use Rattle.std.specs.Prelude.{AllPairs};
-ghost use Rattle.std.specs.Prelude.{length, slice_index_or};
+ghost use Rattle.std.specs.Prelude.{AllPairs, length, slice_index_or};
 ghost use Rattle.std.specs.List.Sorted.{IsPermutation};
 ghost use Rattle.rv_reloc.specs.declared.slots.SlotLabel.{SlotLabel};
 ghost use Rattle.rv_reloc.specs.Finds.{AreFound};
 ghost use Rattle.rv_reloc.specs.Records.{seen, AreRecords};
 ghost use Rattle.rv_reloc.specs.Slots.{IsSlotLabelOf, IsLabelBelow, IsLabelFrom, AreSlotLabels, HasLabelAt};
-ghost use Rattle.rv_reloc.specs.Slots.{HasLabelBelow};
-ghost use Rattle.rv_reloc.specs.Slots.{HasLabelFrom, HasOtherLabel};
+ghost use Rattle.rv_reloc.specs.Slots.{HasLabelBelow, HasLabelFrom, HasOtherLabel};
 
 use crate::labels::label;
 use crate::records::Record;

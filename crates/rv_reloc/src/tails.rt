@@ -1,7 +1,6 @@
 // Numbers in LEB128, which may be as long as they like: their ends, found once for all that end together.
 ghost use Rattle.std.specs.Prelude.{◌≡◌, ◌<◌, ◌≤◌, ◌+◌, ◌-◌, ◌*◌, ◌^◌, ◌↔◌, ℕ, ℤ, pos, negsuc, ◌∷◌, [], ◌%◌, List};
-ghost use Rattle.std.specs.Prelude.{IsTrue, IfOk};
-ghost use Rattle.std.specs.Prelude.{IfSome, OnSome, OnOk, All, length, Option};
+ghost use Rattle.std.specs.Prelude.{IsTrue, IfOk, IfSome, OnSome, OnOk, All, length, Option};
 ghost use Rattle.std.specs.List.Sorted.{IsPermutation};
 ghost use Rattle.rb_bytes.specs.Leb.{is_last, low_bits, high_bits};
 ghost use Rattle.elf_code.specs.Fields.{HoldBits};

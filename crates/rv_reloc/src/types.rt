@@ -1,8 +1,7 @@
 // Types of relocations, by what is made of them. psABI, "Relocations", the table of types.
 ghost use Rattle.std.specs.Prelude.{◌≡◌};
 ghost use Rattle.elf_code.specs.Relocations.{is_ignored, is_address, is_call_pair, is_pcrel_hi, is_pcrel_lo};
-ghost use Rattle.elf_code.specs.Relocations.{is_absolute};
-ghost use Rattle.elf_code.specs.Relocations.{is_pc_difference, is_supported};
+ghost use Rattle.elf_code.specs.Relocations.{is_absolute, is_pc_difference, is_supported};
 
 use elf_image::relocation::*;
 

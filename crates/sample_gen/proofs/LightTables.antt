@@ -1,6 +1,5 @@
 -- No table of a file with few functions and entries weighs too much, under whichever valid map it is carried.
-use Rattle.std.proofs.Common.{◌≡◌, ◌≤◌, ◌<◌, ◌+◌, ◌*◌, ℕ, List, [], All, length, sum_by}
-use Rattle.std.proofs.Common.{Option, Some, IsTrue, IfSome, subst, arith}
+use Rattle.std.proofs.Common.{◌≡◌, ◌≤◌, ◌<◌, ◌+◌, ◌*◌, ℕ, List, [], All, length, sum_by, Option, Some, IsTrue, IfSome, subst, arith}
 use Rattle.std.specs.Prelude.{Contains}
 use Rattle.std.proofs.lemmas.List.Concat.{length-flat_map}
 use Rattle.std.proofs.lemmas.List.Elements.{All-contains}
@@ -25,8 +24,7 @@ use Rattle.range_loc_rewrite.specs.Lists.{locations_kind, ranges_kind}
 use Rattle.range_loc_rewrite.specs.ListWeights.{IsSumOf}
 use Rattle.range_loc_rewrite.specs.Ranges.{Ranged, ranged}
 use Rattle.range_loc_rewrite.specs.Tables.{list_sections}
-use Rattle.range_loc_rewrite.specs.Weights.{IsListWeight, IsPlacesWeight, IsRangesWeight, IsUnitWeight, covered_by}
-use Rattle.range_loc_rewrite.specs.Weights.{index_weights}
+use Rattle.range_loc_rewrite.specs.Weights.{IsListWeight, IsPlacesWeight, IsRangesWeight, IsUnitWeight, covered_by, index_weights}
 use Rattle.addr_rewrite.specs.Aranges.{unit_at}
 use Rattle.addr_rewrite.specs.Tables.{IsArangesWeight, aranges_of}
 use Rattle.table_set.specs.TableLimits.{IsTooHeavy, abbreviations, aranges, lines, places, ranges}

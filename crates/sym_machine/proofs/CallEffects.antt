@@ -1,6 +1,5 @@
 -- System calls that read and write, by what the machine found.
-use Rattle.std.proofs.Common.{◌≡◌, ◌∙◌, ap, sym, refl, ℕ, List, Option, Some, None, Bool, true, false, length, take, drop}
-use Rattle.std.proofs.Common.{append-nil}
+use Rattle.std.proofs.Common.{◌≡◌, ◌∙◌, ap, sym, refl, ℕ, List, Option, Some, None, Bool, true, false, length, take, drop, append-nil}
 use Rattle.std.specs.Prelude.{◌&&◌, nat_le, nat_lt, if◌then◌else◌, map, min}
 use Rattle.std.specs.List.{list_any}
 use Rattle.std.specs.Io.KnownBytes.{append_known}
@@ -15,8 +14,7 @@ use Rattle.sym_machine.specs.declared.value.Value.TheVariants.{Num}
 use Rattle.sym_machine.specs.declared.value.MemoryByte.{MemoryByte}
 use Rattle.sym_machine.specs.declared.value.MemoryByte.TheVariants.{Byte}
 use Rattle.sym_machine.specs.Values.{number, numbers, is_hidden}
-use Rattle.sym_machine.specs.SymStep.{SymState, SymOutcome, moving_event, reads_input, writes_output, argument, three_arguments}
-use Rattle.sym_machine.specs.SymStep.{calls}
+use Rattle.sym_machine.specs.SymStep.{SymState, SymOutcome, moving_event, reads_input, writes_output, argument, three_arguments, calls}
 use Rattle.sym_machine.specs.SymStep.{needs}
 use Rattle.sym_machine.specs.internal.Calls.{buffer_of, buffer_in}
 

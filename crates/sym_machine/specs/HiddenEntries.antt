@@ -8,8 +8,7 @@ use Rattle.rv_memory.specs.Start.{program_arguments, stack_pointer}
 abbrev pub auxiliary_value : List (List ℕ) → ℕ → Range
 auxiliary_value args n = record {
   start = stack_pointer args + 8 * (length (program_arguments args) + 4 + 2 * n);
-  size =
-      8;
+  size = 8;
 }
 
 -- those of AT_PHDR, AT_PHNUM and AT_ENTRY

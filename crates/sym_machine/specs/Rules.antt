@@ -1,8 +1,7 @@
 -- What the symbol machine can do with values. A rule gives a result, or none where the machine doesn't know one that
 -- holds wherever the code lies. On numbers the rules are those of the byte machine.
 use Rattle.std.specs.Prelude.{ℕ, zero, suc, ◌-◌, ◌^◌, ◌==◌, ◌&&◌, ◌||◌, if◌then◌else◌, Bool, true, false, List, ◌∷◌}
-use Rattle.std.specs.Prelude.{Option}
-use Rattle.std.specs.Prelude.{Some, None, option_map}
+use Rattle.std.specs.Prelude.{Option, Some, None, option_map}
 use Rattle.std.specs.Option.{option_or}
 use Rattle.rv_code.specs.declared.op.Op.{Op}
 use Rattle.rv_code.specs.declared.op.Op.TheVariants as op

@@ -2,8 +2,7 @@
 -- where it is the first that fails. For all instructions they stand in one order: FellOff, Break, CallArg for a
 -- register, Operate, Compare, NotCode, EndOfFunction, Access, Hidden, CallArg for a byte that is written out, Mixed.
 use Rattle.std.specs.Prelude.{◌≡◌, ℕ, ◌*◌, ◌%◌, ◌^◌, ◌||◌, ◌==◌, if◌then◌else◌, Bool, true, false, not, List, [], ◌∷◌}
-use Rattle.std.specs.Prelude.{Option}
-use Rattle.std.specs.Prelude.{Some, None, length, take, drop, min, map}
+use Rattle.std.specs.Prelude.{Option, Some, None, length, take, drop, min, map}
 use Rattle.std.specs.List.{list_any}
 use Rattle.rv_code.specs.declared.action.Extension.{Extension}
 use Rattle.rv_code.specs.declared.action.Action.{Action}
@@ -16,9 +15,8 @@ use Rattle.rv_code.specs.isa.TwosComplement.{unsigned64}
 use Rattle.rv_code.specs.isa.Extension.{bytes_of}
 use Rattle.rv_code.specs.layout.Flow.{placed_at, action_at}
 use Rattle.rv_code.specs.machine.Machine.{plus, set_register, all_may, memory_bytes, put, State, may_read, may_write}
-use Rattle.rv_code.specs.machine.Machine.{with_break}
-use Rattle.rv_code.specs.machine.Machine.{Event, Call, Read, Write, Exit, Brk, Unknown, call_of, most_moved, bad_file}
-use Rattle.rv_code.specs.machine.Machine.{no_such_call, Outcome, Going, Ended, Halts}
+use Rattle.rv_code.specs.machine.Machine.{with_break, Event, Call, Read, Write, Exit, Brk, Unknown, call_of, most_moved}
+use Rattle.rv_code.specs.machine.Machine.{bad_file, no_such_call, Outcome, Going, Ended, Halts}
 use Rattle.rv_code.specs.machine.Step.{a0, a1, a2, a7}
 use Rattle.sym_machine.specs.declared.outcome.Reason.{Reason}
 use Rattle.sym_machine.specs.declared.outcome.Reason.TheVariants as reason

@@ -1,7 +1,6 @@
 -- Values and bytes of memory of the symbol machine: which are equal, and what stands in memory for a value.
 use Rattle.std.specs.Prelude.{◌≡◌, ◌≢◌, ◌⊎◌, ◌<◌, ◌≤◌, ◌+◌, ℕ, zero, suc, ◌==◌, ◌&&◌, not, nat_le, if◌then◌else◌, Bool}
-use Rattle.std.specs.Prelude.{true}
-use Rattle.std.specs.Prelude.{false, List, [], ◌∷◌, Option, Some, None, map, option_map}
+use Rattle.std.specs.Prelude.{true, false, List, [], ◌∷◌, Option, Some, None, map, option_map}
 use Rattle.rv_code.specs.declared.placed.Func.{Func}
 use Rattle.rv_code.specs.declared.op.Op.{Op}
 use Rattle.rv_code.specs.declared.op.Op.TheVariants as op

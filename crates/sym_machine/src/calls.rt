@@ -78,8 +78,7 @@ impl<'a> SymMachine<'a> {
         ensures state { (input : List ℕ) → Same
             (record (state_of self.old input) {
               pc = next;
-              registers = set_register a0 (Num value)
-                  (registers_of self.old);
+              registers = set_register a0 (Num value) (registers_of self.old);
             })
             (state_of self.new input) }
         ensures code { self.new.code ≡ self.old.code }

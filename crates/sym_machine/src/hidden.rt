@@ -1,15 +1,13 @@
 // Hidden fields of a file's headers.
 ghost use Rattle.std.specs.Prelude.{◌≡◌, ◌≤◌, ◌<◌, ◌+◌, ◌-◌, ◌*◌, ◌^◌, ◌++◌, ◌&&◌, ◌||◌, ℕ, IfOk, IfSome, OnOk, map};
-ghost use Rattle.std.specs.Prelude.{length};
-ghost use Rattle.std.specs.Prelude.{Bool, nat_le, option_map, is_none};
+ghost use Rattle.std.specs.Prelude.{length, Bool, nat_le, option_map, is_none};
 ghost use Rattle.std.specs.List.{list_any, flat_map, enumerate_from};
 ghost use Rattle.elf_image.specs.declared.elf.Elf.{Elf};
 ghost use Rattle.elf_image.specs.declared.segment.Segment.{Segment};
 ghost use Rattle.elf_image.specs.memory.CodeSegment.{executable_segment, executable_end};
 ghost use Rattle.elf_image.specs.memory.LoadedBytes.{is_in_range, address_of};
 ghost use Rattle.elf_image.specs.memory.HiddenFields.{only, e_entry_field, hidden_in_segment, hidden_fields};
-ghost use Rattle.elf_image.specs.memory.HiddenFields.{is_hidden_field};
-ghost use Rattle.elf_image.specs.memory.HiddenFields.{is_executable_segment};
+ghost use Rattle.elf_image.specs.memory.HiddenFields.{is_hidden_field, is_executable_segment};
 ghost use Rattle.sym_machine.specs.internal.Fields.{range_of_field, AreLow};
 
 use crate::fields::{Field, Fields};

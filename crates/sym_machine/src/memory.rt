@@ -1,8 +1,7 @@
 // A program's memory, with symbols and hidden bytes.
 ghost use Rattle.std.specs.Prelude.{◌≡◌, ◌<◌, ◌≤◌, ◌^◌, ◌+◌, ◌==◌, ◌&&◌, ℕ, List, true, false, None, Some, IfOk, IsOk};
-ghost use Rattle.std.specs.Prelude.{IsTrue};
-ghost use Rattle.std.specs.Prelude.{OnErr, IfSome, nat_le, nat_lt, if◌then◌else◌, option_map, length, map, replicate};
-ghost use Rattle.std.specs.Prelude.{not};
+ghost use Rattle.std.specs.Prelude.{IsTrue, OnErr, IfSome, nat_le, nat_lt, if◌then◌else◌, option_map, length, map};
+ghost use Rattle.std.specs.Prelude.{replicate, not};
 ghost use Rattle.std.specs.List.{list_any};
 
 use crate::accesses::Stored;
@@ -32,9 +31,8 @@ impl<'a> SymMemory<'a> {
     ghost use Rattle.rv_memory.specs.Memory.{memory_of, writes, space_in, break_after, may_stand, HasRoom, Keeps};
     ghost use Rattle.sym_machine.specs.declared.value.MemoryByte.TheVariants.{Byte};
     ghost use Rattle.sym_machine.specs.internal.OtherBytes.{other_byte, has_group};
-    ghost use Rattle.sym_machine.specs.internal.Memory.{memory_at, memory_after, is_number_at, is_open_at};
-    ghost use Rattle.sym_machine.specs.internal.Memory.{symbol_in, other_bytes};
-    ghost use Rattle.sym_machine.specs.internal.Memory.{HasGroups};
+    ghost use Rattle.sym_machine.specs.internal.Memory.{memory_at, memory_after, is_number_at, is_open_at, symbol_in};
+    ghost use Rattle.sym_machine.specs.internal.Memory.{other_bytes, HasGroups};
     ghost use Rattle.sym_machine.specs.internal.Accesses.{stored_bytes};
     ghost use Rattle.sym_machine.specs.Values.{numbers, is_hidden, are_symbol_bytes, symbol_bytes};
 

@@ -1,7 +1,6 @@
 // The bytes at the start that are no numbers: of code cells, of hidden fields and of the entry point.
 ghost use Rattle.std.specs.Prelude.{◌≡◌, ◌≤◌, ◌<◌, ◌+◌, ◌-◌, ◌*◌, ◌^◌, ◌==◌, ◌&&◌, ◌||◌, ℕ, List, Bool, All, Some};
-ghost use Rattle.std.specs.Prelude.{None, IfOk};
-ghost use Rattle.std.specs.Prelude.{OnOk, map, length, if◌then◌else◌, nat_le, nat_lt, min, Contains, true};
+ghost use Rattle.std.specs.Prelude.{None, IfOk, OnOk, map, length, if◌then◌else◌, nat_le, nat_lt, min, Contains, true};
 ghost use Rattle.std.specs.List.{list_any};
 ghost use Rattle.std.specs.Option.{option_or};
 ghost use Rattle.elf_image.specs.memory.LoadedBytes.{is_in_range};

@@ -1,7 +1,6 @@
 -- Pieces put together, and what they say at an address.
-use Rattle.std.proofs.Common.{ℕ, zero, suc, ◌+◌, ◌-◌, ◌≤◌, ◌<◌, ◌≡◌, List, [], ◌∷◌, ◌++◌, Option, Some, None, Bool, true, false, cond}
-use Rattle.std.proofs.Common.{leb, ltb, ◌&&◌}
-use Rattle.std.proofs.Common.{refl, sym, ◌∙◌, ap, subst, arith, length, take, get_or}
+use Rattle.std.proofs.Common.{ℕ, zero, suc, ◌+◌, ◌-◌, ◌≤◌, ◌<◌, ◌≡◌, List, [], ◌∷◌, ◌++◌, Option, Some, None, Bool, true, false, cond, leb}
+use Rattle.std.proofs.Common.{ltb, ◌&&◌, refl, sym, ◌∙◌, ap, subst, arith, length, take, get_or}
 use Rattle.std.specs.List.{position_from}
 use Rattle.std.specs.List.Sorted.{IsNonDecreasingBy}
 use Rattle.std.specs.Option.{option_or}

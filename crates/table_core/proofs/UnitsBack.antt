@@ -1,7 +1,6 @@
 -- A unit that is written is walked to.
-use Rattle.std.proofs.Common.{ℕ, zero, suc, ◌+◌, ◌-◌, ◌^◌, ◌≤◌, ◌<◌, ◌≡◌, ◌==◌, List, [], ◌∷◌, ◌++◌, Some}
-use Rattle.std.proofs.Common.{leb, ◌&&◌, ◌||◌, true, false, refl, sym, ◌∙◌, ap, arith, length, take, drop, append_assoc}
-use Rattle.std.proofs.Common.{length-append}
+use Rattle.std.proofs.Common.{ℕ, zero, suc, ◌+◌, ◌-◌, ◌^◌, ◌≤◌, ◌<◌, ◌≡◌, ◌==◌, List, [], ◌∷◌, ◌++◌, Some, leb, ◌&&◌, ◌||◌, true, false}
+use Rattle.std.proofs.Common.{refl, sym, ◌∙◌, ap, arith, length, take, drop, append_assoc, length-append}
 use Rattle.std.specs.Prelude.{not, All}
 use Rattle.std.proofs.lemmas.List.Elements.{All-head, All-tail}
 use Rattle.std.proofs.lemmas.Bool.Decides.{nat_tests}

@@ -1,7 +1,6 @@
 // Tables of answers by address.
 ghost use Rattle.std.specs.Prelude.{◌≡◌, ◌-◌, ◌^◌, ℕ, List, AllPairs, Option, Some, None, IfOk, IsTrue, ◌↔◌};
-ghost use Rattle.std.specs.Prelude.{MatchResult};
-ghost use Rattle.std.specs.Prelude.{option_map, min};
+ghost use Rattle.std.specs.Prelude.{MatchResult, option_map, min};
 ghost use Rattle.rb_bytes.specs.declared.fault.FaultKind.{FaultKind};
 ghost use Rattle.elf_image.specs.declared.elf.Elf.{Elf};
 ghost use Rattle.rb_bytes.specs.FirstFault.{IsFree, IsRefusalBy};

@@ -1,7 +1,6 @@
 -- Tables of a file that isn't too long, and that wouldn't weigh too much, can be written anew.
 use Rattle.std.proofs.Common.{◌≡◌, ap, subst, sym, refl, ℕ, ◌+◌, ◌*◌, ◌≤◌, ◌<◌, List, [], ◌∷◌, Option, Some, None, Bool, true, false, cond}
-use Rattle.std.proofs.Common.{length, take, drop, arith}
-use Rattle.std.proofs.Common.{length-take, length-drop}
+use Rattle.std.proofs.Common.{length, take, drop, arith, length-take, length-drop}
 use Rattle.std.specs.Prelude.{◌==◌, codes, sum_by}
 use Rattle.std.proofs.lemmas.List.Sums.{sum_by-cons}
 use Rattle.elf_image.specs.declared.elf.Elf.{Elf}

@@ -143,8 +143,7 @@ module _ (code : ProgramCode) (blocks : List Block) (are : AreBlocks code blocks
             some = omega arith;
             inside = omega arith;
             no_other = inner;
-            ends = inl
-                (omega arith);
+            ends = inl (omega arith);
           }) from to
       up (suc n) last first all from to begins inner =
           up n (last + 1) first (omega arith) from (omega arith) begins (λ m above upto begins'. ⊎_elim

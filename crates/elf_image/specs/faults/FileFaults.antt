@@ -6,8 +6,7 @@ use Rattle.rb_bytes.specs.declared.fault.Fault.{Fault}
 use Rattle.rb_bytes.specs.declared.fault.Refusal.{Refusal}
 use Rattle.rb_bytes.specs.declared.fault.FaultKind.{FaultKind}
 use Rattle.rb_bytes.specs.declared.fault.FaultKind.TheVariants.{NotElf, Truncated, Flags, NotStatic, ExecSegments}
-use Rattle.rb_bytes.specs.declared.fault.FaultKind.TheVariants.{WritableCode}
-use Rattle.rb_bytes.specs.declared.fault.FaultKind.TheVariants.{HighAddress, CompressedSection}
+use Rattle.rb_bytes.specs.declared.fault.FaultKind.TheVariants.{WritableCode, HighAddress, CompressedSection}
 use Rattle.elf_image.specs.declared.section.TheConstants.{SHF_COMPRESSED}
 use Rattle.elf_image.specs.declared.segment.TheConstants.{PT_DYNAMIC, PT_INTERP}
 use Rattle.elf_image.specs.faults.Truncation.{IsTruncated}

@@ -7,8 +7,7 @@ use Rattle.elf_image.specs.declared.section.SectionHeader.{SectionHeader}
 use Rattle.elf_image.specs.declared.section.TheConstants.{SHT_NOBITS, SHDR_SIZE}
 use Rattle.elf_image.specs.declared.segment.TheConstants.{PT_LOAD, PHDR_SIZE}
 use Rattle.elf_image.specs.file.Header.{header_size, number_at, e_phoff, e_phentsize, e_phnum, e_shoff, e_shentsize}
-use Rattle.elf_image.specs.file.Header.{e_shnum}
-use Rattle.elf_image.specs.file.Header.{e_shstrndx, segment}
+use Rattle.elf_image.specs.file.Header.{e_shnum, e_shstrndx, segment}
 use Rattle.elf_image.specs.faults.LowestPlace.{SomeBelow}
 use Rattle.elf_image.specs.file.Sections.{section_header, section_place, section_names}
 use Rattle.elf_image.specs.file.Symbols.{symbol_table, symbol_count, symbol_place, symbol_names}

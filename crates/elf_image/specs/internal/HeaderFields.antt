@@ -2,8 +2,7 @@
 use Rattle.std.specs.Prelude.{ℕ, List}
 use Rattle.elf_image.specs.declared.header.HeaderFields.{HeaderFields}
 use Rattle.elf_image.specs.file.Header.{e_type, e_entry, e_phoff, e_shoff, e_flags, e_phentsize, e_phnum, e_shentsize}
-use Rattle.elf_image.specs.file.Header.{e_shnum}
-use Rattle.elf_image.specs.file.Header.{e_shstrndx}
+use Rattle.elf_image.specs.file.Header.{e_shnum, e_shstrndx}
 
 abbrev pub header_fields : List ℕ → HeaderFields
 header_fields file = record {

@@ -2,8 +2,7 @@
 -- and "Segment Permissions". Segments of a sound file share no address; of those that do, the first in the
 -- table counts.
 use Rattle.std.specs.Prelude.{ℕ, ◌≡◌, ◌+◌, ◌-◌, ◌&&◌, ◌==◌, nat_lt, nat_le, if◌then◌else◌, Bool, false, IsTrue, List}
-use Rattle.std.specs.Prelude.{Contains}
-use Rattle.std.specs.Prelude.{Option, slice_index, find}
+use Rattle.std.specs.Prelude.{Contains, Option, slice_index, find}
 use Rattle.std.specs.Option.{option_map, option_map_or}
 use Rattle.elf_image.specs.declared.segment.Segment.{Segment}
 use Rattle.elf_image.specs.declared.segment.TheConstants.{PT_LOAD}

@@ -4,8 +4,7 @@ use Rattle.rv_code.specs.machine.Machine.{plus}
 use Rattle.rv_code.specs.isa.TwosComplement.{unsigned64}
 use Rattle.elf_image.specs.faults.LowestPlace.{IsLowest}
 use Rattle.std.specs.Prelude.{IsPermutation, All, IfNone, ◌≡◌, ◌≢◌, ◌==◌, ◌&&◌, false, ℕ, ℤ, Bool, List, Option, Some}
-use Rattle.std.specs.Prelude.{None, AllPairs}
-use Rattle.std.specs.Prelude.{find}
+use Rattle.std.specs.Prelude.{None, AllPairs, find}
 use Rattle.rv_code.specs.declared.inst.Inst.{Inst}
 use Rattle.rv_code.specs.declared.placed.Placed.{Placed}
 use Rattle.rv_code.specs.declared.action.Test.{Test}

@@ -15,8 +15,7 @@ use Rattle.rv_code.specs.declared.cell.CellKind.TheVariants as kind
 use Rattle.rv_code.specs.declared.placed.Placed.{Placed}
 use Rattle.rv_code.specs.declared.placed.Role.{Role}
 use Rattle.rv_code.specs.declared.placed.Role.TheVariants as role
-use Rattle.rv_code.specs.layout.ProgramCode.{ProgramCode, is_code_address, IsNamed, by_role, by_cell, RoleNames, CellNames}
-use Rattle.rv_code.specs.layout.ProgramCode.{KindNames}
+use Rattle.rv_code.specs.layout.ProgramCode.{ProgramCode, is_code_address, IsNamed, by_role, by_cell, RoleNames, CellNames, KindNames}
 use Rattle.rv_code.specs.layout.Flow.{insts_of, placed_at}
 use Rattle.rb_bytes.specs.declared.fault.FaultKind.TheVariants.{RelocMismatch, LoMismatch}
 use Rattle.elf_image.specs.declared.elf.Elf.{Elf}
@@ -30,8 +29,7 @@ use Rattle.elf_code.specs.Parts.{halfword_at, IsInstAt, IsStart}
 use Rattle.elf_code.specs.Relocations.{Relocation, relocations, is_call_pair, is_pcrel_hi}
 use Rattle.elf_code.specs.ReferenceFaults.{IsAddress, IsUpper, IsMisfit}
 use Rattle.elf_code.specs.ReferenceFaults as faults
-use Rattle.elf_code.specs.Roles.{Claims, HasRole, RoleIs, CallPair, CallTo, PcrelLo, PcrelHiTo, PcrelLoTo}
-use Rattle.elf_code.specs.Roles.{lower_immediate}
+use Rattle.elf_code.specs.Roles.{Claims, HasRole, RoleIs, CallPair, CallTo, PcrelLo, PcrelHiTo, PcrelLoTo, lower_immediate}
 use Rattle.elf_code.specs.Roles as claims
 use Rattle.elf_code.specs.Cells.{IsCell, Content, Difference, Address, Counts, SameContent}
 use Rattle.move_law.specs.RelocatedValues.{upper_target}

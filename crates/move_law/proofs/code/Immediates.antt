@@ -5,12 +5,11 @@ use Rattle.rv_code.specs.isa.Bits.{field, imm_i, imm_s, imm_u}
 use Rattle.rv_code.specs.isa.FullRows.{IsFull}
 use Rattle.rv_code.specs.isa.Action.{action_of}
 use Rattle.rv_code.specs.declared.inst.Inst.{Inst}
-use Rattle.rv_code.specs.declared.inst.Inst.TheVariants.{Lui, Auipc, Jal, Jalr, Beq, Bne, Blt, Bge, Bltu, Bgeu, Lb, Lh, Lw, Ld}
-use Rattle.rv_code.specs.declared.inst.Inst.TheVariants.{Lbu, Lhu, Lwu, Sb, Sh, Sw, Sd, Addi, Slti, Sltiu, Xori, Ori, Andi, Slli}
-use Rattle.rv_code.specs.declared.inst.Inst.TheVariants.{Srli, Srai, Add, Sub, Sll, Slt, Sltu, Xor, Srl, Sra, Or, And, Fence}
-use Rattle.rv_code.specs.declared.inst.Inst.TheVariants.{Ecall, Ebreak, Addiw, Slliw, Srliw, Sraiw, Addw, Subw, Sllw, Srlw, Sraw}
-use Rattle.rv_code.specs.declared.inst.Inst.TheVariants.{Mul, Mulh, Mulhsu, Mulhu, Div, Divu, Rem, Remu, Mulw, Divw, Divuw, Remw}
-use Rattle.rv_code.specs.declared.inst.Inst.TheVariants.{Remuw}
+use Rattle.rv_code.specs.declared.inst.Inst.TheVariants.{Lui, Auipc, Jal, Jalr, Beq, Bne, Blt, Bge, Bltu, Bgeu, Lb, Lh, Lw, Ld, Lbu, Lhu}
+use Rattle.rv_code.specs.declared.inst.Inst.TheVariants.{Lwu, Sb, Sh, Sw, Sd, Addi, Slti, Sltiu, Xori, Ori, Andi, Slli, Srli, Srai, Add}
+use Rattle.rv_code.specs.declared.inst.Inst.TheVariants.{Sub, Sll, Slt, Sltu, Xor, Srl, Sra, Or, And, Fence, Ecall, Ebreak, Addiw, Slliw}
+use Rattle.rv_code.specs.declared.inst.Inst.TheVariants.{Srliw, Sraiw, Addw, Subw, Sllw, Srlw, Sraw, Mul, Mulh, Mulhsu, Mulhu, Div, Divu}
+use Rattle.rv_code.specs.declared.inst.Inst.TheVariants.{Rem, Remu, Mulw, Divw, Divuw, Remw, Remuw}
 use Rattle.elf_image.specs.declared.elf.Elf.{Elf}
 use Rattle.elf_code.specs.Parts.{halfword_at, IsInstAt}
 use Rattle.elf_image.specs.declared.relocation.TheConstants.{R_RISCV_PCREL_LO12_I, R_RISCV_LO12_I}

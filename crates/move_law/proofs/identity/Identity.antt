@@ -1,8 +1,7 @@
 -- A file is a faithful rewrite of itself, and its runs on the symbol machine are its own.
 use Rattle.std.proofs.Common.{◌≡◌, ◌≢◌, ℕ, zero, suc, ◌+◌, ◌-◌, ◌<◌, ◌≤◌, Option, Some, None, Bool, true, false, refl, sym, ap}
 use Rattle.std.proofs.Common.{◌∙◌, subst, arith, inr, ℤ}
-use Rattle.std.specs.Prelude.{AllPairs, Contains, IfSome, IsTrue, find, if◌then◌else◌, is_some, nat_le, nat_lt, option_map}
-use Rattle.std.specs.Prelude.{unwrap_or}
+use Rattle.std.specs.Prelude.{AllPairs, Contains, IfSome, IsTrue, find, if◌then◌else◌, is_some, nat_le, nat_lt, option_map, unwrap_or}
 use Rattle.std.proofs.lemmas.Bool.{and_parts, eqb-true, leb-true, ltb-true}
 use Rattle.std.proofs.lemmas.List.Elements.{All-map}
 use Rattle.rv_code.specs.declared.action.Action.{Action}

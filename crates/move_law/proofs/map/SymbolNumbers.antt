@@ -41,8 +41,7 @@ use Rattle.sym_machine.specs.declared.value.Value.TheVariants.{Num, Sym, Piece}
 use Rattle.sym_machine.specs.Values.{IsSymbol, op_of}
 use Rattle.sym_machine.specs.Rules.{is_nonzero, is_unsigned}
 use Rattle.move_law.specs.Rewrite.{Rewrite, width_at, out, Goes, stays}
-use Rattle.move_law.specs.RelocatedValues.{distance, hi20_value, target_at, upper_target, number_of_pointer, number_of_symbol}
-use Rattle.move_law.specs.RelocatedValues.{extension_of}
+use Rattle.move_law.specs.RelocatedValues.{distance, hi20_value, target_at, upper_target, number_of_pointer, number_of_symbol, extension_of}
 use Rattle.move_law.specs.SimulationRelation.{IsGivenPointer, IsGiven, HasTarget, StandsFor}
 use Rattle.move_law.specs.FaithfulRewrite.{made_anew, KeepsAction, KeepsInst, GoesOn}
 use Rattle.move_law.specs.Laws.{KeepsCode}

@@ -34,8 +34,7 @@ use Rattle.move_law.specs.Rewrite.{Rewrite, out}
 use Rattle.move_law.specs.RelocatedValues.{distance, hi20_value, target_at, upper_target, number_of_pointer}
 use Rattle.move_law.specs.SimulationRelation.{IsGivenPointer, IsGiven, HasTarget, StandsFor, RelatedData, RelatedPc}
 use Rattle.move_law.specs.FaithfulRewrite.{made_anew, with_immediate}
-use Rattle.move_law.proofs.values.Arithmetic.{Symbols, Label, number_stands, label_stands, only_stands, at_number}
-use Rattle.move_law.proofs.values.Arithmetic.{combined_stands}
+use Rattle.move_law.proofs.values.Arithmetic.{Symbols, Label, number_stands, label_stands, only_stands, at_number, combined_stands}
 use Rattle.move_law.proofs.values.StoredValues.{IsSize}
 use Rattle.move_law.proofs.steps.Outcomes.{SameSpaces, Follows, goes_follows, gives_follows}
 use Rattle.move_law.proofs.steps.Effects.{computes, loads, stores, system_call, number_is}

@@ -6,9 +6,8 @@ use Rattle.std.specs.List.{list_any}
 use Rattle.std.proofs.lemmas.Bool.{and_parts, and_from, leb-true, ltb-true, lt-ltb, le-leb, cases_lt}
 use Rattle.rv_code.specs.declared.action.Extension.{Extension}
 use Rattle.rv_code.specs.isa.Extension.{bytes_of, extended}
-use Rattle.rv_code.specs.machine.Machine.{plus, all_may, memory_bytes, put, little, low_bytes, Space, may_read, may_write}
-use Rattle.rv_code.specs.machine.Machine.{with_break, Event, Call, Read, Write, Exit, Brk, Unknown, call_of, most_moved, bad_file}
-use Rattle.rv_code.specs.machine.Machine.{no_such_call, Ended}
+use Rattle.rv_code.specs.machine.Machine.{plus, all_may, memory_bytes, put, little, low_bytes, Space, may_read, may_write, with_break}
+use Rattle.rv_code.specs.machine.Machine.{Event, Call, Read, Write, Exit, Brk, Unknown, call_of, most_moved, bad_file, no_such_call, Ended}
 use Rattle.rv_code.specs.machine.Step.{ByteState, ByteOutcome, a0, a1, a2, a7, buffer_size}
 use Rattle.rv_code.specs.machine.Step as byte
 use Rattle.elf_image.specs.declared.segment.TheConstants.{PF_W}
@@ -31,8 +30,7 @@ use Rattle.rv_code.proofs.machine.RelatedMemory.{Alike, put_alike, put_keeps}
 use Rattle.move_law.proofs.values.Arithmetic.{Symbols, number_stands}
 use Rattle.move_law.proofs.values.StoredValues.{IsSize, bytes_alike, numbers_alike, stored_stands, loaded_stands}
 use Rattle.move_law.proofs.steps.Outcomes.{SameSpaces, Follows, needs_found, checks_follows, stored_data, reads_alike, reads_can}
-use Rattle.move_law.proofs.steps.Outcomes.{writes_can, gives_follows, fixed_not_written, break_start_same, break_bound_same}
-use Rattle.move_law.proofs.steps.Outcomes.{lt_le}
+use Rattle.move_law.proofs.steps.Outcomes.{writes_can, gives_follows, fixed_not_written, break_start_same, break_bound_same, lt_le}
 use Rattle.std.proofs.lemmas.Option.{same_Some}
 use Rattle.rb_bytes.proofs.ListLemmas.{if_found, taken_less}
 

@@ -29,8 +29,7 @@ use Rattle.move_law.specs.Rewrite.{Rewrite, width_at, out, inst_end, HasAt}
 use Rattle.elf_image.specs.memory.Executables.{Executable, memory_of}
 use Rattle.move_law.specs.RelocatedValues.{target_at, upper_target, number_of_pointer}
 use Rattle.move_law.specs.SimulationRelation.{IsGivenPointer, IsGiven, HasTarget, RelatedData, RelatedPc}
-use Rattle.move_law.specs.FaithfulRewrite.{next, GetsToNext, made_anew, goes_on, HasInSpan, KeepsCall, KeepsBranch, same}
-use Rattle.move_law.specs.FaithfulRewrite.{opposite}
+use Rattle.move_law.specs.FaithfulRewrite.{next, GetsToNext, made_anew, goes_on, HasInSpan, KeepsCall, KeepsBranch, same, opposite}
 use Rattle.move_law.specs.FaithfulRewrite.{KeepsAction}
 use Rattle.rv_code.proofs.isa.EvenOffsets.{EvenOffset, even_offset}
 use Rattle.move_law.proofs.steps.Fetching.{even_plus}

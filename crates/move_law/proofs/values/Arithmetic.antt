@@ -30,9 +30,8 @@ use Rattle.sym_machine.specs.declared.value.Value.{Value}
 use Rattle.sym_machine.specs.declared.value.Value.TheVariants.{Num, Sym, Piece}
 use Rattle.sym_machine.specs.Values.{value_of, is_value_of, IsSymbol, AreSymbolsApart, op_of}
 use Rattle.rb_bytes.specs.Options.{only_if}
-use Rattle.sym_machine.specs.Rules.{is_nonzero, copied, from_difference, sum, compared, compared_by, masked}
-use Rattle.sym_machine.specs.Rules.{on_registers, on_zero, on_constant, combined, equal_pointers, equal_number, tested}
-use Rattle.sym_machine.specs.Rules.{is_unsigned}
+use Rattle.sym_machine.specs.Rules.{is_nonzero, copied, from_difference, sum, compared, compared_by, masked, on_registers, on_zero}
+use Rattle.sym_machine.specs.Rules.{on_constant, combined, equal_pointers, equal_number, tested, is_unsigned}
 use Rattle.move_law.specs.Rewrite.{Rewrite, out}
 use Rattle.move_law.specs.RelocatedValues.{distance, number_of_pointer, number_of_symbol}
 use Rattle.move_law.specs.SimulationRelation.{IsGivenPointer, IsGiven, StandsFor}

@@ -3,8 +3,7 @@ use Rattle.std.proofs.Common.{◌≡◌, ℕ, ◌+◌, ◌*◌, ◌%◌, ◌^◌
 use Rattle.std.proofs.Common.{refl, Bool, true, false}
 use Rattle.std.specs.Prelude.{nat_lt, if◌then◌else◌}
 use Rattle.std.proofs.lemmas.Int.{ints}
-use Rattle.rv_code.specs.isa.Bits.{field}
-use Rattle.rv_code.specs.isa.Bits.{signed_by, imm_j, imm_b}
+use Rattle.rv_code.specs.isa.Bits.{field, signed_by, imm_j, imm_b}
 use Rattle.rv_code.specs.isa.FullRows.{IsFull}
 use Rattle.rv_code.specs.isa.HalfRows.{Row, expansion, jump_offset, branch_offset, C_J, C_BEQZ, C_BNEZ}
 use Rattle.rv_code.specs.isa.InstBytes.{Decodes}

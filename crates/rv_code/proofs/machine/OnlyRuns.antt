@@ -23,8 +23,7 @@ module _ {S C : Type 0} (step : S → Outcome S C → Type 0) (s : S) where
         before = trace;
         event = e;
         state = t;
-        so_far = subst
-            (λ j. SoFar step s j trace t) same so_far;
+        so_far = subst (λ j. SoFar step s j trace t) same so_far;
         went = went;
         trace_is = refl;
       }

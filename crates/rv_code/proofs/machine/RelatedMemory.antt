@@ -1,6 +1,5 @@
 -- Registers and memory of two machines, byte by byte.
-use Rattle.std.proofs.Common.{◌≡◌, length, ℕ, zero, suc, ◌≤◌, List, [], ◌∷◌}
-use Rattle.std.proofs.Common.{Bool, true, false, refl, ap, ◌∙◌, arith}
+use Rattle.std.proofs.Common.{◌≡◌, length, ℕ, zero, suc, ◌≤◌, List, [], ◌∷◌, Bool, true, false, refl, ap, ◌∙◌, arith}
 use Rattle.std.specs.Prelude.{if◌then◌else◌, ◌==◌}
 use Rattle.std.proofs.lemmas.Bool.{eqb-true, and_parts}
 use Rattle.rv_code.specs.machine.Machine.{plus, set_register, all_may, memory_bytes, put}

@@ -2,16 +2,11 @@
 use Rattle.std.specs.Prelude.{true, false}
 use Rattle.rv_code.specs.declared.inst.Inst.{Inst}
 use Rattle.rv_code.specs.declared.inst.Inst.TheVariants.{Lui, Auipc, Jal, Jalr, Beq, Bne, Blt, Bge, Bltu, Bgeu, Lb, Lh}
-use Rattle.rv_code.specs.declared.inst.Inst.TheVariants.{Lw, Ld}
-use Rattle.rv_code.specs.declared.inst.Inst.TheVariants.{Lbu, Lhu, Lwu, Sb, Sh, Sw, Sd, Addi, Slti, Sltiu, Xori, Ori}
-use Rattle.rv_code.specs.declared.inst.Inst.TheVariants.{Andi, Slli}
-use Rattle.rv_code.specs.declared.inst.Inst.TheVariants.{Srli, Srai, Add, Sub, Sll, Slt, Sltu, Xor, Srl, Sra, Or, And}
-use Rattle.rv_code.specs.declared.inst.Inst.TheVariants.{Mul, Mulh}
-use Rattle.rv_code.specs.declared.inst.Inst.TheVariants.{Mulhsu, Mulhu, Div, Divu, Rem, Remu, Addiw, Slliw, Srliw}
-use Rattle.rv_code.specs.declared.inst.Inst.TheVariants.{Sraiw, Addw}
-use Rattle.rv_code.specs.declared.inst.Inst.TheVariants.{Subw, Sllw, Srlw, Sraw, Mulw, Divw, Divuw, Remw, Remuw, Fence}
-use Rattle.rv_code.specs.declared.inst.Inst.TheVariants.{Ecall}
-use Rattle.rv_code.specs.declared.inst.Inst.TheVariants.{Ebreak}
+use Rattle.rv_code.specs.declared.inst.Inst.TheVariants.{Lw, Ld, Lbu, Lhu, Lwu, Sb, Sh, Sw, Sd, Addi, Slti, Sltiu, Xori}
+use Rattle.rv_code.specs.declared.inst.Inst.TheVariants.{Ori, Andi, Slli, Srli, Srai, Add, Sub, Sll, Slt, Sltu, Xor}
+use Rattle.rv_code.specs.declared.inst.Inst.TheVariants.{Srl, Sra, Or, And, Mul, Mulh, Mulhsu, Mulhu, Div, Divu, Rem}
+use Rattle.rv_code.specs.declared.inst.Inst.TheVariants.{Remu, Addiw, Slliw, Srliw, Sraiw, Addw, Subw, Sllw, Srlw, Sraw}
+use Rattle.rv_code.specs.declared.inst.Inst.TheVariants.{Mulw, Divw, Divuw, Remw, Remuw, Fence, Ecall, Ebreak}
 use Rattle.rv_code.specs.declared.op.Op.TheVariants as op
 use Rattle.rv_code.specs.declared.action.Operand.TheVariants.{Register, Immediate}
 use Rattle.rv_code.specs.declared.action.Test.TheVariants.{Equal, LessSigned, LessUnsigned}

@@ -3,16 +3,11 @@ use Rattle.std.specs.Prelude.{◌≡◌, ℕ, ℤ, pos}
 use Rattle.rv_code.specs.isa.Bits.{field, imm_b, imm_i, imm_j, imm_s, imm_u}
 use Rattle.rv_code.specs.declared.inst.Inst.{Inst}
 use Rattle.rv_code.specs.declared.inst.Inst.TheVariants.{Lui, Auipc, Jal, Jalr, Beq, Bne, Blt, Bge, Bltu, Bgeu, Lb, Lh}
-use Rattle.rv_code.specs.declared.inst.Inst.TheVariants.{Lw, Ld}
-use Rattle.rv_code.specs.declared.inst.Inst.TheVariants.{Lbu, Lhu, Lwu, Sb, Sh, Sw, Sd, Addi, Slti, Sltiu, Xori, Ori}
-use Rattle.rv_code.specs.declared.inst.Inst.TheVariants.{Andi, Slli}
-use Rattle.rv_code.specs.declared.inst.Inst.TheVariants.{Srli, Srai, Add, Sub, Sll, Slt, Sltu, Xor, Srl, Sra, Or, And}
-use Rattle.rv_code.specs.declared.inst.Inst.TheVariants.{Fence}
-use Rattle.rv_code.specs.declared.inst.Inst.TheVariants.{Ecall, Ebreak, Addiw, Slliw, Srliw, Sraiw, Addw, Subw, Sllw}
-use Rattle.rv_code.specs.declared.inst.Inst.TheVariants.{Srlw, Sraw}
-use Rattle.rv_code.specs.declared.inst.Inst.TheVariants.{Mul, Mulh, Mulhsu, Mulhu, Div, Divu, Rem, Remu, Mulw, Divw}
-use Rattle.rv_code.specs.declared.inst.Inst.TheVariants.{Divuw, Remw}
-use Rattle.rv_code.specs.declared.inst.Inst.TheVariants.{Remuw}
+use Rattle.rv_code.specs.declared.inst.Inst.TheVariants.{Lw, Ld, Lbu, Lhu, Lwu, Sb, Sh, Sw, Sd, Addi, Slti, Sltiu, Xori}
+use Rattle.rv_code.specs.declared.inst.Inst.TheVariants.{Ori, Andi, Slli, Srli, Srai, Add, Sub, Sll, Slt, Sltu, Xor}
+use Rattle.rv_code.specs.declared.inst.Inst.TheVariants.{Srl, Sra, Or, And, Fence, Ecall, Ebreak, Addiw, Slliw, Srliw}
+use Rattle.rv_code.specs.declared.inst.Inst.TheVariants.{Sraiw, Addw, Subw, Sllw, Srlw, Sraw, Mul, Mulh, Mulhsu, Mulhu}
+use Rattle.rv_code.specs.declared.inst.Inst.TheVariants.{Div, Divu, Rem, Remu, Mulw, Divw, Divuw, Remw, Remuw}
 
 -- The formats: which fields the word has. ISA manual, section 2.2.
 

@@ -4,8 +4,7 @@ use Rattle.std.specs.Prelude.{◌≡◌, ◌≢◌, ℕ, ◌+◌, ◌*◌, ◌^�
 use Rattle.rv_code.specs.isa.Bits.{field, signed}
 use Rattle.rv_code.specs.declared.inst.Inst.{Inst}
 use Rattle.rv_code.specs.declared.inst.Inst.TheVariants.{Lui, Jal, Jalr, Beq, Bne, Lw, Ld, Sw, Sd, Addi, Andi, Slli}
-use Rattle.rv_code.specs.declared.inst.Inst.TheVariants.{Srli, Srai}
-use Rattle.rv_code.specs.declared.inst.Inst.TheVariants.{Add, Sub, Xor, Or, And, Addiw, Addw, Subw, Ebreak}
+use Rattle.rv_code.specs.declared.inst.Inst.TheVariants.{Srli, Srai, Add, Sub, Xor, Or, And, Addiw, Addw, Subw, Ebreak}
 
 -- the rows, by the manual's mnemonics; C_ADDI has C.NOP too
 pub data Row : Type 0 where

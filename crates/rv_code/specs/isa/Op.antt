@@ -1,17 +1,14 @@
 -- What the arithmetic and logic operations give, and what branches compare, on numbers of 64 bits.
 -- Sections are those of the ISA manual, volume I.
 use Rattle.std.specs.Prelude.{ℕ, ◌+◌, ◌-◌, ◌*◌, ◌/◌, ◌%◌, ◌^◌, pos, ◌*ℤ◌, ℤ, Bool, nat_lt, int_lt, ◌==◌, if◌then◌else◌}
-use Rattle.std.specs.Prelude.{bit_and}
-use Rattle.std.specs.Prelude.{bit_or, bit_xor}
+use Rattle.std.specs.Prelude.{bit_and, bit_or, bit_xor}
 use Rattle.std.specs.Int.{w128, cast_unsigned, int_shr}
 use Rattle.std.specs.Int.RustNames.{int_div, int_rem}
 use Rattle.rv_code.specs.isa.TwosComplement.{unsigned64, signed64, low32, signed32, sign_extended32}
 use Rattle.rv_code.specs.declared.op.Op.{Op}
 use Rattle.rv_code.specs.declared.op.Op.TheVariants.{Add, Sub, Sll, Slt, Sltu, Xor, Srl, Sra, Or, And, Mul, Mulh}
-use Rattle.rv_code.specs.declared.op.Op.TheVariants.{Mulhsu, Mulhu}
-use Rattle.rv_code.specs.declared.op.Op.TheVariants.{Div, Divu, Rem, Remu, Addw, Subw, Sllw, Srlw, Sraw, Mulw, Divw}
-use Rattle.rv_code.specs.declared.op.Op.TheVariants.{Divuw, Remw}
-use Rattle.rv_code.specs.declared.op.Op.TheVariants.{Remuw}
+use Rattle.rv_code.specs.declared.op.Op.TheVariants.{Mulhsu, Mulhu, Div, Divu, Rem, Remu, Addw, Subw, Sllw, Srlw, Sraw}
+use Rattle.rv_code.specs.declared.op.Op.TheVariants.{Mulw, Divw, Divuw, Remw, Remuw}
 use Rattle.rv_code.specs.declared.action.Test.{Test}
 use Rattle.rv_code.specs.declared.action.Test.TheVariants.{Equal, LessSigned, LessUnsigned}
 

@@ -1,8 +1,7 @@
 -- Where control goes after an instruction: calls, jumps, targets, and what falls into the next one.
 -- ISA manual, section 2.5.
 use Rattle.std.specs.Prelude.{ℕ, ◌+◌, ◌==◌, ◌&&◌, ◌||◌, if◌then◌else◌, Bool, true, false, not, Option, Some, None, List}
-use Rattle.std.specs.Prelude.{length}
-use Rattle.std.specs.Prelude.{flat_map, find, [], ◌∷◌}
+use Rattle.std.specs.Prelude.{length, flat_map, find, [], ◌∷◌}
 use Rattle.std.specs.Option.{option_or}
 use Rattle.rv_code.specs.declared.action.Action.{Action}
 use Rattle.rv_code.specs.declared.action.Action.TheVariants.{Branch, Jump, JumpTo}

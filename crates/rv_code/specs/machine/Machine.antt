@@ -1,8 +1,7 @@
 -- What the byte machine and the symbol machine share: registers and memory over any kind of value, the
 -- right to use an address, the break, system calls, and runs.
 use Rattle.std.specs.Prelude.{◌≡◌, ℕ, zero, suc, ◌+◌, ◌-◌, ◌*◌, ◌/◌, ◌%◌, ◌^◌, ◌&&◌, ◌||◌, ◌==◌, nat_lt, nat_le}
-use Rattle.std.specs.Prelude.{if◌then◌else◌}
-use Rattle.std.specs.Prelude.{Bool, true, List, [], ◌∷◌, ◌++◌, Option, Some, None}
+use Rattle.std.specs.Prelude.{if◌then◌else◌, Bool, true, List, [], ◌∷◌, ◌++◌, Option, Some, None}
 
 -- Addresses are numbers of 64 bits, and a sum of addresses wraps. ISA manual, section 1.4.
 abbrev pub plus : ℕ → ℕ → ℕ
@@ -79,8 +78,7 @@ with_break nought to s =
     if nat_le s.space.break_start to && nat_le to s.space.break_bound
     then record s {
       program_break = to;
-      memory = λ a. if nat_le s.program_break a
-          && nat_lt a to then nought else s.memory a;
+      memory = λ a. if nat_le s.program_break a && nat_lt a to then nought else s.memory a;
     }
     else s
 

@@ -1,7 +1,6 @@
 -- One step of the byte machine, for every instruction.
 use Rattle.std.specs.Prelude.{◌≡◌, ℕ, ◌*◌, ◌/◌, ◌%◌, ◌^◌, ◌&&◌, ◌||◌, ◌==◌, Bool, true, false, not, List, [], ◌∷◌}
-use Rattle.std.specs.Prelude.{Option, Some}
-use Rattle.std.specs.Prelude.{None, length, take, drop, min}
+use Rattle.std.specs.Prelude.{Option, Some, None, length, take, drop, min}
 use Rattle.rv_code.specs.declared.inst.Inst.{Inst}
 use Rattle.rv_code.specs.declared.cause.Cause.{Cause}
 use Rattle.rv_code.specs.declared.cause.Cause.TheVariants as cause
@@ -10,18 +9,16 @@ use Rattle.rv_code.specs.declared.action.Operand.TheVariants.{Register, Immediat
 use Rattle.rv_code.specs.declared.action.Extension.{Extension}
 use Rattle.rv_code.specs.declared.action.Action.{Action}
 use Rattle.rv_code.specs.declared.action.Action.TheVariants.{Compute, Branch, Jump, JumpTo, Upper, UpperPc, Load, Store}
-use Rattle.rv_code.specs.declared.action.Action.TheVariants.{Fence}
-use Rattle.rv_code.specs.declared.action.Action.TheVariants.{SystemCall, Breakpoint}
+use Rattle.rv_code.specs.declared.action.Action.TheVariants.{Fence, SystemCall, Breakpoint}
 use Rattle.rv_code.specs.isa.Action.{action_of}
 use Rattle.rv_code.specs.isa.InstBytes.{Decodes}
 use Rattle.rv_code.specs.isa.Op.{apply, holds}
 use Rattle.rv_code.specs.isa.Extension.{bytes_of, extended}
 use Rattle.rv_code.specs.isa.TwosComplement.{unsigned64}
 use Rattle.rv_code.specs.machine.Machine.{plus, set_register, all_may, memory_bytes, put, little, low_bytes, State}
-use Rattle.rv_code.specs.machine.Machine.{may_read}
-use Rattle.rv_code.specs.machine.Machine.{may_write, may_execute, with_break, Event, Call, Read, Write, Exit, Brk}
-use Rattle.rv_code.specs.machine.Machine.{Unknown}
-use Rattle.rv_code.specs.machine.Machine.{call_of, most_moved, bad_file, no_such_call, Outcome, Going, Ended, Halts}
+use Rattle.rv_code.specs.machine.Machine.{may_read, may_write, may_execute, with_break, Event, Call, Read, Write, Exit}
+use Rattle.rv_code.specs.machine.Machine.{Brk, Unknown, call_of, most_moved, bad_file, no_such_call, Outcome, Going}
+use Rattle.rv_code.specs.machine.Machine.{Ended, Halts}
 
 -- registers hold numbers of 64 bits, and memory holds bytes
 abbrev pub ByteState : Type 0
@@ -101,8 +98,7 @@ refuses_file s next number =
     returns s next
     (record {
       number = number;
-      used = s.registers a0 ∷ s.registers a1 ∷ s.registers a2
-          ∷ [];
+      used = s.registers a0 ∷ s.registers a1 ∷ s.registers a2 ∷ [];
       moved = [];
       result = bad_file;
     })
@@ -111,8 +107,7 @@ refuses_file s next number =
 abbrev pub sets_break : ByteState → ℕ → ByteState → ByteOutcome
 sets_break s next t = returns t next (record {
   number = 214;
-  used = s.registers a0
-      ∷ [];
+  used = s.registers a0 ∷ [];
   moved = [];
   result = t.program_break;
 })

@@ -2,16 +2,13 @@
 use Rattle.std.specs.Prelude.{◌≡◌, ◌⊎◌, ℕ, ℤ, pos}
 use Rattle.rv_code.specs.isa.Bits.{signed}
 use Rattle.rv_code.specs.isa.HalfRows.{Row, Matches, expansion, Opens, OpensArithmetic, OpensPair, OpensJump, rd, rs2}
-use Rattle.rv_code.specs.isa.HalfRows.{six_bits}
-use Rattle.rv_code.specs.isa.HalfRows.{upper_register, lower_register, word_offset, double_offset, branch_offset}
-use Rattle.rv_code.specs.isa.HalfRows.{C_ADDI4SPN}
-use Rattle.rv_code.specs.isa.HalfRows.{C_ADDI, C_ADDIW, C_LI, C_ADDI16SP, C_LUI, C_SRLI, C_SRAI, C_ANDI, C_J, C_SLLI}
-use Rattle.rv_code.specs.isa.HalfRows.{C_LWSP}
-use Rattle.rv_code.specs.isa.HalfRows.{C_LDSP, C_JR, C_MV, C_EBREAK, C_JALR, C_ADD, C_SWSP, C_SDSP}
+use Rattle.rv_code.specs.isa.HalfRows.{six_bits, upper_register, lower_register, word_offset, double_offset}
+use Rattle.rv_code.specs.isa.HalfRows.{branch_offset, C_ADDI4SPN, C_ADDI, C_ADDIW, C_LI, C_ADDI16SP, C_LUI, C_SRLI}
+use Rattle.rv_code.specs.isa.HalfRows.{C_SRAI, C_ANDI, C_J, C_SLLI, C_LWSP, C_LDSP, C_JR, C_MV, C_EBREAK, C_JALR, C_ADD}
+use Rattle.rv_code.specs.isa.HalfRows.{C_SWSP, C_SDSP}
 use Rattle.rv_code.specs.declared.inst.Inst.{Inst}
 use Rattle.rv_code.specs.declared.inst.Inst.TheVariants.{Lui, Jal, Jalr, Beq, Bne, Lw, Ld, Sw, Sd, Addi, Andi, Slli}
-use Rattle.rv_code.specs.declared.inst.Inst.TheVariants.{Srli, Srai}
-use Rattle.rv_code.specs.declared.inst.Inst.TheVariants.{Add, Sub, Xor, Or, And, Addiw, Addw, Subw, Ebreak}
+use Rattle.rv_code.specs.declared.inst.Inst.TheVariants.{Srli, Srai, Add, Sub, Xor, Or, And, Addiw, Addw, Subw, Ebreak}
 
 -- the halfword is one of the row, and the row expands it to this instruction
 pub record IsRowOf (row : Row) (half : ℕ) (inst : Inst) : Type 0 where

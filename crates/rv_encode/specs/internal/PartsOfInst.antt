@@ -2,15 +2,11 @@
 use Rattle.std.specs.Prelude.{ℕ, ℤ, pos}
 use Rattle.rv_code.specs.declared.inst.Inst.{Inst}
 use Rattle.rv_code.specs.declared.inst.Inst.TheVariants.{Lui, Auipc, Jal, Jalr, Beq, Bne, Blt, Bge, Bltu, Bgeu, Lb, Lh}
-use Rattle.rv_code.specs.declared.inst.Inst.TheVariants.{Lw, Ld, Lbu}
-use Rattle.rv_code.specs.declared.inst.Inst.TheVariants.{Lhu, Lwu, Sb, Sh, Sw, Sd, Addi, Slti, Sltiu, Xori, Ori, Andi}
-use Rattle.rv_code.specs.declared.inst.Inst.TheVariants.{Slli, Srli}
-use Rattle.rv_code.specs.declared.inst.Inst.TheVariants.{Srai, Add, Sub, Sll, Slt, Sltu, Xor, Srl, Sra, Or, And, Mul}
-use Rattle.rv_code.specs.declared.inst.Inst.TheVariants.{Mulh, Mulhsu}
-use Rattle.rv_code.specs.declared.inst.Inst.TheVariants.{Mulhu, Div, Divu, Rem, Remu, Addiw, Slliw, Srliw, Sraiw, Addw}
-use Rattle.rv_code.specs.declared.inst.Inst.TheVariants.{Subw, Sllw}
-use Rattle.rv_code.specs.declared.inst.Inst.TheVariants.{Srlw, Sraw, Mulw, Divw, Divuw, Remw, Remuw, Fence, Ecall}
-use Rattle.rv_code.specs.declared.inst.Inst.TheVariants.{Ebreak}
+use Rattle.rv_code.specs.declared.inst.Inst.TheVariants.{Lw, Ld, Lbu, Lhu, Lwu, Sb, Sh, Sw, Sd, Addi, Slti, Sltiu, Xori}
+use Rattle.rv_code.specs.declared.inst.Inst.TheVariants.{Ori, Andi, Slli, Srli, Srai, Add, Sub, Sll, Slt, Sltu, Xor}
+use Rattle.rv_code.specs.declared.inst.Inst.TheVariants.{Srl, Sra, Or, And, Mul, Mulh, Mulhsu, Mulhu, Div, Divu, Rem}
+use Rattle.rv_code.specs.declared.inst.Inst.TheVariants.{Remu, Addiw, Slliw, Srliw, Sraiw, Addw, Subw, Sllw, Srlw, Sraw}
+use Rattle.rv_code.specs.declared.inst.Inst.TheVariants.{Mulw, Divw, Divuw, Remw, Remuw, Fence, Ecall, Ebreak}
 use Rattle.rv_encode.specs.declared.same.InstParts.{InstParts}
 
 abbrev pub parts_with : ℕ → ℕ → ℕ → ℕ → ℤ → InstParts

@@ -1,7 +1,6 @@
 -- What stands in a memory of numbers and other bytes.
 use Rattle.std.specs.Prelude.{◌≡◌, ℕ, ◌<◌, ◌&&◌, ◌==◌, nat_lt, nat_le, not, if◌then◌else◌, Bool, true, false, List, []}
-use Rattle.std.specs.Prelude.{◌∷◌}
-use Rattle.std.specs.Prelude.{Option, Some, None, is_none, zero, suc}
+use Rattle.std.specs.Prelude.{◌∷◌, Option, Some, None, is_none, zero, suc}
 use Rattle.std.specs.Option.{option_map_or}
 use Rattle.sym_machine.specs.declared.value.CodeSymbol.{CodeSymbol}
 use Rattle.sym_machine.specs.declared.other_bytes.OtherByte.{OtherByte}

@@ -1,5 +1,4 @@
-use Rattle.std.proofs.Common.{◌≡◌, ◌⊎◌, ◌<◌, ◌≤◌, ℕ, List, [], All, Contains, inl, inr, ⊎_elim, slice_index, length, subst, sym}
-use Rattle.std.proofs.Common.{arith}
+use Rattle.std.proofs.Common.{◌≡◌, ◌⊎◌, ◌<◌, ◌≤◌, ℕ, List, [], All, Contains, inl, inr, ⊎_elim, slice_index, length, subst, sym, arith}
 use Rattle.std.proofs.lemmas.Bool.{cases_lt}
 use Rattle.rv_code.specs.layout.Lists.{ListsNumbers}
 use Rattle.block_layout.specs.Walks.{links_of}

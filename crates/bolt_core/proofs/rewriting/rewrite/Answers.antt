@@ -15,9 +15,8 @@ use Rattle.bolt_core.specs.ProfileOrder.{ArePartsBy, IsProfileOrder}
 use Rattle.bolt_core.specs.Refusals.{CanStand, IsInput}
 use Rattle.bolt_core.specs.internal.CarriedTables.{AreNewTables, HasRoomBehind}
 use Rattle.bolt_core.proofs.Accepted.{apart_blocks, blocks_of, input_of, laid_program, misplaced_refusal, no_place_refusal}
-use Rattle.bolt_core.proofs.Accepted.{not_carried_refusal, too_heavy_refusal}
-use Rattle.bolt_core.proofs.Accepted.{no_room_by, parts_by, read_again, readable_again, stands_by, start_by, stretches, too_large_refusal}
-use Rattle.bolt_core.proofs.Accepted.{unreadable_refusal}
+use Rattle.bolt_core.proofs.Accepted.{not_carried_refusal, too_heavy_refusal, no_room_by, parts_by, read_again, readable_again, stands_by}
+use Rattle.bolt_core.proofs.Accepted.{start_by, stretches, too_large_refusal, unreadable_refusal}
 use Rattle.bolt_core.proofs.Rewrites.{allowed, behind, eh_fits, laid_out_by, low, spans_low}
 use Rattle.table_set.specs.TableLimits.{IsTooHeavy}
 use Rattle.table_set.proofs.Fitting.{aranges_fit, df_fits, lines_fit, places_fit, ranges_fit}

@@ -1,7 +1,6 @@
 use Rattle.std.proofs.Common.{rules, nat_le, nat_lt, ℕ, sym, subst}
 use Rattle.std.specs.List.Sorted.{IsNonDecreasingBy}
-use Rattle.std.proofs.lemmas.List.Sorted.{IsPartitionPoint-from_clause, IsPartitionedBy-leb, IsPartitionedBy-ltb}
-use Rattle.std.proofs.lemmas.List.Sorted.{IsNonDecreasingBy-take}
+use Rattle.std.proofs.lemmas.List.Sorted.{IsPartitionPoint-from_clause, IsPartitionedBy-leb, IsPartitionedBy-ltb, IsNonDecreasingBy-take}
 use Rattle.cfg_build.proofs.Lookups.{pairs_rise, pairs_between}
 use Rattle.cfg_build.proofs.edge_lists.pairs_of.Goals as goal
 

@@ -78,8 +78,7 @@ returns c =
       are_moves = record {
         spans_are = refl;
         call_end_is = c.in_ok-call_ends.ensures.ends.is;
-        no_call_end =
-            c.in_ok-call_ends.ensures.ends.none;
+        no_call_end = c.in_ok-call_ends.ensures.ends.none;
       };
       lists_are = lists;
       info_is = info s m (sym c.contents_of-info.ensures) (sym c.contents_of-abbrevs.ensures) free

@@ -5,8 +5,7 @@ use Rattle.dw_unit.specs.Declarations.{is_named}
 use Rattle.dw_unit.specs.declared.declaration.Spec.{Spec}
 use Rattle.dw_unit.proofs.Named.{named_again, later_twice, once_step, known_step}
 use Rattle.dw_unit.proofs.declaration_tests.are_named_once.Goals as goal
-use Rattle.dw_unit.proofs.declaration_tests.are_named_once.Goals.{else-again-via-then-again+else-not-may_repeat}
-use Rattle.dw_unit.proofs.declaration_tests.are_named_once.Goals.{else-again-via-else-again}
+use Rattle.dw_unit.proofs.declaration_tests.are_named_once.Goals.{else-again-via-then-again+else-not-may_repeat, else-again-via-else-again}
 
 pub returns-then-not-may_repeat : goal.returns-then-not-may_repeat
 returns-then-not-may_repeat c =

@@ -55,12 +55,10 @@ returns-in-Ok-clause-tables c =
           is.shift
           (sections holds
           (subst (λ (f : List ℕ). AreaStands plan.area tables code f) (sym c.in-Ok.ensures.fields.file_is) stands));
-      headers = settled elf.segments.items plan.area _ plan.shift (HasNewHeaders elf new tables) is.area is.shift
-          (headers holds);
+      headers = settled elf.segments.items plan.area _ plan.shift (HasNewHeaders elf new tables) is.area is.shift (headers holds);
       names = subst (λ (a : Area). HaveNewNames elf new tables a source.funcs.now source.cold.now) is.area (names holds);
       symbols = symbols holds;
-      layout = settled elf.segments.items plan.area _ plan.shift (HasFileLayout elf new tables) is.area is.shift
-          (layout holds);
+      layout = settled elf.segments.items plan.area _ plan.shift (HasFileLayout elf new tables) is.area is.shift (layout holds);
     })
     c.has_new_tables.ensures.sections c.has_new_tables.ensures.headers c.has_new_tables.ensures.names
     c.has_new_tables.ensures.symbols c.has_new_tables.ensures.layout

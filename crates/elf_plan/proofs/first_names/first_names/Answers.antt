@@ -4,8 +4,7 @@ use Rattle.std.specs.BTreeMap.{get}
 use Rattle.elf_image.specs.declared.symbol.Symbol.{Symbol}
 use Rattle.elf_plan.proofs.FirstNames.{first-new, first-named, first-no_function}
 use Rattle.elf_plan.proofs.first_names.first_names.Goals as goal
-use Rattle.elf_plan.proofs.first_names.first_names.Goals.{then-names_function+then-not-contains_key+in_ok-insert}
-use Rattle.elf_plan.proofs.first_names.first_names.Goals.{else-names_function}
+use Rattle.elf_plan.proofs.first_names.first_names.Goals.{then-names_function+then-not-contains_key+in_ok-insert, else-names_function}
 use Rattle.elf_plan.proofs.first_names.first_names.Goals.{else-names_function-via-then-names_function+else-not-contains_key}
 use Rattle.elf_plan.proofs.first_names.first_names.Goals.{else-names_function-via-else-names_function}
 

@@ -1,7 +1,6 @@
 use Rattle.std.proofs.Common.{rules, nat_le, nat_lt, sym, subst}
 use Rattle.std.specs.List.Sorted.{IsNonDecreasingBy}
-use Rattle.std.proofs.lemmas.List.Sorted.{IsPartitionPoint-from_clause, IsPartitionedBy-leb, IsPartitionedBy-ltb}
-use Rattle.std.proofs.lemmas.List.Sorted.{IsNonDecreasingBy-take}
+use Rattle.std.proofs.lemmas.List.Sorted.{IsPartitionPoint-from_clause, IsPartitionedBy-leb, IsPartitionedBy-ltb, IsNonDecreasingBy-take}
 use Rattle.edge_profile.specs.PairCounts.{Counted}
 use Rattle.flow_infer.proofs.Runs.{run_filtered}
 use Rattle.flow_infer.proofs.counts.pairs_from.Goals as goal

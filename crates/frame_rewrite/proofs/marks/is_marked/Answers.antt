@@ -2,8 +2,7 @@ use Rattle.std.proofs.Common.{rules, ◌≡◌, ◌∙◌, ◌<◌, ◌-◌, len
 use Rattle.std.specs.Prelude.{slice_index_or}
 use Rattle.frame_rewrite.proofs.CutMarks.{IsCount, not-at-cut, last-cut, next-cut}
 use Rattle.frame_rewrite.proofs.marks.is_marked.Goals as goal
-use Rattle.frame_rewrite.proofs.marks.is_marked.Goals.{then-above-eq0-via-then-above-eq0}
-use Rattle.frame_rewrite.proofs.marks.is_marked.Goals.{then-above-eq0-via-else-above-eq0+then-cuts-above}
+use Rattle.frame_rewrite.proofs.marks.is_marked.Goals.{then-above-eq0-via-then-above-eq0, then-above-eq0-via-else-above-eq0+then-cuts-above}
 
 pub returns-then-above-eq0 : goal.returns-then-above-eq0
 returns-then-above-eq0 c =
@@ -12,8 +11,7 @@ returns-then-above-eq0 c =
     record {
       bound = c.count_up_to-above.ensures.bound;
       below = c.count_up_to-above.ensures.below;
-      above =
-          c.count_up_to-above.ensures.above;
+      above = c.count_up_to-above.ensures.above;
     } in
     elim c.then-above-eq0.branch [
       | then-above-eq0-via-then-above-eq0 w ↦
@@ -29,8 +27,7 @@ returns-then-above-cuts c =
     record {
       bound = c.count_up_to-above.ensures.bound;
       below = c.count_up_to-above.ensures.below;
-      above =
-          c.count_up_to-above.ensures.above;
+      above = c.count_up_to-above.ensures.above;
     } in
     let some : 0 < n = search rules in
     let at : slice_index_or c.args.cuts.now (n - 1) 0 ≡ c.args.fde.now.start = search rules in
@@ -45,8 +42,7 @@ returns-else-above-cuts c =
     record {
       bound = c.count_up_to-above.ensures.bound;
       below = c.count_up_to-above.ensures.below;
-      above =
-          c.count_up_to-above.ensures.above;
+      above = c.count_up_to-above.ensures.above;
     } in
     let some : 0 < n = search rules in
     let at : slice_index_or c.args.cuts.now (n - 1) 0 ≡ c.args.fde.now.start = search rules in

@@ -11,8 +11,7 @@ returns-in-Some c = λ a. (
     inst = c.in-Some.found.0;
     bytes = c.in-Some.found.1;
     valid = c.in-Some.ensures.there;
-    target_is = sym c.target.ensures
-        ∙ is;
+    target_is = sym c.target.ensures ∙ is;
   }),
   (λ goes.
       let same = same_Some _ (goes.inst, goes.bytes) (c.in-Some.ensures.only goes.inst goes.bytes goes.valid) in

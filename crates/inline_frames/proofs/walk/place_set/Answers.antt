@@ -1,5 +1,4 @@
-use Rattle.std.proofs.Common.{get_or, refl}
-use Rattle.std.proofs.Common.{nat_cmp}
+use Rattle.std.proofs.Common.{get_or, refl, nat_cmp}
 use Rattle.std.specs.Prelude.{◌==◌}
 use Rattle.std.specs.BTreeSet.{contains}
 use Rattle.inline_frames.proofs.Sets.{has_more}

@@ -7,8 +7,7 @@ use Rattle.line_rewrite.specs.LineUnits.{coding_at, header_in, header_behind}
 use Rattle.line_rewrite.specs.KeptUnits.{are_filed}
 use Rattle.line_rewrite.proofs.EntryLists.{tells_map}
 use Rattle.line_rewrite.proofs.Headers.{header_lacks, header_from, not_numbers, numbers_false, numbers_true, no_lengths, no_directories}
-use Rattle.line_rewrite.proofs.Headers.{no_files}
-use Rattle.line_rewrite.proofs.Headers.{no_gap, all_taken, taken_length, header_unfiled, header_made, tables_made}
+use Rattle.line_rewrite.proofs.Headers.{no_files, no_gap, all_taken, taken_length, header_unfiled, header_made, tables_made}
 use Rattle.line_rewrite.proofs.header_reader.read_header.Goals.{In_ok-coding, After-new-tables, After-are_filed}
 use Rattle.line_rewrite.proofs.header_reader.read_header.Goals.{After-saturating_sub-table_size}
 use Rattle.line_rewrite.proofs.header_reader.read_header.Goals as goal

@@ -23,8 +23,7 @@ ops-preserved c = way_appends _ _ _ _ _ _ _ _ _ _ _ _ _ _ _ _
       place = length c.args.bytes.now - c.left-in-ops.result;
       index = c.ops.count;
       registers = c.ops.present;
-      address =
-          c.in-Some.next.address;
+      address = c.in-Some.next.address;
     })
     c.ops.invariant c.in-Ok.ensures.read c.in-Appends.ensures c.in-Some.ensures c.after_row-present.ensures
     (let k : ℕ → Kept = λ n. record

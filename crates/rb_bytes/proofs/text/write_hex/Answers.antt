@@ -1,8 +1,7 @@
 use Rattle.std.proofs.Common.{◌≡◌, ◌≤◌, ◌<◌, ◌+◌, ◌-◌, ◌++◌, ◌∙◌, ◌^◌, length, drop, slice_set, arith, ap, length-set}
 use Rattle.std.proofs.Common.{length-drop, length-append}
 use Rattle.rb_bytes.specs.Text.{hexadecimal}
-use Rattle.rb_bytes.proofs.HexDigits.{hexadecimal_before, hex_onto-written, hex_onto-written_last, quotient-lt}
-use Rattle.rb_bytes.proofs.HexDigits.{some_left}
+use Rattle.rb_bytes.proofs.HexDigits.{hexadecimal_before, hex_onto-written, hex_onto-written_last, quotient-lt, some_left}
 use Rattle.rb_bytes.proofs.text.write_hex.Goals as goal
 
 pub digits-init : goal.digits-init

@@ -2,8 +2,7 @@ use Rattle.std.proofs.Common.{◌≡◌, ◌∙◌, ◌+◌, ◌-◌, ◌*◌, �
 use Rattle.std.proofs.lemmas.List.{length-map}
 use Rattle.std.specs.Prelude.{map, replicate, string_bytes}
 use Rattle.elf_image.specs.memory.Break.{rounded_down}
-use Rattle.rv_memory.specs.Start.{program_arguments, random_address, random_bytes, texts, texts_address}
-use Rattle.rv_memory.specs.Start.{start_bytes, stack_pointer}
+use Rattle.rv_memory.specs.Start.{program_arguments, random_address, random_bytes, texts, texts_address, start_bytes, stack_pointer}
 use Rattle.rv_memory.proofs.StackLengths.{length-texts, start_bytes-room, padded}
 use Rattle.rv_memory.proofs.stack.stack_bytes.Goals as goal
 

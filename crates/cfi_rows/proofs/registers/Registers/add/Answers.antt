@@ -3,8 +3,7 @@ use Rattle.std.proofs.lemmas.Bool.{or_left, or_right}
 use Rattle.std.specs.BTreeSet.{contains}
 use Rattle.cfi_rows.proofs.RegisterCounts.{added, adds, kept}
 use Rattle.cfi_rows.proofs.registers.Registers.add.Goals as goal
-use Rattle.cfi_rows.proofs.registers.Registers.add.Goals.{then-contains-via-then-contains}
-use Rattle.cfi_rows.proofs.registers.Registers.add.Goals.{then-contains-via-else-contains+then-contains-2}
+use Rattle.cfi_rows.proofs.registers.Registers.add.Goals.{then-contains-via-then-contains, then-contains-via-else-contains+then-contains-2}
 
 pub returns-then-contains-clause-added : goal.returns-then-contains-clause-added
 returns-then-contains-clause-added c = λ xs ys a counted.

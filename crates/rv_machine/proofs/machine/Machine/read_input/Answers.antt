@@ -79,8 +79,7 @@ returns-in-Bytes-clause-answer g c = λ output.
                 ∙ sym (read_call-reads s c.args.next moved may_write_all takes);
             taken_is = read_writes_nothing s moved output.taken;
           };
-      read_is =
-          c.in-Bytes.ensures.moved ∙ ap (λ xs. prepend_known xs (g.I.Source.seen c.fill.new.input).left) (sym from_buffer);
+      read_is = c.in-Bytes.ensures.moved ∙ ap (λ xs. prepend_known xs (g.I.Source.seen c.fill.new.input).left) (sym from_buffer);
       end_kept = λ e. (c.in-Bytes.ensures.kept e, none_read moved c.in-Bytes.got got (c.in-Bytes.ensures.none_after_end e));
       end_is = c.in-Bytes.ensures.rightly;
     })

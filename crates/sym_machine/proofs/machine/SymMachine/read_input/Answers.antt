@@ -67,8 +67,7 @@ returns-in-Bytes-clause-answer g c = λ output.
                 ∙ sym (reads s c.args.next b.address b.size bytes may_write_all takes);
             taken_is = read_writes_nothing b.address b.size bytes output.taken;
           };
-      read_is =
-          c.in-Bytes.ensures.moved ∙ ap (λ xs. prepend_known xs (g.I.Source.seen c.fill.new.input).left) (sym from_buffer);
+      read_is = c.in-Bytes.ensures.moved ∙ ap (λ xs. prepend_known xs (g.I.Source.seen c.fill.new.input).left) (sym from_buffer);
       end_kept = λ e. (c.in-Bytes.ensures.kept e, none_read bytes c.in-Bytes.got got (c.in-Bytes.ensures.none_after_end e));
       end_is = c.in-Bytes.ensures.rightly;
     })
