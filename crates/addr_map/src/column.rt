@@ -8,7 +8,7 @@ use rb_bytes::fault::NoMemory;
 use std::alloc::Global;
 use std::marker::Model;
 
-/// How many members of a column one member of the level over it stands for.
+// How many members of a column one member of the level over it stands for.
 const GROUP: usize = 64;
 
 /// Numbers that ascend, with levels over them: each level has the first of each 64 members of the one below it, and the

@@ -13,11 +13,11 @@ use rb_bytes::fault::NoMemory;
 use rb_bytes::text::write_hex;
 use rb_io::{Put, Sink, print_all};
 
-/// A line has at most two numbers of 16 digits, one of three, two blanks and its end.
+// A line has at most two numbers of 16 digits, one of three, two blanks and its end.
 const LINE_LENGTH: usize = 38;
-/// How many lines are written at once.
+// How many lines are written at once.
 const LINES: usize = 64;
-/// The room for as many lines.
+// The room for as many lines.
 const PIECE_LENGTH: usize = LINES * LINE_LENGTH;
 
 // Writes a byte before the place `end`, and gives its place.

@@ -13,7 +13,7 @@ use rb_bytes::fault::Refusal;
 use std::alloc::Global;
 use table_core::debug_units;
 
-/// The version of tables of ranges of addresses.
+// The version of tables of ranges of addresses.
 const VERSION: u16 = 2;
 
 /// Reads a section of tables, or refuses it for the first of its faults and of those of units, which come before its

@@ -7,16 +7,16 @@ use crate::stretch::Stretch;
 use rb_bytes::fault::NoMemory;
 use rb_bytes::little::{put_u16, put_u32, put_u64};
 
-/// The version of tables of ranges of addresses.
+// The version of tables of ranges of addresses.
 const VERSION: u16 = 2;
 
-/// An address size of 8, and a segment selector size of 0.
+// An address size of 8, and a segment selector size of 0.
 const SIZES: u16 = 8;
 
-/// How many bytes a table has behind its length, but for its pairs: the header, and the two zeros that end the pairs.
+// How many bytes a table has behind its length, but for its pairs: the header, and the two zeros that end the pairs.
 const FIXED_SIZE: usize = 28;
 
-/// How many bytes a pair has.
+// How many bytes a pair has.
 const PAIR_SIZE: usize = 16;
 
 fn put_pair(out: &mut Vec<u8>, address: u64, len: u64) -> Result<(), NoMemory>

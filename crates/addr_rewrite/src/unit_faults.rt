@@ -16,7 +16,7 @@ use rb_bytes::fault::NoMemory;
 use std::alloc::Global;
 use table_core::{DebugUnit, debug_units};
 
-/// The version of DWARF that is read.
+// The version of DWARF that is read.
 const VERSION: u16 = 5;
 
 // The place of a unit that can't be read.

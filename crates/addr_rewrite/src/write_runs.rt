@@ -11,7 +11,7 @@ use rb_bytes::fault::NoMemory;
 use std::alloc::Global;
 use table_core::Run;
 
-/// What a run weighs.
+// What a run weighs.
 const RUN_WEIGHT: u64 = 32;
 
 /// The weight of some runs; where it is none of 64 bits, the greatest number.

@@ -20,15 +20,15 @@ use rv_code::{Block, Func};
 use std::alloc::Global;
 use table_core::section::held_by;
 
-/// For the end of a table, the head of its index, and the alignment of both.
+// For the end of a table, the head of its index, and the alignment of both.
 const TABLE_NEED: u64 = 64;
 
 const CIE_NEED: u64 = 64;
 
-/// For the fields of an entry, its pair in the index and its first row, beside the rules and the expressions.
+// For the fields of an entry, its pair in the index and its first row, beside the rules and the expressions.
 const ENTRY_NEED: u64 = 64;
 
-/// For the rule of a register, or of the frame address.
+// For the rule of a register, or of the frame address.
 const RULE_NEED: u64 = 24;
 
 /// How many bytes `.eh_frame` and its index take at most in the new area, if the file loads one.

@@ -10,7 +10,7 @@ use crate::settling::settle;
 use rv_code::Form;
 use std::alloc::{AllocError, Global};
 
-/// How many passes over all blocks may make forms grow before they grow one at a time.
+// How many passes over all blocks may make forms grow before they grow one at a time.
 const PASSES: u8 = 8;
 
 /// How a block ends.

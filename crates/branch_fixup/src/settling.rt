@@ -11,7 +11,7 @@ use crate::lengths::{form_reach, longer, piece_length, reaches};
 use rv_code::Form;
 use std::alloc::{AllocError, Global};
 
-/// How far a form that can grow reaches at most.
+// How far a form that can grow reaches at most.
 const REACH: u64 = 1 << 12;
 
 // Whether the branch or jump of block `k` goes past the end of block `p`, so that its way is longer when that grows.
@@ -220,7 +220,7 @@ pub fn settle(alloc: Global, block_ends: &[BlockEnd], forms: &mut [Form]) -> Res
     grow_from(alloc, block_ends, &places, &over, forms, &mut more, blocks)
 }
 
-/// Which blocks have ways over a block.
+// Which blocks have ways over a block.
 #[derive(Drop)]
 struct Crossings {
     /// For each block, the last block up to which it or one before it leads.

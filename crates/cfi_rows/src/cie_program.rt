@@ -20,7 +20,7 @@ pub struct CieProgram {
     pub known: Known,
 }
 
-/// What is known after the instructions of a CIE.
+// What is known after the instructions of a CIE.
 fn known_after(alloc: Global, instructions: &[Instruction]) -> Result<Known, Failed>
     ensures { IfOk result (λ k. spec.known_after instructions.now (Some (spec.begins 0 spec.nothing_known))
         ≡ Some (known_of k)) }

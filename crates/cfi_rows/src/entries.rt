@@ -53,7 +53,7 @@ impl<'a> RawEntry<'a> {
     }
 }
 
-/// The id of a CIE in `.debug_frame`.
+// The id of a CIE in `.debug_frame`.
 const DEBUG_CIE_ID: u32 = 0xffff_ffff;
 
 // A CIE, and none where it is malformed.

@@ -26,7 +26,7 @@ pub struct Outline {
 }
 
 impl Outline {
-    /// At the start of a program.
+    // At the start of a program.
     fn new(alloc: Global, location: u64, frame: FrameKind) -> Outline
         ensures { spec.kept_outline result ≡ record { location = location; frame = frame; saved = [] } }
     {

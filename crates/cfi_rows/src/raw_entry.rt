@@ -33,7 +33,7 @@ pub enum NoEntry {
     Breaks,
 }
 
-/// The length that says that one of 64 bits follows.
+// The length that says that one of 64 bits follows.
 const WIDE_LENGTH: u32 = 0xffff_ffff;
 
 /// The entry at the front of the bytes left, and the bytes after it.

@@ -39,7 +39,7 @@ pub struct RowHistory {
     pub kept: Vec<KeptRules>,
 }
 
-/// The least number of changes between rules that are kept.
+// The least number of changes between rules that are kept.
 const KEPT_EVERY: usize = 64;
 
 impl RowHistory {

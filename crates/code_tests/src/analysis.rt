@@ -19,7 +19,7 @@ pub struct Analysis {
     pub funcs: Vec<Func>,
 }
 
-/// Reads a file and finds its code.
+// Reads a file and finds its code.
 fn analyse(alloc: Global, file: &[u8], whole: &[(u64, u64)]) -> Result<Analysis, Refusal> {
     let elf = read(alloc, file)?;
     let starts = starts(alloc, &elf)?;

@@ -12,7 +12,7 @@ use std::process::Abort;
 use std::test::Fail;
 use test_files::words::{Row, file_in_words, ranges, rows};
 
-/// The blocks of a file, the addresses to which tables lead its jumps, and its edges.
+// The blocks of a file, the addresses to which tables lead its jumps, and its edges.
 #[derive(Drop)]
 struct Layout {
     blocks: Vec<Block>,

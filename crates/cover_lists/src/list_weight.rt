@@ -13,7 +13,7 @@ use addr_map::AddrMap;
 use rb_bytes::fault::NoMemory;
 use std::alloc::Global;
 
-/// What an expression weighs beside its bytes.
+// What an expression weighs beside its bytes.
 const EXPRESSION_WEIGHT: u64 = 16;
 
 // The weight of some expressions; where it is none of 64 bits, the greatest number.

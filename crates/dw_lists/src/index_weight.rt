@@ -5,10 +5,10 @@ ghost use Rattle.dw_lists.specs.Weights as spec;
 
 use dw_unit::{Attr, Entry};
 
-/// What a table with offsets weighs beside them.
+// What a table with offsets weighs beside them.
 const TABLE_WEIGHT: u64 = 32;
 
-/// What an offset weighs.
+// What an offset weighs.
 const OFFSET_WEIGHT: u64 = 4;
 
 // The greatest of some indexes and one more.

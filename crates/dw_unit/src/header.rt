@@ -9,7 +9,7 @@ use crate::trouble::Trouble;
 use crate::unit_type::{DW_UT_compile, DW_UT_partial, DW_UT_type};
 use rb_bytes::cursor::Cursor;
 
-/// How many bytes an address has.
+// How many bytes an address has.
 const ADDRESS_SIZE: u8 = 8;
 
 fn half<'a>(cursor: &mut Cursor<'a>) -> Result<u16, Trouble>

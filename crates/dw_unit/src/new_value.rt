@@ -18,7 +18,7 @@ use crate::soundness::is_located;
 use table_core::form::{DW_FORM_addr, DW_FORM_sec_offset};
 use table_core::written::DW_AT_stmt_list;
 
-/// The offset by which an entry names no line unit.
+// The offset by which an entry names no line unit.
 const NO_LINE_UNIT: u64 = 0xffff_ffff;
 
 // The new value of an address.

@@ -18,7 +18,7 @@ use rb_bytes::fault::NoMemory;
 use std::alloc::Global;
 use std::collections::BTreeMap;
 
-/// How many bytes are read again at most, where tables overlap out of step.
+// How many bytes are read again at most, where tables overlap out of step.
 const READ_AGAIN: u64 = 1 << 25;
 
 /// The tables of a section that begin at some offsets.

@@ -53,7 +53,7 @@ impl NameEnds {
         }
     }
 
-    /// The range of the names that have one byte more before the end of this range's names.
+    // The range of the names that have one byte more before the end of this range's names.
     fn narrowed(&self, ending: Ending, byte: u8) -> Ending
         requires ordered { ending.start ≤ ending.end }
         requires within { ending.end ≤ length self.now.backward.items }

@@ -10,10 +10,10 @@ use cfi_rows::encoding::{DW_EH_PE_absptr, DW_EH_PE_indirect_absptr};
 use rb_bytes::fault::NoMemory;
 use rb_bytes::little::{put_u32, put_u64};
 
-/// The greatest number of bytes of an entry's contents: its length field has no value that says that it is longer.
+// The greatest number of bytes of an entry's contents: its length field has no value that says that it is longer.
 const MAX_BODY: usize = 0xffff_fff0;
 
-/// The greatest id of an entry.
+// The greatest id of an entry.
 const MAX_ID: usize = 0xffff_ffff;
 
 /// Appends an entry, if its id and its length fit their fields.
@@ -75,7 +75,7 @@ fn put_cie(out: &mut Vec<u8>, key: &CieKey) -> Result<(), NoMemory>
     Ok(())
 }
 
-/// The id of a CIE.
+// The id of a CIE.
 fn cie_id(debug: bool) -> usize
     ensures { result ≡ entries.cie_id debug }
 {

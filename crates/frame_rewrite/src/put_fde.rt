@@ -19,7 +19,7 @@ use table_core::Run;
 /// The size of a CIE.
 pub(crate) const CIE_SIZE: usize = 32;
 
-/// The last place at which an entry may begin, so that distances in the table fit four bytes.
+// The last place at which an entry may begin, so that distances in the table fit four bytes.
 const MAX_PLACE: usize = 0xffff_0000;
 
 // Whether a run goes on in the entry of another, which is of a whole function.

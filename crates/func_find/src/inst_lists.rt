@@ -64,7 +64,7 @@ fn is_same(a: &Part, b: &Part) -> bool
     a.start == b.start && a.end == b.end
 }
 
-/// A part of more instructions may take memory in steps.
+// A part of more instructions may take memory in steps.
 const LARGE: u64 = 256;
 
 // The instructions of a part, or the fault of the first that can't be there.

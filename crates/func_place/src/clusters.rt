@@ -27,7 +27,7 @@ pub struct Clusters {
 }
 
 impl Clusters {
-    /// Each unit in a cluster of its own.
+    // Each unit in a cluster of its own.
     fn new(alloc: Global, sizes: &[u128], heats: &[u128]) -> Result<Clusters, AllocError>
         requires sizes_in { AreWithinLimit sizes.now }
         requires sizes_some { (u : ℕ) → u < length sizes.now → 0 < slice_index heats.now u →
@@ -48,7 +48,7 @@ impl Clusters {
         })
     }
 
-    /// Puts two clusters together, the second after the first.
+    // Puts two clusters together, the second after the first.
     fn join(&mut self, alloc: Global, first: usize, second: usize) -> Result<(), AllocError>
         requires sound { IsValidState (state_of self.old) }
         requires apart { first ≢ second }
@@ -66,7 +66,7 @@ impl Clusters {
         Ok(())
     }
 
-    /// Appends a unit's cluster to that of its caller, where that is another one and both are small enough.
+    // Appends a unit's cluster to that of its caller, where that is another one and both are small enough.
     fn append(&mut self, alloc: Global, caller: usize, unit: usize) -> Result<(), AllocError>
         requires sound { IsValidState (state_of self.old) }
         requires caller_in { caller < count_of (state_of self.old) }
@@ -128,7 +128,7 @@ impl Clusters {
     }
 }
 
-/// The clusters after units were taken in an order, each with its heaviest caller.
+// The clusters after units were taken in an order, each with its heaviest caller.
 fn fold_units(
     alloc: Global,
     sizes: &[u128],

@@ -16,7 +16,7 @@ use rb_bytes::fault::NoMemory;
 use std::alloc::Global;
 use std::collections::{BTreeMap, BTreeSet};
 
-/// The longest way of references that is followed.
+// The longest way of references that is followed.
 const REFERENCE_LIMIT: u8 = 16;
 
 // The offset that a naming refers to.

@@ -27,14 +27,14 @@ signed 129 8101
 signed -129 ff7e
 signed -9223372036854775808 8080808080808080807f";
 
-/// The unsigned number at the front, and how many bytes it has.
+// The unsigned number at the front, and how many bytes it has.
 fn read_unsigned(bytes: &[u8]) -> Result<(u64, usize), Gap> {
     let mut cursor = Cursor::new(bytes);
     let number = cursor.uleb()?;
     Ok((number, cursor.place()))
 }
 
-/// The signed number at the front, and how many bytes it has.
+// The signed number at the front, and how many bytes it has.
 fn read_signed(bytes: &[u8]) -> Result<(i64, usize), Gap> {
     let mut cursor = Cursor::new(bytes);
     let number = cursor.sleb()?;
@@ -164,7 +164,7 @@ fn numbers_as_text(rt: HostRuntime) -> Result<(), Fail> {
     Ok(())
 }
 
-/// A call that asks for memory, and passes its want on as a refusal.
+// A call that asks for memory, and passes its want on as a refusal.
 fn refused_or_spelled(out: &mut Vec<u8>, kind: FaultKind) -> Result<(), Refusal> {
     put_decimal(out, kind.number() as u64)?;
     out.extend_from_slice(kind.name().as_bytes())?;

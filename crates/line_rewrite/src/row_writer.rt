@@ -12,7 +12,7 @@ use rb_bytes::fault::NoMemory;
 /// By how many different numbers of lines special opcodes advance, from -5 on.
 pub const LINE_RANGE: u8 = 14;
 
-/// By how much special opcodes advance the address, at most.
+// By how much special opcodes advance the address, at most.
 const MAX_ADVANCE: u64 = 16;
 
 // Writes an operation, unless it is not needed.

@@ -15,7 +15,7 @@ use crate::unit::Unit;
 use rb_bytes::cursor::Cursor;
 use std::alloc::Global;
 
-/// The bytes of a unit behind its length.
+// The bytes of a unit behind its length.
 #[derive(Clone, Copy)]
 struct Outer<'a> {
     address_size: u8,

@@ -10,13 +10,13 @@ use crate::unit::Unit;
 use rb_bytes::fault::NoMemory;
 use rb_bytes::little::put_u32;
 
-/// The line base of units that are written, -5, in two's complement.
+// The line base of units that are written, -5, in two's complement.
 const LINE_BASE: u8 = 251;
 
-/// How many operands the standard opcodes have.
+// How many operands the standard opcodes have.
 const OPERAND_COUNTS: [u8; 12] = [0, 1, 1, 1, 1, 0, 0, 0, 1, 0, 0, 1];
 
-/// How many bytes a unit has beside its program and what stands behind the counts of operands.
+// How many bytes a unit has beside its program and what stands behind the counts of operands.
 const FIXED_SIZE: usize = 26;
 
 fn flag_byte(flag: bool) -> u8

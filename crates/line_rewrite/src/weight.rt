@@ -6,10 +6,10 @@ ghost use Rattle.line_rewrite.specs.Tables.{row_weight};
 use crate::answer::LineAt;
 use table_core::Run;
 
-/// What a run weighs, whatever it says.
+// What a run weighs, whatever it says.
 const RUN_WEIGHT: u64 = 32;
 
-/// What a row weighs.
+// What a row weighs.
 const ROW_WEIGHT: u64 = 96;
 
 /// The weight of some runs; where it is none of 64 bits, the greatest number.

@@ -101,7 +101,7 @@ fn add_entry(
     }
 }
 
-/// The lists of a unit.
+// The lists of a unit.
 #[derive(Drop)]
 struct UnitBody {
     bytes: Vec<u8>,

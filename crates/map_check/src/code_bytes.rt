@@ -6,7 +6,7 @@ ghost use Rattle.code_starts.specs.LoadedMemory.{IsLow};
 use elf_image::Elf;
 use elf_image::segment::{PF_W, PF_X};
 
-/// Whether the byte at an address is loaded, may be executed and may not be written.
+// Whether the byte at an address is loaded, may be executed and may not be written.
 fn is_code_byte(elf: &Elf, address: u64) -> bool
     ensures { IsTrue result ↔ IsCodeByte (executable_read elf.now) address }
 {

@@ -2,7 +2,7 @@
 use rb_lanes::{length_marks, rank};
 use std::test::Fail;
 
-/// More marks than two numbers of 64 bits hold.
+// More marks than two numbers of 64 bits hold.
 const LONGEST: usize = 130;
 
 #[test]

@@ -10,8 +10,8 @@ fn span(out: u64, len: u8, input: u64) -> Span {
     Span { out, len, input }
 }
 
-/// A jump was added after the instruction at 10078. Those at 10084 and 1008a were left out before their target at
-/// 1007c. One without bytes stands inside another span, and two spans have the greatest numbers.
+// A jump was added after the instruction at 10078. Those at 10084 and 1008a were left out before their target at
+// 1007c. One without bytes stands inside another span, and two spans have the greatest numbers.
 fn spans() -> [Span; 9] {
     [
         span(0x1009c, 4, 0x1007c),
@@ -104,7 +104,7 @@ fn a_map_of_nothing(rt: HostRuntime) -> Result<(), Fail> {
     Ok(())
 }
 
-/// More than two full levels.
+// More than two full levels.
 const MANY: u64 = 5000;
 
 // Instructions of two bytes, in the opposite order, in four bytes each.

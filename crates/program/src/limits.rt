@@ -12,10 +12,10 @@ use rv_code::Func;
 /// The most bytes of a file, and of a profile: 64 MiB.
 pub const FILE_LIMIT: usize = 64 * 1024 * 1024;
 
-/// The most bytes that the sections of code may have together.
+// The most bytes that the sections of code may have together.
 const CODE_LIMIT: u64 = 16 * 1024 * 1024;
 
-/// The most functions that a file may have.
+// The most functions that a file may have.
 const FUNCTION_LIMIT: usize = 200_000;
 
 // How many bytes of code a section has.

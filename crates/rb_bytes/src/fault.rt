@@ -54,7 +54,8 @@ pub enum FaultKind {
     /// A branch, jump or call goes to no instruction of a function. Place: the address of the
     /// instruction.
     BadTarget,
-    /// Code that must stay within the reach of one branch is too long. Place: its lowest address.
+    /// Functions that lead into each other by branches and JALs take more than a JAL reaches (ISA manual, section 2.5).
+    /// Place: their lowest address.
     UnitTooLong,
     /// A branch leaves a function that is moved whole. Place: the address of the branch.
     KeptBranch,

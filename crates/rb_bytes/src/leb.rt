@@ -10,7 +10,7 @@ use crate::fault::NoMemory;
 /// Each byte carries one digit in this base, and is below it only if it is the last.
 pub(crate) const BASE: u8 = 128;
 
-/// As many bytes as a number of 64 bits takes at most.
+// As many bytes as a number of 64 bits takes at most.
 const MAX_LENGTH: usize = 10;
 
 /// The place of the byte that ends the number at the front.
@@ -69,21 +69,21 @@ pub fn put_uleb(out: &mut Vec<u8>, v: u64) -> Result<(), NoMemory>
     Ok(())
 }
 
-/// Whether seven bits hold the number, its sign with it.
+// Whether seven bits hold the number, its sign with it.
 fn fits_seven_bits(value: i64) -> bool
     ensures { result ≡ fits_seven_bits value }
 {
     (-64..64).contains(&value)
 }
 
-/// The seven lowest bits of a number in two's complement.
+// The seven lowest bits of a number in two's complement.
 fn low_bits(value: i64) -> u8
     ensures { result ≡ low_bits value }
 {
     (value.cast_unsigned() % BASE as u64) as u8
 }
 
-/// The bits above the seven lowest, the sign among them.
+// The bits above the seven lowest, the sign among them.
 fn high_bits(value: i64) -> i64
     ensures { result ≡ high_bits value }
 {

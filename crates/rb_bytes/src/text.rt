@@ -6,7 +6,7 @@ ghost use Rattle.rb_bytes.specs.Text.{hexadecimal};
 use crate::fault::NoMemory;
 use itoa::Buffer;
 
-/// As many digits as a number of 64 bits has at most.
+// As many digits as a number of 64 bits has at most.
 const HEX_LENGTH: usize = 16;
 
 fn hex_digit(digit: u8) -> u8

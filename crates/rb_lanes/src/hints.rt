@@ -3,10 +3,10 @@ ghost use Rattle.std.specs.Prelude.{◌↔◌, ◌<◌, ◌≤◌, ℕ, IsTrue, 
 
 use std::alloc::{AllocError, Global};
 
-/// How many members a step of values has, about.
+// How many members a step of values has, about.
 const MEMBERS: u64 = 8;
 
-/// As many members as a look-up goes over before it searches all.
+// As many members as a look-up goes over before it searches all.
 const WALK: usize = 32;
 
 /// The places of the first members in steps of values of one size. A matter of speed alone: a look-up begins there,

@@ -5,7 +5,7 @@ ghost use Rattle.rb_lanes.specs.Marks.{ends_in_ones, is_marked, marks_of};
 use std::simd::prelude::*;
 use std::simd::u16x64;
 
-/// How many marks a number of 64 bits holds.
+// How many marks a number of 64 bits holds.
 const MARKS: usize = 64;
 
 /// Marks the halfwords whose two lowest bits are set: bit `i % 64` of `out[i / 64]` is set exactly where `halves[i]` is

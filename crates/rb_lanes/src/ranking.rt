@@ -5,7 +5,7 @@ ghost use Rattle.rb_lanes.specs.Ranks.{rank};
 use std::simd::prelude::*;
 use std::simd::u64x8;
 
-/// How many members are taken at once.
+// How many members are taken at once.
 const LANES: usize = 8;
 
 /// How many members are at most `x`. In an ascending list that is the place of the first member above `x`.

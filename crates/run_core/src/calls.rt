@@ -13,7 +13,7 @@ pub const A2: u8 = 12;
 /// The register of a call's number.
 pub const A7: u8 = 17;
 
-/// The numbers of calls.
+// The numbers of calls.
 const READ: u64 = 63;
 
 const WRITE: u64 = 64;
@@ -24,7 +24,7 @@ const EXIT_GROUP: u64 = 94;
 
 const BRK: u64 = 214;
 
-/// The files that are open.
+// The files that are open.
 const STANDARD_INPUT: u64 = 0;
 
 const STANDARD_OUTPUT: u64 = 1;

@@ -33,7 +33,7 @@ pub fn decode_full(word: u32) -> Option<Inst>
     }
 }
 
-/// JAL.
+// JAL.
 fn jal(word: u32) -> Option<Inst>
     requires { field word 0 7 ≡ JAL }
     ensures { FindsOnly (IsFull word) result }
@@ -44,7 +44,7 @@ fn jal(word: u32) -> Option<Inst>
     })
 }
 
-/// JALR.
+// JALR.
 fn jalr(word: u32) -> Option<Inst>
     requires { field word 0 7 ≡ JALR }
     ensures { FindsOnly (IsFull word) result }
@@ -60,7 +60,7 @@ fn jalr(word: u32) -> Option<Inst>
     })
 }
 
-/// A conditional branch.
+// A conditional branch.
 fn branch(word: u32) -> Option<Inst>
     requires { field word 0 7 ≡ BRANCH }
     ensures { FindsOnly (IsFull word) result }
@@ -79,7 +79,7 @@ fn branch(word: u32) -> Option<Inst>
     }
 }
 
-/// FENCE, whatever it orders.
+// FENCE, whatever it orders.
 fn fence(word: u32) -> Option<Inst>
     requires { field word 0 7 ≡ MISC_MEM }
     ensures { FindsOnly (IsFull word) result }
@@ -94,7 +94,7 @@ fn fence(word: u32) -> Option<Inst>
     })
 }
 
-/// ECALL or EBREAK.
+// ECALL or EBREAK.
 fn system(word: u32) -> Option<Inst>
     requires { field word 0 7 ≡ SYSTEM }
     ensures { FindsOnly (IsFull word) result }

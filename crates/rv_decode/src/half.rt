@@ -22,7 +22,7 @@ pub fn decode_half(half: u32) -> Option<Inst>
     }
 }
 
-/// Loads and stores at registers 8 to 15, and C.ADDI4SPN.
+// Loads and stores at registers 8 to 15, and C.ADDI4SPN.
 fn quadrant0(half: u32) -> Option<Inst>
     requires { field half 0 2 ≡ 0 }
     ensures { FindsOnly (IsHalf half) result }
@@ -55,7 +55,7 @@ fn quadrant0(half: u32) -> Option<Inst>
     }
 }
 
-/// C.ADDI4SPN.
+// C.ADDI4SPN.
 fn addi4spn(half: u32) -> Option<Inst>
     requires quadrant { field half 0 2 ≡ 0 }
     requires funct3 { field half 13 3 ≡ 0 }

@@ -43,7 +43,7 @@ pub fn op_imm(word: u32) -> Option<Inst>
     }
 }
 
-/// A shift by an immediate.
+// A shift by an immediate.
 fn shift_imm(word: u32) -> Option<Inst>
     requires opcode { field word 0 7 ≡ OP_IMM }
     requires funct3 { (field word 12 3 ≡ 1) ⊎ (field word 12 3 ≡ 5) }

@@ -43,7 +43,7 @@ pub fn quadrant1(half: u32) -> Option<Inst>
     }
 }
 
-/// C.ADDIW.
+// C.ADDIW.
 fn addiw(half: u32) -> Option<Inst>
     requires quadrant { field half 0 2 ≡ 1 }
     requires funct3 { field half 13 3 ≡ 1 }
@@ -60,7 +60,7 @@ fn addiw(half: u32) -> Option<Inst>
     })
 }
 
-/// C.ADDI16SP where the register is the stack pointer, else C.LUI.
+// C.ADDI16SP where the register is the stack pointer, else C.LUI.
 fn upper_immediate(half: u32) -> Option<Inst>
     requires quadrant { field half 0 2 ≡ 1 }
     requires funct3 { field half 13 3 ≡ 3 }
@@ -80,7 +80,7 @@ fn upper_immediate(half: u32) -> Option<Inst>
     })
 }
 
-/// C.ADDI16SP.
+// C.ADDI16SP.
 fn addi16sp(half: u32) -> Option<Inst>
     requires quadrant { field half 0 2 ≡ 1 }
     requires funct3 { field half 13 3 ≡ 3 }
@@ -98,7 +98,7 @@ fn addi16sp(half: u32) -> Option<Inst>
     })
 }
 
-/// Arithmetic on one of the registers 8 to 15.
+// Arithmetic on one of the registers 8 to 15.
 fn arithmetic(half: u32) -> Option<Inst>
     requires quadrant { field half 0 2 ≡ 1 }
     requires funct3 { field half 13 3 ≡ 4 }
@@ -125,7 +125,7 @@ fn arithmetic(half: u32) -> Option<Inst>
     }
 }
 
-/// Arithmetic on two of the registers 8 to 15.
+// Arithmetic on two of the registers 8 to 15.
 fn arithmetic_pair(half: u32) -> Option<Inst>
     requires quadrant { field half 0 2 ≡ 1 }
     requires funct3 { field half 13 3 ≡ 4 }

@@ -41,7 +41,7 @@ pub fn quadrant2(half: u32) -> Option<Inst>
     }
 }
 
-/// C.LWSP or C.LDSP.
+// C.LWSP or C.LDSP.
 fn load_from_stack(half: u32) -> Option<Inst>
     requires quadrant { field half 0 2 ≡ 2 }
     requires funct3 { (field half 13 3 ≡ 2) ⊎ (field half 13 3 ≡ 3) }
@@ -66,7 +66,7 @@ fn load_from_stack(half: u32) -> Option<Inst>
     }
 }
 
-/// C.MV or C.ADD, or, without a second register, a jump or C.EBREAK.
+// C.MV or C.ADD, or, without a second register, a jump or C.EBREAK.
 fn register_pair(half: u32) -> Option<Inst>
     requires quadrant { field half 0 2 ≡ 2 }
     requires funct3 { field half 13 3 ≡ 4 }
@@ -84,7 +84,7 @@ fn register_pair(half: u32) -> Option<Inst>
     }
 }
 
-/// C.JR, C.JALR or C.EBREAK.
+// C.JR, C.JALR or C.EBREAK.
 fn jump_to_register(half: u32) -> Option<Inst>
     requires quadrant { field half 0 2 ≡ 2 }
     requires funct3 { field half 13 3 ≡ 4 }

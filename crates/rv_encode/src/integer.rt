@@ -34,7 +34,7 @@ pub fn encode_computation(inst: &Inst) -> Option<u32>
     }
 }
 
-/// The word of a computation of two registers.
+// The word of a computation of two registers.
 fn encode_register_computation(inst: &Inst) -> Option<u32>
     requires { IsRegisterComputation inst.now }
     ensures found { FindsFull inst.now result }

@@ -23,10 +23,10 @@ pub struct KnownActions {
     pub entries: Vec<KnownAction>,
 }
 
-/// How many places the table has.
+// How many places the table has.
 const PLACES: usize = 16384;
 
-/// C.NOP, which fills the table before anything is decoded.
+// C.NOP, which fills the table before anything is decoded.
 const NOP: u16 = 1;
 
 // The place of halfwords in the table.

@@ -54,5 +54,5 @@ impl PageIndex {
     }
 }
 
-/// How many numbers a group can have.
+// How many numbers a group can have.
 const GROUP_SIZE: u64 = 64;

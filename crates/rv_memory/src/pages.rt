@@ -13,7 +13,7 @@ use std::alloc::Global;
 /// The size of a page in bytes.
 pub const PAGE_SIZE: usize = 4096;
 
-/// How many places of pages are kept at hand.
+// How many places of pages are kept at hand.
 const RECENT: usize = 256;
 
 /// Pages of 4096 bytes.

@@ -21,10 +21,10 @@ pub const MOST_ARGS: usize = 64;
 /// The most bytes of them together.
 pub const MOST_ARG_BYTES: usize = 65536;
 
-/// The name that every program is run by.
+// The name that every program is run by.
 const PROGRAM: &[u8] = b"program";
 
-/// The address of the 16 bytes at the stack's end.
+// The address of the 16 bytes at the stack's end.
 const RANDOM_ADDRESS: u64 = 0x3f_ffff_fff0;
 
 const RANDOM_BYTES: [u8; 16] = [0, 1, 2, 3, 4, 5, 6, 7, 8, 9, 10, 11, 12, 13, 14, 15];

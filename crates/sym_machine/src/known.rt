@@ -30,7 +30,7 @@ pub struct KnownInsts {
     pub entries: Vec<KnownInst>,
 }
 
-/// How many places the table has.
+// How many places the table has.
 const PLACES: usize = 8192;
 
 // The place of an address in the table.

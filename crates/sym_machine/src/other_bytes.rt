@@ -12,7 +12,7 @@ use std::alloc::Global;
 /// How many addresses a group has: the first is a multiple of this.
 pub const GROUP_SIZE: usize = 8;
 
-/// How many places of groups are kept at hand.
+// How many places of groups are kept at hand.
 const RECENT: usize = 8192;
 
 /// A byte that is no number.

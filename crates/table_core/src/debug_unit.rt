@@ -27,7 +27,7 @@ impl<'a> Model for DebugUnit<'a> {
     ghost view = { λ u. record { place = u.place; bytes = option_map (λ b. b.now) u.bytes; is_other = u.is_other } };
 }
 
-/// The length that says that a unit is of the 64-bit format.
+// The length that says that a unit is of the 64-bit format.
 const DWARF64: u32 = 0xffff_ffff;
 
 fn unit_bytes(left: &[u8]) -> Option<&[u8]>

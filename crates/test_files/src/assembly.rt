@@ -3,7 +3,7 @@
 use crate::bytes::push_u32;
 use crate::error::BuildError;
 
-/// A line is a mnemonic, the format of its instruction, and in hexadecimal the bits that don't depend on operands.
+// A line is a mnemonic, the format of its instruction, and in hexadecimal the bits that don't depend on operands.
 const INSTRUCTIONS: &str = "\
 lui U 37
 auipc U 17
@@ -56,7 +56,7 @@ nop N 13
 ecall N 73
 ebreak N 100073";
 
-/// The registers by their numbers.
+// The registers by their numbers.
 const REGISTERS: &str = "\
 zero ra sp gp tp t0 t1 t2 s0 s1 a0 a1 a2 a3 a4 a5 a6 a7 s2 s3 s4 s5 s6 s7 s8 s9 s10 s11 t3 t4 t5 t6";
 

@@ -2,7 +2,7 @@
 // entry point, but where its name says another place.
 use crate::error::BuildError;
 
-/// A paragraph is a name and the lines of a file.
+// A paragraph is a name and the lines of a file.
 const PROGRAMS: &str = "\
 exit7
 # The smallest example, which ends with status 7. Its file has 352 bytes: its header, its program header at 40, code at

@@ -13,10 +13,10 @@ const LAST: &str = "\
 addi sp,sp,-16; sd ra,8(sp); andi t0,a0,1; beq t0,zero,12; addi a0,a0,3; jal zero,8; addi a0,a0,5; nop; nop; \
 ld ra,8(sp); addi sp,sp,16; jalr zero,0(ra); addi a0,zero,0; ";
 
-/// Where the code begins.
+// Where the code begins.
 const CODE: u64 = 0x11000;
 
-/// The pointers to the functions.
+// The pointers to the functions.
 const POINTERS: u64 = 0x80_0000;
 
 /// How many functions there are before the entry point, and what depends on it.

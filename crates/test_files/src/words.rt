@@ -11,7 +11,7 @@ use elf_image::section::SHT_NOBITS;
 use elf_image::segment::{PF_R, PF_W, PF_X};
 use std::alloc::Global;
 
-/// A line is a type of a relocation and its number. psABI, "Relocations".
+// A line is a type of a relocation and its number. psABI, "Relocations".
 const RELOCATIONS: &str = "\
 NONE 0
 32 1

@@ -2,7 +2,7 @@
 use crate::sessions::{commands_refuse, play_rows};
 use std::test::Fail;
 
-/// Each of these names a file that is there.
+// Each of these names a file that is there.
 const NO_COMMANDS: [&str; 62] = [
     "$",
     "$ rewrite",

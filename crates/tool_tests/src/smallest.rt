@@ -5,10 +5,10 @@ use std::alloc::Global;
 use std::test::Fail;
 use test_files::words::{file_in_words, hexadecimal, push_bytes};
 
-/// The example with its code moved, worked out by hand: the segment grows to a0, the names stand there with
-/// `.old.text` and
-/// `.text` behind them, and four section headers at c8, of which the first stays. A line is the width of its numbers,
-/// or bytes.
+// The example with its code moved, worked out by hand: the segment grows to a0, the names stand there with
+// `.old.text` and
+// `.text` behind them, and four section headers at c8, of which the first stays. A line is the width of its numbers,
+// or bytes.
 const MOVED: &str = "\
 bytes 7f454c46020101000000000000000000
 2 2 f3

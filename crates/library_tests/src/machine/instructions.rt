@@ -7,7 +7,7 @@ use std::test::Fail;
 use test_files::bytes::push_u64s;
 use test_files::words::hexadecimal;
 
-/// An instruction, the values of x11 and of x12 before it, and its result.
+// An instruction, the values of x11 and of x12 before it, and its result.
 #[derive(Clone, Copy)]
 struct Row {
     word: u64,
