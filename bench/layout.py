@@ -29,7 +29,7 @@ import tempfile
 
 sys.path.insert(0, os.path.dirname(os.path.abspath(__file__)))
 from profiles import CROSS, follow, output, record  # noqa: E402
-from real_programs import LONGER, PROGRAMS, ROOT, build, compilers  # noqa: E402
+from real_programs import LONGER, PROGRAMS, ROOT, UNWINDING, build, compilers  # noqa: E402
 
 LINE, PAGE, SETS, WAYS, ENTRIES = 64, 4096, 64, 8, 8
 
@@ -171,7 +171,7 @@ def main():
     gcc = compilers().get("gcc") or sys.exit(f"there is no {CROSS}gcc")
     with tempfile.TemporaryDirectory() as folder:
         path = os.path.join(folder, "program")
-        for program in sorted(LONGER):
+        for program in sorted(set(LONGER) - set(UNWINDING)):
             build(path, os.path.join(PROGRAMS, program), "gcc", gcc, "roomy", "-O2")
             compare(given.tool.split(), program, path, [LONGER[program]], folder)
         for functions in map(int, given.functions or ["400", "3000"]):

@@ -129,7 +129,7 @@ def build(path, program, compiler, parts, layout, level):
     include = ["-isystem", os.path.join(PICOLIBC, "include")]
     objects = []
     for source in ["start.c", *UNWINDING.get(program, ([program + ".c"],))[0]]:
-        objects.append(f"{path}.{source}.o")
+        objects.append(f"{path}.{os.path.basename(source)}.o")
         kind = ["-fno-rtti"] if source.endswith(".cc") else []
         call([*front, *MACHINE, *COMPILE, *KINDS.get(layout, NO_TABLES), *kind, level, *include, "-c",
               os.path.join(PROGRAMS, source), "-o", objects[-1]])

@@ -10,8 +10,8 @@ Each line has the seconds of the processor, the peak of memory, the total change
 the true ones in sum, before and after, as parts of the sum of true counts. Last come functions that are one path of
 20,000 blocks, of which the last half of the counts is halved, or the ways in or out lack; and the programs of
 `bench/programs` that `real_programs.py` can build here, with the profile that `record` writes of a short run. The true
-profiles are checked to be repaired with no change, and to come back as they were; those of runs that ended, to be repaired
-with no change. COMMAND stands for `./sudrepka`.
+profiles are checked to be repaired with no change, and to come back as they were; those of recorded runs change a little,
+by as much as is printed. COMMAND stands for `./sudrepka`.
 
 A function of 20,000 blocks has to be repaired in 5 seconds, and a file of 1,000,000 blocks with a noisy profile in 20.
 """
@@ -251,7 +251,7 @@ def without(program, inner):
 
 
 def recorded(command, folder):
-    """Profiles of runs that ended are consistent."""
+    """By how much profiles of recorded runs change: all but the ways into and out of functions balances in them."""
     for program in sorted(LONGER):
         for compiler, parts in compilers().items():
             layout = layouts_of(program, compiler)[0]

@@ -12,7 +12,7 @@ With --tools `llvm-dwarfdump --debug-info` and `readelf --debug-dump=info` print
 60,000 units over one long table of abbreviations, each with an offset of its own into it at which a declaration begins. They
 aren't changed: a table is written for each offset, as many bytes as their weight bounds. `overlapping` are 1,000, 2,000 and
 4,000 units with offsets that lie within a declaration, so that each is a table of its own, which is read by itself. What
-these take grows by four where the size doubles, until 2^28 bytes were read again: then memory is said to be wanting.
+these take grows by four where the size doubles, until 2^25 bytes were read again: then memory is said to be wanting.
 
 Each line has what was done, the seconds of the best of three runs (the processor's, and of one run, for the tools), the
 peak memory in MiB, and by how much both grew since the file of half the size. All growth but that of `overlapping` has to be
