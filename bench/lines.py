@@ -3,12 +3,12 @@
 
     python3 bench/lines.py [--tool COMMAND] [--instructions N] [RUNS]
 
-The files have an eighth, a quarter and a half of N instructions, and all of them: of two bytes each, 96 a function, with
-five rows each in `.debug_line`, which has 16 units with a sequence for each function. With 3,840,000 instructions, if N isn't
-given, that is a file of 64 MiB with 19 million rows. COMMAND (`sudrepka` where it isn't given) rewrites each file, and
-the same file without the table; `llvm-dwarfdump --debug-line` prints the table to /dev/null. Each line has the MiB of the
-table before and after, the medians of the processor's seconds and of the peak in MiB, and by how much the seconds and the
-peak of the first grew since the file of half the size.
+The files have an eighth, a quarter and a half of N instructions, and all of them: of two bytes each, 96 a function,
+with five rows each in `.debug_line`, which has 16 units with a sequence for each function. With 3,840,000 instructions,
+if N isn't given, that is a file of 64 MiB with 19 million rows. COMMAND (`./sudrepka` where it isn't given) rewrites
+each file, and the same file without the table; `llvm-dwarfdump --debug-line` prints the table to /dev/null. Each line
+has the MiB of the table before and after, the medians of the processor's seconds and of the peak in MiB, and by how
+much the seconds and the peak of the first grew since the file of half the size.
 """
 import argparse
 import os
@@ -22,6 +22,7 @@ sys.path.insert(0, os.path.dirname(os.path.abspath(__file__)))
 from hostile_files import BASE, SHT_PROGBITS, TEXT, File  # noqa: E402
 from line_rows import table_size  # noqa: E402
 
+ROOT = os.path.dirname(os.path.dirname(os.path.abspath(__file__)))
 LENGTH = 96  # instructions of a function
 CODE = bytes.fromhex("0100") * (LENGTH - 1) + bytes.fromhex("8280")  # c.nop, and c.jr ra at the end
 FORMATS = b"\x01\x01\x08\x01/s\0" + b"\x02\x01\x08\x02\x0b\x02" + b"a.c\0\0" + b"b.c\0\0"
@@ -73,7 +74,7 @@ def measure(command, runs):
 
 def main():
     words = argparse.ArgumentParser(description="seconds and memory that a large line table takes")
-    words.add_argument("--tool", default="sudrepka", help="the command that takes `rewrite ..`")
+    words.add_argument("--tool", default=os.path.join(ROOT, "sudrepka"), help="the command that takes `rewrite ..`")
     words.add_argument("--instructions", type=int, default=3_840_000)
     words.add_argument("--write", nargs=2, help=argparse.SUPPRESS)
     words.add_argument("runs", type=int, nargs="?", default=3)
@@ -82,13 +83,13 @@ def main():
         return write(given.write[0], given.instructions, given.write[1] == "lines")
     before = None
     with tempfile.TemporaryDirectory() as folder:
-        path, plain, out = (os.path.join(folder, name) for name in ("lines", "plain", "out"))
+        path, plain, out, spans = (os.path.join(folder, name) for name in ("lines", "plain", "out", "map"))
         for part in (8, 4, 2, 1):
             for name, kind in ((path, "lines"), (plain, "none")):
                 # in a process of its own, since a child's peak counts what its parent had when it began
                 words = ["--instructions", str(given.instructions // part), "--write", name, kind]
                 subprocess.run([sys.executable, os.path.abspath(__file__), *words], check=True)
-            rewrite = lambda name: [*given.tool.split(), "rewrite", name, "/dev/null", out, os.path.join(folder, "map")]
+            rewrite = lambda name: [*given.tool.split(), "rewrite", name, "/dev/null", out, spans]
             without = measure(rewrite(plain), given.runs)
             found = measure(rewrite(path), given.runs)
             dumped = measure(["llvm-dwarfdump", "--debug-line", path], given.runs)
@@ -96,7 +97,8 @@ def main():
             grew = [f"{now / was:.2f}" for now, was in zip(found, before)] if before else []
             parts = [f"{name} {seconds:.2f} s {peak:.0f} MiB" for name, (seconds, peak)
                      in (("rewrite", found), ("without the table", without), ("llvm-dwarfdump", dumped))]
-            print(f"{given.instructions // part} instructions, {sizes} MiB: {', '.join(parts)}; grew by {grew}", flush=True)
+            said = f"{sizes} MiB: {', '.join(parts)}; grew by {grew}"
+            print(f"{given.instructions // part} instructions, {said}", flush=True)
             before = found
     return 0
 
