@@ -195,11 +195,12 @@ def indirect_jumps(size):
     return file.bytes(), b""
 
 
-def debug_file(tables, code=NOP + RETURN):
-    """One function, and tables that aren't loaded, by their names."""
+def debug_file(tables, code=NOP + RETURN, length=None):
+    """One function, or functions of so many bytes, and tables that aren't loaded, by their names."""
     names = b"\0" + b"".join(name.encode() + b"\0" for name in tables)
     file = File(code, names)
-    file.add_symbols([(0, BASE + TEXT, len(code))], b"\0")
+    length = length or len(code)
+    file.add_symbols([(0, BASE + TEXT + start, length) for start in range(0, len(code), length)], b"\0")
     for name, contents in tables.items():
         file.add(SHT_PROGBITS, contents, name=names.index(b"\0" + name.encode() + b"\0") + 1)
     return file.bytes(), b""

@@ -3,7 +3,7 @@ bytes the file and its profile have to both. DWARF 5, sections 2.6, 2.17, 6.1.2 
 import struct
 
 from hostile_files import BASE, NOP, RETURN, TEXT, debug_file, long_name, uleb
-from hostile_tables import nested_ranges
+from hostile_tables import frame_entry, frame_rows, line_sequence, line_unit, nested_ranges
 
 
 def unit(entries, declarations=0):
@@ -221,6 +221,47 @@ def inlined_names(size):
     return listed(b"\5" + bounds(0, 4) + calls + bytes(count + 1), b"", halfwords(2), long_name(size // 2) + b"\0")
 
 
+MIXED = 96  # instructions of a function of `mixed`
+
+
+def mixed_entries(count):
+    """So many times, in 23 bytes: an entry with a range, a variable with a list of its own, one with an expression, and
+    ten entries of a byte. By what the entries of a unit may take, nine of these ten may have an attribute."""
+    lists = (struct.pack("<I", 12 + 6 * k) for k in range(count))
+    return b"".join(b"\2\0\4\0\0\0\3" + offset + b"\4\0" + b"\5" * 9 + b"\6" for offset in lists)
+
+
+def mixed_code(size):
+    """Functions with tables of lines and of frames that have a row for each instruction, in about so many bytes."""
+    count = max(1, size // (7 * MIXED))
+    code = halfwords(MIXED) * count
+    rows = b"".join(bytes([13 + 5 + 14 * 2 * (k > 0) + k % 3]) for k in range(MIXED)) + b"\2\2"
+    starts = [BASE + TEXT + 2 * MIXED * k for k in range(count)]
+    lines = line_unit(b"".join(line_sequence(start, rows) for start in starts))
+    # version 4, no augmentation, addresses of 8 bytes; code in units of 2 bytes, data of -8; register 1
+    head = struct.pack("<I", 0xFFFFFFFF) + bytes.fromhex("040008000278010c0200")
+    entry = frame_entry(struct.pack("<IQQ", 0, BASE + TEXT, len(code)) + frame_rows(MIXED * count))
+    return code, {".debug_line": lines, ".debug_frame": frame_entry(head) + entry}
+
+
+def mixed(size):
+    """All at once, of which each has a bound of its own: for each 32 bytes of the file a range, a list of one location
+    and two variables, in a unit whose entries take about as much as they may; and rows of lines and of frames."""
+    count = size // 32
+    fields = ((0x11, 0x01), (0x12, 0x06), (0x73, 0x17))  # DW_AT_addr_base by DW_FORM_sec_offset
+    declarations = declaration(1, 0x11, 1, *fields)
+    declarations += declaration(2, 0x0B, 0, (0x11, 0x29), (0x12, 0x06))  # by DW_FORM_addrx1 and DW_FORM_data4
+    declarations += declaration(3, 0x34, 0, (0x02, 0x17)) + declaration(4, 0x34, 0, (0x02, 0x18))
+    declarations += declaration(5, 0x34, 0, (0x3F, 0x19)) + declaration(6, 0x34, 0) + b"\0"  # DW_FORM_flag_present
+    code, tables = mixed_code(size - 29 * count)
+    info = unit(b"\1" + bounds(0, len(code)) + struct.pack("<I", 8) + mixed_entries(count) + b"\0")
+    places = (location(0, 4, b"\x50") + b"\0") * count
+    tables |= {".debug_info": info, ".debug_abbrev": declarations}
+    tables[".debug_loclists"] = struct.pack("<IHBBI", 8 + len(places), 5, 8, 0, 0) + places
+    tables[".debug_addr"] = struct.pack("<IHBBQ", 12, 5, 8, 0, BASE + TEXT)
+    return debug_file(tables, code, 2 * MIXED)
+
+
 # Kinds whose time and memory grow as the file does.
 UNITS = {
     "aranges": tables_of_nested_ranges,
@@ -245,4 +286,5 @@ BOUNDED_UNITS = {
     "scopes": scopes_in_scopes,
     "one-expression": one_expression,
     "inlined-names": inlined_names,
+    "mixed": mixed,
 }
