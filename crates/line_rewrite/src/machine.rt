@@ -30,13 +30,11 @@ pub fn start(coding: &Coding) -> Registers
 fn advanced(n: u64, registers: Registers) -> Option<Registers>
     ensures { result ≡ advanced n registers }
 {
-    match registers.address.checked_add(n) {
-        Some(address) => Some(Registers {
-            address,
-            ..registers
-        }),
-        None => None,
-    }
+    let address = registers.address.checked_add(n)?;
+    Some(Registers {
+        address,
+        ..registers
+    })
 }
 
 // The line advanced, modulo 2 ^ 64.
@@ -69,10 +67,8 @@ fn line_advance(coding: &Coding, adjusted: u8) -> i64
 fn advanced_by(coding: &Coding, n: u64, registers: Registers) -> Option<Registers>
     ensures { result ≡ advanced (n * coding.now.minimum_instruction_length) registers }
 {
-    match n.checked_mul(coding.minimum_instruction_length as u64) {
-        Some(by) => advanced(by, registers),
-        None => None,
-    }
+    let by = n.checked_mul(coding.minimum_instruction_length as u64)?;
+    advanced(by, registers)
 }
 
 /// The registers after an operation; those of a row, where it appends one.
