@@ -13,12 +13,9 @@ use rv_code::{Action, Form, Size};
 fn begins_at(next: Option<u64>, address: Option<u64>) -> bool
     ensures { result ≡ begins_at next address }
 {
-    match next {
-        Some(start) => match address {
-            Some(address) => start == address,
-            None => false,
-        },
-        None => false,
+    match (next, address) {
+        (Some(start), Some(address)) => start == address,
+        _ => false,
     }
 }
 
