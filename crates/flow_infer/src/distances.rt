@@ -36,6 +36,7 @@ pub fn find_distances(alloc: Global, network: &Network<'_>) -> Result<Distances,
             push_node(&mut queue, 0, n)?;
         }
     }
+    // Bounds the loop for the prover; memory ends long before.
     for _ in 0..u64::MAX {
         let Some((distance, n)) = pop_node(&mut queue) else {
             break;

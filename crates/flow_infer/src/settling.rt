@@ -46,6 +46,7 @@ pub fn settle(
 {
     let mut heights = vec![in alloc; 0u64; nodes]?;
     let around = arcs(alloc, links, first, nodes)?;
+    // How often heights rise is bounded for the prover alone; no network comes near it.
     let mut rises = u64::MAX;
     let mut left = u128::MAX;
     loop {
