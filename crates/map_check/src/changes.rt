@@ -63,6 +63,7 @@ fn in_cells(cells: &[CodeCell], a: u64) -> bool
     has_byte(&cells[above - 1], a)
 }
 
+// As a function it is one case for the proof of its caller.
 fn any_of(a: bool, b: bool, c: bool) -> bool
     ensures { result ≡ (a || b || c) }
 {

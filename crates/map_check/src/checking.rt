@@ -106,17 +106,14 @@ fn check_code(
         (program_code funcs.now refs.now.roles.items refs.now.cells.items input.now.entry) tight →
         IsMapOf r → HoldUpTo r 2 → IsVerdictIn r result }
 {
-    match lowest_outside(output, table) {
-        Some(a) => return Verdict::Unfaithful(Clause::SpanBytes, a),
-        None => {}
+    if let Some(a) = lowest_outside(output, table) {
+        return Verdict::Unfaithful(Clause::SpanBytes, a);
     }
-    match lowest_unmet(Demand::Kept, output, table, funcs) {
-        Some(a) => return Verdict::Unfaithful(Clause::Instruction, a),
-        None => {}
+    if let Some(a) = lowest_unmet(Demand::Kept, output, table, funcs) {
+        return Verdict::Unfaithful(Clause::Instruction, a);
     }
-    match lowest_unmet(Demand::Followed, output, table, funcs) {
-        Some(a) => return Verdict::Unfaithful(Clause::Next, a),
-        None => {}
+    if let Some(a) = lowest_unmet(Demand::Followed, output, table, funcs) {
+        return Verdict::Unfaithful(Clause::Next, a);
     }
     if output.entry != new_of(table, input.entry) {
         return Verdict::Unfaithful(Clause::Entry, output.entry);
@@ -135,13 +132,11 @@ fn check_memory(input: &Elf, refs: &Refs, tight: bool, output: &Elf, table: &[Sp
         cells: &refs.cells,
         headers: Headers::of(input, tight),
     };
-    match lowest_changed(input, output, changes) {
-        Some(a) => return Verdict::Unfaithful(Clause::Byte, a),
-        None => {}
+    if let Some(a) = lowest_changed(input, output, changes) {
+        return Verdict::Unfaithful(Clause::Byte, a);
     }
-    match lowest_bad_cell(output, table, &refs.cells, changes.headers.entry) {
-        Some(a) => return Verdict::Unfaithful(Clause::Cell, a),
-        None => {}
+    if let Some(a) = lowest_bad_cell(output, table, &refs.cells, changes.headers.entry) {
+        return Verdict::Unfaithful(Clause::Cell, a);
     }
     if !keeps_layout(input, output, tight) {
         return Verdict::Unfaithful(Clause::Table, 0);

@@ -18,7 +18,7 @@ pub returns-in-Some-lowest_unmet : goal.returns-in-Some-lowest_unmet
 returns-in-Some-lowest_unmet c = λ r ch of map before.
     let same = ap (λ (k : ProgramCode). k.funcs) of.code_is in
     let three = holds_next r 2 3 clause.SpanBytes refl refl before
-    (lowest_in_code r c.args.output.now c.args.table.now ch _ c.in-None.ensures.lowest) in
+    (lowest_in_code r c.args.output.now c.args.table.now ch _ c.in_default.ensures.lowest) in
     first_false r 3 clause.Instruction c.in-Some-lowest_unmet.a refl three
     (judged_of (KeepsInst r (Goes r.output)) c.args.funcs.now r.code.funcs _ same
     (c.in-Some-lowest_unmet.ensures r ch map c.requires.laid same)).lowest
@@ -27,10 +27,10 @@ pub returns-in-Some-lowest_unmet-2 : goal.returns-in-Some-lowest_unmet-2
 returns-in-Some-lowest_unmet-2 c = λ r ch of map before.
     let same = ap (λ (k : ProgramCode). k.funcs) of.code_is in
     let three = holds_next r 2 3 clause.SpanBytes refl refl before
-    (lowest_in_code r c.args.output.now c.args.table.now ch _ c.in-None.ensures.lowest) in
+    (lowest_in_code r c.args.output.now c.args.table.now ch _ c.in_default.ensures.lowest) in
     let four = holds_next r 3 4 clause.Instruction refl refl three
     (judged_of (KeepsInst r (Goes r.output)) c.args.funcs.now r.code.funcs _ same
-    (c.in-None-lowest_unmet.ensures r ch map c.requires.laid same)).lowest in
+    (c.in_default-lowest_unmet.ensures r ch map c.requires.laid same)).lowest in
     first_false r 4 clause.Next c.in-Some-lowest_unmet-2.a refl four
     (judged_of (GoesOn r (Goes r.output)) c.args.funcs.now r.code.funcs _ same
     (c.in-Some-lowest_unmet-2.ensures r ch map c.requires.laid same)).lowest
@@ -39,13 +39,13 @@ pub returns-then-output-new_of : goal.returns-then-output-new_of
 returns-then-output-new_of c = λ r ch of map before.
     let same = ap (λ (k : ProgramCode). k.funcs) of.code_is in
     let three = holds_next r 2 3 clause.SpanBytes refl refl before
-    (lowest_in_code r c.args.output.now c.args.table.now ch _ c.in-None.ensures.lowest) in
+    (lowest_in_code r c.args.output.now c.args.table.now ch _ c.in_default.ensures.lowest) in
     let four = holds_next r 3 4 clause.Instruction refl refl three
     (judged_of (KeepsInst r (Goes r.output)) c.args.funcs.now r.code.funcs _ same
-    (c.in-None-lowest_unmet.ensures r ch map c.requires.laid same)).lowest in
+    (c.in_default-lowest_unmet.ensures r ch map c.requires.laid same)).lowest in
     let five = holds_next r 4 5 clause.Next refl refl four
     (judged_of (GoesOn r (Goes r.output)) c.args.funcs.now r.code.funcs _ same
-    (c.in-None-lowest_unmet-2.ensures r ch map c.requires.laid same)).lowest in
+    (c.in_default-lowest_unmet-2.ensures r ch map c.requires.laid same)).lowest in
     let entry = ap (λ (x : Executable). x.entry) ch.output_is in
     let moved = new_is r c.args.output.now c.args.table.now ch c.args.input.now.entry
     ∙ ap (λ (e : Elf). out r e.entry) (sym of.input_is) in
@@ -57,11 +57,11 @@ pub returns : goal.returns
 returns c = λ r ch of map before.
     let same = ap (λ (k : ProgramCode). k.funcs) of.code_is in
     let kept = judged_of (KeepsInst r (Goes r.output)) c.args.funcs.now r.code.funcs _ same
-    (c.in-None-lowest_unmet.ensures r ch map c.requires.laid same) in
+    (c.in_default-lowest_unmet.ensures r ch map c.requires.laid same) in
     let followed = judged_of (GoesOn r (Goes r.output)) c.args.funcs.now r.code.funcs _ same
-    (c.in-None-lowest_unmet-2.ensures r ch map c.requires.laid same) in
+    (c.in_default-lowest_unmet-2.ensures r ch map c.requires.laid same) in
     let three = holds_next r 2 3 clause.SpanBytes refl refl before
-    (lowest_in_code r c.args.output.now c.args.table.now ch _ c.in-None.ensures.lowest) in
+    (lowest_in_code r c.args.output.now c.args.table.now ch _ c.in_default.ensures.lowest) in
     let four = holds_next r 3 4 clause.Instruction refl refl three kept.lowest in
     let five = holds_next r 4 5 clause.Next refl refl four followed.lowest in
     let entry : r.output.entry ≡ out r r.input.entry =
@@ -71,7 +71,7 @@ returns c = λ r ch of map before.
     c.check_memory.ensures r ch of.input_is of.tight_is (ap (λ (k : ProgramCode). k.cells) of.code_is)
     (record {
       map = map;
-      span_bytes = all_in_code r c.args.output.now c.args.table.now ch c.in-None.ensures.all;
+      span_bytes = all_in_code r c.args.output.now c.args.table.now ch c.in_default.ensures.all;
       insts = kept.all;
       goes_on = followed.all;
       entry = entry;

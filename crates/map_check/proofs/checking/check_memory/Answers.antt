@@ -16,7 +16,7 @@ returns-in-Some c = λ r ch input tight cells code before.
 pub returns-in-Some-lowest_bad_cell : goal.returns-in-Some-lowest_bad_cell
 returns-in-Some-lowest_bad_cell c = λ r ch input tight cells code before.
     let bytes = holds_next r 6 7 clause.Byte refl refl before
-    (c.in-None.ensures r (record { input_is = input; output_is = ch.output_is })
+    (c.in_default.ensures r (record { input_is = input; output_is = ch.output_is })
     (changes_of r c.args.input.now c.args.refs.now.cells.items c.args.tight _ input tight cells c.deref.ensures.value
     c.of.ensures)) in
     first_false r 7 clause.Cell c.in-Some-lowest_bad_cell.a refl bytes
@@ -26,11 +26,11 @@ returns-in-Some-lowest_bad_cell c = λ r ch input tight cells code before.
 pub returns-then-not-keeps_layout : goal.returns-then-not-keeps_layout
 returns-then-not-keeps_layout c = λ r ch input tight cells code before.
     let bytes = holds_next r 6 7 clause.Byte refl refl before
-    (c.in-None.ensures r (record { input_is = input; output_is = ch.output_is })
+    (c.in_default.ensures r (record { input_is = input; output_is = ch.output_is })
     (changes_of r c.args.input.now c.args.refs.now.cells.items c.args.tight _ input tight cells c.deref.ensures.value
     c.of.ensures)) in
     let filled = holds_next r 7 8 clause.Cell refl refl bytes
-    (c.in-None-lowest_bad_cell.ensures.lowest r ch (cells ∙ sym c.deref-2.ensures.value)
+    (c.in_default-lowest_bad_cell.ensures.lowest r ch (cells ∙ sym c.deref-2.ensures.value)
     (c.of.ensures.entry_is ∙ ap (λ (e : Elf). address_of e e_entry_field) (sym input))) in
     first_at r 8 clause.Table 0 refl filled (
       (λ keeps. both_ways c.keeps_layout.result c.if-not-keeps_layout.true
@@ -42,8 +42,8 @@ returns-then-not-keeps_layout c = λ r ch input tight cells code before.
 pub returns : goal.returns
 returns c = λ r ch input tight cells code before.
     faithful r code
-    (c.in-None.ensures r (record { input_is = input; output_is = ch.output_is })
+    (c.in_default.ensures r (record { input_is = input; output_is = ch.output_is })
     (changes_of r c.args.input.now c.args.refs.now.cells.items c.args.tight _ input tight cells c.deref.ensures.value c.of.ensures))
-    (c.in-None-lowest_bad_cell.ensures.all r ch (cells ∙ sym c.deref-2.ensures.value)
+    (c.in_default-lowest_bad_cell.ensures.all r ch (cells ∙ sym c.deref-2.ensures.value)
     (c.of.ensures.entry_is ∙ ap (λ (e : Elf). address_of e e_entry_field) (sym input)))
     ((c.keeps_layout.ensures r (record { input_is = input; output_is = ch.output_is }) tight).0 c.if-not-keeps_layout.false)
