@@ -19,13 +19,10 @@ const MOST_ROWS: usize = 1 << 22;
 fn join(found: &mut Vec<Registers>, row: Registers) -> Result<(), AllocError>
     ensures { IfOk result (λ _. found.new.items ≡ joined found.old.items row) }
 {
-    match found.first() {
-        Some(first) => {
-            if first.address != row.address {
-                found.clear();
-            }
+    if let Some(first) = found.first() {
+        if first.address != row.address {
+            found.clear();
         }
-        None => {}
     }
     if found.len() >= MOST_ROWS {
         return Err(AllocError);
