@@ -10,6 +10,18 @@ use cfi_rows::encoding::{DW_EH_PE_absptr, DW_EH_PE_indirect_absptr};
 use rb_bytes::fault::NoMemory;
 use rb_bytes::little::{put_u32, put_u64};
 
+// The version of CIEs.
+const VERSION: u8 = 1;
+
+// What advances of addresses, and offsets of saved registers, are multiples of.
+const CODE_ALIGNMENT_FACTOR: u8 = 1;
+
+const DATA_ALIGNMENT_FACTOR: u8 = 1;
+
+// How many bytes a CIE's augmentation has: how addresses, the handler's and those of exception tables are encoded, and
+// the handler's address.
+const AUGMENTATION_SIZE: u8 = 11;
+
 // The greatest number of bytes of an entry's contents: its length field has no value that says that it is longer.
 const MAX_BODY: usize = 0xffff_fff0;
 
@@ -63,11 +75,18 @@ fn put_cie(out: &mut Vec<u8>, key: &CieKey) -> Result<(), NoMemory>
     requires { key.now.ra < 256 }
     ensures { OnOk result (out.new.items ≡ out.old.items ++ spec.cie_body key.now) }
 {
-    put_byte(out, 1)?;
+    put_byte(out, VERSION)?;
     put_text(out, key.signal)?;
     put_bytes(
         out,
-        &[1, 1, key.ra as u8, 11, 0, handler_encoding(key.indirect)],
+        &[
+            CODE_ALIGNMENT_FACTOR,
+            DATA_ALIGNMENT_FACTOR,
+            key.ra as u8,
+            AUGMENTATION_SIZE,
+            DW_EH_PE_absptr as u8,
+            handler_encoding(key.indirect),
+        ],
     )?;
     put_u64(out, key.handler)?;
     put_byte(out, DW_EH_PE_absptr as u8)?;

@@ -19,6 +19,9 @@ use table_core::Run;
 /// The size of a CIE.
 pub(crate) const CIE_SIZE: usize = 32;
 
+// How many bytes an FDE's augmentation has: the address of its exception table.
+const AUGMENTATION_SIZE: u8 = 8;
+
 // The last place at which an entry may begin, so that distances in the table fit four bytes.
 const MAX_PLACE: usize = 0xffff_0000;
 
@@ -105,7 +108,7 @@ fn put_fields(
     let start = start_of(map, first);
     put_u64(out, start)?;
     put_u64(out, group_end(first, more) - start)?;
-    put_byte(out, 8)?;
+    put_byte(out, AUGMENTATION_SIZE)?;
     put_u64(out, first.answer.table)?;
     put_rows(out, first, more)
 }
