@@ -20,6 +20,19 @@ use std::alloc::Global;
 use std::collections::BTreeMap;
 use table_core::{ListAt, Written};
 
+// The version of tables, and the sizes of their addresses and segment selectors.
+const VERSION: u8 = 5;
+
+const ADDRESS_SIZE: u8 = 8;
+
+const SELECTOR_SIZE: u8 = 0;
+
+// How many bytes a table's header has behind its length.
+const HEADER_SIZE: u64 = 8;
+
+// How many bytes stand before a table's offsets: its length, and the header.
+const FRONT_SIZE: u64 = 4 + HEADER_SIZE;
+
 // The bytes of the list of a number.
 fn list_in(lists: &[Vec<u8>], number: usize) -> &[u8]
     ensures { result.now ≡ bytes_in lists.now number }
@@ -212,7 +225,7 @@ fn put_offsets(
 fn put_header(out: &mut Vec<u8>, count: u32) -> Result<(), NoMemory>
     ensures { OnOk result (out.new.items ≡ out.old.items ++ spec.list_header count) }
 {
-    out.extend_from_slice(&[5, 0, 8, 0])?;
+    out.extend_from_slice(&[VERSION, 0, ADDRESS_SIZE, SELECTOR_SIZE])?;
     put_u32(out, count)?;
     Ok(())
 }
@@ -233,7 +246,7 @@ fn table_len(size: u64, body: &[u8]) -> Result<u32, NoMemory>
     requires { size < 2 ^ 32 }
     ensures { IfOk result (λ n. (n ≡ 8 + size + length body.now) × (n < 2 ^ 32 - 1)) }
 {
-    let len = 8 + size + body.len() as u64;
+    let len = HEADER_SIZE + size + body.len() as u64;
     if len < u32::MAX as u64 {
         Ok(len as u32)
     } else {
@@ -308,7 +321,7 @@ fn put_unit(
 {
     let count = offset_count(entries)?;
     let size = offsets_size(count)?;
-    let base = offset_sum(out.len() as u64, 12)?;
+    let base = offset_sum(out.len() as u64, FRONT_SIZE)?;
     let start = offset_sum(base, size)?;
     let body = unit_body(alloc, names, lists, start, entries)?;
     name_base(names, kind, own, base, count)?;
