@@ -10,19 +10,12 @@ use rb_bytes::fault::NoMemory;
 use rb_bytes::leb::put_uleb;
 use rb_bytes::little::put_u64;
 
-fn put_byte(out: &mut Vec<u8>, byte: u8) -> Result<(), NoMemory>
-    ensures { OnOk result (out.new.items ≡ out.old.items ++ byte ∷ []) }
-{
-    out.push(byte)?;
-    Ok(())
-}
-
 // A stretch of addresses, behind the kind of its entry.
 fn put_stretch(out: &mut Vec<u8>, kind: u64, start: u64, len: u64) -> Result<(), NoMemory>
     requires { kind < 2 ^ 8 }
     ensures { OnOk result (out.new.items ≡ out.old.items ++ kind ∷ stretch_bytes start len) }
 {
-    put_byte(out, kind as u8)?;
+    out.push(kind as u8)?;
     put_u64(out, start)?;
     put_uleb(out, len)
 }
@@ -60,5 +53,6 @@ pub fn put_entry(
 pub fn put_end(out: &mut Vec<u8>) -> Result<(), NoMemory>
     ensures { OnOk result (out.new.items ≡ out.old.items ++ DW_RLE_end_of_list ∷ []) }
 {
-    put_byte(out, DW_RLE_end_of_list as u8)
+    out.push(DW_RLE_end_of_list as u8)?;
+    Ok(())
 }
