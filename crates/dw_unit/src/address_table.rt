@@ -31,10 +31,8 @@ fn is_bad(table: &DebugUnit) -> bool
 pub fn bad_table(tables: &[DebugUnit]) -> Option<u64>
     ensures { result ≡ first_place (λ w. not (option_map_or is_address_table w.bytes false)) tables.now }
 {
-    match tables.iter().find(|table| is_bad(table)) {
-        Some(table) => Some(table.place),
-        None => None,
-    }
+    let table = tables.iter().find(|table| is_bad(table))?;
+    Some(table.place)
 }
 
 fn is_other(unit: &DebugUnit) -> bool
@@ -47,8 +45,6 @@ fn is_other(unit: &DebugUnit) -> bool
 pub fn other_version(units: &[DebugUnit]) -> Option<u64>
     ensures { result ≡ first_place (λ w. w.is_other) units.now }
 {
-    match units.iter().find(|unit| is_other(unit)) {
-        Some(unit) => Some(unit.place),
-        None => None,
-    }
+    let unit = units.iter().find(|unit| is_other(unit))?;
+    Some(unit.place)
 }

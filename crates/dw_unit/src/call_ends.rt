@@ -30,15 +30,11 @@ fn call_at(elf: &Elf, address: u64) -> Option<u64>
 {
     let half = halfword_at(elf, address);
     let next = halfword_at(elf, address + 2);
-    match decode(half, Some(next)) {
-        Some((inst, bytes)) => {
-            if is_call(&inst) {
-                Some(bytes as u64)
-            } else {
-                None
-            }
-        }
-        None => None,
+    let (inst, bytes) = decode(half, Some(next))?;
+    if is_call(&inst) {
+        Some(bytes as u64)
+    } else {
+        None
     }
 }
 

@@ -21,20 +21,16 @@ use table_core::shape::{is_block, is_text_index};
 fn attr_value(name: u64, attrs: &[Attr]) -> Option<u64>
     ensures { result ≡ option_map (λ a. a.value) (find (λ a. a.name == name) attrs.now) }
 {
-    match attrs.iter().find(|attr| attr.name == name) {
-        Some(attr) => Some(attr.value),
-        None => None,
-    }
+    let attr = attrs.iter().find(|attr| attr.name == name)?;
+    Some(attr.value)
 }
 
 // The value of an attribute of the unit's own entry.
 fn base(name: u64, entries: &[Entry]) -> Option<u64>
     ensures { result ≡ spec.base name (plain_unit entries.now) }
 {
-    match entries.first() {
-        Some(own) => attr_value(name, &own.attrs),
-        None => None,
-    }
+    let own = entries.first()?;
+    attr_value(name, &own.attrs)
 }
 
 /// The bases of a unit.
