@@ -39,10 +39,7 @@ fn next_field<'a>(left: &mut Option<&'a [u8]>) -> Option<&'a [u8]>
     ensures some { IfSome result (λ field. fields_in left.old ≡ field.now ∷ fields_in left.new) }
     ensures none { IfNone result (fields_in left.old ≡ []) }
 {
-    let line = match *left {
-        Some(line) => line,
-        None => return None,
-    };
+    let line = (*left)?;
     match split_once(line, b' ') {
         Some((field, rest)) => {
             *left = Some(rest);

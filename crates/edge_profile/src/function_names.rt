@@ -140,10 +140,7 @@ fn value_among(symbols: &[Symbol], name: &[u8]) -> Option<u64>
             known = Some(next_known(known, symbol.value));
         }
     }
-    match known {
-        Some(value) => value,
-        None => None,
-    }
+    known.flatten()
 }
 
 /// What is known of a name of which this was known and that has one more value.
@@ -224,8 +221,6 @@ fn code_address(funcs: &[Func], start: u64, offset: u64) -> Option<u64>
 fn same_value(known: Option<u64>, value: u64) -> Option<u64>
     ensures { result ≡ next_known (Some known) value }
 {
-    match known {
-        Some(other) => if value == other { known } else { None },
-        None => None,
-    }
+    let other = known?;
+    if value == other { known } else { None }
 }

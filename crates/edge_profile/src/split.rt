@@ -9,11 +9,7 @@ pub fn split_once(text: &[u8], byte: u8) -> Option<(&[u8], &[u8])>
     ensures first { IfSome result (λ p. All (λ c. (c == byte) ≡ false) p.0.now) }
     ensures none { IfNone result (All (λ c. (c == byte) ≡ false) text.now) }
 {
-    match memchr(byte, text) {
-        Some(end) => {
-            let (before, rest) = text.split_at(end);
-            Some((before, &rest[1..]))
-        }
-        None => None,
-    }
+    let end = memchr(byte, text)?;
+    let (before, rest) = text.split_at(end);
+    Some((before, &rest[1..]))
 }

@@ -81,10 +81,8 @@ fn unless_same(place: Option<usize>, other: Option<usize>) -> Option<usize>
     ensures places { (k : ℕ) → is_place k result ≡ (is_place k place && not (is_place k other)) }
     ensures within { (n : ℕ) → IfSome place (λ k. k < n) → IfSome result (λ k. k < n) }
 {
-    match place {
-        Some(at) => unless_at(at, other),
-        None => None,
-    }
+    let at = place?;
+    unless_at(at, other)
 }
 
 fn unless_at(place: usize, other: Option<usize>) -> Option<usize>

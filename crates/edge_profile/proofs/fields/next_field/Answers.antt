@@ -5,11 +5,11 @@ use Rattle.edge_profile.specs.Grammar.{fields}
 use Rattle.edge_profile.specs.Fields.{fields_in}
 use Rattle.edge_profile.proofs.fields.next_field.Goals as goal
 
-pub returns-in-Some-split_once-clause-some : goal.returns-in-Some-split_once-clause-some
-returns-in-Some-split_once-clause-some c =
-    ap fields_in c.in-Some.is ∙ ap fields c.in-Some-split_once.ensures.parts
-    ∙ slice_split_at (λ b. b == 32) _ 32 _ c.in-Some-split_once.ensures.first refl
+pub returns-in-Some-clause-some : goal.returns-in-Some-clause-some
+returns-in-Some-clause-some c =
+    ap fields_in c.in_ok-line.was ∙ ap fields c.in-Some.ensures.parts
+    ∙ slice_split_at (λ b. b == 32) _ 32 _ c.in-Some.ensures.first refl
 
-pub returns-in-None-split_once-clause-some : goal.returns-in-None-split_once-clause-some
-returns-in-None-split_once-clause-some c =
-    ap fields_in c.in-Some.is ∙ slice_split_none (λ b. b == 32) c.in-Some.line.now c.in-None-split_once.ensures.none
+pub returns-in-None-clause-some : goal.returns-in-None-clause-some
+returns-in-None-clause-some c =
+    ap fields_in c.in_ok-line.was ∙ slice_split_none (λ b. b == 32) c.in_ok-line.line.now c.in-None.ensures.none
