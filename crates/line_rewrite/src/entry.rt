@@ -13,7 +13,7 @@ use crate::text::Texts;
 use crate::trouble::Trouble;
 use crate::value::{Value, form_here, read_value};
 use rb_bytes::cursor::Cursor;
-use std::alloc::{AllocError, Global};
+use std::alloc::Global;
 
 // The text at an offset of a section; where none is, an empty one.
 fn text_from(section: &[u8], offset: u64) -> &[u8]
@@ -64,15 +64,6 @@ pub struct Found {
     pub directory: u64,
 }
 
-/// A copy of some bytes.
-pub fn copied(alloc: Global, bytes: &[u8]) -> Result<Vec<u8>, AllocError>
-    ensures { IfOk result (λ v. v.items ≡ bytes.now) }
-{
-    let mut copy = Vec::new(alloc);
-    copy.extend_from_slice(bytes)?;
-    Ok(copy)
-}
-
 // The text that a value is.
 fn text_of<'a>(alloc: Global, texts: &Texts, value: Value<'a>) -> Result<Text, Trouble>
     ensures read { IfOk result (λ t. text_of (texts_strings texts.now) (told_value value.entry)
@@ -81,7 +72,7 @@ fn text_of<'a>(alloc: Global, texts: &Texts, value: Value<'a>) -> Result<Text, T
         (text_of (texts_strings texts.now) (told_value value.entry) ≡ None) }
 {
     match value {
-        Value::Text(text) => Ok(Text::Own(copied(alloc, text)?)),
+        Value::Text(text) => Ok(Text::Own(Vec::from_slice(alloc, text)?)),
         Value::AtStr(offset) => {
             if !texts.has_str(offset) {
                 return Err(Trouble::Malformed);

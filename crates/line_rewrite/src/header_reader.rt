@@ -6,7 +6,7 @@ ghost use Rattle.line_rewrite.specs.KeptUnits.{told_header, are_filed, HasTables
 ghost use Rattle.line_rewrite.specs.Troubles.{IfMalformed};
 
 use crate::coding::Coding;
-use crate::entry::{Entry, copied, read_table};
+use crate::entry::{Entry, read_table};
 use crate::header::Header;
 use crate::text::Texts;
 use crate::trouble::Trouble;
@@ -72,8 +72,8 @@ pub fn read_header(alloc: Global, texts: &Texts, bytes: &[u8]) -> Result<Header,
     let table_size = size.saturating_sub(tables.left());
     Ok(Header {
         coding,
-        lengths: copied(alloc, lengths)?,
-        rest: copied(alloc, rest)?,
+        lengths: Vec::from_slice(alloc, lengths)?,
+        rest: Vec::from_slice(alloc, rest)?,
         table_size,
         directories,
         files,

@@ -8,7 +8,7 @@ ghost use Rattle.line_rewrite.specs.KeptEntries.{strings_held, told_entry, told_
 ghost use Rattle.line_rewrite.specs.KeptUnits.{told_unit};
 
 use crate::answer::LineRow;
-use crate::entry::{Entry, copied};
+use crate::entry::Entry;
 use crate::registers::Registers;
 use crate::unit::Unit;
 use std::alloc::{AllocError, Global};
@@ -38,9 +38,9 @@ fn directory_path(
     ensures { IfOk result (λ path. path.items ≡ directory_path compiled_in.now index name.now) }
 {
     if is_absolute(name) || index == 0 {
-        return copied(alloc, name);
+        return Vec::from_slice(alloc, name);
     }
-    let mut path = copied(alloc, compiled_in)?;
+    let mut path = Vec::from_slice(alloc, compiled_in)?;
     path.push(SLASH)?;
     path.extend_from_slice(name)?;
     Ok(path)
@@ -60,7 +60,7 @@ fn path_of(
 {
     let name = file.text.bytes(str, line_str);
     if is_absolute(name) {
-        let path = copied(alloc, name)?;
+        let path = Vec::from_slice(alloc, name)?;
         return Ok(Some(path));
     }
     let Some(compiled_in) = directories.get(0) else {

@@ -5,7 +5,6 @@ ghost use Rattle.line_rewrite.specs.LineUnits.{unit_of};
 ghost use Rattle.line_rewrite.specs.KeptUnits.{HasTables, outer_at, told_unit};
 ghost use Rattle.line_rewrite.specs.Troubles.{IfMalformed};
 
-use crate::entry::copied;
 use crate::header_reader::read_header;
 use crate::program::sequences_of;
 use crate::sound::is_sound;
@@ -68,7 +67,7 @@ pub fn read_unit(alloc: Global, texts: &Texts, bytes: &[u8]) -> Result<Unit, Tro
     if !is_sound(&header.coding, &header.lengths, outer.program, files) {
         return Err(Trouble::Malformed);
     }
-    let program = copied(alloc, outer.program)?;
+    let program = Vec::from_slice(alloc, outer.program)?;
     let sequences = sequences_of(alloc, &header.coding, &header.lengths, &program)?;
     Ok(Unit {
         header,

@@ -96,19 +96,19 @@ returns-then-not-are_filed-clause-malformed c =
 pub invariant_of-result : goal.invariant_of-result
 invariant_of-result c =
     let base : 0 < c.in_ok-coding.coding.opcode_base = omega arith in
-    let count : length c.in_ok-copied.field-0.items ≡ c.in_ok-coding.coding.opcode_base - 1 =
-    ap length c.in_ok-copied.ensures ∙ taken_length _ c.read_coding.new.cursor.left _ _ c.in_ok-lengths.ensures.read in
+    let count : length c.in_ok-from_slice.field-0.items ≡ c.in_ok-coding.coding.opcode_base - 1 =
+    ap length c.in_ok-from_slice.ensures.items ∙ taken_length _ c.read_coding.new.cursor.left _ _ c.in_ok-lengths.ensures.read in
     record { has_range = omega arith; has_lengths = omega (arith, count, base) }
 
 pub returns-clause-read : goal.returns-clause-read
 returns-clause-read c =
     let at = goal.at.returns-clause-read c in
-    header_made (texts_strings c.args.texts.now) c.args.bytes.now c.read_coding.new.cursor.left _ c.in_ok-copied.field-0.items _
-    c.in_ok-copied-2.field-0.items _ _ c.in_ok-coding.coding c.in_ok-coding.maximum c.saturating_sub-table_size.result
+    header_made (texts_strings c.args.texts.now) c.args.bytes.now c.read_coding.new.cursor.left _ c.in_ok-from_slice.field-0.items _
+    c.in_ok-from_slice-2.field-0.items _ _ c.in_ok-coding.coding c.in_ok-coding.maximum c.saturating_sub-table_size.result
     c.in_ok-directories.directories.items c.in_ok-files.files.items (numbers at.In_ok-coding)
     (numbers_true c.in_ok-coding.coding c.in_ok-coding.maximum (omega arith) (omega arith) (omega arith))
     c.in_ok-lengths.ensures.read
-    c.in_ok-copied.ensures (c.in_ok-copied-2.ensures ∙ behind at.After-new-tables)
+    c.in_ok-from_slice.ensures.items (c.in_ok-from_slice-2.ensures.items ∙ behind at.After-new-tables)
     (sym (tables at.After-new-tables) ∙ c.in_ok-directories.ensures.read) c.in_ok-files.ensures.read
     (filed at.After-are_filed ∙ c.if-not-are_filed.false) (size at.After-saturating_sub-table_size)
 
@@ -116,7 +116,7 @@ pub returns-clause-size : goal.returns-clause-size
 returns-clause-size c =
     omega (
       arith,
-      ap length (c.in_ok-copied-2.ensures ∙ behind (goal.at.returns-clause-size c).After-new-tables),
+      ap length (c.in_ok-from_slice-2.ensures.items ∙ behind (goal.at.returns-clause-size c).After-new-tables),
       c.in_ok-lengths.ensures.passes.count,
       c.in_ok-coding.ensures.size,
       ap
@@ -127,9 +127,9 @@ pub returns-clause-tables : goal.returns-clause-tables
 returns-clause-tables c =
     let at = goal.at.returns-clause-tables c in
     record {
-      are = tables_made (texts_strings c.args.texts.now) c.take.new.self.left c.in_ok-copied-2.field-0.items _ _
+      are = tables_made (texts_strings c.args.texts.now) c.take.new.self.left c.in_ok-from_slice-2.field-0.items _ _
           c.saturating_sub-table_size.result c.in_ok-directories.directories.items c.in_ok-files.files.items
-          (c.in_ok-copied-2.ensures ∙ behind at.After-new-tables)
+          (c.in_ok-from_slice-2.ensures.items ∙ behind at.After-new-tables)
           (sym (tables at.After-new-tables) ∙ c.in_ok-directories.ensures.read)
           c.in_ok-files.ensures.read (size at.After-saturating_sub-table_size);
       filed = filed at.After-are_filed ∙ c.if-not-are_filed.false;

@@ -43,7 +43,7 @@ invariant_of-result c =
     sym (c.is_sound.ensures ∙ (λ i. is_sound h.coding (count i) (c.deref.ensures.value i) c.in_ok-outer.outer.program.now))
     ∙ c.if-not-is_sound.false in
     record {
-      sound = ap (is_sound h.coding (length h.files.items) h.lengths.items) c.in_ok-program.ensures ∙ sound;
+      sound = ap (is_sound h.coding (length h.files.items) h.lengths.items) c.in_ok-program.ensures.items ∙ sound;
       listed = subst (λ (l : List ℕ). AreSequences h.coding l c.in_ok-program.program.items c.in_ok-sequences.sequences.items)
           c.deref-2.ensures.value
           (subst (λ (p : List ℕ). AreSequences h.coding c.deref-2.result.now p c.in_ok-sequences.sequences.items) c.deref-3.ensures.value
@@ -59,7 +59,7 @@ returns-clause-read c =
     ∙ c.if-not-is_sound.false in
     unit_made (texts_strings c.args.texts.now) c.args.bytes.now _ c.in_ok-outer.ensures.read h c.in_ok-header.ensures.read
     c.in_ok-program.program.items
-    (omega arith) (omega arith) sound c.in_ok-program.ensures
+    (omega arith) (omega arith) sound c.in_ok-program.ensures.items
 
 pub returns-clause-size : goal.returns-clause-size
 returns-clause-size c = omega (arith, c.in_ok-header.ensures.size, c.in_ok-outer.ensures.size)

@@ -16,8 +16,8 @@ returns-in_err-units-clause-reads c =
     let p = err_from_is_err_and c.from_residual-in_err-units.result c.from_residual-in_err-units.ensures.1 in
     let s : LineSections = line_sections_held c.in_ok-line.line.items c.in_ok-str.str.items c.in_ok-line_str.line_str.items in
     let same : s ≡ line_sections c.args.elf.now =
-    λ i. line_sections_held ((c.in_ok-line.ensures ∙ c.contents_of.ensures) i) ((c.in_ok-str.ensures ∙ c.contents_of-2.ensures) i)
-    ((c.in_ok-line_str.ensures ∙ c.contents_of-3.ensures) i) in
+    λ i. line_sections_held ((c.in_ok-line.ensures.items ∙ c.contents_of.ensures) i) ((c.in_ok-str.ensures.items ∙ c.contents_of-2.ensures) i)
+    ((c.in_ok-line_str.ensures.items ∙ c.contents_of-3.ensures) i) in
     let read : LineSections = line_sections_held c.deref.result.now c.deref-2.result.now c.deref-3.result.now in
     let held : read ≡ s = λ i. line_sections_held (c.deref.ensures.value i) (c.deref-2.ensures.value i) (c.deref-3.ensures.value i) in
     rw (p.1, p.2) (read_refused c.args.elf.now read c.in_err-units.field-0.0 (held ∙ same) c.in_err-units.ensures)
@@ -43,8 +43,8 @@ pub returns-clause-reads : goal.returns-clause-reads
 returns-clause-reads c =
     let s : LineSections = line_sections_held c.in_ok-line.line.items c.in_ok-str.str.items c.in_ok-line_str.line_str.items in
     let same : s ≡ line_sections c.args.elf.now =
-    λ i. line_sections_held ((c.in_ok-line.ensures ∙ c.contents_of.ensures) i) ((c.in_ok-str.ensures ∙ c.contents_of-2.ensures) i)
-    ((c.in_ok-line_str.ensures ∙ c.contents_of-3.ensures) i) in
+    λ i. line_sections_held ((c.in_ok-line.ensures.items ∙ c.contents_of.ensures) i) ((c.in_ok-str.ensures.items ∙ c.contents_of-2.ensures) i)
+    ((c.in_ok-line_str.ensures.items ∙ c.contents_of-3.ensures) i) in
     let read : LineSections = line_sections_held c.deref.result.now c.deref-2.result.now c.deref-3.result.now in
     let held : read ≡ s = λ i. line_sections_held (c.deref.ensures.value i) (c.deref-2.ensures.value i) (c.deref-3.ensures.value i) in
     let version : line_version s ≡ None = subst (λ (x : LineSections). line_version x ≡ None) held c.in_ok-units.ensures.1 in
@@ -56,6 +56,6 @@ pub returns-clause-comes : goal.returns-clause-comes
 returns-clause-comes c =
     let s : LineSections = line_sections_held c.in_ok-line.line.items c.in_ok-str.str.items c.in_ok-line_str.line_str.items in
     let same : s ≡ line_sections c.args.elf.now =
-    λ i. line_sections_held ((c.in_ok-line.ensures ∙ c.contents_of.ensures) i) ((c.in_ok-str.ensures ∙ c.contents_of-2.ensures) i)
-    ((c.in_ok-line_str.ensures ∙ c.contents_of-3.ensures) i) in
+    λ i. line_sections_held ((c.in_ok-line.ensures.items ∙ c.contents_of.ensures) i) ((c.in_ok-str.ensures.items ∙ c.contents_of-2.ensures) i)
+    ((c.in_ok-line_str.ensures.items ∙ c.contents_of-3.ensures) i) in
     same
