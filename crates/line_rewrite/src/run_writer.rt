@@ -3,11 +3,12 @@ ghost use Rattle.std.specs.Prelude.{◌≡◌, ◌<◌, ◌+◌, ◌++◌, ◌^�
 ghost use Rattle.line_rewrite.specs.Written.{IsRow, moved, rows_ops, all_spelled, written_coding};
 ghost use Rattle.line_rewrite.specs.WrittenPrograms as spec;
 
-use crate::machine::after_row;
-use crate::op_writer::put_op;
+use crate::coding::Coding;
+use crate::machine::{after_row, start};
+use crate::op_writer::{OPCODE_BASE, put_op};
 use crate::operation::LineOp;
 use crate::registers::Registers;
-use crate::row_writer::put_row;
+use crate::row_writer::{LINE_RANGE, put_row};
 use rb_bytes::fault::NoMemory;
 use std::alloc::Global;
 use std::marker::Model;
@@ -58,22 +59,25 @@ fn close(out: &mut Vec<u8>, going: Going) -> Result<(), NoMemory>
     put_op(out, LineOp::EndSequence)
 }
 
+// What the headers of units that are written say of their operations.
+fn written_coding(default_is_stmt: bool) -> Coding
+    ensures { result ≡ written_coding default_is_stmt }
+{
+    Coding {
+        minimum_instruction_length: 1,
+        default_is_stmt,
+        line_base: -5,
+        line_range: LINE_RANGE,
+        opcode_base: OPCODE_BASE,
+    }
+}
+
 // The registers where a sequence begins at an address.
 fn opened(address: u64, default_is_stmt: bool) -> Registers
     ensures { result ≡ spec.opened (written_coding default_is_stmt) address }
 {
-    Registers {
-        address,
-        file: 1,
-        line: 1,
-        column: 0,
-        is_stmt: default_is_stmt,
-        basic_block: false,
-        prologue_end: false,
-        epilogue_begin: false,
-        isa: 0,
-        discriminator: 0,
-    }
+    let coding = written_coding(default_is_stmt);
+    at_address(start(&coding), address)
 }
 
 // Begins a sequence with rows at an address.
