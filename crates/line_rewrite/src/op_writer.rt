@@ -4,7 +4,7 @@ ghost use Rattle.byteorder.specs.Endian.{little_bytes};
 ghost use Rattle.rb_bytes.specs.Leb.{uleb, sleb};
 ghost use Rattle.line_rewrite.specs.Written.{spelled, IsSpelled};
 
-use crate::operation::LineOp;
+use crate::operation::*;
 use byteorder::{ByteOrder, LittleEndian};
 use rb_bytes::fault::NoMemory;
 use rb_bytes::leb::{put_sleb, put_uleb};
@@ -31,16 +31,17 @@ fn put_operand(out: &mut Vec<u8>, opcode: u8, operand: u64) -> Result<(), NoMemo
 fn put_line(out: &mut Vec<u8>, by: i64) -> Result<(), NoMemory>
     ensures { OnOk result (out.new.items ≡ out.old.items ++ 3 ∷ sleb by) }
 {
-    put_bytes(out, &[3])?;
+    put_bytes(out, &[DW_LNS_advance_line as u8])?;
     put_sleb(out, by)
 }
 
+// An extended operation: a zero, its length, its opcode and its operand.
 fn put_address(out: &mut Vec<u8>, address: u64) -> Result<(), NoMemory>
     ensures { OnOk result (out.new.items ≡ out.old.items ++ 0 ∷ 9 ∷ 2 ∷ little_bytes 8 address) }
 {
     let mut field = [0; 8];
     LittleEndian::write_u64(&mut field, address);
-    put_bytes(out, &[0, 9, 2])?;
+    put_bytes(out, &[0, 9, DW_LNE_set_address as u8])?;
     put_bytes(out, &field)
 }
 
@@ -66,28 +67,28 @@ pub fn put_op(out: &mut Vec<u8>, op: LineOp) -> Result<(), NoMemory>
 {
     match op {
         LineOp::Special(adjusted) => put_bytes(out, &[adjusted + OPCODE_BASE]),
-        LineOp::Copy => put_bytes(out, &[1]),
-        LineOp::AdvancePc(n) => put_operand(out, 2, n),
+        LineOp::Copy => put_bytes(out, &[DW_LNS_copy as u8]),
+        LineOp::AdvancePc(n) => put_operand(out, DW_LNS_advance_pc as u8, n),
         LineOp::AdvanceLine(by) => put_line(out, by),
-        LineOp::SetFile(n) => put_operand(out, 4, n),
-        LineOp::SetColumn(n) => put_operand(out, 5, n),
-        LineOp::NegateStmt => put_bytes(out, &[6]),
-        LineOp::SetBasicBlock => put_bytes(out, &[7]),
-        LineOp::ConstAddPc => put_bytes(out, &[8]),
+        LineOp::SetFile(n) => put_operand(out, DW_LNS_set_file as u8, n),
+        LineOp::SetColumn(n) => put_operand(out, DW_LNS_set_column as u8, n),
+        LineOp::NegateStmt => put_bytes(out, &[DW_LNS_negate_stmt as u8]),
+        LineOp::SetBasicBlock => put_bytes(out, &[DW_LNS_set_basic_block as u8]),
+        LineOp::ConstAddPc => put_bytes(out, &[DW_LNS_const_add_pc as u8]),
         LineOp::FixedAdvancePc(n) => {
             let mut field = [0; 2];
             LittleEndian::write_u16(&mut field, n);
-            put_bytes(out, &[9])?;
+            put_bytes(out, &[DW_LNS_fixed_advance_pc as u8])?;
             put_bytes(out, &field)
         }
-        LineOp::SetPrologueEnd => put_bytes(out, &[10]),
-        LineOp::SetEpilogueBegin => put_bytes(out, &[11]),
-        LineOp::SetIsa(n) => put_operand(out, 12, n),
-        LineOp::EndSequence => put_bytes(out, &[0, 1, 1]),
+        LineOp::SetPrologueEnd => put_bytes(out, &[DW_LNS_set_prologue_end as u8]),
+        LineOp::SetEpilogueBegin => put_bytes(out, &[DW_LNS_set_epilogue_begin as u8]),
+        LineOp::SetIsa(n) => put_operand(out, DW_LNS_set_isa as u8, n),
+        LineOp::EndSequence => put_bytes(out, &[0, 1, DW_LNE_end_sequence as u8]),
         LineOp::SetAddress(address) => put_address(out, address),
         LineOp::SetDiscriminator(n) => {
             put_bytes(out, &[0, uleb_size(n) + 1])?;
-            put_operand(out, 4, n)
+            put_operand(out, DW_LNE_set_discriminator as u8, n)
         }
         LineOp::Unknown => put_bytes(out, &[0, 1, 3]),
     }
