@@ -10,14 +10,25 @@ use crate::unit::Unit;
 use rb_bytes::fault::NoMemory;
 use rb_bytes::little::put_u32;
 
+// The version, in two bytes, and the sizes of addresses and of segment selectors.
+const VERSION_AND_SIZES: [u8; 4] = [5, 0, 8, 0];
+
+// The least length of an instruction, and how many operations one has at most.
+const INSTRUCTION_LENGTH: u8 = 1;
+
+const OPERATIONS: u8 = 1;
+
 // The line base of units that are written, -5, in two's complement.
 const LINE_BASE: u8 = 251;
 
 // How many operands the standard opcodes have.
 const OPERAND_COUNTS: [u8; 12] = [0, 1, 1, 1, 1, 0, 0, 0, 1, 0, 0, 1];
 
+// How many bytes a header has between its length and what stands behind the counts of operands.
+const FIELDS_SIZE: usize = 18;
+
 // How many bytes a unit has beside its program and what stands behind the counts of operands.
-const FIXED_SIZE: usize = 26;
+const FIXED_SIZE: usize = 8 + FIELDS_SIZE;
 
 fn flag_byte(flag: bool) -> u8
     ensures { result ≡ spec.flag_byte flag }
@@ -30,7 +41,17 @@ fn put_fields(out: &mut Vec<u8>, header: &Header) -> Result<(), NoMemory>
     ensures { OnOk result (out.new.items ≡ out.old.items ++ spec.header_fields header.now) }
 {
     let stmt = flag_byte(header.coding.default_is_stmt);
-    put_bytes(out, &[1, 1, stmt, LINE_BASE, LINE_RANGE, OPCODE_BASE])?;
+    put_bytes(
+        out,
+        &[
+            INSTRUCTION_LENGTH,
+            OPERATIONS,
+            stmt,
+            LINE_BASE,
+            LINE_RANGE,
+            OPCODE_BASE,
+        ],
+    )?;
     put_bytes(out, &OPERAND_COUNTS)?;
     put_bytes(out, &header.rest)?;
     Ok(())
@@ -42,9 +63,9 @@ fn put_unit(out: &mut Vec<u8>, header: &Header, program: &[u8]) -> Result<(), No
     ensures { OnOk result (out.new.items
         ≡ out.old.items ++ spec.spelled_unit (spec.unit_bytes header.now program.now)) }
 {
-    let fields = 18 + header.rest.len();
+    let fields = FIELDS_SIZE + header.rest.len();
     put_u32(out, (FIXED_SIZE + header.rest.len() + program.len()) as u32)?;
-    put_bytes(out, &[5, 0, 8, 0])?;
+    put_bytes(out, &VERSION_AND_SIZES)?;
     put_u32(out, fields as u32)?;
     put_fields(out, header)?;
     put_bytes(out, program)?;
