@@ -46,12 +46,14 @@ fn prices(alloc: Global, heights: &[u64]) -> Result<Vec<i64>, NoMemory>
     Ok(prices)
 }
 
+// What heights have to be below, so that how far they are apart fits a price.
+const HEIGHT_LIMIT: u64 = 1 << 62;
+
 // How much higher a node is than what lies outside.
 fn price(outside: u64, height: u64) -> Result<i64, NoMemory>
     ensures { IfOk result (λ price. price ≡ pos height -ℤ pos outside) }
 {
-    let limit = 1u64 << 62;
-    if outside >= limit || height >= limit {
+    if outside >= HEIGHT_LIMIT || height >= HEIGHT_LIMIT {
         return Err(NoMemory);
     }
     Ok(height as i64 - outside as i64)
