@@ -61,11 +61,8 @@ fn add_table(
     ensures { OnOk result (map table_seen tables.new.items
         ≡ map table_seen tables.old.items ++ table_if name.now (option_map (λ bytes. bytes.items) contents)) }
 {
-    match contents {
-        Some(bytes) => {
-            tables.push((String::from_str(alloc, name)?, bytes))?;
-        }
-        None => {}
+    if let Some(bytes) = contents {
+        tables.push((String::from_str(alloc, name)?, bytes))?;
     }
     Ok(())
 }
