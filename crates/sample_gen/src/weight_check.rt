@@ -87,8 +87,7 @@ fn is_light_func(alloc: Global, lines: &Lines, func: &Func) -> Result<bool, NoMe
     if func.insts.len() > MOST_INSTS {
         return Ok(false);
     }
-    let one_row = have_one_row(alloc, lines, &func.insts)?;
-    Ok(one_row)
+    have_one_row(alloc, lines, &func.insts)
 }
 
 // Whether there are few functions, each of few instructions, with at most one row of line programs for each of these.
