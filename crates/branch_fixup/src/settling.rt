@@ -10,199 +10,10 @@ use crate::growth::{BlockEnd, places};
 use crate::lengths::{form_reach, longer, piece_length, reaches};
 use rv_code::Form;
 use std::alloc::{AllocError, Global};
+use std::ops::Range;
 
 // How far a form that can grow reaches at most.
 const REACH: u64 = 1 << 12;
-
-// Whether the branch or jump of block `k` goes past the end of block `p`, so that its way is longer when that grows.
-fn crosses(block_ends: &[BlockEnd], k: usize, p: usize) -> bool
-    requires { k < length block_ends.now }
-    ensures { result ≡ crosses block_ends.now k p }
-{
-    let to = block_ends[k].to;
-    (k <= p && p < to) || (to <= p && p < k)
-}
-
-// Whether a form of block `k` reaches, where its way is by `more` bytes longer than these places say.
-fn is_enough_by(block_ends: &[BlockEnd], places: &[u64], more: u64, k: usize, form: Form) -> bool
-    requires block_ends { AreBlockEnds block_ends.now }
-    requires inside { k < length block_ends.now }
-    requires starts { AreStarts block_ends.now places.now }
-    requires low { more < 2 ^ 62 }
-    ensures { result ≡ is_enough_by block_ends.now places.now more k form }
-{
-    let block_end = block_ends[k];
-    let from = places[k] + block_end.before;
-    let to = places[block_end.to] + block_end.offset;
-    match form_reach(form) {
-        Some(reach) => {
-            if k < block_end.to {
-                reaches(reach, from, to + more)
-            } else {
-                reaches(reach, from + more, to)
-            }
-        }
-        None => true,
-    }
-}
-
-// Block `p` has grown by some bytes. Makes the ways over it longer, and adds the blocks whose forms don't reach any
-// more. All of those are in a range of blocks.
-fn lengthen(
-    block_ends: &[BlockEnd],
-    places: &[u64],
-    forms: &[Form],
-    more: &mut [u64],
-    p: usize,
-    bytes: u64,
-    first: usize,
-    end: usize,
-    short: &mut Vec<usize>,
-) -> Result<(), AllocError>
-    requires block_ends { AreBlockEnds block_ends.now }
-    requires starts { AreStarts block_ends.now places.now }
-    requires count { length more.old ≡ length block_ends.now }
-    requires one_each { length forms.now ≡ length block_ends.now }
-    requires longer { AreLonger block_ends.now places.now forms.now more.old }
-    requires over { AreLongerOver block_ends.now places.now forms.now more.old p bytes first }
-    requires inside { end ≤ length block_ends.now }
-    requires listed { All (λ k. k < length block_ends.now) short.old.items }
-    ensures count { OnOk result (length more.new ≡ length block_ends.now) }
-    ensures longer { OnOk result (AreLonger block_ends.now places.now forms.now more.new) }
-    ensures listed { OnOk result (All (λ k. k < length block_ends.now) short.new.items) }
-{
-    for k in first..end {
-        if crosses(block_ends, k, p) {
-            let reached = is_enough_by(block_ends, places, more[k], k, forms[k]);
-            more[k] += bytes;
-            if reached && !is_enough_by(block_ends, places, more[k], k, forms[k]) {
-                short.push(k)?;
-            }
-        }
-    }
-    Ok(())
-}
-
-// Block `k` grows by a step, if it doesn't reach. Tells whether it grew, and adds the blocks that don't reach then.
-fn grow_block(
-    block_ends: &[BlockEnd],
-    places: &[u64],
-    over: &Crossings,
-    forms: &mut [Form],
-    more: &mut [u64],
-    k: usize,
-    short: &mut Vec<usize>,
-) -> Result<bool, AllocError>
-    requires block_ends { AreBlockEnds block_ends.now }
-    requires starts { AreStarts block_ends.now places.now }
-    requires over { length over.now.starts.items ≡ length block_ends.now }
-    requires inside { k < length block_ends.now }
-    requires settling { AreSettling block_ends.now places.now forms.old more.old }
-    requires listed { All (λ k. k < length block_ends.now) short.old.items }
-    ensures settling { OnOk result (AreSettling block_ends.now places.now forms.new more.new) }
-    ensures same { OnOk result (map end_of_form forms.new ≡ map end_of_form forms.old) }
-    ensures fewer { IfOk result
-        (λ grew. MatchBool grew (sum_by left_of forms.new < sum_by left_of forms.old) (forms.new ≡ forms.old)) }
-    ensures listed { OnOk result (All (λ k. k < length block_ends.now) short.new.items) }
-{
-    let form = forms[k];
-    if is_enough_by(block_ends, places, more[k], k, form) {
-        return Ok(false);
-    }
-    let grown = longer(form);
-    forms[k] = grown;
-    if !is_enough_by(block_ends, places, more[k], k, grown) {
-        short.push(k)?;
-    }
-    let bytes = (piece_length(block_ends[k].len, grown)
-        - piece_length(block_ends[k].len, form)) as u64;
-    let (first, end) = over.range(k);
-    lengthen(block_ends, places, forms, more, k, bytes, first, end, short)?;
-    Ok(true)
-}
-
-// Each of some blocks grows by a step, if it doesn't reach. Tells whether one grew, and adds the blocks that don't
-// reach then.
-fn grow_blocks(
-    block_ends: &[BlockEnd],
-    places: &[u64],
-    over: &Crossings,
-    forms: &mut [Form],
-    more: &mut [u64],
-    blocks: &[usize],
-    short: &mut Vec<usize>,
-) -> Result<bool, AllocError>
-    requires block_ends { AreBlockEnds block_ends.now }
-    requires starts { AreStarts block_ends.now places.now }
-    requires over { length over.now.starts.items ≡ length block_ends.now }
-    requires inside { All (λ k. k < length block_ends.now) blocks.now }
-    requires settling { AreSettling block_ends.now places.now forms.old more.old }
-    requires listed { All (λ k. k < length block_ends.now) short.old.items }
-    ensures settling { OnOk result (AreSettling block_ends.now places.now forms.new more.new) }
-    ensures same { OnOk result (map end_of_form forms.new ≡ map end_of_form forms.old) }
-    ensures fewer { IfOk result
-        (λ grew. MatchBool grew (sum_by left_of forms.new < sum_by left_of forms.old) (forms.new ≡ forms.old)) }
-    ensures listed { OnOk result (All (λ k. k < length block_ends.now) short.new.items) }
-{
-    let mut grew = false;
-    for k in blocks {
-        let grown = grow_block(block_ends, places, over, forms, more, *k, short)?;
-        if grown {
-            grew = true;
-        }
-    }
-    Ok(grew)
-}
-
-// The blocks whose forms don't reach.
-fn short_blocks(
-    alloc: Global,
-    block_ends: &[BlockEnd],
-    places: &[u64],
-    forms: &[Form],
-) -> Result<Vec<usize>, AllocError>
-    requires block_ends { AreBlockEnds block_ends.now }
-    requires starts { AreStarts block_ends.now places.now }
-    requires one_each { length forms.now ≡ length block_ends.now }
-    ensures { IfOk result (λ short. All (λ k. k < length block_ends.now) short.items) }
-{
-    let mut short = Vec::new(alloc);
-    for k in 0..block_ends.len() {
-        if !is_enough_by(block_ends, places, 0, k, forms[k]) {
-            short.push(k)?;
-        }
-    }
-    Ok(short)
-}
-
-// Goes on with the blocks that were added, until there are none.
-fn grow_from(
-    alloc: Global,
-    block_ends: &[BlockEnd],
-    places: &[u64],
-    over: &Crossings,
-    forms: &mut [Form],
-    more: &mut [u64],
-    mut blocks: Vec<usize>,
-) -> Result<(), AllocError>
-    requires block_ends { AreBlockEnds block_ends.now }
-    requires starts { AreStarts block_ends.now places.now }
-    requires over { length over.now.starts.items ≡ length block_ends.now }
-    requires inside { All (λ k. k < length block_ends.now) blocks.items }
-    requires settling { AreSettling block_ends.now places.now forms.old more.old }
-    ensures sound { OnOk result (AreGrown block_ends.now forms.new) }
-    ensures same { OnOk result (map end_of_form forms.new ≡ map end_of_form forms.old) }
-    ensures fewer { OnOk result (sum_by left_of forms.new ≤ sum_by left_of forms.old) }
-{
-    loop {
-        let mut short = Vec::new(alloc);
-        let grew = grow_blocks(block_ends, places, over, forms, more, &blocks, &mut short)?;
-        if !grew {
-            return Ok(());
-        }
-        blocks = short;
-    }
-}
 
 /// Grows forms one at a time until each reaches. A pass over all blocks has to confirm it: ways are followed only
 /// where a form that can grow may reach at the start.
@@ -214,10 +25,189 @@ pub fn settle(alloc: Global, block_ends: &[BlockEnd], forms: &mut [Form]) -> Res
     ensures fewer { OnOk result (sum_by left_of forms.new ≤ sum_by left_of forms.old) }
 {
     let places = places(alloc, block_ends, forms)?;
-    let over = Crossings::new(alloc, block_ends, &places)?;
+    let crossings = Crossings::new(alloc, block_ends, &places)?;
+    let settling = Settling {
+        block_ends,
+        places: &places,
+        crossings: &crossings,
+    };
     let mut more = vec![in alloc; 0; block_ends.len()]?;
-    let blocks = short_blocks(alloc, block_ends, &places, forms)?;
-    grow_from(alloc, block_ends, &places, &over, forms, &mut more, blocks)
+    let blocks = settling.short_blocks(alloc, forms)?;
+    settling.grow_from(alloc, forms, &mut more, blocks)
+}
+
+// Blocks whose forms grow, by where they began before. By how many bytes their ways are longer since then stands beside.
+#[derive(Clone, Copy)]
+struct Settling<'a> {
+    block_ends: &'a [BlockEnd],
+    /// Where each block began, and where the last one ended.
+    places: &'a [u64],
+    crossings: &'a Crossings,
+    ghost fit: { AreBlockEnds block_ends.now },
+    ghost begin: { AreStarts block_ends.now places.now },
+    ghost over: { length crossings.now.starts.items ≡ length block_ends.now },
+}
+
+impl<'a> Settling<'a> {
+    // Whether the branch or jump of block `k` goes past the end of block `p`, so that its way is longer when that grows.
+    fn crosses(&self, k: usize, p: usize) -> bool
+        requires { k < length self.now.block_ends.now }
+        ensures { result ≡ crosses self.now.block_ends.now k p }
+    {
+        let to = self.block_ends[k].to;
+        (k <= p && p < to) || (to <= p && p < k)
+    }
+
+    // Whether a form of block `k` reaches, where its way is longer by `more` bytes.
+    fn is_enough_by(&self, more: u64, k: usize, form: Form) -> bool
+        requires inside { k < length self.now.block_ends.now }
+        requires low { more < 2 ^ 62 }
+        ensures { result ≡ is_enough_by self.now.block_ends.now self.now.places.now more k form }
+    {
+        let block_end = self.block_ends[k];
+        let from = self.places[k] + block_end.before;
+        let to = self.places[block_end.to] + block_end.offset;
+        match form_reach(form) {
+            Some(reach) => {
+                if k < block_end.to {
+                    reaches(reach, from, to + more)
+                } else {
+                    reaches(reach, from + more, to)
+                }
+            }
+            None => true,
+        }
+    }
+
+    // Block `p` has grown by some bytes. Makes the ways over it longer, and adds the blocks whose forms don't reach any
+    // more.
+    fn lengthen(
+        &self,
+        forms: &[Form],
+        more: &mut [u64],
+        p: usize,
+        bytes: u64,
+        short: &mut Vec<usize>,
+    ) -> Result<(), AllocError>
+        requires count { length more.old ≡ length self.now.block_ends.now }
+        requires one_each { length forms.now ≡ length self.now.block_ends.now }
+        requires longer { AreLonger self.now.block_ends.now self.now.places.now forms.now more.old }
+        requires over { AreLongerOver self.now.block_ends.now self.now.places.now forms.now more.old p bytes 0 }
+        requires listed { All (λ k. k < length self.now.block_ends.now) short.old.items }
+        ensures count { OnOk result (length more.new ≡ length self.now.block_ends.now) }
+        ensures longer { OnOk result (AreLonger self.now.block_ends.now self.now.places.now forms.now more.new) }
+        ensures listed { OnOk result (All (λ k. k < length self.now.block_ends.now) short.new.items) }
+    {
+        let Range { start, end } = self.crossings.range(p);
+        for k in start..end {
+            if self.crosses(k, p) {
+                let reached = self.is_enough_by(more[k], k, forms[k]);
+                more[k] += bytes;
+                if reached && !self.is_enough_by(more[k], k, forms[k]) {
+                    short.push(k)?;
+                }
+            }
+        }
+        Ok(())
+    }
+
+    // Block `k` grows by a step, if it doesn't reach. Tells whether it grew, and adds the blocks that don't reach then.
+    fn grow_block(
+        &self,
+        forms: &mut [Form],
+        more: &mut [u64],
+        k: usize,
+        short: &mut Vec<usize>,
+    ) -> Result<bool, AllocError>
+        requires inside { k < length self.now.block_ends.now }
+        requires settling { AreSettling self.now.block_ends.now self.now.places.now forms.old more.old }
+        requires listed { All (λ k. k < length self.now.block_ends.now) short.old.items }
+        ensures settling { OnOk result (AreSettling self.now.block_ends.now self.now.places.now forms.new more.new) }
+        ensures same { OnOk result (map end_of_form forms.new ≡ map end_of_form forms.old) }
+        ensures fewer { IfOk result
+            (λ grew. MatchBool grew (sum_by left_of forms.new < sum_by left_of forms.old) (forms.new ≡ forms.old)) }
+        ensures listed { OnOk result (All (λ k. k < length self.now.block_ends.now) short.new.items) }
+    {
+        let form = forms[k];
+        if self.is_enough_by(more[k], k, form) {
+            return Ok(false);
+        }
+        let grown = longer(form);
+        forms[k] = grown;
+        if !self.is_enough_by(more[k], k, grown) {
+            short.push(k)?;
+        }
+        let len = self.block_ends[k].len;
+        let bytes = (piece_length(len, grown) - piece_length(len, form)) as u64;
+        self.lengthen(forms, more, k, bytes, short)?;
+        Ok(true)
+    }
+
+    // Each of some blocks grows by a step, if it doesn't reach. Tells whether one grew, and adds the blocks that don't
+    // reach then.
+    fn grow_blocks(
+        &self,
+        forms: &mut [Form],
+        more: &mut [u64],
+        blocks: &[usize],
+        short: &mut Vec<usize>,
+    ) -> Result<bool, AllocError>
+        requires inside { All (λ k. k < length self.now.block_ends.now) blocks.now }
+        requires settling { AreSettling self.now.block_ends.now self.now.places.now forms.old more.old }
+        requires listed { All (λ k. k < length self.now.block_ends.now) short.old.items }
+        ensures settling { OnOk result (AreSettling self.now.block_ends.now self.now.places.now forms.new more.new) }
+        ensures same { OnOk result (map end_of_form forms.new ≡ map end_of_form forms.old) }
+        ensures fewer { IfOk result
+            (λ grew. MatchBool grew (sum_by left_of forms.new < sum_by left_of forms.old) (forms.new ≡ forms.old)) }
+        ensures listed { OnOk result (All (λ k. k < length self.now.block_ends.now) short.new.items) }
+    {
+        let mut grew = false;
+        for k in blocks {
+            let grown = self.grow_block(forms, more, *k, short)?;
+            if grown {
+                grew = true;
+            }
+        }
+        Ok(grew)
+    }
+
+    // The blocks whose forms don't reach.
+    fn short_blocks(&self, alloc: Global, forms: &[Form]) -> Result<Vec<usize>, AllocError>
+        requires { length forms.now ≡ length self.now.block_ends.now }
+        ensures { IfOk result (λ short. All (λ k. k < length self.now.block_ends.now) short.items) }
+    {
+        let mut short = Vec::new(alloc);
+        for k in 0..self.block_ends.len() {
+            if !self.is_enough_by(0, k, forms[k]) {
+                short.push(k)?;
+            }
+        }
+        Ok(short)
+    }
+
+    // Goes on with the blocks that were added, until there are none.
+    fn grow_from(
+        &self,
+        alloc: Global,
+        forms: &mut [Form],
+        more: &mut [u64],
+        mut blocks: Vec<usize>,
+    ) -> Result<(), AllocError>
+        requires inside { All (λ k. k < length self.now.block_ends.now) blocks.items }
+        requires settling { AreSettling self.now.block_ends.now self.now.places.now forms.old more.old }
+        ensures sound { OnOk result (AreGrown self.now.block_ends.now forms.new) }
+        ensures same { OnOk result (map end_of_form forms.new ≡ map end_of_form forms.old) }
+        ensures fewer { OnOk result (sum_by left_of forms.new ≤ sum_by left_of forms.old) }
+    {
+        loop {
+            let mut short = Vec::new(alloc);
+            let grew = self.grow_blocks(forms, more, &blocks, &mut short)?;
+            if !grew {
+                return Ok(());
+            }
+            blocks = short;
+        }
+    }
 }
 
 // Which blocks have ways over a block.
@@ -241,12 +231,12 @@ impl Crossings {
     }
 
     // The range of blocks in which those are that lead over block `p`.
-    fn range(&self, p: usize) -> (usize, usize)
-        ensures { result.1 ≤ length self.now.starts.items }
+    fn range(&self, p: usize) -> Range<usize>
+        ensures { result.end ≤ length self.now.starts.items }
     {
         let first = self.ends.partition_point(|end| *end <= p);
         let end = self.starts.partition_point(|start| *start <= p);
-        (first, end)
+        first..end
     }
 }
 

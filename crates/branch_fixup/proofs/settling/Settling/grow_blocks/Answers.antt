@@ -1,7 +1,7 @@
 use Rattle.std.proofs.Common.{◌∙◌}
 use Rattle.branch_fixup.proofs.Ways.{fewer_no, fewer_yes}
-use Rattle.branch_fixup.proofs.settling.grow_blocks.Goals as goal
-use Rattle.branch_fixup.proofs.settling.grow_blocks.Goals.{then-grown, else-grown}
+use Rattle.branch_fixup.proofs.settling.Settling.grow_blocks.Goals as goal
+use Rattle.branch_fixup.proofs.settling.Settling.grow_blocks.Goals.{then-grown, else-grown}
 
 pub loop-k-preserved : goal.loop-k-preserved
 loop-k-preserved c =

@@ -1,7 +1,7 @@
 use Rattle.std.proofs.Common.{◌∙◌, ap, arith}
 use Rattle.std.specs.Prelude.{sum_by}
 use Rattle.branch_fixup.specs.Growth.{left_of}
-use Rattle.branch_fixup.proofs.settling.grow_from.Goals as goal
+use Rattle.branch_fixup.proofs.settling.Settling.grow_from.Goals as goal
 
 pub loop-short-preserved : goal.loop-short-preserved
 loop-short-preserved c =

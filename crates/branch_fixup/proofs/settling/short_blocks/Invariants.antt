@@ -1,5 +1,0 @@
-use Rattle.std.proofs.Common.{◌<◌, length, All}
-use Rattle.branch_fixup.proofs.settling.short_blocks.Given as goal
-
-abbrev pub invariant-loop-k : goal.invariant-loop-k
-invariant-loop-k l = All (λ k. k < length l.block_ends) l.short.items
