@@ -1,9 +1,11 @@
 -- Heights of the nodes of one function, by which its flows are found: prices from 0 up, with one for what lies outside.
-use Rattle.std.specs.Prelude.{◌≡◌, ◌+◌, ◌-◌, ◌<◌, ◌≤◌, ℕ, Bool, List, Option, Some, None, All, IfSome, length}
-use Rattle.std.specs.Prelude.{if◌then◌else◌, slice_index, slice_index_or, ℤ, pos, ◌-ℤ◌, Vec}
+use Rattle.std.specs.Prelude.{◌≡◌, ◌+◌, ◌-◌, ◌<◌, ◌≤◌, ℕ, List, Option, Some, None, All, IfSome, length}
+use Rattle.std.specs.Prelude.{slice_index, slice_index_or, ℤ, pos, ◌-ℤ◌, Vec}
 use Rattle.std.specs.declared.alloc.Global.{Global}
 use Rattle.std.specs.declared.cmp.Reverse.{Reverse}
 use Rattle.flow_infer.specs.declared.flow.Link.{Link}
+use Rattle.flow_infer.specs.declared.direction.Direction.{Direction}
+use Rattle.flow_infer.specs.declared.direction.Direction.TheVariants.{Along, Against}
 use Rattle.flow_infer.specs.declared.arcs.Arc.{Arc}
 use Rattle.flow_infer.specs.Flows.{AllHold, AreSameLinks, Balances, inflow, outflow}
 
@@ -60,9 +62,15 @@ HoldsRaised heights first distances step l = HoldsBetween
     (raised step (at_node distances first l.from) (at_node heights first l.from))
     (raised step (at_node distances first l.to) (at_node heights first l.to)) l
 
--- a link with so much more flow along it, or against it
-abbrev pub flowing : Bool → ℕ → Link → Link
-flowing along d l = record l { flow = if along then l.flow + d else l.flow - d }
+-- the other way over a link
+abbrev pub reversed : Direction → Direction
+reversed Along = Against
+reversed Against = Along
+
+-- a link with so much more flow over it in a direction
+abbrev pub flowing : Direction → ℕ → Link → Link
+flowing Along d l = record l { flow = l.flow + d }
+flowing Against d l = record l { flow = l.flow - d }
 
 -- The state of a search for flows: links of so many nodes, and a height for each node, which are prices that hold.
 pub record IsSteady (heights : List ℕ) (first nodes : ℕ) (links : List Link) : Type 0 where

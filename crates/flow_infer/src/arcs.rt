@@ -2,6 +2,7 @@
 ghost use Rattle.std.specs.Prelude.{◌≡◌, ◌<◌, ◌^◌, ℕ, All, IfOk, OnOk, length};
 ghost use Rattle.flow_infer.specs.Heights.{AreAmong, AreArcs, IsArcOf};
 
+use crate::direction::Direction;
 use crate::flow::Link;
 use crate::nodes::node;
 use rb_bytes::fault::NoMemory;
@@ -12,8 +13,8 @@ use std::alloc::Global;
 pub struct Arc {
     /// The place of the link.
     pub link: usize,
-    /// Whether the link leads to the head.
-    pub along: bool,
+    /// The way over the link that leads to the head.
+    pub direction: Direction,
     pub head: usize,
 }
 
@@ -42,7 +43,7 @@ pub fn arcs(
             from,
             Arc {
                 link: place,
-                along: true,
+                direction: Direction::Along,
                 head: to,
             },
         )?;
@@ -51,7 +52,7 @@ pub fn arcs(
             to,
             Arc {
                 link: place,
-                along: false,
+                direction: Direction::Against,
                 head: from,
             },
         )?;

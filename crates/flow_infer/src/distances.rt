@@ -79,7 +79,7 @@ fn queue_sources(
             arc.link,
             network.heights,
             network.first,
-            !arc.along,
+            arc.direction.reversed(),
         );
         let farther = distance.saturating_add(slack);
         if farther < of_nodes[arc.head] {

@@ -3,6 +3,7 @@
 
 mod arcs;
 mod counts;
+mod direction;
 mod distances;
 mod entries;
 mod flow;

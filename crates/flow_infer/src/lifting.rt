@@ -3,8 +3,7 @@ ghost use Rattle.std.specs.Prelude.{◌≡◌, ◌<◌, ◌≤◌, ◌^◌, ℕ,
 ghost use Rattle.flow_infer.specs.Heights.{HoldsRaised, IsSteady, raised};
 
 use crate::flow::Link;
-use crate::nodes::at_node;
-use crate::rooms;
+use crate::nodes::at_ends;
 use rb_bytes::fault::NoMemory;
 
 /// Raises nodes in the longest step, up to `most`, in which prices go on to hold. Each rises by what the step is longer
@@ -34,11 +33,10 @@ fn longest_step(heights: &[u64], first: usize, links: &[Link], distances: &[u64]
 {
     let mut longest = most;
     for link in links {
-        let a = at_node(heights, first, link.from);
-        let b = at_node(heights, first, link.to);
-        let p = at_node(distances, first, link.from);
-        let q = at_node(distances, first, link.to);
-        let step = rooms::longest_step(link, a, b, p, q);
+        let step = link.longest_step(
+            at_ends(heights, first, link),
+            at_ends(distances, first, link),
+        );
         longest = longest.min(step);
     }
     longest

@@ -3,7 +3,7 @@ ghost use Rattle.std.specs.Prelude.{◌≡◌, ◌==◌, ◌+◌, ◌-◌, ◌<�
 ghost use Rattle.std.specs.Prelude.{slice_index, if◌then◌else◌};
 ghost use Rattle.flow_infer.specs.Flows.{inflow, outflow};
 ghost use Rattle.flow_infer.specs.Heights as heights;
-ghost use Rattle.flow_infer.specs.Heights.{AreAmong, IsNodeBelow, node_of};
+ghost use Rattle.flow_infer.specs.Heights.{AreAmong, IsAmong, IsNodeBelow, node_of};
 
 use crate::flow::Link;
 use rb_bytes::fault::NoMemory;
@@ -20,8 +20,29 @@ pub fn node(end: Option<usize>, first: usize) -> usize
     }
 }
 
-/// The number of a node among numbers of all nodes, as its height.
-pub fn at_node(numbers: &[u64], first: usize, end: Option<usize>) -> u64
+/// Numbers of the nodes at a link's ends, as their heights.
+#[derive(Clone, Copy)]
+pub struct Ends {
+    pub start: u64,
+    pub end: u64,
+}
+
+/// The numbers of the nodes at a link's ends among numbers of all nodes.
+pub fn at_ends(numbers: &[u64], first: usize, link: &Link) -> Ends
+    requires some { 0 < length numbers.now }
+    requires few { length numbers.now < 2 ^ 63 }
+    requires among { IsAmong first (length numbers.now) link.now }
+    ensures start { result.start ≡ heights.at_node numbers.now first link.now.from }
+    ensures end { result.end ≡ heights.at_node numbers.now first link.now.to }
+{
+    Ends {
+        start: at_node(numbers, first, link.from),
+        end: at_node(numbers, first, link.to),
+    }
+}
+
+// The number of a node among numbers of all nodes.
+fn at_node(numbers: &[u64], first: usize, end: Option<usize>) -> u64
     requires some { 0 < length numbers.now }
     requires few { length numbers.now < 2 ^ 63 }
     requires end { IsNodeBelow first (length numbers.now) end }

@@ -3,18 +3,19 @@ ghost use Rattle.std.specs.Prelude.{◌≡◌, ◌<◌, ◌^◌, ℕ, All, lengt
 ghost use Rattle.flow_infer.specs.Heights.{AreArcs, HasMoved, IsArcOf, IsSteady};
 
 use crate::arcs::Arc;
+use crate::direction::Direction;
 use crate::flow::Link;
-use crate::nodes::at_node;
-use crate::rooms::{moved, room_at};
+use crate::nodes::at_ends;
+use crate::rooms::room_at;
 use crate::searching::Found;
 
-// Moves so much more along a link, or against it, as far as there is room.
+// Moves so much more over a link in a direction, as far as there is room.
 fn move_at(
     links: &mut [Link],
     place: usize,
     heights: &[u64],
     first: usize,
-    along: bool,
+    direction: Direction,
     amount: u128,
 )
     requires few { length heights.now < 2 ^ 63 }
@@ -23,9 +24,8 @@ fn move_at(
     ensures { HasMoved heights.now first (length heights.now) links.old links.new }
 {
     let link = links[place];
-    let a = at_node(heights, first, link.from);
-    let b = at_node(heights, first, link.to);
-    links[place] = moved(&link, a, b, along, amount);
+    let ends = at_ends(heights, first, &link);
+    links[place] = link.moved(ends, direction, amount);
 }
 
 /// Moves what nodes have to spare on to nodes that were found before them: the last that was found comes first.
@@ -88,11 +88,11 @@ fn push_from(
         if places[arc.head] >= places[n] {
             continue;
         }
-        let amount = spare[n].min(room_at(links, arc.link, heights, first, arc.along));
+        let amount = spare[n].min(room_at(links, arc.link, heights, first, arc.direction));
         if amount == 0 {
             continue;
         }
-        move_at(links, arc.link, heights, first, arc.along, amount);
+        move_at(links, arc.link, heights, first, arc.direction, amount);
         spare[n] = spare[n].saturating_sub(amount);
         let needed = need[arc.head];
         need[arc.head] = needed.saturating_sub(amount);

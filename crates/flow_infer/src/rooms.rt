@@ -1,149 +1,153 @@
 // How much flow a link takes at given heights, and how far heights may rise.
-ghost use Rattle.std.specs.Prelude.{◌≡◌, ◌+◌, ◌-◌, ◌<◌, ◌≤◌, ◌^◌, ℕ, IsTrue, false, length};
+ghost use Rattle.std.specs.Prelude.{◌≡◌, ◌+◌, ◌-◌, ◌<◌, ◌≤◌, ◌^◌, ℕ, length};
+ghost use Rattle.flow_infer.specs.declared.direction.Direction.TheVariants.{Along, Against};
 ghost use Rattle.flow_infer.specs.Flows.{bare};
 ghost use Rattle.flow_infer.specs.Heights.{EndMayRise, HoldsBetween, IsSteady, StartMayRise, flowing, raised};
 
+use crate::direction::Direction;
 use crate::flow::Link;
-use crate::nodes::at_node;
+use crate::nodes::{Ends, at_ends};
 
-/// How much more may flow along a link from the height a to the height b, or against it.
-pub fn room(link: &Link, a: u64, b: u64, along: bool) -> u128
-    requires { HoldsBetween a b link.now }
-    ensures fits { IsTrue along → link.now.flow + result < 2 ^ 128 }
-    ensures within { along ≡ false → result ≤ link.now.flow }
-    ensures holds { (d : ℕ) → d ≤ result → HoldsBetween a b (flowing along d link.now) }
-{
-    if along {
-        room_along(link, a, b)
-    } else {
-        room_against(link, a, b)
+impl Link {
+    // How much more may flow over the link in a direction, at the heights of its ends.
+    fn room(&self, heights: Ends, direction: Direction) -> u128
+        requires { HoldsBetween heights.start heights.end self.now }
+        ensures fits { direction ≡ Along → self.now.flow + result < 2 ^ 128 }
+        ensures within { direction ≡ Against → result ≤ self.now.flow }
+        ensures holds { (d : ℕ) → d ≤ result → HoldsBetween heights.start heights.end (flowing direction d self.now) }
+    {
+        match direction {
+            Direction::Along => self.room_along(heights),
+            Direction::Against => self.room_against(heights),
+        }
+    }
+
+    fn room_along(&self, heights: Ends) -> u128
+        requires { HoldsBetween heights.start heights.end self.now }
+        ensures fits { self.now.flow + result < 2 ^ 128 }
+        ensures holds { (d : ℕ) → d ≤ result →
+            HoldsBetween heights.start heights.end (record self.now { flow = self.now.flow + d }) }
+    {
+        let Ends { start, end } = heights;
+        let flow = self.flow;
+        if start < end {
+            u128::MAX - flow
+        } else if start > end && start - end == 1 {
+            self.count.saturating_sub(flow)
+        } else {
+            0
+        }
+    }
+
+    fn room_against(&self, heights: Ends) -> u128
+        requires { HoldsBetween heights.start heights.end self.now }
+        ensures within { result ≤ self.now.flow }
+        ensures holds { (d : ℕ) → d ≤ result →
+            HoldsBetween heights.start heights.end (record self.now { flow = self.now.flow - d }) }
+    {
+        let Ends { start, end } = heights;
+        if start < end {
+            self.flow.saturating_sub(self.count)
+        } else if start > end && start - end == 1 {
+            self.flow
+        } else {
+            0
+        }
+    }
+
+    /// The link with so much more flow over it in a direction, as far as there is room at the heights of its ends.
+    pub fn moved(&self, heights: Ends, direction: Direction, amount: u128) -> Link
+        requires { HoldsBetween heights.start heights.end self.now }
+        ensures same { bare result ≡ bare self.now }
+        ensures holds { HoldsBetween heights.start heights.end result }
+    {
+        let amount = amount.min(self.room(heights, direction));
+        let flow = match direction {
+            Direction::Along => self.flow + amount,
+            Direction::Against => self.flow - amount,
+        };
+        Link { flow, ..*self }
+    }
+
+    // How much more the end to which a direction leads may rise than the other one, from these heights: what a way in
+    // this direction lacks for room.
+    fn slack(&self, heights: Ends, direction: Direction) -> u64
+        requires { HoldsBetween heights.start heights.end self.now }
+    {
+        match direction {
+            Direction::Along => self.slack_of_end(heights),
+            Direction::Against => self.slack_of_start(heights),
+        }
+    }
+
+    fn slack_of_end(&self, heights: Ends) -> u64
+        requires { HoldsBetween heights.start heights.end self.now }
+        ensures { EndMayRise heights.start heights.end result self.now }
+    {
+        let Ends { start, end } = heights;
+        if self.flow < self.count {
+            start.saturating_sub(end).saturating_sub(1)
+        } else {
+            start.saturating_add(1).saturating_sub(end)
+        }
+    }
+
+    fn slack_of_start(&self, heights: Ends) -> u64
+        requires { HoldsBetween heights.start heights.end self.now }
+        ensures { StartMayRise heights.start heights.end result self.now }
+    {
+        let Ends { start, end } = heights;
+        if self.flow == 0 {
+            u64::MAX
+        } else if self.flow > self.count {
+            0
+        } else {
+            end.saturating_add(1).saturating_sub(start)
+        }
+    }
+
+    /// How long a step may be in which the link's ends rise from these heights, at these distances.
+    pub fn longest_step(&self, heights: Ends, distances: Ends) -> u64
+        requires { HoldsBetween heights.start heights.end self.now }
+        ensures { (step : ℕ) → step ≤ result → HoldsBetween (raised step distances.start heights.start)
+            (raised step distances.end heights.end) self.now }
+    {
+        let end = step_within(self.slack_of_end(heights), distances.end, distances.start);
+        let start = step_within(self.slack_of_start(heights), distances.start, distances.end);
+        end.min(start)
     }
 }
 
-fn room_along(link: &Link, a: u64, b: u64) -> u128
-    requires { HoldsBetween a b link.now }
-    ensures fits { link.now.flow + result < 2 ^ 128 }
-    ensures holds { (d : ℕ) → d ≤ result → HoldsBetween a b (record link.now { flow = link.now.flow + d }) }
-{
-    let flow = link.flow;
-    if a < b {
-        u128::MAX - flow
-    } else if a > b && a - b == 1 {
-        link.count.saturating_sub(flow)
-    } else {
-        0
-    }
-}
-
-fn room_against(link: &Link, a: u64, b: u64) -> u128
-    requires { HoldsBetween a b link.now }
-    ensures within { result ≤ link.now.flow }
-    ensures holds { (d : ℕ) → d ≤ result → HoldsBetween a b (record link.now { flow = link.now.flow - d }) }
-{
-    if a < b {
-        link.flow.saturating_sub(link.count)
-    } else if a > b && a - b == 1 {
-        link.flow
-    } else {
-        0
-    }
-}
-
-/// How much more may flow along the link at a place, or against it, at the heights of its ends.
-pub fn room_at(links: &[Link], place: usize, heights: &[u64], first: usize, along: bool) -> u128
+/// How much more may flow over the link at a place in a direction, at the heights of its ends.
+pub fn room_at(
+    links: &[Link],
+    place: usize,
+    heights: &[u64],
+    first: usize,
+    direction: Direction,
+) -> u128
     requires few { length heights.now < 2 ^ 63 }
     requires steady { IsSteady heights.now first (length heights.now) links.now }
     requires place { place < length links.now }
 {
-    let link = links[place];
-    room(
-        &link,
-        at_node(heights, first, link.from),
-        at_node(heights, first, link.to),
-        along,
-    )
+    let link = &links[place];
+    link.room(at_ends(heights, first, link), direction)
 }
 
-/// What a way along the link at a place, or against it, lacks for room at the heights of its ends.
-pub fn slack_at(links: &[Link], place: usize, heights: &[u64], first: usize, along: bool) -> u64
+/// What a way over the link at a place lacks for room in a direction, at the heights of its ends.
+pub fn slack_at(
+    links: &[Link],
+    place: usize,
+    heights: &[u64],
+    first: usize,
+    direction: Direction,
+) -> u64
     requires few { length heights.now < 2 ^ 63 }
     requires steady { IsSteady heights.now first (length heights.now) links.now }
     requires place { place < length links.now }
 {
-    let link = links[place];
-    slack(
-        &link,
-        at_node(heights, first, link.from),
-        at_node(heights, first, link.to),
-        along,
-    )
-}
-
-/// The link with so much more flow along it, or against it, as far as there is room.
-pub fn moved(link: &Link, a: u64, b: u64, along: bool, amount: u128) -> Link
-    requires { HoldsBetween a b link.now }
-    ensures same { bare result ≡ bare link.now }
-    ensures holds { HoldsBetween a b result }
-{
-    let amount = amount.min(room(link, a, b, along));
-    let flow = if along {
-        link.flow + amount
-    } else {
-        link.flow - amount
-    };
-    Link {
-        from: link.from,
-        to: link.to,
-        count: link.count,
-        flow,
-    }
-}
-
-/// How much more the end of a link may rise than its start, from the heights `b` and `a`: what a way along the link
-/// lacks for room. Or how much more its start may rise than its end: what a way against the link lacks for room.
-pub fn slack(link: &Link, a: u64, b: u64, along: bool) -> u64
-    requires { HoldsBetween a b link.now }
-{
-    if along {
-        slack_of_end(link, a, b)
-    } else {
-        slack_of_start(link, a, b)
-    }
-}
-
-fn slack_of_end(link: &Link, a: u64, b: u64) -> u64
-    requires { HoldsBetween a b link.now }
-    ensures { EndMayRise a b result link.now }
-{
-    if link.flow < link.count {
-        a.saturating_sub(b).saturating_sub(1)
-    } else {
-        a.saturating_add(1).saturating_sub(b)
-    }
-}
-
-fn slack_of_start(link: &Link, a: u64, b: u64) -> u64
-    requires { HoldsBetween a b link.now }
-    ensures { StartMayRise a b result link.now }
-{
-    if link.flow == 0 {
-        u64::MAX
-    } else if link.flow > link.count {
-        0
-    } else {
-        b.saturating_add(1).saturating_sub(a)
-    }
-}
-
-/// How long a step may be in which the start and the end of a link rise from the heights `a` and `b`, at the distances
-/// `p` and `q`.
-pub fn longest_step(link: &Link, a: u64, b: u64, p: u64, q: u64) -> u64
-    requires { HoldsBetween a b link.now }
-    ensures { (step : ℕ) → step ≤ result → HoldsBetween (raised step p a) (raised step q b) link.now }
-{
-    let end = step_within(slack_of_end(link, a, b), q, p);
-    let start = step_within(slack_of_start(link, a, b), p, q);
-    end.min(start)
+    let link = &links[place];
+    link.slack(at_ends(heights, first, link), direction)
 }
 
 // How long a step may be in which a node at a distance rises by no more than this slack over a node at another one.

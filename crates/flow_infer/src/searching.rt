@@ -74,7 +74,7 @@ fn push_sources(
             arc.link,
             network.heights,
             network.first,
-            !arc.along,
+            arc.direction.reversed(),
         );
         if room == 0 {
             continue;

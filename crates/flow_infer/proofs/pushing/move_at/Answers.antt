@@ -4,4 +4,4 @@ use Rattle.flow_infer.proofs.pushing.move_at.Goals as goal
 
 pub returns : goal.returns
 returns c = moved_one c.args.heights.now c.args.first (length c.args.heights.now) c.args.links.now c.args.place _ _ _ c.moved.result
-    c.requires.steady c.requires.place c.moved.ensures.same c.at_node-a.ensures c.at_node-b.ensures c.moved.ensures.holds
+    c.requires.steady c.requires.place c.moved.ensures.same c.at_ends-ends.ensures.start c.at_ends-ends.ensures.end c.moved.ensures.holds
