@@ -77,10 +77,8 @@ fn full_before(elf: &Elf, end: u64, address: u64) -> Option<Inst>
     ensures there { IfSome result (λ inst. IsInstBefore elf.now end address inst 4) }
     ensures only { (inst : Inst) → IsInstBefore elf.now end address inst 4 → result ≡ Some inst }
 {
-    match inst_before(elf, end, address) {
-        Some(found) => { if found.1 == 4 { Some(found.0) } else { None } }
-        None => None,
-    }
+    let (inst, bytes) = inst_before(elf, end, address)?;
+    if bytes == 4 { Some(inst) } else { None }
 }
 
 /// The four-byte instruction that starts at an address. `starts` and `parts` are those of the file.
@@ -93,8 +91,6 @@ pub fn full_at(elf: &Elf, starts: &Starts, parts: &[Part], address: u64) -> Opti
     if !starts.has(address) {
         return None;
     }
-    match part_at(parts, address) {
-        Some(part) => full_before(elf, part.end, address),
-        None => None,
-    }
+    let part = part_at(parts, address)?;
+    full_before(elf, part.end, address)
 }

@@ -71,11 +71,7 @@ fn number_by_bytes(elf: &Elf, address: u64, size: u8) -> Option<u64>
     if size == 0 {
         return Some(0);
     }
-    match byte_at(elf, address) {
-        Some(first) => match number_by_bytes(elf, address + 1, size - 1) {
-            Some(rest) => Some(first as u64 + 256 * rest),
-            None => None,
-        },
-        None => None,
-    }
+    let first = byte_at(elf, address)?;
+    let rest = number_by_bytes(elf, address + 1, size - 1)?;
+    Some(first as u64 + 256 * rest)
 }

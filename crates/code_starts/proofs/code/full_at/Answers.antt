@@ -17,26 +17,26 @@ no_part o q is is' = let e : None ≡ Some q = sym is ∙ is' in cc
 pub part_at-requires : goal.part_at-requires
 part_at-requires c = AreApart-parts c.args.elf.now c.args.parts.now c.requires.parts
 
-pub returns-in-Some-clause-there : goal.returns-in-Some-clause-there
-returns-in-Some-clause-there c =
+pub returns-clause-there : goal.returns-clause-there
+returns-clause-there c =
     let elf = c.args.elf.now in
     let a = c.args.address in
     let is = c.requires.starts.only a (c.has.ensures.0 c.if-not-has.false) in
-    let same = same_part _ _ _ c.in-Some.is (c.part_at.ensures.only _ (start_held elf c.args.parts.now a c.requires.parts is)) in
+    let same = same_part _ _ _ c.in_ok-part.was (c.part_at.ensures.only _ (start_held elf c.args.parts.now a c.requires.parts is)) in
     some_map _ _ c.full_before.result
-    (λ inst full. full_there elf a c.in-Some.part.end inst is same full) c.full_before.ensures.there
+    (λ inst full. full_there elf a c.in_ok-part.part.end inst is same full) c.full_before.ensures.there
 
-pub returns-in-Some-clause-only : goal.returns-in-Some-clause-only
-returns-in-Some-clause-only c = λ inst full.
+pub returns-clause-only : goal.returns-clause-only
+returns-clause-only c = λ inst full.
     let elf = c.args.elf.now in
     let a = c.args.address in
-    let same = same_part _ _ _ c.in-Some.is
+    let same = same_part _ _ _ c.in_ok-part.was
     (c.part_at.ensures.only _ (start_held elf c.args.parts.now a c.requires.parts (full_start elf a inst full))) in
-    c.full_before.ensures.only inst (full_before elf a c.in-Some.part.end inst full same)
+    c.full_before.ensures.only inst (full_before elf a c.in_ok-part.part.end inst full same)
 
-pub returns-in-None-clause-only : goal.returns-in-None-clause-only
-returns-in-None-clause-only c = λ inst full.
-    absurd (no_part _ _ c.in-None.is
+pub returns-in_err-part-clause-only : goal.returns-in_err-part-clause-only
+returns-in_err-part-clause-only c = λ inst full.
+    absurd (no_part _ _ c.in_err-part.was
     (c.part_at.ensures.only _
     (start_held c.args.elf.now c.args.parts.now c.args.address c.requires.parts
     (full_start c.args.elf.now c.args.address inst full))))
