@@ -32,10 +32,7 @@ impl PageIndex {
     pub fn place(&self, number: u64) -> Option<usize>
         ensures { result ≡ place_of self.now number }
     {
-        match self.groups.get(&(number / GROUP_SIZE)) {
-            Some(group) => group.place(number),
-            None => None,
-        }
+        self.groups.get(&(number / GROUP_SIZE))?.place(number)
     }
 
     /// Adds a page. Where memory runs out, none is added.

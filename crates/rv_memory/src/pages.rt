@@ -62,12 +62,8 @@ impl Pages {
     pub fn byte(&self, address: u64) -> Option<u8>
         ensures { result ≡ page_byte self.now address }
     {
-        match self.place(address / PAGE_SIZE as u64) {
-            Some(place) => Some(
-                self.bytes[place * PAGE_SIZE + (address % PAGE_SIZE as u64) as usize],
-            ),
-            None => None,
-        }
+        let place = self.place(address / PAGE_SIZE as u64)?;
+        Some(self.bytes[place * PAGE_SIZE + (address % PAGE_SIZE as u64) as usize])
     }
 
     /// The number of `count` bytes at an address, all in one page: 1, 2, 4 or 8. None where there is no page.
@@ -78,14 +74,12 @@ impl Pages {
         ensures below { IfSome result (λ n. n < 256 ^ count) }
         ensures there { is_some result ≡ (is_some (page_byte self.now address) && is_width count) }
     {
-        match self.place(address / PAGE_SIZE as u64) {
-            Some(place) => number_in(
-                &self.bytes,
-                place * PAGE_SIZE + (address % PAGE_SIZE as u64) as usize,
-                count,
-            ),
-            None => None,
-        }
+        let place = self.place(address / PAGE_SIZE as u64)?;
+        number_in(
+            &self.bytes,
+            place * PAGE_SIZE + (address % PAGE_SIZE as u64) as usize,
+            count,
+        )
     }
 
     /// Writes the `count` low bytes of a number at an address, all in one page. False where there is no page.
