@@ -84,9 +84,7 @@ impl KnownActions {
         ensures found { IfSome result (λ r. IsAction half next r.0 r.1) }
         ensures none { IfNone result ((i : Inst) (bytes : ℕ) → Decodes half next i bytes → ⊥) }
     {
-        let Some(entry) = decoded(half, next) else {
-            return None;
-        };
+        let entry = decoded(half, next)?;
         if at < self.entries.len() {
             self.entries[at] = entry;
         }
@@ -102,13 +100,11 @@ fn decoded(half: u16, next: Option<u16>) -> Option<KnownAction>
     ensures known { IfSome result (λ e. IsAction half next e.action e.length) }
     ensures none { IfNone result ((i : Inst) (bytes : ℕ) → Decodes half next i bytes → ⊥) }
 {
-    match decode(half, next) {
-        Some((inst, length)) => Some(KnownAction {
-            half,
-            next,
-            action: inst.action(),
-            length,
-        }),
-        None => None,
-    }
+    let (inst, length) = decode(half, next)?;
+    Some(KnownAction {
+        half,
+        next,
+        action: inst.action(),
+        length,
+    })
 }
