@@ -33,10 +33,8 @@ pub fn entry_address(elf: &Elf) -> Option<u64>
     ensures is { result ≡ address_of elf.now e_entry_field }
     ensures low { IfSome result (λ a. a + 8 ≤ 2 ^ 64) }
 {
-    match entry_segment(&elf.segments) {
-        Some(p) => Some(p.vaddr + (0x18 - p.offset)),
-        None => None,
-    }
+    let p = entry_segment(&elf.segments)?;
+    Some(p.vaddr + (0x18 - p.offset))
 }
 
 // The hidden fields of one program header.

@@ -54,20 +54,16 @@ impl<'a> InstIndex<'a> {
         if pc % 2 != 0 {
             return None;
         }
-        match self.place(pc) {
-            Some(at) => Some(inst_at(self.funcs, at)),
-            None => None,
-        }
+        let at = self.place(pc)?;
+        Some(inst_at(self.funcs, at))
     }
 
     /// The address of the instruction after the one at an address, in its function.
     pub fn next_of(&self, address: u64) -> Option<u64>
         ensures { result ≡ next_of self.now.funcs.now address }
     {
-        match self.place(address) {
-            Some(at) => next_in(self.funcs, at),
-            None => None,
-        }
+        let at = self.place(address)?;
+        next_in(self.funcs, at)
     }
 }
 
@@ -99,10 +95,8 @@ fn next_in(funcs: &[Func], at: InstPlace) -> Option<u64>
     if at.inst >= insts.len() {
         return None;
     }
-    match insts.get(at.inst + 1) {
-        Some(next) => Some(next.addr),
-        None => None,
-    }
+    let next = insts.get(at.inst + 1)?;
+    Some(next.addr)
 }
 
 fn place_in(funcs: &[Func], address: u64) -> Option<InstPlace>

@@ -90,13 +90,11 @@ impl OtherBytes {
     pub fn byte(&self, address: u64) -> Option<OtherByte>
         ensures { result ≡ other_byte self.now address }
     {
-        match self.place(address / GROUP_SIZE as u64) {
-            Some(place) => slot_at(
-                &self.slots,
-                place * GROUP_SIZE + (address % GROUP_SIZE as u64) as usize,
-            ),
-            None => None,
-        }
+        let place = self.place(address / GROUP_SIZE as u64)?;
+        slot_at(
+            &self.slots,
+            place * GROUP_SIZE + (address % GROUP_SIZE as u64) as usize,
+        )
     }
 
     /// Makes the group of an address. Where memory runs out, nothing is made.
