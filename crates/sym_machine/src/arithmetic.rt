@@ -110,23 +110,17 @@ fn pointer_of(symbol: CodeSymbol) -> Option<Pointer>
 fn compared_values(by: Comparing, left: Value, right: Value) -> Option<Value>
     ensures { result ≡ compared_values by left right }
 {
-    match pointer_in(left) {
-        Some(p) => match pointer_in(right) {
-            Some(q) => compared_by(by, p, q),
-            None => None,
-        },
-        None => None,
-    }
+    let p = pointer_in(left)?;
+    let q = pointer_in(right)?;
+    compared_by(by, p, q)
 }
 
 // ANDI of a value that is no number.
 fn masked_value(value: Value, mask: u64) -> Option<Value>
     ensures { result ≡ masked_value value mask }
 {
-    match pointer_in(value) {
-        Some(pointer) => masked(pointer, mask),
-        None => None,
-    }
+    let pointer = pointer_in(value)?;
+    masked(pointer, mask)
 }
 
 // SLTIU of a value that is no number: is it 0?

@@ -56,20 +56,11 @@ impl<'a> SymMachine<'a> {
     fn buffer(&self) -> Option<Buffer>
         ensures { result ≡ buffer_in (registers_of self.now) }
     {
-        let Some(file) = self.argument(A0) else {
-            return None;
-        };
-        let Some(address) = self.argument(A1) else {
-            return None;
-        };
-        match self.argument(A2) {
-            Some(size) => Some(Buffer {
-                file,
-                address,
-                size,
-            }),
-            None => None,
-        }
+        Some(Buffer {
+            file: self.argument(A0)?,
+            address: self.argument(A1)?,
+            size: self.argument(A2)?,
+        })
     }
 
     // Comes back from a call with this result.

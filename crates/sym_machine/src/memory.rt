@@ -154,9 +154,7 @@ impl<'a> SymMemory<'a> {
         if count == 0 {
             return None;
         }
-        let Some(bytes) = symbol_byte(self.byte(address)) else {
-            return None;
-        };
+        let bytes = symbol_byte(self.byte(address))?;
         let next = address.wrapping_add(1);
         if !self.goes_on(
             bytes.symbol,
