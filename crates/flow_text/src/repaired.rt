@@ -32,6 +32,5 @@ pub fn repaired_profile(
 {
     let flows = edge_flows(alloc, funcs, blocks, links)?;
     let repaired = with_flows(alloc, &flows, pairs)?;
-    let text = edge_text(alloc, funcs, &repaired)?;
-    Ok(text)
+    edge_text(alloc, funcs, &repaired)
 }
