@@ -34,4 +34,5 @@ returns-in_err-rest-clause-value t c =
 
 pub returns-in_err-first-clause-value : goal.returns-in_err-first-clause-value
 returns-in_err-first-clause-value t c =
-    rw c.from_residual.ensures (number-no_first c.args.elf.now c.args.address c.args.size (c.args.size - 1) (omega arith) (sym c.in_err-first.ensures.value))
+    rw c.from_residual.ensures (number-no_first c.args.elf.now c.args.address c.args.size (c.args.size - 1) (omega arith)
+    (sym c.in_err-first.ensures.value))

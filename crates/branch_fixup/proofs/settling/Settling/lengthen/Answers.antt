@@ -20,7 +20,8 @@ pub is_enough_by-reached-requires-clause-low : goal.is_enough_by-reached-require
 is_enough_by-reached-requires-clause-low c =
     let v = c.args.self.now in
     let k = c.loop-k.k in
-    longer_low v.block_ends.now v.places.now c.args.forms.now k (slice_index c.loop-k.more k) v.fit v.begin (omega arith) (c.loop-k.invariant.longer k (omega arith))
+    longer_low v.block_ends.now v.places.now c.args.forms.now k (slice_index c.loop-k.more k) v.fit v.begin (omega arith)
+    (c.loop-k.invariant.longer k (omega arith))
 
 pub overflow_add-more : goal.overflow_add-more
 overflow_add-more c =

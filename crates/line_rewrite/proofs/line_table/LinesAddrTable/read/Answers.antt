@@ -16,7 +16,8 @@ returns-in_err-units-clause-reads c =
     let p = err_from_is_err_and c.from_residual-in_err-units.result c.from_residual-in_err-units.ensures.1 in
     let s : LineSections = line_sections_held c.in_ok-line.line.items c.in_ok-str.str.items c.in_ok-line_str.line_str.items in
     let same : s ≡ line_sections c.args.elf.now =
-    λ i. line_sections_held ((c.in_ok-line.ensures.items ∙ c.contents_of.ensures) i) ((c.in_ok-str.ensures.items ∙ c.contents_of-2.ensures) i)
+    λ i. line_sections_held ((c.in_ok-line.ensures.items ∙ c.contents_of.ensures) i)
+    ((c.in_ok-str.ensures.items ∙ c.contents_of-2.ensures) i)
     ((c.in_ok-line_str.ensures.items ∙ c.contents_of-3.ensures) i) in
     let read : LineSections = line_sections_held c.deref.result.now c.deref-2.result.now c.deref-3.result.now in
     let held : read ≡ s = λ i. line_sections_held (c.deref.ensures.value i) (c.deref-2.ensures.value i) (c.deref-3.ensures.value i) in
@@ -43,7 +44,8 @@ pub returns-clause-reads : goal.returns-clause-reads
 returns-clause-reads c =
     let s : LineSections = line_sections_held c.in_ok-line.line.items c.in_ok-str.str.items c.in_ok-line_str.line_str.items in
     let same : s ≡ line_sections c.args.elf.now =
-    λ i. line_sections_held ((c.in_ok-line.ensures.items ∙ c.contents_of.ensures) i) ((c.in_ok-str.ensures.items ∙ c.contents_of-2.ensures) i)
+    λ i. line_sections_held ((c.in_ok-line.ensures.items ∙ c.contents_of.ensures) i)
+    ((c.in_ok-str.ensures.items ∙ c.contents_of-2.ensures) i)
     ((c.in_ok-line_str.ensures.items ∙ c.contents_of-3.ensures) i) in
     let read : LineSections = line_sections_held c.deref.result.now c.deref-2.result.now c.deref-3.result.now in
     let held : read ≡ s = λ i. line_sections_held (c.deref.ensures.value i) (c.deref-2.ensures.value i) (c.deref-3.ensures.value i) in
@@ -56,6 +58,7 @@ pub returns-clause-comes : goal.returns-clause-comes
 returns-clause-comes c =
     let s : LineSections = line_sections_held c.in_ok-line.line.items c.in_ok-str.str.items c.in_ok-line_str.line_str.items in
     let same : s ≡ line_sections c.args.elf.now =
-    λ i. line_sections_held ((c.in_ok-line.ensures.items ∙ c.contents_of.ensures) i) ((c.in_ok-str.ensures.items ∙ c.contents_of-2.ensures) i)
+    λ i. line_sections_held ((c.in_ok-line.ensures.items ∙ c.contents_of.ensures) i)
+    ((c.in_ok-str.ensures.items ∙ c.contents_of-2.ensures) i)
     ((c.in_ok-line_str.ensures.items ∙ c.contents_of-3.ensures) i) in
     same

@@ -11,4 +11,5 @@ returns c =
     ∙ sym (other_byte-some p c.args.address c.in_ok-place.place found)
 
 pub returns-in_err-place : goal.returns-in_err-place
-returns-in_err-place c = rw c.from_residual.ensures (sym (other_byte-none c.args.self.now c.args.address (sym c.place.ensures ∙ c.in_err-place.was)))
+returns-in_err-place c =
+    rw c.from_residual.ensures (sym (other_byte-none c.args.self.now c.args.address (sym c.place.ensures ∙ c.in_err-place.was)))
