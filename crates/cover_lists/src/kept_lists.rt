@@ -35,10 +35,8 @@ fn copies_of(alloc: Global, expressions: &[Vec<u8>]) -> Result<Vec<Vec<u8>>, NoM
 fn expression_of(expressions: &[Vec<u8>], number: usize) -> Option<&[u8]>
     ensures { option_map (λ x. x.now) result ≡ expression_of expressions.now number }
 {
-    match expressions.get(number) {
-        Some(expression) => Some(expression.as_slice()),
-        None => None,
-    }
+    let expression = expressions.get(number)?;
+    Some(expression.as_slice())
 }
 
 fn put_option(
