@@ -19,17 +19,12 @@ impl<'a> Addresses<'a> {
     pub fn at(&self, index: u64) -> Option<u64>
         ensures { result ≡ looked_up self.now.section.now self.now.base index }
     {
-        match self.base {
-            Some(base) => {
-                let place = base as u128 + 8 * index as u128;
-                if place + 8 <= self.section.len() as u128 {
-                    Some(LittleEndian::read_u64(&self.section[place as usize..]))
-                } else {
-                    None
-                }
-            }
-            None => None,
+        let base = self.base?;
+        let place = base as u128 + 8 * index as u128;
+        if place + 8 > self.section.len() as u128 {
+            return None;
         }
+        Some(LittleEndian::read_u64(&self.section[place as usize..]))
     }
 
     /// The address that is meant.

@@ -44,13 +44,7 @@ fn content<'a>(cursor: &mut Cursor<'a>, shape: Shape) -> Result<&'a [u8], Troubl
     match shape {
         Shape::Block(size) => counted(cursor, size),
         Shape::LebBlock => block(cursor),
-        Shape::Number(_) => Err(Trouble::Unsound),
-        Shape::Leb => Err(Trouble::Unsound),
-        Shape::SignedLeb => Err(Trouble::Unsound),
-        Shape::Opaque(_) => Err(Trouble::Unsound),
-        Shape::Text => Err(Trouble::Unsound),
-        Shape::Implicit => Err(Trouble::Unsound),
-        Shape::Indirect => Err(Trouble::Unsound),
+        _ => Err(Trouble::Unsound),
     }
 }
 

@@ -91,10 +91,7 @@ fn list_end<'a>(section: &'a [u8], tables: &[DebugUnit<'a>], at: u64) -> u128
     requires walked { tables.now ≡ walked 5 section.now }
     ensures { result ≡ spec.list_end section.now at }
 {
-    let end = match table_below(tables, at) {
-        Some(table) => end_of_table(table),
-        None => None,
-    };
+    let end = table_below(tables, at).and_then(|table| end_of_table(table));
     end.unwrap_or(section.len() as u128)
 }
 

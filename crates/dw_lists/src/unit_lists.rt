@@ -45,10 +45,8 @@ pub fn low_pc(addresses: &Addresses, attrs: &[Attr]) -> Option<u64>
     ensures { (u : Unit) (e : units.Entry) → addresses.now.base ≡ units.base DW_AT_addr_base u → e.attrs ≡ attrs.now →
         result ≡ units.low_pc addresses.now.section.now u e }
 {
-    match attr_named(DW_AT_low_pc, attrs) {
-        Some(low) => address_of(addresses, low),
-        None => None,
-    }
+    let low = attr_named(DW_AT_low_pc, attrs)?;
+    address_of(addresses, low)
 }
 
 fn base_address(addresses: &Addresses, entries: &[Entry]) -> u64

@@ -7,8 +7,9 @@ use Rattle.dw_unit.specs.declared.attribute.TheConstants.{DW_AT_low_pc}
 use Rattle.dw_unit.specs.declared.entry.Attr.{Attr}
 use Rattle.dw_lists.proofs.unit_lists.low_pc.Goals as goal
 
-pub returns-in-Some : goal.returns-in-Some
-returns-in-Some c = λ u e base same.
+pub returns : goal.returns
+returns c = λ u e base same.
     c.address_of.ensures u base
     ∙ sym (ap (λ (o : Option Attr). option_and_then (units.address_of c.args.addresses.now.section.now u) o)
-    (ap (λ (l : List Attr). find (λ (a : Attr). a.name == DW_AT_low_pc) l) same ∙ sym c.attr_named.ensures ∙ ap option_copied c.in-Some.is))
+    (ap (λ (l : List Attr). find (λ (a : Attr). a.name == DW_AT_low_pc) l) same
+    ∙ sym c.attr_named.ensures ∙ ap option_copied c.in_ok-low.was))
