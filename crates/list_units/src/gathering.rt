@@ -29,15 +29,11 @@ use table_core::form::DW_FORM_rnglistx;
 fn ranges_index(attrs: &[Attr]) -> Option<u64>
     ensures { result ≡ ranges_index attrs.now }
 {
-    match attr_named(DW_AT_ranges, attrs) {
-        Some(named) => {
-            if named.form == DW_FORM_rnglistx {
-                Some(named.value)
-            } else {
-                None
-            }
-        }
-        None => None,
+    let named = attr_named(DW_AT_ranges, attrs)?;
+    if named.form == DW_FORM_rnglistx {
+        Some(named.value)
+    } else {
+        None
     }
 }
 

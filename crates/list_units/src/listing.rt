@@ -25,10 +25,8 @@ fn list_index(attr: Attr) -> Option<u64>
 pub fn index_of(attrs: &[Attr], name: u64) -> Option<u64>
     ensures { (e : units.Entry) → e.attrs ≡ attrs.now → result ≡ spec.index_found name e }
 {
-    match attr_named(name, attrs) {
-        Some(attr) => list_index(*attr),
-        None => None,
-    }
+    let attr = attr_named(name, attrs)?;
+    list_index(*attr)
 }
 
 /// The number of the list that an attribute's expressions are in.
@@ -36,11 +34,8 @@ pub fn number_of(source: &Option<Source>) -> Option<usize>
     ensures { result ≡ option_and_then number_in source.now }
 {
     match source {
-        Some(source) => match source {
-            Source::Direct(_) => None,
-            Source::Listed(number) => Some(*number),
-        },
-        None => None,
+        Some(Source::Listed(number)) => Some(*number),
+        Some(Source::Direct(_)) | None => None,
     }
 }
 

@@ -27,10 +27,8 @@ fn ends(entries: &[OpenEntry], depth: u32) -> bool
 fn nearest(entries: &[OpenEntry]) -> Option<usize>
     ensures { result ≡ spec.nearest (reverse entries.now) }
 {
-    match entries.last() {
-        Some(last) => last.nearest,
-        None => None,
-    }
+    let last = entries.last()?;
+    last.nearest
 }
 
 // Closes the entries in which one of a depth doesn't lie.
