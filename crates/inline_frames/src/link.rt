@@ -36,39 +36,29 @@ pub struct Link {
 fn unsigned_of(name: u64, attrs: &[Attr]) -> Option<u64>
     ensures { result ≡ spec.unsigned_in name attrs.now }
 {
-    match attr_named(name, attrs) {
-        Some(attr) => {
-            if attr.form == DW_FORM_addr || is_address_index(attr.form) {
-                None
-            } else {
-                Some(attr.value)
-            }
-        }
-        None => None,
+    let attr = attr_named(name, attrs)?;
+    if attr.form == DW_FORM_addr || is_address_index(attr.form) {
+        None
+    } else {
+        Some(attr.value)
     }
 }
 
 fn value_of(name: u64, attrs: &[Attr]) -> Option<u64>
     ensures { result ≡ spec.value_in name attrs.now }
 {
-    match attr_named(name, attrs) {
-        Some(attr) => Some(attr.value),
-        None => None,
-    }
+    let attr = attr_named(name, attrs)?;
+    Some(attr.value)
 }
 
 fn line_unit_of(attrs: &[Attr]) -> Option<u64>
     ensures { result ≡ spec.line_unit_in attrs.now }
 {
-    match attr_named(DW_AT_stmt_list, attrs) {
-        Some(attr) => {
-            if attr.form == DW_FORM_sec_offset {
-                Some(attr.value)
-            } else {
-                None
-            }
-        }
-        None => None,
+    let attr = attr_named(DW_AT_stmt_list, attrs)?;
+    if attr.form == DW_FORM_sec_offset {
+        Some(attr.value)
+    } else {
+        None
     }
 }
 

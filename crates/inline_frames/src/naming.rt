@@ -35,28 +35,20 @@ pub enum Naming {
 pub fn attr_named(name: u64, attrs: &[Attr]) -> Option<Attr>
     ensures { result ≡ find (λ a. a.name == name) attrs.now }
 {
-    match dw_unit::attr_named(name, attrs) {
-        Some(attr) => Some(*attr),
-        None => None,
-    }
+    dw_unit::attr_named(name, attrs).copied()
 }
 
 // Where the text of an index stands, by the base of its unit's indices.
 fn index_place(str_offsets: &[u8], base: Option<u64>, index: u64) -> Option<TextPlace>
     ensures { result ≡ spec.index_place str_offsets.now base index }
 {
-    match base {
-        Some(base) => {
-            let place = base as u128 + 4 * index as u128;
-            if place + 4 <= str_offsets.len() as u128 {
-                let offset = LittleEndian::read_u32(&str_offsets[place as usize..]);
-                Some(TextPlace::InStr(offset as u64))
-            } else {
-                None
-            }
-        }
-        None => None,
+    let base = base?;
+    let place = base as u128 + 4 * index as u128;
+    if place + 4 > str_offsets.len() as u128 {
+        return None;
     }
+    let offset = LittleEndian::read_u32(&str_offsets[place as usize..]);
+    Some(TextPlace::InStr(offset as u64))
 }
 
 fn text_place(str_offsets: &[u8], base: Option<u64>, attr: Attr) -> Option<TextPlace>
@@ -102,10 +94,8 @@ fn reference(attrs: &[Attr]) -> Option<Attr>
 fn referred(unit: u64, attrs: &[Attr]) -> Option<u128>
     ensures { result ≡ option_and_then (spec.target_by unit) (spec.reference_in attrs.now) }
 {
-    match reference(attrs) {
-        Some(attr) => target_of(unit, attr),
-        None => None,
-    }
+    let attr = reference(attrs)?;
+    target_of(unit, attr)
 }
 
 /// How the name of a unit's entry is found, by the base of its indices of texts.

@@ -98,15 +98,6 @@ fn call_path(alloc: Global, lines: &Lines, link: Link) -> Result<Option<Vec<u8>>
     Ok(path)
 }
 
-fn or_zero(number: Option<u64>) -> u64
-    ensures { result ≡ spec.or_zero number }
-{
-    match number {
-        Some(n) => n,
-        None => 0,
-    }
-}
-
 /// Where control is in the function around an inlined one: at its call.
 pub fn call_position(alloc: Global, lines: &Lines, link: Link) -> Result<Position, NoMemory>
     ensures { IfOk result (λ p. p ≡ spec.call_position lines.now link) }
@@ -115,7 +106,7 @@ pub fn call_position(alloc: Global, lines: &Lines, link: Link) -> Result<Positio
     let path = or_unknown(alloc, said)?;
     Ok(Position {
         path,
-        line: or_zero(link.line),
-        column: or_zero(link.column),
+        line: link.line.unwrap_or(0),
+        column: link.column.unwrap_or(0),
     })
 }
