@@ -42,16 +42,9 @@ pub fn has_index_header(segments: &[Segment]) -> bool
 pub fn registered_frames(elf: &Elf) -> Option<u64>
     ensures { MatchOption result ((place : ℕ) → IsRegisteredFrames elf.now place → ⊥) (IsRegisteredFrames elf.now) }
 {
-    match elf.section_called(EH_FRAME) {
-        Some(section) => {
-            if section.size == 0
-                || has_index_header(&elf.segments)
-                || !some_registers(&elf.symbols)
-            {
-                return None;
-            }
-            Some(section.addr)
-        }
-        None => None,
+    let section = elf.section_called(EH_FRAME)?;
+    if section.size == 0 || has_index_header(&elf.segments) || !some_registers(&elf.symbols) {
+        return None;
     }
+    Some(section.addr)
 }
