@@ -107,9 +107,10 @@ pub fn places_at(
 pub fn unless_empty(places: Vec<PlaceAt>) -> Option<Vec<PlaceAt>>
     ensures { option_map all_said result ≡ steps.unless_empty (all_said places) }
 {
-    match places.first() {
-        Some(_) => Some(places),
-        None => None,
+    if places.is_empty() {
+        None
+    } else {
+        Some(places)
     }
 }
 

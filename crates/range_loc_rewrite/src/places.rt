@@ -11,10 +11,8 @@ use std::alloc::Global;
 fn place_at(ranged: &[RangedEntry], number: usize) -> Option<u64>
     ensures { result ≡ place_at ranged.now number }
 {
-    match ranged.get(number) {
-        Some(entry) => Some(entry.place),
-        None => None,
-    }
+    let entry = ranged.get(number)?;
+    Some(entry.place)
 }
 
 fn put_place(places: &mut Vec<u64>, place: Option<u64>) -> Result<(), NoMemory>
@@ -48,8 +46,9 @@ pub fn places_of(
 pub fn unless_empty(places: Vec<u64>) -> Option<Vec<u64>>
     ensures { option_map (λ ps. ps.items) result ≡ unless_empty places.items }
 {
-    match places.first() {
-        Some(_) => Some(places),
-        None => None,
+    if places.is_empty() {
+        None
+    } else {
+        Some(places)
     }
 }
