@@ -5,6 +5,7 @@ ghost use Rattle.dw_unit.specs.Faults.{FaultPlaces as Places, HasDwarfFault};
 ghost use Rattle.addr_rewrite.specs.ArangesReading.{AreKept};
 ghost use Rattle.addr_rewrite.specs.Tables.{places_by};
 
+use crate::put_tables::VERSION;
 use crate::table_list::read_tables;
 use crate::unit_index::UnitIndex;
 use dw_unit::address_table::other_version;
@@ -12,9 +13,6 @@ use dw_unit::fault_places::{FaultPlaces, refused};
 use rb_bytes::fault::Refusal;
 use std::alloc::Global;
 use table_core::debug_units;
-
-// The version of tables of ranges of addresses.
-const VERSION: u16 = 2;
 
 /// Reads a section of tables, or refuses it for the first of its faults and of those of units, which come before its
 /// own.

@@ -7,8 +7,8 @@ use crate::stretch::Stretch;
 use rb_bytes::fault::NoMemory;
 use rb_bytes::little::{put_u16, put_u32, put_u64};
 
-// The version of tables of ranges of addresses.
-const VERSION: u16 = 2;
+/// The version of tables of ranges of addresses that is read and written.
+pub const VERSION: u16 = 2;
 
 // An address size of 8, and a segment selector size of 0.
 const SIZES: u16 = 8;

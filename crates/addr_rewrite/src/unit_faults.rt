@@ -16,8 +16,8 @@ use rb_bytes::fault::NoMemory;
 use std::alloc::Global;
 use table_core::{DebugUnit, debug_units};
 
-// The version of DWARF that is read.
-const VERSION: u16 = 5;
+/// The version of DWARF that is read.
+pub const VERSION: u16 = 5;
 
 // The place of a unit that can't be read.
 fn bad_place(place: u64, reading: &UnitReading) -> Option<u64>
