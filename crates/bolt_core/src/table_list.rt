@@ -8,13 +8,12 @@ ghost use Rattle.bolt_core.specs.internal.GivenIndex.{CanIndex, IsIndexFor};
 
 use elf_image::Elf;
 use elf_image::named::EH_FRAME;
+use elf_plan::given_tables::DEBUG_RNGLISTS;
 use elf_write::{Table, table_places};
 use frame_rewrite::{has_index_header, header};
 use rb_bytes::fault::NoMemory;
 use std::alloc::Global;
 use table_set::AllWritten;
-
-const DEBUG_RNGLISTS: &[u8] = b".debug_rnglists";
 
 // Whether a file has an unwind table that it loads.
 fn has_frames(elf: &Elf) -> bool
