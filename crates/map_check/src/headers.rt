@@ -11,8 +11,19 @@ ghost use Rattle.code_starts.specs.LoadedMemory.{IsLow};
 ghost use Rattle.map_check.specs.internal.Headers.{AreHeadersOf, file_fields};
 
 use elf_image::code_segment::{executable_end, executable_segment, is_executable_segment};
+use elf_image::header::{E_ENTRY, E_PHNUM, E_PHOFF, E_SHNUM, E_SHOFF, E_SHSTRNDX};
 use elf_image::segment::{PHDR_SIZE, PT_GNU_EH_FRAME, entry_segment};
 use elf_image::{Elf, Segment};
+
+// Where fields of a program header stand. gABI, "Program Header".
+const P_OFFSET: u128 = 8;
+
+const P_FILESZ: u128 = 32;
+
+// How many bytes its sizes have, `p_filesz` and `p_memsz`, and how many all fields from `p_offset` up to `p_memsz`.
+const SIZES: u64 = 16;
+
+const PLACES: u64 = 40;
 
 /// What tells which fields of a file's headers are hidden.
 #[derive(Clone, Copy, PartialEq, Eq, Debug)]
@@ -31,7 +42,7 @@ fn entry_address(elf: &Elf) -> Option<u64>
     ensures { result ≡ address_of elf.now e_entry_field }
 {
     match entry_segment(&elf.segments) {
-        Some(p) => Some(p.vaddr + (0x18 - p.offset)),
+        Some(p) => Some(p.vaddr + (E_ENTRY as u64 - p.offset)),
         None => None,
     }
 }
@@ -77,7 +88,9 @@ fn table_moves(elf: &Elf, headers: &Headers) -> bool
 fn in_section_fields(offset: u128) -> bool
     ensures { result ≡ list_any (is_in_range offset) section_fields }
 {
-    has(0x28, 8, offset) || has(0x3c, 2, offset) || has(0x3e, 2, offset)
+    has(E_SHOFF as u128, 8, offset)
+        || has(E_SHNUM as u128, 2, offset)
+        || has(E_SHSTRNDX as u128, 2, offset)
 }
 
 // Whether an offset is one of a hidden field of the file's header.
@@ -86,9 +99,16 @@ fn in_file_header(elf: &Elf, headers: &Headers, offset: u128) -> bool
         result ≡ list_any (is_in_range offset) (file_fields elf.now tight) }
 {
     let in_sections = in_section_fields(offset);
-    let in_phoff = or_has(in_sections, table_moves(elf, headers), 0x20, 8, offset);
-    let in_phnum = or_has(in_phoff, headers.tight, 0x38, 2, offset);
-    or_has(in_phnum, headers.entry.is_none(), 0x18, 8, offset)
+    let moves = table_moves(elf, headers);
+    let in_phoff = or_has(in_sections, moves, E_PHOFF as u128, 8, offset);
+    let in_phnum = or_has(in_phoff, headers.tight, E_PHNUM as u128, 2, offset);
+    or_has(
+        in_phnum,
+        headers.entry.is_none(),
+        E_ENTRY as u128,
+        8,
+        offset,
+    )
 }
 
 // Whether the bytes of a segment stand behind those of the executable one.
@@ -106,9 +126,15 @@ fn in_program_header(elf: &Elf, headers: &Headers, index: usize, p: &Segment, of
 {
     let at = elf.phoff as u128 + PHDR_SIZE as u128 * index as u128;
     let is_executable = is_executable_segment(headers.executable, index);
-    let in_sizes = or_has(false, is_executable, at + 32, 16, offset);
-    let in_offset = or_has(in_sizes, is_behind(headers, p), at + 8, 8, offset);
-    or_has(in_offset, p.kind == PT_GNU_EH_FRAME, at + 8, 40, offset)
+    let in_sizes = or_has(false, is_executable, at + P_FILESZ, SIZES, offset);
+    let in_offset = or_has(in_sizes, is_behind(headers, p), at + P_OFFSET, 8, offset);
+    or_has(
+        in_offset,
+        p.kind == PT_GNU_EH_FRAME,
+        at + P_OFFSET,
+        PLACES,
+        offset,
+    )
 }
 
 // The index of the program header that has an offset.

@@ -12,7 +12,7 @@ returns c = λ tight of.
     let f = is_in_range c.args.offset in
     let moves = tight || nat_le (executable_end elf.segments.items) elf.phoff in
     let one = joined f section_fields (only moves e_phoff_field) _ _ c.in_section_fields-in_sections.ensures
-    (under f e_phoff_field _ moves _ _ (c.table_moves.ensures tight of) c.or_has-in_phoff.ensures) in
+    (under f e_phoff_field _ moves _ _ (c.table_moves-moves.ensures tight of) c.or_has-in_phoff.ensures) in
     let two = joined f (section_fields ++ only moves e_phoff_field) (only tight e_phnum_field) _ _ one
     (under f e_phnum_field _ tight _ _ of.tight_is c.or_has-in_phnum.ensures) in
     joined f (section_fields ++ only moves e_phoff_field ++ only tight e_phnum_field)
