@@ -74,15 +74,12 @@ pub fn row_position(alloc: Global, lines: &Lines, a: u64) -> Result<Position, No
     ensures { IfOk result (λ p. p ≡ spec.row_position lines.now a) }
 {
     let Some(said) = lines.at(alloc, a)? else {
-        let unknown = no_position(alloc)?;
-        return Ok(unknown);
+        return no_position(alloc);
     };
     let Some(row) = last_row(&said.rows) else {
-        let unknown = no_position(alloc)?;
-        return Ok(unknown);
+        return no_position(alloc);
     };
-    let position = position_of(alloc, row)?;
-    Ok(position)
+    position_of(alloc, row)
 }
 
 fn call_path(alloc: Global, lines: &Lines, link: Link) -> Result<Option<Vec<u8>>, NoMemory>
@@ -94,8 +91,7 @@ fn call_path(alloc: Global, lines: &Lines, link: Link) -> Result<Option<Vec<u8>>
     let Some(file) = link.file else {
         return Ok(None);
     };
-    let path = lines.path(alloc, unit, file)?;
-    Ok(path)
+    lines.path(alloc, unit, file)
 }
 
 /// Where control is in the function around an inlined one: at its call.
