@@ -56,8 +56,8 @@ fn text_at(alloc: Global, texts: Texts<'_>, place: TextPlace) -> Result<Option<V
             let bytes = piece(alloc, texts.info, place, len)?;
             Ok(Some(bytes))
         }
-        TextPlace::InStr(offset) => { text_in(alloc, texts.str, offset) }
-        TextPlace::InLineStr(offset) => { text_in(alloc, texts.line_str, offset) }
+        TextPlace::InStr(offset) => text_in(alloc, texts.str, offset),
+        TextPlace::InLineStr(offset) => text_in(alloc, texts.line_str, offset),
     }
 }
 
@@ -71,7 +71,7 @@ pub fn text_named(
         s.line_str ≡ texts.entry.line_str.now → option_map (λ bytes. bytes.items) o ≡ spec.text_named s naming) }
 {
     match naming {
-        Naming::Named(Some(place)) => { text_at(alloc, texts, place) }
+        Naming::Named(Some(place)) => text_at(alloc, texts, place),
         Naming::Named(None) => Ok(None),
         Naming::Refers(_) => Ok(None),
     }
