@@ -43,6 +43,5 @@ pub fn new_tables(
     ensures { IfOk result (λ given. AreNewTables elf.now tables.now map.now start code given.items) }
 {
     let written = carry_all(alloc, elf, tables, map)?;
-    let given = listed(alloc, elf, start, code, written)?;
-    Ok(given)
+    listed(alloc, elf, start, code, written)
 }

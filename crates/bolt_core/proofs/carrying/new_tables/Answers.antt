@@ -1,3 +1,4 @@
+use Rattle.std.proofs.lemmas.Result.{IfOk-weaker}
 use Rattle.bolt_core.proofs.GivenRoom.{can_index}
 use Rattle.bolt_core.proofs.carrying.new_tables.Goals as goal
 
@@ -7,8 +8,8 @@ listed-requires c = λ indexed.
     c.requires.low c.requires.room c.in_ok-written.written c.in_ok-written.ensures indexed
 
 pub returns : goal.returns
-returns c = record {
+returns c = IfOk-weaker c.listed.result _ _ (λ given are. record {
   written = c.in_ok-written.written;
   are_carried = c.in_ok-written.ensures;
-  are_listed = c.in_ok-given.ensures;
-}
+  are_listed = are;
+}) c.listed.ensures
