@@ -15,7 +15,7 @@ use std::alloc::Global;
 
 // How many bytes of memory the entries of a unit take at most, for each of its bytes and beside: entries can have one byte,
 // and attributes of some forms, as DW_FORM_flag_present, none, so that few bytes could list any number of them.
-const MEMORY_A_BYTE: usize = 60;
+const MEMORY_A_BYTE: usize = 56;
 
 const MEMORY_BESIDE: usize = 1 << 24;
 
