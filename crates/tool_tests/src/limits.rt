@@ -1,5 +1,5 @@
 // Files that pass a limit.
-use crate::sessions::{files_with, play, play_rows};
+use crate::sessions::{commands_refuse, files_with, input, play};
 use elf_image::section::SHDR_SIZE;
 use elf_image::segment::{PF_R, PF_X};
 use rb_io::MemFiles;
@@ -7,7 +7,7 @@ use std::alloc::Global;
 use std::test::Fail;
 use test_files::bytes::patch;
 use test_files::file::{BASE, CODE};
-use test_files::words::file_in_words;
+use test_files::words::{file_in_words, rows};
 use test_files::{ElfFile, Section};
 
 // One more byte than the longest file that is read has.
@@ -89,15 +89,33 @@ $ run --symbols in | 221 TooLarge 3 0 0 refused 28 TooLarge at 3/ \
     )
 }
 
-const SECTIONS: &str = "\
-# A file with 65,001 section headers is run, and isn't rewritten.
+// A map of the example's instructions to themselves, which as a profile has four lines that are ignored.
+const HEADERS: &str = "\
+# Files with 65,001 section headers, and with as many program headers, which stand behind all else.
 like exit7
-- patch 3c e9fd | size 3f7ae0 => $ rewrite in profile out map | 221 TooLarge 5 0 0 refused 28 TooLarge at 5/
-     | none out | none map | $ run in | 7 Ended(7) [ended 7 after 4 steps]/";
+profile 10078 4 10078
+profile 1007c 4 1007c
+profile 10080 4 10080
+profile 10084 4 10084
+- patch 3c e9fd | size 3f7ae0 => 221 TooLarge 5 0 0 refused 28 TooLarge at 5/
+- headers last | patch 38 e9fd | size 378c58 => 221 TooLarge 5 0 0 refused 28 TooLarge at 5/";
+
+// What the commands answer that write no program.
+const READ: &str = "\
+$ run in | 7 Ended(7) [ended 7 after 4 steps]/ | $ run --symbols in | 7 Ended(7) [ended 7 after 4 steps]/ \
+| $ record in out | 7 Ended(7) [ended 7 after 4 steps]/ | $ repair in profile out | 0 Ok 2 links, total change 0/ \
+| $ lookup in 10078 | 0 Ok none/ | $ frames in 10078 | 0 Ok none/ | $ verify in in profile | 0 Ok faithful/";
 
 #[test]
-fn too_many_sections(rt: HostRuntime) -> Result<(), Fail> {
-    play_rows(&rt, rt.alloc(), SECTIONS)
+fn too_many_headers(rt: HostRuntime) -> Result<(), Fail> {
+    let alloc = rt.alloc();
+    let commands = ["$ rewrite in profile out map", "$ map in profile"];
+    commands_refuse(&rt, alloc, &commands, HEADERS)?;
+    for row in &rows(alloc, HEADERS)? {
+        let mut files = files_with(alloc, &row.words, input(&rt, alloc, row)?)?;
+        play(&rt, alloc, &mut files, &row.words, READ)?;
+    }
+    Ok(())
 }
 
 // How many sections share one name, and its length.
