@@ -69,7 +69,24 @@ unloaded .debug_rnglists 0 1000000005000800000000000480810488810400
      | bytes out b5 19000000050001080000000001020c000000020c000000020c000000001300000005000800000000000798000100000000\
 000400
      | $ lookup out 10097 | 0 Ok none/ | $ lookup out 10098 | 0 Ok covers d/covers 12/covers 17/
-     | $ lookup out 1009b | 0 Ok covers d/covers 12/covers 17/ | $ lookup out 1009c | 0 Ok none/";
+     | $ lookup out 1009b | 0 Ok covers d/covers 12/covers 17/ | $ lookup out 1009c | 0 Ok none/
+
+# Three variables, at 19, 1e and 23, that name one list: DW_OP_reg0 in the 8 bytes from 10080 on. The output has it
+# once, and all three name it. Their unit's end becomes a list of ranges, at c too, and its start is 0.
+like countdown
+profile 1 @10078 c 1 @10078 4 0 3
+profile 1 @10078 4 1 @10078 10 0 1
+unloaded .debug_abbrev 0 0111011101120600000234000217000000
+unloaded .debug_info 0 25000000050001080000000001780001000000000018000000020c000000020c000000020c00000000
+unloaded .debug_loclists 0 0e0000000500080000000000040810015000
+- => $ lookup in 10080 | 0 Ok covers c/places 19 2 50/places 1e 2 50/places 23 2 50/
+     | $ rewrite in profile out map
+     | 0 Ok moved 1 functions, 6 instructions, 24 bytes; 3 hot blocks; 0 profile lines ignored/
+     | bytes out b9 2500000005000108000000000100000000000000000c000000020c000000020c000000020c000000001500000005000800\
+0000000008980001000000000004015000
+     | $ lookup out 10097 | 0 Ok covers c/
+     | $ lookup out 10098 | 0 Ok covers c/places 19 2 50/places 1e 2 50/places 23 2 50/
+     | $ lookup out 1009c | 0 Ok covers c/";
 
 #[test]
 fn ranges_and_locations_move(rt: HostRuntime) -> Result<(), Fail> {
