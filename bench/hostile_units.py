@@ -225,10 +225,10 @@ MIXED = 96  # instructions of a function of `mixed`
 
 
 def mixed_entries(count):
-    """So many times, in 23 bytes: an entry with a range, a variable with a list of its own, one with an expression, and
-    ten entries of a byte. By what the entries of a unit may take, nine of these ten may have an attribute."""
+    """So many times, in 23 bytes: an entry with a range, a variable with a list of its own, and twelve entries of a
+    byte. By what the entries of a unit may take, nine of these twelve may have an attribute."""
     lists = (struct.pack("<I", 12 + 6 * k) for k in range(count))
-    return b"".join(b"\2\0\4\0\0\0\3" + offset + b"\4\0" + b"\5" * 9 + b"\6" for offset in lists)
+    return b"".join(b"\2\0\4\0\0\0\3" + offset + b"\4" * 9 + b"\5" * 3 for offset in lists)
 
 
 def mixed_code(size):
@@ -245,14 +245,14 @@ def mixed_code(size):
 
 
 def mixed(size):
-    """All at once, of which each has a bound of its own: for each 32 bytes of the file a range, a list of one location
-    and two variables, in a unit whose entries take about as much as they may; and rows of lines and of frames."""
+    """All at once, of which each has a bound of its own: for each 32 bytes of the file a range and a variable with a
+    list of one location, in a unit whose entries take about as much as they may; and rows of lines and of frames."""
     count = size // 32
     fields = ((0x11, 0x01), (0x12, 0x06), (0x73, 0x17))  # DW_AT_addr_base by DW_FORM_sec_offset
     declarations = declaration(1, 0x11, 1, *fields)
     declarations += declaration(2, 0x0B, 0, (0x11, 0x29), (0x12, 0x06))  # by DW_FORM_addrx1 and DW_FORM_data4
-    declarations += declaration(3, 0x34, 0, (0x02, 0x17)) + declaration(4, 0x34, 0, (0x02, 0x18))
-    declarations += declaration(5, 0x34, 0, (0x3F, 0x19)) + declaration(6, 0x34, 0) + b"\0"  # DW_FORM_flag_present
+    declarations += declaration(3, 0x34, 0, (0x02, 0x17))
+    declarations += declaration(4, 0x34, 0, (0x3F, 0x19)) + declaration(5, 0x34, 0) + b"\0"  # DW_FORM_flag_present
     code, tables = mixed_code(size - 29 * count)
     info = unit(b"\1" + bounds(0, len(code)) + struct.pack("<I", 8) + mixed_entries(count) + b"\0")
     places = (location(0, 4, b"\x50") + b"\0") * count
