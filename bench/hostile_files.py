@@ -76,16 +76,16 @@ def function_symbols(size, text_of):
     starts = [1 + k * (len(text) // count) for k in range(count)]
     file = File(RETURN * count)
     file.add_symbols([(starts[k], BASE + TEXT + 4 * k, 4) for k in range(count)], b"\0" + text + b"\0")
-    return file, [text[start - 1 :] for start in starts]
+    return file.bytes(), b""
 
 
 def symbol_names(size):
-    return function_symbols(size, long_name)[0].bytes(), b""
+    return function_symbols(size, long_name)
 
 
 def like_names(size):
     """All letters are alike, so that names differ in their lengths alone."""
-    return function_symbols(size, lambda length: b"a" * length)[0].bytes(), b""
+    return function_symbols(size, lambda length: b"a" * length)
 
 
 def named_names(size):
