@@ -52,7 +52,7 @@ LARGE = {
     "small-locations": 65000,
     "one-range-list": 65000,
     "default-locations": 65000,
-    "mixed": 65000,
+    "mixed": 65500,
 }
 # The commands, with the words behind the tool's.
 COMMANDS = {
@@ -117,7 +117,7 @@ def make(given, kind, times, folder):
     size = (LARGE[kind] // 4 if given.large else given.kib) * 1024 * times
     # in a process of its own, since a child's peak counts what its parent had when it began
     maker = [sys.executable, os.path.abspath(__file__), "--write", kind, str(size), names["file"], names["profile"]]
-    subprocess.run(maker, check=True)
+    subprocess.run(maker, check=True, preexec_fn=limit)
     return names | {"address": BASE + TEXT}
 
 

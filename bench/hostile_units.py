@@ -224,13 +224,6 @@ def inlined_names(size):
 MIXED = 96  # instructions of a function of `mixed`
 
 
-def mixed_entries(count):
-    """So many times, in 23 bytes: an entry with a range, a variable with a list of its own, and twelve entries of a
-    byte. By what the entries of a unit may take, nine of these twelve may have an attribute."""
-    lists = (struct.pack("<I", 12 + 6 * k) for k in range(count))
-    return b"".join(b"\2\0\4\0\0\0\3" + offset + b"\4" * 9 + b"\5" * 3 for offset in lists)
-
-
 def mixed_code(size):
     """Functions with tables of lines and of frames that have a row for each instruction, in about so many bytes."""
     count = max(1, size // (7 * MIXED))
@@ -244,17 +237,29 @@ def mixed_code(size):
     return code, {".debug_line": lines, ".debug_frame": frame_entry(head) + entry}
 
 
+def mixed_entries(count, size):
+    """In so many bytes: entries with a range, as many variables with a list of one location each, and entries of a byte
+    with as many attributes without bytes as the entries of a unit may have by the memory that they take (56 bytes for
+    each of theirs and 2^24 beside; an entry takes 56 and an attribute 48)."""
+    single = size - 11 * count
+    left = 56 * size + (1 << 24) - 256 * count - 56 * single - 4096
+    flagged = min(single, left // 48)
+    listed = b"".join(b"\2\0\4\0\0\0\3" + struct.pack("<I", 12 + 6 * k) for k in range(count))
+    return b"\4" * flagged + b"\5" * (single - flagged) + listed
+
+
 def mixed(size):
-    """All at once, of which each has a bound of its own: for each 32 bytes of the file a range and a variable with a
-    list of one location, in a unit whose entries take about as much as they may; and rows of lines and of frames."""
-    count = size // 32
+    """Near all bounds at once: as many ranges and locations as are kept of a file of this size, one for each 32 bytes
+    and 2^18 beside, in a unit whose entries take as much as they may; and rows of lines and of frames."""
+    count = min(size // 32 + (1 << 18) - 2000, size // 28)
+    code, tables = mixed_code(size // 64)
     fields = ((0x11, 0x01), (0x12, 0x06), (0x73, 0x17))  # DW_AT_addr_base by DW_FORM_sec_offset
     declarations = declaration(1, 0x11, 1, *fields)
     declarations += declaration(2, 0x0B, 0, (0x11, 0x29), (0x12, 0x06))  # by DW_FORM_addrx1 and DW_FORM_data4
     declarations += declaration(3, 0x34, 0, (0x02, 0x17))
     declarations += declaration(4, 0x34, 0, (0x3F, 0x19)) + declaration(5, 0x34, 0) + b"\0"  # DW_FORM_flag_present
-    code, tables = mixed_code(size - 29 * count)
-    info = unit(b"\1" + bounds(0, len(code)) + struct.pack("<I", 8) + mixed_entries(count) + b"\0")
+    entries = mixed_entries(count, size - size // 64 - 6 * count)
+    info = unit(b"\1" + bounds(0, len(code)) + struct.pack("<I", 8) + entries + b"\0")
     places = (location(0, 4, b"\x50") + b"\0") * count
     tables |= {".debug_info": info, ".debug_abbrev": declarations}
     tables[".debug_loclists"] = struct.pack("<IHBBI", 8 + len(places), 5, 8, 0, 0) + places
