@@ -15,15 +15,18 @@ output that takes nothing.
 
 What is reported (`fuzzed/promises.py`): a status or a text that isn't one of the command's, a fault that it doesn't
 look for, a signal, a file that is written where none should be or isn't where it should, seconds of the processor that
-aren't near-linear in the size of the files (0.25 and 4 millionths a byte), memory of more than 64 times their size
-(and 16 MiB) or more than 1 GiB; and, of some: a rewrite that `verify` doesn't call faithful, that `map` prints
+aren't near-linear in the size of the files (0.25 and 4 millionths a byte), memory of more than 64 times their size and
+16 MiB beside, or of more than 1 GiB; and, of some: a rewrite that `verify` doesn't call faithful, that `map` prints
 otherwise, that ends otherwise than the input does on the symbol machine, or of which `lookup` or `frames` says
-something else than of the input. With --keep the files of what is reported, or of a single input, stay in FOLDER, in a
-folder each, with the words. The last lines count the answers of each command. `out of memory`, where the same command
-isn't so with all the memory there is, is reported; else it is only counted, with the first such input of each command.
-With --minutes no input is begun after that time. With --runs a line on the run is added to FILE: which inputs of which
-program were tried (the first digits of its SHA-256), and what came of them. The status is 0 where nothing was
-reported.
+something else than of the input. The promise is wider (docs/DECISIONS.md, "Written tables"): 64 times the size and
+1 GiB beside, and 6 millionths of a second a byte and 3 seconds beside. Less is asked for here on purpose, since these
+files are small: one of a few KiB could take a GiB, or seconds, unseen.
+
+With --keep the files of what is reported, or of a single input, stay in FOLDER, in a folder each, with the words. The
+last lines count the answers of each command. `out of memory`, where the same command isn't so with all the memory there
+is, is reported; else it is only counted, with the first such input of each command. With --minutes no input is begun
+after that time. With --runs a line on the run is added to FILE: which inputs of which program were tried (the first
+digits of its SHA-256), and what came of them. The status is 0 where nothing was reported.
 """
 from __future__ import annotations
 import argparse
