@@ -70,7 +70,7 @@ def line_rows(size):
 
 def line_sequences(size):
     """All sequences cover the same functions, the first of which answers."""
-    count = min(size // 40, 20_000)
+    count = min(size // 160, 20_000)
     sequence = line_sequence(BASE + TEXT, b"\x12\2" + uleb(4 * count))
     return lined_functions(count, 1, lambda _: sequence * ((size - 28 * count) // len(sequence)))
 
