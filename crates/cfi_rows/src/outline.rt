@@ -12,8 +12,11 @@ use std::alloc::Global;
 /// How the canonical frame address is found, if it is.
 #[derive(Clone, Copy, PartialEq, Eq, Debug)]
 pub enum FrameKind {
+    /// It isn't said.
     Nothing,
+    /// By a register and an offset.
     Register,
+    /// By an expression.
     Expression,
 }
 

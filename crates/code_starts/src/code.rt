@@ -35,7 +35,8 @@ pub fn halfword_at(elf: &Elf, address: u64) -> u16
     halfword(bytes[0], bytes[1])
 }
 
-fn halfword(low: u8, high: u8) -> u16
+/// The halfword of two bytes.
+pub(crate) fn halfword(low: u8, high: u8) -> u16
     ensures { result ≡ low + 256 * high }
 {
     low as u16 + 256 * high as u16

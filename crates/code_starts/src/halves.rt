@@ -4,6 +4,7 @@ ghost use Rattle.elf_image.specs.declared.elf.Elf.{Elf};
 ghost use Rattle.rb_lanes.specs.Marks.{is_marked};
 ghost use Rattle.code_starts.specs.Halves.{AreBytesOf, AreHalvesOf, AreMarksOf};
 
+use crate::code::halfword;
 use crate::loaded::bytes_from;
 use crate::parts::Part;
 use elf_image::Elf;
@@ -29,9 +30,7 @@ fn push_halves(halves: &mut Vec<u16>, bytes: &[u8]) -> Result<(), NoMemory>
         OnOk result (AreHalvesOf elf part halves.new.items) }
 {
     for index in 0..bytes.len() / 2 {
-        let low = bytes[2 * index];
-        let high = bytes[2 * index + 1];
-        halves.push(low as u16 + 256 * high as u16)?;
+        halves.push(halfword(bytes[2 * index], bytes[2 * index + 1]))?;
     }
     if bytes.len() % 2 == 1 {
         halves.push(bytes[bytes.len() - 1] as u16)?;

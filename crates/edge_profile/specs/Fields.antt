@@ -23,5 +23,5 @@ fields_in (Some line) = fields line.now
 
 abbrev pub list_of_eight : EightFields → List (List ℕ)
 list_of_eight f =
-    f.one.now ∷ f.from.now ∷ f.from_offset.now ∷ f.other.now ∷ f.to.now ∷ f.to_offset.now
+    f.from_is_symbol.now ∷ f.from.now ∷ f.from_offset.now ∷ f.to_is_symbol.now ∷ f.to.now ∷ f.to_offset.now
     ∷ f.mispredictions.now ∷ f.count.now ∷ []

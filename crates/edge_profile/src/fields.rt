@@ -3,8 +3,8 @@ ghost use Rattle.std.specs.Prelude.{◌≡◌, ◌≢◌, ◌∷◌, [], IfSome,
 ghost use Rattle.edge_profile.specs.Grammar.{fields, branch_line};
 ghost use Rattle.edge_profile.specs.Fields.{line_read, place_read, fields_in, list_of_eight, named_place_of};
 
-use crate::split::split_once;
 use rb_bytes::number::{decimal_number, hex_number};
+use rb_bytes::split::split_once;
 
 /// So many bytes after the start of a function with a name.
 #[derive(Clone, Copy)]
@@ -24,10 +24,10 @@ pub struct Line<'a> {
 /// The eight fields of a line, in order.
 #[derive(Clone, Copy)]
 pub struct EightFields<'a> {
-    pub one: &'a [u8],
+    pub from_is_symbol: &'a [u8],
     pub from: &'a [u8],
     pub from_offset: &'a [u8],
-    pub other: &'a [u8],
+    pub to_is_symbol: &'a [u8],
     pub to: &'a [u8],
     pub to_offset: &'a [u8],
     pub mispredictions: &'a [u8],
@@ -59,10 +59,10 @@ fn eight_fields(line: &[u8]) -> Option<EightFields<'_>>
 {
     let mut left = Some(line);
     let eight = EightFields {
-        one: next_field(&mut left)?,
+        from_is_symbol: next_field(&mut left)?,
         from: next_field(&mut left)?,
         from_offset: next_field(&mut left)?,
-        other: next_field(&mut left)?,
+        to_is_symbol: next_field(&mut left)?,
         to: next_field(&mut left)?,
         to_offset: next_field(&mut left)?,
         mispredictions: next_field(&mut left)?,
@@ -79,10 +79,10 @@ pub fn branch_line(line: &[u8]) -> Option<Line<'_>>
     ensures { option_map line_read result ≡ branch_line (fields line.now) }
 {
     let fields = eight_fields(line)?;
-    if !is_one(fields.one) {
+    if !is_symbol(fields.from_is_symbol) {
         return None;
     }
-    if !is_one(fields.other) {
+    if !is_symbol(fields.to_is_symbol) {
         return None;
     }
     if decimal_number(fields.mispredictions).is_none() {
@@ -94,7 +94,8 @@ pub fn branch_line(line: &[u8]) -> Option<Line<'_>>
     Some(Line { from, to, count })
 }
 
-fn is_one(field: &[u8]) -> bool
+// Whether a field says that a name and an offset follow.
+fn is_symbol(field: &[u8]) -> bool
     ensures { result ≡ bytes_eq field.now (49 ∷ []) }
 {
     field == b"1".as_slice()

@@ -9,7 +9,6 @@ pub mod pairs;
 pub mod places;
 mod profile;
 mod reading;
-mod split;
 mod symbol_values;
 pub mod weights;
 

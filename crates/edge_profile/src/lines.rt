@@ -2,7 +2,7 @@
 ghost use Rattle.std.specs.Prelude.{◌≡◌, ◌<◌, ◌∷◌, length};
 ghost use Rattle.edge_profile.specs.Grammar.{lines};
 
-use crate::split::split_once;
+use rb_bytes::split::split_once;
 
 /// The lines of a text, without their line feeds. The last may lack it.
 #[derive(Drop)]

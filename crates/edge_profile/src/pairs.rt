@@ -16,8 +16,7 @@ pub fn merged(
     ensures { IfOk result (λ pairs. AreMerged said.items pairs.items) }
 {
     sort_by_pair(&mut said);
-    let pairs = merged_sorted(alloc, &said)?;
-    Ok(pairs)
+    merged_sorted(alloc, &said)
 }
 
 fn sort_by_pair(said: &mut Vec<(u64, u64, u64)>)

@@ -77,9 +77,8 @@ fn note_value(known: &mut Vec<Option<Option<u64>>>, name: Option<usize>, value: 
     requires { IfSome name (λ k. k < length known.old.items) }
     ensures { known.new.items ≡ noted_value known.old.items name value }
 {
-    match name {
-        Some(name) => known[name] = Some(next_known(known[name], value)),
-        None => {}
+    if let Some(name) = name {
+        known[name] = Some(next_known(known[name], value));
     }
 }
 

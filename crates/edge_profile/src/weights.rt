@@ -70,9 +70,8 @@ fn raise(numbers: &mut [u128], place: Option<usize>, by: u128)
     requires fits { (k : ℕ) → slice_index numbers.old k + by < 2 ^ 128 }
     ensures { numbers.new ≡ raised_at numbers.old place by }
 {
-    match place {
-        Some(at) => numbers[at] += by,
-        None => {}
+    if let Some(at) = place {
+        numbers[at] += by;
     }
 }
 

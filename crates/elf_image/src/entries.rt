@@ -23,12 +23,29 @@ pub struct SegmentTable<'a> {
 impl<'a> SegmentTable<'a> {
     ghost use Rattle.elf_image.specs.file.Header.{segment};
 
+    /// How many program headers there are.
+    pub fn count(self) -> usize
+        ensures { result ≡ e_phnum self.entry.file.now }
+    {
+        let file = self.file;
+        Header { file }.fields().phnum as usize
+    }
+
+    /// Where the program header of an index stands.
+    pub fn place(self, index: usize) -> u64
+        requires { index < e_phnum self.file.now }
+        ensures { result ≡ segment_place self.entry.file.now index }
+    {
+        let file = self.file;
+        Header { file }.fields().phoff + PHDR_SIZE as u64 * index as u64
+    }
+
     /// The program header of an index.
     pub fn segment_of(self, index: usize) -> Segment
         requires { index < e_phnum self.file.now }
         ensures { result ≡ segment self.entry.file.now index }
     {
-        Segment::at(self.file, segment_place(self, index) as usize)
+        Segment::at(self.file, self.place(index) as usize)
     }
 }
 
@@ -43,47 +60,30 @@ pub struct SectionTable<'a> {
 impl<'a> SectionTable<'a> {
     ghost use Rattle.elf_image.specs.file.Sections.{section_header};
 
+    /// How many section headers there are.
+    pub fn count(self) -> usize
+        ensures { result ≡ e_shnum self.entry.file.now }
+    {
+        let file = self.file;
+        Header { file }.fields().shnum as usize
+    }
+
+    /// Where the section header of an index stands.
+    pub fn place(self, index: usize) -> u64
+        requires { index < e_shnum self.file.now }
+        ensures { result ≡ section_place self.entry.file.now index }
+    {
+        let file = self.file;
+        Header { file }.fields().shoff + SHDR_SIZE as u64 * index as u64
+    }
+
     /// The section header of an index.
     pub fn section_of(self, index: usize) -> SectionHeader
         requires { index < e_shnum self.file.now }
         ensures { result ≡ section_header self.entry.file.now index }
     {
-        SectionHeader::at(self.file, section_place(self, index) as usize)
+        SectionHeader::at(self.file, self.place(index) as usize)
     }
-}
-
-/// How many program headers there are.
-pub fn segment_count(segments: SegmentTable) -> usize
-    ensures { result ≡ e_phnum segments.entry.file.now }
-{
-    let file = segments.file;
-    Header { file }.fields().phnum as usize
-}
-
-/// Where the program header of an index stands.
-pub fn segment_place(segments: SegmentTable, index: usize) -> u64
-    requires { index < e_phnum segments.file.now }
-    ensures { result ≡ segment_place segments.entry.file.now index }
-{
-    let file = segments.file;
-    Header { file }.fields().phoff + PHDR_SIZE as u64 * index as u64
-}
-
-/// How many section headers there are.
-pub fn section_count(headers: SectionTable) -> usize
-    ensures { result ≡ e_shnum headers.entry.file.now }
-{
-    let file = headers.file;
-    Header { file }.fields().shnum as usize
-}
-
-/// Where the section header of an index stands.
-pub fn section_place(headers: SectionTable, index: usize) -> u64
-    requires { index < e_shnum headers.file.now }
-    ensures { result ≡ section_place headers.entry.file.now index }
-{
-    let file = headers.file;
-    Header { file }.fields().shoff + SHDR_SIZE as u64 * index as u64
 }
 
 /// Whether the contents of a section lie whole in the file.
@@ -98,7 +98,7 @@ pub fn symbol_table(headers: SectionTable) -> Option<SectionHeader>
     ensures first { result ≡ symbol_table headers.entry.file.now }
     ensures kind { IfSome result (λ table. table.kind ≡ SHT_SYMTAB) }
 {
-    for index in 0..section_count(headers) {
+    for index in 0..headers.count() {
         let section = headers.section_of(index);
         if section.kind == SHT_SYMTAB {
             return Some(section);

@@ -12,27 +12,39 @@ use crate::segment::PHDR_SIZE;
 /// The size of the header in bytes.
 pub const EHDR_SIZE: usize = 64;
 
-/// Where its fields stand.
+// Where its fields stand. gABI, "ELF Header".
+
+/// The type of the file.
 pub const E_TYPE: usize = 0x10;
 
+/// The architecture.
 pub const E_MACHINE: usize = 0x12;
 
+/// The address at which the program starts.
 pub const E_ENTRY: usize = 0x18;
 
+/// The offset of the program headers.
 pub const E_PHOFF: usize = 0x20;
 
+/// The offset of the section headers.
 pub const E_SHOFF: usize = 0x28;
 
+/// The flags of the architecture.
 pub const E_FLAGS: usize = 0x30;
 
+/// The size of a program header.
 pub const E_PHENTSIZE: usize = 0x36;
 
+/// How many program headers there are.
 pub const E_PHNUM: usize = 0x38;
 
+/// The size of a section header.
 pub const E_SHENTSIZE: usize = 0x3a;
 
+/// How many section headers there are.
 pub const E_SHNUM: usize = 0x3c;
 
+/// The index of the section with the names of sections.
 pub const E_SHSTRNDX: usize = 0x3e;
 
 /// The fields of a file's header that are read, in the order of the file. gABI, "ELF Header".
@@ -116,12 +128,19 @@ impl<'a> Header<'a> {
 /// Identification".
 pub const IDENTIFICATION: &[u8] = b"\x7fELF\x02\x01\x01";
 
+/// The type of an executable that is loaded where its headers say. gABI, "ELF Header".
+pub const ET_EXEC: u16 = 2;
+
 /// RISC-V. psABI, "File Header".
 pub const EM_RISCV: u16 = 0xf3;
+
+/// The flag of a file with compressed instructions. psABI, "File Header".
+pub const EF_RISCV_RVC: u32 = 1;
 
 /// Whether a file has the identification, and the machine if it has the field.
 pub fn is_elf(file: &[u8]) -> bool
     ensures { IsTrue result ↔ IsElf file.now }
 {
-    file.starts_with(IDENTIFICATION) && (file.len() < 20 || u16_at(file, E_MACHINE) == EM_RISCV)
+    file.starts_with(IDENTIFICATION)
+        && (file.len() < E_MACHINE + 2 || u16_at(file, E_MACHINE) == EM_RISCV)
 }

@@ -5,7 +5,7 @@ ghost use Rattle.elf_image.specs.internal.TextEnds.{IsLastEnd};
 ghost use Rattle.elf_image.specs.file.Sections.{contents, section_names};
 ghost use Rattle.elf_image.specs.file.Symbols.{symbol_names};
 
-use crate::entries::{SectionTable, has_contents, section_count};
+use crate::entries::{SectionTable, has_contents};
 use crate::header::Header;
 use crate::section::{SHT_NOBITS, SectionHeader};
 use memchr::memrchr;
@@ -41,7 +41,7 @@ pub fn section_names<'a>(headers: SectionTable<'a>) -> Option<&'a [u8]>
 {
     let header = Header { file: headers.file };
     let index = header.fields().shstrndx as usize;
-    if index >= section_count(headers) {
+    if index >= headers.count() {
         return None;
     }
     let section = headers.section_of(index);
@@ -60,7 +60,7 @@ pub fn symbol_names<'a>(headers: SectionTable<'a>, table: &SectionHeader) -> Opt
     if !has_contents(headers.file, table) {
         return None;
     }
-    if table.link as usize >= section_count(headers) {
+    if table.link as usize >= headers.count() {
         return Some(&headers.file[..0]);
     }
     let section = headers.section_of(table.link as usize);
@@ -76,7 +76,7 @@ pub fn symbol_texts<'a>(file: &'a [u8], table: &SectionHeader) -> &'a [u8]
     ensures { result.now ≡ symbol_names file.now table.now }
 {
     let headers = SectionTable { file };
-    if table.link as usize >= section_count(headers) {
+    if table.link as usize >= headers.count() {
         return &file[..0];
     }
     section_bytes(file, &headers.section_of(table.link as usize))

@@ -7,6 +7,7 @@ pub const SHT_RELA: u32 = 4;
 pub const RELA_SIZE: usize = 24;
 
 // Types of relocations. psABI, "Relocations", the table of types.
+
 pub const R_RISCV_NONE: u32 = 0;
 
 pub const R_RISCV_32: u32 = 1;

@@ -16,14 +16,17 @@ pub const SHT_SYMTAB: u32 = 2;
 /// The type of a section with texts. gABI, "Section Types".
 pub const SHT_STRTAB: u32 = 3;
 
-/// The flags of a section that is loaded, and of one that holds instructions. gABI, "Section
-/// Attribute Flags".
+/// The flag of a section that is loaded. gABI, "Section Attribute Flags".
 pub const SHF_ALLOC: u64 = 2;
 
+/// The flag of a section that holds instructions. gABI, "Section Attribute Flags".
 pub const SHF_EXECINSTR: u64 = 4;
 
 /// The flag of a section whose contents are compressed. gABI, "Section Attribute Flags".
 pub const SHF_COMPRESSED: u64 = 0x800;
+
+/// What the names begin with that a rewriting gives to sections whose place new ones take.
+pub const OLD_PREFIX: &[u8] = b".old.";
 
 /// The size of a section header in bytes.
 pub const SHDR_SIZE: usize = 64;

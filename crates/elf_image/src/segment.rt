@@ -9,9 +9,10 @@ use crate::number::{is_set, u32_at, u64_at};
 /// The type of a segment that is loaded. gABI, "Program Header".
 pub const PT_LOAD: u32 = 1;
 
-/// The types of segments that ask for a dynamic linker. gABI, "Program Header".
+/// The type of the segment that a dynamic linker reads. gABI, "Program Header".
 pub const PT_DYNAMIC: u32 = 2;
 
+/// The type of the segment that names a dynamic linker. gABI, "Program Header".
 pub const PT_INTERP: u32 = 3;
 
 /// The type of a program header that says where the header of the unwind table stands. LSB,
@@ -32,6 +33,21 @@ pub const ADDRESS_END: u64 = 0x7fff_0000;
 
 /// The size of a program header in bytes.
 pub const PHDR_SIZE: usize = 56;
+
+/// Where its fields stand.
+pub const P_FLAGS: usize = 4;
+
+pub const P_OFFSET: usize = 8;
+
+pub const P_VADDR: usize = 16;
+
+pub const P_PADDR: usize = 24;
+
+pub const P_FILESZ: usize = 32;
+
+pub const P_MEMSZ: usize = 40;
+
+pub const P_ALIGN: usize = 48;
 
 /// A program header, with its fields in the order of the file. Offsets and sizes are in bytes.
 /// gABI, "Program Header".
@@ -68,13 +84,13 @@ impl Segment {
     {
         Segment {
             kind: u32_at(file, offset),
-            flags: u32_at(file, offset + 4),
-            offset: u64_at(file, offset + 8),
-            vaddr: u64_at(file, offset + 16),
-            paddr: u64_at(file, offset + 24),
-            filesz: u64_at(file, offset + 32),
-            memsz: u64_at(file, offset + 40),
-            align: u64_at(file, offset + 48),
+            flags: u32_at(file, offset + P_FLAGS),
+            offset: u64_at(file, offset + P_OFFSET),
+            vaddr: u64_at(file, offset + P_VADDR),
+            paddr: u64_at(file, offset + P_PADDR),
+            filesz: u64_at(file, offset + P_FILESZ),
+            memsz: u64_at(file, offset + P_MEMSZ),
+            align: u64_at(file, offset + P_ALIGN),
         }
     }
 

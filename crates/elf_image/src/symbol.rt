@@ -1,5 +1,5 @@
 // Symbols, and the entries of the symbol table that they are. gABI, "Symbol Table".
-ghost use Rattle.std.specs.Prelude.{◌≡◌, ◌≤◌, ◌+◌, length};
+ghost use Rattle.std.specs.Prelude.{◌≡◌, ◌≤◌, ◌+◌, ◌%◌, length};
 ghost use Rattle.elf_image.specs.file.ParsedFile.{IsSymbolAt};
 ghost use Rattle.elf_image.specs.file.Symbols.{symbol_names};
 ghost use Rattle.elf_image.specs.file.StringTables.{name_bytes};
@@ -40,11 +40,18 @@ pub struct Symbol<'a> {
 impl<'a> Symbol<'a> {
     ghost use Rattle.elf_image.specs.file.Cuts.{names_function};
 
+    /// The symbol's type.
+    pub fn kind(&self) -> u8
+        ensures { result ≡ self.now.info % 16 }
+    {
+        self.info % 16
+    }
+
     /// Whether the symbol names a function.
     pub fn names_function(&self) -> bool
         ensures { result ≡ names_function self.now }
     {
-        self.info % 16 == STT_FUNC
+        self.kind() == STT_FUNC
     }
 }
 

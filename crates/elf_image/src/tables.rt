@@ -8,9 +8,7 @@ ghost use Rattle.elf_image.specs.file.Sections.{section_names};
 ghost use Rattle.elf_image.specs.file.Symbols.{symbol_table, symbol_count};
 ghost use Rattle.elf_image.specs.file.StringTables.{name_bytes};
 
-use crate::entries::{
-    SectionTable, SegmentTable, section_count, segment_count, symbol_count, symbol_table,
-};
+use crate::entries::{SectionTable, SegmentTable, symbol_count, symbol_table};
 use crate::names::{section_names, symbol_texts};
 use crate::section::{SHT_SYMTAB, Section, SectionHeader};
 use crate::segment::Segment;
@@ -26,7 +24,7 @@ pub fn read_segments(alloc: Global, file: &[u8]) -> Result<Vec<Segment>, NoMemor
 {
     let table = SegmentTable { file };
     let mut segments = Vec::new(alloc);
-    for index in 0..segment_count(table) {
+    for index in 0..table.count() {
         segments.push(table.segment_of(index))?;
     }
     Ok(segments)
@@ -69,9 +67,10 @@ pub fn read_sections<'a>(alloc: Global, file: &'a [u8]) -> Result<Vec<Section<'a
     requires { IsReadable file.now }
     ensures { IfOk result (λ sections. AreSections file.now (e_shnum file.now) sections.items) }
 {
+    let table = SectionTable { file };
     let names = Names::new(alloc, section_texts(file))?;
     let mut sections = Vec::new(alloc);
-    for index in 0..section_count(SectionTable { file }) {
+    for index in 0..table.count() {
         sections.push(read_section(file, &names, index))?;
     }
     Ok(sections)

@@ -6,7 +6,7 @@ ghost use Rattle.elf_plan.specs.NewSections.{without_code};
 
 use crate::names::NameTable;
 use crate::tail::{Tail, end_behind};
-use elf_image::entries::{SectionTable, section_count};
+use elf_image::entries::SectionTable;
 use elf_image::named::{EH_FRAME, EH_FRAME_HDR};
 use elf_image::relocation::SHT_RELA;
 use elf_image::section::{SHF_ALLOC, SHF_EXECINSTR, SHT_NOBITS, SHT_PROGBITS, SHT_STRTAB};
@@ -43,7 +43,7 @@ pub fn old_headers(
 {
     let table = SectionTable { file: elf.file };
     let mut headers = Vec::new(alloc);
-    for i in 0..section_count(table) {
+    for i in 0..table.count() {
         let mut header = table.section_of(i);
         if let Some(section) = elf.sections.get(i) {
             if is_renamed(section) {

@@ -11,6 +11,11 @@ use elf_image::segment::PT_LOAD;
 use file_room::{area_start_of, greatest_align, new_segment_start};
 use rb_bytes::fault::NoMemory;
 
+// The alignments of an unwind table, and of its index.
+const FRAMES_ALIGN: u64 = 8;
+
+const INDEX_ALIGN: u64 = 4;
+
 /// The new area: the new code, and behind it the tables that are loaded.
 #[derive(Clone, Copy, PartialEq, Eq, Debug)]
 pub struct Area {
@@ -143,16 +148,16 @@ pub fn area_of(
 {
     let start = area_start_of(segments, tight).ok_or(Unwritable::Layout)?;
     let code_end = sum(start, code as u64)?;
-    let frames_end = table_end(8, code_end, frames)?;
+    let frames_end = table_end(FRAMES_ALIGN, code_end, frames)?;
     Ok(Area {
         tight,
         address: segment_address(segments, executable, tight)?,
         offset: segment_offset(segments, executable, tight)?,
         start,
         code_end,
-        frames: table_start(8, code_end, frames)?,
-        index: table_start(4, frames_end, index)?,
-        end: table_end(4, frames_end, index)?,
+        frames: table_start(FRAMES_ALIGN, code_end, frames)?,
+        index: table_start(INDEX_ALIGN, frames_end, index)?,
+        end: table_end(INDEX_ALIGN, frames_end, index)?,
     })
 }
 
@@ -173,8 +178,8 @@ fn places_behind(start: u64, code: usize, frames: usize) -> Result<(u64, u64), U
     ensures frames { IfOk result (λ places. rounded_up 8 (start + code) ≡ places.0) }
     ensures index { IfOk result (λ places. rounded_up 4 (rounded_up 8 (start + code) + frames) ≡ places.1) }
 {
-    let at = checked_rounded_up(8, sum(start, code as u64)?)?;
-    let index_at = checked_rounded_up(4, sum(at, frames as u64)?)?;
+    let at = checked_rounded_up(FRAMES_ALIGN, sum(start, code as u64)?)?;
+    let index_at = checked_rounded_up(INDEX_ALIGN, sum(at, frames as u64)?)?;
     Ok((at, index_at))
 }
 

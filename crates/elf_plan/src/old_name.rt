@@ -4,6 +4,7 @@ ghost use Rattle.elf_plan.specs.OldNames as spec;
 
 use elf_image::Section;
 use elf_image::named::names_frames;
+use elf_image::section::OLD_PREFIX;
 
 /// Whether a section keeps its place and contents under another name.
 pub fn is_renamed(section: &Section) -> bool
@@ -19,6 +20,6 @@ pub fn old_prefix(name: &[u8]) -> &'static [u8]
     if name.starts_with(b".") {
         b".old"
     } else {
-        b".old."
+        OLD_PREFIX
     }
 }

@@ -94,8 +94,8 @@ pub fn replaced_by(
     Ok(replaced)
 }
 
-// Tables with addresses of code that can't be carried over.
-const DEBUG_MACRO: &[u8] = b".debug_macro";
+/// Tables with addresses of code that can't be carried over.
+pub const DEBUG_MACRO: &[u8] = b".debug_macro";
 
 const GDB_INDEX: &[u8] = b".gdb_index";
 

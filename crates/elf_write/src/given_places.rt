@@ -8,11 +8,8 @@ use elf_image::named::names_debug;
 use elf_image::{Elf, Section};
 use elf_plan::given_tables::Table;
 use elf_plan::name_tables::OwnSections;
-use elf_plan::sections::{is_left_out, place_replaced};
+use elf_plan::sections::{DEBUG_MACRO, is_left_out, place_replaced};
 use elf_plan::unwritable::Unwritable;
-
-// A table with addresses of code that can't be carried over.
-const DEBUG_MACRO: &[u8] = b".debug_macro";
 
 // Whether the section of an index has names or symbols, which are written anew.
 fn is_own_section(own: OwnSections, index: usize) -> bool

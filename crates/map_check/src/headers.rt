@@ -4,26 +4,17 @@ ghost use Rattle.std.specs.List.{enumerate_from, flat_map, list_any};
 ghost use Rattle.elf_image.specs.declared.elf.Elf.{Elf};
 ghost use Rattle.elf_image.specs.declared.segment.TheConstants.{PHDR_SIZE};
 ghost use Rattle.elf_image.specs.memory.CodeSegment.{executable_end, executable_segment};
-ghost use Rattle.elf_image.specs.memory.HiddenFields.{e_entry_field, hidden_fields, hidden_in_segment};
+ghost use Rattle.elf_image.specs.memory.HiddenFields.{hidden_fields, hidden_in_segment};
 ghost use Rattle.elf_image.specs.memory.HiddenFields.{is_executable_segment, is_hidden_field, only, section_fields};
-ghost use Rattle.elf_image.specs.memory.LoadedBytes.{address_of, is_in_range};
+ghost use Rattle.elf_image.specs.memory.LoadedBytes.{is_in_range};
 ghost use Rattle.code_starts.specs.LoadedMemory.{IsLow};
 ghost use Rattle.map_check.specs.internal.Headers.{AreHeadersOf, file_fields};
 
 use elf_image::code_segment::{executable_end, executable_segment, is_executable_segment};
 use elf_image::header::{E_ENTRY, E_PHNUM, E_PHOFF, E_SHNUM, E_SHOFF, E_SHSTRNDX};
-use elf_image::segment::{PHDR_SIZE, PT_GNU_EH_FRAME, entry_segment};
+use elf_image::segment::{P_ALIGN, P_FILESZ, P_OFFSET, PHDR_SIZE, PT_GNU_EH_FRAME};
 use elf_image::{Elf, Segment};
-
-// Where fields of a program header stand. gABI, "Program Header".
-const P_OFFSET: u128 = 8;
-
-const P_FILESZ: u128 = 32;
-
-// How many bytes its sizes have, `p_filesz` and `p_memsz`, and how many all fields from `p_offset` up to `p_memsz`.
-const SIZES: u64 = 16;
-
-const PLACES: u64 = 40;
+use sym_machine::entry_address;
 
 /// What tells which fields of a file's headers are hidden.
 #[derive(Clone, Copy, PartialEq, Eq, Debug)]
@@ -34,17 +25,6 @@ pub struct Headers {
     pub entry: Option<u64>,
     /// The index of the executable segment, and its program header.
     pub executable: Option<(usize, Segment)>,
-}
-
-// The address of the field `e_entry`, if one segment loads it whole.
-fn entry_address(elf: &Elf) -> Option<u64>
-    requires { IsLow elf.now }
-    ensures { result ≡ address_of elf.now e_entry_field }
-{
-    match entry_segment(&elf.segments) {
-        Some(p) => Some(p.vaddr + (E_ENTRY as u64 - p.offset)),
-        None => None,
-    }
 }
 
 impl Headers {
@@ -126,13 +106,20 @@ fn in_program_header(elf: &Elf, headers: &Headers, index: usize, p: &Segment, of
 {
     let at = elf.phoff as u128 + PHDR_SIZE as u128 * index as u128;
     let is_executable = is_executable_segment(headers.executable, index);
-    let in_sizes = or_has(false, is_executable, at + P_FILESZ, SIZES, offset);
-    let in_offset = or_has(in_sizes, is_behind(headers, p), at + P_OFFSET, 8, offset);
+    let (places, sizes) = (at + P_OFFSET as u128, at + P_FILESZ as u128);
+    let in_sizes = or_has(
+        false,
+        is_executable,
+        sizes,
+        (P_ALIGN - P_FILESZ) as u64,
+        offset,
+    );
+    let in_offset = or_has(in_sizes, is_behind(headers, p), places, 8, offset);
     or_has(
         in_offset,
         p.kind == PT_GNU_EH_FRAME,
-        at + P_OFFSET,
-        PLACES,
+        places,
+        (P_ALIGN - P_OFFSET) as u64,
         offset,
     )
 }

@@ -3,19 +3,8 @@ ghost use Rattle.std.specs.Prelude.{◌≡◌, ◌==◌, ◌++◌, ◌∷◌, �
 ghost use Rattle.rb_bytes.specs.Text.{hexadecimal, is_lower_hex_digit};
 ghost use Rattle.map_check.specs.internal.LineNumbers.{has_leading_zero};
 
-use memchr::memchr;
 use rb_bytes::number::{decimal_number, hex_number};
-
-// What stands before the first of these bytes, and what after it.
-fn split_once(text: &[u8], byte: u8) -> Option<(&[u8], &[u8])>
-    ensures parts { IfSome result (λ p. text.now ≡ p.0.now ++ byte ∷ p.1.now) }
-    ensures first { IfSome result (λ p. All (λ c. (c == byte) ≡ false) p.0.now) }
-    ensures none { IfNone result (All (λ c. (c == byte) ≡ false) text.now) }
-{
-    let end = memchr(byte, text)?;
-    let (before, rest) = text.split_at(end);
-    Some((before, &rest[1..]))
-}
+use rb_bytes::split::split_once;
 
 // Whether another digit follows a zero in front.
 fn has_leading_zero(digits: &[u8]) -> bool

@@ -9,4 +9,5 @@ pub mod leb;
 pub mod lists;
 pub mod little;
 pub mod number;
+pub mod split;
 pub mod text;

@@ -5,6 +5,11 @@ ghost use Rattle.std.specs.List.{list_all};
 ghost use Rattle.std.specs.Str.Parse.{digits_value};
 ghost use Rattle.rb_bytes.specs.Text.{is_lower_hex_digit, hex_number, decimal_number};
 
+// How many digits the greatest number of 64 bits has.
+const HEX_DIGITS: usize = 16;
+
+const DECIMAL_DIGITS: usize = 20;
+
 /// The number that 1 to 16 lower-case hexadecimal digits write.
 pub fn hex_number(digits: &[u8]) -> Option<u64>
     ensures { result ≡ hex_number digits.now }
@@ -12,7 +17,7 @@ pub fn hex_number(digits: &[u8]) -> Option<u64>
     if digits.is_empty() {
         return None;
     }
-    if digits.len() > 16 {
+    if digits.len() > HEX_DIGITS {
         return None;
     }
     if !are_lower_hex(digits) {
@@ -28,7 +33,7 @@ pub fn decimal_number(digits: &[u8]) -> Option<u64>
     if digits.is_empty() {
         return None;
     }
-    if digits.len() > 20 {
+    if digits.len() > DECIMAL_DIGITS {
         return None;
     }
     if !are_decimal(digits) {

@@ -59,10 +59,8 @@ fn run_of<'a>(elf: &'a Elf<'a>, table: &Section) -> Option<EntryRun<'a>>
     if table.kind != SHT_RELA {
         return None;
     }
-    match elf.sections.get(table.info as usize) {
-        Some(section) => run_for(elf, table, section),
-        None => None,
-    }
+    let section = elf.sections.get(table.info as usize)?;
+    run_for(elf, table, section)
 }
 
 /// The runs of all tables with relocations that count, in the tables' order.

@@ -39,16 +39,12 @@ fn leb_size(elf: &Elf, known: &[Known], relocation: &Record) -> Option<u64>
     requires known { All (IsKnown elf.now) known.now }
     ensures { result ≡ option_map length (leb_field elf.now (seen relocation.now)) }
 {
-    match tail_at(elf, known, relocation.place) {
-        Some(tail) => {
-            let end = relocation.section.addr as u128 + relocation.section.size as u128;
-            if tail.end as u128 <= end {
-                Some(tail.end - relocation.place)
-            } else {
-                None
-            }
-        }
-        None => None,
+    let tail = tail_at(elf, known, relocation.place)?;
+    let end = relocation.section.addr as u128 + relocation.section.size as u128;
+    if tail.end as u128 <= end {
+        Some(tail.end - relocation.place)
+    } else {
+        None
     }
 }
 

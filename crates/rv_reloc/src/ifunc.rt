@@ -13,6 +13,7 @@ use crate::entry_runs::is_named;
 use crate::records::Record;
 use elf_image::lowest::{lower, place_if};
 use elf_image::relocation::R_RISCV_IRELATIVE;
+use elf_image::section::OLD_PREFIX;
 use elf_image::symbol::STT_GNU_IFUNC;
 use elf_image::{Elf, Section, Symbol};
 
@@ -23,7 +24,7 @@ fn lowest_ifunc(symbols: &[Symbol]) -> Option<u64>
     for symbol in symbols {
         lowest = lower(
             lowest,
-            place_if(symbol.info % 16 == STT_GNU_IFUNC, symbol.value),
+            place_if(symbol.kind() == STT_GNU_IFUNC, symbol.value),
         );
     }
     lowest
@@ -75,7 +76,7 @@ pub fn lowest_already_moved(sections: &[Section]) -> Option<u64>
     ensures { (elf : Elf) → elf.sections.items ≡ sections.now → IsLowest (IsAlreadyMoved elf) result }
 {
     for (index, section) in sections.iter().enumerate() {
-        if section.name.starts_with(b".old.") {
+        if section.name.starts_with(OLD_PREFIX) {
             return Some(index as u64);
         }
     }

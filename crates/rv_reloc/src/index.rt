@@ -13,6 +13,7 @@ use crate::labels::{FieldWidth, minus_width, plus_width};
 use crate::records::Record;
 use crate::types::{is_call_pair, is_pcrel_hi};
 
+// One more than a width's bits, and 0 for ULEB128, so that no two classes are the same.
 fn width_code(width: FieldWidth) -> u64
     ensures { result ≡ width_code (width_of width) }
 {
@@ -26,10 +27,12 @@ fn width_code(width: FieldWidth) -> u64
     }
 }
 
-// The classes of calls and of upper parts.
+// The classes of calls, of upper parts, and of all other types that are for no label.
 const CALL_CLASS: u64 = 0;
 
 const UPPER_CLASS: u64 = 1;
+
+const OTHER_CLASS: u64 = 2;
 
 fn plus_class(width: FieldWidth) -> u64
     ensures { result ≡ plus_class (width_of width) }
@@ -61,11 +64,11 @@ fn class_beside(kind: u32) -> u64
     ensures { result ≡ class_beside kind }
 {
     if is_call_pair(kind) {
-        0
+        CALL_CLASS
     } else if is_pcrel_hi(kind) {
-        1
+        UPPER_CLASS
     } else {
-        2
+        OTHER_CLASS
     }
 }
 

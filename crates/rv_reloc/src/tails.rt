@@ -67,19 +67,12 @@ fn tail_before(elf: &Elf, address: u64, next: Option<LebRest>) -> Option<LebRest
     requires next { TailAt elf.now (address + 1) next }
     ensures { TailAt elf.now address result }
 {
-    match byte_at(elf, address) {
-        None => None,
-        Some(byte) => {
-            if byte < 128 {
-                Some(last_tail(address, byte))
-            } else {
-                match next {
-                    Some(tail) => Some(longer_tail(byte, tail)),
-                    None => None,
-                }
-            }
-        }
+    let byte = byte_at(elf, address)?;
+    if byte < 128 {
+        return Some(last_tail(address, byte));
     }
+    let tail = next?;
+    Some(longer_tail(byte, tail))
 }
 
 // The tail at a byte with which a number ends, if one does.
@@ -88,10 +81,8 @@ fn tail_of_last(elf: &Elf, address: u64) -> Option<LebRest>
     requires ends { IsTrue (ends_with (byte_at elf.now address)) }
     ensures { TailAt elf.now address result }
 {
-    match byte_at(elf, address) {
-        None => None,
-        Some(byte) => Some(last_tail(address, byte)),
-    }
+    let byte = byte_at(elf, address)?;
+    Some(last_tail(address, byte))
 }
 
 fn ends_with(byte: Option<u8>) -> bool

@@ -7,6 +7,7 @@ use crate::profile::function_name;
 use rb_bytes::fault::NoMemory;
 use rb_bytes::little::{put_u16, put_u32, put_u64};
 use std::alloc::Global;
+use table_core::DWARF_VERSION;
 
 /// The declarations of a unit and of a function: names, bounds, the unit's lines, and a function's frame base.
 pub const ABBREVIATIONS: &[u8] =
@@ -14,8 +15,6 @@ pub const ABBREVIATIONS: &[u8] =
 
 // The name of the source.
 const SOURCE: &[u8] = b"sample.c";
-
-const VERSION: u16 = 5;
 
 // The unit's header behind its version: type (compilation), size of addresses, offset of the declarations. Then comes
 // the number of its first declaration.
@@ -32,7 +31,7 @@ pub fn info(alloc: Global, n: u64) -> Result<Vec<u8>, NoMemory>
     requires { n ≤ 1000 }
 {
     let mut unit = Vec::new(alloc);
-    put_u16(&mut unit, VERSION)?;
+    put_u16(&mut unit, DWARF_VERSION)?;
     unit.extend_from_slice(UNIT_FRONT)?;
     put_text(&mut unit, SOURCE)?;
     put_u32(&mut unit, 0)?;

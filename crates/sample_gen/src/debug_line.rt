@@ -5,8 +5,7 @@ use rb_bytes::fault::NoMemory;
 use rb_bytes::leb::{put_sleb, put_uleb};
 use rb_bytes::little::{put_u16, put_u32, put_u64};
 use std::alloc::Global;
-
-const VERSION: u16 = 5;
+use table_core::DWARF_VERSION;
 
 // The size of addresses, and of segment selectors.
 const SIZES: &[u8] = b"\x08\0";
@@ -83,7 +82,7 @@ fn put_program(unit: &mut Vec<u8>, n: u64) -> Result<(), NoMemory> {
 /// The line unit: one sequence, with four rows for each of at least one function, and one for the entry point.
 pub fn lines(alloc: Global, n: u64) -> Result<Vec<u8>, NoMemory> {
     let mut unit = Vec::new(alloc);
-    put_u16(&mut unit, VERSION)?;
+    put_u16(&mut unit, DWARF_VERSION)?;
     unit.extend_from_slice(SIZES)?;
     put_u32(&mut unit, low((FIELDS.len() + NAMES.len()) as u64))?;
     unit.extend_from_slice(FIELDS)?;

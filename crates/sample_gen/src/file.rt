@@ -7,24 +7,19 @@ use crate::debug_line::lines;
 use crate::frames::{frames, index};
 use crate::places::{BASE, CODE, DATA, function_at, round_up};
 use crate::relocations::{calls, data, pointers};
-use crate::sections::{
-    SHT_PROGBITS, SHT_STRTAB, Sections, loaded, relocations, symbol_table, unloaded,
-};
+use crate::sections::{Sections, loaded, relocations, symbol_table, unloaded};
 use crate::symbols::make_symbols;
 use elf_image::Segment;
-use elf_image::header::{EM_RISCV, IDENTIFICATION};
-use elf_image::segment::{PF_R, PF_W, PF_X, PT_GNU_EH_FRAME, PT_LOAD};
+use elf_image::header::{EHDR_SIZE, EM_RISCV, ET_EXEC, IDENTIFICATION};
+use elf_image::section::{SHDR_SIZE, SHF_ALLOC, SHF_EXECINSTR, SHT_PROGBITS, SHT_STRTAB};
+use elf_image::segment::{PF_R, PF_W, PF_X, PHDR_SIZE, PT_GNU_EH_FRAME, PT_LOAD};
 use elf_parts::spell::put_segments;
 use rb_bytes::fault::NoMemory;
 use rb_bytes::little::{put_u16, put_u32, put_u64};
 use std::alloc::Global;
 
-// Flags of sections: writable, loaded, with code. gABI, "Section Attribute Flags".
+// The flag of a section that may be written. gABI, "Section Attribute Flags".
 const SHF_WRITE: u64 = 1;
-
-const SHF_ALLOC: u64 = 2;
-
-const SHF_EXECINSTR: u64 = 4;
 
 // The indices of sections to which others refer: code, pointers, the symbol table and its names.
 const TEXT: u32 = 1;
@@ -39,10 +34,12 @@ const SECTION_NAMES: u16 = 12;
 
 const SECTION_COUNT: u16 = 13;
 
-// How many bytes the headers in front have: the file's, and those of three segments.
-const FILE_HEADER: u64 = 64;
+const SEGMENT_COUNT: u16 = 3;
 
-const FRONT: u64 = FILE_HEADER + 3 * 56;
+// How many bytes the headers in front have: the file's, and those of the segments.
+const FILE_HEADER: u64 = EHDR_SIZE as u64;
+
+const FRONT: u64 = FILE_HEADER + SEGMENT_COUNT as u64 * PHDR_SIZE as u64;
 
 // The alignment of segments.
 const PAGE: u64 = 0x1000;
@@ -175,9 +172,7 @@ fn segments(x: &Memory) -> [Segment; 3] {
     ]
 }
 
-// The type of an executable, and the version of the format.
-const ET_EXEC: u16 = 2;
-
+// The version of the format.
 const EV_CURRENT: u32 = 1;
 
 // Appends the file's header. `sections_at` is where the section headers stand.
@@ -196,10 +191,10 @@ fn put_file_header(file: &mut Vec<u8>, entry: u64, sections_at: u64) -> Result<(
 
 // Appends the sizes and counts of headers, with which the file's header ends.
 fn put_sizes(file: &mut Vec<u8>) -> Result<(), NoMemory> {
-    put_u16(file, 64)?;
-    put_u16(file, 56)?;
-    put_u16(file, 3)?;
-    put_u16(file, 64)?;
+    put_u16(file, EHDR_SIZE as u16)?;
+    put_u16(file, PHDR_SIZE as u16)?;
+    put_u16(file, SEGMENT_COUNT)?;
+    put_u16(file, SHDR_SIZE as u16)?;
     put_u16(file, SECTION_COUNT)?;
     put_u16(file, SECTION_NAMES)
 }

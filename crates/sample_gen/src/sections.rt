@@ -3,19 +3,12 @@ use crate::numbers::{low, put_text};
 use crate::places::round_up;
 use elf_image::SectionHeader;
 use elf_image::relocation::{RELA_SIZE, SHT_RELA};
+use elf_image::section::{SHT_PROGBITS, SHT_STRTAB, SHT_SYMTAB};
 use elf_image::symbol::SYM_SIZE;
 use elf_parts::spell::put_sections;
+use elf_plan::section_bytes::SHT_NULL;
 use rb_bytes::fault::NoMemory;
 use std::alloc::Global;
-
-// Types of sections. gABI, "Section Types".
-const SHT_NULL: u32 = 0;
-
-pub const SHT_PROGBITS: u32 = 1;
-
-const SHT_SYMTAB: u32 = 2;
-
-pub const SHT_STRTAB: u32 = 3;
 
 // The flag of relocations: the header's `info` is the index of the section that they change.
 const SHF_INFO_LINK: u64 = 0x40;

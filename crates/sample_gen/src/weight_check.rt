@@ -20,8 +20,8 @@ use line_rewrite::Lines;
 use rb_bytes::fault::{NoMemory, Refusal};
 use rv_code::{Func, Placed};
 use std::alloc::Global;
-use table_core::ByAddress;
 use table_core::form::{DW_FORM_loclistx, DW_FORM_rnglistx, DW_FORM_sec_offset};
+use table_core::{ByAddress, WEIGHT_LIMIT};
 
 // How many functions a sample has at most, one of them at the entry point, and how many instructions each has.
 const MOST_FUNCTIONS: usize = 1001;
@@ -30,9 +30,6 @@ const MOST_INSTS: usize = 12;
 
 // How many entries of debugging information it has at most: one of its unit, and one of each function but one.
 const MOST_ENTRIES: usize = 1001;
-
-// The greatest weight of what is written.
-const WEIGHT_LIMIT: u64 = 4_000_000_000;
 
 // More than names weigh that no cold part gets, and more bytes than a symbol's name has.
 const MOST_NAMES: u64 = 1_000_000_000;

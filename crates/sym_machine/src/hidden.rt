@@ -12,7 +12,8 @@ ghost use Rattle.sym_machine.specs.internal.Fields.{range_of_field, AreLow};
 
 use crate::fields::{Field, Fields};
 use elf_image::code_segment::{executable_end, executable_segment, is_executable_segment};
-use elf_image::segment::{PHDR_SIZE, PT_GNU_EH_FRAME, entry_segment};
+use elf_image::header::{E_ENTRY, E_PHNUM, E_PHOFF, E_SHNUM, E_SHOFF, E_SHSTRNDX};
+use elf_image::segment::{P_ALIGN, P_FILESZ, P_OFFSET, PHDR_SIZE, PT_GNU_EH_FRAME, entry_segment};
 use elf_image::{Elf, Segment};
 use rb_bytes::fault::NoMemory;
 use std::alloc::Global;
@@ -34,7 +35,7 @@ pub fn entry_address(elf: &Elf) -> Option<u64>
     ensures low { IfSome result (λ a. a + 8 ≤ 2 ^ 64) }
 {
     let p = entry_segment(&elf.segments)?;
-    Some(p.vaddr + (0x18 - p.offset))
+    Some(p.vaddr + (E_ENTRY as u64 - p.offset))
 }
 
 // The hidden fields of one program header.
@@ -51,9 +52,20 @@ fn push_fields(
 {
     let at = elf.phoff as u128 + PHDR_SIZE as u128 * index as u128;
     let end = executable_end(executable);
-    push_if(out, is_executable_segment(executable, index), at + 32, 16)?;
-    push_if(out, end <= p.offset as u128, at + 8, 8)?;
-    push_if(out, p.kind == PT_GNU_EH_FRAME, at + 8, 40)?;
+    let (places, sizes) = (at + P_OFFSET as u128, at + P_FILESZ as u128);
+    push_if(
+        out,
+        is_executable_segment(executable, index),
+        sizes,
+        (P_ALIGN - P_FILESZ) as u64,
+    )?;
+    push_if(out, end <= p.offset as u128, places, 8)?;
+    push_if(
+        out,
+        p.kind == PT_GNU_EH_FRAME,
+        places,
+        (P_ALIGN - P_OFFSET) as u64,
+    )?;
     Ok(())
 }
 
@@ -65,12 +77,17 @@ pub fn hidden_fields(alloc: Global, elf: &Elf, tight: bool) -> Result<Vec<Field>
     let executable = executable_segment(&elf.segments);
     let end = executable_end(executable);
     let mut out = Vec::new(alloc);
-    push_if(&mut out, true, 0x28, 8)?;
-    push_if(&mut out, true, 0x3c, 2)?;
-    push_if(&mut out, true, 0x3e, 2)?;
-    push_if(&mut out, tight || end <= elf.phoff as u128, 0x20, 8)?;
-    push_if(&mut out, tight, 0x38, 2)?;
-    push_if(&mut out, entry_address(elf).is_none(), 0x18, 8)?;
+    push_if(&mut out, true, E_SHOFF as u128, 8)?;
+    push_if(&mut out, true, E_SHNUM as u128, 2)?;
+    push_if(&mut out, true, E_SHSTRNDX as u128, 2)?;
+    push_if(
+        &mut out,
+        tight || end <= elf.phoff as u128,
+        E_PHOFF as u128,
+        8,
+    )?;
+    push_if(&mut out, tight, E_PHNUM as u128, 2)?;
+    push_if(&mut out, entry_address(elf).is_none(), E_ENTRY as u128, 8)?;
     push_all(&mut out, elf, executable, &elf.segments)?;
     Ok(out)
 }

@@ -25,6 +25,7 @@ mod stores;
 mod symbols;
 pub mod value;
 
+pub use hidden::entry_address;
 pub use machine::SymMachine;
 pub use outcome::{Reason, SymRan, SymStepped};
 pub use value::{CodeSymbol, Comparing, MemoryByte, Pointer, Signedness, Value};

@@ -1,11 +1,11 @@
 // A whole file from its parts.
 use crate::bytes::{pad, place};
 use crate::error::BuildError;
-use crate::headers::{ET_EXEC, FileHeader, push_file_header, push_segment};
+use crate::headers::{FileHeader, push_file_header, push_segment};
 use crate::parts::{Piece, Relocation, Section, Symbol};
 use crate::writer::Writer;
 use elf_image::Segment;
-use elf_image::header::EHDR_SIZE;
+use elf_image::header::{EHDR_SIZE, ET_EXEC};
 use elf_image::section::SHT_NOBITS;
 use elf_image::segment::{PHDR_SIZE, PT_LOAD};
 use std::alloc::Global;

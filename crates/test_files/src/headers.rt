@@ -6,9 +6,6 @@ use elf_image::segment::PHDR_SIZE;
 use elf_image::{SectionHeader, Segment};
 use std::alloc::AllocError;
 
-/// The type of an executable. gABI, "ELF Header".
-pub const ET_EXEC: u16 = 2;
-
 // The only version. gABI, "ELF Header".
 const EV_CURRENT: u32 = 1;
 

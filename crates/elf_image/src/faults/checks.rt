@@ -10,20 +10,17 @@ ghost use Rattle.elf_image.specs.faults.FileFaults.{HasFault, HasOtherType, IsDy
 ghost use Rattle.elf_image.specs.file.ParsedFile.{AreSections};
 ghost use Rattle.elf_image.specs.memory.Image.{loads_address};
 
-use crate::entries::{SegmentTable, segment_count, segment_place};
-use crate::header::{E_FLAGS, E_TYPE, Header};
+use crate::entries::SegmentTable;
+use crate::header::{E_FLAGS, E_TYPE, EF_RISCV_RVC, ET_EXEC, Header};
 use crate::lowest::{lower, lowest_below, place_if};
 use crate::section::Section;
 use crate::segment::{ADDRESS_END, PF_W, PT_DYNAMIC, PT_INTERP, Segment};
-
-/// The type of an executable that is loaded where its headers say. gABI, "ELF Header".
-pub const ET_EXEC: u16 = 2;
 
 /// The place of flags that aren't known.
 pub fn lowest_other_flags(header: Header) -> Option<u64>
     ensures { IsLowest (HasFault header.entry.file.now fault.Flags) result }
 {
-    place_if(1 < header.fields().flags, E_FLAGS as u64)
+    place_if(header.fields().flags > EF_RISCV_RVC, E_FLAGS as u64)
 }
 
 fn lowest_other_type(header: Header) -> Option<u64>
@@ -38,16 +35,13 @@ fn dynamic_segment(segments: SegmentTable, index: usize) -> Option<u64>
 {
     let segment = segments.segment_of(index);
     let is_wrong = segment.kind == PT_DYNAMIC || segment.kind == PT_INTERP;
-    place_if(is_wrong, segment_place(segments, index))
+    place_if(is_wrong, segments.place(index))
 }
 
 fn lowest_dynamic_segment(segments: SegmentTable) -> Option<u64>
     ensures { IsLowest (SomeBelow (e_phnum segments.entry.file.now) (IsDynamic segments.entry.file.now)) result }
 {
-    lowest_below(
-        segment_count(segments),
-        |index| dynamic_segment(segments, index),
-    )
+    lowest_below(segments.count(), |index| dynamic_segment(segments, index))
 }
 
 /// The place of what shows that the file isn't a static executable.
@@ -68,17 +62,14 @@ fn writable_code(segments: SegmentTable, index: usize) -> Option<u64>
 {
     let segment = segments.segment_of(index);
     let is_wrong = segment.is_code() && segment.has_flag(PF_W);
-    place_if(is_wrong, segment_place(segments, index))
+    place_if(is_wrong, segments.place(index))
 }
 
 /// The place of an executable segment that may be written.
 pub fn lowest_writable_code(segments: SegmentTable) -> Option<u64>
     ensures { IsLowest (HasFault segments.entry.file.now fault.WritableCode) result }
 {
-    lowest_below(
-        segment_count(segments),
-        |index| writable_code(segments, index),
-    )
+    lowest_below(segments.count(), |index| writable_code(segments, index))
 }
 
 // The first address of a segment that isn't below the bound.
@@ -100,10 +91,7 @@ fn high_address(segments: SegmentTable, index: usize) -> Option<u64>
 pub fn lowest_high_address(segments: SegmentTable) -> Option<u64>
     ensures { IsLowest (HasFault segments.entry.file.now fault.HighAddress) result }
 {
-    lowest_below(
-        segment_count(segments),
-        |index| high_address(segments, index),
-    )
+    lowest_below(segments.count(), |index| high_address(segments, index))
 }
 
 // The index of a section, if it is compressed.

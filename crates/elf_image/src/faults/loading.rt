@@ -11,12 +11,12 @@ ghost use Rattle.elf_image.specs.faults.LowestPlace.{IsLowest, SomeBelow};
 ghost use Rattle.elf_image.specs.faults.FileFaults.{HasFault};
 ghost use Rattle.elf_image.specs.file.ParsedFile.{AreSections};
 
-use crate::entries::{SegmentTable, segment_count, segment_place};
+use crate::entries::SegmentTable;
 use crate::faults::overlap::{lowest_shared_address, lowest_shared_byte};
 use crate::faults::stray::lowest_stray_section;
 use crate::header::{E_PHOFF, Header};
 use crate::lowest::{lower, lowest_below, place_if};
-use crate::section::Section;
+use crate::section::{OLD_PREFIX, Section};
 use crate::segment::{PHDR_SIZE, Segment};
 use rb_bytes::fault::NoMemory;
 use std::alloc::Global;
@@ -61,7 +61,7 @@ fn next_code(segments: SegmentTable, from: usize) -> Option<usize>
     ensures first { IfSome result (λ i. (k : ℕ) → IsCode segments.entry.file.now k → from ≤ k → i ≤ k) }
     ensures none { IfNone result ((k : ℕ) → IsCode segments.entry.file.now k → from ≤ k → ⊥) }
 {
-    for index in from..segment_count(segments) {
+    for index in from..segments.count() {
         if segments.segment_of(index).is_code() {
             return Some(index);
         }
@@ -95,7 +95,7 @@ fn has_old_section(sections: &[Section]) -> bool
     ensures { IsTrue result ↔ Any (λ s. IsTrue (starts_with nat_eq s.name.now (codes ".old."))) sections.now }
 {
     for section in sections {
-        if section.name.starts_with(b".old.") {
+        if section.name.starts_with(OLD_PREFIX) {
             return true;
         }
     }
@@ -126,7 +126,7 @@ fn lowest_one_too_many(segments: SegmentTable, sections: &[Section]) -> Option<u
     match second_code(segments) {
         Some(second) => {
             let is_wrong = is_too_many(segments, sections, second);
-            place_if(is_wrong, segment_place(segments, second))
+            place_if(is_wrong, segments.place(second))
         }
         None => None,
     }
@@ -138,14 +138,14 @@ fn odd_code(segments: SegmentTable, index: usize) -> Option<u64>
 {
     let segment = segments.segment_of(index);
     let is_odd = segment.vaddr == 0 || segment.filesz != segment.memsz;
-    place_if(segment.is_code() && is_odd, segment_place(segments, index))
+    place_if(segment.is_code() && is_odd, segments.place(index))
 }
 
 // An executable segment at address 0, or one that isn't as long in the file as in memory.
 fn lowest_odd_code(segments: SegmentTable) -> Option<u64>
     ensures { IsLowest (SomeBelow (e_phnum segments.entry.file.now) (IsOddCode segments.entry.file.now)) result }
 {
-    lowest_below(segment_count(segments), |index| odd_code(segments, index))
+    lowest_below(segments.count(), |index| odd_code(segments, index))
 }
 
 // The executable segment of the lowest address.
@@ -166,7 +166,7 @@ fn lowest_code_from(segments: SegmentTable, first: usize) -> usize
     ensures { IsLowestCode segments.entry.file.now result }
 {
     let mut lowest = first;
-    for index in first..segment_count(segments) {
+    for index in first..segments.count() {
         lowest = lower_code(segments, lowest, index);
     }
     lowest
@@ -224,17 +224,14 @@ fn crossing(segments: SegmentTable, code: usize, index: usize) -> Option<u64>
 {
     let segment = segments.segment_of(index);
     let is_wrong = crosses_end(segments, code, segment.offset, segment.filesz);
-    place_if(is_wrong, segment_place(segments, index))
+    place_if(is_wrong, segments.place(index))
 }
 
 fn lowest_crossing(segments: SegmentTable, code: usize) -> Option<u64>
     requires code { IsLowestCode segments.file.now code }
     ensures { IsLowest (SomeBelow (e_phnum segments.entry.file.now) (IsCrossing segments.entry.file.now)) result }
 {
-    lowest_below(
-        segment_count(segments),
-        |index| crossing(segments, code, index),
-    )
+    lowest_below(segments.count(), |index| crossing(segments, code, index))
 }
 
 fn crossing_table(segments: SegmentTable, code: usize) -> Option<u64>
@@ -245,7 +242,7 @@ fn crossing_table(segments: SegmentTable, code: usize) -> Option<u64>
         file: segments.file,
     };
     let offset = header.fields().phoff;
-    let size = PHDR_SIZE as u64 * segment_count(segments) as u64;
+    let size = PHDR_SIZE as u64 * segments.count() as u64;
     place_if(crosses_end(segments, code, offset, size), offset)
 }
 

@@ -4,7 +4,7 @@ ghost use Rattle.elf_image.specs.file.Header.{e_phnum};
 ghost use Rattle.elf_image.specs.internal.SegmentExtents.{AreExtents, IsExtentOf, IsAddressExtent, IsFileExtent};
 ghost use Rattle.elf_image.specs.internal.SegmentExtents.{IsCodeExtent};
 
-use crate::entries::{SegmentTable, segment_count, segment_place};
+use crate::entries::SegmentTable;
 use crate::extent::Extent;
 use crate::segment::PT_LOAD;
 use rb_bytes::fault::NoMemory;
@@ -33,7 +33,7 @@ pub fn segment_extents(
         (e_phnum segments.entry.file.now) extents.items) }
 {
     let mut extents = Vec::new(alloc);
-    for index in 0..segment_count(segments) {
+    for index in 0..segments.count() {
         push_some(&mut extents, extent_of(segments, index, kind))?;
     }
     Ok(extents)
@@ -62,7 +62,7 @@ fn address_extent(segments: SegmentTable, index: usize) -> Option<Extent>
     if segment.kind != PT_LOAD || segment.memsz == 0 {
         return None;
     }
-    Some(extent_from(segment.vaddr, segment.memsz, segment_place(segments, index)))
+    Some(extent_from(segment.vaddr, segment.memsz, segments.place(index)))
 }
 
 // The addresses of a segment, if it is executable and has any.
@@ -88,11 +88,7 @@ fn file_extent(segments: SegmentTable, index: usize) -> Option<Extent>
     if segment.kind != PT_LOAD || segment.filesz == 0 {
         return None;
     }
-    Some(extent_from(
-        segment.offset,
-        segment.filesz,
-        segment_place(segments, index),
-    ))
+    Some(extent_from(segment.offset, segment.filesz, segments.place(index)))
 }
 
 // So many numbers from one on.

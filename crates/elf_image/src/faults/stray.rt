@@ -8,7 +8,7 @@ ghost use Rattle.elf_image.specs.file.Sections.{holds_code};
 ghost use Rattle.elf_image.specs.faults.LowestPlace.{IsLowest, SomeBelow};
 ghost use Rattle.elf_image.specs.internal.Extents.{IsInOneExtent};
 
-use crate::entries::{SectionTable, SegmentTable, section_count, section_place};
+use crate::entries::{SectionTable, SegmentTable};
 use crate::extent::{Extent, is_covered, reaches_of, sort_by_start};
 use crate::faults::segment_extents::{ExtentKind, segment_extents};
 use crate::lowest::{lowest_below, place_if};
@@ -51,7 +51,7 @@ fn stray_section(headers: SectionTable, reaches: &[Extent], index: usize) -> Opt
     ensures { IsLowest (IsStraySection headers.entry.file.now index) result }
 {
     let is_wrong = is_stray(reaches, &headers.section_of(index));
-    place_if(is_wrong, section_place(headers, index))
+    place_if(is_wrong, headers.place(index))
 }
 
 fn lowest_stray(headers: SectionTable, reaches: &[Extent]) -> Option<u64>
@@ -61,7 +61,7 @@ fn lowest_stray(headers: SectionTable, reaches: &[Extent]) -> Option<u64>
     ensures { IsLowest (SomeBelow (e_shnum headers.entry.file.now) (IsStraySection headers.entry.file.now)) result }
 {
     lowest_below(
-        section_count(headers),
+        headers.count(),
         |index| stray_section(headers, reaches, index),
     )
 }

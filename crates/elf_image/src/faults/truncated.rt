@@ -11,10 +11,7 @@ ghost use Rattle.elf_image.specs.faults.LowestPlace.{IsLowest, SomeBelow};
 ghost use Rattle.elf_image.specs.file.Sections.{section_names};
 ghost use Rattle.elf_image.specs.file.Symbols.{symbol_table, symbol_count, symbol_names};
 
-use crate::entries::{
-    SectionTable, SegmentTable, has_contents, section_count, section_place, segment_count,
-    symbol_count, symbol_table,
-};
+use crate::entries::{SectionTable, SegmentTable, has_contents, symbol_count, symbol_table};
 use crate::header::{E_PHENTSIZE, E_SHENTSIZE, E_SHSTRNDX, EHDR_SIZE, Header};
 use crate::lowest::{lower, lowest_below, place_if};
 use crate::names::{last_end, section_names, symbol_names};
@@ -60,10 +57,7 @@ fn lowest_truncated_segment(segments: SegmentTable) -> Option<u64>
     ensures { IsLowest (SomeBelow (e_phnum segments.entry.file.now) (IsTruncatedSegment segments.entry.file.now))
         result }
 {
-    lowest_below(
-        segment_count(segments),
-        |index| truncated_segment(segments, index),
-    )
+    lowest_below(segments.count(), |index| truncated_segment(segments, index))
 }
 
 fn truncated_section(headers: SectionTable, index: usize) -> Option<u64>
@@ -78,10 +72,7 @@ fn truncated_section(headers: SectionTable, index: usize) -> Option<u64>
 fn lowest_truncated_section(headers: SectionTable) -> Option<u64>
     ensures { IsLowest (SomeBelow (e_shnum headers.entry.file.now) (IsTruncatedSection headers.entry.file.now)) result }
 {
-    lowest_below(
-        section_count(headers),
-        |index| truncated_section(headers, index),
-    )
+    lowest_below(headers.count(), |index| truncated_section(headers, index))
 }
 
 fn unnamed_section(headers: SectionTable, index: usize, end: usize) -> Option<u64>
@@ -90,7 +81,7 @@ fn unnamed_section(headers: SectionTable, index: usize, end: usize) -> Option<u6
     ensures { IsLowest (IsUnnamedSection headers.entry.file.now index) result }
 {
     let section = headers.section_of(index);
-    place_if(end <= section.name as usize, section_place(headers, index))
+    place_if(end <= section.name as usize, headers.place(index))
 }
 
 // The names of sections in a table that is whole.
@@ -100,7 +91,7 @@ fn lowest_unnamed_in(headers: SectionTable, table: &[u8]) -> Option<u64>
 {
     let end = last_end(table);
     lowest_below(
-        section_count(headers),
+        headers.count(),
         |index| unnamed_section(headers, index, end),
     )
 }

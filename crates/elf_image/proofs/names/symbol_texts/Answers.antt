@@ -10,12 +10,12 @@ use Rattle.elf_image.proofs.names.symbol_texts.Goals as goal
 pub section_bytes-requires : goal.section_bytes-requires
 section_bytes-requires c =
     subst (HasContents c.args.file.now) (sym c.section_of.ensures)
-    (c.requires.contents c.args.table.now.link (omega (arith, c.if-table-section_count.false, c.section_count.ensures)))
+    (c.requires.contents c.args.table.now.link (omega (arith, c.if-table-count.false, c.count.ensures)))
 
 pub returns : goal.returns
 returns c =
     let file = c.args.file.now in
     let link = c.args.table.now.link in
-    let below : link < e_shnum file = omega (arith, c.if-table-section_count.false, c.section_count.ensures) in
+    let below : link < e_shnum file = omega (arith, c.if-table-count.false, c.count.ensures) in
     c.section_bytes.ensures.bytes ∙ ap (λ (s : SectionHeader). contents file s) c.section_of.ensures
     ∙ ap (λ (b : Bool). if b then contents file (section_header file link) else []) (sym (lt-ltb link (e_shnum file) below))

@@ -1,4 +1,4 @@
-use Rattle.std.proofs.Common.{◌≡◌, refl, length, arith}
+use Rattle.std.proofs.Common.{◌≡◌, ◌∙◌, refl, sym, length, arith}
 use Rattle.std.proofs.lemmas.List.{get_or_default}
 use Rattle.rv_reloc.proofs.Places.{IsPlaceOf-begin, IsPlaceOf-next, IsPlaceOf-all}
 use Rattle.std.proofs.lemmas.Bool.{eqb-true, eq-eqb}
@@ -11,7 +11,7 @@ pub loop-symbol-preserved : goal.loop-symbol-preserved
 loop-symbol-preserved c =
     IsPlaceOf-next _ _ c.args.symbols.now c.loop-symbol.symbol-index _ _ _ _ _ _ c.loop-symbol-test.true
     (get_or_default _ _ _ _ c.loop-symbol-test.true) c.lower-lowest.ensures c.loop-symbol.invariant c.place_if.ensures refl
-    (eqb-true _ _, eq-eqb _ _)
+    (λ is. sym c.kind.ensures ∙ eqb-true _ _ is, λ is. eq-eqb _ _ (c.kind.ensures ∙ is))
 
 pub returns : goal.returns
 returns c =

@@ -7,5 +7,5 @@ use Rattle.elf_image.proofs.faults.checks.lowest_writable_code.Goals as goal
 pub returns : goal.returns
 returns c =
     let Is = IsWritableCode c.args.segments.file.now in
-    IsLowest-all Is _ _ _ c.segment_count.ensures
+    IsLowest-all Is _ _ _ c.count.ensures
     (IsLowest-of Is _ _ _ (λ i r below gives. search (rules, gives)) c.lowest_below.ensures)

@@ -8,5 +8,5 @@ pub returns : goal.returns
 returns c =
     let Says : Segment → Type 0 =
     λ p. IsTrue c.crosses_end-is_wrong.result ↔ CrossesEnd c.args.segments.file.now p.offset p.filesz in
-    IsLowest-place _ _ _ _ _ c.place_if.ensures c.segment_place.ensures
+    IsLowest-place _ _ _ _ _ c.place_if.ensures c.place.ensures
     (subst Says c.segment_of-segment.ensures c.crosses_end-is_wrong.ensures)

@@ -9,10 +9,10 @@ use Rattle.elf_image.proofs.faults.loading.crossing_table.Goals as goal
 pub returns : goal.returns
 returns c =
     let AtOffset : ℕ → Type 0 =
-    λ offset. IsTrue c.crosses_end.result ↔ CrossesEnd c.args.segments.file.now offset (PHDR_SIZE * c.segment_count.result) in
+    λ offset. IsTrue c.crosses_end.result ↔ CrossesEnd c.args.segments.file.now offset (PHDR_SIZE * c.count.result) in
     let OfSize : ℕ → Type 0 =
     λ count. IsTrue c.crosses_end.result
     ↔ CrossesEnd c.args.segments.file.now (e_phoff c.args.segments.file.now) (PHDR_SIZE * count) in
     let offset_is = ap (λ (h : HeaderFields). h.phoff) c.fields-offset.ensures in
     IsLowest-place _ _ _ _ _ c.place_if.ensures offset_is
-    (subst OfSize c.segment_count.ensures (subst AtOffset offset_is c.crosses_end.ensures))
+    (subst OfSize c.count.ensures (subst AtOffset offset_is c.crosses_end.ensures))

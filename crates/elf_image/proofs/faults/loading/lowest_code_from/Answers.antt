@@ -17,6 +17,6 @@ loop-index-preserved c = record {
 
 pub returns : goal.returns
 returns c =
-    let all : e_phnum c.args.segments.file.now ≤ c.loop-index.index = let end = c.segment_count-index-end.ensures in let past =
+    let all : e_phnum c.args.segments.file.now ≤ c.loop-index.index = let end = c.count-index-end.ensures in let past =
     c.loop-index-test.false in omega arith in
     IsLowestCodeBelow-all c.args.segments.file.now c.loop-index.index c.loop-index.lowest all c.loop-index.invariant.lowest

@@ -24,7 +24,7 @@ loop-index-preserved c = λ k code from below.
 
 pub returns-clause-none : goal.returns-clause-none
 returns-clause-none c = λ k code from.
-    let end = c.segment_count-index-end.ensures in
+    let end = c.count-index-end.ensures in
     let past = c.loop-index-test.false in
     let below = code.0 in
     c.loop-index.invariant k code from (omega arith)

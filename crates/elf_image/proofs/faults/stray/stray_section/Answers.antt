@@ -12,6 +12,6 @@ returns c =
     let Says : SectionHeader → Type 0 =
     λ s. IsTrue c.is_stray-is_wrong.result
     ↔ (IsTrue (holds_code s.flags) × (s.size ≢ 0) × (IsInOneExtent c.args.reaches.now s.addr (s.addr + s.size) → ⊥)) in
-    IsLowest-place _ _ _ _ _ c.place_if.ensures c.section_place.ensures
+    IsLowest-place _ _ _ _ _ c.place_if.ensures c.place.ensures
     (IsStray-same file c.args.reaches.now (section_header file c.args.index) _ c.requires.covered
     (subst Says c.section_of.ensures c.is_stray-is_wrong.ensures))

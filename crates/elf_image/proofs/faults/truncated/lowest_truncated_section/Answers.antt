@@ -7,5 +7,5 @@ use Rattle.elf_image.proofs.faults.truncated.lowest_truncated_section.Goals as g
 pub returns : goal.returns
 returns c =
     let Is = IsTruncatedSection c.args.headers.file.now in
-    IsLowest-all Is _ _ _ c.section_count.ensures
+    IsLowest-all Is _ _ _ c.count.ensures
     (IsLowest-of Is _ _ _ (λ i r below gives. search (rules, gives)) c.lowest_below.ensures)
