@@ -5,14 +5,13 @@ ghost use Rattle.dw_unit.specs.Faults.{FaultPlaces as Places, HasDwarfFault};
 ghost use Rattle.addr_rewrite.specs.ArangesReading.{AreKept};
 ghost use Rattle.addr_rewrite.specs.Tables.{places_by};
 
-use crate::put_tables::VERSION;
 use crate::table_list::read_tables;
 use crate::unit_index::UnitIndex;
 use dw_unit::address_table::other_version;
 use dw_unit::fault_places::{FaultPlaces, refused};
 use rb_bytes::fault::Refusal;
 use std::alloc::Global;
-use table_core::debug_units;
+use table_core::{ARANGES_VERSION, debug_units};
 
 /// Reads a section of tables, or refuses it for the first of its faults and of those of units, which come before its
 /// own.
@@ -25,7 +24,7 @@ pub fn read_index(alloc: Global, units: FaultPlaces, section: &[u8]) -> Result<U
         record { version = units.version; form = units.form; high = units.high; bad = units.bad } ≡ p →
         IsRefusalBy (HasDwarfFault (places_by p section.now)) e) }
 {
-    let tables = debug_units(alloc, VERSION, section)?;
+    let tables = debug_units(alloc, ARANGES_VERSION, section)?;
     let read = read_tables(alloc, &tables)?;
     let other = other_version(&tables);
     let version = units.version.or(other);

@@ -6,9 +6,7 @@ ghost use Rattle.addr_rewrite.specs.WrittenAranges as spec;
 use crate::stretch::Stretch;
 use rb_bytes::fault::NoMemory;
 use rb_bytes::little::{put_u16, put_u32, put_u64};
-
-/// The version of tables of ranges of addresses that is read and written.
-pub const VERSION: u16 = 2;
+use table_core::ARANGES_VERSION;
 
 // An address size of 8, and a segment selector size of 0.
 const SIZES: u16 = 8;
@@ -44,7 +42,7 @@ fn put_table(out: &mut Vec<u8>, unit: u32, stretches: &[Stretch]) -> Result<(), 
     ensures { OnOk result (out.new.items ≡ out.old.items ++ spec.spelled_table (spec.table_bytes unit stretches.now)) }
 {
     put_u32(out, (FIXED_SIZE + PAIR_SIZE * stretches.len()) as u32)?;
-    put_u16(out, VERSION)?;
+    put_u16(out, ARANGES_VERSION)?;
     put_u32(out, unit)?;
     put_u16(out, SIZES)?;
     put_u32(out, 0)?;

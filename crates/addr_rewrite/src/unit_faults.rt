@@ -14,10 +14,7 @@ use dw_unit::unit_faults::{UnitFaults, fault_places};
 use dw_unit::unit_reading::UnitReading;
 use rb_bytes::fault::NoMemory;
 use std::alloc::Global;
-use table_core::{DebugUnit, debug_units};
-
-/// The version of DWARF that is read.
-pub const VERSION: u16 = 5;
+use table_core::{DWARF_VERSION, DebugUnit, debug_units};
 
 // The place of a unit that can't be read.
 fn bad_place(place: u64, reading: &UnitReading) -> Option<u64>
@@ -80,7 +77,7 @@ pub fn unit_places(
     ensures { IfOk result (λ p. record { version = p.version; form = p.form; high = p.high; bad = p.bad }
         ≡ unit_fault_places (sections info.now abbrevs.now addr.now)) }
 {
-    let address_tables = debug_units(alloc, VERSION, addr)?;
+    let address_tables = debug_units(alloc, DWARF_VERSION, addr)?;
     let reader = UnitReader::new(alloc, info, abbrevs, addr)?;
     let faults = noted(alloc, &reader)?;
     Ok(fault_places(faults, reader.units(), &address_tables))

@@ -9,10 +9,7 @@ use crate::put_tables::put_tables;
 use crate::stretch::sorted;
 use rb_bytes::fault::NoMemory;
 use std::alloc::Global;
-use table_core::Run;
-
-// What a run weighs.
-const RUN_WEIGHT: u64 = 32;
+use table_core::{RUN_WEIGHT, Run};
 
 /// The weight of some runs; where it is none of 64 bits, the greatest number.
 pub fn weight_of(runs: &[Run<u64>]) -> u64

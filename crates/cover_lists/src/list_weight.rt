@@ -8,10 +8,10 @@ ghost use Rattle.cover_lists.specs.ListWeights as spec;
 use crate::carried_lists::carried_lists;
 use crate::kept_list::KeptList;
 use crate::list_runs::ListRun;
-use crate::range_weight::RUN_WEIGHT;
 use addr_map::AddrMap;
 use rb_bytes::fault::NoMemory;
 use std::alloc::Global;
+use table_core::RUN_WEIGHT;
 
 // What an expression weighs beside its bytes.
 const EXPRESSION_WEIGHT: u64 = 16;

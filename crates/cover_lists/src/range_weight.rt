@@ -5,10 +5,7 @@ ghost use Rattle.cover_lists.specs.GroupRuns as spec;
 
 use crate::group_runs::runs_in;
 use crate::groups::RangedEntry;
-use table_core::Run;
-
-/// What a run weighs.
-pub const RUN_WEIGHT: u64 = 32;
+use table_core::{RUN_WEIGHT, Run};
 
 // The weight of the runs of an entry.
 fn entry_weight(entry: RangedEntry, lists: &[Vec<Run<bool>>]) -> u64

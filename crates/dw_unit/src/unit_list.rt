@@ -13,10 +13,7 @@ use crate::tables::read_tables;
 use crate::unit_faults::{UnitFaults, fault_places};
 use rb_bytes::fault::Refusal;
 use std::alloc::Global;
-use table_core::debug_units;
-
-/// The version of DWARF that is read.
-pub const VERSION: u16 = 5;
+use table_core::{DWARF_VERSION, debug_units};
 
 /// All entries of the units of `.debug_info`, by their abbreviations and addresses, in order.
 pub fn listed_units(
@@ -30,8 +27,8 @@ pub fn listed_units(
     ensures fault { IfErr result (IsRefusalBy (HasDwarfFault
         (unit_fault_places (sections info.now abbrevs.now addr.now)))) }
 {
-    let units = debug_units(alloc, VERSION, info)?;
-    let address_tables = debug_units(alloc, VERSION, addr)?;
+    let units = debug_units(alloc, DWARF_VERSION, info)?;
+    let address_tables = debug_units(alloc, DWARF_VERSION, addr)?;
     let offsets = abbrev_offsets(alloc, &units)?;
     let tables = read_tables(alloc, abbrevs, &offsets)?;
     let readings = read_units(alloc, &tables, addr, &units)?;

@@ -6,12 +6,11 @@ ghost use Rattle.dw_unit.specs.UnitReadings.{IsReading};
 use crate::offsets::abbrev_offsets;
 use crate::read_unit::read_unit;
 use crate::tables::{Tables, read_tables};
-use crate::unit_list::VERSION;
 use crate::unit_reading::UnitReading;
 use rb_bytes::fault::NoMemory;
 use std::alloc::Global;
 use std::marker::Model;
-use table_core::{DebugUnit, debug_units};
+use table_core::{DWARF_VERSION, DebugUnit, debug_units};
 
 /// Reads the units of a section, by their abbreviations and addresses. Each declaration that they name is read once.
 #[derive(Drop)]
@@ -41,7 +40,7 @@ impl<'a, 's> UnitReader<'a, 's> {
     ) -> Result<UnitReader<'a, 's>, NoMemory>
         ensures { IfOk result (λ r. r ≡ record { units = walked 5 info.now; abbrevs = abbrevs.now; addr = addr.now }) }
     {
-        let units = debug_units(alloc, VERSION, info)?;
+        let units = debug_units(alloc, DWARF_VERSION, info)?;
         let offsets = abbrev_offsets(alloc, &units)?;
         let tables = read_tables(alloc, abbrevs, &offsets)?;
         Ok(UnitReader {

@@ -9,10 +9,9 @@ ghost use Rattle.dw_unit.specs.MapKeys.{HasKeys};
 
 use crate::offsets::abbrev_offsets;
 use crate::tables::{Tables, read_tables};
-use crate::unit_list::VERSION;
 use rb_bytes::fault::NoMemory;
 use std::alloc::Global;
-use table_core::debug_units;
+use table_core::{DWARF_VERSION, debug_units};
 
 // Three times the bytes between an offset and the end of its table.
 fn table_weight(offset: u64, end: Option<u64>) -> u64
@@ -48,7 +47,7 @@ pub fn weigh_tables(
     requires sound { IsFree (HasDwarfFault (unit_fault_places (sections info.now abbrevs.now addr.now))) }
     ensures { IfOk result (λ n. n ≡ min (spec.abbrev_weight (sections info.now abbrevs.now addr.now)) (2 ^ 64 - 1)) }
 {
-    let units = debug_units(alloc, VERSION, info)?;
+    let units = debug_units(alloc, DWARF_VERSION, info)?;
     let offsets = abbrev_offsets(alloc, &units)?;
     let tables = read_tables(alloc, abbrevs, &offsets)?;
     Ok(sum_weights(&tables, &offsets))

@@ -17,10 +17,7 @@ use crate::unit::Unit;
 use crate::unit_reader::read_unit;
 use rb_bytes::fault::{Fault, FaultKind, NoMemory, Refusal};
 use std::alloc::Global;
-use table_core::{DebugUnit, FirstRange, Range, debug_units};
-
-/// The version of line units that are read.
-pub const VERSION: u16 = 5;
+use table_core::{DWARF_VERSION, DebugUnit, FirstRange, Range, debug_units};
 
 // The first unit of another version.
 fn first_other(units: &[DebugUnit]) -> Option<u64>
@@ -78,7 +75,7 @@ pub fn read_units(
         × (line_version (line_sections_held line.now str.now line_str.now) ≡ None))
         (λ e. IsRefusalBy (HasLineFault (line_sections_held line.now str.now line_str.now)) e) }
 {
-    let walked = debug_units(alloc, VERSION, line)?;
+    let walked = debug_units(alloc, DWARF_VERSION, line)?;
     if let Some(place) = first_other(&walked) {
         return Err(Refusal::Fault(Fault::at(FaultKind::DwarfVersion, place)));
     }
@@ -91,7 +88,7 @@ pub fn offsets_of(alloc: Global, line: &[u8]) -> Result<FirstRange, NoMemory>
     ensures { IfOk result (λ index. (a : ℕ) → first_range index a
         ≡ position (holds_address a) (map place_range (walked 5 line.now))) }
 {
-    let walked = debug_units(alloc, VERSION, line)?;
+    let walked = debug_units(alloc, DWARF_VERSION, line)?;
     let mut ranges = Vec::new(alloc);
     for unit in &walked {
         ranges.push(Range {

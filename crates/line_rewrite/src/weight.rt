@@ -4,10 +4,7 @@ ghost use Rattle.table_core.specs.Weights.{run_weight};
 ghost use Rattle.line_rewrite.specs.Tables.{row_weight};
 
 use crate::answer::LineAt;
-use table_core::Run;
-
-// What a run weighs, whatever it says.
-const RUN_WEIGHT: u64 = 32;
+use table_core::{RUN_WEIGHT, Run};
 
 // What a row weighs.
 const ROW_WEIGHT: u64 = 96;

@@ -10,13 +10,12 @@ use crate::answer::LineAt;
 use crate::program_list::programs_of;
 use crate::sequence_index::SequenceIndex;
 use crate::unit::Unit;
-use crate::unit_list::VERSION;
 use crate::unit_writer::put_units;
 use addr_map::AddrMap;
 use rb_bytes::fault::NoMemory;
 use std::alloc::Global;
 use table_core::written::DW_AT_stmt_list;
-use table_core::{DebugUnit, ListAt, Run, Written, debug_units};
+use table_core::{DWARF_VERSION, DebugUnit, ListAt, Run, Written, debug_units};
 
 // The places of units, with those of others in the same order.
 fn paired(alloc: Global, olds: &[DebugUnit], news: &[DebugUnit]) -> Result<Vec<ListAt>, NoMemory>
@@ -40,8 +39,8 @@ fn paired(alloc: Global, olds: &[DebugUnit], news: &[DebugUnit]) -> Result<Vec<L
 fn moved(alloc: Global, old: &[u8], new: &[u8]) -> Result<Vec<ListAt>, NoMemory>
     ensures { IfOk result (λ l. l.items ≡ moved_units (places_in old.now) (places_in new.now)) }
 {
-    let olds = debug_units(alloc, VERSION, old)?;
-    let news = debug_units(alloc, VERSION, new)?;
+    let olds = debug_units(alloc, DWARF_VERSION, old)?;
+    let news = debug_units(alloc, DWARF_VERSION, new)?;
     paired(alloc, &olds, &news)
 }
 

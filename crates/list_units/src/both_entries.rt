@@ -12,7 +12,7 @@ ghost use Rattle.list_units.specs.RangeReading as ranges_read;
 use crate::place_entries::{PlacedEntries, fault_places};
 use crate::place_reading::PlaceProgress;
 use crate::placing::PlaceSections;
-use crate::range_entries::{RangedEntries, VERSION, place_of};
+use crate::range_entries::{RangedEntries, place_of};
 use crate::range_reading::Progress;
 use crate::{place_entries, place_reading, range_entries, range_reading};
 use dw_lists::list_section::ListSection;
@@ -21,7 +21,7 @@ use dw_unit::fault_places::refused;
 use dw_unit::unit_reading::UnitReading;
 use rb_bytes::fault::{NoMemory, Refusal};
 use std::alloc::Global;
-use table_core::debug_units;
+use table_core::{DWARF_VERSION, debug_units};
 
 /// The entries that have ranges, and what all entries say of locations.
 #[derive(Drop)]
@@ -109,9 +109,9 @@ pub fn read_both(
         (HasDwarfFault (location_places
         (list_sections_held info.now abbrevs.now addr.now ranges.now locations.now))) e) }
 {
-    let address_tables = debug_units(alloc, VERSION, addr)?;
-    let range_tables = debug_units(alloc, VERSION, ranges)?;
-    let location_tables = debug_units(alloc, VERSION, locations)?;
+    let address_tables = debug_units(alloc, DWARF_VERSION, addr)?;
+    let range_tables = debug_units(alloc, DWARF_VERSION, ranges)?;
+    let location_tables = debug_units(alloc, DWARF_VERSION, locations)?;
     let reader = UnitReader::new(alloc, info, abbrevs, addr)?;
     let sections = PlaceSections {
         info,

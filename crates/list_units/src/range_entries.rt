@@ -16,10 +16,7 @@ use dw_unit::lowest::lower;
 use dw_unit::{UnitReader, address_table};
 use rb_bytes::fault::{NoMemory, Refusal};
 use std::alloc::Global;
-use table_core::{DebugUnit, debug_units};
-
-/// The version of DWARF that is read.
-pub const VERSION: u16 = 5;
+use table_core::{DWARF_VERSION, DebugUnit, debug_units};
 
 /// The entries that have ranges, in order.
 #[derive(Drop)]
@@ -127,8 +124,8 @@ pub fn read_ranges(
         IsRefusalBy
         (HasDwarfFault (range_places (list_sections_held info.now abbrevs.now addr.now ranges.now locations))) e) }
 {
-    let address_tables = debug_units(alloc, VERSION, addr)?;
-    let tables = debug_units(alloc, VERSION, ranges)?;
+    let address_tables = debug_units(alloc, DWARF_VERSION, addr)?;
+    let tables = debug_units(alloc, DWARF_VERSION, ranges)?;
     let reader = UnitReader::new(alloc, info, abbrevs, addr)?;
     let section = ListSection {
         bytes: ranges,

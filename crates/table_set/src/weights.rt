@@ -15,10 +15,7 @@ use dw_unit::abbrev_weight;
 use elf_image::Elf;
 use rb_bytes::fault::NoMemory;
 use std::alloc::Global;
-use table_core::AddrTable;
-
-// The greatest weight of a table that is written.
-const WEIGHT_LIMIT: u64 = 4_000_000_000;
+use table_core::{AddrTable, WEIGHT_LIMIT};
 
 // How much the declarations of units may weigh for each byte of the file, and beside: units can begin theirs at any
 // declaration of one long table, and each gets all that follow.
