@@ -250,8 +250,8 @@ def mixed_entries(count, size):
 
 def mixed(size):
     """Near all bounds at once: as many ranges and locations as are kept of a file of this size, one for each 32 bytes
-    and 2^18 beside, in a unit whose entries take as much as they may; and rows of lines and of frames."""
-    count = min(size // 32 + (1 << 18) - 8000, size // 28)
+    and 2^17 beside, in a unit whose entries take as much as they may; and rows of lines and of frames."""
+    count = min(size // 32 + (1 << 17) - 8000, size // 28)
     code, tables = mixed_code(size // 64)
     fields = ((0x11, 0x01), (0x12, 0x06), (0x73, 0x17))  # DW_AT_addr_base by DW_FORM_sec_offset
     declarations = declaration(1, 0x11, 1, *fields)

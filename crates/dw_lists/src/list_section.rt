@@ -34,10 +34,11 @@ pub struct ListSection<'a, 't> {
     pub most: usize,
 }
 
-// Of how many bytes of a file one is kept. Files of compilers have 150 for each, and more.
+// Of how many bytes of a file one is kept. Files of compilers have 320 for each, and 78 where relocations are left out.
 const BYTES_OF_EACH: usize = 32;
 
-const KEPT_BESIDE: usize = 1 << 18;
+// How many are kept beside these, so that no small file meets the bound.
+const KEPT_BESIDE: usize = 1 << 17;
 
 /// How many ranges, entries with ranges, items of location lists, and attributes that say where something is, are kept at
 /// most, each of these, of a file of so many bytes. An entry or item of a few bytes takes up to a KiB of memory until
