@@ -1,5 +1,4 @@
-//! The room that a file has for new code and its tables: how many bytes these need at most, and where there are so
-//! many.
+//! How many bytes new code and its tables take at most; and, of `file_room`, where a file has room for so many.
 #![tactic(auto)]
 
 mod block_counts;

@@ -21,7 +21,8 @@ use Rattle.elf_plan.specs.Area.{loads_end, lowest_behind, moved_by, area_offset}
 use Rattle.elf_plan.specs.Contents.{contents_of}
 use Rattle.elf_plan.specs.NewSections.{adds_ranges}
 
--- The fields of the header that stay: all but e_entry, e_phoff, e_shoff, e_phnum, e_shnum and e_shstrndx.
+-- The fields of the header that stay: all but e_entry, e_phoff, e_shoff, e_phnum and e_shnum. NewSections says so of
+-- e_shstrndx.
 pub record KeepsHeaderFields (file w : List ℕ) : Type 0 where
   -- e_ident, e_type, e_machine and e_version
   pub kind : slice_range w 0 0x18 ≡ slice_range file 0 0x18
