@@ -5,8 +5,8 @@
 
 checks/wrong_bodies/CRATE/NAME.edit says what is changed in the crate of that name, in the form of the edits that
 the gate tries (crates/CRATE/must-fail). They stand here and not there where the crate takes long to check, or
-where others tell more of it. So they are tried by hand before a release, in a copy of the repository: of all
-crates, or of those that are named.
+where others tell more of it. So they are tried by hand before a release, in copies of the repository, one for
+each crate that is tried at a time: of all crates, or of those that are named.
 
 An edit of a function is tried by a check of that function alone, which takes seconds once the libraries below the
 crate are built. Only where it still proves, or where the edit is of something else than a function, the whole
@@ -18,6 +18,7 @@ The last line counts the edits that were refused. The status is 0 where all were
 import argparse
 import concurrent.futures
 import pathlib
+import queue
 import re
 import shutil
 import subprocess
@@ -165,6 +166,14 @@ def try_crate(folder, crate):
     return refused
 
 
+def copy_repository(folder):
+    """Copies what checks read, with the libraries that are built already, which a check would else build again."""
+    shutil.copytree(ROOT / "crates", folder / "crates", ignore=shutil.ignore_patterns("must-fail"))
+    for file in ("crates.txt", "HANDLES"):
+        shutil.copy(ROOT / file, folder)
+    return folder
+
+
 def main():
     known = sorted(path.name for path in EDITS.iterdir() if any(path.glob("*.edit")))
     words = argparse.ArgumentParser(description="Tries wrong bodies of functions.")
@@ -177,13 +186,20 @@ def main():
         sys.exit(f"no wrong bodies of {unknown[0]}; there are those of {', '.join(known)}")
     wanted = sum(len(list((EDITS / crate).glob("*.edit"))) for crate in crates)
     with tempfile.TemporaryDirectory(prefix="wrong-bodies-") as name:
-        folder = pathlib.Path(name)
-        # (with the libraries that are built already, which a check would else build again)
-        shutil.copytree(ROOT / "crates", folder / "crates", ignore=shutil.ignore_patterns("must-fail"))
-        for file in ("crates.txt", "HANDLES"):
-            shutil.copy(ROOT / file, folder)
+        # (a copy for each, as an edit of a crate is one of all that stand on it)
+        copies = queue.SimpleQueue()
+        for number in range(told.jobs):
+            copies.put(copy_repository(pathlib.Path(name) / str(number)))
+
+        def try_one(crate):
+            folder = copies.get()
+            try:
+                return try_crate(folder, crate)
+            finally:
+                copies.put(folder)
+
         with concurrent.futures.ThreadPoolExecutor(told.jobs) as pool:
-            refused = sum(pool.map(lambda crate: try_crate(folder, crate), crates))
+            refused = sum(pool.map(try_one, crates))
     print(f"{refused} of {wanted} refused")
     sys.exit(0 if refused == wanted else 1)
 
