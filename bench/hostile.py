@@ -1,7 +1,7 @@
 #!/usr/bin/env python3
 """Seconds and memory of files that are made to be slow, and how both grow with the file.
 
-    python3 bench/hostile.py [--tool COMMAND] [--kib KIB] [--runs N] [--large] [--command NAME].. [KIND..]
+    python3 bench/hostile.py [--tool COMMAND] [--kib KIB] [--runs N] [--large] [--make FOLDER] [--command NAME].. [KIND..]
 
 Each kind is a small file in which few bytes name or say much: names that are ends of one text, headers of sections
 over one table, an entry of an unwind table with a row for each instruction, scopes each inside the next. A file of
@@ -13,12 +13,13 @@ line has the kind, the command, the size, the seconds of the processor and the p
 MiB, its growth says nothing and is left out.
 
 The seconds may be at most 3 and 6 millionths a byte, on a slow machine of 2026 that does other work besides; on one of
-twice the speed expect half of them. No memory may be more than 64 times the file and 1.25 GiB beside; and all growth
+twice the speed expect half of them. No memory may be more than 64 times the file and a GiB beside; and all growth
 has to be below 2.5 but where what is said has a bound, past which memory is said to be wanting (BOUNDED). The script
 ends with status 1 where some isn't so. No more is given than 6 GiB and 300 seconds. With --large those of LARGE are
 run, at a quarter, a half and the whole of the size that is named there: 60,000 units over one table of declarations, a
 million lists that overlap, 64 MiB of rows at one address, a million entries for one range, as many functions as a file
-may have with a row of lines for each instruction, and entries, ranges and locations in a file of nearly 64 MiB.
+may have with a row of lines for each instruction, and entries, ranges and locations in a file of nearly 64 MiB. With
+--make the smallest file of each kind is written into FOLDER, and nothing is run.
 """
 import argparse
 import os
@@ -34,7 +35,7 @@ from hostile_units import BOUNDED_UNITS, UNITS
 ROOT = os.path.dirname(os.path.dirname(os.path.abspath(__file__)))
 MOST, LEAST_SECONDS, LEAST_MIB = 2.5, 0.05, 32
 SECONDS, SECONDS_A_BYTE = 3, 6e-6
-MEMORY, MEMORY_A_BYTE = 5 << 28, 64
+MEMORY, MEMORY_A_BYTE = 1 << 30, 64
 MOST_MEMORY, MOST_SECONDS = 6 << 30, 300
 
 # Sizes in KiB of files whose tables are as large as any, or nearly so. With more bytes `line-rows` would have more

@@ -19,7 +19,7 @@ aren't near-linear in the size of the files (0.25 and 4 millionths a byte), memo
 16 MiB beside, or of more than 1 GiB; and, of some: a rewrite that `verify` doesn't call faithful, that `map` prints
 otherwise, that ends otherwise than the input does on the symbol machine, or of which `lookup` or `frames` says
 something else than of the input. The promise is wider (docs/DECISIONS.md, "Written tables"): 64 times the size and
-1.25 GiB beside, and 6 millionths of a second a byte and 3 seconds beside. Less is asked for here on purpose, since
+a GiB beside, and 6 millionths of a second a byte and 3 seconds beside. Less is asked for here on purpose, since
 these files are small: one of a few KiB could take a GiB, or seconds, unseen.
 
 With --keep the files of what is reported, or of a single input, stay in FOLDER, in a folder each, with the words. The
