@@ -4,6 +4,7 @@ use Rattle.rv_code.specs.declared.placed.Func.{Func}
 use Rattle.elf_image.specs.declared.elf.Elf.{Elf}
 use Rattle.elf_image.specs.file.Header.{e_phnum, e_shnum}
 use Rattle.elf_write.specs.NameWeight.{name_weight}
+use Rattle.rb_bytes.specs.declared.limit.TheConstants.{HEADERS, WEIGHTS}
 use Rattle.program.specs.Limits.{IsCodeTooLarge}
 
 -- of section headers, and of program headers
@@ -18,6 +19,6 @@ name_limit = 4000000000
 -- or the names that are written. Of functions whose cold part stands apart, `cold` has the addresses of that.
 pub data IsTooLarge (elf : Elf) (funcs : List Func) (cold : List ℕ) (place : ℕ) : Type 0 where
   large_code : IsCodeTooLarge elf.file.now funcs place → IsTooLarge elf funcs cold place
-  many_sections : place ≡ 5 → header_limit < e_shnum elf.file.now → IsTooLarge elf funcs cold place
-  many_segments : place ≡ 5 → header_limit < e_phnum elf.file.now → IsTooLarge elf funcs cold place
-  long_names : place ≡ 6 → name_limit < name_weight elf funcs cold → IsTooLarge elf funcs cold place
+  many_sections : place ≡ HEADERS → header_limit < e_shnum elf.file.now → IsTooLarge elf funcs cold place
+  many_segments : place ≡ HEADERS → header_limit < e_phnum elf.file.now → IsTooLarge elf funcs cold place
+  long_names : place ≡ WEIGHTS → name_limit < name_weight elf funcs cold → IsTooLarge elf funcs cold place

@@ -5,6 +5,7 @@ use Rattle.rb_bytes.specs.Fault.{fault_at}
 use Rattle.rb_bytes.specs.FirstFault.{IsAnswered, IsFree}
 use Rattle.rb_bytes.specs.declared.fault.Fault.{Fault}
 use Rattle.rb_bytes.specs.declared.fault.FaultKind.TheVariants.{TooLarge}
+use Rattle.rb_bytes.specs.declared.limit.TheConstants.{FILE_BYTES, PROFILE_BYTES, WEIGHTS}
 use Rattle.rb_bytes.specs.declared.fault.Refusal.{Refusal}
 use Rattle.rv_code.specs.declared.layout.Chains.{Chains}
 use Rattle.addr_map.specs.declared.span.Span.{Span}
@@ -44,8 +45,8 @@ pub record CanStand (x : Program) : Type 0 where
 -- code from being placed; what keeps its tables from being carried; want of room; and then the other limits, of which
 -- the weights of tables are the last.
 pub data IsRefused (file profile : List ℕ) (fault : Fault) : Type 0 where
-  long_file : file_limit < length file → fault ≡ fault_at TooLarge 0 → IsRefused file profile fault
-  long_profile : length file ≤ file_limit → file_limit < length profile → fault ≡ fault_at TooLarge 1 →
+  long_file : file_limit < length file → fault ≡ fault_at TooLarge FILE_BYTES → IsRefused file profile fault
+  long_profile : length file ≤ file_limit → file_limit < length profile → fault ≡ fault_at TooLarge PROFILE_BYTES →
       IsRefused file profile fault
   unreadable : Fit file profile → IsUnreadable file fault → IsRefused file profile fault
   misplaced : (x : Program) → IsInput file profile x → IsAnswered (HasPlacementFault x.code.funcs x.blocks) fault →
@@ -62,7 +63,7 @@ pub data IsRefused (file profile : List ℕ) (fault : Fault) : Type 0 where
       ((place : ℕ) → IsTooLarge x.elf x.code.funcs (cold_starts x.code.funcs x.blocks parts) place → ⊥) →
       (order : List ℕ) → IsProfileOrder x profile pairs parts order →
       (spans : List Span) (code : List ℕ) → IsLaidOutBy x order spans code → IsTooHeavy x.elf spans →
-      fault ≡ fault_at TooLarge 6 → IsRefused file profile fault
+      fault ≡ fault_at TooLarge WEIGHTS → IsRefused file profile fault
 
 -- a refusal names such a fault; memory may run out at any time
 abbrev pub IsRefusal : List ℕ → List ℕ → Refusal → Type 0

@@ -21,6 +21,7 @@ use elf_image::Elf;
 use elf_write::name_weight;
 use program::{FILE_LIMIT, check_code};
 use rb_bytes::fault::{Fault, FaultKind, Refusal};
+use rb_bytes::limit::{FILE_BYTES, HEADERS, PROFILE_BYTES, WEIGHTS};
 use rv_code::Func;
 use std::alloc::Global;
 use table_set::{AllTables, is_too_heavy};
@@ -37,10 +38,10 @@ pub fn check_lengths(file: &[u8], profile: &[u8]) -> Result<(), Refusal>
     ensures refused { IfErr result (IsRefusal file.now profile.now) }
 {
     if file.len() > FILE_LIMIT {
-        return Err(Refusal::Fault(Fault::at(FaultKind::TooLarge, 0)));
+        return Err(Refusal::Fault(Fault::at(FaultKind::TooLarge, FILE_BYTES)));
     }
     if profile.len() > FILE_LIMIT {
-        return Err(Refusal::Fault(Fault::at(FaultKind::TooLarge, 1)));
+        return Err(Refusal::Fault(Fault::at(FaultKind::TooLarge, PROFILE_BYTES)));
     }
     Ok(())
 }
@@ -60,14 +61,14 @@ pub fn check_sizes(
 {
     check_code(elf, funcs)?;
     if elf.sections.len() > HEADER_LIMIT {
-        return Err(Refusal::Fault(Fault::at(FaultKind::TooLarge, 5)));
+        return Err(Refusal::Fault(Fault::at(FaultKind::TooLarge, HEADERS)));
     }
     if elf.segments.len() > HEADER_LIMIT {
-        return Err(Refusal::Fault(Fault::at(FaultKind::TooLarge, 5)));
+        return Err(Refusal::Fault(Fault::at(FaultKind::TooLarge, HEADERS)));
     }
     let weight = name_weight(alloc, elf, funcs, cold)?;
     if weight > NAME_LIMIT {
-        return Err(Refusal::Fault(Fault::at(FaultKind::TooLarge, 6)));
+        return Err(Refusal::Fault(Fault::at(FaultKind::TooLarge, WEIGHTS)));
     }
     Ok(())
 }
@@ -88,7 +89,7 @@ pub fn check_weight(
     ensures refused { IfErr result (IsRefusalFor (IsHeavy elf.now map.now)) }
 {
     if is_too_heavy(alloc, elf, tables, map)? {
-        return Err(Refusal::Fault(Fault::at(FaultKind::TooLarge, 6)));
+        return Err(Refusal::Fault(Fault::at(FaultKind::TooLarge, WEIGHTS)));
     }
     Ok(())
 }

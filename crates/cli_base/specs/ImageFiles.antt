@@ -4,6 +4,7 @@ use Rattle.std.specs.Prelude.{◌≡◌, ℕ, ◌<◌, ◌≤◌, List, length}
 use Rattle.rb_bytes.specs.Fault.{fault_at}
 use Rattle.rb_bytes.specs.declared.fault.Fault.{Fault}
 use Rattle.rb_bytes.specs.declared.fault.FaultKind.TheVariants.{TooLarge}
+use Rattle.rb_bytes.specs.declared.limit.TheConstants.{CODE_BYTES, FILE_BYTES}
 use Rattle.elf_image.specs.faults.FileFaults.{IsFirstFault, IsSound}
 use Rattle.program.specs.Limits.{HasTooMuchCode, file_limit}
 
@@ -14,7 +15,7 @@ pub record IsImageFile (file : List ℕ) : Type 0 where
 
 -- Why a file is none: its length comes first, then what is wrong in it, and then the size of its code.
 pub data IsNoImage (file : List ℕ) (fault : Fault) : Type 0 where
-  too_long : file_limit < length file → fault ≡ fault_at TooLarge 0 → IsNoImage file fault
+  too_long : file_limit < length file → fault ≡ fault_at TooLarge FILE_BYTES → IsNoImage file fault
   unsound : length file ≤ file_limit → IsFirstFault file fault → IsNoImage file fault
-  much_code : length file ≤ file_limit → IsSound file → HasTooMuchCode file → fault ≡ fault_at TooLarge 2
+  much_code : length file ≤ file_limit → IsSound file → HasTooMuchCode file → fault ≡ fault_at TooLarge CODE_BYTES
       → IsNoImage file fault

@@ -3,6 +3,7 @@ use Rattle.std.specs.Prelude.{◌≡◌, ◌⊎◌, ◌<◌, ◌≤◌, ℕ, Lis
 use Rattle.rb_bytes.specs.Fault.{fault_at}
 use Rattle.rb_bytes.specs.declared.fault.Fault.{Fault}
 use Rattle.rb_bytes.specs.declared.fault.FaultKind.TheVariants.{TooLarge}
+use Rattle.rb_bytes.specs.declared.limit.TheConstants.{FILE_BYTES, PROFILE_BYTES}
 use Rattle.rb_io.specs.FaultCounts.{Rose}
 use Rattle.program.specs.Limits.{file_limit}
 use Rattle.cli_base.specs.Lines.{refused_line}
@@ -33,8 +34,8 @@ pub record AreRead (content : List ℕ → Option (List ℕ)) (names : InputName
 
 -- Length is judged first, of the file and then of the profile.
 pub data IsTooLong (file profile : List ℕ) (fault : Fault) : Type 0 where
-  long_file : file_limit < length file → fault ≡ fault_at TooLarge 0 → IsTooLong file profile fault
-  long_profile : length file ≤ file_limit → file_limit < length profile → fault ≡ fault_at TooLarge 1 →
+  long_file : file_limit < length file → fault ≡ fault_at TooLarge FILE_BYTES → IsTooLong file profile fault
+  long_profile : length file ≤ file_limit → file_limit < length profile → fault ≡ fault_at TooLarge PROFILE_BYTES →
       IsTooLong file profile fault
 
 -- Refused says for which faults an input and its profile are refused.

@@ -4,6 +4,7 @@ use Rattle.std.specs.Prelude.{◌≡◌, ℕ, ◌<◌, ◌≤◌, List, length}
 use Rattle.rb_bytes.specs.Fault.{fault_at}
 use Rattle.rb_bytes.specs.declared.fault.Fault.{Fault}
 use Rattle.rb_bytes.specs.declared.fault.FaultKind.TheVariants.{TooLarge}
+use Rattle.rb_bytes.specs.declared.limit.TheConstants.{FILE_BYTES}
 use Rattle.rv_code.specs.declared.placed.Func.{Func}
 use Rattle.elf_image.specs.declared.elf.Elf.{Elf}
 use Rattle.elf_code.specs.Functions.{AreFunctions}
@@ -21,7 +22,7 @@ pub record IsProgramFile (file : List ℕ) : Type 0 where
 
 -- Why a file is none: its length comes first, then why it isn't read, and then the size of its code.
 pub data IsNoProgram (file : List ℕ) (fault : Fault) : Type 0 where
-  too_long : file_limit < length file → fault ≡ fault_at TooLarge 0 → IsNoProgram file fault
+  too_long : file_limit < length file → fault ≡ fault_at TooLarge FILE_BYTES → IsNoProgram file fault
   unreadable : length file ≤ file_limit → IsUnreadable file fault → IsNoProgram file fault
   large_code : (elf : Elf) → IsFaultless file elf → (funcs : List Func) → AreFunctions elf (tabled elf) funcs
       → IsLimitFault (IsCodeTooLarge file funcs) fault → IsNoProgram file fault

@@ -3,6 +3,7 @@ use Rattle.std.specs.Prelude.{◌≡◌, ◌<◌, ℕ, List, length, IsSomeAnd, 
 use Rattle.rb_bytes.specs.Fault.{fault_at}
 use Rattle.rb_bytes.specs.declared.fault.Fault.{Fault}
 use Rattle.rb_bytes.specs.declared.fault.FaultKind.TheVariants.{TooLarge}
+use Rattle.rb_bytes.specs.declared.limit.TheConstants.{FILE_BYTES}
 use Rattle.rb_io.specs.FaultCounts.{Rose}
 use Rattle.rb_io.specs.Views.{FilesSeen, SinkSeen}
 use Rattle.cli_base.specs.Lines.{refused_line}
@@ -13,7 +14,7 @@ use Rattle.cli_base.specs.declared.status.Status.TheVariants as status
 -- The file of a name has more than so many bytes, and is refused; it can't be read; or memory ran out.
 pub data IsUnread (name : List ℕ) (limit : ℕ) (old new : FilesSeen) (before after : SinkSeen)
     (answer : Status) : Type 0 where
-  too_long : (fault : Fault) → fault ≡ fault_at TooLarge 0
+  too_long : (fault : Fault) → fault ≡ fault_at TooLarge FILE_BYTES
       → (IsTrue old.told → IsSomeAnd (old.content name) (λ file. limit < length file))
       → LinePrinted answer (status.Refused fault) (refused_line fault) before after
       → IsUnread name limit old new before after answer

@@ -8,6 +8,7 @@ ghost use Rattle.cli_base.specs.ImageFiles.{IsImageFile, IsNoImage};
 use elf_image::{Elf, read};
 use program::has_too_much_code;
 use rb_bytes::fault::{Fault, FaultKind, Refusal};
+use rb_bytes::limit::CODE_BYTES;
 use std::alloc::Global;
 
 /// The image of a file of at most 64 MiB, or the fault for which it is none: the faults 1 to 8, and then `TooLarge` at
@@ -20,7 +21,7 @@ pub fn file_image<'file>(alloc: Global, file: &'file [u8]) -> Result<Elf<'file>,
 {
     let elf = read(alloc, file)?;
     if has_too_much_code(&elf) {
-        return Err(Refusal::Fault(Fault::at(FaultKind::TooLarge, 2)));
+        return Err(Refusal::Fault(Fault::at(FaultKind::TooLarge, CODE_BYTES)));
     }
     Ok(elf)
 }

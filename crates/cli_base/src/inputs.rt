@@ -12,6 +12,7 @@ use crate::refusal::refuse;
 use crate::status::Status;
 use program::FILE_LIMIT;
 use rb_bytes::fault::{Fault, FaultKind, Refusal};
+use rb_bytes::limit::{FILE_BYTES, PROFILE_BYTES};
 use rb_io::{Files, ReadAll, Sink};
 use std::alloc::Global;
 
@@ -102,11 +103,11 @@ pub fn read_inputs<F: Files, O: Sink>(
     match read_both(args, files, &mut file, &mut profile) {
         Outcome::Whole => Ok(Inputs { file, profile }),
         Outcome::LongFile => {
-            let fault = Fault::at(FaultKind::TooLarge, 0);
+            let fault = Fault::at(FaultKind::TooLarge, FILE_BYTES);
             Err(refuse(alloc, Refusal::Fault(fault), out))
         }
         Outcome::LongProfile => {
-            let fault = Fault::at(FaultKind::TooLarge, 1);
+            let fault = Fault::at(FaultKind::TooLarge, PROFILE_BYTES);
             Err(refuse(alloc, Refusal::Fault(fault), out))
         }
         Outcome::Failed => Err(Status::ReadFault),

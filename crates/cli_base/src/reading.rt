@@ -7,6 +7,7 @@ ghost use Rattle.cli_base.specs.Reading.{IsUnread};
 use crate::refusal::refuse;
 use crate::status::Status;
 use rb_bytes::fault::{Fault, FaultKind, Refusal};
+use rb_bytes::limit::FILE_BYTES;
 use rb_io::{Files, ReadAll, Sink};
 use std::alloc::Global;
 
@@ -33,7 +34,7 @@ pub fn read_file<F: Files, O: Sink>(
     match files.read_all(name, limit, &mut file) {
         ReadAll::Done => Ok(file),
         ReadAll::TooLong => {
-            let fault = Fault::at(FaultKind::TooLarge, 0);
+            let fault = Fault::at(FaultKind::TooLarge, FILE_BYTES);
             Err(refuse(alloc, Refusal::Fault(fault), out))
         }
         ReadAll::Failed => Err(Status::ReadFault),

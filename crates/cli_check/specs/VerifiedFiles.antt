@@ -3,6 +3,7 @@ use Rattle.std.specs.Prelude.{◌≡◌, ◌<◌, ◌≤◌, ℕ, List, length}
 use Rattle.rb_bytes.specs.Fault.{fault_at}
 use Rattle.rb_bytes.specs.declared.fault.Fault.{Fault}
 use Rattle.rb_bytes.specs.declared.fault.FaultKind.TheVariants.{TooLarge}
+use Rattle.rb_bytes.specs.declared.limit.TheConstants.{MAP_BYTES}
 use Rattle.elf_image.specs.declared.elf.Elf.{Elf}
 use Rattle.elf_image.specs.file.ParsedFile.{IsElfOf}
 use Rattle.map_check.specs.FirstFalse.{Claim, IsVerdict}
@@ -35,7 +36,7 @@ pub data IsRefusedBy (input output map : List ℕ) (fault : Fault) (line : List 
   by_output : (program : Program) → IsFileProgram input program → IsNoImage output fault →
       line ≡ refused_output_line fault → IsRefusedBy input output map fault line
   by_map : (program : Program) → IsFileProgram input program → (elf : Elf) → IsOutputFile output elf →
-      map_limit < length map → fault ≡ fault_at TooLarge 4 → line ≡ refused_line fault →
+      map_limit < length map → fault ≡ fault_at TooLarge MAP_BYTES → line ≡ refused_line fault →
       IsRefusedBy input output map fault line
 
 -- the verdict on the claim that the files make

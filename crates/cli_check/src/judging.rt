@@ -17,6 +17,7 @@ use elf_image::Elf;
 use map_check::{Verdict, check};
 use program::{Program, is_tight};
 use rb_bytes::fault::{Fault, FaultKind, NoMemory, Refusal};
+use rb_bytes::limit::{FILE_BYTES, MAP_BYTES};
 use std::alloc::Global;
 
 /// What judging comes to.
@@ -64,7 +65,7 @@ fn read_output<'file>(alloc: Global, file: &'file Option<Vec<u8>>) -> Result<Elf
 {
     match file {
         Some(bytes) => file_image(alloc, bytes),
-        None => Err(Refusal::Fault(Fault::at(FaultKind::TooLarge, 0))),
+        None => Err(Refusal::Fault(Fault::at(FaultKind::TooLarge, FILE_BYTES))),
     }
 }
 
@@ -79,7 +80,7 @@ fn read_input<'file>(alloc: Global, file: &'file Option<Vec<u8>>) -> Result<Prog
 {
     match file {
         Some(bytes) => file_program(alloc, bytes),
-        None => Err(Refusal::Fault(Fault::at(FaultKind::TooLarge, 0))),
+        None => Err(Refusal::Fault(Fault::at(FaultKind::TooLarge, FILE_BYTES))),
     }
 }
 
@@ -109,7 +110,7 @@ fn judge_output(alloc: Global, program: &Program<'_>, given: &Given) -> Result<J
             let found = verdict(alloc, program, &output, map)?;
             Ok(Judged::Verdict(found))
         }
-        None => Ok(Judged::Refused(Fault::at(FaultKind::TooLarge, 4))),
+        None => Ok(Judged::Refused(Fault::at(FaultKind::TooLarge, MAP_BYTES))),
     }
 }
 

@@ -4,6 +4,7 @@ use Rattle.rb_bytes.specs.Fault.{fault_at}
 use Rattle.rb_bytes.specs.FirstFault.{IsAnswered, IsFree}
 use Rattle.rb_bytes.specs.declared.fault.Fault.{Fault}
 use Rattle.rb_bytes.specs.declared.fault.FaultKind.TheVariants.{TooLarge}
+use Rattle.rb_bytes.specs.declared.limit.TheConstants.{CODE_BYTES, FILE_BYTES}
 use Rattle.elf_image.specs.declared.elf.Elf.{Elf}
 use Rattle.elf_image.specs.faults.FileFaults.{IsFirstFault, IsSound}
 use Rattle.elf_image.specs.file.ParsedFile.{IsElfOf}
@@ -29,12 +30,12 @@ module _ (question : Question) where
 
   -- Length comes first; then what is wrong in the file, and in its tables; and then the size of its code.
   pub data CannotLookUp (file : List ℕ) (fault : Fault) : Type 0 where
-    too_long : file_limit < length file → fault ≡ fault_at TooLarge 0 → CannotLookUp file fault
+    too_long : file_limit < length file → fault ≡ fault_at TooLarge FILE_BYTES → CannotLookUp file fault
     unsound : length file ≤ file_limit → IsFirstFault file fault → CannotLookUp file fault
     bad_table : (elf : Elf) → IsSoundElf file elf → IsAnswered (HasFaultFor question elf) fault →
         CannotLookUp file fault
     much_code : (elf : Elf) → IsSoundElf file elf → IsFree (HasFaultFor question elf) → HasTooMuchCode file
-        → fault ≡ fault_at TooLarge 2 → CannotLookUp file fault
+        → fault ≡ fault_at TooLarge CODE_BYTES → CannotLookUp file fault
 
 -- a command that asks this of an address
 abbrev pub looking_up : Question → ℕ → Looking

@@ -12,6 +12,7 @@ use crate::question::{Question, answer};
 use cli_base::{Status, read_file, refuse};
 use program::{FILE_LIMIT, has_too_much_code};
 use rb_bytes::fault::{Fault, FaultKind, Refusal};
+use rb_bytes::limit::CODE_BYTES;
 use rb_io::{Files, Put, Sink, print_all};
 use std::alloc::Global;
 
@@ -36,7 +37,7 @@ fn answer_in(
     let elf = elf_image::read(alloc, file)?;
     let text = answer(alloc, &elf, question, address)?;
     if has_too_much_code(&elf) {
-        return Err(Refusal::Fault(Fault::at(FaultKind::TooLarge, 2)));
+        return Err(Refusal::Fault(Fault::at(FaultKind::TooLarge, CODE_BYTES)));
     }
     Ok(text)
 }

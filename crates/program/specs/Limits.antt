@@ -4,6 +4,7 @@ use Rattle.std.specs.List.{sum_by}
 use Rattle.rb_bytes.specs.Fault.{fault_at}
 use Rattle.rb_bytes.specs.declared.fault.Fault.{Fault}
 use Rattle.rb_bytes.specs.declared.fault.FaultKind.TheVariants.{TooLarge}
+use Rattle.rb_bytes.specs.declared.limit.TheConstants.{CODE_BYTES, FUNCTIONS}
 use Rattle.rv_code.specs.declared.placed.Func.{Func}
 use Rattle.elf_image.specs.declared.section.SectionHeader.{SectionHeader}
 use Rattle.elf_image.specs.faults.LowestPlace.{IsLowest}
@@ -31,8 +32,8 @@ HasTooMuchCode file = code_size_limit < sum_by header_code_bytes (section_header
 
 -- The places at which the code of a file with these functions passes a limit.
 pub data IsCodeTooLarge (file : List ℕ) (funcs : List Func) (place : ℕ) : Type 0 where
-  much_code : place ≡ 2 → HasTooMuchCode file → IsCodeTooLarge file funcs place
-  many_functions : place ≡ 3 → function_limit < length funcs → IsCodeTooLarge file funcs place
+  much_code : place ≡ CODE_BYTES → HasTooMuchCode file → IsCodeTooLarge file funcs place
+  many_functions : place ≡ FUNCTIONS → function_limit < length funcs → IsCodeTooLarge file funcs place
 
 -- The fault of the first limit that is passed. Passes says at which places one is.
 pub record IsLimitFault (Passes : ℕ → Type 0) (fault : Fault) : Type 0 where

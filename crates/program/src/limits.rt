@@ -7,6 +7,7 @@ ghost use Rattle.program.specs.internal.ReadSections.{section_code_bytes};
 
 use elf_image::{Elf, Section};
 use rb_bytes::fault::{Fault, FaultKind, Refusal};
+use rb_bytes::limit::{CODE_BYTES, FUNCTIONS};
 use rv_code::Func;
 
 /// The most bytes of a file, and of a profile: 64 MiB.
@@ -52,10 +53,10 @@ pub fn check_code(elf: &Elf<'_>, funcs: &[Func]) -> Result<(), Refusal>
     ensures refused { IfErr result (IsRefusalFor (IsLimitFault (IsCodeTooLarge elf.now.file.now funcs.now))) }
 {
     if has_too_much_code(elf) {
-        return Err(Refusal::Fault(Fault::at(FaultKind::TooLarge, 2)));
+        return Err(Refusal::Fault(Fault::at(FaultKind::TooLarge, CODE_BYTES)));
     }
     if funcs.len() > FUNCTION_LIMIT {
-        return Err(Refusal::Fault(Fault::at(FaultKind::TooLarge, 3)));
+        return Err(Refusal::Fault(Fault::at(FaultKind::TooLarge, FUNCTIONS)));
     }
     Ok(())
 }

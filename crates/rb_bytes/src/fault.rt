@@ -80,9 +80,7 @@ pub enum FaultKind {
     /// The new code and tables need more room than there is. Place: the address where the new
     /// area starts. This kind alone has a need and a room, in bytes.
     NoRoom,
-    /// A limit on sizes is passed. Place: which one: 0 the file, 1 the profile, 2 the code, 3
-    /// the functions, 4 the text of a map, 5 the headers of sections or segments, 6 the tables or
-    /// names to write.
+    /// A limit on sizes is passed. Place: which one, of those in `limit`.
     TooLarge,
 }
 

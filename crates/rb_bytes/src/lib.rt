@@ -6,6 +6,7 @@ pub mod cursor;
 pub mod fault;
 pub mod gap;
 pub mod leb;
+pub mod limit;
 pub mod lists;
 pub mod little;
 pub mod number;
