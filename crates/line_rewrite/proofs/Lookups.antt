@@ -4,6 +4,7 @@ use Rattle.std.proofs.Common.{length, drop, take, get_or, length-take, length-dr
 use Rattle.std.proofs.lemmas.Bool.Decides.{nat_tests}
 use Rattle.std.proofs.lemmas.List.{drop-drop, take-append-drop}
 use Rattle.std.specs.Prelude.{◌==◌, filter}
+use Rattle.std.specs.List.Sorted.{IsNonDecreasingBy}
 use Rattle.std.proofs.lemmas.Bool.{cases_lt, eqb-true, ltb-true}
 use Rattle.std.proofs.lemmas.Grind.{common_steps}
 use Rattle.line_rewrite.specs.declared.coding.Coding.{Coding}
@@ -256,6 +257,25 @@ ascends_past zero from [] up = (from, tt)
 ascends_past (suc n) from [] up = (from, tt)
 ascends_past zero from (r ∷ rows) up = (from, up)
 ascends_past (suc n) from (r ∷ rows) up = ascends_past n r.address rows up.1
+
+-- the addresses of states don't fall
+pub kept_rise : (coding : Coding) (lengths bytes : List ℕ) (rows : List Registers) (kept : List Kept)
+    → AreKept coding lengths bytes rows kept → Ascends 0 rows → IsNonDecreasingBy (λ (k : Kept). k.address) kept
+kept_rise coding lengths bytes rows kept are up i j d le within =
+    let n : ℕ = (get_or kept i d).index in
+    let m : ℕ = (get_or kept j d).index in
+    let rise : n ≤ m = are.rise i j d le within in
+    let s : Before coding lengths bytes rows n (get_or kept i d) = kept_get coding lengths bytes rows kept i d are (omega arith) in
+    let t : Before coding lengths bytes rows m (get_or kept j d) = kept_get coding lengths bytes rows kept j d are within in
+    let sum : n + (m - n) ≡ m = omega arith in
+    let there : drop (m - n) (s.first ∷ s.others) ≡ t.first ∷ t.others =
+    ap (drop (m - n)) (sym s.are) ∙ drop-drop (m - n) n rows ∙ ap (λ (k : ℕ). drop k rows) sum ∙ t.are in
+    let past : (to : ℕ) × Ascends to (drop n rows) = ascends_past n 0 rows up in
+    let from : Ascends past.0 (s.first ∷ s.others) = subst (Ascends past.0) s.are past.1 in
+    let own : Ascends s.first.address (s.first ∷ s.others) = (omega arith, from.1) in
+    let low : s.first.address ≤ t.first.address =
+    from_below (m - n) s.first.address (s.first ∷ s.others) t.first t.others own there in
+    omega (arith, low, s.address, t.address)
 
 pub start_found : (rows : List Registers) (kept : List Kept) (state a : ℕ) → Ascends 0 rows
     → latest [] a (drop (row_at kept (length rows) state) rows) ≡ in_force a (drop (row_at kept (length rows) state) rows)

@@ -5,6 +5,7 @@ use Rattle.line_rewrite.specs.declared.coding.Coding.{Coding}
 use Rattle.line_rewrite.specs.declared.registers.Registers.{Registers}
 use Rattle.line_rewrite.specs.declared.kept.Kept.{Kept}
 use Rattle.line_rewrite.specs.declared.kept.Due.{Due}
+use Rattle.line_rewrite.specs.declared.line_program.LineProgram.{LineProgram}
 use Rattle.line_rewrite.specs.Operations.{operations}
 use Rattle.line_rewrite.specs.LineMachine.{rows_from}
 use Rattle.line_rewrite.specs.LineAnswers.{first_address}
@@ -13,6 +14,14 @@ use Rattle.line_rewrite.specs.LineAnswers.{first_address}
 abbrev pub rows_at_place : Coding → List ℕ → List ℕ → Registers → ℕ → List Registers
 rows_at_place coding lengths bytes r place = rows_from coding r
     (operations coding.opcode_base lengths (drop place bytes))
+
+-- the rows of what is left of a program
+abbrev pub rows_left : LineProgram → List ℕ → Registers → List Registers
+rows_left p left r = rows_from p.coding.now r (operations p.coding.now.opcode_base p.lengths.now left)
+
+-- the rows of a program from a state on
+abbrev pub rows_behind : LineProgram → Kept → List Registers
+rows_behind p k = rows_at_place p.coding.now p.lengths.now p.bytes.now k.registers k.place
 
 -- a state from which the rows from the i-th on follow, of which there is one
 pub record IsBefore (coding : Coding) (lengths bytes : List ℕ) (rows : List Registers) (i : ℕ) (k : Kept) : Type 0 where

@@ -1,7 +1,8 @@
 -- Sequences that are kept by some states of the walks over them.
-use Rattle.std.specs.Prelude.{◌≡◌, ℕ, All, List, length, map}
+use Rattle.std.specs.Prelude.{◌≡◌, ℕ, All, List, drop, length, map}
 use Rattle.line_rewrite.specs.declared.coding.Coding.{Coding}
 use Rattle.line_rewrite.specs.declared.kept.KeptSequence.{KeptSequence}
+use Rattle.line_rewrite.specs.declared.line_program.LineProgram.{LineProgram}
 use Rattle.line_rewrite.specs.Operations.{operations}
 use Rattle.line_rewrite.specs.LineMachine.{Sequence, sequences, start}
 use Rattle.line_rewrite.specs.LineAnswers.{first_address}
@@ -11,6 +12,11 @@ use Rattle.line_rewrite.specs.Keeping.{rows_at_place, AreKept, Begins}
 abbrev pub sequence_at : Coding → List ℕ → List ℕ → ℕ → ℕ → Sequence
 sequence_at coding lengths program place end =
     record { rows = rows_at_place coding lengths program (start coding) place; end = end }
+
+-- the sequences from a place of a program on
+abbrev pub sequences_at : LineProgram → ℕ → List Sequence
+sequences_at p place =
+    sequences p.coding.now (operations p.coding.now.opcode_base p.lengths.now (drop place p.bytes.now))
 
 abbrev pub told_sequence : Coding → List ℕ → List ℕ → KeptSequence → Sequence
 told_sequence coding lengths program k = sequence_at coding lengths program k.place k.end

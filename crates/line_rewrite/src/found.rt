@@ -2,7 +2,8 @@
 ghost use Rattle.std.specs.Prelude.{◌≤◌, IfOk, IsTrue};
 ghost use Rattle.line_rewrite.specs.SequenceIndex.{IsIndexOf, AreFound, IsSame};
 
-use crate::lookup::{in_force_at, is_same_at};
+use crate::line_program::LineProgram;
+use crate::lookup::SequenceView;
 use crate::registers::Registers;
 use crate::sequence_index::SequenceIndex;
 use crate::unit::Unit;
@@ -35,16 +36,16 @@ pub fn found_rows(
     let Some(sequence) = unit.sequences.get(place.sequence) else {
         return Ok(None);
     };
-    let header = &unit.header;
-    let rows = in_force_at(
-        alloc,
-        &header.coding,
-        &header.lengths,
-        &unit.program,
-        &sequence.kept,
-        sequence.rows,
-        a,
-    )?;
+    let view = SequenceView {
+        program: LineProgram {
+            coding: &unit.header.coding,
+            lengths: &unit.header.lengths,
+            bytes: &unit.program,
+        },
+        kept: &sequence.kept,
+        rows: sequence.rows,
+    };
+    let rows = view.in_force_at(alloc, a)?;
     Ok(Some(FoundRows {
         unit: place.unit,
         rows,
@@ -69,14 +70,14 @@ pub fn is_same(units: &[Unit], index: &SequenceIndex, a: u64, b: u64) -> bool
     let Some(sequence) = unit.sequences.get(place.sequence) else {
         return false;
     };
-    let header = &unit.header;
-    is_same_at(
-        &header.coding,
-        &header.lengths,
-        &unit.program,
-        &sequence.kept,
-        sequence.rows,
-        a,
-        b,
-    )
+    let view = SequenceView {
+        program: LineProgram {
+            coding: &unit.header.coding,
+            lengths: &unit.header.lengths,
+            bytes: &unit.program,
+        },
+        kept: &sequence.kept,
+        rows: sequence.rows,
+    };
+    view.is_same_at(a, b)
 }

@@ -1,34 +1,37 @@
 // The rows in force at an address, from kept states.
-ghost use Rattle.std.specs.Prelude.{◌≡◌, ◌<◌, ◌≤◌, ◌+◌, ◌-◌, ℕ, List, length, drop, IfOk, IsTrue, slice_index_or};
+ghost use Rattle.std.specs.Prelude.{◌≡◌, ◌<◌, ◌≤◌, ◌-◌, ℕ, List, length, drop, IfOk, IsTrue, slice_index_or};
+ghost use Rattle.std.specs.List.Sorted.{IsNonDecreasingBy};
 ghost use Rattle.line_rewrite.specs.declared.coding.Coding.{Coding};
 ghost use Rattle.line_rewrite.specs.declared.kept.Kept.{Kept};
 ghost use Rattle.line_rewrite.specs.declared.registers.Registers.{Registers};
 ghost use Rattle.line_rewrite.specs.LineMachine.{in_force};
 ghost use Rattle.line_rewrite.specs.Walks.{Ascends};
 ghost use Rattle.line_rewrite.specs.Keeping.{AreKept, Begins, are_past, row_at};
+ghost use Rattle.line_rewrite.specs.SequenceViews.{HasRows};
 
-use crate::coding::Coding;
 use crate::kept::Kept;
+use crate::line_program::LineProgram;
 use crate::registers::Registers;
 use crate::walk::{add_rows, none_between};
 use std::alloc::{AllocError, Global};
 
-// Of states that ascend, how many have an address of at most `a`.
+/// A sequence of a program.
+#[derive(Clone, Copy)]
+pub struct SequenceView<'a> {
+    pub program: LineProgram<'a>,
+    /// The states that are kept of it.
+    pub kept: &'a [Kept],
+    /// How many rows it has.
+    pub rows: usize,
+}
+
+// How many states stand before a row at `a` or below it.
 fn count_up_to(kept: &[Kept], a: u64) -> usize
     ensures bound { result ≤ length kept.now }
-    ensures last { (k : Kept) → 0 < result → (slice_index_or kept.now (result - 1) k).address ≤ a }
+    ensures last { IsNonDecreasingBy (λ k. k.address) kept.now → (k : Kept) → 0 < result →
+        (slice_index_or kept.now (result - 1) k).address ≤ a }
 {
-    let mut low = 0;
-    let mut high = kept.len();
-    while low < high {
-        let middle = low + (high - low) / 2;
-        if kept[middle].address <= a {
-            low = middle + 1;
-        } else {
-            high = middle;
-        }
-    }
-    low
+    kept.partition_point(|kept| kept.address <= a)
 }
 
 // The last state that stands before all rows in force at an address.
@@ -64,48 +67,6 @@ fn row_at(kept: &[Kept], rows: usize, state: usize) -> usize
     }
 }
 
-// The rows in force at an address among those from a state on.
-fn in_force_from(
-    alloc: Global,
-    coding: &Coding,
-    lengths: &[u8],
-    bytes: &[u8],
-    kept: &[Kept],
-    rows: usize,
-    first: usize,
-    a: u64,
-) -> Result<Vec<Registers>, AllocError>
-    requires range { 0 < coding.now.line_range }
-    requires lengths { coding.now.opcode_base ≤ length lengths.now + 1 }
-    ensures { IfOk result (λ found. (list : List Registers) →
-        AreKept coding.now lengths.now bytes.now list kept.now → rows ≡ length list → Ascends 0 list →
-        found.items ≡ in_force a (drop (row_at kept.now (length list) first) list)) }
-{
-    let mut found = Vec::new(alloc);
-    for state in first..kept.len() {
-        let from = kept[state];
-        if from.address > a {
-            return Ok(found);
-        }
-        if from.place > bytes.len() {
-            return Ok(found);
-        }
-        // No further than to the row of the next state: what stands before that row may be long.
-        let count = row_at(kept, rows, state + 1).saturating_sub(from.index);
-        let (_, behind) = bytes.split_at(from.place);
-        add_rows(
-            &mut found,
-            coding,
-            lengths,
-            behind,
-            from.registers,
-            count,
-            a,
-        )?;
-    }
-    Ok(found)
-}
-
 // Whether rows that were found stand past the row of a state.
 fn are_past(found: &[Registers], state: &Kept) -> bool
     ensures { result ≡ are_past found.now state.now }
@@ -114,35 +75,6 @@ fn are_past(found: &[Registers], state: &Kept) -> bool
         Some(row) => row.address > state.address,
         None => false,
     }
-}
-
-/// The rows in force at an address, of a sequence with these states and so many rows.
-pub fn in_force_at(
-    alloc: Global,
-    coding: &Coding,
-    lengths: &[u8],
-    bytes: &[u8],
-    kept: &[Kept],
-    rows: usize,
-    a: u64,
-) -> Result<Vec<Registers>, AllocError>
-    requires range { 0 < coding.now.line_range }
-    requires lengths { coding.now.opcode_base ≤ length lengths.now + 1 }
-    ensures { IfOk result (λ found. (list : List Registers) →
-        AreKept coding.now lengths.now bytes.now list kept.now → Begins (length list) kept.now →
-        rows ≡ length list → Ascends 0 list → found.items ≡ in_force a list) }
-{
-    let reached = count_up_to(kept, a);
-    // Mostly they stand past the row of the last state that is reached.
-    if reached > 0 {
-        let near = in_force_from(alloc, coding, lengths, bytes, kept, rows, reached - 1, a)?;
-        if are_past(&near, &kept[reached - 1]) {
-            return Ok(near);
-        }
-    }
-    let first = state_for(kept, a);
-    let found = in_force_from(alloc, coding, lengths, bytes, kept, rows, first, a)?;
-    Ok(found)
 }
 
 // Whether a state, if there is one, stands before a row past an address.
@@ -155,35 +87,67 @@ fn is_past(kept: &[Kept], state: usize, b: u64) -> bool
     }
 }
 
-/// Whether the same rows of a sequence with these states and so many rows are certainly in force at two addresses, the
-/// lower one first.
-pub fn is_same_at(
-    coding: &Coding,
-    lengths: &[u8],
-    bytes: &[u8],
-    kept: &[Kept],
-    rows: usize,
-    a: u64,
-    b: u64,
-) -> bool
-    requires range { 0 < coding.now.line_range }
-    requires lengths { coding.now.opcode_base ≤ length lengths.now + 1 }
-    requires ordered { a ≤ b }
-    ensures { IsTrue result → (list : List Registers) → AreKept coding.now lengths.now bytes.now list kept.now →
-        rows ≡ length list → Ascends 0 list → in_force a list ≡ in_force b list }
-{
-    let reached = count_up_to(kept, a);
-    if reached == 0 {
-        return false;
+impl<'a> SequenceView<'a> {
+    // The rows in force at an address among those from a state on.
+    fn in_force_from(
+        &self,
+        alloc: Global,
+        first: usize,
+        a: u64,
+    ) -> Result<Vec<Registers>, AllocError>
+        ensures { IfOk result (λ found. (list : List Registers) → HasRows list self.now →
+            found.items ≡ in_force a (drop (row_at self.now.kept.now (length list) first) list)) }
+    {
+        let mut found = Vec::new(alloc);
+        for state in first..self.kept.len() {
+            let from = self.kept[state];
+            if from.address > a {
+                return Ok(found);
+            }
+            if from.place > self.program.bytes.len() {
+                return Ok(found);
+            }
+            // No further than to the row of the next state: what stands before that row may be long.
+            let count = row_at(self.kept, self.rows, state + 1).saturating_sub(from.index);
+            add_rows(&mut found, &self.program, &from, count, a)?;
+        }
+        Ok(found)
     }
-    if !is_past(kept, reached, b) {
-        return false;
+
+    /// The rows in force at an address.
+    pub fn in_force_at(&self, alloc: Global, a: u64) -> Result<Vec<Registers>, AllocError>
+        ensures { IfOk result (λ found. (list : List Registers) → HasRows list self.now →
+            Begins (length list) self.now.kept.now → found.items ≡ in_force a list) }
+    {
+        let reached = count_up_to(self.kept, a);
+        // Mostly they stand past the row of the last state that is reached.
+        if reached > 0 {
+            let near = self.in_force_from(alloc, reached - 1, a)?;
+            if are_past(&near, &self.kept[reached - 1]) {
+                return Ok(near);
+            }
+        }
+        let found = self.in_force_from(alloc, state_for(self.kept, a), a)?;
+        Ok(found)
     }
-    let state = kept[reached - 1];
-    if state.place > bytes.len() {
-        return false;
+
+    /// Whether the same rows are certainly in force at two addresses, the lower one first.
+    pub fn is_same_at(&self, a: u64, b: u64) -> bool
+        requires { a ≤ b }
+        ensures { IsTrue result → (list : List Registers) → HasRows list self.now → in_force a list ≡ in_force b list }
+    {
+        let reached = count_up_to(self.kept, a);
+        if reached == 0 {
+            return false;
+        }
+        if !is_past(self.kept, reached, b) {
+            return false;
+        }
+        let state = self.kept[reached - 1];
+        if state.place > self.program.bytes.len() {
+            return false;
+        }
+        let count = row_at(self.kept, self.rows, reached).saturating_sub(state.index);
+        none_between(&self.program, &state, count, a, b)
     }
-    let count = row_at(kept, rows, reached).saturating_sub(state.index);
-    let (_, from) = bytes.split_at(state.place);
-    none_between(coding, lengths, from, state.registers, count, a, b)
 }

@@ -1,13 +1,11 @@
 // The states of a sequence, kept.
-ghost use Rattle.std.specs.Prelude.{◌≡◌, ◌<◌, ◌≤◌, ◌+◌, ◌∷◌, [], ℕ, List, length, drop, IfOk, MatchOption};
-ghost use Rattle.line_rewrite.specs.Operations.{operations};
-ghost use Rattle.line_rewrite.specs.LineMachine.{sequences};
+ghost use Rattle.std.specs.Prelude.{◌≡◌, ◌<◌, ◌≤◌, ◌+◌, ◌∷◌, [], length, IfOk, MatchOption};
 ghost use Rattle.line_rewrite.specs.Keeping.{kept_more, low_of};
-ghost use Rattle.line_rewrite.specs.KeptSequences.{told_sequence, IsKept, AreSequences};
+ghost use Rattle.line_rewrite.specs.KeptSequences.{told_sequence, sequences_at, IsKept, AreSequences};
 
-use crate::coding::Coding;
 use crate::effect::Effect;
 use crate::kept::{Due, Kept, KeptSequence, MAX_BYTES, MAX_ROWS};
+use crate::line_program::LineProgram;
 use crate::machine::{after_op, after_row, effect_of, start};
 use crate::reading::read_op;
 use rb_bytes::cursor::Cursor;
@@ -40,35 +38,30 @@ fn low_of(kept: &[Kept], end: u64) -> u64
 // The sequence that begins at a place of a program, and where the next one begins.
 fn sequence_at(
     alloc: Global,
-    coding: &Coding,
-    lengths: &[u8],
-    bytes: &[u8],
+    program: &LineProgram<'_>,
     place: usize,
 ) -> Result<Option<(KeptSequence, usize)>, AllocError>
-    requires range { 0 < coding.now.line_range }
-    requires lengths { coding.now.opcode_base ≤ length lengths.now + 1 }
-    requires within { place ≤ length bytes.now }
-    ensures sequences { IfOk result (λ o. MatchOption o
-        (sequences coding.now (operations coding.now.opcode_base lengths.now (drop place bytes.now)) ≡ [])
-        (λ found. sequences coding.now (operations coding.now.opcode_base lengths.now (drop place bytes.now))
-        ≡ told_sequence coding.now lengths.now bytes.now found.0
-        ∷ sequences coding.now (operations coding.now.opcode_base lengths.now (drop found.1 bytes.now)))) }
+    requires { place ≤ length program.now.bytes.now }
+    ensures sequences { IfOk result (λ o. MatchOption o (sequences_at program.now place ≡ [])
+        (λ found. sequences_at program.now place
+        ≡ told_sequence program.now.coding.now program.now.lengths.now program.now.bytes.now found.0
+        ∷ sequences_at program.now found.1)) }
     ensures kept { IfOk result (λ o. MatchOption o (Unit {0})
-        (λ found. IsKept coding.now lengths.now bytes.now found.0)) }
+        (λ found. IsKept program.now.coding.now program.now.lengths.now program.now.bytes.now found.0)) }
     ensures next { IfOk result (λ o. MatchOption o (Unit {0}) (λ found. (place < found.1)
-        × (found.1 ≤ length bytes.now))) }
+        × (found.1 ≤ length program.now.bytes.now))) }
 {
-    let mut cursor = Cursor::new(bytes.split_at(place).1);
-    let mut present = start(coding);
+    let mut cursor = Cursor::new(program.bytes.split_at(place).1);
+    let mut present = start(program.coding);
     let mut count: usize = 0;
     let mut due = Due { row: 0, place: 0 };
     let mut kept = Vec::new(alloc);
     'ops: while cursor.left() > 0 {
-        let here = bytes.len() - cursor.left();
-        let Ok(op) = read_op(&mut cursor, coding.opcode_base, lengths) else {
+        let here = program.bytes.len() - cursor.left();
+        let Ok(op) = read_op(&mut cursor, program.coding.opcode_base, program.lengths) else {
             return Ok(None);
         };
-        let Some(next) = after_op(coding, op, present) else {
+        let Some(next) = after_op(program.coding, op, present) else {
             return Ok(None);
         };
         match effect_of(op) {
@@ -92,7 +85,7 @@ fn sequence_at(
                     rows: count,
                     kept,
                 };
-                return Ok(Some((sequence, bytes.len() - cursor.left())));
+                return Ok(Some((sequence, program.bytes.len() - cursor.left())));
             }
         }
     }
@@ -102,18 +95,15 @@ fn sequence_at(
 /// The sequences of a program.
 pub fn sequences_of(
     alloc: Global,
-    coding: &Coding,
-    lengths: &[u8],
-    bytes: &[u8],
+    program: &LineProgram<'_>,
 ) -> Result<Vec<KeptSequence>, AllocError>
-    requires range { 0 < coding.now.line_range }
-    requires lengths { coding.now.opcode_base ≤ length lengths.now + 1 }
-    ensures { IfOk result (λ ks. AreSequences coding.now lengths.now bytes.now ks.items) }
+    ensures { IfOk result
+        (λ ks. AreSequences program.now.coding.now program.now.lengths.now program.now.bytes.now ks.items) }
 {
     let mut list = Vec::new(alloc);
     let mut place = 0;
-    'sequences: while place < bytes.len() {
-        match sequence_at(alloc, coding, lengths, bytes, place)? {
+    'sequences: while place < program.bytes.len() {
+        match sequence_at(alloc, program, place)? {
             Some((sequence, next)) => {
                 list.push(sequence)?;
                 place = next;

@@ -1,10 +1,10 @@
 // Whether a program is as it should be.
-ghost use Rattle.std.specs.Prelude.{◌≡◌, ◌<◌, ◌≤◌, ◌+◌, ◌&&◌, Option, Some, None, length};
+ghost use Rattle.std.specs.Prelude.{◌≡◌};
 ghost use Rattle.line_rewrite.specs.LineMachine.{follows};
 ghost use Rattle.line_rewrite.specs.SoundPrograms.{is_sound};
 
-use crate::coding::Coding;
 use crate::effect::Effect;
+use crate::line_program::LineProgram;
 use crate::machine::{after_op, after_row, effect_of, start};
 use crate::reading::read_op;
 use rb_bytes::cursor::Cursor;
@@ -19,20 +19,18 @@ fn follows(last: Option<u64>, address: u64) -> bool
     }
 }
 
-/// Whether operations take all of the bytes, and meet what is asked of them.
-pub fn is_sound(coding: &Coding, lengths: &[u8], bytes: &[u8], files: u64) -> bool
-    requires range { 0 < coding.now.line_range }
-    requires lengths { coding.now.opcode_base ≤ length lengths.now + 1 }
-    ensures { result ≡ is_sound coding.now files lengths.now bytes.now }
+/// Whether operations take all bytes of a program, and meet what is asked of them.
+pub fn is_sound(program: &LineProgram<'_>, files: u64) -> bool
+    ensures { result ≡ is_sound program.now.coding.now files program.now.lengths.now program.now.bytes.now }
 {
-    let mut cursor = Cursor::new(bytes);
-    let mut present = start(coding);
+    let mut cursor = Cursor::new(program.bytes);
+    let mut present = start(program.coding);
     let mut last = None;
     'ops: while cursor.left() > 0 {
-        let Ok(op) = read_op(&mut cursor, coding.opcode_base, lengths) else {
+        let Ok(op) = read_op(&mut cursor, program.coding.opcode_base, program.lengths) else {
             return false;
         };
-        let Some(next) = after_op(coding, op, present) else {
+        let Some(next) = after_op(program.coding, op, present) else {
             return false;
         };
         match effect_of(op) {
@@ -52,7 +50,7 @@ pub fn is_sound(coding: &Coding, lengths: &[u8], bytes: &[u8], files: u64) -> bo
                     return false;
                 }
                 last = None;
-                present = start(coding);
+                present = start(program.coding);
             }
         }
     }

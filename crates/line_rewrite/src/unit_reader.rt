@@ -6,6 +6,7 @@ ghost use Rattle.line_rewrite.specs.KeptUnits.{HasTables, outer_at, told_unit};
 ghost use Rattle.line_rewrite.specs.Troubles.{IfMalformed};
 
 use crate::header_reader::read_header;
+use crate::line_program::LineProgram;
 use crate::program::sequences_of;
 use crate::sound::is_sound;
 use crate::text::Texts;
@@ -64,11 +65,16 @@ pub fn read_unit(alloc: Global, texts: &Texts, bytes: &[u8]) -> Result<Unit, Tro
         return Err(Trouble::Malformed);
     }
     let files = header.files.len() as u64;
-    if !is_sound(&header.coding, &header.lengths, outer.program, files) {
+    let program = LineProgram {
+        coding: &header.coding,
+        lengths: &header.lengths,
+        bytes: outer.program,
+    };
+    if !is_sound(&program, files) {
         return Err(Trouble::Malformed);
     }
+    let sequences = sequences_of(alloc, &program)?;
     let program = Vec::from_slice(alloc, outer.program)?;
-    let sequences = sequences_of(alloc, &header.coding, &header.lengths, &program)?;
     Ok(Unit {
         header,
         program,

@@ -1,11 +1,12 @@
 // Programs walked from a kept state.
-ghost use Rattle.std.specs.Prelude.{◌≡◌, ◌<◌, ◌≤◌, ◌+◌, ◌∷◌, [], length, take, IfNone, IfOk, IfSome, OnOk};
-ghost use Rattle.line_rewrite.specs.Operations.{operations};
-ghost use Rattle.line_rewrite.specs.LineMachine.{after_row, rows_from};
+ghost use Rattle.std.specs.Prelude.{◌≡◌, ◌≤◌, ◌∷◌, [], length, take, IfNone, IfOk, IfSome, OnOk};
+ghost use Rattle.line_rewrite.specs.LineMachine.{after_row};
 ghost use Rattle.line_rewrite.specs.Walks.{joined, latest, none_between};
+ghost use Rattle.line_rewrite.specs.Keeping.{rows_behind, rows_left};
 
-use crate::coding::Coding;
 use crate::effect::Effect;
+use crate::kept::Kept;
+use crate::line_program::LineProgram;
 use crate::machine::{after_op, after_row, effect_of};
 use crate::reading::read_op;
 use crate::registers::Registers;
@@ -31,29 +32,22 @@ fn join(found: &mut Vec<Registers>, row: Registers) -> Result<(), AllocError>
     Ok(())
 }
 
-// The next row that a program reaches from a state on, and which it appends before the sequence ends.
+// The next row that what is left of a program reaches from a state on, and which it appends before the sequence ends.
 fn next_row(
-    coding: &Coding,
-    lengths: &[u8],
+    program: &LineProgram<'_>,
     cursor: &mut Cursor<'_>,
     registers: Registers,
 ) -> Option<Registers>
-    requires range { 0 < coding.now.line_range }
-    requires lengths { coding.now.opcode_base ≤ length lengths.now + 1 }
-    ensures some { IfSome result (λ row.
-        rows_from coding.now registers (operations coding.now.opcode_base lengths.now cursor.old.left)
-        ≡ row ∷ rows_from coding.now (after_row row) (operations coding.now.opcode_base lengths.now cursor.new.left)) }
-    ensures none { IfNone result
-        (rows_from coding.now registers (operations coding.now.opcode_base lengths.now cursor.old.left) ≡ []) }
+    ensures some { IfSome result (λ row. rows_left program.now cursor.old.left registers
+        ≡ row ∷ rows_left program.now cursor.new.left (after_row row)) }
+    ensures none { IfNone result (rows_left program.now cursor.old.left registers ≡ []) }
 {
     let mut present = registers;
     'ops: while cursor.left() > 0 {
-        let Ok(op) = read_op(cursor, coding.opcode_base, lengths) else {
+        let Ok(op) = read_op(cursor, program.coding.opcode_base, program.lengths) else {
             return None;
         };
-        let Some(next) = after_op(coding, op, present) else {
-            return None;
-        };
+        let next = after_op(program.coding, op, present)?;
         match effect_of(op) {
             Effect::Ends => return None,
             Effect::Sets => present = next,
@@ -66,22 +60,20 @@ fn next_row(
 /// Finds the rows in force at an address, of those that were found before and so many rows from a state on.
 pub fn add_rows(
     found: &mut Vec<Registers>,
-    coding: &Coding,
-    lengths: &[u8],
-    bytes: &[u8],
-    registers: Registers,
+    program: &LineProgram<'_>,
+    state: &Kept,
     count: usize,
     a: u64,
 ) -> Result<(), AllocError>
-    requires range { 0 < coding.now.line_range }
-    requires lengths { coding.now.opcode_base ≤ length lengths.now + 1 }
-    ensures { OnOk result (found.new.items ≡ latest found.old.items a (take count (rows_from coding.now registers
-        (operations coding.now.opcode_base lengths.now bytes.now)))) }
+    requires { state.now.place ≤ length program.now.bytes.now }
+    ensures { OnOk result (found.new.items ≡ latest found.old.items a
+        (take count (rows_behind program.now state.now))) }
 {
-    let mut cursor = Cursor::new(bytes);
-    let mut present = registers;
+    let (_, left) = program.bytes.split_at(state.place);
+    let mut cursor = Cursor::new(left);
+    let mut present = state.registers;
     for n in 0..count {
-        let Some(row) = next_row(coding, lengths, &mut cursor, present) else {
+        let Some(row) = next_row(program, &mut cursor, present) else {
             return Ok(());
         };
         if row.address > a {
@@ -94,24 +86,15 @@ pub fn add_rows(
 }
 
 /// Whether none of so many rows from a state on lies above an address `a` and up to another one, `b`.
-pub fn none_between(
-    coding: &Coding,
-    lengths: &[u8],
-    bytes: &[u8],
-    registers: Registers,
-    count: usize,
-    a: u64,
-    b: u64,
-) -> bool
-    requires range { 0 < coding.now.line_range }
-    requires lengths { coding.now.opcode_base ≤ length lengths.now + 1 }
-    ensures { result ≡ none_between a b (take count (rows_from coding.now registers
-        (operations coding.now.opcode_base lengths.now bytes.now))) }
+pub fn none_between(program: &LineProgram<'_>, state: &Kept, count: usize, a: u64, b: u64) -> bool
+    requires { state.now.place ≤ length program.now.bytes.now }
+    ensures { result ≡ none_between a b (take count (rows_behind program.now state.now)) }
 {
-    let mut cursor = Cursor::new(bytes);
-    let mut present = registers;
+    let (_, left) = program.bytes.split_at(state.place);
+    let mut cursor = Cursor::new(left);
+    let mut present = state.registers;
     for n in 0..count {
-        let Some(row) = next_row(coding, lengths, &mut cursor, present) else {
+        let Some(row) = next_row(program, &mut cursor, present) else {
             return true;
         };
         if row.address > b {

@@ -34,4 +34,5 @@ returns c =
     found_there us c.args.index.now c.requires c.args.a c.find.result p c.find.ensures c.in-Some.is u at k on
     (record { unit = p.unit; rows = c.in_ok-rows.rows }) refl
     (rows_there u k p.sequence on _ _ _ c.deref-2.ensures.value c.deref-3.ensures.value c.deref-4.ensures.value c.args.a k.rows
-    c.in_ok-rows.rows.items refl c.in_ok-rows.ensures)
+    c.in_ok-rows.rows.items refl
+    (λ rows are begins counted up. c.in_ok-rows.ensures rows (record { kept = are; count = counted; ascend = up }) begins))

@@ -17,4 +17,4 @@ returns c = λ told.
     c.find.ensures c.in-Some-Some.is-0 c.find-2.ensures c.in-Some-Some.is-1 (omega arith) (omega arith) at on
     (same_rows_there u k p.sequence on _ _ _ c.deref-2.ensures.value c.deref-3.ensures.value c.deref-4.ensures.value c.args.a c.args.b
     k.rows refl
-    (c.is_same_at.ensures told))
+    (λ rows are counted up. c.is_same_at.ensures told rows (record { kept = are; count = counted; ascend = up })))

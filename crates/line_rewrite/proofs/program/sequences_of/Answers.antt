@@ -10,7 +10,8 @@ sequences-preserved c =
     let follows = rw c.in-Some.is at c.in_ok-sequence.ensures.sequences in
     let kept = rw c.in-Some.is at c.in_ok-sequence.ensures.kept in
     let next = rw c.in-Some.is at c.in_ok-sequence.ensures.next in
-    let P = IsKept c.args.coding.now c.args.lengths.now c.args.bytes.now in
+    let p = c.args.program.now in
+    let P = IsKept p.coding.now p.lengths.now p.bytes.now in
     record {
       same = sequences_more _ _ _ c.sequences.list.items c.push.new.self.items c.in-Some.sequence c.sequences.place c.in-Some.next _
           c.sequences.invariant.same follows c.in_ok-push-in-Some.ensures.items;

@@ -1,18 +1,18 @@
 use Rattle.std.specs.Prelude.{All}
-use Rattle.std.proofs.Common.{◌≡◌, ◌≤◌, ◌-◌, ◌++◌, length, map, drop}
+use Rattle.std.proofs.Common.{◌≡◌, ◌≤◌, ◌-◌, ◌++◌, length, map}
 use Rattle.line_rewrite.specs.Operations.{operations}
 use Rattle.line_rewrite.specs.LineMachine.{sequences}
-use Rattle.line_rewrite.specs.KeptSequences.{told_sequence, IsKept}
+use Rattle.line_rewrite.specs.KeptSequences.{told_sequence, sequences_at, IsKept}
 use Rattle.line_rewrite.proofs.program.sequences_of.Given as goal
 
 abbrev pub invariant-sequences : goal.invariant-sequences
 invariant-sequences l = record {
-  same : map (told_sequence l.coding l.lengths l.bytes) l.list.items
-      ++ sequences l.coding (operations l.coding.opcode_base l.lengths (drop l.place l.bytes))
-      ≡ sequences l.coding (operations l.coding.opcode_base l.lengths l.bytes);
-  kept : All (IsKept l.coding l.lengths l.bytes) l.list.items;
-  within : l.place ≤ length l.bytes;
+  same : map (told_sequence l.program.coding.now l.program.lengths.now l.program.bytes.now) l.list.items
+      ++ sequences_at l.program l.place
+      ≡ sequences l.program.coding.now (operations l.program.coding.now.opcode_base l.program.lengths.now l.program.bytes.now);
+  kept : All (IsKept l.program.coding.now l.program.lengths.now l.program.bytes.now) l.list.items;
+  within : l.place ≤ length l.program.bytes.now;
 }
 
 abbrev pub decreases-sequences : goal.decreases-sequences
-decreases-sequences l = length l.bytes - l.place
+decreases-sequences l = length l.program.bytes.now - l.place

@@ -5,7 +5,9 @@ use Rattle.line_rewrite.proofs.Soundness.{sound_out, none_result, sound_starts}
 use Rattle.line_rewrite.proofs.sound.is_sound.Goals as goal
 
 pub ops-init : goal.ops-init
-ops-init c = sound_starts c.args.coding.now c.args.files c.args.lengths.now c.args.bytes.now c.new-cursor.result c.start-present.result
+ops-init c =
+    let p = c.args.program.now in
+    sound_starts p.coding.now c.args.files p.lengths.now p.bytes.now c.new-cursor.result c.start-present.result
     c.new-cursor.ensures c.start-present.ensures
 
 pub returns-in_default : goal.returns-in_default

@@ -45,9 +45,9 @@ invariant_of-result c =
     record {
       sound = ap (is_sound h.coding (length h.files.items) h.lengths.items) c.in_ok-program.ensures.items ∙ sound;
       listed = subst (λ (l : List ℕ). AreSequences h.coding l c.in_ok-program.program.items c.in_ok-sequences.sequences.items)
-          c.deref-2.ensures.value
-          (subst (λ (p : List ℕ). AreSequences h.coding c.deref-2.result.now p c.in_ok-sequences.sequences.items) c.deref-3.ensures.value
-          c.in_ok-sequences.ensures);
+          c.deref.ensures.value
+          (subst (λ (p : List ℕ). AreSequences h.coding c.deref.result.now p c.in_ok-sequences.sequences.items)
+          (sym c.in_ok-program.ensures.items) c.in_ok-sequences.ensures);
     }
 
 pub returns-clause-read : goal.returns-clause-read

@@ -1,7 +1,5 @@
 use Rattle.std.proofs.Common.{ap, arith}
-use Rattle.line_rewrite.specs.declared.registers.Registers.{Registers}
-use Rattle.line_rewrite.specs.Operations.{operations}
-use Rattle.line_rewrite.specs.LineMachine.{rows_from}
+use Rattle.line_rewrite.specs.Keeping.{rows_left}
 use Rattle.line_rewrite.proofs.Steps.{found_done, found_none, found_past, found_more}
 use Rattle.line_rewrite.proofs.walk.add_rows.Goals as goal
 
@@ -14,8 +12,7 @@ returns-then-row-a c = found_past _ _ _ _ _ c.loop-n.invariant _ _ (omega arith)
 pub loop-n-preserved : goal.loop-n-preserved
 loop-n-preserved c =
     found_more _ _ _ _ _ c.loop-n.invariant _ _ (omega arith) c.in-Some.ensures.some _ _ _ (omega arith) c.in_ok-join.ensures
-    (ap (λ (r : Registers). rows_from c.args.coding.now r
-    (operations c.args.coding.now.opcode_base c.args.lengths.now c.next_row.new.cursor.left)) c.after_row-present.ensures) (omega arith)
+    (ap (rows_left c.args.program.now c.next_row.new.cursor.left) c.after_row-present.ensures) (omega arith)
 
 pub returns : goal.returns
 returns c = found_done _ _ _ _ _ c.loop-n.invariant (omega arith)

@@ -1,7 +1,5 @@
 use Rattle.std.proofs.Common.{ap, arith}
-use Rattle.line_rewrite.specs.declared.registers.Registers.{Registers}
-use Rattle.line_rewrite.specs.Operations.{operations}
-use Rattle.line_rewrite.specs.LineMachine.{rows_from}
+use Rattle.line_rewrite.specs.Keeping.{rows_left}
 use Rattle.line_rewrite.proofs.Between.{between_done, between_none, between_past, between_there, between_more}
 use Rattle.line_rewrite.proofs.walk.none_between.Goals as goal
 
@@ -18,8 +16,7 @@ returns-then-row-a c =
 pub loop-n-preserved : goal.loop-n-preserved
 loop-n-preserved c =
     between_more _ _ _ _ _ c.loop-n.invariant _ _ (omega arith) c.in-Some.ensures.some _ _ (omega arith) (omega arith)
-    (ap (λ (r : Registers). rows_from c.args.coding.now r
-    (operations c.args.coding.now.opcode_base c.args.lengths.now c.next_row.new.cursor.left)) c.after_row-present.ensures) (omega arith)
+    (ap (rows_left c.args.program.now c.next_row.new.cursor.left) c.after_row-present.ensures) (omega arith)
 
 pub returns : goal.returns
 returns c = between_done _ _ _ _ _ c.loop-n.invariant (omega arith)

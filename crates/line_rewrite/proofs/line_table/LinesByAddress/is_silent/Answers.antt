@@ -1,4 +1,4 @@
-use Rattle.std.proofs.Common.{◌≡◌, ℕ, List, [], length, refl, rules}
+use Rattle.std.proofs.Common.{◌≡◌, ℕ, List, length, refl, rules}
 use Rattle.std.proofs.lemmas.List.{nil_from_length}
 use Rattle.table_core.specs.DebugUnits.{units_from}
 use Rattle.line_rewrite.proofs.line_table.LinesByAddress.is_silent.Goals as goal
