@@ -1,6 +1,6 @@
 -- What is read of the tables that are written.
 use Rattle.std.proofs.Common.{◌≡◌, ◌∙◌, ◌<◌, ◌≤◌, ◌-◌, ◌+◌, ◌*◌, ◌^◌, ◌==◌, ◌++◌, ℕ, zero, suc, Bool, true, false, cond, List, [], ◌∷◌}
-use Rattle.std.proofs.Common.{Option, Some, None, Ok, Err, Result, refl, sym, ap, arith, length, take, drop, map, append_assoc, option_map}
+use Rattle.std.proofs.Common.{Some, None, Ok, Err, Result, refl, sym, ap, arith, length, take, drop, map, append_assoc, option_map}
 use Rattle.std.specs.Prelude.{All, find, if◌then◌else◌, not}
 use Rattle.std.specs.List.{list_any}
 use Rattle.std.proofs.lemmas.Bool.Decides.{nat_tests}
@@ -15,8 +15,8 @@ use Rattle.table_core.specs.ReadSteps.{is_ok, oks}
 use Rattle.table_core.specs.declared.range.Range.{Range}
 use Rattle.dw_unit.specs.declared.trouble.Trouble.{Trouble}
 use Rattle.addr_rewrite.specs.Aranges.{AddressTable, address_tables, bad_table, table_in, table_of, unit_at}
-use Rattle.addr_rewrite.specs.ArangesReading.{all_entries, entries_of}
-use Rattle.addr_rewrite.specs.WrittenAranges.{count_of, spelled_table, spelled_tables, tables_of}
+use Rattle.addr_rewrite.specs.ArangesReading.{all_entries}
+use Rattle.addr_rewrite.specs.WrittenAranges.{count_of, spelled_tables, tables_of}
 use Rattle.addr_rewrite.specs.declared.stretch.Stretch.{Stretch}
 use Rattle.addr_rewrite.specs.declared.unit_range.UnitRange.{UnitRange}
 use Rattle.addr_rewrite.proofs.FlatTables.{holds, unit_of, unit_found}

@@ -1,6 +1,6 @@
 -- The law of the written table.
 use Rattle.std.proofs.Common.{◌≡◌, ◌∙◌, ◌<◌, ◌≤◌, ◌-◌, ◌+◌, ◌*◌, ◌^◌, ℕ, List, [], ◌∷◌, Option, Some, None, refl, sym, ap, subst, arith}
-use Rattle.std.proofs.Common.{length, map, min}
+use Rattle.std.proofs.Common.{length, map}
 use Rattle.std.specs.Prelude.{All, AllPairs, option_map, option_and_then, sum_by}
 use Rattle.std.specs.List.Sorted.{IsNonDecreasingBy, IsPermutation}
 use Rattle.std.proofs.lemmas.List.{length-map}
@@ -19,7 +19,6 @@ use Rattle.table_core.specs.declared.written.Written.{Written}
 use Rattle.dw_unit.specs.Faults.{HasDwarfFault, unit_fault_places}
 use Rattle.dw_unit.specs.Tables.{sections_of}
 use Rattle.addr_rewrite.specs.Aranges.{AddressTable, address_tables, bad_table, unit_at}
-use Rattle.addr_rewrite.specs.ArangesReading.{AreKept}
 use Rattle.addr_rewrite.specs.ArangesTable.{ArangesFit, ArangesMade}
 use Rattle.addr_rewrite.specs.Tables.{StandsAranges, aranges_of, aranges_places, unit, unit_answers}
 use Rattle.addr_rewrite.specs.WrittenAranges.{spelled_tables, stretch_of, tables_of}

@@ -1,14 +1,14 @@
 -- Pairs of a table of ranges of addresses, read one by one.
-use Rattle.std.proofs.Common.{◌≡◌, ◌<◌, ◌≤◌, ◌+◌, ◌-◌, ◌++◌, ◌∙◌, ℕ, zero, suc, List, [], ◌∷◌, Bool, true, false, cond, Option, Some, None}
+use Rattle.std.proofs.Common.{◌≡◌, ◌<◌, ◌≤◌, ◌+◌, ◌++◌, ◌∙◌, ℕ, zero, suc, List, [], ◌∷◌, Bool, true, false, cond, Option, Some, None}
 use Rattle.std.proofs.Common.{Ok, Err, Result, refl, ap, sym, arith, length, drop, nat_lt, length-drop, append_assoc}
 use Rattle.std.specs.Prelude.{◌==◌, ◌&&◌, if◌then◌else◌}
 use Rattle.std.proofs.lemmas.Bool.Decides.{nat_tests}
 use Rattle.rb_bytes.specs.declared.gap.Gap.{Gap}
 use Rattle.rb_bytes.specs.declared.gap.Gap.TheVariants.{Short}
 use Rattle.rb_bytes.specs.Readers.{and_then, number_read}
-use Rattle.table_core.specs.ReadSteps.{or_trouble, with_head}
+use Rattle.table_core.specs.ReadSteps.{with_head}
 use Rattle.table_core.specs.declared.range.Range.{Range}
-use Rattle.table_core.proofs.Numbers.{same_value, same_left}
+use Rattle.table_core.proofs.Numbers.{same_left}
 use Rattle.dw_unit.specs.declared.trouble.Trouble.{Trouble}
 use Rattle.dw_unit.specs.declared.trouble.Trouble.TheVariants.{Unsound}
 use Rattle.dw_unit.specs.Trouble.{Read, whole}

@@ -1,23 +1,21 @@
 -- The units that runs say, whatever order their stretches stand in.
-use Rattle.std.proofs.Common.{◌≡◌, ◌∙◌, ◌<◌, ◌≤◌, ◌-◌, ◌+◌, ◌^◌, ℕ, suc, Bool, true, false, cond, List, [], ◌∷◌, Option, Some, None, refl}
-use Rattle.std.proofs.Common.{sym, ap, subst, arith, length, map, nat_le, nat_lt, option_map}
-use Rattle.std.specs.Prelude.{◌&&◌, ◌||◌, All, find, if◌then◌else◌, option_and_then}
+use Rattle.std.proofs.Common.{◌≡◌, ◌∙◌, ◌<◌, ◌≤◌, ◌+◌, ◌^◌, ℕ, Bool, true, false, cond, List, [], ◌∷◌, Option, Some, None, refl}
+use Rattle.std.proofs.Common.{sym, ap, arith, map, nat_le, nat_lt}
+use Rattle.std.specs.Prelude.{◌&&◌, ◌||◌, All, find, if◌then◌else◌}
 use Rattle.std.specs.List.{list_any}
 use Rattle.std.specs.List.Sorted.{IsPermutation}
 use Rattle.std.specs.Option.{option_or}
 use Rattle.std.proofs.lemmas.Bool.Decides.{nat_tests}
 use Rattle.std.proofs.lemmas.List.Elements.{All-cons, All-nil, All-head, All-tail, All-map, All-weaker}
 use Rattle.std.proofs.lemmas.List.Sorted.{All-permutation, list_any-IsPermutation}
-use Rattle.addr_map.specs.declared.span.Span.{Span}
-use Rattle.addr_map.specs.Spans.{owner}
 use Rattle.table_core.specs.AddressRanges.{holds_address}
-use Rattle.table_core.specs.AnswerRuns.{IsWithin, carried, run_at}
+use Rattle.table_core.specs.AnswerRuns.{IsWithin, run_at}
 use Rattle.table_core.specs.declared.run.Run.{Run}
 use Rattle.addr_rewrite.specs.WrittenAranges.{stretch_of}
 use Rattle.addr_rewrite.specs.declared.stretch.Stretch.{Stretch}
 use Rattle.addr_rewrite.specs.declared.unit_range.UnitRange.{UnitRange}
 use Rattle.addr_rewrite.proofs.FlatTables.{holds, unit_of}
-use Rattle.addr_rewrite.proofs.TablesBack.{IsStretch, IsWritten, range_of}
+use Rattle.addr_rewrite.proofs.TablesBack.{IsWritten, range_of}
 
 -- a stretch as a range of its unit
 abbrev pub entry_of : Stretch → UnitRange

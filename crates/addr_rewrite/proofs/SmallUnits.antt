@@ -1,6 +1,6 @@
 -- Offsets of units in tables of ranges of addresses have 32 bits.
-use Rattle.std.proofs.Common.{◌≡◌, ◌<◌, ◌+◌, ◌^◌, ◌∙◌, ℕ, zero, suc, Bool, true, false, List, [], ◌∷◌, Option, Some, None, Ok, Err, Result}
-use Rattle.std.proofs.Common.{refl, sym, ap, subst, arith, cond, get_or, length, drop, take, map, nat_lt, nat_le, option_map}
+use Rattle.std.proofs.Common.{◌≡◌, ◌<◌, ◌+◌, ◌^◌, ℕ, zero, suc, Bool, true, false, List, [], ◌∷◌, Option, Some, None, Ok, Err, Result}
+use Rattle.std.proofs.Common.{refl, sym, subst, arith, cond, get_or, length, drop, take, map, nat_lt, nat_le, option_map}
 use Rattle.std.specs.Prelude.{◌==◌, ◌&&◌, All, find, if◌then◌else◌}
 use Rattle.std.specs.List.{list_any}
 use Rattle.std.proofs.lemmas.List.{get_or-drop}

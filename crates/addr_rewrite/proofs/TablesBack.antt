@@ -1,20 +1,18 @@
 -- Tables that are written are read back.
-use Rattle.std.proofs.Common.{◌≡◌, ◌≢◌, ◌∙◌, ◌<◌, ◌≤◌, ◌-◌, ◌+◌, ◌*◌, ◌^◌, ◌==◌, ◌&&◌, ◌++◌, ℕ, zero, suc, List, [], ◌∷◌, Bool, true, false}
-use Rattle.std.proofs.Common.{Option, Some, None, Ok, Err, Result, refl, sym, ap, subst, arith, length, take, drop, map, nat_lt}
-use Rattle.std.proofs.Common.{append_assoc, length-append, length-take}
+use Rattle.std.proofs.Common.{◌≡◌, ◌∙◌, ◌<◌, ◌≤◌, ◌-◌, ◌+◌, ◌*◌, ◌^◌, ◌==◌, ◌&&◌, ◌++◌, ℕ, zero, suc, List, [], ◌∷◌, Bool, false}
+use Rattle.std.proofs.Common.{Some, None, Ok, Result, refl, sym, ap, arith, length, take, drop, map, nat_lt}
+use Rattle.std.proofs.Common.{length-append}
 use Rattle.std.specs.Prelude.{All, if◌then◌else◌}
 use Rattle.std.proofs.lemmas.Bool.Decides.{nat_tests}
 use Rattle.std.proofs.lemmas.Grind.{common_steps}
 use Rattle.std.proofs.lemmas.List.Elements.{All-cons, All-nil, All-head, All-tail, All-take, All-drop}
 use Rattle.byteorder.specs.Endian.{little_number, little_bytes}
 use Rattle.byteorder.specs.Numbers.{little_number-reads_back, length-bytes_low_first}
-use Rattle.rb_bytes.specs.Readers.{and_then, bytes_at, number_read}
+use Rattle.rb_bytes.specs.Readers.{bytes_at, number_read}
 use Rattle.table_core.specs.WrittenUnits.{IsUnit}
-use Rattle.table_core.specs.ReadSteps.{and_so, with_head}
+use Rattle.table_core.specs.ReadSteps.{with_head}
 use Rattle.table_core.specs.declared.range.Range.{Range}
 use Rattle.dw_unit.specs.declared.trouble.Trouble.{Trouble}
-use Rattle.dw_unit.specs.declared.trouble.Trouble.TheVariants.{Unsound}
-use Rattle.dw_unit.specs.Trouble.{Read, whole}
 use Rattle.addr_rewrite.specs.Aranges.{AddressTable, pairs_within, table_in}
 use Rattle.addr_rewrite.specs.ArangesReading.{pair_at}
 use Rattle.addr_rewrite.specs.WrittenAranges.{count_of, pairs_bytes, table_bytes, tables_of}

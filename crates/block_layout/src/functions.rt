@@ -99,8 +99,7 @@ fn hot_blocks(
     if !is_hot(weights, start, end) {
         return Ok(Vec::new(alloc));
     }
-    let part = hot_part(alloc, links, weights, start, end)?;
-    Ok(part)
+    hot_part(alloc, links, weights, start, end)
 }
 
 // Where the blocks of a function end, which begin at `start`.

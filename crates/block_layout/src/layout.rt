@@ -60,6 +60,5 @@ pub fn chains_by(
 {
     let taken = counted_edges(alloc, funcs, blocks, edges, profile)?;
     let links = link_edges(alloc, blocks, &taken)?;
-    let parts = function_parts(alloc, funcs.len(), blocks, &links, weights)?;
-    Ok(parts)
+    function_parts(alloc, funcs.len(), blocks, &links, weights)
 }

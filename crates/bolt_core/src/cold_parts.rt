@@ -13,16 +13,16 @@ use std::alloc::Global;
 fn first_address(funcs: &[Func], blocks: &[Block], place: usize) -> u64
     ensures { result ≡ first_address funcs.now blocks.now place }
 {
-    match blocks.get(place) {
-        Some(block) => match funcs.get(block.func) {
-            Some(func) => match func.insts.get(block.first) {
-                Some(inst) => inst.addr,
-                None => 0,
-            },
-            None => 0,
-        },
-        None => 0,
-    }
+    let Some(block) = blocks.get(place) else {
+        return 0;
+    };
+    let Some(func) = funcs.get(block.func) else {
+        return 0;
+    };
+    let Some(inst) = func.insts.get(block.first) else {
+        return 0;
+    };
+    inst.addr
 }
 
 // The blocks of the part of the function at a place.
@@ -42,10 +42,8 @@ fn cold_start(funcs: &[Func], blocks: &[Block], hot: &[usize], cold: &[usize]) -
     if hot.is_empty() {
         return None;
     }
-    match cold.first() {
-        Some(place) => Some(first_address(funcs, blocks, *place)),
-        None => None,
-    }
+    let place = cold.first()?;
+    Some(first_address(funcs, blocks, *place))
 }
 
 /// For each function with a hot and a cold part the address in the input of the cold part's first instruction, in the

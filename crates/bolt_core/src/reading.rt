@@ -16,9 +16,8 @@ pub fn read_tables(alloc: Global, elf: &Elf<'_>) -> Result<AllTables, Refusal>
     ensures free { OnOk result (IsFree (HasCarryingFault elf.now)) }
     ensures fault { IfErr result (IsRefusalBy (HasCarryingFault elf.now)) }
 {
-    match registered_frames(elf) {
-        Some(place) => return Err(Refusal::Fault(Fault::at(FaultKind::RegisteredFrames, place))),
-        None => {}
+    if let Some(place) = registered_frames(elf) {
+        return Err(Refusal::Fault(Fault::at(FaultKind::RegisteredFrames, place)));
     }
     let tables = read_all(alloc, elf)?;
     Ok(tables)

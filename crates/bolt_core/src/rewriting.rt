@@ -108,8 +108,7 @@ fn parts(
 {
     let targets = jump_tables::tables(alloc, funcs, &refs.cells)?;
     let edges = cfg_build::edges(alloc, funcs, blocks, &targets)?;
-    let parts = block_layout::chains_by(alloc, funcs, blocks, &edges, counts, weights)?;
-    Ok(parts)
+    block_layout::chains_by(alloc, funcs, blocks, &edges, counts, weights)
 }
 
 // The new code of blocks in the order of a plan, from an address on, with the map to it: forms that reach, the map that

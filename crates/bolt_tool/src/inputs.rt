@@ -28,10 +28,7 @@ pub fn rewrite_inputs<F: Files, O: Sink>(
     ensures files_go_on { FilesGoOn (F.seen files.old) (F.seen files.new) }
     ensures faults { (O.seen out.old).faults ≤ (O.seen out.new).faults }
 {
-    let inputs = match read_inputs(alloc, args, files, out) {
-        Ok(inputs) => inputs,
-        Err(answer) => return Err(answer),
-    };
+    let inputs = read_inputs(alloc, args, files, out)?;
     match rewrite(alloc, &inputs.file, &inputs.profile) {
         Ok(rewritten) => Ok(rewritten),
         Err(refusal) => Err(refuse(alloc, refusal, out)),

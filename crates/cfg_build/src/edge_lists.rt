@@ -104,9 +104,8 @@ fn push_edges(
         edges.new.items) }
 {
     for lead in leads {
-        match block_at(blocks, starts, source, func, *lead) {
-            Some(target) => edges.push((source, target))?,
-            None => {}
+        if let Some(target) = block_at(blocks, starts, source, func, *lead) {
+            edges.push((source, target))?;
         }
     }
     Ok(())

@@ -6,7 +6,7 @@ ghost use Rattle.cfi_rows.specs.declared.instruction.Malformed.TheVariants.{Entr
 
 use crate::factors::Factors;
 use crate::failed::Failed;
-use crate::instruction::Instruction;
+use crate::instruction::*;
 use crate::opcodes::extended::extended;
 use crate::opcodes::frame::frame;
 use crate::opcodes::location::location;
@@ -26,11 +26,11 @@ fn instruction(
     ensures err { IfErr result (λ e. Fails e (instruction_at (context_of factors.now) cursor.old.left ≡ Err Entry)) }
 {
     let op = byte(cursor)?;
-    match op {
-        0..=4 => location(cursor, op, factors),
-        5..=9 => register(cursor, op, factors),
-        10..=15 => frame(alloc, cursor, op, factors),
-        16..=63 => extended(alloc, cursor, op, factors),
+    match op as u64 {
+        DW_CFA_nop..=DW_CFA_advance_loc4 => location(cursor, op, factors),
+        DW_CFA_offset_extended..=DW_CFA_register => register(cursor, op, factors),
+        DW_CFA_remember_state..=DW_CFA_def_cfa_expression => frame(alloc, cursor, op, factors),
+        DW_CFA_expression..=DW_CFA_hi_user => extended(alloc, cursor, op, factors),
         _ => primary(cursor, op, factors),
     }
 }

@@ -217,6 +217,5 @@ pub fn read_entries(
     ensures { IfOk result (λ t. said (spec.frames debug address section.now) ≡ said_of t) }
 {
     let walked = walk(alloc, debug, section)?;
-    let listed = sound_entries(alloc, debug, address, &walked.entries, walked.broken)?;
-    Ok(listed)
+    sound_entries(alloc, debug, address, &walked.entries, walked.broken)
 }

@@ -14,10 +14,8 @@ impl Factors {
         ensures ok { IfOk result (λ i. (rest : List ℕ) → advance (units * self.now.code) rest ≡ Ok (i, rest)) }
         ensures err { IfErr result (λ e. Fails e ((rest : List ℕ) → advance (units * self.now.code) rest ≡ Err Entry)) }
     {
-        match units.checked_mul(self.code) {
-            Some(bytes) => Ok(Instruction::Advance(bytes)),
-            None => Err(Failed::Malformed),
-        }
+        let bytes = units.checked_mul(self.code).ok_or(Failed::Malformed)?;
+        Ok(Instruction::Advance(bytes))
     }
 
     /// A signed number of data units, modulo 2^64.

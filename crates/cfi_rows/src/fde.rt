@@ -72,10 +72,7 @@ fn sum(left: u64, right: u64) -> Result<u64, Failed>
     ensures ok { IfOk result (λ n. n ≡ left + right) }
     ensures err { IfErr result (λ e. Fails e ⊥) }
 {
-    match left.checked_add(right) {
-        Some(sum) => Ok(sum),
-        None => Err(Failed::Memory),
-    }
+    left.checked_add(right).ok_or(Failed::Memory)
 }
 
 /// An FDE by its entry, which ends at an address, and its CIE.

@@ -54,15 +54,13 @@ fn shared(cfa: &Option<Rc<Cfa>>) -> Result<Option<Rc<Cfa>>, NoMemory>
 fn with_register(cfa: &Option<Rc<Cfa>>, register: u64) -> Option<Cfa>
     ensures { result ≡ spec.with_register register (option_map rc_value cfa.now) }
 {
-    match cfa {
-        Some(cfa) => match cfa.as_ref() {
-            Cfa::Reg { reg: _, offset } => Some(Cfa::Reg {
-                reg: register,
-                offset: *offset,
-            }),
-            Cfa::Expr(_) => None,
-        },
-        None => None,
+    let cfa = cfa.as_ref()?;
+    match cfa.as_ref() {
+        Cfa::Reg { reg: _, offset } => Some(Cfa::Reg {
+            reg: register,
+            offset: *offset,
+        }),
+        Cfa::Expr(_) => None,
     }
 }
 
@@ -70,12 +68,10 @@ fn with_register(cfa: &Option<Rc<Cfa>>, register: u64) -> Option<Cfa>
 fn with_offset(cfa: &Option<Rc<Cfa>>, offset: i64) -> Option<Cfa>
     ensures { result ≡ spec.with_offset offset (option_map rc_value cfa.now) }
 {
-    match cfa {
-        Some(cfa) => match cfa.as_ref() {
-            Cfa::Reg { reg, offset: _ } => Some(Cfa::Reg { reg: *reg, offset }),
-            Cfa::Expr(_) => None,
-        },
-        None => None,
+    let cfa = cfa.as_ref()?;
+    match cfa.as_ref() {
+        Cfa::Reg { reg, offset: _ } => Some(Cfa::Reg { reg: *reg, offset }),
+        Cfa::Expr(_) => None,
     }
 }
 
@@ -128,13 +124,8 @@ impl Machine {
         ensures { OnOk result (spec.moved_to (self.old.location + bytes) (state_of self.old) ≡ Some
             (state_of self.new)) }
     {
-        match self.location.checked_add(bytes) {
-            Some(location) => {
-                self.location = location;
-                Ok(())
-            }
-            None => Err(Failed::Malformed),
-        }
+        self.location = self.location.checked_add(bytes).ok_or(Failed::Malformed)?;
+        Ok(())
     }
 
     fn go_to(&mut self, address: u64) -> Result<(), Failed>

@@ -53,7 +53,6 @@ pub(crate) fn block(alloc: Global, cursor: &mut Cursor<'_>) -> Result<Expression
 {
     let length = unsigned(cursor)?;
     let from = cursor.take(length as usize)?;
-    let mut bytes = Vec::new(alloc);
-    bytes.extend_from_slice(from)?;
+    let bytes = Vec::from_slice(alloc, from)?;
     Ok(Expression { bytes })
 }

@@ -75,13 +75,8 @@ impl Outline {
             (spec.kept_outline self.old)
             ≡ None)) }
     {
-        match self.location.checked_add(bytes) {
-            Some(location) => {
-                self.location = location;
-                Ok(())
-            }
-            None => Err(Failed::Malformed),
-        }
+        self.location = self.location.checked_add(bytes).ok_or(Failed::Malformed)?;
+        Ok(())
     }
 
     fn go_to(&mut self, address: u64) -> Result<(), Failed>
@@ -124,13 +119,8 @@ impl Outline {
             (spec.kept_outline self.old).saved
             ≡ None)) }
     {
-        match self.saved.pop() {
-            Some(frame) => {
-                self.frame = frame;
-                Ok(())
-            }
-            None => Err(Failed::Malformed),
-        }
+        self.frame = self.saved.pop().ok_or(Failed::Malformed)?;
+        Ok(())
     }
 }
 

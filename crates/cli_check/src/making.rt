@@ -43,8 +43,7 @@ fn edges_of(alloc: Global, program: &Program<'_>) -> Result<Vec<(usize, usize)>,
     let funcs = program.funcs.as_slice();
     let blocks = program.blocks.as_slice();
     let targets = jump_tables::tables(alloc, funcs, &program.refs.cells)?;
-    let edges = cfg_build::edges(alloc, funcs, blocks, &targets)?;
-    Ok(edges)
+    cfg_build::edges(alloc, funcs, blocks, &targets)
 }
 
 // Repairs a profile of a program.

@@ -68,10 +68,7 @@ fn value(digits: &[u8]) -> Option<u64>
 {
     let mut value = 0;
     for c in digits {
-        match appended(value, digit_value(*c)) {
-            Some(more) => value = more,
-            None => return None,
-        }
+        value = appended(value, digit_value(*c))?;
     }
     Some(value)
 }
@@ -80,10 +77,8 @@ fn value(digits: &[u8]) -> Option<u64>
 fn appended(value: u64, digit: u64) -> Option<u64>
     ensures { result ≡ (if nat_lt (value * 16 + digit) (2 ^ 64) then Some (value * 16 + digit) else None) }
 {
-    match value.checked_mul(16) {
-        Some(shifted) => shifted.checked_add(digit),
-        None => None,
-    }
+    let shifted = value.checked_mul(16)?;
+    shifted.checked_add(digit)
 }
 
 fn digit_value(c: u8) -> u64

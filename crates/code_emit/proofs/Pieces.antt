@@ -1,5 +1,5 @@
 -- The pieces of a plan: each is one of an instruction, and each instruction has one. Each ends by the table.
-use Rattle.std.proofs.Common.{◌≡◌, ℕ, zero, suc, ◌+◌, ◌<◌, ◌≤◌, List, [], ◌∷◌, ◌++◌, length, Option, Some, Bool, true, refl, sym}
+use Rattle.std.proofs.Common.{◌≡◌, ℕ, zero, suc, ◌<◌, ◌≤◌, List, [], ◌∷◌, ◌++◌, length, Option, Some, Bool, true, refl, sym}
 use Rattle.std.proofs.Common.{ap, ◌∙◌, subst, arith, inl, inr, get_or, take}
 use Rattle.std.specs.Prelude.{Contains, map, slice_get}
 use Rattle.std.specs.Option.{option_map_or}

@@ -1,5 +1,5 @@
 -- What is decoded from the bytes at an address is the only instruction there.
-use Rattle.std.proofs.Common.{◌≡◌, ◌≢◌, sym, subst, ℕ, ◌⊎◌, inl, ⊎_elim, Option, Some, None, IfSome, IfNone}
+use Rattle.std.proofs.Common.{◌≡◌, ◌≢◌, sym, subst, ℕ, inl, ⊎_elim, Option, Some, None, IfSome, IfNone}
 use Rattle.rv_code.specs.declared.inst.Inst.{Inst}
 use Rattle.rv_code.specs.isa.InstBytes.{Decodes, DecodesHalf, DecodesFull}
 

@@ -1,5 +1,5 @@
 // Instructions at their addresses.
-ghost use Rattle.std.specs.Prelude.{◌≡◌, ◌↔◌, ◌<◌, ◌≤◌, ◌+◌, ◌*◌, ℕ, IsTrue, IfSome, Some, Contains, AllPairs};
+ghost use Rattle.std.specs.Prelude.{◌≡◌, ◌↔◌, ◌<◌, ◌≤◌, ◌+◌, ◌*◌, ◌^◌, ℕ, IsTrue, IfSome, Some, Contains, AllPairs};
 ghost use Rattle.rv_code.specs.declared.inst.Inst.{Inst};
 ghost use Rattle.elf_code.specs.FileCode.{AreStarts};
 ghost use Rattle.elf_code.specs.Parts.{halfword_at};
@@ -23,7 +23,7 @@ pub fn is_start(addresses: &[u64], address: u64) -> bool
 
 /// The halfword at an address. What isn't loaded counts as zero.
 pub fn halfword_at(elf: &Elf, address: u64) -> u16
-    requires { address + 1 < 18446744073709551616 }
+    requires { address + 1 < 2 ^ 64 }
     ensures { result ≡ halfword_at elf.now address }
 {
     let bytes = bytes_from(elf, address);
@@ -44,7 +44,7 @@ pub(crate) fn halfword(low: u8, high: u8) -> u16
 
 // The halfwords at an address and after it. It takes one look-up where one segment loads both.
 fn halfwords_at(elf: &Elf, address: u64) -> (u16, u16)
-    requires { address + 3 < 18446744073709551616 }
+    requires { address + 3 < 2 ^ 64 }
     ensures first { result.0 ≡ halfword_at elf.now address }
     ensures second { result.1 ≡ halfword_at elf.now (address + 2) }
 {

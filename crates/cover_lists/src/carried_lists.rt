@@ -35,6 +35,5 @@ pub fn carried_lists(
     let bounds = place_bounds(alloc, &[], lists)?;
     let stretches = stretches_of(alloc, &bounds, map)?;
     let finder = ListFinder::new(alloc, lists)?;
-    let runs = list_runs(alloc, lists, &finder, &stretches)?;
-    Ok(runs)
+    list_runs(alloc, lists, &finder, &stretches)
 }

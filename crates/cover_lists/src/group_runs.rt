@@ -156,6 +156,5 @@ pub fn carried_groups(
         return Ok(Vec::new(alloc));
     }
     let stretches = stretches_of(alloc, bounds, map)?;
-    let lists = group_runs(alloc, tree, count, &stretches)?;
-    Ok(lists)
+    group_runs(alloc, tree, count, &stretches)
 }

@@ -87,13 +87,10 @@ pub fn stretches_of(
     let mut stretches = Vec::new(alloc);
     let mut near = 0;
     for i in 0..map.len() {
-        match map.span(i) {
-            Some(span) => {
-                if span.len > 0 {
-                    add_span(bounds, &mut stretches, &mut near, span)?;
-                }
+        if let Some(span) = map.span(i) {
+            if span.len > 0 {
+                add_span(bounds, &mut stretches, &mut near, span)?;
             }
-            None => {}
         }
     }
     Ok(stretches)

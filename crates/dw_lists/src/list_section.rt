@@ -166,8 +166,7 @@ pub fn list_at<'a>(
 {
     let end = list_end(section.bytes, section.tables, at);
     let bytes = bytes_between(section.bytes, at, end);
-    let places = read_list(alloc, kind, bytes, unit.base, &unit.addresses)?;
-    Ok(places)
+    read_list(alloc, kind, bytes, unit.base, &unit.addresses)
 }
 
 /// The place of the table that a fault of the list at an offset has.

@@ -155,10 +155,7 @@ pub fn own_group(
         return Ok(None);
     };
     match list_offset(ListKind::Ranges, section.bytes, unit.lists, *named) {
-        Some(at) => {
-            let group = group_at(alloc, section, unit, known, groups, at)?;
-            Ok(group)
-        }
+        Some(at) => group_at(alloc, section, unit, known, groups, at),
         None => Ok(None),
     }
 }

@@ -1,5 +1,5 @@
 -- A file that has neither units nor tables of addresses: nothing of them changes.
-use Rattle.std.proofs.Common.{◌≡◌, ◌∙◌, ℕ, List, [], ◌∷◌, false, None, refl, ap, sym, subst, length}
+use Rattle.std.proofs.Common.{◌≡◌, ◌∙◌, ℕ, List, [], ◌∷◌, false, refl, ap, sym, subst, length}
 use Rattle.std.specs.Prelude.{codes, filter, flat_map}
 use Rattle.std.specs.List.{AllZip, range_with_len}
 use Rattle.rb_bytes.specs.FirstFault.{IsFree}
@@ -8,7 +8,7 @@ use Rattle.addr_map.specs.declared.span.Span.{Span}
 use Rattle.table_core.specs.declared.written.ListAt.{ListAt}
 use Rattle.table_core.specs.DebugUnits.{units_from}
 use Rattle.table_core.specs.Sections.{bytes_of}
-use Rattle.dw_unit.specs.ChangedEntries.{AreChangedUnits, IsChangedUnit}
+use Rattle.dw_unit.specs.ChangedEntries.{IsChangedUnit}
 use Rattle.dw_unit.specs.Changes.{changed_abbrevs, changed_addr, changed_info, table_bytes}
 use Rattle.dw_unit.specs.CompUnits.{Sections, Unit, units}
 use Rattle.dw_unit.specs.EntryMoves.{Moves}

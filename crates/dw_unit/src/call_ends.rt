@@ -13,7 +13,7 @@ use std::collections::BTreeMap;
 
 // The halfword at an address. What isn't loaded counts as zero.
 fn halfword_at(elf: &Elf, address: u64) -> u16
-    requires { address + 1 < 18446744073709551616 }
+    requires { address + 1 < 2 ^ 64 }
     ensures { result ≡ halfword_at elf.now address }
 {
     let low = elf.image_byte(address).unwrap_or(0);
@@ -23,7 +23,7 @@ fn halfword_at(elf: &Elf, address: u64) -> u16
 
 // How many bytes the call at an address has, if one is there.
 fn call_at(elf: &Elf, address: u64) -> Option<u64>
-    requires { address + 3 < 18446744073709551616 }
+    requires { address + 3 < 2 ^ 64 }
     ensures there { IfSome result (HasCall elf.now address) }
     ensures below { IfSome result (λ n. n < 2 ^ 8) }
     ensures only { (n : ℕ) → HasCall elf.now address n → result ≡ Some n }

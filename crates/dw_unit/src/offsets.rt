@@ -14,14 +14,9 @@ use table_core::DebugUnit;
 fn offset_of(unit: &DebugUnit<'_>) -> Option<u64>
     ensures { result ≡ offset_of unit.now }
 {
-    let Some(bytes) = unit.bytes else {
-        return None;
-    };
+    let bytes = unit.bytes?;
     let mut cursor = Cursor::new(bytes);
-    match header(&mut cursor) {
-        Ok(offset) => Some(offset),
-        Err(_) => None,
-    }
+    header(&mut cursor).ok()
 }
 
 fn all_offsets(alloc: Global, units: &[DebugUnit<'_>]) -> Result<Vec<u64>, NoMemory>

@@ -63,7 +63,6 @@ impl<'a, 's> UnitReader<'a, 's> {
         ensures { (w : Walked) → slice_get self.now.units number ≡ Some w →
             IfOk result (IsReading self.now.abbrevs self.now.addr w) }
     {
-        let reading = read_unit(alloc, &self.tables, self.addr, &self.units[number])?;
-        Ok(reading)
+        read_unit(alloc, &self.tables, self.addr, &self.units[number])
     }
 }

@@ -2,7 +2,7 @@
 use Rattle.std.proofs.Common.{◌≡◌, ◌≤◌, ◌+◌, ◌∙◌, ℕ, cond, List, [], ◌∷◌, ◌++◌, Some, None, length, arith, ap, sym, filter_map}
 use Rattle.std.proofs.Common.{append_assoc, length-append}
 use Rattle.std.proofs.lemmas.List.{append-nil}
-use Rattle.edge_profile.specs.declared.reading.Said.{Said}
+use Rattle.edge_profile.specs.declared.reading.ProfileLines.{ProfileLines}
 use Rattle.edge_profile.specs.ReadLines.{SaysAll}
 use Rattle.std.specs.List.{cons_option}
 use Rattle.std.proofs.lemmas.List.Sums.{sum_by-cons}
@@ -90,7 +90,7 @@ module _ (names : FunctionNames) (funcs : List Func) (text left rest line : List
           (λ o. cond (is_none o) 1 0 + count_by (λ l. is_none (counted_by symbols funcs l)) (lines rest)) (sym (is symbols are))
 
 -- no line is left
-pub says_all : (names : FunctionNames) (funcs : List Func) (text left : List ℕ) (said : Said) → lines left ≡ []
+pub says_all : (names : FunctionNames) (funcs : List Func) (text left : List ℕ) (said : ProfileLines) → lines left ≡ []
     → SaysTo names funcs text left said.counted.items said.ignored
     → (symbols : List Symbol) → AreNamesOf symbols names → SaysAll symbols funcs text said
 says_all names funcs text left said none is symbols are = record {

@@ -194,10 +194,8 @@ pub fn address_at(names: &FunctionNames, funcs: &[Func], place: &Place) -> Optio
     ensures { (symbols : List Symbol) → AreNamesOf symbols names.now →
         result ≡ address_at symbols funcs.now (place_read place.now) }
 {
-    match value_of_name(names, funcs, place.name) {
-        Some(start) => code_address(funcs, start, place.offset),
-        None => None,
-    }
+    let start = value_of_name(names, funcs, place.name)?;
+    code_address(funcs, start, place.offset)
 }
 
 // The address at an offset from another, if an instruction starts there.
@@ -205,15 +203,11 @@ fn code_address(funcs: &[Func], start: u64, offset: u64) -> Option<u64>
     requires { AreLaidOut funcs.now }
     ensures { result ≡ code_address funcs.now (start + offset) }
 {
-    match start.checked_add(offset) {
-        Some(address) => {
-            if starts_instruction(funcs, address) {
-                Some(address)
-            } else {
-                None
-            }
-        }
-        None => None,
+    let address = start.checked_add(offset)?;
+    if starts_instruction(funcs, address) {
+        Some(address)
+    } else {
+        None
     }
 }
 

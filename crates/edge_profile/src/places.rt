@@ -32,10 +32,8 @@ pub fn place_near(funcs: &[Func], address: u64, near: usize) -> Option<InstPlace
         return None;
     }
     let func = below - 1;
-    match inst_at(&funcs[func].insts, address) {
-        Some(inst) => Some(InstPlace { func, inst }),
-        None => None,
-    }
+    let inst = inst_at(&funcs[func].insts, address)?;
+    Some(InstPlace { func, inst })
 }
 
 /// Whether an instruction starts at an address.

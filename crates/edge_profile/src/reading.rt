@@ -23,7 +23,7 @@ use std::alloc::Global;
 
 /// What the lines of a text say.
 #[derive(Drop)]
-pub struct Said {
+pub struct ProfileLines {
     /// From where to where control went, and how often: one for each line that says so.
     pub counted: Vec<(u64, u64, u64)>,
     /// How many lines say nothing.
@@ -43,7 +43,7 @@ pub fn read(alloc: Global, text: &[u8], elf: &Elf, funcs: &[Func]) -> Result<Pro
     let asked = asked_names(alloc, text)?;
     let names = FunctionNames::new(alloc, elf, asked.as_slice())?;
     let said = said_in(alloc, text, &names, funcs)?;
-    let Said { counted, ignored } = said;
+    let ProfileLines { counted, ignored } = said;
     let pairs = merged(alloc, counted)?;
     Ok(Profile { pairs, ignored })
 }
@@ -74,7 +74,7 @@ fn said_in(
     text: &[u8],
     names: &FunctionNames,
     funcs: &[Func],
-) -> Result<Said, NoMemory>
+) -> Result<ProfileLines, NoMemory>
     requires text { length text.now ≤ most_text_bytes }
     requires funcs { AreLaidOut funcs.now }
     ensures all { IfOk result (λ said. (symbols : List Symbol) → AreNamesOf symbols names.now →
@@ -89,7 +89,7 @@ fn said_in(
             None => ignored += 1,
         }
     }
-    Ok(Said { counted, ignored })
+    Ok(ProfileLines { counted, ignored })
 }
 
 // The pair and the count of a line.

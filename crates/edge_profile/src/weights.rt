@@ -101,10 +101,8 @@ fn block_at(funcs: &[Func], blocks: &[Block], address: u64, near: usize) -> Opti
     ensures holder { IsHolder funcs.now blocks.now address result }
     ensures within { IfSome result (λ k. k < length blocks.now) }
 {
-    match place_near(funcs, address, func_near(blocks, near)) {
-        Some(place) => block_with(blocks, &place, near),
-        None => None,
-    }
+    let place = place_near(funcs, address, func_near(blocks, near))?;
+    block_with(blocks, &place, near)
 }
 
 // The function of a block, or the first where there is no such block.

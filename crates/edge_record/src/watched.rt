@@ -99,9 +99,8 @@ fn insert_ends(set: &mut AddressSet, funcs: &[Func], blocks: &[Block])
     ensures { (a : ℕ) → in_set set.new a ≡ (list_any (λ b. ends_at funcs.now a b) blocks.now || in_set set.old a) }
 {
     for block in blocks {
-        match last_of(funcs, block) {
-            Some(inst) => set.insert(inst.addr),
-            None => {}
+        if let Some(inst) = last_of(funcs, block) {
+            set.insert(inst.addr);
         }
     }
 }

@@ -1,14 +1,14 @@
 -- In a sound file all that is loaded lies low, so the break has room above it.
 use Rattle.std.proofs.Common.{◌≡◌, ◌∙◌, sym, subst, refl, ℕ, ◌+◌, ◌-◌, ◌^◌, ◌<◌, ◌≤◌, zero, true, false, cond, IsTrue, List, []}
-use Rattle.std.proofs.Common.{◌∷◌, arith, ⊎_elim, ◌&&◌, nat_le, nat_lt, max, map, Bool}
+use Rattle.std.proofs.Common.{◌∷◌, arith, ⊎_elim, ◌&&◌, max, map, Bool}
 use Rattle.std.specs.List.{Contains, filter, fold}
 use Rattle.std.specs.Prelude.{◌==◌, if◌then◌else◌, min}
-use Rattle.std.proofs.lemmas.Bool.{and_parts, and_from, ltb-true, le-leb, lt-ltb, cases_lt, eqb-true}
+use Rattle.std.proofs.lemmas.Bool.{and_parts, cases_lt, eqb-true}
 use Rattle.rb_bytes.specs.declared.fault.FaultKind.TheVariants.{HighAddress}
 use Rattle.elf_image.specs.declared.segment.Segment.{Segment}
 use Rattle.elf_image.specs.declared.segment.TheConstants.{PF_W, ADDRESS_END}
 use Rattle.elf_image.specs.file.Header.{segment, segments_of}
-use Rattle.elf_image.specs.memory.Image.{is_load, has_memory, has_flag, end_of, loads_address}
+use Rattle.elf_image.specs.memory.Image.{has_memory, has_flag, end_of, loads_address}
 use Rattle.elf_image.specs.faults.FileFaults.{IsSound}
 use Rattle.elf_image.specs.memory.Break.{writable_end, break_start, break_bound, break_room, pages_above}
 use Rattle.rb_bytes.proofs.Members.{Contains-there}

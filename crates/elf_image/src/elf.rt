@@ -53,10 +53,8 @@ impl<'a> Elf<'a> {
     pub fn image_byte(&self, address: u64) -> Option<u8>
         ensures { result ≡ image_byte self.now.file.now self.now.segments.items address }
     {
-        match self.segment_at(address) {
-            Some(segment) => Some(segment_byte(self.file, address, segment)),
-            None => None,
-        }
+        let segment = self.segment_at(address)?;
+        Some(segment_byte(self.file, address, segment))
     }
 
     /// Where in the file the byte at an address stands, if it comes from there.
@@ -64,10 +62,7 @@ impl<'a> Elf<'a> {
         ensures value { result ≡ file_offset self.now.segments.items address }
         ensures below { IfSome result (λ offset. offset < 2 ^ 65) }
     {
-        match self.segment_at(address) {
-            Some(segment) => segment.offset_of(address),
-            None => None,
-        }
+        self.segment_at(address)?.offset_of(address)
     }
 
     /// The section that a name means, and of several the first. By the names of unwind tables only what is

@@ -34,19 +34,27 @@ pub const ADDRESS_END: u64 = 0x7fff_0000;
 /// The size of a program header in bytes.
 pub const PHDR_SIZE: usize = 56;
 
-/// Where its fields stand.
+// Where its fields stand behind its type. gABI, "Program Header".
+
+/// The flags.
 pub const P_FLAGS: usize = 4;
 
+/// The offset of the segment in the file.
 pub const P_OFFSET: usize = 8;
 
+/// The address that it is loaded at.
 pub const P_VADDR: usize = 16;
 
+/// The physical address, which nothing reads.
 pub const P_PADDR: usize = 24;
 
+/// How many bytes of the file it has.
 pub const P_FILESZ: usize = 32;
 
+/// How many bytes of memory it has.
 pub const P_MEMSZ: usize = 40;
 
+/// The alignment.
 pub const P_ALIGN: usize = 48;
 
 /// A program header, with its fields in the order of the file. Offsets and sizes are in bytes.

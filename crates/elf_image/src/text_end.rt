@@ -16,8 +16,6 @@ pub fn near_end(table: &[u8], index: usize) -> Option<usize>
     }
     let (_, behind) = table.split_at(index);
     let (near, _) = behind.split_at(behind.len().min(NEAR));
-    match memchr(0, near) {
-        Some(length) => Some(index + length),
-        None => None,
-    }
+    let length = memchr(0, near)?;
+    Some(index + length)
 }

@@ -1,9 +1,7 @@
 -- The bytes of the new area in a written file: the new code, and the tables that are loaded behind it.
 use Rattle.std.specs.Prelude.{ℕ, ◌-◌, List, Bool, IfSome, String, Vec, codes}
 use Rattle.elf_parts.specs.Patches.{Stands}
-use Rattle.elf_plan.specs.declared.area.Area.{Area}
 use Rattle.elf_make.specs.declared.layout.Layout.{Layout}
-use Rattle.elf_plan.specs.Area.{area_offset}
 use Rattle.elf_make.specs.FileParts.{IsMade}
 use Rattle.elf_plan.specs.NewSections.{bytes_called}
 use Rattle.elf_make.specs.Source.{Source}

@@ -52,14 +52,8 @@ impl NewNames {
     fn new(alloc: Global, elf: &Elf, own: &OwnSections) -> Result<NewNames, Unwritable> {
         let sections = names_at(alloc, elf, own.section_names)?;
         let symbols = match own.symbol_names {
-            Some(index) => {
-                if index == own.section_names {
-                    None
-                } else {
-                    Some(names_at(alloc, elf, index)?)
-                }
-            }
-            None => None,
+            Some(index) if index != own.section_names => Some(names_at(alloc, elf, index)?),
+            _ => None,
         };
         Ok(NewNames { sections, symbols })
     }
@@ -76,8 +70,7 @@ impl NewNames {
 // A table with the bytes of the section of an index.
 fn names_at(alloc: Global, elf: &Elf, index: usize) -> Result<NameTable, Unwritable> {
     let section = elf.sections.get(index).ok_or(Unwritable::Layout)?;
-    let table = NameTable::new(alloc, bytes_of(elf.file, section))?;
-    Ok(table)
+    Ok(NameTable::new(alloc, bytes_of(elf.file, section))?)
 }
 
 // The header of the table of ranges, where one is given and the input has none.

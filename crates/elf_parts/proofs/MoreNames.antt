@@ -1,5 +1,5 @@
 -- A table of names that others were added to keeps its own, and has the new ones.
-use Rattle.std.proofs.Common.{◌≡◌, ◌∙◌, sym, ap, ℕ, zero, suc, ◌+◌, ◌≤◌, ◌<◌, List, [], ◌∷◌, ◌++◌, Bool, false, length, get_or, arith}
+use Rattle.std.proofs.Common.{◌≡◌, ◌∙◌, sym, ap, ℕ, zero, suc, ◌≤◌, ◌<◌, List, [], ◌∷◌, ◌++◌, Bool, false, length, get_or, arith}
 use Rattle.std.specs.Prelude.{take_while, not, ◌==◌, cond}
 use Rattle.std.proofs.lemmas.List.Sums.{take_while-cons}
 use Rattle.elf_image.specs.file.Sections.{text_of}

@@ -1,13 +1,12 @@
 -- What a file has after bytes were put over some of its own, or added behind them.
-use Rattle.std.proofs.Common.{◌≡◌, ◌∙◌, sym, ap, subst, refl, ℕ, zero, suc, ◌+◌, ◌-◌, ◌≤◌, ◌<◌, ◌^◌, ◌⊎◌, inl, inr, List, [], ◌∷◌}
+use Rattle.std.proofs.Common.{◌≡◌, ◌∙◌, sym, ap, subst, refl, ℕ, zero, suc, ◌+◌, ◌-◌, ◌≤◌, ◌<◌, ◌⊎◌, inl, inr, List, [], ◌∷◌}
 use Rattle.std.proofs.Common.{◌++◌, length, take, drop, get_or, arith}
-use Rattle.std.specs.Prelude.{All, AllPairs, Contains, fold}
+use Rattle.std.specs.Prelude.{All, AllPairs}
 use Rattle.std.proofs.lemmas.Grind.{common_steps, same_number_lists}
 use Rattle.std.proofs.lemmas.List.{get_or-drop, get_or-take, get_or_append_left, get_or-append_right}
-use Rattle.byteorder.specs.Endian.{little_from, little_number, little_bytes}
 use Rattle.elf_image.proofs.NumberBytes.{little_from-same}
 use Rattle.elf_image.specs.file.Header.{number_at}
-use Rattle.elf_parts.specs.Patches.{put, Patch, put_patch, put_all, IsBeside, AreApart, IsWithin, Stands}
+use Rattle.elf_parts.specs.Patches.{put, Patch, put_all, IsBeside, AreApart, IsWithin, Stands}
 
 pub length-put : (a : ℕ) (bytes xs : List ℕ) → a + length bytes ≤ length xs → length (put a bytes xs) ≡ length xs
 length-put a bytes xs within = grind (arith, common_steps)

@@ -1,14 +1,14 @@
 -- Patches that leave a byte, and headers written over themselves.
 use Rattle.std.proofs.Common.{◌≡◌, ◌∙◌, sym, ap, subst, refl, ℕ, zero, suc, ◌+◌, ◌-◌, ◌*◌, ◌/◌, ◌%◌, ◌≤◌, ◌<◌, ◌^◌, ◌⊎◌, inl, inr}
-use Rattle.std.proofs.Common.{List, [], ◌∷◌, length, take, drop, get_or, arith}
+use Rattle.std.proofs.Common.{List, [], ◌∷◌, length, drop, get_or, arith}
 use Rattle.std.specs.Prelude.{All, slice_index}
 use Rattle.std.specs.Int.{bytes_low_first}
 use Rattle.std.proofs.Math.Nat.{pow-succ', div-div-eq-div-mul}
 use Rattle.std.proofs.lemmas.Bool.{cases_lt}
 use Rattle.std.proofs.lemmas.List.{get_or-drop}
 use Rattle.elf_image.specs.file.Header.{number_at}
-use Rattle.byteorder.specs.Endian.{little_from, little_number, little_bytes}
-use Rattle.elf_parts.specs.Patches.{put, Patch, put_all, IsBeside, IsWithin, Leaves}
+use Rattle.byteorder.specs.Endian.{little_from, little_bytes}
+use Rattle.elf_parts.specs.Patches.{put, Patch, put_all, IsWithin, Leaves}
 use Rattle.elf_parts.proofs.Patches.{length-put, get_or-put_beside, get_or-put_there}
 use Rattle.rb_bytes.proofs.NumberBytes.{byte_at-power}
 

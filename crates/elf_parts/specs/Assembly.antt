@@ -1,5 +1,5 @@
 -- A written file: the parts, a tail behind them, and what is put over their bytes.
-use Rattle.std.specs.Prelude.{◌≡◌, ℕ, ◌+◌, ◌^◌, ◌<◌, List, Contains, All, ◌++◌, ◌∷◌, length, map}
+use Rattle.std.specs.Prelude.{◌≡◌, ℕ, ◌^◌, ◌<◌, List, Contains, All, ◌++◌, ◌∷◌, length, map}
 use Rattle.byteorder.specs.Endian.{little_bytes}
 use Rattle.elf_image.specs.declared.segment.Segment.{Segment}
 use Rattle.elf_parts.specs.declared.number_at.NumberAt.{NumberAt}

@@ -1,5 +1,5 @@
 -- Headers and symbols as bytes. gABI, "Program Header", "Section Header" and "Symbol Table".
-use Rattle.std.specs.Prelude.{ℕ, ◌+◌, ◌<◌, ◌^◌, List, [], ◌∷◌, ◌++◌}
+use Rattle.std.specs.Prelude.{ℕ, ◌<◌, ◌^◌, List, [], ◌∷◌, ◌++◌}
 use Rattle.byteorder.specs.Endian.{little_bytes}
 use Rattle.elf_image.specs.declared.segment.Segment.{Segment}
 use Rattle.elf_image.specs.declared.section.SectionHeader.{SectionHeader}

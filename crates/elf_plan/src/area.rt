@@ -168,10 +168,7 @@ pub fn table_places(start: u64, code: usize, frames: usize) -> Result<(u64, u64)
     ensures index { IfOk result (λ places. (index : ℕ) →
         spec.table_start 4 (spec.table_end 8 (start + code) (Some frames)) (Some index) ≡ Some places.1) }
 {
-    match places_behind(start, code, frames) {
-        Ok(places) => Ok(places),
-        Err(_) => Err(NoMemory),
-    }
+    places_behind(start, code, frames).map_err(|_| NoMemory)
 }
 
 fn places_behind(start: u64, code: usize, frames: usize) -> Result<(u64, u64), Unwritable>

@@ -29,10 +29,8 @@ pub fn start_around(funcs: &[Func], address: u64) -> Option<u64>
     requires { AreLaidOut funcs.now }
     ensures { result ≡ start_around funcs.now address }
 {
-    match function_at(funcs, address) {
-        Some(func) => function_start(funcs, func),
-        None => None,
-    }
+    let func = function_at(funcs, address)?;
+    function_start(funcs, func)
 }
 
 // Where the function starts that has a place in the list.

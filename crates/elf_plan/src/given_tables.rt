@@ -22,10 +22,8 @@ pub fn table_called<'a>(tables: &'a [Table], name: &[u8]) -> Option<&'a Table>
 pub fn table_size(tables: &[Table], name: &[u8]) -> Option<usize>
     ensures { result ≡ spec.table_size tables.now name.now }
 {
-    match table_called(tables, name) {
-        Some(table) => Some(table.1.len()),
-        None => None,
-    }
+    let (_, bytes) = table_called(tables, name)?;
+    Some(bytes.len())
 }
 
 /// The bytes of the first table with a name; none without one.

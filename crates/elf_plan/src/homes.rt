@@ -45,10 +45,7 @@ fn extent_of(index: usize, contents: Contents, section: &Section) -> Extent
 fn found_at(contents: &[Contents], index: usize) -> Contents
     ensures { result ≡ unwrap_or (slice_get contents.now index) Dropped }
 {
-    match contents.get(index) {
-        Some(found) => *found,
-        None => Contents::Dropped,
-    }
+    contents.get(index).copied().unwrap_or(Contents::Dropped)
 }
 
 // The extents of all sections.
@@ -79,10 +76,8 @@ fn first_for(loaded: &LoadedRanges, extents: &RangeTree, p: &Segment) -> Option<
     if loaded.has_one(p.offset, end) {
         return None;
     }
-    match extents.first(p.offset, end) {
-        Some(extent) => Some(extent.place as usize),
-        None => None,
-    }
+    let extent = extents.first(p.offset, end)?;
+    Some(extent.place as usize)
 }
 
 // The home of each header.
@@ -116,6 +111,5 @@ pub fn homes_of(
     let loaded = LoadedRanges::new(alloc, segments)?;
     let extents = extents_of(alloc, sections, contents)?;
     let tree = RangeTree::new(alloc, &extents)?;
-    let homes = all_first(alloc, &loaded, &tree, segments)?;
-    Ok(homes)
+    all_first(alloc, &loaded, &tree, segments)
 }

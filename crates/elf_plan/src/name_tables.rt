@@ -60,10 +60,8 @@ pub fn place_of_names(elf: &Elf) -> Option<usize>
     if elf.symbols.is_empty() {
         return None;
     }
-    match symbols_section(elf) {
-        Some(table) => among(&elf.sections, table.link as usize),
-        None => None,
-    }
+    let table = symbols_section(elf)?;
+    among(&elf.sections, table.link as usize)
 }
 
 impl OwnSections {

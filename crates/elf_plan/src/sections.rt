@@ -182,10 +182,8 @@ impl<'a> Sections<'a> {
             result ≡ offset_if (is_written_by self.now segments area shift) index
             (slice_get self.now.elf.now.sections.items index) }
     {
-        match self.elf.sections.get(index) {
-            Some(section) => self.offset_if_written(index, section),
-            None => None,
-        }
+        let section = self.elf.sections.get(index)?;
+        self.offset_if_written(index, section)
     }
 
     fn offset_if_written(&self, index: usize, section: &Section) -> Option<u64>

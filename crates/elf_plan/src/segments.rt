@@ -124,10 +124,7 @@ impl<'a> Places<'a> {
     fn section_at(&self, index: usize) -> u64
         ensures { result ≡ unwrap_or (slice_get self.now.sections_at.now index) 0 }
     {
-        match self.sections_at.get(index) {
-            Some(at) => *at,
-            None => 0,
-        }
+        self.sections_at.get(index).copied().unwrap_or(0)
     }
 
     fn old_section_at(&self, index: usize) -> u64

@@ -84,10 +84,8 @@ fn names_of_symbols<'a>(elf: &'a Elf<'a>) -> Option<&'a Section<'a>>
     if elf.symbols.is_empty() {
         return None;
     }
-    match symbols_section(elf) {
-        Some(table) => elf.sections.get(table.link as usize),
-        None => None,
-    }
+    let table = symbols_section(elf)?;
+    elf.sections.get(table.link as usize)
 }
 
 fn size_of(section: Option<&Section>) -> u64

@@ -1,5 +1,5 @@
 -- The limit of the new area behind the executable segment lies below each segment at or above an address.
-use Rattle.std.proofs.Common.{ℕ, zero, suc, ◌-◌, ◌≡◌, ◌≤◌, ◌<◌, refl, List, [], ◌∷◌, Bool, true, false, IsTrue, length, get_or, min, arith}
+use Rattle.std.proofs.Common.{ℕ, zero, suc, ◌≡◌, ◌≤◌, ◌<◌, refl, List, [], ◌∷◌, Bool, true, false, IsTrue, length, get_or, min, arith}
 use Rattle.std.specs.Prelude.{fold, ◌&&◌, nat_le}
 use Rattle.std.proofs.lemmas.Bool.{and_from, le-leb}
 use Rattle.elf_image.specs.declared.segment.Segment.{Segment}

@@ -50,10 +50,7 @@ fn raise(heights: &mut [u64], distances: &[u64], step: u64) -> Result<(), NoMemo
 {
     for n in 0..heights.len() {
         let rise = step.saturating_sub(distances[n]);
-        heights[n] = match heights[n].checked_add(rise) {
-            Some(height) => height,
-            None => return Err(NoMemory),
-        };
+        heights[n] = heights[n].checked_add(rise).ok_or(NoMemory)?;
     }
     Ok(())
 }

@@ -89,13 +89,8 @@ fn add(sums: &mut [u128], node: usize, flow: u128) -> Result<(), NoMemory>
     ensures { OnOk result ((n : ℕ) →
         slice_index sums.new n ≡ (if n == node then slice_index sums.old n + flow else slice_index sums.old n)) }
 {
-    match sums[node].checked_add(flow) {
-        Some(sum) => {
-            sums[node] = sum;
-            Ok(())
-        }
-        None => Err(NoMemory),
-    }
+    sums[node] = sums[node].checked_add(flow).ok_or(NoMemory)?;
+    Ok(())
 }
 
 /// Whether as much flows into each block as out of it.

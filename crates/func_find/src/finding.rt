@@ -60,15 +60,11 @@ fn functions_by(
     let function_parts = kept_parts(alloc, elf, starts.list(), &parts, refs)?;
     let whole_parts = whole_parts(alloc, elf, starts.list(), &parts, whole)?;
     let kept = function_parts.as_slice();
-    match lowest_bad_start(starts, kept, elf.entry) {
-        Some(place) => return Err(Refusal::Fault(Fault::at(FaultKind::BadEntry, place))),
-        None => {}
+    if let Some(place) = lowest_bad_start(starts, kept, elf.entry) {
+        return Err(Refusal::Fault(Fault::at(FaultKind::BadEntry, place)));
     }
     let wholes = whole_parts.as_slice();
-    let funcs = match functions_of(alloc, elf, kept, wholes, &refs.roles) {
-        Ok(funcs) => funcs,
-        Err(refusal) => return Err(refusal),
-    };
+    let funcs = functions_of(alloc, elf, kept, wholes, &refs.roles)?;
     match lowest_misled(starts, kept, &funcs) {
         Some(place) => Err(Refusal::Fault(Fault::at(FaultKind::BadTarget, place))),
         None => Ok(funcs),

@@ -33,10 +33,7 @@ pub fn functions_of(
 {
     let mut funcs = Vec::new(alloc);
     for part in parts {
-        let insts = match insts_of(alloc, elf, part, roles) {
-            Ok(insts) => insts,
-            Err(refusal) => return Err(refusal),
-        };
+        let insts = insts_of(alloc, elf, part, roles)?;
         funcs.push(Func {
             start: part.start,
             end: part.end,

@@ -102,10 +102,8 @@ fn target_of(elf: &Elf, end: u64, from: u64) -> Option<u64>
     if from >= end {
         return None;
     }
-    match valid_before(elf, end, from) {
-        Some(found) => target(from, &found.0),
-        None => None,
-    }
+    let (inst, _) = valid_before(elf, end, from)?;
+    target(from, &inst)
 }
 
 /// Appends the addresses that roles name.

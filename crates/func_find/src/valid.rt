@@ -15,18 +15,14 @@ pub fn valid_before(elf: &Elf, end: u64, address: u64) -> Option<(Inst, u8)>
     ensures only { (inst : Inst) (bytes : ℕ) → IsValidBefore elf.now end address inst bytes →
         result ≡ Some (inst, bytes) }
 {
-    match inst_before(elf, end, address) {
-        Some(found) => {
-            if address % 2 != 0 {
-                return None;
-            }
-            if found.1 == 2 && elf.flags == 0 {
-                return None;
-            }
-            Some(found)
-        }
-        None => None,
+    let (inst, bytes) = inst_before(elf, end, address)?;
+    if address % 2 != 0 {
+        return None;
     }
+    if bytes == 2 && elf.flags == 0 {
+        return None;
+    }
+    Some((inst, bytes))
 }
 
 /// Whether a nop stands at an address and ends by `end`.

@@ -150,9 +150,8 @@ fn fold_units(
 {
     let mut clusters = Clusters::new(alloc, sizes, heats)?;
     for &unit in taken {
-        match callers[unit] {
-            Some(caller) => clusters.append(alloc, caller, unit)?,
-            None => {}
+        if let Some(caller) = callers[unit] {
+            clusters.append(alloc, caller, unit)?;
         }
     }
     Ok(clusters)

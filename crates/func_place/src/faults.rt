@@ -28,9 +28,8 @@ pub fn first_kept(funcs: &[Func]) -> Option<u64>
     ensures { MatchOption result (All StaysIn funcs.now) (IsFirstKept funcs.now) }
 {
     for func in funcs {
-        match first_leaving(func) {
-            Some(place) => return Some(place),
-            None => {}
+        if let Some(place) = first_leaving(func) {
+            return Some(place);
         }
     }
     None

@@ -83,10 +83,7 @@ pub fn place_by(
     ensures free { OnOk result (IsFree (HasPlacementFault funcs.now blocks.now)) }
     ensures fault { IfErr result (IsRefusalBy (HasPlacementFault funcs.now blocks.now)) }
 {
-    let (units, sizes) = match sized_units(alloc, funcs, blocks) {
-        Ok(sized) => sized,
-        Err(refusal) => return Err(refusal),
-    };
+    let (units, sizes) = sized_units(alloc, funcs, blocks)?;
     let order = order_blocks(alloc, funcs, blocks, chains, pairs, weights, &units, &sizes)?;
     Ok(Plan { order })
 }
@@ -109,13 +106,11 @@ fn sized_units(
     let units = units_of(alloc, funcs)?;
     let own_sizes = block_sizes(alloc, funcs, blocks)?;
     let sizes = sums_of(alloc, &units, blocks, &own_sizes)?;
-    match first_long(funcs, &sizes) {
-        Some(place) => return Err(Refusal::Fault(Fault::at(FaultKind::UnitTooLong, place))),
-        None => {}
+    if let Some(place) = first_long(funcs, &sizes) {
+        return Err(Refusal::Fault(Fault::at(FaultKind::UnitTooLong, place)));
     }
-    match first_kept(funcs) {
-        Some(place) => return Err(Refusal::Fault(Fault::at(FaultKind::KeptBranch, place))),
-        None => {}
+    if let Some(place) = first_kept(funcs) {
+        return Err(Refusal::Fault(Fault::at(FaultKind::KeptBranch, place)));
     }
     Ok((units, sizes))
 }

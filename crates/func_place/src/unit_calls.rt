@@ -20,9 +20,8 @@ pub fn calls_of(
 {
     let mut calls = Vec::new(alloc);
     for pair in pairs {
-        match call_of(funcs, units, pair) {
-            Some(call) => calls.push(call)?,
-            None => {}
+        if let Some(call) = call_of(funcs, units, pair) {
+            calls.push(call)?;
         }
     }
     Ok(calls)
@@ -32,17 +31,13 @@ fn call_of(funcs: &[Func], units: &[usize], pair: &(u64, u64, u128)) -> Option<U
     requires { AreLaidOut funcs.now }
     ensures { result ≡ unit_call funcs.now units.now pair.now }
 {
-    match function_at(funcs, pair.0) {
-        Some(from) => match function_at(funcs, pair.1) {
-            Some(to) => Some(UnitCall {
-                from: unit_at(units, from),
-                to: unit_at(units, to),
-                count: pair.2,
-            }),
-            None => None,
-        },
-        None => None,
-    }
+    let from = function_at(funcs, pair.0)?;
+    let to = function_at(funcs, pair.1)?;
+    Some(UnitCall {
+        from: unit_at(units, from),
+        to: unit_at(units, to),
+        count: pair.2,
+    })
 }
 
 fn unit_at(units: &[usize], function: usize) -> usize

@@ -37,8 +37,7 @@ pub fn place_units(
     let mut line = Vec::new(alloc);
     clusters.put_clusters(&ranked, &mut line)?;
     put_cold(heats, &mut line)?;
-    let order = order_units(alloc, sizes, &line, hot, cold)?;
-    Ok(order)
+    order_units(alloc, sizes, &line, hot, cold)
 }
 
 // Appends the cold units.

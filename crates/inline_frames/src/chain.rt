@@ -128,8 +128,7 @@ fn frames_in(alloc: Global, elf: &Elf<'_>, debug: &DebugAt, a: u64) -> Result<Ve
         line_str: contents_of(elf, b".debug_line_str"),
     };
     let first = row_position(alloc, &debug.lines, a)?;
-    let frames = frames_from(alloc, &debug.lines, texts, first, &links, &namings)?;
-    Ok(frames)
+    frames_from(alloc, &debug.lines, texts, first, &links, &namings)
 }
 
 /// The functions of an address, from the innermost inlined one out to one that isn't inlined.

@@ -161,10 +161,7 @@ fn above(count: u64, index: Option<u64>) -> Result<u64, NoMemory>
             if index < count {
                 return Ok(count);
             }
-            match index.checked_add(1) {
-                Some(more) => Ok(more),
-                None => Err(NoMemory),
-            }
+            index.checked_add(1).ok_or(NoMemory)
         }
         None => Ok(count),
     }
@@ -184,10 +181,7 @@ fn offset_count(entries: &[NamedList]) -> Result<u64, NoMemory>
 fn index_offset(indexes: &BTreeMap<u64, u64>, index: u64) -> u64
     ensures { result ≡ unwrap_or (get nat_cmp indexes.now index) 0 }
 {
-    match indexes.get(&index) {
-        Some(offset) => *offset,
-        None => 0,
-    }
+    indexes.get(&index).copied().unwrap_or(0)
 }
 
 // Appends the offset of an index, behind which offsets take so many bytes.

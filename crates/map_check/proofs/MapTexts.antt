@@ -1,5 +1,5 @@
 -- The text of a map, one more line at a time.
-use Rattle.std.proofs.Common.{◌≡◌, ◌<◌, ◌+◌, ◌∙◌, ℕ, List, [], ◌∷◌, ◌++◌, All, length, arith, ap, sym, append_assoc, append-nil}
+use Rattle.std.proofs.Common.{◌≡◌, ◌<◌, ◌∙◌, ℕ, List, [], ◌∷◌, ◌++◌, All, length, arith, ap, sym, append_assoc, append-nil}
 use Rattle.std.proofs.Common.{length-append, subst}
 use Rattle.std.specs.Prelude.{decimal}
 use Rattle.rb_bytes.specs.Text.{hexadecimal}

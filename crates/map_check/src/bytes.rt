@@ -32,23 +32,21 @@ fn is_kept(input: &Elf, output: &Elf, changes: Changes, a: u64) -> bool
     ensures { (r : Rewrite) → AreBytesOf r input.now output.now → AreChangesOf r changes.entry →
         IsTrue result ↔ IsKept r a }
 {
-    match input.segment_at(a) {
-        Some(from) => match output.segment_at(a) {
-            Some(to) => {
-                if !same_flags(from, to) {
-                    return false;
-                }
-                let before = byte_or_zero(input, Some(a));
-                let after = byte_or_zero(output, Some(a));
-                if before == after {
-                    return true;
-                }
-                may_change(input, changes, a)
-            }
-            None => false,
-        },
-        None => true,
+    let Some(from) = input.segment_at(a) else {
+        return true;
+    };
+    let Some(to) = output.segment_at(a) else {
+        return false;
+    };
+    if !same_flags(from, to) {
+        return false;
     }
+    let before = byte_or_zero(input, Some(a));
+    let after = byte_or_zero(output, Some(a));
+    if before == after {
+        return true;
+    }
+    may_change(input, changes, a)
 }
 
 // Whether both have a zero at an address, past the bytes that come from their files.
@@ -97,20 +95,18 @@ fn kept_up_to(input: &Elf, output: &Elf, a: u64) -> u64
     ensures kept { (r : Rewrite) → AreBytesOf r input.now output.now → IsKept r a → (q : ℕ) → a ≤ q → q < result →
         IsKept r q }
 {
-    match input.segment_at(a) {
-        Some(from) => match output.segment_at(a) {
-            Some(to) => {
-                let end = first_end(from, to, a);
-                if are_zeros(from, to, a) {
-                    return end;
-                }
-                let same = common_length(bytes_from(input, a), bytes_from(output, a));
-                end.min(a + (same as u64).max(1))
-            }
-            None => a + 1,
-        },
-        None => a + 1,
+    let Some(from) = input.segment_at(a) else {
+        return a + 1;
+    };
+    let Some(to) = output.segment_at(a) else {
+        return a + 1;
+    };
+    let end = first_end(from, to, a);
+    if are_zeros(from, to, a) {
+        return end;
     }
+    let same = common_length(bytes_from(input, a), bytes_from(output, a));
+    end.min(a + (same as u64).max(1))
 }
 
 // The lowest address from `start` to before `end` at which the byte isn't kept.

@@ -45,10 +45,8 @@ fn next_at(table: &[Span], func: &Func, i: usize) -> Option<u64>
         return next_in(func, i);
     }
     let after = p.addr.wrapping_add(p.len as u64);
-    match span_of(table, after) {
-        Some(_) => Some(after),
-        None => None,
-    }
+    span_of(table, after)?;
+    Some(after)
 }
 
 /// What is asked of each instruction of the input.

@@ -41,22 +41,16 @@ pub fn found_in_span(output: &Elf, table: &[Span], p: &Placed) -> Option<Found>
     requires sorted { IsNonDecreasingBy (λ s. s.input) table.now }
     ensures { (r : Rewrite) → IsChecked r output.now table.now → FindsInSpan r p.now result }
 {
-    match span_of(table, p.addr) {
-        Some(span) => match inst_at(output, span.out) {
-            Some((inst, width)) => {
-                if width > span.len {
-                    return None;
-                }
-                Some(Found {
-                    out: span.out,
-                    inst,
-                    width,
-                })
-            }
-            None => None,
-        },
-        None => None,
+    let span = span_of(table, p.addr)?;
+    let (inst, width) = inst_at(output, span.out)?;
+    if width > span.len {
+        return None;
     }
+    Some(Found {
+        out: span.out,
+        inst,
+        width,
+    })
 }
 
 /// Whether control gets from a place to the next instruction, if there is one.
@@ -122,19 +116,17 @@ pub fn keeps_branch(
     ensures { (r : Rewrite) → IsChecked r output.now table.now → faithful.next r p.now ≡ next →
         IsTrue result ↔ KeepsBranch r (Goes r.output) p.now test wanted rs1 rs2 target }
 {
-    match found_in_span(output, table, p) {
-        Some(f) => match branch_of(&f.inst, test, rs1, rs2) {
-            Some((same, imm)) => {
-                let there = moved_by(f.out, imm);
-                let end = f.out.wrapping_add(f.width as u64);
-                if same == wanted {
-                    leads(output, table, there, end, target, next)
-                } else {
-                    leads(output, table, end, there, target, next)
-                }
-            }
-            None => false,
-        },
-        None => false,
+    let Some(f) = found_in_span(output, table, p) else {
+        return false;
+    };
+    let Some((same, imm)) = branch_of(&f.inst, test, rs1, rs2) else {
+        return false;
+    };
+    let there = moved_by(f.out, imm);
+    let end = f.out.wrapping_add(f.width as u64);
+    if same == wanted {
+        leads(output, table, there, end, target, next)
+    } else {
+        leads(output, table, end, there, target, next)
     }
 }

@@ -33,9 +33,8 @@ pub fn new_start(alloc: Global, program: &Program<'_>) -> Result<u64, Refusal>
 {
     let elf = &program.elf;
     let need = need(alloc, elf, &program.funcs, &program.blocks)?;
-    match no_room(elf, need) {
-        Some(fault) => return Err(Refusal::Fault(fault)),
-        None => {}
+    if let Some(fault) = no_room(elf, need) {
+        return Err(Refusal::Fault(fault));
     }
     let start = area_start_of(&elf.segments, area_room::is_tight(elf, need)).ok_or(NoMemory)?;
     Ok(start)

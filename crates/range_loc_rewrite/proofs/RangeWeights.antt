@@ -1,5 +1,5 @@
 -- The weight of ranges, by the runs of the groups of entries.
-use Rattle.std.proofs.Common.{◌≡◌, ◌∙◌, ◌+◌, ◌*◌, ◌-◌, ◌<◌, ◌++◌, ◌∷◌, [], ℕ, Bool, true, false, List, Option, Some, None, refl, sym, ap}
+use Rattle.std.proofs.Common.{◌≡◌, ◌∙◌, ◌+◌, ◌*◌, ◌<◌, ◌++◌, ◌∷◌, [], ℕ, Bool, true, false, List, Option, Some, None, refl, sym, ap}
 use Rattle.std.proofs.Common.{subst, arith, length, map, ⊎_elim}
 use Rattle.std.specs.Prelude.{if◌then◌else◌, flat_map, option_and_then, sum_by, Contains, min}
 use Rattle.std.specs.Global.{Vec}

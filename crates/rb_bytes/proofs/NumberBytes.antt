@@ -1,5 +1,5 @@
 -- The bytes of a number.
-use Rattle.std.proofs.Common.{◌≡◌, refl, ℕ, zero, suc, ◌-◌, ◌/◌, ◌%◌, ◌^◌, arith}
+use Rattle.std.proofs.Common.{◌≡◌, refl, ℕ, zero, suc, ◌/◌, ◌%◌, ◌^◌, arith}
 use Rattle.std.specs.Int.{byte_at}
 
 -- a byte of a number's bytes

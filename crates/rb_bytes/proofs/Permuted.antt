@@ -1,5 +1,5 @@
 -- Pairs of a list in another order.
-use Rattle.std.proofs.Common.{◌≢◌, ◌<◌, ℕ, cond, arith, ◌≡◌, ◌≤◌, ◌∙◌, ◌⊎◌, true, false, List, length, get_or, set, sym, ap}
+use Rattle.std.proofs.Common.{◌≢◌, ◌<◌, ℕ, cond, arith, ◌≡◌, ◌≤◌, ◌∙◌, true, false, List, length, get_or, set, sym, ap}
 use Rattle.std.proofs.Common.{⊎_elim, length-set, get_or-set_other, get_or-set_same}
 use Rattle.std.specs.Prelude.{◌==◌, AllPairs, IsPermutation}
 use Rattle.std.specs.List.{swap}

@@ -1,5 +1,5 @@
 -- What a search of a list finds, and what a filter keeps.
-use Rattle.std.proofs.Common.{◌≡◌, ◌∙◌, sym, ap, refl, ◌-◌, Bool, true, false, cond, List, [], ◌∷◌, Some, None, arith, inl, inr}
+use Rattle.std.proofs.Common.{◌≡◌, ◌∙◌, sym, ap, refl, Bool, true, false, cond, List, [], ◌∷◌, Some, None, arith, inl, inr}
 use Rattle.std.specs.List.{Contains, find, filter}
 use Rattle.rb_bytes.proofs.Members.{Contains-cons_cases, Contains-there}
 

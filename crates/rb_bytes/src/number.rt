@@ -69,10 +69,7 @@ fn value(digits: &[u8], radix: u64) -> Option<u64>
 {
     let mut value = 0;
     for c in digits {
-        match appended(value, radix, digit_value(*c)) {
-            Some(more) => value = more,
-            None => return None,
-        }
+        value = appended(value, radix, digit_value(*c))?;
     }
     Some(value)
 }
@@ -81,10 +78,7 @@ fn value(digits: &[u8], radix: u64) -> Option<u64>
 fn appended(value: u64, radix: u64, digit: u64) -> Option<u64>
     ensures { result ≡ (if nat_lt (value * radix + digit) (2 ^ 64) then Some (value * radix + digit) else None) }
 {
-    match value.checked_mul(radix) {
-        Some(shifted) => shifted.checked_add(digit),
-        None => None,
-    }
+    value.checked_mul(radix)?.checked_add(digit)
 }
 
 fn digit_value(c: u8) -> u64

@@ -18,17 +18,11 @@ pub fn decode(half: u16, next: Option<u16>) -> Option<(Inst, u8)>
 {
     let low = half as u32;
     if bits(low, 0, 2) == 3 {
-        let Some(upper) = next else {
-            return None;
-        };
-        match decode_full(upper as u32 * 65536 + low) {
-            Some(inst) => Some((inst, 4)),
-            None => None,
-        }
+        let upper = next?;
+        let inst = decode_full(upper as u32 * 65536 + low)?;
+        Some((inst, 4))
     } else {
-        match decode_half(low) {
-            Some(inst) => Some((inst, 2)),
-            None => None,
-        }
+        let inst = decode_half(low)?;
+        Some((inst, 2))
     }
 }

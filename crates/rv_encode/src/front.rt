@@ -19,13 +19,7 @@ pub fn encode(inst: &Inst, want: Width) -> Option<Word>
     ensures none { IfNone result ((half : ℕ) (next : Option ℕ) → Decodes half next inst.now (bytes want) → ⊥) }
 {
     match want {
-        Width::Half => match encode_half(inst) {
-            Some(half) => Some(Word::Half(half)),
-            None => None,
-        },
-        Width::Full => match encode_full(inst) {
-            Some(word) => Some(Word::Full(word)),
-            None => None,
-        },
+        Width::Half => Some(Word::Half(encode_half(inst)?)),
+        Width::Full => Some(Word::Full(encode_full(inst)?)),
     }
 }

@@ -7,7 +7,6 @@ use Rattle.std.proofs.lemmas.Bool.{and_parts, and_from, leb-true, ltb-true, le-l
 use Rattle.rv_code.specs.machine.Machine.{plus, all_may}
 use Rattle.elf_image.specs.declared.segment.TheConstants.{PF_W}
 use Rattle.elf_image.specs.memory.Image.{image_byte, is_loaded_with}
-use Rattle.elf_image.specs.memory.Break.{break_start, break_bound}
 use Rattle.rv_memory.specs.Start.{in_stack, stack_end, stack_size}
 use Rattle.rv_memory.specs.declared.memory.Memory.{Memory}
 use Rattle.rv_memory.specs.CodeRange.{is_in_code}

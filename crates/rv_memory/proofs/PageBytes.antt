@@ -3,10 +3,10 @@ use Rattle.std.proofs.Common.{◌≡◌, ◌∙◌, sym, ap, refl, ℕ, zero, su
 use Rattle.std.proofs.Common.{List, [], ◌∷◌, ◌++◌, length, take, drop, get_or, Option, Some, None, arith}
 use Rattle.std.specs.Prelude.{◌==◌, nat_le, nat_lt, if◌then◌else◌, replicate, Result, Ok, Err, OnErr}
 use Rattle.std.specs.Option.{option_map, is_some}
-use Rattle.std.proofs.Common.{inl, inr, length-append}
+use Rattle.std.proofs.Common.{length-append}
 use Rattle.std.proofs.lemmas.Grind.{common_steps}
 use Rattle.std.proofs.lemmas.List.{take_at, length-replicate, get_or-drop, get_or_append_left, get_or-append_right}
-use Rattle.std.proofs.lemmas.Bool.{leb-true, ltb-true, eqb-true, eqb-false, le-leb, lt-ltb, false_from_ne_true, and_parts, eq-eqb, cases_lt}
+use Rattle.std.proofs.lemmas.Bool.{leb-true, ltb-true, eqb-true, eqb-false, le-leb, lt-ltb, false_from_ne_true, and_parts}
 use Rattle.byteorder.specs.Endian.{little_from}
 use Rattle.elf_image.specs.file.Header.{number_at}
 use Rattle.rv_code.specs.machine.Machine.{plus, memory_bytes, little}

@@ -43,16 +43,13 @@ pub fn absolute_target(elf: &Elf, starts: &Starts, relocation: &Record) -> Optio
     ensures there { IfSome result (AbsoluteTo elf.now (seen relocation.now)) }
     ensures only { (target : ℕ) → AbsoluteTo elf.now (seen relocation.now) target → result ≡ Some target }
 {
+    // That starts have 64 bits is a clause of the list, which the proof wants.
     let _list = starts.list();
-    match natural(label(elf, relocation)) {
-        Some(target) => {
-            if starts.has(target) {
-                Some(target)
-            } else {
-                None
-            }
-        }
-        None => None,
+    let target = natural(label(elf, relocation))?;
+    if starts.has(target) {
+        Some(target)
+    } else {
+        None
     }
 }
 

@@ -73,19 +73,15 @@ pub fn code_field(elf: &Elf, starts: &Starts, place: u64, width: u8) -> Option<C
     ensures is { IfSome (option_map as_field result) (IsCodeField elf.now place width) }
     ensures only { (f : Field) → IsCodeField elf.now place width f → option_map as_field result ≡ Some f }
 {
-    match loaded_number(elf, place, width) {
-        Some(to) => {
-            if starts.has(to) && are_free(elf, place, width) {
-                Some(Candidate {
-                    place,
-                    width,
-                    content: Content::Address { to },
-                })
-            } else {
-                None
-            }
-        }
-        None => None,
+    let to = loaded_number(elf, place, width)?;
+    if starts.has(to) && are_free(elf, place, width) {
+        Some(Candidate {
+            place,
+            width,
+            content: Content::Address { to },
+        })
+    } else {
+        None
     }
 }
 
@@ -129,22 +125,18 @@ fn cell_field(
     if !crosses(elf, starts, wholes, difference) {
         return None;
     }
-    match cell_bytes(difference.width) {
-        Some(width) => {
-            if !are_free(elf, place, width) {
-                return None;
-            }
-            Some(Candidate {
-                place,
-                width,
-                content: Content::Difference {
-                    to: difference.to,
-                    from: difference.from,
-                },
-            })
-        }
-        None => None,
+    let width = cell_bytes(difference.width)?;
+    if !are_free(elf, place, width) {
+        return None;
     }
+    Some(Candidate {
+        place,
+        width,
+        content: Content::Difference {
+            to: difference.to,
+            from: difference.from,
+        },
+    })
 }
 
 // A relocation's field, if it can be a cell. `near` is about where the relocation stands.
@@ -177,10 +169,8 @@ fn field_of(
     if !can_be_cell(relocation) {
         return None;
     }
-    match difference_of(elf, records, near, relocation) {
-        Some(difference) => cell_field(elf, starts, wholes, relocation.place, &difference),
-        None => None,
-    }
+    let difference = difference_of(elf, records, near, relocation)?;
+    cell_field(elf, starts, wholes, relocation.place, &difference)
 }
 
 /// The fields of relocations that can be cells.

@@ -54,17 +54,13 @@ fn labels_difference(
     ensures only { (w : spec.Width) (to from : ℤ) → IsDifference elf.now (seen relocation.now) w to from →
         IsSomeAnd result (IsTheDifference w to from) }
 {
-    match only_plus(records, near, relocation.place, width) {
-        Some(_) => match only_minus(records, near, relocation.place, width) {
-            Some(minus) => Some(Difference {
-                width,
-                to: label(elf, relocation),
-                from: label(elf, &minus),
-            }),
-            None => None,
-        },
-        None => None,
-    }
+    only_plus(records, near, relocation.place, width)?;
+    let minus = only_minus(records, near, relocation.place, width)?;
+    Some(Difference {
+        width,
+        to: label(elf, relocation),
+        from: label(elf, &minus),
+    })
 }
 
 /// The difference in the field of a relocation.
@@ -87,10 +83,8 @@ pub fn difference_of(
             from: relocation.place as i128,
         });
     }
-    match plus_width(relocation.kind) {
-        Some(width) => labels_difference(elf, records, near, relocation, width),
-        None => None,
-    }
+    let width = plus_width(relocation.kind)?;
+    labels_difference(elf, records, near, relocation, width)
 }
 
 // The width of a field to which a relocation adds a label, or from which it subtracts one.
@@ -98,12 +92,10 @@ fn label_width(kind: u32) -> Option<FieldWidth>
     ensures { (w : spec.Width) →
         (option_map width_of result ≡ Some w) ↔ ((plus_width kind ≡ Some w) ⊎ (minus_width kind ≡ Some w)) }
 {
-    match plus_width(kind) {
-        Some(width) => Some(width),
-        None => minus_width(kind),
-    }
+    plus_width(kind).or(minus_width(kind))
 }
 
+// Whether one relocation at a place adds a label of some width, and one takes one off. The contract alone names `elf`.
 fn is_paired(elf: &Elf, records: &[Record], near: usize, place: u64, width: FieldWidth) -> bool
     requires { AreRecords elf.now records.now }
     ensures { IsTrue result ↔ IsPaired elf.now place (width_of width) }

@@ -23,12 +23,12 @@ use rb_bytes::fault::NoMemory;
 use rb_bytes::lists::push_some;
 use std::alloc::Global;
 
-// Whether a relocation says that the entry that the AUIPC at an address names has a label.
+// Whether a relocation says that the entry that the AUIPC at an address names has a label. The contract alone names
+// `elf`.
 fn names_entry(elf: &Elf, labels: &[SlotLabel], hi: u64, to: u64) -> bool
     requires { AreSlotLabels elf.now labels.now }
     ensures { IsTrue result ↔ NamesEntry elf.now hi to }
 {
-    let _elf = elf;
     has_label(labels, hi, to as i128)
 }
 
@@ -46,15 +46,11 @@ fn named_field(
     ensures is { IfSome (option_map as_field result) (IsNamedField elf.now hi slot) }
     ensures only { (f : Field) → IsNamedField elf.now hi slot f → option_map as_field result ≡ Some f }
 {
-    match loaded_number(elf, slot, 8) {
-        Some(to) => {
-            if !names_entry(elf, labels, hi, to) {
-                return None;
-            }
-            code_field(elf, starts, slot, 8)
-        }
-        None => None,
+    let to = loaded_number(elf, slot, 8)?;
+    if !names_entry(elf, labels, hi, to) {
+        return None;
     }
+    code_field(elf, starts, slot, 8)
 }
 
 // The entry that a lower part and its AUIPC name, if it can be a cell.

@@ -103,12 +103,12 @@ pub fn label(elf: &Elf, relocation: &Record) -> i128
     sum(symbol_value(elf, relocation), relocation.addend)
 }
 
-/// Whether a label is a code address.
+/// Whether a label is a code address. The contract alone names `elf`.
 pub fn is_code_label(elf: &Elf, starts: &Starts, label: i128) -> bool
     requires { AreStarts elf.now starts.now }
     ensures { IsTrue result ↔ IsCodeLabel elf.now label }
 {
-    let _elf = elf;
+    // That starts have 64 bits is a clause of the list, which the proof wants.
     let _list = starts.list();
     match u64::try_from(label) {
         Ok(address) => starts.has(address),

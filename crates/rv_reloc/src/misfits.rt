@@ -41,6 +41,7 @@ fn has_bad_symbol(elf: &Elf, relocation: &Record) -> bool
     relocation.symbol != 0 && elf.symbols.len() <= relocation.symbol as usize
 }
 
+// As a function it is one case for the proof of its caller.
 fn is_either(one: bool, other: bool) -> bool
     ensures { result ≡ (one || other) }
 {

@@ -97,13 +97,13 @@ pub fn far_uppers(
     Ok(far)
 }
 
-/// Whether a relocation gives an AUIPC an upper part that makes no address with a lower part.
+/// Whether a relocation gives an AUIPC an upper part that makes no address with a lower part. The contract alone names
+/// `elf`.
 pub fn is_far(elf: &Elf, far: &[u64], relocation: &Record) -> bool
     requires far { AreFar elf.now far.now }
     requires counts { Contains (relocations elf.now) (seen relocation.now) }
     ensures { IsTrue result ↔ MakesNoAddress elf.now (seen relocation.now) }
 {
-    let _elf = elf;
     if !is_pcrel_hi(relocation.kind) {
         return false;
     }

@@ -1,6 +1,6 @@
 -- Names don't weigh too much where there are few functions, and the names of symbols are short.
 use Rattle.std.proofs.Common.{◌≡◌, ◌≤◌, ◌+◌, ◌*◌, ◌-◌, ◌^◌, ℕ, List, [], All, Option, Some, None, length, sum_by, min, refl, arith}
-use Rattle.std.specs.Prelude.{◌&&◌, ◌==◌, find, option_and_then}
+use Rattle.std.specs.Prelude.{◌&&◌, ◌==◌, option_and_then}
 use Rattle.std.specs.Option.{option_map_or}
 use Rattle.std.proofs.lemmas.List.Elements.{All-contains}
 use Rattle.std.proofs.lemmas.List.Sums.{sum_by-le}

@@ -1,5 +1,5 @@
 -- Instructions of functions by their addresses: each is found, and nothing else is.
-use Rattle.std.proofs.Common.{◌≡◌, ◌∙◌, sym, subst, ap, refl, ℕ, zero, suc, ◌+◌, ◌-◌, ◌<◌, ◌≤◌, ◌⊎◌, inl, inr, ⊎_elim, true}
+use Rattle.std.proofs.Common.{◌≡◌, ◌∙◌, sym, subst, ap, refl, ℕ, zero, suc, ◌-◌, ◌<◌, ◌≤◌, ◌⊎◌, inl, inr, ⊎_elim, true}
 use Rattle.std.proofs.Common.{false, List, [], ◌∷◌, ◌++◌, Option, Some, None, IfSome, IfNone, length, slice_index_or, arith}
 use Rattle.std.specs.Prelude.{Contains, ◌==◌, is_some}
 use Rattle.std.specs.Option.{option_or}

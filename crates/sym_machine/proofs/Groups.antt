@@ -4,7 +4,7 @@ use Rattle.std.proofs.Common.{length, get_or, Option, Some, None, arith, inl, in
 use Rattle.std.specs.Prelude.{◌&&◌, ◌==◌, nat_le, nat_lt, if◌then◌else◌, option_map, slice_set}
 use Rattle.std.specs.Option.{option_and_then, is_some}
 use Rattle.std.proofs.lemmas.List.{get_or_append_left, get_or-append_right, get_or-set_same, get_or-set_other}
-use Rattle.std.proofs.lemmas.Bool.{eqb-true, eqb-false, eq-eqb, le-leb, lt-ltb, leb-true, ltb-true, false_from_ne_true, and_parts, cases_lt}
+use Rattle.std.proofs.lemmas.Bool.{eqb-true, eqb-false, le-leb, lt-ltb, leb-true, ltb-true, false_from_ne_true, and_parts, cases_lt}
 use Rattle.rv_memory.proofs.OneMoreNumber.{number_last, number_before}
 use Rattle.rv_memory.specs.PageIndex.{place_of}
 use Rattle.rv_memory.specs.declared.page_index.PageIndex.{PageIndex}

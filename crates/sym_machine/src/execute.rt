@@ -287,19 +287,17 @@ impl<'a> SymMachine<'a> {
         if self.memory.has_hidden(address, count as usize) {
             return Err(Reason::Hidden);
         }
-        match self.loaded_symbol(extension, address, count) {
-            Some(value) => Ok(Change { rd, value, next }),
-            None => Err(Reason::Mixed),
-        }
+        let value = self
+            .loaded_symbol(extension, address, count)
+            .ok_or(Reason::Mixed)?;
+        Ok(Change { rd, value, next })
     }
 
     fn loaded_symbol(&self, extension: Extension, address: u64, count: u8) -> Option<Value>
         requires { count ≤ 8 }
         ensures { result ≡ loaded_symbol extension (memory_bytes (memory_at self.now.memory) address count) }
     {
-        match self.memory.symbol(address, count) {
-            Some(bytes) => piece(extension, bytes),
-            None => None,
-        }
+        let bytes = self.memory.symbol(address, count)?;
+        piece(extension, bytes)
     }
 }

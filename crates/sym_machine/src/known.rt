@@ -106,8 +106,5 @@ impl KnownInsts {
 fn look_up(code: &InstIndex, pc: u64) -> Option<Decoded>
     ensures { result ≡ option_map decoded_inst (instruction code.now.funcs.now pc) }
 {
-    match code.fetch(pc) {
-        Some(inst) => Some(decoded_inst(inst)),
-        None => None,
-    }
+    code.fetch(pc).map(decoded_inst)
 }

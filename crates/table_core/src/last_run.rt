@@ -21,8 +21,7 @@ pub fn lengthen<A>(runs: &mut Vec<Run<A>>, len: u64)
     requires { last.IfLast (λ r. r.len + len < 2 ^ 64) runs.old.items }
     ensures { runs.new.items ≡ last.lengthened len runs.old.items }
 {
-    match runs.last_mut() {
-        Some(last) => last.len += len,
-        None => {}
+    if let Some(last) = runs.last_mut() {
+        last.len += len;
     }
 }

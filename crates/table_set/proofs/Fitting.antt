@@ -16,16 +16,15 @@ use Rattle.frame_rewrite.specs.declared.debug.DebugFrames.{DebugFrames}
 use Rattle.frame_rewrite.specs.Tables.{DebugComesFrom}
 use Rattle.line_rewrite.specs.LineAnswers.{LineSaid}
 use Rattle.line_rewrite.specs.LineTable.{LineFits}
-use Rattle.line_rewrite.specs.Tables.{LineSections, line_at, line_sections}
+use Rattle.line_rewrite.specs.Tables.{LineSections, line_at}
 use Rattle.range_loc_rewrite.specs.Faults.{ListSections}
 use Rattle.range_loc_rewrite.specs.ListTables.{ListFits}
 use Rattle.range_loc_rewrite.specs.Tables.{list_sections}
 use Rattle.range_loc_rewrite.specs.Weights.{IsPlacesWeight, IsRangesWeight}
 use Rattle.addr_rewrite.specs.Aranges.{unit_at}
 use Rattle.addr_rewrite.specs.ArangesTable.{ArangesFit}
-use Rattle.addr_rewrite.specs.Tables.{aranges_of}
 use Rattle.table_set.specs.AllTables.{AllComeFrom}
-use Rattle.table_set.specs.TableLimits.{IsTooHeavy, abbreviations, aranges, lines, places, ranges}
+use Rattle.table_set.specs.TableLimits.{IsTooHeavy, aranges, lines, places, ranges}
 use Rattle.table_set.specs.declared.all.AllTables.{AllTables}
 
 -- a section isn't longer than its file

@@ -84,10 +84,8 @@ fn second_code(segments: SegmentTable) -> Option<usize>
     ensures below { IfSome result (λ i. i + 1 < 2 ^ 64) }
     ensures none { IfNone result ((i : ℕ) → IsSecondCode segments.entry.file.now i → ⊥) }
 {
-    match next_code(segments, 0) {
-        Some(first) => next_code(segments, first + 1),
-        None => None,
-    }
+    let first = next_code(segments, 0)?;
+    next_code(segments, first + 1)
 }
 
 // Whether a section's name begins as those of moved sections do.
@@ -123,13 +121,9 @@ fn lowest_one_too_many(segments: SegmentTable, sections: &[Section]) -> Option<u
     requires sections { AreSections segments.file.now (e_shnum segments.file.now) sections.now }
     ensures { IsLowest (SomeBelow (e_phnum segments.entry.file.now) (IsOneTooMany segments.entry.file.now)) result }
 {
-    match second_code(segments) {
-        Some(second) => {
-            let is_wrong = is_too_many(segments, sections, second);
-            place_if(is_wrong, segments.place(second))
-        }
-        None => None,
-    }
+    let second = second_code(segments)?;
+    let is_wrong = is_too_many(segments, sections, second);
+    place_if(is_wrong, segments.place(second))
 }
 
 fn odd_code(segments: SegmentTable, index: usize) -> Option<u64>
@@ -153,10 +147,8 @@ fn lowest_code(segments: SegmentTable) -> Option<usize>
     ensures some { IfSome result (λ i. IsLowestCode segments.entry.file.now i) }
     ensures none { IfNone result ((i : ℕ) → IsCode segments.entry.file.now i → ⊥) }
 {
-    match next_code(segments, 0) {
-        Some(first) => Some(lowest_code_from(segments, first)),
-        None => None,
-    }
+    let first = next_code(segments, 0)?;
+    Some(lowest_code_from(segments, first))
 }
 
 // The executable segment of the lowest address, where `first` is the first one of the table.
@@ -250,11 +242,9 @@ fn crossing_table(segments: SegmentTable, code: usize) -> Option<u64>
 fn lowest_crossed(segments: SegmentTable) -> Option<u64>
     ensures { IsLowest (IsCrossed segments.entry.file.now) result }
 {
-    match lowest_code(segments) {
-        Some(code) => lower(
-            lowest_crossing(segments, code),
-            crossing_table(segments, code),
-        ),
-        None => None,
-    }
+    let code = lowest_code(segments)?;
+    lower(
+        lowest_crossing(segments, code),
+        crossing_table(segments, code),
+    )
 }

@@ -100,10 +100,8 @@ fn lowest_unnamed_in(headers: SectionTable, table: &[u8]) -> Option<u64>
 fn lowest_unnamed_section(headers: SectionTable) -> Option<u64>
     ensures { IsLowest (AreUnnamedSections headers.entry.file.now) result }
 {
-    match section_names(headers) {
-        Some(table) => lowest_unnamed_in(headers, table),
-        None => None,
-    }
+    let table = section_names(headers)?;
+    lowest_unnamed_in(headers, table)
 }
 
 fn unnamed_symbol(file: &[u8], table: &SectionHeader, index: usize, end: usize) -> Option<u64>
@@ -135,13 +133,9 @@ fn lowest_unnamed_of(file: &[u8], table: &SectionHeader, names: &[u8]) -> Option
 fn lowest_unnamed_symbol(headers: SectionTable) -> Option<u64>
     ensures { IsLowest (IsUnnamedSymbolOf headers.entry.file.now (symbol_table headers.entry.file.now)) result }
 {
-    let Some(table) = symbol_table(headers) else {
-        return None;
-    };
-    match symbol_names(headers, &table) {
-        Some(names) => lowest_unnamed_of(headers.file, &table, names),
-        None => None,
-    }
+    let table = symbol_table(headers)?;
+    let names = symbol_names(headers, &table)?;
+    lowest_unnamed_of(headers.file, &table, names)
 }
 
 // What the table of program headers names.

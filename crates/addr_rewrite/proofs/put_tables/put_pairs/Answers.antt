@@ -1,6 +1,3 @@
-use Rattle.std.proofs.Common.{◌∙◌, ◌++◌, ap}
-use Rattle.byteorder.specs.Endian.{little_bytes}
-use Rattle.addr_rewrite.specs.declared.stretch.Stretch.{Stretch}
 use Rattle.addr_rewrite.proofs.TableSteps.{pairs_end, pairs_more}
 use Rattle.addr_rewrite.proofs.put_tables.put_pairs.Goals as goal
 

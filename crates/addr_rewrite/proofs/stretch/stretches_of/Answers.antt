@@ -1,4 +1,4 @@
-use Rattle.std.proofs.Common.{◌∙◌, ◌<◌, ◌^◌, [], ℕ, arith}
+use Rattle.std.proofs.Common.{◌<◌, ◌^◌, [], ℕ, arith}
 use Rattle.std.proofs.lemmas.List.Elements.{All-get_or}
 use Rattle.table_core.specs.declared.run.Run.{Run}
 use Rattle.addr_rewrite.specs.WrittenAranges.{stretch_of}

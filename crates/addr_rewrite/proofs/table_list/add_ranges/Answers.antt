@@ -1,4 +1,4 @@
-use Rattle.std.proofs.Common.{◌≡◌, ◌∙◌, ◌++◌, ◌∷◌, [], List, ap, map, sym}
+use Rattle.std.proofs.Common.{◌∙◌, ◌++◌, List, ap, map, sym}
 use Rattle.std.proofs.lemmas.List.{append-nil}
 use Rattle.table_core.specs.declared.range.Range.{Range}
 use Rattle.addr_rewrite.specs.declared.unit_range.UnitRange.{UnitRange}

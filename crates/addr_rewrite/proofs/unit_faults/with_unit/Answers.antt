@@ -1,10 +1,9 @@
-use Rattle.std.proofs.Common.{◌≡◌, ◌∙◌, ℕ, List, Ok, ap, sym}
+use Rattle.std.proofs.Common.{◌≡◌, ◌∙◌, Ok, ap, sym}
 use Rattle.std.specs.Option.{option_or}
 use Rattle.table_core.specs.ReadSteps.{lower}
 use Rattle.dw_unit.specs.CompUnits.{unit_of}
 use Rattle.dw_unit.specs.Declarations.{has_bad_form, has_bad_high}
 use Rattle.dw_unit.specs.Faults.{fails, is_sound_unit}
-use Rattle.dw_unit.specs.ListedEntries.{ListedEntry}
 use Rattle.dw_unit.specs.ListedUnits.{listed_unit}
 use Rattle.dw_unit.proofs.UnitReadings.{places_more, unformed_more}
 use Rattle.addr_rewrite.proofs.FirstPlaces.{first_read}

@@ -1,5 +1,6 @@
 use Rattle.std.proofs.Common.{◌≡◌, ◌≤◌, ◌∙◌, ℕ, None, List, AllPairs, length, get_or, subst, sym, arith}
 use Rattle.std.proofs.lemmas.List.{get_or_past}
+use Rattle.std.proofs.lemmas.Result.{IfOk-weaker}
 use Rattle.edge_profile.specs.Profile.{profile_counts, pairs_of}
 use Rattle.block_layout.specs.EdgeCounts.{edge_count}
 use Rattle.block_layout.specs.EdgeLists.{AreCounted, HaveOtherEnds, IsKeyBefore}
@@ -46,7 +47,8 @@ function_parts-requires-clause-inner c =
     (links_of c.in_ok-links.links) c.in_ok-links.ensures.linked
 
 pub returns-clause-all : goal.returns-clause-all
-returns-clause-all c = λ f within. (c.in_ok-parts.ensures.each f within).all
+returns-clause-all c =
+    IfOk-weaker c.function_parts.result _ _ (λ parts split f within. (split.each f within).all) c.function_parts.ensures
 
 pub returns-clause-chains : goal.returns-clause-chains
 returns-clause-chains c =
@@ -63,11 +65,11 @@ returns-clause-chains c =
     λ x out. get_or_past c.in_ok-links.links.prev.items x None (let size = c.in_ok-links.ensures.sized.1 in omega arith) in
     let same = weights_are (pairs_of c.args.profile.now) funcs blocks c.args.weights.now
     c.requires.weights in
-    record {
+    IfOk-weaker c.function_parts.result _ _ (λ parts split. record {
       links = links_of c.in_ok-links.links;
       links_are = all_linked count taken c.args.edges.now (length blocks) (IsFirstBlock blocks)
           (links_of c.in_ok-links.links) counted order c.in_ok-links.ensures.linked past;
-      parts_are = parts_of (pairs_of c.args.profile.now) funcs blocks (links_of c.in_ok-links.links) c.in_ok-parts.parts
-          (subst (λ (weight : ℕ → ℕ). AreSplitTo blocks weight (links_of c.in_ok-links.links) (length funcs) c.in_ok-parts.parts)
-          (λ i k. same k i) c.in_ok-parts.ensures);
-    }
+      parts_are = parts_of (pairs_of c.args.profile.now) funcs blocks (links_of c.in_ok-links.links) parts
+          (subst (λ (weight : ℕ → ℕ). AreSplitTo blocks weight (links_of c.in_ok-links.links) (length funcs) parts)
+          (λ i k. same k i) split);
+    }) c.function_parts.ensures

@@ -1,4 +1,5 @@
 use Rattle.std.proofs.Common.{◌≡◌, subst, sym, ℕ, List}
+use Rattle.std.proofs.lemmas.Result.{IfOk-weaker}
 use Rattle.rv_code.specs.declared.cell.CodeCell.{CodeCell}
 use Rattle.rv_code.specs.declared.placed.Block.{Block}
 use Rattle.rv_code.specs.declared.placed.Func.{Func}
@@ -49,11 +50,11 @@ returns-clause-parts c =
     let edges = found_edges c.args.funcs.now c.args.blocks.now c.deref.result.now c.args.refs.now.cells.items
     c.in_ok-targets.targets.items c.deref-2.result.now c.in_ok-edges.edges.items c.deref-3.result.now c.deref.ensures.value
     c.deref-2.ensures.value c.deref-3.ensures.value c.in_ok-targets.ensures c.in_ok-edges.ensures in
-    record {
+    IfOk-weaker c.chains_by.result _ _ (λ parts chains. record {
       pairs_are = c.requires.pairs;
       targets = c.deref-2.result.now;
       targets_are = edges.targets_are;
       edges = c.deref-3.result.now;
       edges_are = edges.edges_are;
-      chains = c.in_ok-parts.ensures.chains;
-    }
+      chains = chains;
+    }) c.chains_by.ensures.chains

@@ -1,4 +1,5 @@
 use Rattle.std.proofs.Common.{subst}
+use Rattle.std.proofs.lemmas.Result.{err_from_is_err_and}
 use Rattle.rb_io.specs.Views.{SinkSeen}
 use Rattle.bolt_core.specs.Refusals.{IsRefused}
 use Rattle.cli_base.specs.Inputs.{inputs_read}
@@ -8,28 +9,30 @@ use Rattle.cli_base.proofs.InputAnswering.{are_read, is_stopped, stops_too}
 use Rattle.bolt_tool.proofs.Answering.{long_refused}
 use Rattle.bolt_tool.proofs.inputs.rewrite_inputs.Goals as goal
 
-pub returns-in-Err-clause-stopped : goal.returns-in-Err-clause-stopped
-returns-in-Err-clause-stopped g c = λ input.
+pub returns-in_err-inputs-clause-stopped : goal.returns-in_err-inputs-clause-stopped
+returns-in_err-inputs-clause-stopped g c = λ input.
+    let p = err_from_is_err_and c.from_residual.result c.from_residual.ensures.1 in
     let old : World = world (g.F.Files.seen c.args.files.now) input (g.O.Sink.seen c.args.out.now) in
     let new : World = world (g.F.Files.seen c.read_inputs.new.files) input (g.O.Sink.seen c.read_inputs.new.out) in
-    stops_too IsRefused long_refused (inputs_read c.args.args.now) old new c.in-Err.answer (c.in-Err.ensures.stopped input)
+    rw (p.1, p.2) (stops_too IsRefused long_refused (inputs_read c.args.args.now) old new c.in_err-inputs.field-0.0
+    (c.in_err-inputs.ensures.stopped input))
 
 pub returns-clause-stopped : goal.returns-clause-stopped
 returns-clause-stopped g c = λ input.
     let old : World = world (g.F.Files.seen c.args.files.now) input (g.O.Sink.seen c.args.out.now) in
     let new : World = world (g.F.Files.seen c.read_inputs.new.files) input (g.O.Sink.seen c.refuse.new.out) in
-    let says : Refuses c.in-Err-rewrite.refusal c.refuse.result old.output new.output =
-    subst (λ (s : SinkSeen). Refuses c.in-Err-rewrite.refusal c.refuse.result s new.output) c.in-Ok.ensures.unprinted
+    let says : Refuses c.in-Err.refusal c.refuse.result old.output new.output =
+    subst (λ (s : SinkSeen). Refuses c.in-Err.refusal c.refuse.result s new.output) c.in_ok-inputs.ensures.unprinted
     c.refuse.ensures.refused in
-    is_stopped IsRefused c.refuse.result c.in-Err-rewrite.refusal (inputs_read c.args.args.now) old new c.deref.result.now
-    c.deref-2.result.now says c.in-Ok.ensures.kept
-    (λ told. are_read _ _ _ _ _ _ c.deref.ensures.value c.deref-2.ensures.value (c.in-Ok.ensures.read told))
-    c.in-Err-rewrite.ensures.refused
+    is_stopped IsRefused c.refuse.result c.in-Err.refusal (inputs_read c.args.args.now) old new c.deref.result.now
+    c.deref-2.result.now says c.in_ok-inputs.ensures.kept
+    (λ told. are_read _ _ _ _ _ _ c.deref.ensures.value c.deref-2.ensures.value (c.in_ok-inputs.ensures.read told))
+    c.in-Err.ensures.refused
 
-pub returns-in-Ok-rewrite-clause-made : goal.returns-in-Ok-rewrite-clause-made
-returns-in-Ok-rewrite-clause-made g c = record {
+pub returns-in-Ok-clause-made : goal.returns-in-Ok-clause-made
+returns-in-Ok-clause-made g c = record {
   file = c.deref.result.now;
   profile = c.deref-2.result.now;
-  are_read = λ told. are_read _ _ _ _ _ _ c.deref.ensures.value c.deref-2.ensures.value (c.in-Ok.ensures.read told);
-  rewritten = c.in-Ok-rewrite.ensures.rewritten;
+  are_read = λ told. are_read _ _ _ _ _ _ c.deref.ensures.value c.deref-2.ensures.value (c.in_ok-inputs.ensures.read told);
+  rewritten = c.in-Ok.ensures.rewritten;
 }

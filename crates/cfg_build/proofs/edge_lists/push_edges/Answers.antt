@@ -1,7 +1,7 @@
 use Rattle.std.proofs.Common.{◌∙◌, ap, refl, sym, subst, ℕ, ◌+◌, take, slice_index_or, arith, Vec, Global}
 use Rattle.cfg_build.proofs.EdgeRows.{AreNext, next_none, next_skip, next_push, next_all}
 use Rattle.cfg_build.proofs.edge_lists.push_edges.Goals as goal
-use Rattle.cfg_build.proofs.edge_lists.push_edges.Goals.{in-Some+in_ok-push-in-Some, in-None}
+use Rattle.cfg_build.proofs.edge_lists.push_edges.Goals.{in-Some+in_ok-push, in_default}
 
 pub loop-lead-init : goal.loop-lead-init
 loop-lead-init c =
@@ -16,16 +16,16 @@ loop-lead-preserved c =
     let old = c.args.edges.now.items in
     let k = c.loop-lead.lead-index in
     elim c.match-block_at.branch [
-      | in-Some+in_ok-push-in-Some w ↦
+      | in-Some+in_ok-push w ↦
           next_push blocks starts c.args.source c.args.func old c.loop-lead.edges.items c.match-block_at.edges.items leads k
           (slice_index_or leads k 0) 0 w.in-Some.target c.requires.starts c.requires.leads c.requires.before c.loop-lead-test.true
           refl w.in-Some.ensures
-          (ap (λ (v : Vec (ℕ × ℕ) Global). v.items) w.edges-is ∙ w.in_ok-push-in-Some.ensures.items) c.loop-lead.invariant
-      | in-None w ↦
+          (ap (λ (v : Vec (ℕ × ℕ) Global). v.items) w.edges-is ∙ w.in_ok-push.ensures.items) c.loop-lead.invariant
+      | in_default w ↦
           subst (λ (v : Vec (ℕ × ℕ) Global). AreNext blocks starts c.args.source c.args.func old (take (k + 1) leads) v.items)
           (sym w.edges-is)
           (next_skip blocks starts c.args.source c.args.func old c.loop-lead.edges.items leads k (slice_index_or leads k 0) 0
-          c.loop-lead-test.true refl (λ t at. let none = (w.in-None.ensures t).1 at in absurd (cc)) c.loop-lead.invariant)
+          c.loop-lead-test.true refl (λ t at. let none = (w.in_default.ensures t).1 at in absurd (cc)) c.loop-lead.invariant)
     ]
 
 pub returns : goal.returns

@@ -1,4 +1,4 @@
-use Rattle.std.proofs.Common.{◌≡◌, ◌∙◌, ◌++◌, ℕ, List, sym, ap, map}
+use Rattle.std.proofs.Common.{◌≡◌, ◌∙◌, ℕ, List, sym, ap, map}
 use Rattle.table_core.specs.Sections.{Held}
 use Rattle.cfi_rows.specs.Entries.{Fde, frames}
 use Rattle.cfi_rows.specs.FramePrograms.{section_in}
@@ -9,8 +9,7 @@ use Rattle.cfi_rows.proofs.reader.table_of.Goals as goal
 pub invariant_of-result : goal.invariant_of-result
 invariant_of-result c =
     let t : Held = section_in c.args.held.now in
-    let bytes : c.extend_from_slice.new.self.items ≡ t.bytes =
-    c.in_ok-extend_from_slice.ensures.items ∙ ap (λ (bs : List ℕ). bs ++ t.bytes) c.new-section.ensures.items in
+    let bytes : c.in_ok-section.section.items ≡ t.bytes = c.in_ok-section.ensures.items in
     record {
       read = ap (λ (bs : List ℕ). said (frames c.args.debug t.address bs)) bytes ∙ c.in_ok-listed.ensures;
       run = c.in_ok-rows.ensures (frames c.args.debug t.address t.bytes).list

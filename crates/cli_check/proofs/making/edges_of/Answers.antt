@@ -1,4 +1,5 @@
 use Rattle.std.proofs.Common.{AllPairs, subst, sym}
+use Rattle.std.proofs.lemmas.Result.{IfOk-weaker}
 use Rattle.rv_code.specs.layout.Lists.{IsPairBefore}
 use Rattle.cli_check.proofs.RepairSteps.{edges_are, laid, stretches}
 use Rattle.cli_check.proofs.making.edges_of.Goals as goal
@@ -18,7 +19,7 @@ edges-requires-clause-targets c =
     subst (AllPairs IsPairBefore) (sym c.deref-2.ensures.value) c.in_ok-targets.ensures.ordered
 
 pub returns : goal.returns
-returns c =
+returns c = IfOk-weaker c.edges.result _ _ (λ edges are.
     edges_are c.args.program.now c.requires c.as_slice-funcs.result.now c.as_slice-blocks.result.now c.as_slice-funcs.ensures.value
-    c.as_slice-blocks.ensures.value c.deref.result.now c.in_ok-targets.targets.items c.deref-2.result.now c.in_ok-edges.edges.items
-    c.deref.ensures.value c.deref-2.ensures.value c.in_ok-targets.ensures c.in_ok-edges.ensures
+    c.as_slice-blocks.ensures.value c.deref.result.now c.in_ok-targets.targets.items c.deref-2.result.now edges.items
+    c.deref.ensures.value c.deref-2.ensures.value c.in_ok-targets.ensures are) c.edges.ensures

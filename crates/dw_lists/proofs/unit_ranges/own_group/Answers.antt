@@ -2,6 +2,7 @@ use Rattle.std.proofs.Common.{◌≡◌, ◌∙◌, ◌==◌, ◌∷◌, [], ℕ
 use Rattle.std.specs.Prelude.{option_map}
 use Rattle.std.specs.List.{find}
 use Rattle.std.specs.Option.{option_copied}
+use Rattle.std.proofs.lemmas.Result.{IfOk-weaker}
 use Rattle.table_core.specs.declared.range.Range.{Range}
 use Rattle.dw_unit.specs.declared.attribute.TheConstants.{DW_AT_ranges}
 use Rattle.dw_unit.specs.declared.entry.Attr.{Attr}
@@ -54,9 +55,8 @@ returns-in_default-attr_named c = λ s u e same b r n k.
           (none_has c.args.groups.now),
     )
 
-pub returns-in_ok-group-in-Some-list_offset : goal.returns-in_ok-group-in-Some-list_offset
-returns-in_ok-group-in-Some-list_offset c = λ s u e same b r n k.
-    let p = c.in_ok-group-in-Some-list_offset.ensures s u b r n k in
+pub returns-in-Some-list_offset : goal.returns-in-Some-list_offset
+returns-in-Some-list_offset c = λ s u e same b r n k.
     let a : Attr = c.in-Some-attr_named.named.now in
     let at : ℕ = c.in-Some-list_offset.at in
     let unbounded : bounds_of s.units.addr u e ≡ None =
@@ -68,12 +68,12 @@ returns-in_ok-group-in-Some-list_offset c = λ s u e same b r n k.
     let offset : list_offset ranges_kind s.ranges u a ≡ Some at =
     ap (λ (l : List ℕ). list_offset ranges_kind l u a) (sym b) ∙ sym (c.list_offset.ensures u r.lists) ∙ c.in-Some-list_offset.is in
     let ranges : ranges_of s u e ≡ option_map ranges_in (range_list s u at) =
-    own_list s u e unbounded ∙ ap (listed_ranges s u) there ∙ of_offset s u a (Some at) offset in (
-      p.grow,
-      p.known_are,
-      subst (λ (o : Option (List Range)). HasRanges c.group_at.new.groups c.in_ok-group-in-Some-list_offset.group o) (sym ranges)
-          p.is.ranges,
-    )
+    own_list s u e unbounded ∙ ap (listed_ranges s u) there ∙ of_offset s u a (Some at) offset in
+    IfOk-weaker c.group_at.result _ _ (λ group looked. (
+      looked.grow,
+      looked.known_are,
+      subst (λ (o : Option (List Range)). HasRanges c.group_at.new.groups group o) (sym ranges) looked.is.ranges,
+    )) (c.group_at.ensures s u b r n k)
 
 pub returns-in-None : goal.returns-in-None
 returns-in-None c = λ s u e same b r n k.

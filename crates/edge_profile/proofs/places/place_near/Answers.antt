@@ -20,13 +20,14 @@ inst_at-requires c =
     subst (λ (insts : List Placed). AllPairs (λ p q. p.addr < q.addr) insts) (sym c.deref.ensures.value)
     (insts_rise _ (c.requires.each (c.count_up_to-below.result - 1) c.index-funcs-func.result within))
 
-pub returns-in-None-clause-none : goal.returns-in-None-clause-none
-returns-in-None-clause-none c =
+pub returns-in_err-inst-clause-none : goal.returns-in_err-inst-clause-none
+returns-in_err-inst-clause-none c =
     let found = c.count_up_to-below.ensures in
     let within : c.count_up_to-below.result - 1 < length c.args.funcs.now = omega (arith, found.bound, c.if-below-eq0.false) in
-    no_code_at c.args.funcs.now c.requires c.args.address c.count_up_to-below.result found.bound found.below found.above
+    rw c.from_residual.ensures
+    (no_code_at c.args.funcs.now c.requires c.args.address c.count_up_to-below.result found.bound found.below found.above
     (λ d some.
     let here =
-    subst (λ (insts : List Placed). starts_at insts c.args.address ≡ false) c.deref.ensures.value c.in-None.ensures.none in
+    subst (λ (insts : List Placed). starts_at insts c.args.address ≡ false) c.deref.ensures.value c.in_err-inst.ensures.none in
     subst (λ (f : Func). starts_at f.insts.items c.args.address ≡ false)
-    (get_or_default c.args.funcs.now (c.count_up_to-below.result - 1) c.index-funcs-func.result d within) here)
+    (get_or_default c.args.funcs.now (c.count_up_to-below.result - 1) c.index-funcs-func.result d within) here))

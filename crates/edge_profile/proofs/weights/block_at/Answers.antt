@@ -2,15 +2,15 @@ use Rattle.std.proofs.Common.{◌∙◌}
 use Rattle.edge_profile.proofs.Weighing.{holder_none, holder_of_place}
 use Rattle.edge_profile.proofs.weights.block_at.Goals as goal
 
-pub returns-in-Some-clause-holder : goal.returns-in-Some-clause-holder
-returns-in-Some-clause-holder c = record {
+pub returns-clause-holder : goal.returns-clause-holder
+returns-clause-holder c = record {
   has = λ k d within.
-      holder_of_place c.args.funcs.now c.requires.funcs c.args.address c.in-Some.place.func c.in-Some.place.inst
-      c.in-Some.ensures.some _
+      holder_of_place c.args.funcs.now c.requires.funcs c.args.address c.in_ok-place.place.func c.in_ok-place.place.inst
+      c.in_ok-place.ensures.some _
       ∙ c.block_with.ensures.has k d within;
 }
 
-pub returns-in-None-clause-holder : goal.returns-in-None-clause-holder
-returns-in-None-clause-holder c = record {
-  has = λ k d within. holder_none c.args.funcs.now c.args.address c.in-None.ensures.none _;
+pub returns-in_err-place-clause-holder : goal.returns-in_err-place-clause-holder
+returns-in_err-place-clause-holder c = rw c.from_residual.ensures record {
+  has = λ k d within. holder_none c.args.funcs.now c.args.address c.in_err-place.ensures.none _;
 }

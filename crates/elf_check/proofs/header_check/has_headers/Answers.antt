@@ -1,4 +1,4 @@
-use Rattle.std.proofs.Common.{◌≡◌, ◌∙◌, ap, refl, sym, subst, rules, List, Some, length}
+use Rattle.std.proofs.Common.{◌≡◌, ◌∙◌, ap, refl, subst, rules, List, Some, length}
 use Rattle.std.specs.Prelude.{codes, map, unwrap_or}
 use Rattle.std.proofs.lemmas.Result.{IfOk-weaker}
 use Rattle.elf_image.specs.declared.section.Section.{Section}

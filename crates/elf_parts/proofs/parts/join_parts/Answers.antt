@@ -1,5 +1,3 @@
-use Rattle.std.proofs.Common.{◌≡◌, ◌≤◌, ◌+◌, length, take, arith, length-append}
-use Rattle.std.proofs.lemmas.Grind.{common_steps}
 use Rattle.elf_parts.proofs.JoinedParts.{parts-joined}
 use Rattle.elf_parts.proofs.parts.join_parts.Goals as goal
 

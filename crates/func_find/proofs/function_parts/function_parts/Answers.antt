@@ -1,4 +1,4 @@
-use Rattle.std.proofs.Common.{sym, subst, true, false, refl, slice_index_or, arith}
+use Rattle.std.proofs.Common.{sym, subst, refl, slice_index_or, arith}
 use Rattle.std.specs.List.{All}
 use Rattle.std.proofs.lemmas.List.Elements.{Contains-get_or, All-push}
 use Rattle.elf_code.specs.Functions.{IsFunctionPart}

@@ -1,4 +1,4 @@
-use Rattle.std.proofs.Common.{refl, true, false}
+use Rattle.std.proofs.Common.{refl}
 use Rattle.elf_code.specs.Functions.{code}
 use Rattle.func_find.proofs.Judged.{inside_starts, HasReferred-any, IsFunctionPart-referred, IsFunctionPart-entered}
 use Rattle.func_find.proofs.function_parts.is_function.Goals as goal

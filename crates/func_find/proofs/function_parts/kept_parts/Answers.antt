@@ -1,4 +1,4 @@
-use Rattle.std.proofs.Common.{sym, subst, true, ℕ, List}
+use Rattle.std.proofs.Common.{sym, subst, ℕ, List}
 use Rattle.std.proofs.lemmas.Result.{IfOk-weaker}
 use Rattle.rv_reloc.specs.Refs.{AreRefs}
 use Rattle.func_find.specs.FunctionParts.{AreFunctionParts}

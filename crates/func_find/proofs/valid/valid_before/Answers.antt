@@ -1,7 +1,7 @@
 use Rattle.func_find.proofs.valid.valid_before.Goals as goal
 
-pub returns-else-found-eq2-clause-only : goal.returns-else-found-eq2-clause-only
-returns-else-found-eq2-clause-only c = λ inst bytes valid. c.in-Some.ensures.only inst bytes valid.before
+pub returns-clause-only : goal.returns-clause-only
+returns-clause-only c = λ inst bytes valid. c.in_ok-inst.ensures.only inst bytes valid.before
 
-pub returns-in-None-clause-only : goal.returns-in-None-clause-only
-returns-in-None-clause-only c = λ inst bytes valid. c.in-None.ensures.only inst bytes valid.before
+pub returns-in_err-inst-clause-only : goal.returns-in_err-inst-clause-only
+returns-in_err-inst-clause-only c = rw c.from_residual.ensures (λ inst bytes valid. c.in_err-inst.ensures.only inst bytes valid.before)

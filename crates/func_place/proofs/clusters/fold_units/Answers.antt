@@ -4,11 +4,11 @@ use Rattle.func_place.specs.Clusters.{clusters_of}
 use Rattle.func_place.specs.internal.ClusterState.{state_of, Keeps}
 use Rattle.func_place.proofs.ClusterMoves.{stays_more, appends_more}
 use Rattle.func_place.proofs.clusters.fold_units.Goals as goal
-use Rattle.func_place.proofs.clusters.fold_units.Goals.{in-Some+in_ok-append-in-Some, in-None}
+use Rattle.func_place.proofs.clusters.fold_units.Goals.{in-Some+in_ok-append, in_default}
 
 pub loop-unit-preserved : goal.loop-unit-preserved
 loop-unit-preserved c = elim c.match-callers-unit.branch [
-  | in-Some+in_ok-append-in-Some w ↦ let e = w.in_ok-append-in-Some.ensures in
+  | in-Some+in_ok-append w ↦ let e = w.in_ok-append.ensures in
       rw w.clusters-is (
         e.len ∙ c.loop-unit.invariant.0,
         e.sound,
@@ -16,11 +16,11 @@ loop-unit-preserved c = elim c.match-callers-unit.branch [
             (λ u. get_or c.args.callers.now u None) c.args.taken.now c.loop-unit.unit-index w.in-Some.caller
             (state_of w.append.new.self) (omega arith) w.in-Some.is (e.keeps _ _ _ c.loop-unit.invariant.2),
       )
-  | in-None w ↦ rw w.clusters-is (
+  | in_default w ↦ rw w.clusters-is (
     c.loop-unit.invariant.0,
     c.loop-unit.invariant.1,
     stays_more c.args.sizes.now c.args.heats.now (λ u. get_or c.args.callers.now u None) c.args.taken.now c.loop-unit.unit-index
-        (state_of c.loop-unit.clusters) (omega arith) w.in-None.is c.loop-unit.invariant.2,
+        (state_of c.loop-unit.clusters) (omega arith) w.in_default.is c.loop-unit.invariant.2,
   )
 ]
 

@@ -45,7 +45,7 @@ returns-in-Some-first_kept-clause-fault c =
     subst (IsAnswered (HasPlacementFault c.args.funcs.now c.args.blocks.now)) (sym c.at-in-Some-first_kept.ensures)
     (answered_kept c.args.funcs.now c.args.blocks.now c.in-Some-first_kept.place c.requires.funcs
     (no_long c.args.funcs.now c.args.blocks.now c.in_ok-units.units.items c.deref-3.result.now c.in_ok-units.ensures.units
-    (c.deref-3.ensures.value ∙ sizes_is) c.in-None.ensures)
+    (c.deref-3.ensures.value ∙ sizes_is) c.in_default.ensures)
     c.in-Some-first_kept.ensures)
 
 pub returns-clause-free : goal.returns-clause-free
@@ -56,5 +56,5 @@ returns-clause-free c =
     (c.deref-2.ensures.value ∙ c.in_ok-own_sizes.ensures.sizes)) in
     no_fault c.args.funcs.now c.args.blocks.now
     (no_long c.args.funcs.now c.args.blocks.now c.in_ok-units.units.items c.deref-3.result.now c.in_ok-units.ensures.units
-    (c.deref-3.ensures.value ∙ sizes_is) c.in-None.ensures)
-    (no_kept c.args.funcs.now c.in-None-first_kept.ensures)
+    (c.deref-3.ensures.value ∙ sizes_is) c.in_default.ensures)
+    (no_kept c.args.funcs.now c.in_default-first_kept.ensures)

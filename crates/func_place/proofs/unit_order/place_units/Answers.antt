@@ -3,6 +3,7 @@ use Rattle.std.specs.Prelude.{All}
 use Rattle.std.specs.List.{flat_map}
 use Rattle.std.proofs.lemmas.List.Elements.{All-filter}
 use Rattle.std.proofs.lemmas.List.Sorted.{All-permutation}
+use Rattle.std.proofs.lemmas.Result.{IfOk-weaker}
 use Rattle.func_place.specs.Bands.{order_of}
 use Rattle.func_place.specs.Ranks.{IsInOrder, denser, begins, cluster_heads}
 use Rattle.func_place.specs.UnitOrder.{cold_units, unit_clusters}
@@ -43,7 +44,7 @@ returns c =
     c.deref-4.ensures.value ∙ c.in_ok-put_cold.ensures.line
     ∙ ap (λ (xs : List ℕ). xs ++ cold_units heats)
     (c.in_ok-put_clusters.ensures.line sizes heats cluster keeps ∙ rw (c.new-line.ensures.items, c.deref-3.ensures.value) refl) in
-    record {
+    IfOk-weaker c.order_units.result _ _ (λ order is. record {
       taken = taken;
       taken_is = rw c.deref.ensures.value c.in_ok-taken.ensures.ordered;
       ranked = c.in_ok-ranked.ranked.items;
@@ -51,7 +52,7 @@ returns c =
           subst (λ (xs : List ℕ). IsInOrder (denser sizes heats cluster) (cluster_heads cluster xs) c.in_ok-ranked.ranked.items)
           same
           (c.in_ok-ranked.ensures sizes heats cluster keeps);
-      order_is = c.in_ok-order.ensures
+      order_is = is
           ∙ ap (λ (xs : List ℕ). order_of sizes (list_at (map (λ (v : Vec ℕ Global). v.items) c.args.hot.now))
           (list_at (map (λ (v : Vec ℕ Global). v.items) c.args.cold.now)) xs) line;
-    }
+    }) c.order_units.ensures

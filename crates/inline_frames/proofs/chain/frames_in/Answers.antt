@@ -2,6 +2,7 @@ use Rattle.std.proofs.Common.{◌≡◌, ◌∙◌, ℕ, [], ap, length, map, su
 use Rattle.std.specs.Prelude.{◌==◌}
 use Rattle.std.specs.List.{list_any}
 use Rattle.std.proofs.lemmas.List.{length-map}
+use Rattle.std.proofs.lemmas.Result.{IfOk-weaker}
 use Rattle.table_core.specs.DebugUnits.{walked}
 use Rattle.dw_unit.specs.ReaderSections.{ReaderSections}
 use Rattle.line_rewrite.specs.Tables.{LineSections, line_sections}
@@ -65,12 +66,13 @@ returns c =
     c.in_ok-own.ensures ∙ ap (map (λ (l : Link). l.naming)) c.deref-2.ensures.value in
     let first : c.in_ok-first.first ≡ row_position (line_sections elf) a =
     c.in_ok-first.ensures ∙ ap (λ (t : LineSections). row_position t a) c.requires.read.lines in
-    frames_found elf (units_free elf c.requires.free) a covering c.in_ok-links.links.items c.in_ok-namings.namings.items
-    c.in_ok-frames.frames.items
+    IfOk-weaker c.frames_from.result _ _ (λ frames are.
+    frames_found elf (units_free elf c.requires.free) a covering c.in_ok-links.links.items c.in_ok-namings.namings.items frames.items
     (λ q. c.in_ok-covering.ensures q ∙ ap (list_any (λ (m : ℕ). m == q)) (c.deref.ensures.value ∙ c.requires.read.covers)
     ∙ sym (covers_listed (ranged (list_sections elf)) q a))
     (c.in_ok-links.ensures ∙ (λ i. file_links (texts i) covering [] (listed_units (reader i).abbrevs (reader i).units)))
     (c.in_ok-namings.ensures
     ∙ (λ i. map (λ (n : Naming). followed_times (texts i) (listed_units (reader i).abbrevs (reader i).units) 16 n) (own i)))
-    (c.in_ok-frames.ensures s (sym c.contents_of-info.ensures) (sym c.contents_of.ensures) (sym c.contents_of-2.ensures)
-    ∙ (λ i. link_frames (c.requires.read.lines i) s (first i) (c.deref-3.ensures.value i) (c.deref-4.ensures.value i)))
+    (are s (sym c.contents_of-info.ensures) (sym c.contents_of.ensures) (sym c.contents_of-2.ensures)
+    ∙ (λ i. link_frames (c.requires.read.lines i) s (first i) (c.deref-3.ensures.value i) (c.deref-4.ensures.value i))))
+    c.frames_from.ensures

@@ -15,17 +15,17 @@ returns-then-before-after c = λ r of ch.
     c.in-Some-segment_at.to.now (sym c.in-Some-segment_at.ensures.first) c.byte_or_zero-before.result c.byte_or_zero-after.result
     (c.same_flags.ensures.0 c.if-not-same_flags.false) c.byte_or_zero-before.ensures c.byte_or_zero-after.ensures c.if-before-after.true
 
-pub returns-else-before-after : goal.returns-else-before-after
-returns-else-before-after c = λ r of ch.
+pub returns : goal.returns
+returns c = λ r of ch.
     other_bytes r c.args.input.now c.args.output.now of c.args.a c.in-Some.from.now (sym c.in-Some.ensures.first)
     c.in-Some-segment_at.to.now (sym c.in-Some-segment_at.ensures.first) c.byte_or_zero-before.result c.byte_or_zero-after.result
     c.may_change.result (c.same_flags.ensures.0 c.if-not-same_flags.false) c.byte_or_zero-before.ensures
     c.byte_or_zero-after.ensures c.if-before-after.false (c.may_change.ensures r of.input_is ch)
 
-pub returns-in-None-segment_at : goal.returns-in-None-segment_at
-returns-in-None-segment_at c = λ r of ch.
+pub returns-in_default-segment_at : goal.returns-in_default-segment_at
+returns-in_default-segment_at c = λ r of ch.
     not_there r c.args.input.now c.args.output.now of c.args.a c.in-Some.from.now (sym c.in-Some.ensures.first)
-    (sym c.in-None-segment_at.ensures.first)
+    (sym c.in_default-segment_at.ensures.first)
 
-pub returns-in-None : goal.returns-in-None
-returns-in-None c = λ r of ch. not_loaded r c.args.input.now c.args.output.now of c.args.a (sym c.in-None.ensures.first)
+pub returns-in_default : goal.returns-in_default
+returns-in_default c = λ r of ch. not_loaded r c.args.input.now c.args.output.now of c.args.a (sym c.in_default.ensures.first)

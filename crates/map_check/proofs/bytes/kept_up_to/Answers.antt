@@ -15,21 +15,21 @@ returns-then-are_zeros-clause-kept c = λ r of kept q above below.
     (sym c.in-Some.ensures.first) (sym c.in-Some-segment_at.ensures.first) c.in-Some.ensures.loads c.in-Some-segment_at.ensures.loads
     parts.0 parts.1 kept q above in_from in_to
 
-pub returns-else-are_zeros-clause-kept : goal.returns-else-are_zeros-clause-kept
-returns-else-are_zeros-clause-kept c = λ r of kept q above below.
+pub returns-clause-kept : goal.returns-clause-kept
+returns-clause-kept c = λ r of kept q above below.
     let one = c.first_end-end.ensures.one in
     let two = c.first_end-end.ensures.two in
     let in_from : q < end_of c.in-Some.from.now = omega (arith, below, one) in
     let in_to : q < end_of c.in-Some-segment_at.to.now = omega (arith, below, two) in
     let near : q < c.args.a + max c.common_length-same.result 1 = omega (arith, below, c.min.ensures, c.max.ensures) in
     bytes_kept r c.args.input.now c.args.output.now of c.args.a c.common_length-same.result c.in-Some.from.now
-    c.in-Some-segment_at.to.now c.bytes_from.result.now c.bytes_from-in-Some-segment_at.result.now (sym c.in-Some.ensures.first)
+    c.in-Some-segment_at.to.now c.bytes_from.result.now c.bytes_from-2.result.now (sym c.in-Some.ensures.first)
     (sym c.in-Some-segment_at.ensures.first) c.in-Some.ensures.loads c.in-Some-segment_at.ensures.loads c.bytes_from.ensures
-    c.bytes_from-in-Some-segment_at.ensures c.common_length-same.ensures.within c.common_length-same.ensures.bound
+    c.bytes_from-2.ensures c.common_length-same.ensures.within c.common_length-same.ensures.bound
     c.common_length-same.ensures.same kept q above near in_from in_to
 
-pub returns-in-None-segment_at-clause-kept : goal.returns-in-None-segment_at-clause-kept
-returns-in-None-segment_at-clause-kept c = λ r of kept q above below. one_more (IsKept r) c.args.a q kept above below
+pub returns-in_default-segment_at-clause-kept : goal.returns-in_default-segment_at-clause-kept
+returns-in_default-segment_at-clause-kept c = λ r of kept q above below. one_more (IsKept r) c.args.a q kept above below
 
-pub returns-in-None-clause-kept : goal.returns-in-None-clause-kept
-returns-in-None-clause-kept c = λ r of kept q above below. one_more (IsKept r) c.args.a q kept above below
+pub returns-in_default-clause-kept : goal.returns-in_default-clause-kept
+returns-in_default-clause-kept c = λ r of kept q above below. one_more (IsKept r) c.args.a q kept above below

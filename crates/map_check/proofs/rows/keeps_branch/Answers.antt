@@ -31,12 +31,12 @@ returns-else-same-wanted c = λ r ch nx.
     ↔ Leads r c.args.p.now (plus c.in-Some.f.out c.in-Some.f.width) q c.args.target)
     there (c.leads-else-same-wanted.ensures r c.args.p.now ch nx))
 
-pub returns-in-None-branch_of : goal.returns-in-None-branch_of
-returns-in-None-branch_of c = λ r ch nx.
+pub returns-in_default-branch_of : goal.returns-in_default-branch_of
+returns-in_default-branch_of c = λ r ch nx.
     other_inst r c.args.output.now c.args.table.now ch c.args.p.now c.args.test c.args.wanted c.args.rs1 c.args.rs2 c.args.target
-    c.in-Some.f (c.in-Some.ensures r ch) c.in-None-branch_of.ensures
+    c.in-Some.f (c.in-Some.ensures r ch) c.in_default-branch_of.ensures
 
-pub returns-in-None : goal.returns-in-None
-returns-in-None c = λ r ch nx.
+pub returns-in_default : goal.returns-in_default
+returns-in_default c = λ r ch nx.
     no_branch r c.args.output.now c.args.table.now ch c.args.p.now c.args.test c.args.wanted c.args.rs1 c.args.rs2 c.args.target
-    (c.in-None.ensures r ch)
+    (c.in_default.ensures r ch)

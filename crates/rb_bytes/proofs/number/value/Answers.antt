@@ -1,17 +1,17 @@
 use Rattle.rb_bytes.proofs.DigitValues.{appended_none, appended_some, small_value}
 use Rattle.rb_bytes.proofs.number.value.Goals as goal
 
-pub returns-in-None : goal.returns-in-None
-returns-in-None c =
-    appended_none c.args.radix c.loop-c.value c.digit_value.result c.args.digits.now c.loop-c.c-index
+pub returns-in_err-value : goal.returns-in_err-value
+returns-in_err-value c =
+    rw c.from_residual.ensures (appended_none c.args.radix c.loop-c.value c.digit_value.result c.args.digits.now c.loop-c.c-index
     c.requires.radix c.loop-c-test.true
-    c.loop-c.invariant.0 c.digit_value.ensures c.in-None.ensures
+    c.loop-c.invariant.0 c.digit_value.ensures c.in_err-value.ensures)
 
 pub loop-c-preserved : goal.loop-c-preserved
 loop-c-preserved c =
-    appended_some c.args.radix c.loop-c.value c.digit_value.result c.in-Some.more c.args.digits.now
+    appended_some c.args.radix c.loop-c.value c.digit_value.result c.in_ok-value.value c.args.digits.now
     c.loop-c.c-index c.loop-c-test.true
-    c.loop-c.invariant.0 c.digit_value.ensures c.in-Some.ensures
+    c.loop-c.invariant.0 c.digit_value.ensures c.in_ok-value.ensures
 
 pub returns : goal.returns
 returns c =

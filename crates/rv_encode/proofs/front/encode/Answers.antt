@@ -10,29 +10,29 @@ no_full : (next : Option ℕ) (half : ℕ) (inst : Inst) → ((word : ℕ) → I
 no_full (Some upper) half inst none row = none (upper * 2 ^ 16 + half) row
 no_full None half inst none row = row
 
-pub returns-in-Some-clause-found : goal.returns-in-Some-clause-found
-returns-in-Some-clause-found c =
-    let row = half_of_form _ c.args.inst.now c.in-Some.ensures.found in
+pub returns-in_ok-encode_half-in-Half-clause-found : goal.returns-in_ok-encode_half-in-Half-clause-found
+returns-in_ok-encode_half-in-Half-clause-found c =
+    let row = half_of_form _ c.args.inst.now c.in_ok-encode_half-in-Half.ensures.found in
     λ next. inl (record { is_half = not_full row.0 _ row.1; two_bytes = refl; row = row })
 
-pub returns-in-None-clause-none : goal.returns-in-None-clause-none
-returns-in-None-clause-none c = λ half next d. elim d [
-  | inl p ↦ c.in-None.ensures.found half (form_of_half half c.args.inst.now p.row)
+pub returns-in_err-encode_half-in-Half-clause-none : goal.returns-in_err-encode_half-in-Half-clause-none
+returns-in_err-encode_half-in-Half-clause-none c = rw c.from_residual.ensures (λ half next d. elim d [
+  | inl p ↦ c.in_err-encode_half-in-Half.ensures.found half (form_of_half half c.args.inst.now p.row)
   | inr p ↦ let differ = rw c.in-Half.is at p.four_bytes in absurd (omega arith)
-]
+])
 
-pub returns-in-Some-encode_full-clause-found : goal.returns-in-Some-encode_full-clause-found
-returns-in-Some-encode_full-clause-found c =
-    let w : ℕ = c.in-Some-encode_full.word in
+pub returns-in_ok-encode_full-in-Full-clause-found : goal.returns-in_ok-encode_full-in-Full-clause-found
+returns-in_ok-encode_full-in-Full-clause-found c =
+    let w : ℕ = c.in_ok-encode_full-in-Full.field-0 in
     let joined : w / 65536 * 65536 + w % 65536 ≡ w = omega arith in
     inr (record {
-      is_full = omega (arith, c.in-Some-encode_full.ensures.not_compressed);
+      is_full = omega (arith, c.in_ok-encode_full-in-Full.ensures.not_compressed);
       four_bytes = refl;
-      row = subst (λ (m : ℕ). IsFull m c.args.inst.now) (sym joined) c.in-Some-encode_full.ensures.found;
+      row = subst (λ (m : ℕ). IsFull m c.args.inst.now) (sym joined) c.in_ok-encode_full-in-Full.ensures.found;
     })
 
-pub returns-in-None-encode_full-clause-none : goal.returns-in-None-encode_full-clause-none
-returns-in-None-encode_full-clause-none c = λ half next d. elim d [
+pub returns-in_err-encode_full-in-Full-clause-none : goal.returns-in_err-encode_full-in-Full-clause-none
+returns-in_err-encode_full-in-Full-clause-none c = rw c.from_residual-in_err-encode_full-in-Full.ensures (λ half next d. elim d [
   | inl p ↦ let differ = rw c.in-Full.is at p.two_bytes in absurd (omega arith)
-  | inr p ↦ no_full next half c.args.inst.now c.in-None-encode_full.ensures.found p.row
-]
+  | inr p ↦ no_full next half c.args.inst.now c.in_err-encode_full-in-Full.ensures.found p.row
+])

@@ -11,8 +11,8 @@ returns-then-has-clause-there c =
     let fits : FitsSigned w128 c.label.result = search rules in
     record {
       counts = c.requires.counts;
-      target_is = sym (c.in-Some.ensures.there ∙ to_z-of_z w128 _ fits ∙ c.label.ensures.label);
-      is_code = c.requires.starts.only c.in-Some.target (c.has.ensures.0 c.if-has.true);
+      target_is = sym (c.in_ok-target.ensures.there ∙ to_z-of_z w128 _ fits ∙ c.label.ensures.label);
+      is_code = c.requires.starts.only c.in_ok-target.target (c.has.ensures.0 c.if-has.true);
     }
 
 pub returns-then-has-clause-only : goal.returns-then-has-clause-only
@@ -21,7 +21,7 @@ returns-then-has-clause-only c = λ target to.
     let (k, within, there) = c.requires.starts.each target to.is_code in
     let low = c.list-list.ensures.low k in
     let at : slice_index_or c.args.starts.now k 0 ≡ target = get_or_default c.args.starts.now k 0 target within ∙ there in
-    ap Some (same_some _ _ _ c.in-Some.is
+    ap Some (same_some _ _ _ c.in_ok-target.was
     (c.natural.ensures.each target (omega arith) (sym (to_z-of_z w128 _ fits ∙ c.label.ensures.label ∙ to.target_is))))
 
 pub returns-else-has-clause-only : goal.returns-else-has-clause-only
@@ -30,17 +30,17 @@ returns-else-has-clause-only c = λ target to.
     let (k, within, there) = c.requires.starts.each target to.is_code in
     let low = c.list-list.ensures.low k in
     let at : slice_index_or c.args.starts.now k 0 ≡ target = get_or_default c.args.starts.now k 0 target within ∙ there in
-    let same = same_some _ _ _ c.in-Some.is
+    let same = same_some _ _ _ c.in_ok-target.was
     (c.natural.ensures.each target (omega arith) (sym (to_z-of_z w128 _ fits ∙ c.label.ensures.label ∙ to.target_is))) in
     let e : false ≡ true = sym c.if-has.false
     ∙ c.has.ensures.1 (subst (Contains c.args.starts.now) (sym same) (k, within, there)) in
     absurd (cc)
 
-pub returns-in-None-clause-only : goal.returns-in-None-clause-only
-returns-in-None-clause-only c = λ target to.
+pub returns-in_err-target-clause-only : goal.returns-in_err-target-clause-only
+returns-in_err-target-clause-only c = λ target to.
     let fits : FitsSigned w128 c.label.result = search rules in
     let (k, within, there) = c.requires.starts.each target to.is_code in
     let low = c.list-list.ensures.low k in
     let at : slice_index_or c.args.starts.now k 0 ≡ target = get_or_default c.args.starts.now k 0 target within ∙ there in
-    absurd (not_found _ _ c.in-None.is
+    absurd (not_found _ _ c.in_err-target.was
     (c.natural.ensures.each target (omega arith) (sym (to_z-of_z w128 _ fits ∙ c.label.ensures.label ∙ to.target_is))))

@@ -4,8 +4,8 @@ use Rattle.std.proofs.lemmas.Int.{to_z-of_z}
 use Rattle.elf_code.specs.Cells.{Difference}
 use Rattle.rv_reloc.proofs.candidates.cell_field.Goals as goal
 
-pub returns-else-not-are_free-clause-is : goal.returns-else-not-are_free-clause-is
-returns-else-not-are_free-clause-is c = λ tabled are.
+pub returns-clause-is : goal.returns-clause-is
+returns-clause-is c = λ tabled are.
     let d = c.args.difference.now in
     let fits : FitsSigned w128 d.to = search rules in
     let fits' : FitsSigned w128 d.from = search rules in
@@ -13,7 +13,7 @@ returns-else-not-are_free-clause-is c = λ tabled are.
     record {
       has_code = crossing.0;
       across = crossing.1;
-      width_is = sym c.in-Some.ensures;
+      width_is = sym c.in_ok-width.ensures;
       place_is = refl;
       content_is = ap (λ (z : ℤ). Difference z (to_z w128 (of_z w128 d.from))) (to_z-of_z w128 d.to fits)
           ∙ ap (λ (z : ℤ). Difference d.to z) (to_z-of_z w128 d.from fits');

@@ -21,21 +21,22 @@ returns-then-not-can_be_cell-clause-only c = λ tabled f are is.
     let g = c.if-not-can_be_cell.true in
     absurd (cc)
 
-pub returns-in-Some-clause-is : goal.returns-in-Some-clause-is
-returns-in-Some-clause-is c = λ tabled are.
+pub returns-clause-is : goal.returns-clause-is
+returns-clause-is c = λ tabled are.
     let r = seen c.args.relocation.now in
-    some-only _ (λ f is. difference (cell-to_difference c.args.elf.now tabled r c.in-Some.difference f c.in-Some.ensures.is
+    some-only _ (λ f is. difference (cell-to_difference c.args.elf.now tabled r c.in_ok-difference.difference f
+    c.in_ok-difference.ensures.is
     (sym c.can_be_cell.ensures ∙ c.if-not-can_be_cell.false) is)) (c.cell_field.ensures.is tabled are)
 
-pub returns-in-Some-clause-only : goal.returns-in-Some-clause-only
-returns-in-Some-clause-only c = λ tabled f are is.
+pub returns-clause-only : goal.returns-clause-only
+returns-clause-only c = λ tabled f are is.
     let r = seen c.args.relocation.now in
     let made = difference-of c.args.elf.now tabled r f (sym c.is_address.ensures ∙ c.if-is_address.false) is in
     c.cell_field.ensures.only tabled f are
-    (difference-to_cell c.args.elf.now tabled r c.in-Some.difference f c.in-Some.ensures.only made)
+    (difference-to_cell c.args.elf.now tabled r c.in_ok-difference.difference f c.in_ok-difference.ensures.only made)
 
-pub returns-in-None-clause-only : goal.returns-in-None-clause-only
-returns-in-None-clause-only c = λ tabled f are is.
+pub returns-in_err-difference-clause-only : goal.returns-in_err-difference-clause-only
+returns-in_err-difference-clause-only c = λ tabled f are is.
     let made =
     difference-of c.args.elf.now tabled (seen c.args.relocation.now) f (sym c.is_address.ensures ∙ c.if-is_address.false) is in
-    absurd (c.in-None.ensures.only (Bits made.bits) made.to made.from made.is)
+    absurd (c.in_err-difference.ensures.only (Bits made.bits) made.to made.from made.is)

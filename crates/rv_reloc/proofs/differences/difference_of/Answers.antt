@@ -33,8 +33,8 @@ returns-then-is_pc_difference-clause-only c = λ w to from is.
       from_is = (omega (arith, ints, made.from_is));
     }
 
-pub returns-in-None-clause-only : goal.returns-in-None-clause-only
-returns-in-None-clause-only c = λ w to from is.
+pub returns-in_err-width-clause-only : goal.returns-in_err-width-clause-only
+returns-in_err-width-clause-only c = rw c.from_residual.ensures (λ w to from is.
     no-difference c.args.elf.now (seen c.args.relocation.now) w to from
     (sym c.is_pc_difference.ensures ∙ c.if-is_pc_difference.false)
-    (sym c.in-None.ensures) is
+    (sym c.in_err-width.ensures) is)

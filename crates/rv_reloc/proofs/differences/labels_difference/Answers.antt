@@ -9,56 +9,56 @@ use Rattle.rv_reloc.specs.Records.{seen}
 use Rattle.rv_reloc.proofs.DifferenceCases.{difference-made, made-by_labels, none-found, one-found}
 use Rattle.rv_reloc.proofs.differences.labels_difference.Goals as goal
 
-pub returns-in-Some-only_minus-clause-is : goal.returns-in-Some-only_minus-clause-is
-returns-in-Some-only_minus-clause-is c =
+pub returns-clause-is : goal.returns-clause-is
+returns-clause-is c =
     let elf = c.args.elf.now in
     let r = seen c.args.relocation.now in
     let w = width_of c.args.width in
-    let plus = subst (λ (o : Option Record). IfSome o (λ q. IsOnly (is_plus r.place w) (relocations elf) (seen q))) c.in-Some.is
+    let plus = subst (λ (o : Option Record). IfSome o (λ q. IsOnly (is_plus r.place w) (relocations elf) (seen q))) c.in_ok-only_plus.was
     (c.only_plus.ensures.is elf c.requires.records) in
     let minus = subst
-    (λ (o : Option Record). IfSome o (λ q. IsOnly (is_minus r.place w) (relocations elf) (seen q))) c.in-Some-only_minus.is
+    (λ (o : Option Record). IfSome o (λ q. IsOnly (is_minus r.place w) (relocations elf) (seen q))) c.in_ok-minus.was
     (c.only_minus.ensures.is elf c.requires.records) in
     let fits : FitsSigned w128 c.label.result = search rules in
-    let fits' : FitsSigned w128 c.label-in-Some-only_minus.result = search rules in
+    let fits' : FitsSigned w128 c.label-2.result = search rules in
     let to = to_z-of_z w128 c.label.result fits in
-    let from = to_z-of_z w128 c.label-in-Some-only_minus.result fits' in
-    let made = difference-made elf r _ (seen c.in-Some-only_minus.minus) w c.requires.listed c.requires.width plus minus in
+    let from = to_z-of_z w128 c.label-2.result fits' in
+    let made = difference-made elf r _ (seen c.in_ok-minus.minus) w c.requires.listed c.requires.width plus minus in
     record {
-      is = subst (λ (z : ℤ). IsDifference elf r w z (to_z w128 (of_z w128 c.label-in-Some-only_minus.result)))
+      is = subst (λ (z : ℤ). IsDifference elf r w z (to_z w128 (of_z w128 c.label-2.result)))
           (sym (to ∙ c.label.ensures.label))
-          (subst (λ (z : ℤ). IsDifference elf r w (label elf r) z) (sym (from ∙ c.label-in-Some-only_minus.ensures.label)) made);
+          (subst (λ (z : ℤ). IsDifference elf r w (label elf r) z) (sym (from ∙ c.label-2.ensures.label)) made);
       to_size = subst IsLabelSize (sym to) c.label.ensures.size;
-      from_size = subst IsLabelSize (sym from) c.label-in-Some-only_minus.ensures.size;
+      from_size = subst IsLabelSize (sym from) c.label-2.ensures.size;
     }
 
-pub returns-in-Some-only_minus-clause-only : goal.returns-in-Some-only_minus-clause-only
-returns-in-Some-only_minus-clause-only c = λ w to from is.
+pub returns-clause-only : goal.returns-clause-only
+returns-clause-only c = λ w to from is.
     let elf = c.args.elf.now in
     let r = seen c.args.relocation.now in
     let made = made-by_labels elf r (width_of c.args.width) w to from c.requires.width is in
-    let found = one-found c.only_minus.result seen c.in-Some-only_minus.minus made.minus c.in-Some-only_minus.is
+    let found = one-found c.only_minus.result seen c.in_ok-minus.minus made.minus c.in_ok-minus.was
     (c.only_minus.ensures.only elf made.minus c.requires.records made.only_minus) in
     let fits : FitsSigned w128 c.label.result = search rules in
-    let fits' : FitsSigned w128 c.label-in-Some-only_minus.result = search rules in
+    let fits' : FitsSigned w128 c.label-2.result = search rules in
     record {
       width_is = sym made.width_is;
       to_is = to_z-of_z w128 c.label.result fits ∙ c.label.ensures.label ∙ sym made.to_is;
       from_is =
-          to_z-of_z w128 c.label-in-Some-only_minus.result fits' ∙ c.label-in-Some-only_minus.ensures.label ∙ ap (label elf) found
+          to_z-of_z w128 c.label-2.result fits' ∙ c.label-2.ensures.label ∙ ap (label elf) found
           ∙ sym made.from_is;
     }
 
-pub returns-in-None-only_minus-clause-only : goal.returns-in-None-only_minus-clause-only
-returns-in-None-only_minus-clause-only c = λ w to from is.
+pub returns-in_err-minus-clause-only : goal.returns-in_err-minus-clause-only
+returns-in_err-minus-clause-only c = rw c.from_residual-in_err-minus.ensures (λ w to from is.
     let elf = c.args.elf.now in
     let made = made-by_labels elf (seen c.args.relocation.now) (width_of c.args.width) w to from c.requires.width is in
-    none-found c.only_minus.result seen made.minus c.in-None-only_minus.is
-    (c.only_minus.ensures.only elf made.minus c.requires.records made.only_minus)
+    none-found c.only_minus.result seen made.minus c.in_err-minus.was
+    (c.only_minus.ensures.only elf made.minus c.requires.records made.only_minus))
 
-pub returns-in-None-clause-only : goal.returns-in-None-clause-only
-returns-in-None-clause-only c = λ w to from is.
+pub returns-in_err-only_plus-clause-only : goal.returns-in_err-only_plus-clause-only
+returns-in_err-only_plus-clause-only c = rw c.from_residual.ensures (λ w to from is.
     let elf = c.args.elf.now in
     let r = seen c.args.relocation.now in
     let made = made-by_labels elf r (width_of c.args.width) w to from c.requires.width is in
-    none-found c.only_plus.result seen r c.in-None.is (c.only_plus.ensures.only elf r c.requires.records made.plus)
+    none-found c.only_plus.result seen r c.in_err-only_plus.was (c.only_plus.ensures.only elf r c.requires.records made.plus))

@@ -38,5 +38,5 @@ returns-then-alike-clause-asked g c =
     (answer-longer (g.T.ByAddress.says c.args.table.now c.args.asked.now) (said_runs g.T.ByAddress.said c.args.runs.now.items)
     c.args.span.len c.requires.asked)
 
-pub returns-in-None-clause-within : goal.returns-in-None-clause-within
-returns-in-None-clause-within g c = within-up 0 _ _ _ c.requires.before (omega arith)
+pub returns-in_default-clause-within : goal.returns-in_default-clause-within
+returns-in_default-clause-within g c = within-up 0 _ _ _ c.requires.before (omega arith)

@@ -2,23 +2,23 @@ use Rattle.std.proofs.Common.{arith, ◌≤◌, sym, length}
 use Rattle.table_core.proofs.NewCode.{made_more, made_same, past}
 use Rattle.table_core.proofs.SilentTables.{no_runs}
 use Rattle.table_core.proofs.carrying.runs_of.Goals as goal
-use Rattle.table_core.proofs.carrying.runs_of.Goals.{in-Some+then-span-gt0+in_ok-add_span-in-Some, in-Some+else-span-gt0, in-None}
+use Rattle.table_core.proofs.carrying.runs_of.Goals.{in-Some+then-span-gt0+in_ok-add_span, in-Some+else-span-gt0, in_default}
 
 pub loop-i-preserved : goal.loop-i-preserved
 loop-i-preserved g c = elim c.match-span.branch [
-  | in-Some+then-span-gt0+in_ok-add_span-in-Some w ↦ record {
+  | in-Some+then-span-gt0+in_ok-add_span w ↦ record {
     made = rw w.runs-is (made_more (g.T.ByAddress.says c.args.table.now) c.args.map.now c.requires.ordered c.requires.disjoint
         c.loop-i.i w.in-Some.span (sym w.in-Some.ensures)
         c.requires.low _ _ c.loop-i.invariant.made w.if-span-gt0.true
-        w.in_ok-add_span-in-Some.ensures.answers w.in_ok-add_span-in-Some.ensures.within w.in_ok-add_span-in-Some.ensures.longer);
-    asked = rw (w.runs-is, w.asked-is) w.in_ok-add_span-in-Some.ensures.asked;
+        w.in_ok-add_span.ensures.answers w.in_ok-add_span.ensures.within w.in_ok-add_span.ensures.longer);
+    asked = rw (w.runs-is, w.asked-is) w.in_ok-add_span.ensures.asked;
   }
   | in-Some+else-span-gt0 w ↦ record {
     made = rw w.runs-is (made_same (g.T.ByAddress.says c.args.table.now) c.args.map.now c.requires.ordered c.requires.disjoint
         c.loop-i.i w.in-Some.span (sym w.in-Some.ensures) _ c.loop-i.invariant.made (omega (arith, w.if-span-gt0.false)));
     asked = rw (w.runs-is, w.asked-is) c.loop-i.invariant.asked;
   }
-  | in-None w ↦ let h : length c.args.map.now ≤ c.loop-i.i = past c.args.map.now c.loop-i.i (sym w.in-None.ensures) in
+  | in_default w ↦ let h : length c.args.map.now ≤ c.loop-i.i = past c.args.map.now c.loop-i.i (sym w.in_default.ensures) in
       absurd (omega arith)
 ]
 

@@ -1,5 +1,4 @@
-use Rattle.std.proofs.Common.{◌≡◌, ◌<◌, refl, Some, get_or, length, rules}
-use Rattle.std.specs.Prelude.{slice_get}
+use Rattle.std.proofs.Common.{◌≡◌, ◌<◌, refl, get_or, length, rules}
 use Rattle.std.proofs.lemmas.Option.{slice_get_read}
 use Rattle.elf_image.specs.declared.section.Section.{Section}
 use Rattle.elf_check.proofs.section_tables.SectionTables.follows.Goals as goal

@@ -1,5 +1,5 @@
-use Rattle.std.proofs.Common.{◌≡◌, ◌∙◌, sym, refl, ℕ, List, ◌<◌, Option, Some, None, IsSomeAnd, if◌then◌else◌, slice_get, length}
-use Rattle.std.proofs.Common.{subst, rules, arith}
+use Rattle.std.proofs.Common.{◌≡◌, ◌∙◌, sym, refl, ℕ, List, Option, Some, None, IsSomeAnd, if◌then◌else◌, slice_get}
+use Rattle.std.proofs.Common.{rules}
 use Rattle.elf_image.specs.declared.section.Section.{Section}
 use Rattle.elf_image.specs.faults.FileFaults.{IsCompressed, HasCompressed, is_compressed}
 use Rattle.elf_image.specs.faults.LowestPlace.{IsLowest}

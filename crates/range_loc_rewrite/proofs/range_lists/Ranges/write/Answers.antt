@@ -4,7 +4,6 @@ use Rattle.std.specs.List.Sorted.{IsNonDecreasing}
 use Rattle.table_core.specs.AnswerRuns.{carried, AreRunsOf}
 use Rattle.table_core.specs.CarriedAnswers.{IsCarriedFrom}
 use Rattle.cover_lists.specs.declared.cover_tree.Cover.{Cover}
-use Rattle.cover_lists.specs.declared.groups.RangedEntry.{RangedEntry}
 use Rattle.cover_lists.specs.GroupRuns.{AreApart, held_by, runs_in}
 use Rattle.dw_lists.specs.declared.list_kind.ListKind.TheVariants.{Ranges}
 use Rattle.dw_lists.specs.declared.named_list.NamedList.{NamedList}

@@ -4,8 +4,8 @@ use Rattle.sym_machine.specs.internal.Memory.{memory_at}
 use Rattle.sym_machine.proofs.Effects.{loaded_is}
 use Rattle.sym_machine.proofs.machine.SymMachine.loaded_symbol.Goals as goal
 
-pub returns-in-Some : goal.returns-in-Some
-returns-in-Some c =
+pub returns : goal.returns
+returns c =
     c.piece.ensures
-    ∙ loaded_is c.args.extension (memory_bytes (memory_at c.args.self.now.memory) c.args.address c.args.count) c.in-Some.bytes
-    (sym c.symbol.ensures ∙ c.in-Some.is)
+    ∙ loaded_is c.args.extension (memory_bytes (memory_at c.args.self.now.memory) c.args.address c.args.count) c.in_ok-bytes.bytes
+    (sym c.symbol.ensures ∙ c.in_ok-bytes.was)
