@@ -11,7 +11,7 @@ half, nine tenths and all of what ran. The SVG has both pictures beside each oth
 a cell where the pointer rests on it.
 
 How often an instruction ran is what the profile says: where control came to a place so many times, each instruction
-from there to the next place from which the profile has control go on ran as often. It wants
+from there to the next place from which the profile has control go on ran as often, within one function. It wants
 `riscv64-unknown-elf-readelf`.
 """
 import argparse
@@ -72,17 +72,19 @@ def edges_of(path, names):
     return edges
 
 
-def counts_of(edges, entry, instructions):
-    """By old address how often an instruction ran; `instructions` ascend."""
+def counts_of(edges, entry, instructions, functions):
+    """By old address how often an instruction ran; `instructions` and the addresses of `functions` ascend."""
     came, ends = collections.Counter({entry: 1}), sorted({start for start, _ in edges})
     for (_, end), count in edges.items():
         came[end] += count
     change = collections.Counter()
     for start, count in came.items():
-        i = bisect.bisect_left(ends, start)
+        # Where the run ended, no edge does: the count ends with the function.
+        i, j = bisect.bisect_left(ends, start), bisect.bisect_right(functions, start)
+        stops = [end + 1 for end in ends[i : i + 1]] + functions[j : j + 1]
         change[start] += count
-        if i < len(ends):
-            change[ends[i] + 1] -= count
+        if stops:
+            change[min(stops)] -= count
     counts, going, changes, i = {}, 0, sorted(change), 0
     for address in instructions:
         while i < len(changes) and changes[i] <= address:
@@ -183,7 +185,7 @@ def pictures_of(old, new, map_path, profile, cell=None):
     spans = spans_of(map_path)
     named = functions_of(old)
     instructions = sorted(source for _, _, source in spans)
-    counts = counts_of(edges_of(profile, named[1]), entry_of(old), instructions)
+    counts = counts_of(edges_of(profile, named[1]), entry_of(old), instructions, named[0])
     before = [(source, 2, counts[source]) for source in instructions]
     after = [(at, size, counts[source]) for at, size, source in spans]
     cell = cell or cell_for(before)

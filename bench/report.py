@@ -189,9 +189,9 @@ class Try:
 
     def places(self, instructions):
         """Some of these instructions: such as ran, from those that ran often to those that ran once, and others."""
-        edges = edges_of(self.at("profile"), functions_of(self.path)[1])
+        starts, names = functions_of(self.path)
         kept = sorted(instructions)
-        counts = counts_of(edges, entry_of(self.path), kept)
+        counts = counts_of(edges_of(self.at("profile"), names), entry_of(self.path), kept, starts)
         ran = sorted((old for old in kept if counts[old]), key=lambda old: (-counts[old], old))
         never = [old for old in kept if not counts[old]]
         some = lambda places, count: places[::max(1, len(places) // count)][:count]
