@@ -18,7 +18,7 @@ import tempfile
 ROOT = os.path.dirname(os.path.dirname(os.path.abspath(__file__)))
 LEFT_OUT = ("apt-get ", "(cd ")
 COMPILERS = ("riscv64-unknown-elf-gcc ", "clang ")
-ADDRESS = "$(riscv64-unknown-elf-nm moved | sed -n 's/ T main$//p')"
+ADDRESS = r"$(riscv64-unknown-elf-nm moved | sed -n 's/^0*\(.*\) T main$/\1/p')"
 MARK = "=== end of line"
 
 
