@@ -1,5 +1,5 @@
 -- A list that stands in a table of a section is read there, and so is an offset.
-use Rattle.std.proofs.Common.{ℕ, ◌+◌, ◌-◌, ◌^◌, ◌≤◌, ◌<◌, ◌≡◌, List, [], ◌∷◌, ◌++◌, Option, Some, None, cond, leb, Bool, true, false, refl}
+use Rattle.std.proofs.Common.{ℕ, ◌+◌, ◌-◌, ◌*◌, ◌^◌, ◌≤◌, ◌<◌, ◌≡◌, List, [], ◌∷◌, ◌++◌, Option, Some, None, cond, leb, Bool, true, false, refl}
 use Rattle.std.proofs.Common.{◌∙◌, ap, subst, arith, length, take, drop, append_assoc, length-append, map}
 use Rattle.std.proofs.lemmas.Bool.Decides.{nat_tests}
 use Rattle.std.proofs.lemmas.Grind.{common_steps}
@@ -156,6 +156,13 @@ pub list_inside : (k : ListKind) (tables : List (List ℕ)) (at : ℕ) (bs : Lis
     at < length (units_bytes tables)
 list_inside k tables at bs s units = let a = part_inside tables at (list_bytes k bs) s units in let b = list_some k bs in
     omega (arith, a, b)
+
+-- the base of an index whose offset stands in a table
+pub base_inside : (tables : List (List ℕ)) (base i o : ℕ) → StandsAt tables (base + 4 * i) (little_bytes 4 o) → All (IsUnit 5) tables →
+    base < length (units_bytes tables)
+base_inside tables base i o s units =
+    let inside = part_inside tables (base + 4 * i) (little_bytes 4 o) s units in
+    let size = length-little 4 o in omega (arith, inside, size)
 
 pub offset_there : (tables : List (List ℕ)) (at o : ℕ) → StandsAt tables at (little_bytes 4 o) → All (IsUnit 5) tables → o < 2 ^ 32 →
     number_in 4 at (units_bytes tables) ≡ Some o

@@ -40,6 +40,7 @@ use Rattle.list_writer.specs.WrittenTables.{bytes_in, StandsAt, IsNamed}
 use Rattle.range_loc_rewrite.proofs.BasesStay.{base_stays}
 use Rattle.range_loc_rewrite.proofs.ChangedAttrs.{IsOther, changed, from_other, location, frame_base, location_base}
 use Rattle.list_writer.proofs.ForcedRuns.{forced_runs}
+use Rattle.range_loc_rewrite.proofs.ItemsThere.{IsPlaceName, by_name, HasItem, has_item}
 use Rattle.range_loc_rewrite.proofs.KeptLookups.{sound_at, all_of, place_of, own_unique}
 use Rattle.list_writer.proofs.ListsThere.{list_there, list_inside, offset_there}
 use Rattle.list_units.proofs.LocationFacts.{listed_expressions}
@@ -91,26 +92,6 @@ module _ (s : ListSections) where
       (λ (here : Contains (attr_items s p.0 q.0.place 0x02 (attr 0x02 q.0)) x). item_by p.0 p.1 q.0 q.1 0x02 (attr 0x02 q.0) x here)
       (λ (there : Contains (attr_items s p.0 q.0.place 0x40 (attr 0x40 q.0)) x). item_by p.0 p.1 q.0 q.1 0x40 (attr 0x40 q.0) x there)
       (contains_split (attr_items s p.0 q.0.place 0x02 (attr 0x02 q.0)) (attr_items s p.0 q.0.place 0x40 (attr 0x40 q.0)) x q.2)
-
--- one of the two names
-abbrev pub IsPlaceName : ℕ → Type 0
-IsPlaceName k = (k == 0x02 || k == 0x40) ≡ true
-
-by_name : (P : ℕ → Type 0) (k : ℕ) → IsPlaceName k → P 0x02 → P 0x40 → P k
-by_name P k is x y = by_either P k (k == 0x02) (k == 0x40) refl refl is x y
-
--- the items of an entry have those of each name
-abbrev HasItems : ListSections → Unit → Entry → ℕ → Type 0
-HasItems s u e k = (a : Attr) → attr k e ≡ Some a → (x : ListItem) → Contains (attr_items s u e.place k (Some a)) x →
-    Contains (entry_items s u e) x
-
-entry_has : (s : ListSections) (u : Unit) (e : Entry) (k : ℕ) → IsPlaceName k → HasItems s u e k
-entry_has s u e k name =
-    by_name (HasItems s u e) k name
-    (λ a is x c. contains_still (attr_items s u e.place 0x02 (attr 0x02 e)) (attr_items s u e.place 0x40 (attr 0x40 e)) x
-    (subst (λ (o : Option Attr). Contains (attr_items s u e.place 0x02 o) x) (sym is) c))
-    (λ a is x c. contains_behind (attr_items s u e.place 0x02 (attr 0x02 e)) (attr_items s u e.place 0x40 (attr 0x40 e)) x
-    (subst (λ (o : Option Attr). Contains (attr_items s u e.place 0x40 o) x) (sym is) c))
 
 -- New values
 
@@ -299,34 +280,11 @@ module _ (s t : ListSections) (spans : List Span) (m : Moves) (tables : List (Li
 
       -- it names a list
       module _ (block : is_block a.form ≡ false) (lists_it : has_list locations_kind a ≡ true) where
-        fine : IsThere locations_kind s.locations s.units.addr u a
-        fine = fine_old u uc a (flat_has (λ (e : Entry). e.attrs) u.entries d a dc (found_there k d.attrs a is)) lists_it
-
-        record Found : Type 0 where
-          pub list : List Located
-          pub said : list_of locations_kind s.locations s.units.addr u a ≡ Some list
-
-        found : Found
-        found = by (list_at locations_kind s.locations s.units.addr u fine.at) refl fine.read
-          where
-            by : (o : Option (List Located)) → list_at locations_kind s.locations s.units.addr u fine.at ≡ o → is_some o ≡ true → Found
-            by None f g = absurd (cc)
-            by (Some ls) f g = record {
-              list = ls;
-              said = ap (option_and_then (list_at locations_kind s.locations s.units.addr u)) fine.offset ∙ f;
-            }
+        found : HasItem s u d k a
+        found = has_item s fine_old u uc d dc k name a is lists_it
 
         abbrev item : ListItem
         item = record { place = d.place; attr = k; own = own_place u; index = list_index a; list = found.list }
-
-        item_there : Contains (all_items s) item
-        item_there =
-            flat_has (unit_items s) (units s.units) u item uc
-            (flat_has (entry_items s u) u.entries d item dc
-            (entry_has s u d k name a is item
-            (subst (λ (o : Option (List Located)). Contains (item_of d.place k (own_place u) (list_index a) o) item)
-            (sym (ap (λ (b : Bool). if b then list_of locations_kind s.locations s.units.addr u a else None) lists_it ∙ found.said))
-            (0, omega arith, refl))))
 
         -- by the place of its list
         same_by : (q : NamedList) → Contains named q → (at : ℕ) → StandsAt tables at (bytes_in bs q.list) →
@@ -348,7 +306,7 @@ module _ (s t : ListSections) (spans : List Span) (m : Moves) (tables : List (Li
 
         same_offset : a.form ≡ 0x17 → Same u v d e k
         same_offset form =
-            let n = zip_right (IsNameOf lists) named (all_items s) item items item_there in
+            let n = zip_right (IsNameOf lists) named (all_items s) item items found.there in
             let index : n.0.index ≡ None = n.2.index ∙ ap (λ (f : ℕ). if f == 0x22 then Some a.value else None) form in
             let w = subst (IsNamed Locations bs tables names named n.0) index (stands n.0 n.1) in
             let offset : new_list_offset m.lists d.place k ≡ Some w.0 =
@@ -360,7 +318,7 @@ module _ (s t : ListSections) (spans : List Span) (m : Moves) (tables : List (Li
 
         same_index : a.form ≡ 0x22 → Same u v d e k
         same_index form =
-            let n = zip_right (IsNameOf lists) named (all_items s) item items item_there in
+            let n = zip_right (IsNameOf lists) named (all_items s) item items found.there in
             let index : n.0.index ≡ Some a.value = n.2.index ∙ ap (λ (f : ℕ). if f == 0x22 then Some a.value else None) form in
             let w = subst (IsNamed Locations bs tables names named n.0) index (stands n.0 n.1) in
             let here : (a.form == 0x22) ≡ true = eq-eqb a.form 0x22 form in

@@ -19,6 +19,7 @@ use Rattle.dw_lists.specs.declared.list_kind.ListKind.TheVariants as kind
 use Rattle.dw_lists.specs.Faults.{ListSections, range_places}
 use Rattle.cover_lists.specs.GroupRuns.{held_by, runs_in, if_held}
 use Rattle.range_loc_rewrite.specs.KeptRanges.{AreKept}
+use Rattle.range_loc_rewrite.specs.NewOffsets.{RangesGetOffsets}
 use Rattle.list_writer.specs.ListBytes.{IsWritable}
 use Rattle.dw_lists.specs.ListTables.{range_says, RangesMade}
 use Rattle.dw_lists.specs.Ranges.{covering}
@@ -31,6 +32,7 @@ use Rattle.range_loc_rewrite.proofs.KeptEntries.{kept_ascend}
 use Rattle.range_loc_rewrite.proofs.KeptOrder.{owns_rise, none_kept}
 use Rattle.range_loc_rewrite.proofs.KeptPairs.{all_paired}
 use Rattle.range_loc_rewrite.proofs.NamedRanges.{AreNamed, are_named, group_at, ranges_in_order}
+use Rattle.range_loc_rewrite.proofs.RangeOffsets.{ranges_get_offsets}
 use Rattle.range_loc_rewrite.proofs.RangesLaw.{new_covering, new_free, is_carried}
 use Rattle.range_loc_rewrite.proofs.RangeWeights.{holds_some, kept_says, within_there}
 use Rattle.range_loc_rewrite.proofs.UnitsFree.{units_free}
@@ -56,6 +58,18 @@ module _ (s : ListSections) (kept : List RangedEntry) (count : ℕ) (index : Cov
         (none_kept s empty index.tree kept are.seen high));
   }
 
+module _ (s : ListSections) (kept : List RangedEntry) (count : ℕ) (index : CoverIndex) (bounds : List ℕ) (weight : ℕ)
+    (are : AreKept s kept count index bounds weight) (lists : List (Vec (Run Bool))) (counted : length lists ≡ count)
+    (bs : List (Vec ℕ)) (spelled : map (λ (b : Vec ℕ). b.items) bs ≡ map group_bytes lists) (w : Written)
+    (made : AreWritten kind.Ranges bs (map named_of kept) (map named_of kept) [] w.bytes.items w.lists.items) where
+  are_written : AreNamed lists kept w.bytes.items w.lists.items
+  are_written =
+      are_named bs lists kept w.bytes.items w.lists.items made
+      (λ r c. group_at bs lists r.group spelled (subst (λ (n : ℕ). r.group < n) (sym counted) (within_there count kept r are.within c)))
+
+  pub offsets_of : RangesGetOffsets s.units w.lists.items w.bytes.items
+  offsets_of = ranges_get_offsets s are.free index.tree kept are.seen lists w.bytes.items w.lists.items are_written
+
 module _ (i f : Elf) (spans : List Span) (kept : List RangedEntry) (count : ℕ) (index : CoverIndex) (bounds : List ℕ) (weight : ℕ)
     (are : AreKept (list_sections i) kept count index bounds weight) (lists : List (Vec (Run Bool)))
     (each : (g : ℕ) → g < count → AreRunsOf (carried (held_by index.tree g) spans) (runs_in lists g))
@@ -70,9 +84,7 @@ module _ (i f : Elf) (spans : List Span) (kept : List RangedEntry) (count : ℕ)
   t = list_sections f
 
   written : AreNamed lists kept w.bytes.items w.lists.items
-  written =
-      are_named bs lists kept w.bytes.items w.lists.items made
-      (λ r c. group_at bs lists r.group spelled (subst (λ (n : ℕ). r.group < n) (sym counted) (within_there count kept r are.within c)))
+  written = are_written s kept count index bounds weight are lists counted bs spelled w made
 
   writable : (r : RangedEntry) → Contains kept r → All (IsWritable kind.Ranges) (map bounded (runs_in lists r.group))
   writable r c =

@@ -11,9 +11,10 @@ use Rattle.table_core.specs.declared.written.ListAt.{ListAt}
 use Rattle.table_core.specs.Sections.{bytes_of}
 use Rattle.dw_unit.specs.Changes.{no_line_unit}
 use Rattle.dw_unit.specs.EntryMoves.{new_list_offset}
-use Rattle.dw_unit.specs.Tables.{AreChangedWith}
+use Rattle.dw_unit.specs.Tables.{AreChangedWith, sections_of}
 use Rattle.line_rewrite.specs.KeptLineUnits.{AreKeptUnits, unit_number, unit_places}
 use Rattle.line_rewrite.specs.Tables.{line_sections}
+use Rattle.range_loc_rewrite.specs.NewOffsets.{RangesGetOffsets, PlacesGetOffsets}
 
 -- the offset of a line unit that is written for another: that of the unit's list, or one that names none
 abbrev pub new_line_offset : List ListAt → ℕ → ℕ
@@ -29,6 +30,9 @@ pub record AreUnitsKept (spans : List Span) (lists : List ListAt) (i f : Elf) : 
       unit_number (line_sections f) (new_line_offset lists n) ≡ unit_number (line_sections i) n
   pub other_offsets : (n : ℕ) → unit_number (line_sections i) n ≡ length (unit_places (line_sections i)) →
       new_line_offset lists n ≡ no_line_unit
+  -- attributes of entries find their lists in the new tables
+  pub range_offsets : RangesGetOffsets (sections_of i) lists (bytes_of f (codes ".debug_rnglists"))
+  pub place_offsets : PlacesGetOffsets (sections_of i) lists (bytes_of f (codes ".debug_loclists"))
 
 -- the debug sections that are written anew, and those that are left out
 abbrev pub written_names : List (List ℕ)

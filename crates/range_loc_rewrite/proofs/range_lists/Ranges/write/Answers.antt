@@ -13,7 +13,8 @@ use Rattle.dw_lists.specs.Tables.{list_sections, range_answers}
 use Rattle.list_writer.specs.WrittenRanges.{group_bytes, named_of}
 use Rattle.list_writer.specs.WrittenTables.{AreInOrder, AreWritten, OwnsRise}
 use Rattle.range_loc_rewrite.specs.KeptRanges.{AreKept}
-use Rattle.range_loc_rewrite.proofs.WrittenLaw.{kept_order, kept_owns, made_of, law_of}
+use Rattle.range_loc_rewrite.specs.NewOffsets.{RangesGetOffsets}
+use Rattle.range_loc_rewrite.proofs.WrittenLaw.{kept_order, kept_owns, made_of, law_of, offsets_of}
 use Rattle.range_loc_rewrite.proofs.range_lists.Ranges.write.Goals as goal
 
 pub carried_groups-requires-clause-rising : goal.carried_groups-requires-clause-rising
@@ -83,3 +84,23 @@ returns-clause-made c =
     subst (λ (x : ListSections). RangesMade x w) c.self.view_is
     (made_of s t.ranged.items t.count t.index t.bounds.items t.index_weight c.self.invariant bs w written
     (λ e. c.in_ok-written.ensures.none (ap length named ∙ e)))
+
+pub returns-clause-offsets : goal.returns-clause-offsets
+returns-clause-offsets c =
+    let t = c.self.inside in
+    let s : ListSections = list_sections_held t.info.items t.abbrevs.items t.addr.items t.ranges.items t.locations.items in
+    let lists = c.in_ok-lists.lists.items in
+    let bs = c.in_ok-bytes.bytes.items in
+    let w = c.in_ok-written.written in
+    let spelled : map (λ (b : Vec ℕ). b.items) bs ≡ map group_bytes lists = c.in_ok-bytes.ensures
+    ∙ ap (map group_bytes) c.deref-2.ensures.value in
+    let named : c.deref-5.result.now ≡ map named_of t.ranged.items =
+    c.deref-5.ensures.value ∙ c.in_ok-named.ensures ∙ ap (map named_of) c.deref-3.ensures.value in
+    let written : AreWritten Ranges bs (map named_of t.ranged.items) (map named_of t.ranged.items) [] w.bytes.items w.lists.items =
+    subst (λ (ns : List NamedList). AreWritten Ranges bs ns ns [] w.bytes.items w.lists.items) named
+    (subst (λ (ls : List (Vec ℕ)). AreWritten Ranges ls c.deref-5.result.now c.deref-5.result.now [] w.bytes.items w.lists.items)
+    c.deref-4.ensures.value
+    c.in_ok-written.ensures.written) in
+    subst (λ (x : ListSections). RangesGetOffsets x.units w.lists.items w.bytes.items) c.self.view_is
+    (offsets_of s t.ranged.items t.count t.index t.bounds.items t.index_weight c.self.invariant lists c.in_ok-lists.ensures.count bs
+    spelled w written)
