@@ -1,5 +1,5 @@
 -- What is said of a table that was written, besides its answers.
-use Rattle.std.proofs.Common.{ℕ, zero, suc, ◌+◌, ◌-◌, ◌*◌, ◌^◌, ◌≤◌, ◌<◌, ◌≡◌, List, [], ◌∷◌, ◌++◌, Option, Some, None, false, refl, sym}
+use Rattle.std.proofs.Common.{ℕ, zero, suc, ◌+◌, ◌-◌, ◌*◌, ◌^◌, ◌≤◌, ◌<◌, ◌≡◌, List, [], ◌∷◌, ◌++◌, Option, Some, None, true, false, refl, sym}
 use Rattle.std.proofs.Common.{◌∙◌, ap, subst, arith, length, take, drop, length-append}
 use Rattle.std.specs.Prelude.{All, IsTrue, IsSome, is_some, option_and_then, sum_by}
 use Rattle.std.proofs.lemmas.Grind.{common_steps, flat_map-append}
@@ -114,7 +114,7 @@ pub ends-with : (spans : List Span) (keys : List CieKey) (runs : Runs) (bytes : 
     → IsSpelled false spans keys runs bytes → EndsWithMark bytes
 ends-with spans keys runs bytes s = record {
   front = spelled_entries (table_entries false spans keys runs);
-  whole = ap (λ (w : WalkedEntries). w.broken) (walked-alone false (table_entries false spans keys runs)
+  whole = ap (λ (w : WalkedEntries). w.broken) (walked-alone true (table_entries false spans keys runs)
       (table-from false spans keys runs s.writes));
   are = s.bytes_are;
 }
