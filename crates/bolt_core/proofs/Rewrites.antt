@@ -57,7 +57,7 @@ use Rattle.bolt_core.proofs.Near.{near_blocks}
 use Rattle.bolt_core.proofs.NewArea.{start_even}
 use Rattle.bolt_core.proofs.SoundCode.{IsSoundCode, accepted, laid, of_input}
 use Rattle.bolt_core.proofs.WrittenOutput.{area_needed, bytes_are, code_there, follows_segments, is_faithful, is_laid_out, is_sound}
-use Rattle.bolt_core.proofs.WrittenOutput.{keeps_front, place, placed}
+use Rattle.bolt_core.proofs.WrittenOutput.{keeps_behind, keeps_front, place, placed}
 use Rattle.bolt_core.proofs.TableNeeds.{allows, code_low, fits, frame_room, low_spans, room_behind}
 use Rattle.bolt_core.proofs.TableRoom.{SizesFit}
 use Rattle.bolt_core.proofs.TablesCarried.{are_given, carries_tables, sizes_fit}
@@ -276,6 +276,9 @@ module _ {file profile : List ℕ} (elf : Elf) (funcs : List Func) (refs : Refs)
           front =
               keeps_front elf funcs refs blocks sound_code (input.program).blocks_are stands order spans emitted moved given sizes w
               written;
+          behind =
+              keeps_behind elf funcs refs blocks sound_code (input.program).blocks_are stands order spans emitted moved given sizes
+              w written;
           counted = counted (length funcs) instructions size hot ignored _ _ _ _ instructions_are
               (size_is ∙ bytes_are elf funcs refs blocks sound_code (input.program).blocks_are stands order spans emitted moved
               given sizes)

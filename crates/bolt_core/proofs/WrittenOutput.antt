@@ -17,7 +17,7 @@ use Rattle.branch_fixup.specs.Strips.{pieces_of, strips_of}
 use Rattle.code_emit.proofs.SpanBytes.{span_bytes}
 use Rattle.elf_write.specs.Area.{area_of}
 use Rattle.elf_write.specs.CarriedBytes.{HoldsBytes}
-use Rattle.elf_write.specs.FrontBytes.{KeepsFront}
+use Rattle.elf_write.specs.FrontBytes.{KeepsBehind, KeepsFront}
 use Rattle.elf_write.specs.Source.{HasPlace, Source, source_of}
 use Rattle.elf_write.specs.TableSizes.{table_size}
 use Rattle.elf_write.specs.WrittenFile.{IsWritten}
@@ -117,6 +117,10 @@ module _ (elf : Elf) (funcs : List Func) (refs : Refs) (blocks : List Block) (is
 
       pub keeps_front : KeepsFront elf tight w
       keeps_front = written.front
+
+      pub keeps_behind : KeepsBehind elf (area_of elf.segments.items tight (length emitted.code.items)
+          (table_size given (codes ".eh_frame")) (table_size given (codes ".eh_frame_hdr"))) w
+      keeps_behind = written.behind
 
       pub is_sound : IsSound w
       is_sound = written.sound

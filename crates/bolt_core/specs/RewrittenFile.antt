@@ -17,7 +17,7 @@ use Rattle.move_law.specs.Rewrite.{Rewrite, program}
 use Rattle.elf_image.specs.memory.Executables.{executable_of}
 use Rattle.elf_write.specs.Area.{shift_of}
 use Rattle.elf_write.specs.CarriedBytes.{HoldsBytes}
-use Rattle.elf_write.specs.FrontBytes.{KeepsFront}
+use Rattle.elf_write.specs.FrontBytes.{KeepsBehind, KeepsFront}
 use Rattle.elf_write.specs.NewSegments.{AreNewHeaders}
 use Rattle.elf_write.specs.NewTables.{HasNewTables, area_for}
 use Rattle.table_set.specs.TableLimits.{IsTooHeavy}
@@ -115,4 +115,6 @@ pub record IsRewritten (file profile written : List ℕ) (spans : List Span) (co
   pub answers : CarriesTables spans program.elf tables.new
   -- up to where no byte moves, bytes that no segment loads are as they were, and those of a table that is replaced
   pub front : KeepsFront program.elf (is_tight_program program) written
+  -- and behind that, bytes that a segment names and doesn't load have moved with it
+  pub behind : KeepsBehind program.elf (area_for program.elf given code (is_tight_program program)) written
   pub counted : counts ≡ counts_of_rewrite program profile pairs spans

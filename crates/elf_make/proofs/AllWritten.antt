@@ -11,6 +11,7 @@ use Rattle.elf_make.specs.FileParts.{IsMade}
 use Rattle.file_room.specs.Room.{area_above, area_start}
 use Rattle.elf_make.specs.Source.{Source, HasPlace}
 use Rattle.elf_make.specs.WrittenFile.{AreApart, IsWritten}
+use Rattle.elf_make.proofs.BehindWritten.{behind-written}
 use Rattle.elf_make.proofs.CellPieces.{CanHoldPiece}
 use Rattle.elf_make.proofs.ImageWritten.{image-is}
 use Rattle.elf_make.proofs.FromMade.{written}
@@ -38,6 +39,7 @@ module _ (s : Source) (above : Bool) (w : List ℕ) (read : IsElfOf s.elf.file.n
       let made_so : IsMade s tight w = subst (λ (t : Bool). IsMade s t w) same made in
       written s tight w read sound can apart made_so placed sound_w
       (image-is s tight w read sound bytes made_so (load_once w sound_w)) (front-written s tight w read sound bytes can made_so)
+      (behind-written s tight w read sound bytes made_so)
 
   -- the area stands where the map says
   pub placed-there : above ≡ is_none (owner s.spans (area_start s.elf.segments.items)) → (tight : Bool) →

@@ -6,9 +6,9 @@ use Rattle.elf_image.specs.file.Header.{segments_of}
 use Rattle.elf_image.specs.file.ParsedFile.{IsElfOf}
 use Rattle.elf_image.specs.memory.Image.{LoadOnce}
 use Rattle.elf_make.specs.CarriedBytes.{CarriesImage}
-use Rattle.elf_make.specs.FrontBytes.{KeepsFront}
+use Rattle.elf_make.specs.FrontBytes.{KeepsBehind, KeepsFront}
 use Rattle.elf_make.specs.FileParts.{IsMade}
-use Rattle.elf_make.specs.Source.{Source, HasPlace, is_changed}
+use Rattle.elf_make.specs.Source.{Source, HasPlace, is_changed, source_area}
 use Rattle.elf_make.specs.WrittenFile.{AreApart, IsWritten}
 use Rattle.elf_make.proofs.CellPieces.{CanHoldPiece}
 use Rattle.elf_make.proofs.CellsWritten.{cells-written}
@@ -22,10 +22,11 @@ use Rattle.elf_make.proofs.SoundFiles.{load_once}
 pub written : (s : Source) (tight : Bool) (w : List ℕ) → IsElfOf s.elf.file.now s.elf → IsSound s.elf.file.now →
     All (CanHoldPiece s.elf) s.cells → AllPairs AreApart s.cells → IsMade s tight w → HasPlace s tight → IsSound w →
     CarriesImage s.elf.file.now w (is_changed s tight) s.elf.segments.items (segments_of w) → KeepsFront s.elf tight w →
-    IsWritten s tight w
-written s tight w read sound can apart made placed sound_w image front = record {
+    KeepsBehind s.elf (source_area s tight) w → IsWritten s tight w
+written s tight w read sound can apart made placed sound_w image front behind = record {
   image = image;
   front = front;
+  behind = behind;
   code = code-written s tight w read sound made placed some once;
   executable = executable-written s tight w read sound made placed some once;
   cells = cells-written s tight w read sound made can apart (new-loads s tight w made) once;

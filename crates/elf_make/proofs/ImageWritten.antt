@@ -130,7 +130,7 @@ module _ (s : Source) (tight : Bool) (w : List ℕ) (read : IsElfOf s.elf.file.n
       ap (λ (xs : List Segment). get_or xs i d) read.segments ∙ (get_or-segments file i d inside).1
       ∙ ap (λ (o : ℕ). segment_at file (o + PHDR_SIZE * i)) (sym read.phoff)
 
-  table-apart : s.elf.phoff < made.layout.shift.from → s.elf.phoff + PHDR_SIZE * length ps ≤ made.layout.shift.from
+  pub table-apart : s.elf.phoff < made.layout.shift.from → s.elf.phoff + PHDR_SIZE * length ps ≤ made.layout.shift.from
   table-apart before =
       let end = from-is s tight w read sound made in
       let place : s.elf.phoff ≡ e_phoff file = read.phoff in

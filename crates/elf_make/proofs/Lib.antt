@@ -1,4 +1,5 @@
 pub mod AllWritten
+pub mod BehindWritten
 pub mod CellLists
 pub mod CellPatches
 pub mod CellPieces

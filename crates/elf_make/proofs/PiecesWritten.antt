@@ -64,6 +64,7 @@ written_in_pieces s tight w can is = record {
         same = λ kept. carried.same (kept_in_pieces s tight a kept);
       };
   front = is.front;
+  behind = is.behind;
   code = is.code;
   executable = is.executable;
   cells = pieces_hold s.elf.segments.items (memory_of (executable_of w)) s.cells (λ i c within. (can i c within).fits) is.cells;

@@ -12,7 +12,7 @@ use Rattle.elf_image.specs.memory.Executables.{AreCodeBytes, executable_of, memo
 use Rattle.elf_image.specs.memory.HiddenFields.{e_entry_field}
 use Rattle.elf_plan.specs.Area.{shift_of}
 use Rattle.elf_make.specs.CarriedBytes.{CarriesImage, HoldsBytes}
-use Rattle.elf_make.specs.FrontBytes.{KeepsFront}
+use Rattle.elf_make.specs.FrontBytes.{KeepsBehind, KeepsFront}
 use Rattle.elf_plan.specs.NewSegments.{AreNewHeaders}
 use Rattle.elf_make.specs.Source.{Source, is_changed, source_area}
 
@@ -49,6 +49,8 @@ pub record IsWritten (s : Source) (tight : Bool) (w : List ℕ) : Type 0 where
   pub image : CarriesImage s.elf.file.now w (is_changed s tight) s.elf.segments.items (segments_of w)
   -- up to where no byte moves, bytes that no segment loads are as they were, and those of a table that is replaced
   pub front : KeepsFront s.elf tight w
+  -- and behind that, bytes that a segment names and doesn't load have moved with it
+  pub behind : KeepsBehind s.elf (source_area s tight) w
   -- the new code is there, and may be executed and not written
   pub code : HoldsBytes w (segments_of w) (source_area s tight).start s.code
   pub executable : AreCodeBytes (executable_of w) (source_area s tight).start (length s.code)
