@@ -44,22 +44,12 @@ pub struct Rank {
     ghost small: { size ≤ near_limit },
 }
 
-// Whether a cluster is denser than another, or as dense and begins with a lower unit.
-fn is_denser(a: &Rank, b: &Rank) -> bool
-    ensures { result ≡ denser_by a.now.heat a.now.size a.now.unit b.now.heat b.now.size b.now.unit }
-{
-    let (more, less) = (a.heat * b.size, b.heat * a.size);
-    less < more || (less == more && a.unit < b.unit)
-}
-
+// The denser cluster comes first; of two that are as dense, the one that begins with the lower unit.
 fn compare(a: &Rank, b: &Rank) -> Ordering
     ensures { is_lt result ≡ denser_by a.now.heat a.now.size a.now.unit b.now.heat b.now.size b.now.unit }
 {
-    if is_denser(a, b) {
-        Ordering::Less
-    } else {
-        Ordering::Greater
-    }
+    let (more, less) = (a.heat * b.size, b.heat * a.size);
+    less.cmp(&more).then(a.unit.cmp(&b.unit))
 }
 
 // Puts clusters in their order.
