@@ -14,7 +14,6 @@ use Rattle.table_core.proofs.FoundFirst.{found_first}
 use Rattle.line_rewrite.specs.declared.found.FoundRows.{FoundRows}
 use Rattle.line_rewrite.specs.declared.kept.Kept.{Kept}
 use Rattle.line_rewrite.specs.declared.kept.KeptSequence.{KeptSequence}
-use Rattle.line_rewrite.specs.declared.registers.Registers.{Registers}
 use Rattle.line_rewrite.specs.declared.sequence_index.Place.{Place}
 use Rattle.line_rewrite.specs.declared.sequence_index.SequenceIndex.{SequenceIndex}
 use Rattle.line_rewrite.specs.declared.unit.Unit as kept
@@ -26,6 +25,7 @@ use Rattle.line_rewrite.specs.FilePaths.{file_path, path_at}
 use Rattle.line_rewrite.specs.KeptUnits.{told_unit}
 use Rattle.line_rewrite.specs.Keeping.{AreKept, Begins}
 use Rattle.line_rewrite.specs.SequenceIndex.{all_numbered, kept_range, place_of, IsIndexOf, numbered_at, unit_sequence, IsFound, IsSame}
+use Rattle.line_rewrite.specs.SequenceViews.{kept_at}
 use Rattle.line_rewrite.specs.Tables.{LineSections, line_at}
 use Rattle.line_rewrite.specs.UnitLists.{place_range, AreLines}
 use Rattle.line_rewrite.specs.Walks.{Ascends}
@@ -57,7 +57,7 @@ module _ (u : kept.Unit) (k : KeptSequence) (i : ℕ) (at : slice_get u.sequence
       all_at (λ (s : Sequence). Follow files None s.rows) (map (unit_sequence u) u.sequences.items) i (unit_sequence u k) kept
       (slice_get-map (unit_sequence u) u.sequences.items i ∙ ap (option_map (unit_sequence u)) at)
 
-  sequence_ascends : Ascends 0 (unit_sequence u k).rows
+  pub sequence_ascends : Ascends 0 (unit_sequence u k).rows
   sequence_ascends = follow_ascends (length u.header.files.items) None (unit_sequence u k).rows sequence_follows
 
 -- the answer at an address
@@ -114,8 +114,11 @@ module _ (us : List kept.Unit) (index : SequenceIndex) (is : IsIndexOf us index)
     sequence_here : slice_get here.x.unit.sequences.items p.sequence ≡ Some here.x.sequence
     sequence_here = ap (λ (q : Place). slice_get here.x.unit.sequences.items q.sequence) (sym here.gives) ∙ stands.sequence
 
-    pub unit_there : slice_get us p.unit ≡ None → ⊥
-    unit_there n = not_some here.x.unit (sym unit_here ∙ n)
+    pub place_there : kept_at us p ≡ None → ⊥
+    place_there n =
+        let at : kept_at us p ≡ Some here.x.sequence =
+        ap (option_and_then (λ (u : kept.Unit). slice_get u.sequences.items p.sequence)) unit_here ∙ sequence_here in
+        not_some here.x.sequence (sym at ∙ n)
 
     module _ (u : kept.Unit) (at : slice_get us p.unit ≡ Some u) where
       same_unit : here.x.unit ≡ u
@@ -123,9 +126,6 @@ module _ (us : List kept.Unit) (index : SequenceIndex) (is : IsIndexOf us index)
 
       there : slice_get u.sequences.items p.sequence ≡ Some here.x.sequence
       there = ap (λ (v : kept.Unit). slice_get v.sequences.items p.sequence) (sym same_unit) ∙ sequence_here
-
-      pub sequence_there : slice_get u.sequences.items p.sequence ≡ None → ⊥
-      sequence_there n = not_some here.x.sequence (sym there ∙ n)
 
       module _ (k : KeptSequence) (on : slice_get u.sequences.items p.sequence ≡ Some k) where
         same_sequence : here.x.sequence ≡ k
@@ -181,33 +181,20 @@ item_at xs kept i x t e f = ap (λ ys. slice_get ys i) (sym f) ∙ slice_get_rea
 pub none_at : {X : Type 0} (xs kept : List X) (i : ℕ) → length xs ≤ i → xs ≡ kept → slice_get kept i ≡ None
 none_at xs kept i h f = ap (λ ys. slice_get ys i) (sym f) ∙ slice_get_past xs i h
 
--- what is found from the kept states of a sequence of a unit
+-- what is kept of a sequence of a unit, as a view shows it
 
 module _ (u : kept.Unit) (k : KeptSequence) (i : ℕ) (at : slice_get u.sequences.items i ≡ Some k) (lengths program : List ℕ)
     (states : List Kept)
     (el : lengths ≡ u.header.lengths.items) (ep : program ≡ u.program.items) (es : states ≡ k.kept.items) where
-  are_kept : AreKept u.header.coding lengths program (unit_sequence u k).rows states
+  pub are_kept : AreKept u.header.coding lengths program (unit_sequence u k).rows states
   are_kept =
       subst (λ (l : List ℕ). AreKept u.header.coding l program (unit_sequence u k).rows states) (sym el)
       (subst (λ (p : List ℕ). AreKept u.header.coding u.header.lengths.items p (unit_sequence u k).rows states) (sym ep)
       (subst (AreKept u.header.coding u.header.lengths.items u.program.items (unit_sequence u k).rows) (sym es)
       (sequence_kept u k i at).states))
 
-  pub rows_there : (a count : ℕ) (found : List Registers) → count ≡ k.rows
-      → ((rows : List Registers) → AreKept u.header.coding lengths program rows states → Begins (length rows) states → count ≡ length rows
-      → Ascends 0 rows
-      → found ≡ in_force a rows)
-      → found ≡ in_force a (unit_sequence u k).rows
-  rows_there a count found n f =
-      f (unit_sequence u k).rows are_kept
-      (subst (Begins (length (unit_sequence u k).rows)) (sym es) (sequence_kept u k i at).begins)
-      (n ∙ (sequence_kept u k i at).count) (sequence_ascends u k i at)
-
-  pub same_rows_there : (a b count : ℕ) → count ≡ k.rows
-      → ((rows : List Registers) → AreKept u.header.coding lengths program rows states → count ≡ length rows → Ascends 0 rows
-      → in_force a rows ≡ in_force b rows)
-      → in_force a (unit_sequence u k).rows ≡ in_force b (unit_sequence u k).rows
-  same_rows_there a b count n f = f (unit_sequence u k).rows are_kept (n ∙ (sequence_kept u k i at).count) (sequence_ascends u k i at)
+  pub begins_there : Begins (length (unit_sequence u k).rows) states
+  begins_there = subst (Begins (length (unit_sequence u k).rows)) (sym es) (sequence_kept u k i at).begins
 
 -- the answer at an address
 

@@ -1,11 +1,12 @@
 // The rows in force at an address.
-ghost use Rattle.std.specs.Prelude.{◌≤◌, IfOk, IsTrue};
+ghost use Rattle.std.specs.Prelude.{◌≡◌, ◌≤◌, IfNone, IfOk, IfSome, IsTrue, None};
 ghost use Rattle.line_rewrite.specs.SequenceIndex.{IsIndexOf, AreFound, IsSame};
+ghost use Rattle.line_rewrite.specs.SequenceViews.{IsViewAt, kept_at};
 
 use crate::line_program::LineProgram;
 use crate::lookup::SequenceView;
 use crate::registers::Registers;
-use crate::sequence_index::SequenceIndex;
+use crate::sequence_index::{Place, SequenceIndex};
 use crate::unit::Unit;
 use std::alloc::{AllocError, Global};
 
@@ -15,6 +16,24 @@ pub struct FoundRows {
     /// The number of its unit.
     pub unit: usize,
     pub rows: Vec<Registers>,
+}
+
+// The sequence at a place, if there is one.
+fn view_at(units: &[Unit], place: Place) -> Option<SequenceView<'_>>
+    ensures found { IfSome result (IsViewAt units.now place) }
+    ensures none { IfNone result (kept_at units.now place ≡ None) }
+{
+    let unit = units.get(place.unit)?;
+    let sequence = unit.sequences.get(place.sequence)?;
+    Some(SequenceView {
+        program: LineProgram {
+            coding: &unit.header.coding,
+            lengths: &unit.header.lengths,
+            bytes: &unit.program,
+        },
+        kept: &sequence.kept,
+        rows: sequence.rows,
+    })
 }
 
 /// The rows in force at an address; none where no sequence holds it.
@@ -30,20 +49,8 @@ pub fn found_rows(
     let Some(place) = index.find(a) else {
         return Ok(None);
     };
-    let Some(unit) = units.get(place.unit) else {
+    let Some(view) = view_at(units, place) else {
         return Ok(None);
-    };
-    let Some(sequence) = unit.sequences.get(place.sequence) else {
-        return Ok(None);
-    };
-    let view = SequenceView {
-        program: LineProgram {
-            coding: &unit.header.coding,
-            lengths: &unit.header.lengths,
-            bytes: &unit.program,
-        },
-        kept: &sequence.kept,
-        rows: sequence.rows,
     };
     let rows = view.in_force_at(alloc, a)?;
     Ok(Some(FoundRows {
@@ -64,20 +71,8 @@ pub fn is_same(units: &[Unit], index: &SequenceIndex, a: u64, b: u64) -> bool
     if place.unit != other.unit || place.sequence != other.sequence {
         return false;
     }
-    let Some(unit) = units.get(place.unit) else {
+    let Some(view) = view_at(units, place) else {
         return false;
-    };
-    let Some(sequence) = unit.sequences.get(place.sequence) else {
-        return false;
-    };
-    let view = SequenceView {
-        program: LineProgram {
-            coding: &unit.header.coding,
-            lengths: &unit.header.lengths,
-            bytes: &unit.program,
-        },
-        kept: &sequence.kept,
-        rows: sequence.rows,
     };
     view.is_same_at(a, b)
 }
