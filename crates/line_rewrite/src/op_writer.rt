@@ -12,6 +12,9 @@ use rb_bytes::leb::{put_sleb, put_uleb};
 /// The opcode base of units that are written: they know the standard opcodes of version 5.
 pub const OPCODE_BASE: u8 = 13;
 
+// The extended opcode that version 5 reserves, for operations that aren't known. None of these is written.
+const RESERVED: u8 = 3;
+
 /// Appends some bytes.
 pub fn put_bytes(out: &mut Vec<u8>, bytes: &[u8]) -> Result<(), NoMemory>
     ensures { OnOk result (out.new.items ≡ out.old.items ++ bytes.now) }
@@ -90,6 +93,6 @@ pub fn put_op(out: &mut Vec<u8>, op: LineOp) -> Result<(), NoMemory>
             put_bytes(out, &[0, uleb_size(n) + 1])?;
             put_operand(out, DW_LNE_set_discriminator as u8, n)
         }
-        LineOp::Unknown => put_bytes(out, &[0, 1, 3]),
+        LineOp::Unknown => put_bytes(out, &[0, 1, RESERVED]),
     }
 }

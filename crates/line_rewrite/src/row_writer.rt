@@ -9,8 +9,14 @@ use crate::operation::LineOp;
 use crate::registers::Registers;
 use rb_bytes::fault::NoMemory;
 
-/// By how many different numbers of lines special opcodes advance, from -5 on.
+/// By how many lines special opcodes advance, at least: the line base of units that are written.
+pub const LINE_BASE: i8 = -5;
+
+/// By how many different numbers of lines special opcodes advance, from the line base on.
 pub const LINE_RANGE: u8 = 14;
+
+// How many lines special opcodes go back, at most.
+const MAX_BACK: u64 = -(LINE_BASE as i64) as u64;
 
 // By how much special opcodes advance the address, at most.
 const MAX_ADVANCE: u64 = 16;
@@ -44,7 +50,7 @@ fn put_step(out: &mut Vec<u8>, from: Registers, row: Registers) -> Result<(), No
     // Addresses don't fall, so nothing is cut.
     let by = row.address.saturating_sub(from.address);
     let step = row.line.wrapping_sub(from.line);
-    let above = step.wrapping_add(5);
+    let above = step.wrapping_add(MAX_BACK);
     if above < LINE_RANGE as u64 && by <= MAX_ADVANCE {
         return put_op(out, LineOp::Special(above as u8 + LINE_RANGE * by as u8));
     }

@@ -8,7 +8,7 @@ use crate::machine::{after_row, start};
 use crate::op_writer::{OPCODE_BASE, put_op};
 use crate::operation::LineOp;
 use crate::registers::Registers;
-use crate::row_writer::{LINE_RANGE, put_row};
+use crate::row_writer::{LINE_BASE, LINE_RANGE, put_row};
 use rb_bytes::fault::NoMemory;
 use std::alloc::Global;
 use std::marker::Model;
@@ -66,7 +66,7 @@ fn written_coding(default_is_stmt: bool) -> Coding
     Coding {
         minimum_instruction_length: 1,
         default_is_stmt,
-        line_base: -5,
+        line_base: LINE_BASE,
         line_range: LINE_RANGE,
         opcode_base: OPCODE_BASE,
     }
@@ -118,8 +118,7 @@ fn put_run(
                 return put_rows(out, going.registers, address, rows);
             }
             close(out, going)?;
-            let registers = open(out, default_is_stmt, address, rows)?;
-            Ok(registers)
+            open(out, default_is_stmt, address, rows)
         }
         None => open(out, default_is_stmt, address, rows),
     }

@@ -4,7 +4,7 @@ ghost use Rattle.line_rewrite.specs.WrittenUnits as spec;
 
 use crate::header::Header;
 use crate::op_writer::{OPCODE_BASE, put_bytes};
-use crate::row_writer::LINE_RANGE;
+use crate::row_writer::{LINE_BASE, LINE_RANGE};
 use crate::run_writer::Program;
 use crate::unit::Unit;
 use rb_bytes::fault::NoMemory;
@@ -18,8 +18,8 @@ const INSTRUCTION_LENGTH: u8 = 1;
 
 const OPERATIONS: u8 = 1;
 
-// The line base of units that are written, -5, in two's complement.
-const LINE_BASE: u8 = 251;
+// The line base in two's complement.
+const LINE_BASE_BYTE: u8 = (256 + LINE_BASE as i16) as u8;
 
 // How many operands the standard opcodes have.
 const OPERAND_COUNTS: [u8; 12] = [0, 1, 1, 1, 1, 0, 0, 0, 1, 0, 0, 1];
@@ -47,7 +47,7 @@ fn put_fields(out: &mut Vec<u8>, header: &Header) -> Result<(), NoMemory>
             INSTRUCTION_LENGTH,
             OPERATIONS,
             stmt,
-            LINE_BASE,
+            LINE_BASE_BYTE,
             LINE_RANGE,
             OPCODE_BASE,
         ],
