@@ -8,7 +8,7 @@ ghost use Rattle.map_check.specs.FirstFalse.{Claim, IsVerdict};
 pub enum Clause {
     /// A line of the map isn't one.
     MapText,
-    /// The map isn't one of these instructions.
+    /// The spans aren't a map of the input's code.
     MapSpan,
     /// A span doesn't lie in code of the output.
     SpanBytes,

@@ -28,7 +28,7 @@ pub struct Headers {
 }
 
 impl Headers {
-    /// What is asked of the headers of a file.
+    /// What tells the hidden fields of a file.
     pub fn of(elf: &Elf, tight: bool) -> Headers
         requires { IsLow elf.now }
         ensures { AreHeadersOf elf.now tight result }

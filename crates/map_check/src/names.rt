@@ -1,46 +1,15 @@
 // Named instructions that a map leaves out.
-ghost use Rattle.std.specs.Prelude.{◌≡◌, ◌≤◌, ◌<◌, length, slice_index_or, ℕ, IfNone, IfOk, IsTrue, List};
-ghost use Rattle.std.specs.Prelude.{IsPermutation, find};
+ghost use Rattle.std.specs.Prelude.{◌≡◌, IsTrue, List};
 ghost use Rattle.std.specs.List.Sorted.{IsNonDecreasingBy};
 ghost use Rattle.rv_code.specs.declared.placed.Func.{Func};
-ghost use Rattle.rv_code.specs.layout.ProgramCode.{RoleNames, KindNames, is_code_address, IsNamed, program_code};
+ghost use Rattle.rv_code.specs.layout.ProgramCode.{RoleNames, KindNames, program_code};
 ghost use Rattle.elf_image.specs.faults.LowestPlace.{IsLowest};
-ghost use Rattle.addr_map.specs.declared.span.Span.{Span};
-ghost use Rattle.addr_map.specs.Spans.{is_of, IsMap};
-ghost use Rattle.map_check.specs.BadSpans.{IsBadSpan};
 ghost use Rattle.map_check.specs.internal.EmptySpans.{is_empty_at, IsHeldEmpty, NamedByRoles, NamedByCells};
-ghost use Rattle.rv_code.specs.layout.FunctionLists.{AreLaidOut};
 
-use crate::spans::{lowest_miscounted, lowest_misplaced, lowest_sharing};
+use crate::spans::span_of;
 use addr_map::Span;
 use elf_image::lowest::{lower, place_if};
-use rb_bytes::fault::NoMemory;
-use rv_code::{CellKind, CodeCell, Func, Role};
-use std::alloc::Global;
-
-// How many spans have a lower input.
-fn count_below(sorted: &[Span], a: u64) -> usize
-    requires { IsNonDecreasingBy (λ s. s.input) sorted.now }
-    ensures bound { result ≤ length sorted.now }
-    ensures below { (k : ℕ) (d : Span) → k < result → (slice_index_or sorted.now k d).input < a }
-    ensures above { (k : ℕ) (d : Span) → result ≤ k → k < length sorted.now →
-        a ≤ (slice_index_or sorted.now k d).input }
-{
-    sorted.partition_point(|s| s.input < a)
-}
-
-/// The first span of an instruction.
-pub fn span_of(sorted: &[Span], a: u64) -> Option<Span>
-    requires { IsNonDecreasingBy (λ s. s.input) sorted.now }
-    ensures { result ≡ find (is_of a) sorted.now }
-{
-    let below = count_below(sorted, a);
-    if below == sorted.len() {
-        return None;
-    }
-    let span = sorted[below];
-    if span.input == a { Some(span) } else { None }
-}
+use rv_code::{CellKind, CodeCell, Role};
 
 // Whether the first span of an instruction has no bytes.
 fn is_empty_at(sorted: &[Span], a: u64) -> bool
@@ -68,12 +37,12 @@ fn lowest_of_role(sorted: &[Span], role: &Role) -> Option<u64>
 {
     match *role {
         Role::Plain => None,
-        Role::CallHi { target } => empty_at(sorted, target),
-        Role::CallLo { target, .. } => empty_at(sorted, target),
-        Role::Hi { target } => empty_at(sorted, target),
-        Role::Lo { target, .. } => empty_at(sorted, target),
-        Role::AbsHi { target } => empty_at(sorted, target),
-        Role::AbsLo { target } => empty_at(sorted, target),
+        Role::CallHi { target }
+        | Role::CallLo { target, .. }
+        | Role::Hi { target }
+        | Role::Lo { target, .. }
+        | Role::AbsHi { target }
+        | Role::AbsLo { target } => empty_at(sorted, target),
     }
 }
 
@@ -114,8 +83,8 @@ fn lowest_of_cells(sorted: &[Span], cells: &[CodeCell]) -> Option<u64>
     lowest
 }
 
-// The lowest address that something holds and that has an empty span.
-fn lowest_left_out(
+/// The lowest address that something holds and that has an empty span.
+pub fn lowest_left_out(
     sorted: &[Span],
     roles: &[(u64, Role)],
     cells: &[CodeCell],
@@ -130,31 +99,4 @@ fn lowest_left_out(
     let of_entry = empty_at(sorted, entry);
     let held = lower(of_roles, of_cells);
     lower(held, of_entry)
-}
-
-/// The lowest place at which spans aren't a map of a program's code. They are taken in the order of their inputs; what
-/// is said holds of them in any order.
-pub fn lowest_bad_span(
-    alloc: Global,
-    sorted: &[Span],
-    funcs: &[Func],
-    roles: &[(u64, Role)],
-    cells: &[CodeCell],
-    entry: u64,
-) -> Result<Option<u64>, NoMemory>
-    requires sorted { IsNonDecreasingBy (λ s. s.input) sorted.now }
-    requires laid { AreLaidOut funcs.now }
-    ensures map { IfOk result (λ o. (spans : List Span) → IsPermutation spans sorted.now →
-        IfNone o (IsMap (λ a. IsTrue (is_code_address funcs.now a))
-        (IsNamed (program_code funcs.now roles.now cells.now entry)) spans)) }
-    ensures lowest { IfOk result (λ o. (spans : List Span) → IsPermutation spans sorted.now →
-        IsLowest (IsBadSpan (program_code funcs.now roles.now cells.now entry) spans) o) }
-{
-    let miscounted = lowest_miscounted(alloc, sorted, funcs)?;
-    let misplaced = lowest_misplaced(sorted);
-    let sharing = lowest_sharing(alloc, sorted)?;
-    let left_out = lowest_left_out(sorted, roles, cells, entry);
-    let shared = lower(sharing, left_out);
-    let placed = lower(misplaced, shared);
-    Ok(lower(miscounted, placed))
 }

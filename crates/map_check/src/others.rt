@@ -1,5 +1,5 @@
 // Single instructions of a rewrite that are no jumps and no branches.
-ghost use Rattle.std.specs.Prelude.{◌≡◌, ◌↔◌, ◌≤ℤ◌, ◌-ℤ◌, ◌+ℤ◌, ◌*ℤ◌, ◌^◌, pos, IsTrue};
+ghost use Rattle.std.specs.Prelude.{◌≡◌, ◌↔◌, ◌≤ℤ◌, ◌-ℤ◌, ◌*ℤ◌, ◌^◌, pos, IsTrue};
 ghost use Rattle.std.specs.List.Sorted.{IsNonDecreasingBy};
 ghost use Rattle.rv_code.specs.isa.HiLo.{hi20, lo12};
 ghost use Rattle.addr_map.specs.Spans.{new};
@@ -42,25 +42,13 @@ fn shifted(upper: i64) -> i128
     4096 * upper as i128
 }
 
-// A difference that is small.
-fn small_difference(v: i128, whole: i128) -> i64
-    requires low { (whole -ℤ pos 2048) ≤ℤ v }
-    requires high { v ≤ℤ (whole +ℤ pos 2047) }
-    requires least { (pos 0 -ℤ pos (2 ^ 64)) ≤ℤ v }
-    requires most { v ≤ℤ pos (2 ^ 64) }
-    ensures { result ≡ v -ℤ whole }
-{
-    (v - whole) as i64
-}
-
 // The lower part that belongs to it.
 fn lower_part(v: i128) -> i64
     requires low { (pos 0 -ℤ pos (2 ^ 64)) ≤ℤ v }
     requires high { v ≤ℤ pos (2 ^ 64) }
     ensures { result ≡ lo12 v }
 {
-    let whole = shifted(upper(v));
-    small_difference(v, whole)
+    (v - shifted(upper(v))) as i64
 }
 
 // An instruction by its role with the parts of new addresses.
@@ -70,30 +58,14 @@ fn made_anew(table: &[Span], p: &Placed) -> Inst
 {
     match p.role {
         Role::Plain => p.inst,
-        Role::CallHi { target } => {
-            with_immediate(
-                &p.inst,
-                upper(distance(new_of(table, target), new_of(table, p.addr))),
-            )
-        }
-        Role::CallLo { hi, target } => {
-            with_immediate(
-                &p.inst,
-                lower_part(distance(new_of(table, target), new_of(table, hi))),
-            )
-        }
-        Role::Hi { target } => {
-            with_immediate(
-                &p.inst,
-                upper(distance(new_of(table, target), new_of(table, p.addr))),
-            )
-        }
-        Role::Lo { hi, target } => {
-            with_immediate(
-                &p.inst,
-                lower_part(distance(new_of(table, target), new_of(table, hi))),
-            )
-        }
+        Role::CallHi { target } | Role::Hi { target } => with_immediate(
+            &p.inst,
+            upper(distance(new_of(table, target), new_of(table, p.addr))),
+        ),
+        Role::CallLo { hi, target } | Role::Lo { hi, target } => with_immediate(
+            &p.inst,
+            lower_part(distance(new_of(table, target), new_of(table, hi))),
+        ),
         Role::AbsHi { target } => with_immediate(&p.inst, upper(new_of(table, target) as i128)),
         Role::AbsLo { target } => with_immediate(
             &p.inst,

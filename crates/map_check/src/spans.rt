@@ -1,17 +1,21 @@
 // Whether spans are a map of a program's instructions.
-ghost use Rattle.std.specs.Prelude.{◌≡◌, ◌↔◌, ◌++◌, ℕ, IfOk, OnOk, IsTrue, All, AllPairs, map, length};
+ghost use Rattle.std.specs.Prelude.{◌≡◌, ◌<◌, ◌≤◌, ◌↔◌, ◌++◌, ℕ, IfNone, IfOk, OnOk, IsTrue, List, find, map, length};
+ghost use Rattle.std.specs.Prelude.{slice_index_or};
 ghost use Rattle.std.specs.List.Sorted.{IsNonDecreasingBy, IsPermutation};
 ghost use Rattle.rv_code.specs.layout.FunctionLists.{AreLaidOut};
+ghost use Rattle.rv_code.specs.layout.ProgramCode.{is_code_address, IsNamed, program_code};
 ghost use Rattle.elf_image.specs.faults.LowestPlace.{IsLowest};
-ghost use Rattle.addr_map.specs.Spans.{IsPlaced};
-ghost use Rattle.map_check.specs.BadSpans.{IsMiscounted, IsMisplaced, IsSharing};
+ghost use Rattle.addr_map.specs.declared.span.Span.{Span};
+ghost use Rattle.addr_map.specs.Spans.{is_of, IsMap, IsPlaced};
+ghost use Rattle.map_check.specs.BadSpans.{IsBadSpan, IsMiscounted, IsMisplaced, IsSharing};
 ghost use Rattle.map_check.specs.internal.SpanLists.{addresses, first_difference, AreExtentsOf};
 
+use crate::names::lowest_left_out;
 use addr_map::Span;
 use elf_image::extent::{Extent, lowest_shared};
 use elf_image::lowest::{lower, place_if};
 use rb_bytes::fault::NoMemory;
-use rv_code::{Func, Placed};
+use rv_code::{CodeCell, Func, Placed, Role};
 use std::alloc::Global;
 
 /// Puts spans in the order of their old addresses.
@@ -20,6 +24,30 @@ pub fn sort_by_input(spans: &mut Vec<Span>)
     ensures rises { IsNonDecreasingBy (λ s. s.input) spans.new.items }
 {
     spans.sort_unstable_by_key(|span| span.input);
+}
+
+// How many spans have a lower input.
+fn count_below(sorted: &[Span], a: u64) -> usize
+    requires { IsNonDecreasingBy (λ s. s.input) sorted.now }
+    ensures bound { result ≤ length sorted.now }
+    ensures below { (k : ℕ) (d : Span) → k < result → (slice_index_or sorted.now k d).input < a }
+    ensures above { (k : ℕ) (d : Span) → result ≤ k → k < length sorted.now →
+        a ≤ (slice_index_or sorted.now k d).input }
+{
+    sorted.partition_point(|s| s.input < a)
+}
+
+/// The first span of an instruction.
+pub fn span_of(sorted: &[Span], a: u64) -> Option<Span>
+    requires { IsNonDecreasingBy (λ s. s.input) sorted.now }
+    ensures { result ≡ find (is_of a) sorted.now }
+{
+    let below = count_below(sorted, a);
+    if below == sorted.len() {
+        return None;
+    }
+    let span = sorted[below];
+    if span.input == a { Some(span) } else { None }
 }
 
 fn push_addresses(out: &mut Vec<u64>, insts: &[Placed]) -> Result<(), NoMemory>
@@ -61,8 +89,8 @@ fn first_difference(spans: &[Span], addresses: &[u64]) -> Option<u64>
     left.first().copied()
 }
 
-/// The lowest address of an instruction that hasn't exactly one span, or of anything else that has some.
-pub fn lowest_miscounted(
+// The lowest address of an instruction that hasn't exactly one span, or of anything else that has some.
+fn lowest_miscounted(
     alloc: Global,
     sorted: &[Span],
     funcs: &[Func],
@@ -81,8 +109,8 @@ fn is_placed(span: &Span) -> bool
     span.len == 0 || (span.out % 2 == 0 && span.out > 0)
 }
 
-/// The lowest input of a span with bytes at an odd address or at 0.
-pub fn lowest_misplaced(spans: &[Span]) -> Option<u64>
+// The lowest input of a span with bytes at an odd address or at 0.
+fn lowest_misplaced(spans: &[Span]) -> Option<u64>
     ensures { IsLowest (IsMisplaced spans.now) result }
 {
     let mut lowest = None;
@@ -109,8 +137,8 @@ fn extents_of(alloc: Global, spans: &[Span]) -> Result<Vec<Extent>, NoMemory>
     Ok(extents)
 }
 
-/// The lowest input of a span that shares a byte with another.
-pub fn lowest_sharing(alloc: Global, sorted: &[Span]) -> Result<Option<u64>, NoMemory>
+// The lowest input of a span that shares a byte with another.
+fn lowest_sharing(alloc: Global, sorted: &[Span]) -> Result<Option<u64>, NoMemory>
     requires { IsNonDecreasingBy (λ s. s.input) sorted.now }
     ensures { IfOk result (IsLowest (IsSharing sorted.now)) }
 {
@@ -119,4 +147,31 @@ pub fn lowest_sharing(alloc: Global, sorted: &[Span]) -> Result<Option<u64>, NoM
         Some(k) => Ok(Some(sorted[k as usize].input)),
         None => Ok(None),
     }
+}
+
+/// The lowest place at which spans aren't a map of a program's code. They are taken in the order of their inputs; what
+/// is said holds of them in any order.
+pub fn lowest_bad_span(
+    alloc: Global,
+    sorted: &[Span],
+    funcs: &[Func],
+    roles: &[(u64, Role)],
+    cells: &[CodeCell],
+    entry: u64,
+) -> Result<Option<u64>, NoMemory>
+    requires sorted { IsNonDecreasingBy (λ s. s.input) sorted.now }
+    requires laid { AreLaidOut funcs.now }
+    ensures map { IfOk result (λ o. (spans : List Span) → IsPermutation spans sorted.now →
+        IfNone o (IsMap (λ a. IsTrue (is_code_address funcs.now a))
+        (IsNamed (program_code funcs.now roles.now cells.now entry)) spans)) }
+    ensures lowest { IfOk result (λ o. (spans : List Span) → IsPermutation spans sorted.now →
+        IsLowest (IsBadSpan (program_code funcs.now roles.now cells.now entry) spans) o) }
+{
+    let miscounted = lowest_miscounted(alloc, sorted, funcs)?;
+    let misplaced = lowest_misplaced(sorted);
+    let sharing = lowest_sharing(alloc, sorted)?;
+    let left_out = lowest_left_out(sorted, roles, cells, entry);
+    let shared = lower(sharing, left_out);
+    let placed = lower(misplaced, shared);
+    Ok(lower(miscounted, placed))
 }

@@ -1,6 +1,6 @@
 use Rattle.rv_code.specs.layout.ProgramCode.{program_code}
 use Rattle.map_check.proofs.NamedSpans.{bad_lowest, bad_lowest_permuted, map_if_none}
-use Rattle.map_check.proofs.names.lowest_bad_span.Goals as goal
+use Rattle.map_check.proofs.spans.lowest_bad_span.Goals as goal
 
 pub returns-clause-lowest : goal.returns-clause-lowest
 returns-clause-lowest c = λ spans same.
