@@ -28,6 +28,8 @@ pub enum Progress {
 
 /// Moves flow on the links of a function, whose blocks are those from `first` on, until it balances. The heights of its
 /// nodes are prices that hold.
+///
+/// Want of memory is answered too where a wave lessened nothing, and at sums past 128 bits and heights past 64.
 pub fn settle(
     alloc: Global,
     links: &mut [Link],
@@ -53,6 +55,7 @@ pub fn settle(
         match round(alloc, links, &mut heights, first, &around)? {
             Progress::Balanced => return Ok(heights),
             Progress::Moved(spare) => {
+                // The wave before this one lessened nothing.
                 if spare >= left {
                     return Err(NoMemory);
                 }
