@@ -117,8 +117,7 @@ fn put_fields(
 fn pad(out: &mut Vec<u8>) -> Result<(), NoMemory>
     ensures { OnOk result (out.new.items ≡ out.old.items ++ spec.zeros (spec.padding (length out.old.items))) }
 {
-    let count = 7 - (out.len() % 8 + 7) % 8;
-    put_zeros(out, count)
+    put_zeros(out, (8 - out.len() % 8) % 8)
 }
 
 // The id of an FDE at a place, whose CIE is the one of an index.

@@ -30,23 +30,18 @@ pub(crate) fn put_bytes(out: &mut Vec<u8>, bytes: &[u8]) -> Result<(), NoMemory>
     Ok(())
 }
 
+// A signed number, with the one clause that is needed here: with all of those of `put_sleb`, searches give up.
 fn put_signed(out: &mut Vec<u8>, n: i64) -> Result<(), NoMemory>
     ensures { OnOk result (out.new.items ≡ out.old.items ++ sleb n) }
 {
     put_sleb(out, n)
 }
 
-fn put_unsigned(out: &mut Vec<u8>, n: u64) -> Result<(), NoMemory>
-    ensures { OnOk result (out.new.items ≡ out.old.items ++ uleb n) }
-{
-    put_uleb(out, n)
-}
-
 // An expression behind its length.
 fn put_block(out: &mut Vec<u8>, block: &Expression) -> Result<(), NoMemory>
     ensures { OnOk result (out.new.items ≡ out.old.items ++ spec.spelled_block block.now) }
 {
-    put_unsigned(out, block.bytes.len() as u64)?;
+    put_uleb(out, block.bytes.len() as u64)?;
     put_bytes(out, &block.bytes)
 }
 
@@ -55,7 +50,7 @@ fn put_register(out: &mut Vec<u8>, opcode: u8, register: u64) -> Result<(), NoMe
     ensures { OnOk result (out.new.items ≡ out.old.items ++ opcode ∷ uleb register) }
 {
     put_byte(out, opcode)?;
-    put_unsigned(out, register)
+    put_uleb(out, register)
 }
 
 fn put_cfa(out: &mut Vec<u8>, cfa: &Cfa) -> Result<(), NoMemory>
@@ -92,7 +87,7 @@ fn put_rule(out: &mut Vec<u8>, register: u64, rule: &Rule) -> Result<(), NoMemor
         }
         Rule::Reg(other) => {
             put_register(out, DW_CFA_register as u8, register)?;
-            put_unsigned(out, *other)
+            put_uleb(out, *other)
         }
         Rule::Expr(block) => {
             put_register(out, DW_CFA_expression as u8, register)?;
