@@ -1,5 +1,6 @@
 -- How commands end that make nothing of an input and its profile.
-use Rattle.std.proofs.Common.{inl, inr, ◌≡◌, ◌∙◌, sym, ap, subst, ℕ, ◌<◌, ◌≤◌, List, Option, Some, None, IsTrue, IsSomeAnd, length}
+use Rattle.std.proofs.Common.{inl, inr, ◌≡◌, ◌⊎◌, ◌∙◌, sym, ap, subst, ℕ, List, Option, Some, None, Vec, IsTrue, IsSomeAnd}
+use Rattle.std.specs.declared.alloc.Global.{Global}
 use Rattle.rb_io.specs.Names.{Unchanged}
 use Rattle.rb_io.specs.Views.{FilesGoOn}
 use Rattle.rb_bytes.specs.Fault.{fault_at}
@@ -9,10 +10,13 @@ use Rattle.rb_bytes.specs.declared.fault.Refusal.{Refusal}
 use Rattle.rb_bytes.specs.declared.fault.Refusal.TheVariants as refusal
 use Rattle.program.specs.Limits.{file_limit}
 use Rattle.program.specs.Refusals.{IsRefusalFor}
+use Rattle.cli_base.specs.BothRead.{BothRead}
 use Rattle.cli_base.specs.Inputs.{AreRead, HasInputFault, InputNames, IsAccepted, IsOkOrNoMemory, IsStopped, IsTooLong}
 use Rattle.cli_base.specs.Inputs.{NoInputErrors, OfInputs, at_file, at_refusal, long_file, long_profile, no_memory, refused}
 use Rattle.cli_base.specs.Lines.{refused_line}
+use Rattle.cli_base.specs.PrintedLines.{IsSilent}
 use Rattle.cli_base.specs.Printing.{LinePrinted, Refuses, all_printed, none_printed, prefix_printed}
+use Rattle.cli_base.specs.WithinLimit.{IsGiven, IsUnreadable, failed, no_memory as unread_memory}
 use Rattle.cli_base.specs.World.{World}
 use Rattle.cli_base.specs.declared.status.Status.{Status}
 use Rattle.cli_base.specs.declared.status.Status.TheVariants as status
@@ -52,6 +56,15 @@ module _ (Refused : List ℕ → List ℕ → Fault → Type 0) where
       at_refusal fault is present (record { print = record { cause = rose; front = taken }; unwritten = same })
   refuses answer fault names old new (none_printed is kept) same present =
       no_memory is (record { unprinted = kept; unwritten = same })
+
+  -- how a command ends where one of the files can't be read
+  pub unread : (answer : Status) (names : InputNames) (old new : World)
+      → IsUnreadable names.file old.files new.files answer ⊎ IsUnreadable names.profile old.files new.files answer
+      → IsSilent old new → IsStopped Refused names old new answer
+  unread answer names old new (inl (failed is rose)) silent = at_file is (inl rose) silent
+  unread answer names old new (inr (failed is rose)) silent = at_file is (inr rose) silent
+  unread answer names old new (inl (unread_memory is)) silent = no_memory is silent
+  unread answer names old new (inr (unread_memory is)) silent = no_memory is silent
 
   -- How a refusal of what was read ends, or want of memory.
   pub is_stopped : (answer : Status) (r : Refusal) (names : InputNames) (old new : World) (file profile : List ℕ)
@@ -95,18 +108,32 @@ module _ (Refused : List ℕ → List ℕ → Fault → Type 0) where
       elim cause [ inl rose ↦ absurd (quiet.file rose) | inr rose ↦ absurd (quiet.profile rose) ]
   stopped_completes names old new answer (no_memory is silent) told accepted quiet = subst IsOkOrNoMemory (sym is) tt
 
-pub of_long_file : (w : World) (names : InputNames) (fault : Fault) → fault ≡ fault_at TooLarge 0 →
-    OfInputs w names (λ file profile. file_limit < length file) → OfInputs w names (λ file profile. IsTooLong file profile fault)
-of_long_file w names fault e long =
-    map_inputs (w.files.content names.file) (w.files.content names.profile) (λ file profile. file_limit < length file)
-    (λ file profile. IsTooLong file profile fault) (λ file profile t. long_file t e) long
+-- of two files that were read, one is too long, or neither
 
-pub of_long_profile : (w : World) (names : InputNames) (fault : Fault) → fault ≡ fault_at TooLarge 1 →
-    OfInputs w names (λ file profile. (length file ≤ file_limit) × (file_limit < length profile)) →
-    OfInputs w names (λ file profile. IsTooLong file profile fault)
-of_long_profile w names fault e long = map_inputs (w.files.content names.file) (w.files.content names.profile)
-    (λ file profile. (length file ≤ file_limit) × (file_limit < length profile)) (λ file profile. IsTooLong file profile fault)
-    (λ file profile t. long_profile t.0 t.1 e) long
+pub of_long_file : (a b : Option (List ℕ)) (profile : Option (Vec ℕ Global)) (fault : Fault) → fault ≡ fault_at TooLarge 0
+    → IsGiven file_limit a None → IsGiven file_limit b profile
+    → IsSomeAnd a (λ f. IsSomeAnd b (λ p. IsTooLong f p fault))
+of_long_file None b profile fault e long given = absurd long
+of_long_file (Some f) None profile fault e long given = absurd given
+of_long_file (Some f) (Some p) profile fault e long given = long_file long e
+
+pub of_long_profile : (a b : Option (List ℕ)) (file : Vec ℕ Global) (fault : Fault) → fault ≡ fault_at TooLarge 1
+    → IsGiven file_limit a (Some file) → IsGiven file_limit b None
+    → IsSomeAnd a (λ f. IsSomeAnd b (λ p. IsTooLong f p fault))
+of_long_profile None b file fault e given long = absurd given
+of_long_profile (Some f) None file fault e given long = absurd long
+of_long_profile (Some f) (Some p) file fault e given long = long_profile given.1 long e
+
+given_is : (content : Option (List ℕ)) (bytes : Vec ℕ Global) → IsGiven file_limit content (Some bytes) → content ≡ Some bytes.items
+given_is None bytes given = absurd given
+given_is (Some b) bytes given = ap (λ (xs : List ℕ). Some xs) given.0
+
+pub are_both : (content : List ℕ → Option (List ℕ)) (names : InputNames) (file profile : Vec ℕ Global)
+    → BothRead content names (Some file) (Some profile) → AreRead content names file.items profile.items
+are_both content names file profile both = record {
+  file_is = given_is (content names.file) file both.file_given;
+  profile_is = given_is (content names.profile) profile both.profile_given;
+}
 
 -- files that were read, at the slices that they were passed as
 pub are_read : (content : List ℕ → Option (List ℕ)) (names : InputNames) (file profile file_now profile_now : List ℕ) →

@@ -1,4 +1,5 @@
 pub mod FaultCounts
+mod FileReading
 pub mod ImageFiles
 pub mod InputAnswering
 mod ProgramFiles

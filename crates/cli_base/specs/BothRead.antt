@@ -1,16 +1,10 @@
--- What reading an input and its profile came to, where contents are told.
-use Rattle.std.specs.Prelude.{◌<◌, ◌≤◌, ℕ, List, Option, IsSomeAnd, length}
+-- What reading an input and its profile comes to, each within the limit.
+use Rattle.std.specs.Prelude.{ℕ, List, Option, Vec}
+use Rattle.std.specs.declared.alloc.Global.{Global}
 use Rattle.program.specs.Limits.{file_limit}
-use Rattle.cli_base.specs.Inputs.{AreRead, InputNames}
-use Rattle.cli_base.specs.declared.inputs.Outcome.{Outcome}
-use Rattle.cli_base.specs.declared.inputs.Outcome.TheVariants as outcome
+use Rattle.cli_base.specs.Inputs.{InputNames}
+use Rattle.cli_base.specs.WithinLimit.{IsGiven}
 
-abbrev pub BothRead : Outcome → (List ℕ → Option (List ℕ)) → InputNames → List ℕ → List ℕ → Type 0
-BothRead outcome.Whole content names file profile = AreRead content names file profile
-BothRead outcome.LongFile content names file profile =
-    IsSomeAnd (content names.file) (λ f. IsSomeAnd (content names.profile) (λ p. file_limit < length f))
-BothRead outcome.LongProfile content names file profile =
-    IsSomeAnd (content names.file) (λ f.
-    IsSomeAnd (content names.profile) (λ p. (length f ≤ file_limit) × (file_limit < length p)))
-BothRead outcome.Failed content names file profile = Unit {0}
-BothRead outcome.Memory content names file profile = Unit {0}
+pub record BothRead (content : List ℕ → Option (List ℕ)) (names : InputNames) (file profile : Option (Vec ℕ Global)) : Type 0 where
+  pub file_given : IsGiven file_limit (content names.file) file
+  pub profile_given : IsGiven file_limit (content names.profile) profile

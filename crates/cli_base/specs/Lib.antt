@@ -8,5 +8,6 @@ pub mod ProgramFiles
 pub mod Reading
 pub mod Served
 pub mod Status
+pub mod WithinLimit
 pub mod World
 pub mod WrittenFiles

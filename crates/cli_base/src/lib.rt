@@ -14,6 +14,6 @@ pub use images::file_image;
 pub use inputs::{InputArgs, Inputs, read_inputs};
 pub use printing::print_line;
 pub use programs::file_program;
-pub use reading::read_file;
+pub use reading::{read_file, read_within};
 pub use refusal::refuse;
 pub use status::Status;

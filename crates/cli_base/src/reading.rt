@@ -3,6 +3,7 @@ ghost use Rattle.std.specs.Prelude.{◌≡◌, ◌≤◌, length, IfOk, IfErr, I
 ghost use Rattle.rb_io.specs.Names.{Unchanged};
 ghost use Rattle.rb_io.specs.Views.{FilesGoOn};
 ghost use Rattle.cli_base.specs.Reading.{IsUnread};
+ghost use Rattle.cli_base.specs.WithinLimit.{FitsLimit, IsGiven, IsUnreadable};
 
 use crate::refusal::refuse;
 use crate::status::Status;
@@ -10,6 +11,29 @@ use rb_bytes::fault::{Fault, FaultKind, Refusal};
 use rb_bytes::limit::FILE_BYTES;
 use rb_io::{Files, ReadAll, Sink};
 use std::alloc::Global;
+
+/// The content of a file, if it has no more than `limit` bytes; or how the command ends where it can't be read.
+pub fn read_within<F: Files>(
+    alloc: Global,
+    name: &str,
+    limit: usize,
+    files: &mut F,
+) -> Result<Option<Vec<u8>>, Status>
+    ensures given { IfOk result (λ given. IsTrue (F.seen files.old).told →
+        IsGiven limit ((F.seen files.old).content name.now) given) }
+    ensures fits { IfOk result (FitsLimit limit) }
+    ensures unread { IfErr result (IsUnreadable name.now (F.seen files.old) (F.seen files.new)) }
+    ensures kept { Unchanged (F.seen files.old).content (F.seen files.new).content }
+    ensures files_go_on { FilesGoOn (F.seen files.old) (F.seen files.new) }
+{
+    let mut file = Vec::new(alloc);
+    match files.read_all(name, limit, &mut file) {
+        ReadAll::Done => Ok(Some(file)),
+        ReadAll::TooLong => Ok(None),
+        ReadAll::Failed => Err(Status::ReadFault),
+        ReadAll::Memory => Err(Status::NoMemory),
+    }
+}
 
 /// The content of a file of at most `limit` bytes. Where it isn't read, a file that is too long is refused, and this is
 /// how the command ends.
@@ -30,14 +54,11 @@ pub fn read_file<F: Files, O: Sink>(
     ensures files_go_on { FilesGoOn (F.seen files.old) (F.seen files.new) }
     ensures never_falls { (O.seen out.old).faults ≤ (O.seen out.new).faults }
 {
-    let mut file = Vec::new(alloc);
-    match files.read_all(name, limit, &mut file) {
-        ReadAll::Done => Ok(file),
-        ReadAll::TooLong => {
+    match read_within(alloc, name, limit, files)? {
+        Some(file) => Ok(file),
+        None => {
             let fault = Fault::at(FaultKind::TooLarge, FILE_BYTES);
             Err(refuse(alloc, Refusal::Fault(fault), out))
         }
-        ReadAll::Failed => Err(Status::ReadFault),
-        ReadAll::Memory => Err(Status::NoMemory),
     }
 }
