@@ -8,11 +8,11 @@ use Rattle.program.specs.Limits.{file_limit}
 use Rattle.map_check.specs.declared.clause.Verdict.{Verdict}
 use Rattle.map_check.specs.declared.clause.Verdict.TheVariants as verdict
 use Rattle.cli_base.specs.Printing.{LinePrinted, all_printed, none_printed, prefix_printed}
+use Rattle.cli_base.specs.WithinLimit.{AreBytesGiven, failed, no_memory as unread_memory}
 use Rattle.cli_base.specs.World.{World}
 use Rattle.cli_base.specs.declared.status.Status.{Status}
 use Rattle.cli_base.specs.declared.status.Status.TheVariants as status
-use Rattle.cli_check.specs.GivenFiles.{AreBytesGiven, AreGiven, IsUngiven, failed, input, map, map_limit, no_memory as unread_memory}
-use Rattle.cli_check.specs.GivenFiles.{output}
+use Rattle.cli_check.specs.GivenFiles.{AreGiven, IsUngiven, input, map, map_limit, output}
 use Rattle.cli_check.specs.Judged.{Announces, AreFilesGiven, IsJudged}
 use Rattle.cli_check.specs.VerdictLines.{status_of, verdict_line}
 use Rattle.cli_check.specs.VerifiedFiles.{IsRefusedBy, IsVerdictOn}

@@ -6,7 +6,8 @@ use Rattle.cli_base.specs.Printing.{LinePrinted}
 use Rattle.cli_base.specs.declared.status.Status.{Status}
 use Rattle.cli_base.specs.declared.status.Status.TheVariants as status
 use Rattle.cli_base.specs.Lines.{refused_line}
-use Rattle.cli_check.specs.GivenFiles.{AreBytesGiven, map_limit}
+use Rattle.cli_base.specs.WithinLimit.{AreBytesGiven}
+use Rattle.cli_check.specs.GivenFiles.{map_limit}
 use Rattle.cli_check.specs.VerdictLines.{refused_output_line, status_of, verdict_line}
 use Rattle.cli_check.specs.VerifiedFiles.{IsRefusedBy, IsVerdictOn}
 use Rattle.cli_check.specs.declared.given.Given.{Given}

@@ -2,14 +2,15 @@
 ghost use Rattle.std.specs.Prelude.{IfErr, IfOk, IsTrue};
 ghost use Rattle.rb_io.specs.Names.{Unchanged};
 ghost use Rattle.rb_io.specs.Views.{FilesGoOn};
-ghost use Rattle.cli_check.specs.GivenFiles.{AreGiven, FitsLimit, IsGiven, IsUngiven, IsUnreadable};
 ghost use Rattle.program.specs.Limits.{file_limit};
+ghost use Rattle.cli_base.specs.WithinLimit.{FitsLimit};
+ghost use Rattle.cli_check.specs.GivenFiles.{AreGiven, IsUngiven};
 ghost use Rattle.cli_check.specs.VerifyNames.{verify_given};
 
 use crate::verify_args::VerifyArgs;
-use cli_base::Status;
+use cli_base::{Status, read_within};
 use program::FILE_LIMIT;
-use rb_io::{Files, ReadAll};
+use rb_io::Files;
 use std::alloc::Global;
 
 /// The most bytes of a map.
@@ -21,29 +22,6 @@ pub struct Given {
     pub input: Option<Vec<u8>>,
     pub output: Option<Vec<u8>>,
     pub map: Option<Vec<u8>>,
-}
-
-// The content of a file, if it has no more than `limit` bytes.
-fn read_within<F: Files>(
-    alloc: Global,
-    name: &str,
-    limit: usize,
-    files: &mut F,
-) -> Result<Option<Vec<u8>>, Status>
-    ensures given { IfOk result (λ given. IsTrue (F.seen files.old).told →
-        IsGiven limit ((F.seen files.old).content name.now) given) }
-    ensures fits { IfOk result (FitsLimit limit) }
-    ensures unread { IfErr result (IsUnreadable name.now (F.seen files.old) (F.seen files.new)) }
-    ensures kept { Unchanged (F.seen files.old).content (F.seen files.new).content }
-    ensures files_go_on { FilesGoOn (F.seen files.old) (F.seen files.new) }
-{
-    let mut file = Vec::new(alloc);
-    match files.read_all(name, limit, &mut file) {
-        ReadAll::Done => Ok(Some(file)),
-        ReadAll::TooLong => Ok(None),
-        ReadAll::Failed => Err(Status::ReadFault),
-        ReadAll::Memory => Err(Status::NoMemory),
-    }
 }
 
 /// Reads an input, an output and a map, or says how the command ends.

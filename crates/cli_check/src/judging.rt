@@ -7,7 +7,8 @@ ghost use Rattle.map_check.specs.FirstFalse.{IsVerdict};
 ghost use Rattle.rb_bytes.specs.declared.fault.Refusal.TheVariants as refusal;
 ghost use Rattle.cli_base.specs.ImageFiles.{IsNoImage};
 ghost use Rattle.cli_base.specs.ProgramFiles.{IsFileProgram, IsNoProgram};
-ghost use Rattle.cli_check.specs.GivenFiles.{AreBytesGiven, FitsLimit, map_limit};
+ghost use Rattle.cli_base.specs.WithinLimit.{AreBytesGiven, FitsLimit};
+ghost use Rattle.cli_check.specs.GivenFiles.{map_limit};
 ghost use Rattle.cli_check.specs.Judged.{AreFilesGiven, IsJudged};
 ghost use Rattle.cli_check.specs.VerifiedFiles.{IsOutputFile, claim_of};
 

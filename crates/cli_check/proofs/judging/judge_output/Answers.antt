@@ -4,7 +4,8 @@ use Rattle.map_check.specs.FirstFalse.{IsVerdict}
 use Rattle.program.specs.Program.{program_seen}
 use Rattle.program.specs.Refusals.{IsRefusalFor}
 use Rattle.cli_base.specs.ImageFiles.{IsNoImage}
-use Rattle.cli_check.specs.GivenFiles.{AreBytesGiven, map_limit}
+use Rattle.cli_base.specs.WithinLimit.{AreBytesGiven}
+use Rattle.cli_check.specs.GivenFiles.{map_limit}
 use Rattle.cli_check.specs.VerifiedFiles.{IsOutputFile, by_map, by_output, claim_of}
 use Rattle.cli_check.proofs.judging.judge_output.Goals as goal
 
