@@ -24,8 +24,7 @@ fn is_sample(alloc: Global, file: &[u8], profile: &[u8], n: u64) -> Result<bool,
     if !has_sample_code(alloc, &program.elf, &program.funcs, &program.refs.cells, n)? {
         return Ok(false);
     }
-    let faultless = is_faultless(alloc, &program, profile)?;
-    Ok(faultless)
+    is_faultless(alloc, &program, profile)
 }
 
 /// Sample `n`, from 1 to 1000: a file, and its profile.
