@@ -262,7 +262,7 @@ fn verify_args(mut tokens: Tokens<'_>) -> Option<VerifyArgs<'_>>
 }
 
 // No options but those of `run` are among the tokens.
-fn has_run_tokens(tokens: Tokens<'_>) -> bool
+fn has_only_run_options(tokens: Tokens<'_>) -> bool
     ensures { result ≡ list_all is_run_token (tokens_of tokens.entry) }
 {
     for token in tokens {
@@ -371,7 +371,7 @@ fn run_args(mut tokens: Tokens<'_>) -> Option<Command<'_>>
     ensures apart { IfSome result NamesDiffer }
     ensures limits { IfSome result ArgsFit }
 {
-    if !has_run_tokens(tokens) {
+    if !has_only_run_options(tokens) {
         return None;
     }
     let limit = limit(tokens)?;
@@ -393,7 +393,7 @@ fn run_args(mut tokens: Tokens<'_>) -> Option<Command<'_>>
 }
 
 // No options but that of `record` are among the tokens.
-fn has_record_tokens(tokens: Tokens<'_>) -> bool
+fn has_only_record_options(tokens: Tokens<'_>) -> bool
     ensures { result ≡ list_all is_record_token (tokens_of tokens.entry) }
 {
     for token in tokens {
@@ -414,7 +414,7 @@ fn record_args(mut tokens: Tokens<'_>) -> Option<RecordTokens<'_>>
     ensures command { option_map record_read result ≡ record_of (tokens_of tokens.entry) }
     ensures limits { IfSome result (λ a. IsWithinLimits (run_read a.run).args) }
 {
-    if !has_record_tokens(tokens) {
+    if !has_only_record_options(tokens) {
         return None;
     }
     let limit = limit(tokens)?;
@@ -444,34 +444,18 @@ pub fn parse(args: &[String]) -> Option<Command<'_>>
         args: rest,
         options: true,
     };
-    if name.as_str() == "rewrite" {
-        return rewrite_args(tokens).map(Command::Rewrite);
+    match name.as_str() {
+        "rewrite" => rewrite_args(tokens).map(Command::Rewrite),
+        "map" => map_args(tokens).map(Command::Map),
+        "run" => run_args(tokens),
+        "record" => record_args(tokens).map(Command::Record),
+        "repair" => repair_args(tokens).map(Command::Repair),
+        "lookup" => lookup_args(tokens).map(Command::Lookup),
+        "sample" => sample_args(tokens).map(Command::Sample),
+        "verify" => verify_args(tokens).map(Command::Verify),
+        "frames" => lookup_args(tokens).map(Command::Frames),
+        _ => None,
     }
-    if name.as_str() == "map" {
-        return map_args(tokens).map(Command::Map);
-    }
-    if name.as_str() == "run" {
-        return run_args(tokens);
-    }
-    if name.as_str() == "record" {
-        return record_args(tokens).map(Command::Record);
-    }
-    if name.as_str() == "repair" {
-        return repair_args(tokens).map(Command::Repair);
-    }
-    if name.as_str() == "lookup" {
-        return lookup_args(tokens).map(Command::Lookup);
-    }
-    if name.as_str() == "sample" {
-        return sample_args(tokens).map(Command::Sample);
-    }
-    if name.as_str() == "verify" {
-        return verify_args(tokens).map(Command::Verify);
-    }
-    if name.as_str() == "frames" {
-        return lookup_args(tokens).map(Command::Frames);
-    }
-    None
 }
 
 /// The arguments that the program of a run gets, which don't hold the file's name.
