@@ -13,7 +13,7 @@ ghost use Rattle.code_starts.specs.LoadedMemory.{IsLow};
 ghost use Rattle.map_check.specs.internal.InstRows.{IsChecked, IsJudgedOf, Meets};
 
 use crate::keeps::{goes_on, keeps_inst};
-use crate::spans::span_of;
+use crate::sorted_spans::span_of;
 use addr_map::Span;
 use elf_image::Elf;
 use elf_image::lowest::{lower, place_if};

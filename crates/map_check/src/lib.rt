@@ -17,6 +17,7 @@ mod numbers;
 mod others;
 mod output;
 mod rows;
+mod sorted_spans;
 mod spans;
 mod text;
 

@@ -6,7 +6,7 @@ ghost use Rattle.rv_code.specs.layout.ProgramCode.{RoleNames, KindNames, program
 ghost use Rattle.elf_image.specs.faults.LowestPlace.{IsLowest};
 ghost use Rattle.map_check.specs.internal.EmptySpans.{is_empty_at, IsHeldEmpty, NamedByRoles, NamedByCells};
 
-use crate::spans::span_of;
+use crate::sorted_spans::span_of;
 use addr_map::Span;
 use elf_image::lowest::{lower, place_if};
 use rv_code::{CellKind, CodeCell, Role};

@@ -10,7 +10,7 @@ ghost use Rattle.code_starts.specs.LoadedMemory.{IsLow};
 ghost use Rattle.map_check.specs.internal.InstRows.{FindsBranch, FindsInSpan, IsChecked, Leads};
 
 use crate::output::{goes, inst_at};
-use crate::spans::span_of;
+use crate::sorted_spans::span_of;
 use addr_map::Span;
 use elf_image::Elf;
 use rv_code::flow::moved_by;

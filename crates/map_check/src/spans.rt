@@ -1,12 +1,11 @@
 // Whether spans are a map of a program's instructions.
-ghost use Rattle.std.specs.Prelude.{◌≡◌, ◌<◌, ◌≤◌, ◌↔◌, ◌++◌, ℕ, IfNone, IfOk, OnOk, IsTrue, List, find, map, length};
-ghost use Rattle.std.specs.Prelude.{slice_index_or};
+ghost use Rattle.std.specs.Prelude.{◌≡◌, ◌↔◌, ◌++◌, IfNone, IfOk, OnOk, IsTrue, List, map, length};
 ghost use Rattle.std.specs.List.Sorted.{IsNonDecreasingBy, IsPermutation};
 ghost use Rattle.rv_code.specs.layout.FunctionLists.{AreLaidOut};
 ghost use Rattle.rv_code.specs.layout.ProgramCode.{is_code_address, IsNamed, program_code};
 ghost use Rattle.elf_image.specs.faults.LowestPlace.{IsLowest};
 ghost use Rattle.addr_map.specs.declared.span.Span.{Span};
-ghost use Rattle.addr_map.specs.Spans.{is_of, IsMap, IsPlaced};
+ghost use Rattle.addr_map.specs.Spans.{IsMap, IsPlaced};
 ghost use Rattle.map_check.specs.BadSpans.{IsBadSpan, IsMiscounted, IsMisplaced, IsSharing};
 ghost use Rattle.map_check.specs.internal.SpanLists.{addresses, first_difference, AreExtentsOf};
 
@@ -17,38 +16,6 @@ use elf_image::lowest::{lower, place_if};
 use rb_bytes::fault::NoMemory;
 use rv_code::{CodeCell, Func, Placed, Role};
 use std::alloc::Global;
-
-/// Puts spans in the order of their old addresses.
-pub fn sort_by_input(spans: &mut Vec<Span>)
-    ensures same { IsPermutation spans.old.items spans.new.items }
-    ensures rises { IsNonDecreasingBy (λ s. s.input) spans.new.items }
-{
-    spans.sort_unstable_by_key(|span| span.input);
-}
-
-// How many spans have a lower input.
-fn count_below(sorted: &[Span], a: u64) -> usize
-    requires { IsNonDecreasingBy (λ s. s.input) sorted.now }
-    ensures bound { result ≤ length sorted.now }
-    ensures below { (k : ℕ) (d : Span) → k < result → (slice_index_or sorted.now k d).input < a }
-    ensures above { (k : ℕ) (d : Span) → result ≤ k → k < length sorted.now →
-        a ≤ (slice_index_or sorted.now k d).input }
-{
-    sorted.partition_point(|s| s.input < a)
-}
-
-/// The first span of an instruction.
-pub fn span_of(sorted: &[Span], a: u64) -> Option<Span>
-    requires { IsNonDecreasingBy (λ s. s.input) sorted.now }
-    ensures { result ≡ find (is_of a) sorted.now }
-{
-    let below = count_below(sorted, a);
-    if below == sorted.len() {
-        return None;
-    }
-    let span = sorted[below];
-    if span.input == a { Some(span) } else { None }
-}
 
 fn push_addresses(out: &mut Vec<u64>, insts: &[Placed]) -> Result<(), NoMemory>
     ensures { OnOk result (out.new.items ≡ out.old.items ++ map (λ p. p.addr) insts.now) }

@@ -3,7 +3,7 @@ use Rattle.addr_map.specs.declared.span.Span.{Span}
 use Rattle.std.proofs.Common.{sym, ap, ◌∙◌, arith, ◌≡◌, ◌<◌, length}
 use Rattle.map_check.specs.internal.SpanLists.{no_span}
 use Rattle.map_check.proofs.NamedSpans.{found_at, found_nowhere}
-use Rattle.map_check.proofs.spans.span_of.Goals as goal
+use Rattle.map_check.proofs.sorted_spans.span_of.Goals as goal
 
 pub returns-then-below-sorted : goal.returns-then-below-sorted
 returns-then-below-sorted c =
