@@ -2,7 +2,7 @@
 use table_core::Range;
 
 /// A range of a table of addresses.
-#[derive(Clone, Copy, PartialEq, Eq, Debug)]
+#[derive(Clone, Copy)]
 pub struct UnitRange {
     pub range: Range,
     /// The offset of the table's unit in `.debug_info`.

@@ -17,7 +17,7 @@ use std::alloc::Global;
 use std::cmp::Reverse;
 
 /// An edge between two blocks, by their places among the blocks, and how often control went along it.
-#[derive(Clone, Copy, PartialEq, Eq, Debug)]
+#[derive(Clone, Copy)]
 pub struct Edge {
     pub from: usize,
     pub to: usize,

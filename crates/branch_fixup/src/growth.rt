@@ -14,7 +14,7 @@ use std::alloc::{AllocError, Global};
 const PASSES: u8 = 8;
 
 /// How a block ends.
-#[derive(Clone, Copy, PartialEq, Eq, Debug)]
+#[derive(Clone, Copy)]
 pub struct BlockEnd {
     /// The bytes before its last instruction.
     pub before: u64,

@@ -6,7 +6,7 @@ use rb_bytes::gap::Gap;
 use std::alloc::{AllocError, AllocFailed};
 
 /// Why an entry is not read.
-#[derive(Clone, Copy, PartialEq, Eq, Debug)]
+#[derive(Clone, Copy)]
 pub enum Failed {
     /// It isn't as the format has it.
     Malformed,

@@ -10,7 +10,7 @@ use crate::row::Cfa;
 use std::alloc::Global;
 
 /// How the canonical frame address is found, if it is.
-#[derive(Clone, Copy, PartialEq, Eq, Debug)]
+#[derive(Clone, Copy)]
 pub enum FrameKind {
     /// It isn't said.
     Nothing,

@@ -25,7 +25,7 @@ impl<'a> Model for RawEntry<'a> {
 }
 
 /// Why no entry stands at the front of some bytes.
-#[derive(Clone, Copy, PartialEq, Eq, Debug)]
+#[derive(Clone, Copy)]
 pub enum NoEntry {
     /// The table ends there.
     Ends,

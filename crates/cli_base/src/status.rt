@@ -8,7 +8,7 @@ use rv_code::Cause;
 use sym_machine::Reason;
 
 /// How a command ended. The program ends with its number.
-#[derive(Clone, Copy, PartialEq, Eq, Debug)]
+#[derive(Clone, Copy, Debug)]
 pub enum Status {
     /// The command was done whole.
     Ok,

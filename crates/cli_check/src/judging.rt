@@ -22,7 +22,7 @@ use rb_bytes::limit::{FILE_BYTES, MAP_BYTES};
 use std::alloc::Global;
 
 /// What judging comes to.
-#[derive(Clone, Copy, PartialEq, Eq, Debug)]
+#[derive(Clone, Copy)]
 pub enum Judged {
     /// All are there, and this is the verdict on them.
     Verdict(Verdict),

@@ -11,7 +11,7 @@ use rb_bytes::fault::Refusal;
 use std::alloc::Global;
 
 /// What is asked of an address.
-#[derive(Clone, Copy, PartialEq, Eq, Debug)]
+#[derive(Clone, Copy)]
 pub enum Question {
     /// All that the tables say of it.
     Report,

@@ -15,7 +15,7 @@ use rb_io::{Files, Sink, Source};
 use std::alloc::Global;
 
 /// The machine that a file runs on.
-#[derive(Clone, Copy, PartialEq, Eq, Debug)]
+#[derive(Clone, Copy)]
 pub enum RunMode {
     Bytes,
     Symbols,

@@ -10,7 +10,7 @@ use rb_bytes::fault::NoMemory;
 use std::alloc::Global;
 
 /// A part of an executable section between neighbouring cuts, from `start` to before `end`.
-#[derive(Clone, Copy, PartialEq, Eq, Debug)]
+#[derive(Clone, Copy)]
 pub struct Part {
     pub start: u64,
     pub end: u64,

@@ -1,7 +1,7 @@
 // Entries that are changed in place.
 
 /// What the change of an entry's attributes goes by.
-#[derive(Clone, Copy, PartialEq, Eq, Debug)]
+#[derive(Clone, Copy)]
 pub struct ChangedEntry {
     /// Its offset in `.debug_info`.
     pub place: u64,

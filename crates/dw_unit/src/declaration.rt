@@ -16,7 +16,7 @@ use table_core::shape::Shape;
 use table_core::value::value;
 
 /// What a declaration says of an attribute.
-#[derive(Clone, Copy, PartialEq, Eq, Debug)]
+#[derive(Clone, Copy)]
 pub struct Spec {
     pub name: u64,
     pub form: u64,

@@ -1,7 +1,7 @@
 // New names of attributes.
 
 /// What the new names of a declaration's attributes go by.
-#[derive(Clone, Copy, PartialEq, Eq, Debug)]
+#[derive(Clone, Copy)]
 pub struct Naming {
     /// Whether a low address stays one.
     pub keeps_low: bool,

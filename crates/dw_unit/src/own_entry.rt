@@ -1,7 +1,7 @@
 // The own entries of units.
 
 /// A unit's own entry, which is its first.
-#[derive(Clone, Copy, PartialEq, Eq, Debug)]
+#[derive(Clone, Copy)]
 pub struct OwnEntry {
     /// Its offset in `.debug_info`.
     pub place: u64,

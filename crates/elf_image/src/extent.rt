@@ -10,7 +10,7 @@ use rb_bytes::fault::NoMemory;
 use std::alloc::Global;
 
 /// The numbers from `start` to before `end`, and the place that is answered for them.
-#[derive(Clone, Copy, PartialEq, Eq, Debug)]
+#[derive(Clone, Copy)]
 pub struct Extent {
     pub start: u64,
     pub end: u128,

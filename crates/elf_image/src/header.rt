@@ -48,7 +48,7 @@ pub const E_SHNUM: usize = 0x3c;
 pub const E_SHSTRNDX: usize = 0x3e;
 
 /// The fields of a file's header that are read, in the order of the file. gABI, "ELF Header".
-#[derive(Clone, Copy, PartialEq, Eq, Debug)]
+#[derive(Clone, Copy)]
 pub struct HeaderFields {
     /// `e_type`: the type of the file.
     pub kind: u16,

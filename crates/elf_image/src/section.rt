@@ -33,7 +33,7 @@ pub const SHDR_SIZE: usize = 64;
 
 /// A section header, with its fields in the order of the file. Offsets and sizes are in bytes.
 /// gABI, "Section Header".
-#[derive(Clone, Copy, PartialEq, Eq, Debug)]
+#[derive(Clone, Copy)]
 pub struct SectionHeader {
     /// `sh_name`: where its name begins in the table of names.
     pub name: u32,
@@ -88,7 +88,7 @@ impl SectionHeader {
 }
 
 /// A section. Offsets and sizes are in bytes. gABI, "Section Header".
-#[derive(Clone, Copy, PartialEq, Eq, Debug)]
+#[derive(Clone, Copy)]
 pub struct Section<'a> {
     /// Its name, without the zero byte.
     pub name: &'a [u8],

@@ -59,7 +59,7 @@ pub const P_ALIGN: usize = 48;
 
 /// A program header, with its fields in the order of the file. Offsets and sizes are in bytes.
 /// gABI, "Program Header".
-#[derive(Clone, Copy, PartialEq, Eq, Debug)]
+#[derive(Clone, Copy, PartialEq, Eq)]
 pub struct Segment {
     /// `p_type`.
     pub kind: u32,

@@ -21,7 +21,7 @@ pub const STT_FUNC: u8 = 2;
 pub const STT_GNU_IFUNC: u8 = 10;
 
 /// A symbol of the symbol table. gABI, "Symbol Table".
-#[derive(Clone, Copy, PartialEq, Eq, Debug)]
+#[derive(Clone, Copy)]
 pub struct Symbol<'a> {
     /// Its name, without the zero byte.
     pub name: &'a [u8],

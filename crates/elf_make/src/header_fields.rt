@@ -8,7 +8,7 @@ use rb_bytes::fault::NoMemory;
 use std::alloc::Global;
 
 /// What fields of the file's header say.
-#[derive(Clone, Copy, PartialEq, Eq, Debug)]
+#[derive(Clone, Copy)]
 pub struct HeaderFields {
     /// The entry point.
     pub entry: u64,

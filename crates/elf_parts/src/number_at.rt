@@ -7,7 +7,7 @@ ghost use Rattle.elf_parts.specs.Numbers.{CanPut, patch_of};
 use crate::patch::put_bytes;
 
 /// A number, and where in a file it is to stand.
-#[derive(Clone, Copy, PartialEq, Eq, Debug)]
+#[derive(Clone, Copy)]
 pub struct NumberAt {
     pub offset: u64,
     /// How many bytes it has: 1, 2, 4 or 8.

@@ -7,7 +7,7 @@ use rb_bytes::fault::NoMemory;
 use std::alloc::Global;
 
 /// How the parts lie. All fields are offsets in bytes.
-#[derive(Clone, Copy, PartialEq, Eq, Debug)]
+#[derive(Clone, Copy)]
 pub struct Parts {
     /// The bytes of the input below this keep their offsets.
     pub keep: usize,

@@ -7,7 +7,7 @@ use rb_bytes::fault::NoMemory;
 use rb_bytes::little::{put_u8, put_u16, put_u32, put_u64};
 
 /// An entry of the symbol table, with its fields in the order of the file. gABI, "Symbol Table".
-#[derive(Clone, Copy, PartialEq, Eq, Debug)]
+#[derive(Clone, Copy)]
 pub struct SymbolEntry {
     /// `st_name`: where its name begins in the table of names.
     pub name: u32,

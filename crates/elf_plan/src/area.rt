@@ -17,7 +17,7 @@ const FRAMES_ALIGN: u64 = 8;
 const INDEX_ALIGN: u64 = 4;
 
 /// The new area: the new code, and behind it the tables that are loaded.
-#[derive(Clone, Copy, PartialEq, Eq, Debug)]
+#[derive(Clone, Copy)]
 pub struct Area {
     /// Whether it stands in a segment of its own.
     pub tight: bool,
@@ -181,7 +181,7 @@ fn places_behind(start: u64, code: usize, frames: usize) -> Result<(u64, u64), U
 }
 
 /// Where bytes of the input are in the written file: those from an offset on move.
-#[derive(Clone, Copy, PartialEq, Eq, Debug)]
+#[derive(Clone, Copy)]
 pub struct Shift {
     /// The end of the executable segment in the input.
     pub from: u64,

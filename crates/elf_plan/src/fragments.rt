@@ -17,7 +17,7 @@ use rv_code::functions::{func_holds, function_at};
 use std::alloc::Global;
 
 /// A stretch of new code that belongs to one function, whose place in the list of functions is given.
-#[derive(Clone, Copy, PartialEq, Eq, Debug)]
+#[derive(Clone, Copy)]
 pub struct Fragment {
     pub start: u64,
     pub end: u64,

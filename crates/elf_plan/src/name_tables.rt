@@ -10,7 +10,7 @@ use elf_image::section::SHT_SYMTAB;
 use elf_image::{Elf, Section};
 
 /// The indices of the sections that are written anew.
-#[derive(Clone, Copy, PartialEq, Eq, Debug)]
+#[derive(Clone, Copy)]
 pub struct OwnSections {
     /// The names of sections.
     pub section_names: usize,

@@ -17,7 +17,7 @@ use rb_bytes::fault::NoMemory;
 use std::alloc::Global;
 
 /// Where the contents of a section of the input are in the written file.
-#[derive(Clone, Copy, PartialEq, Eq, Debug)]
+#[derive(Clone, Copy)]
 pub enum Contents {
     /// Nowhere: of the section only a header is left, of no type.
     Dropped,

@@ -5,7 +5,7 @@ use rb_bytes::fault::NoMemory;
 use std::alloc::{AllocError, AllocFailed};
 
 /// Why no file is written.
-#[derive(Clone, Copy, PartialEq, Eq, Debug)]
+#[derive(Clone, Copy)]
 pub enum Unwritable {
     /// Memory could not be had.
     Memory,

@@ -2,7 +2,7 @@
 
 /// A way from a block to a block of one function; None is what lies outside the function. Blocks are named by their
 /// places in the list of blocks.
-#[derive(Clone, Copy, PartialEq, Eq, Debug)]
+#[derive(Clone, Copy)]
 pub struct Link {
     pub from: Option<usize>,
     pub to: Option<usize>,
@@ -13,7 +13,7 @@ pub struct Link {
 }
 
 /// All links, and a price for each block.
-#[derive(PartialEq, Eq, Debug, Drop)]
+#[derive(Drop)]
 pub struct Flow {
     pub links: Vec<Link>,
     pub prices: Vec<i64>,

@@ -16,7 +16,7 @@ use rb_bytes::fault::NoMemory;
 use std::alloc::Global;
 
 /// What a round came to.
-#[derive(Clone, Copy, PartialEq, Eq)]
+#[derive(Clone, Copy)]
 pub enum Progress {
     /// The flow balances.
     Balanced,

@@ -6,7 +6,7 @@ use crate::answer::FrameAt;
 use addr_map::AddrMap;
 
 /// What a CIE says. The handler is where it went.
-#[derive(Clone, Copy, PartialEq, Eq, Hash, Debug)]
+#[derive(Clone, Copy, PartialEq, Eq, Hash)]
 pub struct CieKey {
     pub ra: u64,
     pub handler: u64,

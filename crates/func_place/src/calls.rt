@@ -1,7 +1,7 @@
 // What is counted from unit to unit.
 
 /// A count from one unit to another. Units are named by numbers.
-#[derive(Clone, Copy, PartialEq, Eq, Debug)]
+#[derive(Clone, Copy)]
 pub struct UnitCall {
     pub from: usize,
     pub to: usize,

@@ -7,7 +7,7 @@ use rb_bytes::gap::Gap;
 use std::alloc::{AllocError, AllocFailed};
 
 /// Why a line unit can't be read.
-#[derive(Clone, Copy, PartialEq, Eq, Debug)]
+#[derive(Clone, Copy)]
 pub enum Trouble {
     /// It isn't as the format has it.
     Malformed,

@@ -4,7 +4,7 @@ ghost use Rattle.map_check.specs.declared.clause.Verdict.{Verdict};
 ghost use Rattle.map_check.specs.FirstFalse.{Claim, IsVerdict};
 
 /// The clauses of a faithful rewrite, in their order.
-#[derive(Clone, Copy, PartialEq, Eq, Debug)]
+#[derive(Clone, Copy, Debug)]
 pub enum Clause {
     /// A line of the map isn't one.
     MapText,
@@ -27,7 +27,7 @@ pub enum Clause {
 }
 
 /// What a check answers.
-#[derive(Clone, Copy, PartialEq, Eq, Debug)]
+#[derive(Clone, Copy)]
 pub enum Verdict {
     /// The rewrite is faithful.
     Faithful,

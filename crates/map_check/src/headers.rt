@@ -17,7 +17,7 @@ use elf_image::{Elf, Segment};
 use sym_machine::entry_address;
 
 /// What tells which fields of a file's headers are hidden.
-#[derive(Clone, Copy, PartialEq, Eq, Debug)]
+#[derive(Clone, Copy)]
 pub struct Headers {
     /// Whether the file has no room behind its executable segment.
     pub tight: bool,

@@ -17,7 +17,7 @@ use rv_code::flow::moved_by;
 use rv_code::{Action, Inst, Placed, Test};
 
 /// An instruction of the output, where it stands, and its width.
-#[derive(Clone, Copy, PartialEq, Eq, Debug)]
+#[derive(Clone, Copy)]
 pub struct Found {
     pub out: u64,
     pub inst: Inst,

@@ -5,7 +5,7 @@ ghost use Rattle.rb_io.specs.Names.{Unchanged, UnchangedBut};
 ghost use Rattle.rb_io.specs.Views.{FilesSeen, FilesGoOn};
 
 /// What reading a whole file answers.
-#[derive(Clone, Copy, PartialEq, Eq, Debug, Drop)]
+#[derive(Clone, Copy, Debug, Drop)]
 pub enum ReadAll {
     /// The whole content was read.
     Done,
@@ -18,7 +18,7 @@ pub enum ReadAll {
 }
 
 /// What writing a whole file answers.
-#[derive(Clone, Copy, PartialEq, Eq, Debug, Drop)]
+#[derive(Clone, Copy, Debug, Drop)]
 pub enum Wrote {
     /// The file holds the bytes.
     Done,

@@ -6,7 +6,7 @@ ghost use Rattle.rb_io.specs.CallResults.{IfBytes};
 ghost use Rattle.rb_io.specs.Views.{SourceSeen};
 
 /// What a read answers.
-#[derive(Clone, Copy, PartialEq, Eq, Debug, Drop)]
+#[derive(Clone, Copy, PartialEq, Eq, Drop)]
 pub enum Got {
     /// So many bytes stand at the front of the buffer.
     Bytes(usize),

@@ -41,7 +41,7 @@ pub const BAD_FILE: u64 = 0xffff_ffff_ffff_fff7;
 pub const NO_SUCH_CALL: u64 = 0xffff_ffff_ffff_ffda;
 
 /// The system calls that the machine knows.
-#[derive(Clone, Copy, PartialEq, Eq, Debug)]
+#[derive(Clone, Copy)]
 pub enum SystemCall {
     Read,
     Write,

@@ -9,7 +9,7 @@ use rb_io::{Got, Source};
 
 /// Whether a source was found at its end. It isn't asked again after that, as a terminal would have
 /// more bytes: so one list of bytes is all that it gave.
-#[derive(Clone, Copy, PartialEq, Eq, Debug)]
+#[derive(Clone, Copy)]
 pub struct InputEnd {
     pub reached: bool,
 }

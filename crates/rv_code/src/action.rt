@@ -8,7 +8,7 @@ use crate::inst::Inst;
 use crate::op::Op;
 
 /// Where an operation's operand comes from.
-#[derive(Clone, Copy, PartialEq, Eq, Debug)]
+#[derive(Clone, Copy)]
 pub enum Operand {
     /// A register's value.
     Register(u8),
@@ -17,7 +17,7 @@ pub enum Operand {
 }
 
 /// What a conditional branch compares. ISA manual, section 2.5.
-#[derive(Clone, Copy, PartialEq, Eq, Debug)]
+#[derive(Clone, Copy)]
 pub enum Test {
     Equal,
     LessSigned,
@@ -39,7 +39,7 @@ impl Test {
 
 /// How a loaded number fills a register: its bits, and whether by its sign or by zeros.
 /// ISA manual, sections 2.6 and 4.3.
-#[derive(Clone, Copy, PartialEq, Eq, Debug)]
+#[derive(Clone, Copy)]
 pub enum Extension {
     Signed8,
     Signed16,
@@ -78,7 +78,7 @@ impl Extension {
 }
 
 /// What an instruction does. Both machines go by these eleven cases.
-#[derive(Clone, Copy, PartialEq, Eq, Debug)]
+#[derive(Clone, Copy)]
 pub enum Action {
     /// Writes the operation's result.
     Compute {

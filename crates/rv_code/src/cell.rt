@@ -1,7 +1,7 @@
 // Data fields that hold code addresses.
 
 /// What a data field holds. All fields are addresses of the input.
-#[derive(Clone, Copy, PartialEq, Eq, Debug)]
+#[derive(Clone, Copy, PartialEq, Eq)]
 pub enum CellKind {
     /// The address `to`.
     Abs { to: u64 },
@@ -10,7 +10,7 @@ pub enum CellKind {
 }
 
 /// A data field that holds a code address or a distance between labels.
-#[derive(Clone, Copy, PartialEq, Eq, Debug)]
+#[derive(Clone, Copy)]
 pub struct CodeCell {
     /// The address of its first byte.
     pub addr: u64,

@@ -6,7 +6,7 @@
 /// branches, loads and stores a count of bytes; for `Lui` and `Auipc` it is bits 31:12 alone, as a
 /// signed number of 20 bits; and for a shift it is the amount. `Fence` keeps its fields as format I
 /// has them. ISA manual (volume I, version 20240411), chapters 2, 4 and 13.
-#[derive(Clone, Copy, PartialEq, Eq, Debug)]
+#[derive(Clone, Copy, Debug)]
 pub enum Inst {
     Lui { rd: u8, imm: i64 },
     Auipc { rd: u8, imm: i64 },

@@ -2,7 +2,7 @@
 
 /// The blocks of each function, split by heat. A block is its place in the list of blocks, and the
 /// lists go by function, in the order of the list of functions.
-#[derive(PartialEq, Eq, Debug, Drop)]
+#[derive(Drop)]
 pub struct Chains {
     /// The blocks of each function's hot part, in their new order.
     pub hot: Vec<Vec<usize>>,
@@ -11,14 +11,14 @@ pub struct Chains {
 }
 
 /// The new order of the code.
-#[derive(PartialEq, Eq, Debug, Drop)]
+#[derive(Drop)]
 pub struct Plan {
     /// All blocks in their new order, each as its place in the list of blocks.
     pub order: Vec<usize>,
 }
 
 /// The encoding of a conditional branch.
-#[derive(Clone, Copy, PartialEq, Eq, Debug)]
+#[derive(Clone, Copy)]
 pub enum Size {
     /// The compressed branch, of two bytes.
     Half,
@@ -29,7 +29,7 @@ pub enum Size {
 }
 
 /// How a block ends in the new code.
-#[derive(Clone, Copy, PartialEq, Eq, Debug)]
+#[derive(Clone, Copy)]
 pub enum Form {
     /// As in the input, with nothing added.
     Plain,
@@ -50,7 +50,7 @@ pub enum Form {
 }
 
 /// The new code, and the new content of the fields that hold code addresses.
-#[derive(PartialEq, Eq, Debug, Drop)]
+#[derive(Drop)]
 pub struct Emitted {
     /// The bytes of the new code.
     pub code: Vec<u8>,

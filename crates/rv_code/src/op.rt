@@ -7,7 +7,7 @@ ghost use Rattle.rv_code.specs.isa.Op.{apply, upper64};
 /// An operation on two numbers of 64 bits. The immediate forms of the instructions share it: `ADDI` is
 /// `Add` of a register and a constant. The names with `w` work on the low 32 bits and sign-extend.
 /// ISA manual, sections 2.4, 4.2, 13.1 and 13.2.
-#[derive(Clone, Copy, PartialEq, Eq, Debug)]
+#[derive(Clone, Copy)]
 pub enum Op {
     Add,
     Sub,

@@ -3,7 +3,7 @@
 use crate::inst::Inst;
 
 /// How wide an instruction's encoding is. ISA manual, section 1.5.
-#[derive(Clone, Copy, PartialEq, Eq, Debug)]
+#[derive(Clone, Copy)]
 pub enum Width {
     /// Two bytes.
     Half,
@@ -15,7 +15,7 @@ pub enum Width {
 ///
 /// All fields are addresses: `target` is the address that both parts together give, and `hi` is that
 /// of the AUIPC with the upper part. psABI, section "Relocations".
-#[derive(Clone, Copy, PartialEq, Eq, Debug)]
+#[derive(Clone, Copy, PartialEq, Eq)]
 pub enum Role {
     /// No part of an address.
     Plain,
@@ -34,7 +34,7 @@ pub enum Role {
 }
 
 /// An instruction at its place in the input.
-#[derive(Clone, Copy, PartialEq, Eq, Debug)]
+#[derive(Clone, Copy)]
 pub struct Placed {
     /// The address of its first byte.
     pub addr: u64,
@@ -45,7 +45,7 @@ pub struct Placed {
 }
 
 /// A function: its bytes go from `start` to before `end`.
-#[derive(PartialEq, Eq, Debug, Drop)]
+#[derive(Drop)]
 pub struct Func {
     /// The address of its first byte.
     pub start: u64,
@@ -58,7 +58,7 @@ pub struct Func {
 }
 
 /// Where an instruction stands among functions.
-#[derive(Clone, Copy, PartialEq, Eq, Debug)]
+#[derive(Clone, Copy)]
 pub struct InstPlace {
     /// The function's place in the list of functions.
     pub func: usize,
@@ -67,7 +67,7 @@ pub struct InstPlace {
 }
 
 /// A basic block: a stretch of one function's instructions that is entered only at its first.
-#[derive(Clone, Copy, PartialEq, Eq, Debug)]
+#[derive(Clone, Copy)]
 pub struct Block {
     /// The function's place in the list of functions.
     pub func: usize,

@@ -5,7 +5,7 @@ ghost use Rattle.rv_encode.specs.internal.PartsOfInst.{parts_of};
 use rv_code::Inst;
 
 /// An instruction as its number among all, its registers and its immediate.
-#[derive(Clone, Copy, PartialEq, Eq, Debug)]
+#[derive(Clone, Copy, PartialEq, Eq)]
 pub struct InstParts {
     pub number: u8,
     pub rd: u8,

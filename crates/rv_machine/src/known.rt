@@ -8,7 +8,7 @@ use rv_decode::decode;
 use std::alloc::Global;
 
 /// Halfwords of code, what the instruction that they are does, and its length in bytes.
-#[derive(Clone, Copy, PartialEq, Eq, Debug)]
+#[derive(Clone, Copy)]
 pub struct KnownAction {
     pub half: u16,
     pub next: Option<u16>,

@@ -8,7 +8,7 @@ use rb_io::{Sink, Source};
 use run_core::InputEnd;
 
 /// What a run answers.
-#[derive(Clone, Copy, PartialEq, Eq, Debug)]
+#[derive(Clone, Copy)]
 pub struct Ran {
     /// What the last step came to. `Going` says that the steps are up.
     pub end: Stepped,

@@ -56,7 +56,7 @@ impl<'a> Machine<'a> {
             return self.trap(Cause::Illegal);
         };
         let after = self.pc.wrapping_add(length as u64);
-        if action == Action::SystemCall {
+        if matches!(action, Action::SystemCall) {
             self.system_call(after, input_end, input, out)
         } else {
             self.execute(action, after)

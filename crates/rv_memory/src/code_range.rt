@@ -11,7 +11,7 @@ use elf_image::Elf;
 use elf_image::segment::{PF_W, PF_X};
 
 /// The addresses from one on and before another, which the file's bytes from an offset on are loaded to.
-#[derive(Clone, Copy, PartialEq, Eq, Debug)]
+#[derive(Clone, Copy)]
 pub struct CodeRange {
     pub from: u64,
     pub to: u64,

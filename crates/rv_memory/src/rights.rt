@@ -6,7 +6,7 @@ ghost use Rattle.rv_memory.specs.Start.{in_stack};
 use elf_image::Elf;
 
 /// What a program does with a byte of memory.
-#[derive(Clone, Copy, PartialEq, Eq, Debug)]
+#[derive(Clone, Copy)]
 pub enum Access {
     Read,
     Write,

@@ -22,7 +22,7 @@ use code_starts::start_index::Starts;
 use elf_image::Elf;
 
 /// The two instructions of a call.
-#[derive(Clone, Copy, PartialEq, Eq, Debug)]
+#[derive(Clone, Copy)]
 pub struct CallInsts {
     pub auipc: Upper,
     pub jalr: Jump,

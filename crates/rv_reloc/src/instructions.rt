@@ -14,14 +14,14 @@ use elf_image::Elf;
 use rv_code::Inst;
 
 /// The register and the immediate of an AUIPC or a LUI.
-#[derive(Clone, Copy, PartialEq, Eq, Debug)]
+#[derive(Clone, Copy)]
 pub struct Upper {
     pub rd: u8,
     pub imm: i64,
 }
 
 /// The base register and the immediate of a JALR.
-#[derive(Clone, Copy, PartialEq, Eq, Debug)]
+#[derive(Clone, Copy)]
 pub struct Jump {
     pub base: u8,
     pub imm: i64,

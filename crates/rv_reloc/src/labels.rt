@@ -13,7 +13,7 @@ use elf_image::Elf;
 use elf_image::relocation::*;
 
 /// How wide a field is for a label.
-#[derive(Clone, Copy, PartialEq, Eq, Debug)]
+#[derive(Clone, Copy)]
 pub enum FieldWidth {
     Bits6,
     Bits8,

@@ -26,7 +26,7 @@ use rv_code::op::Op;
 use std::alloc::Global;
 
 /// A lower part for the AUIPC at `hi`.
-#[derive(Clone, Copy, PartialEq, Eq, Debug)]
+#[derive(Clone, Copy)]
 pub struct Low {
     pub hi: u64,
     pub imm: i64,

@@ -25,7 +25,7 @@ use rv_code::{CodeCell, Role};
 use std::alloc::Global;
 
 /// The references of a file.
-#[derive(PartialEq, Eq, Debug, Drop)]
+#[derive(Drop)]
 pub struct Refs {
     /// The instructions with a part of an address, by their addresses.
     pub roles: Vec<(u64, Role)>,

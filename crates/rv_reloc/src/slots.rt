@@ -17,7 +17,7 @@ use rb_bytes::lists::push_some;
 use std::alloc::Global;
 
 /// The entry that the AUIPC at a place names is to hold a label.
-#[derive(Clone, Copy, PartialEq, Eq, Debug)]
+#[derive(Clone, Copy)]
 pub struct SlotLabel {
     pub place: u64,
     pub label: i128,

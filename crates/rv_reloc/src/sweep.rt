@@ -9,14 +9,14 @@ use std::alloc::Global;
 use std::cmp::Reverse;
 
 /// What a field holds. An address comes before a difference, as variants are ordered.
-#[derive(Clone, Copy, PartialEq, Eq, PartialOrd, Ord, Debug)]
+#[derive(Clone, Copy, PartialEq, Eq, PartialOrd, Ord)]
 pub enum Content {
     Address { to: u64 },
     Difference { to: i128, from: i128 },
 }
 
 /// A field that can be a cell.
-#[derive(Clone, Copy, PartialEq, Eq, Debug)]
+#[derive(Clone, Copy)]
 pub struct Candidate {
     pub place: u64,
     pub width: u8,

@@ -14,7 +14,7 @@ use rb_bytes::fault::NoMemory;
 use std::alloc::Global;
 
 /// What is left of a number in LEB128 from one of its bytes on.
-#[derive(Clone, Copy, Debug)]
+#[derive(Clone, Copy)]
 pub struct LebRest {
     /// The address after its last byte.
     pub end: u64,
@@ -25,7 +25,7 @@ pub struct LebRest {
 }
 
 /// What is left from a place on, if a number ends there.
-#[derive(Clone, Copy, Debug)]
+#[derive(Clone, Copy)]
 pub struct Known {
     pub place: u64,
     pub tail: Option<LebRest>,

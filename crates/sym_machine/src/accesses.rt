@@ -11,7 +11,7 @@ use crate::value::{CodeSymbol, Signedness, Value};
 use rv_code::{Extension, Role};
 
 /// What a store writes.
-#[derive(Clone, Copy, PartialEq, Eq, Debug)]
+#[derive(Clone, Copy)]
 pub enum Stored {
     /// The low bytes of a number.
     Number(u64),

@@ -14,7 +14,7 @@ use run_core::calls::{
 use rv_memory::rights::Access;
 
 /// The arguments of a call that moves bytes between a file and a buffer.
-#[derive(Clone, Copy, PartialEq, Eq, Debug)]
+#[derive(Clone, Copy)]
 pub(crate) struct Buffer {
     pub file: u64,
     pub address: u64,

@@ -8,7 +8,7 @@ use rb_bytes::fault::NoMemory;
 use std::alloc::Global;
 
 /// So many bytes of the file from an offset on.
-#[derive(Clone, Copy, PartialEq, Eq, Debug)]
+#[derive(Clone, Copy)]
 pub struct Field {
     pub start: u128,
     pub size: u64,

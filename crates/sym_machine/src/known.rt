@@ -9,7 +9,7 @@ use rv_code::{Action, Placed, Role};
 use std::alloc::Global;
 
 /// What an instruction does, its role, and its length in bytes.
-#[derive(Clone, Copy, PartialEq, Eq, Debug)]
+#[derive(Clone, Copy)]
 pub struct Decoded {
     pub action: Action,
     pub role: Role,
@@ -17,7 +17,7 @@ pub struct Decoded {
 }
 
 /// The instruction at an address, or none.
-#[derive(Clone, Copy, PartialEq, Eq, Debug)]
+#[derive(Clone, Copy)]
 pub struct KnownInst {
     pub address: u64,
     pub found: Option<Decoded>,

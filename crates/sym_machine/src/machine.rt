@@ -19,7 +19,7 @@ pub struct SymMachine<'a> {
 }
 
 /// What a step does that leaves memory as it is: it writes a register and goes to a pc. Register 0 isn't written.
-#[derive(Clone, Copy, PartialEq, Eq, Debug)]
+#[derive(Clone, Copy)]
 pub struct Change {
     pub rd: u8,
     pub value: Value,

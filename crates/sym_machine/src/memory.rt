@@ -19,7 +19,7 @@ pub struct SymMemory<'a> {
 }
 
 /// Bytes of a symbol that is kept in `width` bytes, from byte `first` on.
-#[derive(Clone, Copy, PartialEq, Eq, Debug)]
+#[derive(Clone, Copy)]
 pub struct SymbolBytes {
     pub symbol: CodeSymbol,
     pub width: u8,

@@ -16,7 +16,7 @@ pub const GROUP_SIZE: usize = 8;
 const RECENT: usize = 8192;
 
 /// A byte that is no number.
-#[derive(Clone, Copy, PartialEq, Eq, Debug)]
+#[derive(Clone, Copy)]
 pub enum OtherByte {
     /// Byte `index` of a symbol that is kept in `width` bytes.
     Symbol {

@@ -2,7 +2,7 @@
 
 /// Why the machine is stuck: what the program does depends on where its code lies, or is nothing that
 /// the machine can do.
-#[derive(Clone, Copy, PartialEq, Eq, Debug)]
+#[derive(Clone, Copy, Debug)]
 pub enum Reason {
     /// A jump goes to something else than a pointer, or adds an offset to one.
     NotCode,
@@ -30,7 +30,7 @@ pub enum Reason {
 }
 
 /// What a step came to.
-#[derive(Clone, Copy, PartialEq, Eq, Debug)]
+#[derive(Clone, Copy)]
 pub enum SymStepped {
     /// The program goes on. Of a whole run: it hasn't ended within the steps allowed.
     Going,
@@ -47,7 +47,7 @@ pub enum SymStepped {
 }
 
 /// What a run came to.
-#[derive(Clone, Copy, PartialEq, Eq, Debug)]
+#[derive(Clone, Copy)]
 pub struct SymRan {
     pub end: SymStepped,
     /// The steps that were done. The one that ends the program is counted; one that sticks isn't.

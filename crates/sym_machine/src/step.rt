@@ -55,7 +55,7 @@ impl<'a> SymMachine<'a> {
             return self.stuck(Reason::FellOff);
         };
         let next = self.pc.wrapping_add(inst.length as u64);
-        if inst.action == Action::SystemCall {
+        if matches!(inst.action, Action::SystemCall) {
             self.system_call(next, input_end, input, out)
         } else {
             self.execute(inst.role, inst.action, next)

@@ -1,7 +1,7 @@
 // What registers and memory hold.
 
 /// A place in code that a program can go to.
-#[derive(Clone, Copy, PartialEq, Eq, Debug)]
+#[derive(Clone, Copy)]
 pub enum Pointer {
     /// The instruction at an address.
     Code(u64),
@@ -10,7 +10,7 @@ pub enum Pointer {
 }
 
 /// How two pointers of one kind were compared.
-#[derive(Clone, Copy, PartialEq, Eq, Debug)]
+#[derive(Clone, Copy)]
 pub enum Comparing {
     /// By SUB.
     Sub,
@@ -19,7 +19,7 @@ pub enum Comparing {
 }
 
 /// A value whose number depends on where the code lies. All fields are addresses of the input.
-#[derive(Clone, Copy, PartialEq, Eq, Debug)]
+#[derive(Clone, Copy)]
 pub enum CodeSymbol {
     /// A pointer.
     Points(Pointer),
@@ -42,7 +42,7 @@ pub enum CodeSymbol {
 }
 
 /// How a number of few bytes fills a register.
-#[derive(Clone, Copy, PartialEq, Eq, Debug)]
+#[derive(Clone, Copy)]
 pub enum Signedness {
     /// By its sign.
     Signed,
@@ -51,7 +51,7 @@ pub enum Signedness {
 }
 
 /// What a register holds.
-#[derive(Clone, Copy, PartialEq, Eq, Debug)]
+#[derive(Clone, Copy)]
 pub enum Value {
     /// A number.
     Num(u64),
@@ -69,7 +69,7 @@ pub enum Value {
 }
 
 /// What a byte of memory holds.
-#[derive(Clone, Copy, PartialEq, Eq, Debug)]
+#[derive(Clone, Copy)]
 pub enum MemoryByte {
     /// A number below 256.
     Byte(u8),

@@ -23,8 +23,8 @@ execute-requires-clause-registers g c =
     subst HasRegisters (sym c.in-Some-find.ensures.found.action_is) (has_registers c.in-Some.half c.in-Some.next
     c.in-Some-find.ensures.found.inst c.in-Some-find.length c.in-Some-find.ensures.found.decodes)
 
-pub returns-then-eq-clause-answer : goal.returns-then-eq-clause-answer
-returns-then-eq-clause-answer g c =
+pub returns-then-matches-clause-answer : goal.returns-then-matches-clause-answer
+returns-then-matches-clause-answer g c =
     let next = plus c.args.self.now.pc c.in-Some-find.length in
     let is : action_of c.in-Some-find.ensures.found.inst ≡ SystemCall =
     sym c.in-Some-find.ensures.found.action_is ∙ search rules in
@@ -35,8 +35,8 @@ returns-then-eq-clause-answer g c =
     (same ∙ ap (λ a. effect a next (state_of c.args.self.now input)) (sym is)))
     _ _ _ _ (answered c.system_call.result) c.system_call.ensures.answer
 
-pub returns-else-eq-clause-answer : goal.returns-else-eq-clause-answer
-returns-else-eq-clause-answer g c =
+pub returns-else-matches-clause-answer : goal.returns-else-matches-clause-answer
+returns-else-matches-clause-answer g c =
     let next = plus c.args.self.now.pc c.in-Some-find.length in
     quiet_answers state_of Steps c.args.self.now c.execute.new.self (λ s. effect c.in-Some-find.action next s)
     (answered c.execute.result) c.args.input_end.now.reached
@@ -59,15 +59,15 @@ returns-in_default-find-clause-determined g c = λ bytes o p first other.
     (sym (c.in-Some.ensures bytes)) c.in_default-find.ensures.none in
     only o first ∙ sym (only p other)
 
-pub returns-then-eq-clause-determined : goal.returns-then-eq-clause-determined
-returns-then-eq-clause-determined g c = λ bytes o p first other.
+pub returns-then-matches-clause-determined : goal.returns-then-matches-clause-determined
+returns-then-matches-clause-determined g c = λ bytes o p first other.
     let only = only_does (state_of c.args.self.now bytes) c.in-Some.half c.in-Some.next
     (sym (c.in-Some.ensures bytes)) c.in-Some-find.ensures.found.inst c.in-Some-find.length c.in-Some-find.ensures.found.decodes
     c.in-Some-find.ensures.found.only in
     only o first ∙ sym (only p other)
 
-pub returns-else-eq-clause-determined : goal.returns-else-eq-clause-determined
-returns-else-eq-clause-determined g c = λ bytes o p first other.
+pub returns-else-matches-clause-determined : goal.returns-else-matches-clause-determined
+returns-else-matches-clause-determined g c = λ bytes o p first other.
     let only = only_does (state_of c.args.self.now bytes) c.in-Some.half c.in-Some.next
     (sym (c.in-Some.ensures bytes)) c.in-Some-find.ensures.found.inst c.in-Some-find.length c.in-Some-find.ensures.found.decodes
     c.in-Some-find.ensures.found.only in

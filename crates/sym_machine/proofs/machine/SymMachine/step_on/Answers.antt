@@ -21,8 +21,8 @@ returns-in_default-clause-answer g c =
 pub execute-requires-clause-action : goal.execute-requires-clause-action
 execute-requires-clause-action g c = decoded_action _ c.in-Some.inst (sym c.find.ensures.is ∙ c.in-Some.is)
 
-pub returns-then-eq-clause-answer : goal.returns-then-eq-clause-answer
-returns-then-eq-clause-answer g c =
+pub returns-then-matches-clause-answer : goal.returns-then-matches-clause-answer
+returns-then-matches-clause-answer g c =
     let m = c.args.self.now in
     let d = c.in-Some.inst in
     let next = plus m.pc d.length in
@@ -33,8 +33,8 @@ returns-then-eq-clause-answer g c =
     ∙ ap (λ a. effect (funcs_of m) d.role a next (state_of m input)) is ∙ sym same)
     _ _ _ _ (answered c.system_call.result) c.system_call.ensures.answer
 
-pub returns-else-eq-clause-answer : goal.returns-else-eq-clause-answer
-returns-else-eq-clause-answer g c =
+pub returns-else-matches-clause-answer : goal.returns-else-matches-clause-answer
+returns-else-matches-clause-answer g c =
     let m = c.args.self.now in
     let d = c.in-Some.inst in
     let next = plus m.pc d.length in
