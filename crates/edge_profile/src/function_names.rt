@@ -26,7 +26,7 @@ use std::alloc::Global;
 #[derive(Drop)]
 pub struct FunctionNames<'list, 'file, 'name> {
     symbols: &'list [Symbol<'file>],
-    // Of the names that are asked for and stand in the file: None at a name of several values, or of none.
+    // Of the names that are asked for: None at a name of several values, or of none.
     values: IndexMap<&'name [u8], Option<u64>>,
 }
 

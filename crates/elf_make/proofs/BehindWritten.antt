@@ -3,39 +3,29 @@ use Rattle.std.proofs.Common.{◌≡◌, ◌∙◌, sym, ap, subst, refl, ℕ, z
 use Rattle.std.proofs.Common.{Bool, true, false, length, map, get_or, arith}
 use Rattle.std.specs.Prelude.{All, Contains, nat_lt}
 use Rattle.std.specs.List.{list_any}
-use Rattle.std.proofs.lemmas.Bool.{cases_lt, ltb-true, or_cases}
-use Rattle.std.proofs.lemmas.List.{get_or-map, get_or_append_left, length-map}
-use Rattle.std.proofs.lemmas.List.Elements.{All-append, All-cons}
+use Rattle.std.proofs.lemmas.Bool.{ltb-true, or_cases}
 use Rattle.std.proofs.lemmas.List.Folds.{Any-from_list_any}
-use Rattle.byteorder.specs.Numbers.{length-bytes_low_first}
 use Rattle.elf_image.specs.declared.segment.Segment.{Segment}
 use Rattle.elf_image.specs.declared.segment.TheConstants.{PHDR_SIZE}
 use Rattle.elf_image.specs.faults.FileFaults.{IsSound}
 use Rattle.elf_image.specs.faults.SegmentLayout.{IsFileByte}
 use Rattle.elf_image.specs.file.ParsedFile.{IsElfOf}
 use Rattle.elf_image.specs.memory.LoadedBytes.{loads_range}
-use Rattle.elf_parts.specs.declared.number_at.NumberAt.{NumberAt}
 use Rattle.elf_parts.specs.Numbers.{patch_of}
 use Rattle.elf_parts.specs.Parts.{size_of}
 use Rattle.elf_parts.specs.Patches.{IsBeside}
-use Rattle.elf_parts.specs.Spellings.{segment_table}
 use Rattle.elf_parts.proofs.JoinedParts.{behind-byte}
-use Rattle.elf_parts.proofs.Patches.{get_or-put_all}
-use Rattle.elf_parts.proofs.Spellings.{length-segment_table}
 use Rattle.elf_plan.specs.declared.area.Area.{Area}
 use Rattle.elf_plan.specs.declared.area.Shift.{Shift}
 use Rattle.elf_plan.specs.Area.{moved_by, shift_of}
-use Rattle.elf_make.specs.CellNumbers.{IsCellNumber}
 use Rattle.elf_plan.specs.FileLayout.{is_kept_table, table_of}
 use Rattle.elf_make.specs.FrontBytes.{KeepsBehind}
 use Rattle.elf_make.specs.FileParts.{IsMade, header_numbers, number}
 use Rattle.elf_make.specs.Source.{Source, source_area}
-use Rattle.elf_make.proofs.CellPatches.{moved-less, moved-more}
-use Rattle.elf_make.proofs.CellPlaces.{CellPlace, cell-place}
-use Rattle.elf_make.proofs.ImageWritten.{moved-keep, parts-fit, patches, table-apart, within-all, written-all}
+use Rattle.elf_make.proofs.BesideWritten.{InNoCell, apart-of, beside-is, cells-beside, field-beside, table-beside, table_patch}
+use Rattle.elf_make.proofs.ImageWritten.{moved-keep, parts-fit, table-apart}
 use Rattle.elf_make.proofs.LaidOut.{stretch-within}
 use Rattle.elf_make.proofs.Loads.{moved-behind}
-use Rattle.elf_make.proofs.MadeHeaders.{headers, joined}
 use Rattle.elf_make.proofs.MadeInput.{file-once, keep-behind, tight-is}
 use Rattle.elf_make.proofs.TableKept.{LoadsRange, loads-range}
 
@@ -75,73 +65,30 @@ module _ (s : Source) (tight : Bool) (w : List ℕ) (read : IsElfOf s.elf.file.n
         let under : k < p.offset + p.memsz = subst (λ (x : Segment). k < x.offset + x.memsz) (sym same) in_memory in
         absurd (omega arith)
 
-    -- code cells
-    cell-beside : (i : ℕ) → i < length s.cells → IsBeside at (patch_of (get_or made.cells i (number 0 0 0)))
-    cell-beside i below = put_beside (apart (cases_lt k o) (cases_lt k (o + cell.1)))
-      where
-        cell : ℕ × ℕ × ℕ
-        cell = get_or s.cells i (0, 0, 0)
+    in_no_cell : InNoCell s tight w read sound bytes made k at refl
+    in_no_cell i below n place start under =
+        let inside = place.in_file in
+        let loaded = place.in_memory in
+        unloaded place.segment place.there (place.load, omega (arith, start), omega (arith, under, inside))
+        (omega (arith, under, loaded))
 
-        n : NumberAt
-        n = get_or made.cells i (number 0 0 0)
-
-        is : IsCellNumber s.elf made.layout.shift cell n
-        is = made.are_cells.each i (0, 0, 0) (number 0 0 0) below
-
-        place : CellPlace ps made.layout.shift cell n
-        place = cell-place s.elf made.layout.shift cell n is
-
-        o : ℕ
-        o = place.segment.offset + (cell.0 - place.segment.vaddr)
-
-        in_cell : o ≤ k → k < o + cell.1 → ⊥
-        in_cell start under =
-            let inside = place.in_file in
-            let loaded = place.in_memory in
-            unloaded place.segment place.there (place.load, omega (arith, start), omega (arith, under, inside))
-            (omega (arith, under, loaded))
-
-        apart : (k < o) ⊎ (o ≤ k) → (k < o + cell.1) ⊎ (o + cell.1 ≤ k) → (k < o) ⊎ (o + cell.1 ≤ k)
-        apart (inl before) other = inl before
-        apart (inr start) (inr after) = inr after
-        apart (inr start) (inl under) = absurd (in_cell start under)
-
-        put_beside : (k < o) ⊎ (o + cell.1 ≤ k) → IsBeside at (patch_of n)
-        put_beside (inl before) =
-            let offset = place.offset in
-            let less = moved-less from step k o before in
-            inl (omega (arith, offset, less))
-        put_beside (inr after) =
-            let offset = place.offset in
-            let width = is.width in
-            let long = length-bytes_low_first 0 n.width n.value in
-            let more = moved-more from step k o cell.1 after in
-            inr (omega (arith, offset, width, long, more))
-
-    cells-beside : All (IsBeside at) (map patch_of made.cells)
-    cells-beside i e below =
-        let long : length (map patch_of made.cells) ≡ length made.cells = length-map made.cells patch_of in
-        let count : length made.cells ≡ length s.cells = made.are_cells.count in
-        subst (IsBeside at) (sym (get_or-map patch_of made.cells i (number 0 0 0) e (omega (arith, long))))
-        (cell-beside i (omega (arith, long, count)))
-
-    -- fields of the file's header, which stands before the end of the executable segment
-    field-beside : (o n v : ℕ) → o + n ≤ 64 → IsBeside at (patch_of (number o n v))
-    field-beside o n v within =
-        let long = length-bytes_low_first 0 n v in
+    -- The file's header stands before the end of the executable segment.
+    field-is_beside : (o n v : ℕ) → o + n ≤ 64 → IsBeside at (patch_of (number o n v))
+    field-is_beside o n v within =
         let header : 64 ≤ made.layout.parts.keep = made.laid_out.header in
         let keep = keep-is in
         let place = at-is in
         let start = low in
-        inr (omega (arith, long, header, keep, place, start, behind, within))
+        field-beside s tight w read sound bytes made k at refl o n v
+        (inr (omega (arith, header, keep, place, start, behind, within)))
 
     fields-beside : All (IsBeside at) (map patch_of (header_numbers made.fields))
-    fields-beside zero e below = field-beside 0x18 8 made.fields.entry (omega arith)
-    fields-beside (suc zero) e below = field-beside 0x20 8 made.fields.segments_at (omega arith)
-    fields-beside (suc (suc zero)) e below = field-beside 0x28 8 made.fields.sections_at (omega arith)
-    fields-beside (suc (suc (suc zero))) e below = field-beside 0x38 2 made.fields.segments (omega arith)
-    fields-beside (suc (suc (suc (suc zero)))) e below = field-beside 0x3c 2 made.fields.sections (omega arith)
-    fields-beside (suc (suc (suc (suc (suc zero))))) e below = field-beside 0x3e 2 made.fields.names (omega arith)
+    fields-beside zero e below = field-is_beside 0x18 8 made.fields.entry (omega arith)
+    fields-beside (suc zero) e below = field-is_beside 0x20 8 made.fields.segments_at (omega arith)
+    fields-beside (suc (suc zero)) e below = field-is_beside 0x28 8 made.fields.sections_at (omega arith)
+    fields-beside (suc (suc (suc zero))) e below = field-is_beside 0x38 2 made.fields.segments (omega arith)
+    fields-beside (suc (suc (suc (suc zero)))) e below = field-is_beside 0x3c 2 made.fields.sections (omega arith)
+    fields-beside (suc (suc (suc (suc (suc zero))))) e below = field-is_beside 0x3e 2 made.fields.names (omega arith)
     fields-beside (suc (suc (suc (suc (suc (suc i)))))) e below = absurd (omega arith)
 
     -- The table of program headers.
@@ -150,12 +97,6 @@ module _ (s : Source) (tight : Bool) (w : List ℕ) (read : IsElfOf s.elf.file.n
 
     abbrev size : ℕ
     size = PHDR_SIZE * length ps
-
-    long : length (segment_table made.segments) ≡ size
-    long =
-        length-segment_table made.segments
-        ∙ ap (λ (qs : List Segment). PHDR_SIZE * length qs) (made.are_headers.kept place-tight)
-        ∙ ap (λ (n : ℕ). PHDR_SIZE * n) made.are_headers.are.count
 
     within-parts : at + 1 ≤ size_of made.layout.parts
     within-parts =
@@ -177,7 +118,7 @@ module _ (s : Source) (tight : Bool) (w : List ℕ) (read : IsElfOf s.elf.file.n
       where
         by : (i : ℕ) × (q : Segment) × (i < length ps) × (get_or ps i q ≡ q) × (loads_range (table_of s.elf) q ≡ true) →
             (k < s.elf.phoff) ⊎ (s.elf.phoff + size ≤ k)
-        by (i, q, within, is, loads) = cases (cases_lt k s.elf.phoff) (cases_lt k (s.elf.phoff + size))
+        by (i, q, within, is, loads) = apart-of k s.elf.phoff size in_table
           where
             range : LoadsRange s.elf.phoff size q
             range = loads-range s.elf.phoff size q loads
@@ -190,40 +131,21 @@ module _ (s : Source) (tight : Bool) (w : List ℕ) (read : IsElfOf s.elf.file.n
                 unloaded q (i, within, is) (range.load, omega (arith, start, first), omega (arith, under, in_q))
                 (omega (arith, under, in_memory))
 
-            cases : (k < s.elf.phoff) ⊎ (s.elf.phoff ≤ k) → (k < s.elf.phoff + size) ⊎ (s.elf.phoff + size ≤ k) →
-                (k < s.elf.phoff) ⊎ (s.elf.phoff + size ≤ k)
-            cases (inl before) other = inl before
-            cases (inr start) (inr after) = inr after
-            cases (inr start) (inl under) = absurd (in_table start under)
-
-    table-beside : IsBeside at (record { offset = made.table_at; bytes = segment_table made.segments })
-    table-beside = cases (is_kept_table s.elf made.layout.shift) refl
+    table-is_beside : IsBeside at (table_patch s tight w read sound bytes made)
+    table-is_beside = cases (is_kept_table s.elf made.layout.shift) refl
       where
-        beside : made.table_at ≡ moved_by from step s.elf.phoff → (k < s.elf.phoff) ⊎ (s.elf.phoff + size ≤ k) →
-            IsBeside at (record { offset = made.table_at; bytes = segment_table made.segments })
-        beside place (inl before) = let less = moved-less from step k s.elf.phoff before in inl (omega (arith, place, less))
-        beside place (inr after) =
-            let more = moved-more from step k s.elf.phoff size after in
-            let length_is = long in
-            inr (omega (arith, place, more, length_is))
-
         cases : (b : Bool) → is_kept_table s.elf made.layout.shift ≡ b →
-            IsBeside at (record { offset = made.table_at; bytes = segment_table made.segments })
-        cases true kept = beside (made.table_place.kept place-tight kept) (table-of (or_cases _ _ kept))
+            IsBeside at (table_patch s tight w read sound bytes made)
+        cases true kept =
+            table-beside s tight w read sound bytes made k at refl place-tight
+            (made.table_place.kept place-tight kept) (table-of (or_cases _ _ kept))
         cases false added =
             let place = made.table_place.added place-tight added in
             let within = within-parts in
             inl (omega (arith, place, within))
 
-    all-beside : All (IsBeside at) (patches s tight w read sound bytes made)
-    all-beside =
-        All-append (IsBeside at) (map patch_of made.cells) (headers s tight w made) cells-beside
-        (All-cons (IsBeside at) (record { offset = made.table_at; bytes = segment_table made.segments })
-        (map patch_of (header_numbers made.fields)) table-beside fields-beside)
-
     behind-is : get_or w (k + step) 0 ≡ get_or s.elf.file.now k 0
     behind-is =
-        let base : length made.put.assembled.base ≡ size_of made.layout.parts = made.put.assembled.joined.size in
         let fit = parts-fit s tight w read sound bytes made in
         let within = within-parts in
         let keep = keep-is in
@@ -233,10 +155,8 @@ module _ (s : Source) (tight : Bool) (w : List ℕ) (read : IsElfOf s.elf.file.n
         let first : made.layout.parts.low ≤ p.offset = bounds.0 in
         let last : p.offset + p.filesz ≤ made.layout.parts.high = bounds.1 in
         ap (λ (o : ℕ). get_or w o 0) (sym at-is)
-        ∙ ap (λ (xs : List ℕ). get_or xs at 0) (written-all s tight w read sound bytes made)
-        ∙ get_or-put_all (patches s tight w read sound bytes made) (joined s tight w made) at
-        (within-all s tight w read sound bytes made) all-beside
-        ∙ get_or_append_left made.put.assembled.base made.tail 0 at (omega (arith, base, within))
+        ∙ beside-is s tight w read sound bytes made k at refl (cells-beside s tight w read sound bytes made k at refl in_no_cell)
+        table-is_beside fields-beside (omega (arith, within))
         ∙ ap (λ (o : ℕ). get_or made.put.assembled.base o 0) at-is
         ∙ behind-byte made.layout.parts s.elf.file.now made.layout.bytes.items made.put.assembled.base step k
         made.put.assembled.joined made.laid_out.can.from_input (fit.moved (omega (arith, first, last, start, end)))

@@ -1,5 +1,6 @@
 pub mod AllWritten
 pub mod BehindWritten
+pub mod BesideWritten
 pub mod CellLists
 pub mod CellPatches
 pub mod CellPieces
