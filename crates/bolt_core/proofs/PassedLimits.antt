@@ -11,10 +11,11 @@ use Rattle.elf_image.specs.declared.segment.Segment.{Segment}
 use Rattle.elf_image.specs.file.Header.{e_phnum, e_shnum}
 use Rattle.elf_image.specs.file.ParsedFile.{IsElfOf}
 use Rattle.elf_image.proofs.ReadLists.{length-segments_of}
+use Rattle.table_core.specs.Weights.{weight_limit}
 use Rattle.elf_write.specs.NameWeight.{name_weight}
 use Rattle.program.specs.Limits.{IsCodeTooLarge, IsLimitFault, many_functions, much_code}
 use Rattle.program.specs.Refusals.{IsRefusalFor}
-use Rattle.bolt_core.specs.Limits.{IsTooLarge, header_limit, large_code, long_names, many_sections, many_segments, name_limit}
+use Rattle.bolt_core.specs.Limits.{IsTooLarge, header_limit, large_code, long_names, many_sections, many_segments}
 
 pub segment_count : (elf : Elf) → IsElfOf elf.file.now elf → length elf.segments.items ≡ e_phnum elf.file.now
 segment_count elf is = ap (λ (ps : List Segment). length ps) is.segments ∙ length-segments_of elf.file.now
@@ -72,12 +73,12 @@ module _ (elf : Elf) (funcs : List Func) (cold : List ℕ) where
       from_names place (many_segments e many) = absurd (omega (arith, segments, many))
       from_names place (long_names e long) = omega (arith, e)
 
-      pub at_names : name_limit < name_weight elf funcs cold → (fault : Fault) → fault ≡ fault_at TooLarge 6 →
+      pub at_names : weight_limit < name_weight elf funcs cold → (fault : Fault) → fault ≡ fault_at TooLarge 6 →
           IsLimitFault (IsTooLarge elf funcs cold) fault
       at_names long fault is =
           record { place = 6; first = record { present = long_names refl long; least = from_names }; fault_is = is }
 
-      pub within : name_weight elf funcs cold ≤ name_limit → (place : ℕ) → IsTooLarge elf funcs cold place → ⊥
+      pub within : name_weight elf funcs cold ≤ weight_limit → (place : ℕ) → IsTooLarge elf funcs cold place → ⊥
       within short place (large_code large) = little place large
       within short place (many_sections e many) = absurd (omega (arith, sections, many))
       within short place (many_segments e many) = absurd (omega (arith, segments, many))

@@ -3,6 +3,7 @@ use Rattle.std.specs.Prelude.{◌≡◌, ◌<◌, ℕ, List}
 use Rattle.rv_code.specs.declared.placed.Func.{Func}
 use Rattle.elf_image.specs.declared.elf.Elf.{Elf}
 use Rattle.elf_image.specs.file.Header.{e_phnum, e_shnum}
+use Rattle.table_core.specs.Weights.{weight_limit}
 use Rattle.elf_write.specs.NameWeight.{name_weight}
 use Rattle.rb_bytes.specs.declared.limit.TheConstants.{HEADERS, WEIGHTS}
 use Rattle.program.specs.Limits.{IsCodeTooLarge}
@@ -11,14 +12,10 @@ use Rattle.program.specs.Limits.{IsCodeTooLarge}
 abbrev pub header_limit : ℕ
 header_limit = 65000
 
--- of the bytes of names that are written
-abbrev pub name_limit : ℕ
-name_limit = 4000000000
-
 -- The places at which a file with these functions passes a limit: its code, its functions, its headers,
 -- or the names that are written. Of functions whose cold part stands apart, `cold` has the addresses of that.
 pub data IsTooLarge (elf : Elf) (funcs : List Func) (cold : List ℕ) (place : ℕ) : Type 0 where
   large_code : IsCodeTooLarge elf.file.now funcs place → IsTooLarge elf funcs cold place
   many_sections : place ≡ HEADERS → header_limit < e_shnum elf.file.now → IsTooLarge elf funcs cold place
   many_segments : place ≡ HEADERS → header_limit < e_phnum elf.file.now → IsTooLarge elf funcs cold place
-  long_names : place ≡ WEIGHTS → name_limit < name_weight elf funcs cold → IsTooLarge elf funcs cold place
+  long_names : place ≡ WEIGHTS → weight_limit < name_weight elf funcs cold → IsTooLarge elf funcs cold place

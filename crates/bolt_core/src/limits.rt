@@ -24,13 +24,11 @@ use rb_bytes::fault::{Fault, FaultKind, Refusal};
 use rb_bytes::limit::{FILE_BYTES, HEADERS, PROFILE_BYTES, WEIGHTS};
 use rv_code::Func;
 use std::alloc::Global;
+use table_core::WEIGHT_LIMIT;
 use table_set::{AllTables, is_too_heavy};
 
 // The most headers of sections, and of segments.
 const HEADER_LIMIT: usize = 65_000;
-
-// The most bytes of names that are written.
-const NAME_LIMIT: u64 = 4_000_000_000;
 
 /// Refuses a file that is too long, at 0, and then a profile, at 1.
 pub fn check_lengths(file: &[u8], profile: &[u8]) -> Result<(), Refusal>
@@ -67,7 +65,7 @@ pub fn check_sizes(
         return Err(Refusal::Fault(Fault::at(FaultKind::TooLarge, HEADERS)));
     }
     let weight = name_weight(alloc, elf, funcs, cold)?;
-    if weight > NAME_LIMIT {
+    if weight > WEIGHT_LIMIT {
         return Err(Refusal::Fault(Fault::at(FaultKind::TooLarge, WEIGHTS)));
     }
     Ok(())

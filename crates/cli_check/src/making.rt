@@ -20,8 +20,8 @@ pub struct Outputs {
     pub lines: Vec<u8>,
 }
 
-/// Repairs the profile of an input, or says which fault keeps it from that: `TooLarge` for a length, the faults 1 to
-/// 17, or `TooLarge` for the code.
+/// Repairs the profile of an input, each of at most 64 MiB, or says which fault keeps it from that: one of 1 to 17, or
+/// `TooLarge` at 2 or 3 for the code.
 pub fn repaired(alloc: Global, inputs: &Inputs) -> Result<Outputs, Refusal>
     requires file { length inputs.now.file.items ≤ file_limit }
     requires profile { length inputs.now.profile.items ≤ file_limit }

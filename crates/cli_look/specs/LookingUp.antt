@@ -13,7 +13,7 @@ use Rattle.cli_look.specs.LookAnswers.{Looking}
 use Rattle.cli_look.specs.Questions.{HasFaultFor, answer_text}
 use Rattle.cli_look.specs.declared.question.Question.{Question}
 
--- a file of at most so many bytes in which its reader finds nothing wrong, as that keeps it
+-- a file of at most so many bytes in which its reader finds nothing wrong, as the reader keeps it
 pub record IsSoundElf (file : List ℕ) (elf : Elf) : Type 0 where
   pub fits : length file ≤ file_limit
   pub sound : IsSound file

@@ -237,8 +237,8 @@ impl<'a> NewNames<'a> {
         }
     }
 
-    /// Whether both are.
-    pub fn are_new(&self, names: &BTreeMap<u64, Symbol>) -> bool
+    // Whether both tables of names are what they must be.
+    fn are_new(&self, names: &BTreeMap<u64, Symbol>) -> bool
         requires laid_out { AreLaidOut self.now.funcs.now }
         requires names { AreFirstNames self.now.tables.now.elf.now.symbols.items names.now }
         ensures { IsTrue result →

@@ -213,7 +213,7 @@ impl<'a> SectionTables<'a> {
         )
     }
 
-    // How many sections there must be.
+    // Whether there are as many sections as there must be.
     fn has_count(&self) -> bool
         ensures { IsTrue result →
             length self.now.new.now.sections.items ≡ (length self.now.elf.now.sections.items + 1)

@@ -16,7 +16,7 @@ fn local_count(symbols: &[Symbol], table: &Section) -> usize
     symbols.len().min(table.info as usize)
 }
 
-// What the header of a table must say, to which so many symbols are added.
+// Whether the header of a table says what it must, to which so many symbols are added.
 fn has_info(symbols: &[Symbol], added: usize, table: &Section, new: &Section) -> bool
     ensures { IsTrue result → new.now.info ≡ spec.new_info symbols.now added table.now }
 {
@@ -27,14 +27,14 @@ fn has_info(symbols: &[Symbol], added: usize, table: &Section, new: &Section) ->
     }
 }
 
-// As many of the first symbols.
+// So many of the first symbols.
 fn first<'a, 'b>(symbols: &'b [Symbol<'a>], count: usize) -> &'b [Symbol<'a>]
     ensures { result.now ≡ take count symbols.now }
 {
     &symbols[..count.min(symbols.len())]
 }
 
-// What stands behind so many items.
+// The symbols behind so many.
 fn behind<'a, 'b>(symbols: &'b [Symbol<'a>], count: usize) -> &'b [Symbol<'a>]
     ensures { result.now ≡ drop count symbols.now }
 {

@@ -42,10 +42,11 @@ pub record IsTablePlace (elf : Elf) (area : Area) (shift : Shift) (base at : ℕ
   pub kept : area.tight ≡ false → is_kept_table elf shift ≡ true → at ≡ moved_by shift.from shift.by elf.phoff
   pub added : area.tight ≡ false → is_kept_table elf shift ≡ false → base ≤ at
 
--- The fields of the file's header, as numbers at their places. gABI, "ELF Header".
+-- a number at an offset, of so many bytes
 abbrev pub number : ℕ → ℕ → ℕ → NumberAt
 number offset width value = record { offset = offset; width = width; value = value }
 
+-- The fields of the file's header, as numbers at their places. gABI, "ELF Header".
 abbrev pub header_numbers : HeaderFields → List NumberAt
 header_numbers fields =
     number 0x18 8 fields.entry ∷ number 0x20 8 fields.segments_at ∷ number 0x28 8 fields.sections_at

@@ -46,10 +46,11 @@ pub record HasPlace (s : Source) (tight : Bool) : Type 0 where
   pub fits : (source_area s tight).end - (source_area s tight).start ≤
       (if tight then room_above s.elf.segments.items else room s.elf.segments.items)
 
--- The bytes in memory that may differ: those of code cells, of the field of the entry point, and of hidden fields.
+-- the bytes of a code cell in memory
 abbrev pub cell_range : ℕ × ℕ × ℕ → Range
 cell_range cell = record { start = cell.0; size = cell.1 }
 
+-- The bytes in memory that may differ: those of code cells, of the field of the entry point, and of hidden fields.
 abbrev pub is_changed : Source → Bool → ℕ → Bool
 is_changed s tight a =
     list_any (λ cell. is_in_range a (cell_range cell)) s.cells || is_in_entry_field s.elf a

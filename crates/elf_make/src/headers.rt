@@ -176,16 +176,15 @@ fn place_bytes(
     Ok(())
 }
 
-/// Where contents that are written from an offset on will end, in an order of their indices. No file is so large that
-/// they would be written for nothing, and none is many times as large as the input: such a file has zeros before a
-/// huge alignment.
-pub fn contents_end<'a>(
+/// Refuses contents that would end too far behind an offset, written from there in an order of their indices: past the
+/// largest file, or past many times the input, as zeros before a huge alignment make it.
+pub fn check_end<'a>(
     elf: &Elf<'a>,
     contents: &[Contents],
     order: &[(u64, usize)],
     new: &NewContents<'a>,
     start: u64,
-) -> Result<u64, Unwritable> {
+) -> Result<(), Unwritable> {
     let mut end = start;
     for entry in order {
         let i = entry.1;
@@ -199,7 +198,7 @@ pub fn contents_end<'a>(
     if end > most.saturating_add(MOST_ZEROS) {
         return Err(Unwritable::TooLarge);
     }
-    Ok(end)
+    Ok(())
 }
 
 /// Writes the contents of sections behind the loaded bytes, in an order of their indices, and sets what their headers

@@ -32,7 +32,7 @@ impl NameTable {
         Ok(index as u32)
     }
 
-    /// The names that were added, each with its zero byte.
+    /// The bytes of the table: those that it began with, and behind them each name that was added, with its zero byte.
     pub fn bytes(&self) -> &[u8] {
         &self.bytes
     }

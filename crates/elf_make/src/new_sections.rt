@@ -6,7 +6,7 @@ ghost use Rattle.elf_image.specs.file.Header.{e_shstrndx};
 ghost use Rattle.elf_plan.specs.KnownSections.{IsOwnOf};
 
 use crate::headers::{
-    NewContents, area_headers, contents_end, old_headers, place_contents, set_contents,
+    NewContents, area_headers, check_end, old_headers, place_contents, set_contents,
 };
 use crate::names::NameTable;
 use crate::symbols::{NewCode, cold_symbols, local_count, symbol_table};
@@ -196,7 +196,7 @@ pub fn put(
         symbol_names: names.of_symbols(),
         tables: source.tables,
     };
-    contents_end(source.elf, &plan.contents, &plan.order, &new, tail.end()?)?;
+    check_end(source.elf, &plan.contents, &plan.order, &new, tail.end()?)?;
     place_contents(
         source.elf,
         &plan.contents,

@@ -4,7 +4,6 @@
 mod given_places;
 mod writer;
 
-pub use area_room::{area_start_of, is_tight, need, no_room, room, room_above};
 pub use elf_plan::area::table_places;
 pub use elf_plan::given_tables::Table;
 pub use elf_plan::weights::name_weight;

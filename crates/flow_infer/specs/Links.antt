@@ -89,7 +89,7 @@ abbrev pub IsLinkOf : ProgramCode → List Block → List (ℕ × ℕ) → List 
 IsLinkOf code blocks edges pairs e =
     AreEnds code blocks edges e.0 e.1 × (e.2 ≡ link_count code.funcs blocks pairs e.0 e.1)
 
--- Links go by function, then by where they come from and by where they lead, what lies outside first.
+-- a block at an end of a link
 abbrev pub a_block : Option ℕ → Option ℕ → ℕ
 a_block (Some k) to = k
 a_block None (Some k) = k
@@ -102,6 +102,7 @@ abbrev pub rank : Option ℕ → ℕ
 rank None = 0
 rank (Some k) = k + 1
 
+-- Links go by function, then by where they come from and by where they lead, what lies outside first.
 abbrev pub IsLinkBefore : List Block → CountedEnds → CountedEnds → Type 0
 IsLinkBefore blocks d e = (func_of_ends blocks d < func_of_ends blocks e) ⊎
     ((func_of_ends blocks d ≡ func_of_ends blocks e) ×

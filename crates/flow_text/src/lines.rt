@@ -1,7 +1,7 @@
 // The lines of prices, of links and of the total.
 ghost use Rattle.std.specs.Prelude.{◌≡◌, ◌++◌, ◌<◌, ◌^◌, All, OnOk, length};
 ghost use Rattle.rv_code.specs.layout.FunctionMembers.{IsOfFunction};
-ghost use Rattle.flow_infer.specs.Flows.{change, distance};
+ghost use Rattle.flow_infer.specs.Flows.{change};
 ghost use Rattle.flow_text.specs.LinkLists.{IsBetween, IsPlaceIn};
 ghost use Rattle.flow_text.specs.Report as spec;
 
@@ -94,17 +94,7 @@ fn total_change(links: &[Link]) -> u128
 {
     let mut total = 0;
     for link in links {
-        total += distance(link.flow, link.count);
+        total += link.flow.abs_diff(link.count);
     }
     total
-}
-
-fn distance(flow: u128, count: u128) -> u128
-    ensures { result ≡ distance flow count }
-{
-    if flow > count {
-        flow - count
-    } else {
-        count - flow
-    }
 }

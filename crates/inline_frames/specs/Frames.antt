@@ -83,10 +83,10 @@ frames_of elf a (e ∷ es) = frame_at_row elf a e ∷ callers elf e es
 abbrev pub frames : Elf → ℕ → List Frame
 frames elf a = frames_of elf a (chain (list_sections elf) a)
 
--- a line for each, or one that says that there is none
 abbrev pub frame_line : Frame → List ℕ
 frame_line f = f.name ++ codes " " ++ f.path ++ codes ":" ++ decimal f.line ++ codes ":" ++ decimal f.column
     ++ codes "\n"
 
+-- a line for each, or one that says that there is none
 abbrev pub frames_text : Elf → ℕ → List ℕ
 frames_text elf a = or_none (flat_map frame_line (frames elf a))

@@ -63,7 +63,6 @@ text_at_place s (InInfo place len) = Some (take len (drop place s.units.info))
 text_at_place s (InStr offset) = text_in s.str offset
 text_at_place s (InLineStr offset) = text_in s.line_str offset
 
--- a naming with its reference followed once
 abbrev pub naming_or_none : Option Naming → Naming
 naming_or_none (Some n) = n
 naming_or_none None = Named None
@@ -71,6 +70,7 @@ naming_or_none None = Named None
 abbrev pub entry_at : NameSections → ℕ → Option Entry
 entry_at s place = find (λ (x : Entry). x.place == place) (entries s.units)
 
+-- a naming with its reference followed once
 abbrev pub followed : NameSections → Naming → Naming
 followed s (Named t) = Named t
 followed s (Refers place) = naming_or_none (option_map (naming_of s) (entry_at s place))

@@ -33,12 +33,7 @@ fn target_of(naming: Naming) -> Option<u128>
 fn is_any_left(namings: &[Naming]) -> bool
     ensures { result ≡ list_any (λ n. is_some (spec.target_of n)) namings.now }
 {
-    for naming in namings {
-        if target_of(*naming).is_some() {
-            return true;
-        }
-    }
-    false
+    namings.iter().any(|naming| target_of(*naming).is_some())
 }
 
 // The offsets that some namings refer to.

@@ -37,7 +37,7 @@ line_lines said = option_map_or (λ (l : LineSaid). flat_map row_line l.rows) sa
 abbrev pub covers_line : ℕ → List ℕ
 covers_line place = codes "covers " ++ hexadecimal place ++ codes "\n"
 
--- an expression in two digits a byte
+-- an expression in two digits a byte, or `-` for an empty one
 abbrev pub expression_text : List ℕ → List ℕ
 expression_text [] = codes "-"
 expression_text (b ∷ bs) = bytes_text (b ∷ bs)

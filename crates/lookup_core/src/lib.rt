@@ -9,4 +9,4 @@ mod report;
 mod texts;
 mod unwind;
 
-pub use report::{Report, look, report_text};
+pub use report::{Report, look};

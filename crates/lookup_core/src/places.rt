@@ -4,6 +4,7 @@ ghost use Rattle.lookup_core.specs.Report.{expression_text, place_line, places_l
 ghost use Rattle.range_loc_rewrite.specs.Locations.{place_said};
 
 use crate::texts::put_bytes;
+use range_loc_rewrite::PlaceAt;
 use rb_bytes::fault::NoMemory;
 use rb_bytes::text::put_hex;
 
@@ -31,7 +32,7 @@ fn put_line(text: &mut Vec<u8>, entry: u64, attr: u64, x: &[u8]) -> Result<(), N
 }
 
 // Appends the lines of the expressions of one attribute.
-fn put_place(text: &mut Vec<u8>, place: &(u64, u64, Vec<Vec<u8>>)) -> Result<(), NoMemory>
+fn put_place(text: &mut Vec<u8>, place: &PlaceAt) -> Result<(), NoMemory>
     ensures { OnOk result (text.new.items ≡ text.old.items ++ places_lines (place_said place.now)) }
 {
     for x in &place.2 {
@@ -41,7 +42,7 @@ fn put_place(text: &mut Vec<u8>, place: &(u64, u64, Vec<Vec<u8>>)) -> Result<(),
 }
 
 /// Appends the lines of all places.
-pub fn put_places(text: &mut Vec<u8>, places: &[(u64, u64, Vec<Vec<u8>>)]) -> Result<(), NoMemory>
+pub fn put_places(text: &mut Vec<u8>, places: &[PlaceAt]) -> Result<(), NoMemory>
     ensures { OnOk result (text.new.items ≡ text.old.items ++ flat_map places_lines (map place_said places.now)) }
 {
     for place in places {

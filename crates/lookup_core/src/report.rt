@@ -15,6 +15,7 @@ use crate::unwind::put_frame;
 use elf_image::Elf;
 use frame_rewrite::FrameAt;
 use line_rewrite::LineAt;
+use range_loc_rewrite::PlaceAt;
 use rb_bytes::fault::{NoMemory, Refusal};
 use std::alloc::Global;
 use table_core::ByAddress;
@@ -35,12 +36,12 @@ impl Report {
     }
 }
 
-/// The text of the report, of what the tables say.
-pub fn report_text(
+// The text of the report, of what the tables say.
+fn report_text(
     alloc: Global,
     line: &Option<LineAt>,
     covers: &[u64],
-    places: &[(u64, u64, Vec<Vec<u8>>)],
+    places: &[PlaceAt],
     unwind: &Option<FrameAt>,
 ) -> Result<Vec<u8>, NoMemory>
     ensures { IfOk result (λ text. text.items ≡ report_of line.now covers.now (map place_said places.now) unwind.now) }

@@ -16,10 +16,11 @@ IsMiscounted funcs spans a = count_by (is_of a) spans ≢ (if is_code_address fu
 abbrev pub IsMisplaced : List Span → ℕ → Type 0
 IsMisplaced spans a = LacksAt IsPlaced (λ s. s.input) spans a
 
--- one of its spans shares a byte with another span
+-- one of two spans is that of an address
 abbrev pub IsOneOf : ℕ → Span → Span → Type 0
 IsOneOf a s t = (s.input ≡ a) ⊎ (t.input ≡ a)
 
+-- one of its spans shares a byte with another span
 abbrev pub IsSharing : List Span → ℕ → Type 0
 IsSharing spans a = AllPairs (λ s t. IsOneOf a s t → ShareNoByte s t) spans → ⊥
 

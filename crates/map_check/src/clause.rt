@@ -35,7 +35,8 @@ pub enum Verdict {
     Unfaithful(Clause, u64),
 }
 
-/// At most one verdict is right of a claim, so what `check` answers is right exactly where it answers it.
+/// At most one verdict is right of a claim: so, but for want of memory, `check` answers a verdict exactly where it is
+/// right.
 pub fn verdict_law()
     ensures { (c : Claim) (v w : Verdict) → IsVerdict c v → IsVerdict c w → v ≡ w }
 {}

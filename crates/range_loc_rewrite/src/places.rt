@@ -1,11 +1,11 @@
 // The places of entries by their numbers.
-ghost use Rattle.std.specs.Prelude.{◌≡◌, ◌++◌, [], IfOk, OnOk, filter_map, option_map};
-ghost use Rattle.std.specs.List.{cons_option};
+ghost use Rattle.std.specs.Prelude.{◌≡◌, IfOk, filter_map, option_map};
 ghost use Rattle.table_core.specs.ReadSteps.{unless_empty};
 ghost use Rattle.cover_lists.specs.CoverIndex.{place_at};
 
 use cover_lists::groups::RangedEntry;
 use rb_bytes::fault::NoMemory;
+use rb_bytes::lists::push_some;
 use std::alloc::Global;
 
 fn place_at(ranged: &[RangedEntry], number: usize) -> Option<u64>
@@ -13,18 +13,6 @@ fn place_at(ranged: &[RangedEntry], number: usize) -> Option<u64>
 {
     let entry = ranged.get(number)?;
     Some(entry.place)
-}
-
-fn put_place(places: &mut Vec<u64>, place: Option<u64>) -> Result<(), NoMemory>
-    ensures { OnOk result (places.new.items ≡ places.old.items ++ cons_option place []) }
-{
-    match place {
-        Some(place) => {
-            places.push(place)?;
-            Ok(())
-        }
-        None => Ok(()),
-    }
 }
 
 /// The places of the entries of some numbers.
@@ -37,7 +25,7 @@ pub fn places_of(
 {
     let mut places = Vec::new(alloc);
     for number in numbers {
-        put_place(&mut places, place_at(ranged, *number))?;
+        push_some(&mut places, place_at(ranged, *number))?;
     }
     Ok(places)
 }

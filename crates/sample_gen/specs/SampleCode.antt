@@ -108,7 +108,7 @@ start_name = codes "_start"
 abbrev pub shape : List ℕ → ℕ → ℕ → SymbolShape
 shape name value size = record { name = name; value = value; size = size }
 
--- that of function k; the symbol of the number of functions is that of the entry point
+-- that of function k; number n, behind all functions, is that of the entry point
 abbrev pub sample_symbol : ℕ → ℕ → SymbolShape
 sample_symbol n k = if k == n then shape start_name (function_at k) 20 else shape (function_name k) (function_at k) 48
 

@@ -11,8 +11,9 @@ use std::alloc::Global;
 // encoding of addresses (relative, in four bytes), and that the frame address is the stack pointer.
 const COMMON: &[u8] = b"\x14\0\0\0\0\0\0\0\x01zR\0\x01\x78\x01\x01\x1b\x0c\x02\0\0\0\0\0";
 
-// The operations of a function: behind its first instruction the frame has 16 bytes, behind the second the return
-// address stands in it, and before the last both end. Three nops fill the entry up.
+// The operations of a function: behind its first instruction the frame has 16 bytes, and behind the second the return
+// address stands in it; that ends before the last instruction but one, and the frame before the last. Four nops fill the
+// entry up.
 const OPERATIONS: &[u8] = b"\x44\x0e\x10\x44\x81\x01\x60\xc1\x44\x0e\0\0\0\0\0";
 
 // The bytes of a function's entry, and those behind its length.

@@ -1,4 +1,4 @@
-// Whether instructions are others.
+// Whether instructions are the same.
 ghost use Rattle.std.specs.Prelude.{◌≡◌, IsTrue};
 
 use rv_code::{Placed, Role};

@@ -31,7 +31,7 @@ const MOST_INSTS: usize = 12;
 // How many entries of debugging information it has at most: one of its unit, and one of each function but one.
 const MOST_ENTRIES: usize = 1001;
 
-// More than names weigh that no cold part gets, and more bytes than a symbol's name has.
+// What names may weigh while no cold part gets one, and how many bytes a symbol's name may have.
 const MOST_NAMES: u64 = 1_000_000_000;
 
 const LONGEST_NAME: usize = 1000;
@@ -121,12 +121,7 @@ fn are_listless(attrs: &[Attr]) -> bool
 fn has_no_lists(entries: &[Entry]) -> bool
     ensures { IsTrue result → All (λ (e : ListedEntry). All (λ a. IsTrue (is_listless a)) e.attrs) entries.now }
 {
-    for entry in entries {
-        if !are_listless(&entry.attrs) {
-            return false;
-        }
-    }
-    true
+    entries.iter().all(|entry| are_listless(&entry.attrs))
 }
 
 // Whether a file has few entries of debugging information, none of which uses a list, and few declarations of these;

@@ -11,7 +11,7 @@ use Rattle.cli_base.specs.ProgramFiles.{IsProgramFile, IsNoProgram, IsFileProgra
 abbrev pub record_machine : Program → List (List ℕ) → Loaded ℕ ℕ Cause
 record_machine program args = byte_machine program.elf.file.now args
 
--- files are run that the symbol machine runs
+-- `record` takes the files that `run --symbols` takes, and runs them on the byte machine
 abbrev pub record_mode : Mode Program ℕ ℕ Cause
 record_mode = record {
   IsProgram = IsFileProgram;

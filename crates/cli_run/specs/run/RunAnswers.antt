@@ -159,7 +159,7 @@ pub record IsComplete {P V X C : Type 0} (mode : Mode P V X C) (args : RunArgs) 
       ⊎ ((program : P) × (mode.IsProgram file program × IsExact (mode.machine program args.args) args.limit left
       answer))
 
--- none occurred where no count of faults rose
+-- that of `run`, where I/O errors are those that raise a count of `NoRunErrors`
 abbrev pub RunCompletes : {P V X C : Type 0} → Mode P V X C → RunArgs → List ℕ → Status → World → World → Type 0
 RunCompletes mode args file answer old new = IsComplete mode args file old.input.left answer (NoRunErrors args old new)
 

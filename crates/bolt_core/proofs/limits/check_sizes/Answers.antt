@@ -1,7 +1,8 @@
 use Rattle.std.proofs.Common.{◌<◌, ◌≤◌, length, rules, arith}
 use Rattle.std.proofs.lemmas.Result.{err_from_is_err_and}
 use Rattle.elf_write.specs.NameWeight.{name_weight}
-use Rattle.bolt_core.specs.Limits.{header_limit, name_limit}
+use Rattle.table_core.specs.Weights.{weight_limit}
+use Rattle.bolt_core.specs.Limits.{header_limit}
 use Rattle.bolt_core.proofs.PassedLimits.{at_code, at_names, at_sections, at_segments, segment_count, within}
 use Rattle.bolt_core.proofs.limits.check_sizes.Goals as goal
 
@@ -25,16 +26,16 @@ returns-then-len-gt-HEADER_LIMIT-2-clause-refused c =
     at_segments c.args.elf.now c.args.funcs.now c.args.cold.now c.in_ok-check_code.ensures.within
     (omega (arith, segments, over)) _ c.at-then-len-gt-HEADER_LIMIT-2.ensures
 
-pub returns-then-weight-gt-NAME_LIMIT-clause-refused : goal.returns-then-weight-gt-NAME_LIMIT-clause-refused
-returns-then-weight-gt-NAME_LIMIT-clause-refused c =
+pub returns-then-weight-gt-WEIGHT_LIMIT-clause-refused : goal.returns-then-weight-gt-WEIGHT_LIMIT-clause-refused
+returns-then-weight-gt-WEIGHT_LIMIT-clause-refused c =
     let count = c.requires.fields.sections.count_is in
     let segments = segment_count c.args.elf.now c.requires.fields in
     let few_sections : length c.args.elf.now.sections.items ≤ header_limit = search rules in
     let few_segments : length c.args.elf.now.segments.items ≤ header_limit = search rules in
-    let long : name_limit < name_weight c.args.elf.now c.args.funcs.now c.args.cold.now = search rules in
+    let long : weight_limit < name_weight c.args.elf.now c.args.funcs.now c.args.cold.now = search rules in
     at_names c.args.elf.now c.args.funcs.now c.args.cold.now c.in_ok-check_code.ensures.within
     (omega (arith, count, few_sections)) (omega (arith, segments, few_segments)) long _
-    c.at-then-weight-gt-NAME_LIMIT.ensures
+    c.at-then-weight-gt-WEIGHT_LIMIT.ensures
 
 pub returns-clause-within : goal.returns-clause-within
 returns-clause-within c =
@@ -42,6 +43,6 @@ returns-clause-within c =
     let segments = segment_count c.args.elf.now c.requires.fields in
     let few_sections : length c.args.elf.now.sections.items ≤ header_limit = search rules in
     let few_segments : length c.args.elf.now.segments.items ≤ header_limit = search rules in
-    let short : name_weight c.args.elf.now c.args.funcs.now c.args.cold.now ≤ name_limit = search rules in
+    let short : name_weight c.args.elf.now c.args.funcs.now c.args.cold.now ≤ weight_limit = search rules in
     within c.args.elf.now c.args.funcs.now c.args.cold.now c.in_ok-check_code.ensures.within
     (omega (arith, count, few_sections)) (omega (arith, segments, few_segments)) short
