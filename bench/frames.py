@@ -17,10 +17,13 @@ NOP, DEF_CFA, DEF_CFA_REGISTER, DEF_CFA_OFFSET, SP = 0x00, 0x0C, 0x0D, 0x0E, 2
 
 
 def table_at(path, name):
-    """The address, the offset and the size of a section; three times 0 where there is none."""
+    """The address, the offset and the size of a section; three times 0 where there is none, where it is compressed, or
+    where the file has no bytes of it."""
     sections = output([CROSS + "readelf", "-SW", path])
-    found = re.search(rf" \{name} +\S+ +([0-9a-f]+) ([0-9a-f]+) ([0-9a-f]+)", sections)
-    return tuple(int(number, 16) for number in found.groups()) if found else (0, 0, 0)
+    found = re.search(rf" \{name} +(\S+) +([0-9a-f]+) ([0-9a-f]+) ([0-9a-f]+) \S+ +([A-Za-z]*)", sections)
+    if not found or found[1] == "NOBITS" or "C" in found[5]:
+        return 0, 0, 0
+    return tuple(int(number, 16) for number in found.groups()[1:4])
 
 
 def unwind_table(path):
@@ -49,10 +52,10 @@ def defined(instructions):
     if instructions[:2] != bytes([DEF_CFA_REGISTER, SP]):
         return instructions
     rest = instructions[2:]
-    if rest[0] == DEF_CFA_OFFSET:
+    if rest[:1] == bytes([DEF_CFA_OFFSET]):
         end = after_leb(rest, 1)
         return bytes([DEF_CFA, SP]) + rest[1:end] + bytes([NOP]) + rest[end:]
-    if rest[-1] == NOP:
+    if rest[-1:] == bytes([NOP]):
         return bytes([DEF_CFA, SP, 0]) + rest[:-1]
     return instructions
 
@@ -65,10 +68,13 @@ def mend_tables(path):
             _, at, size = table_at(path, name)
             end = at + size
             while at < end and (length := int.from_bytes(data[at:at + 4], "little")) != 0:
+                past = at + 4 + length
+                if past > end:
+                    break  # 64-bit DWARF, or damaged: the rest is left as it is
                 if data[at + 4:at + 8] == mark:
-                    first, past = instructions_of(data, at), at + 4 + length
+                    first = instructions_of(data, at)
                     data[first:past] = defined(bytes(data[first:past]))
-                at += 4 + length
+                at = past
         file.seek(0)
         file.write(data)
 
@@ -156,7 +162,7 @@ def table_problems(old, new, spans):
         readers["llvm-dwarfdump"] = entries_by_llvm
     for tool, rows in readers.items():
         before, after = rows(old), rows(new)
-        if set(before) != set(after):
+        if not before or set(before) != set(after):
             problems.append(f"{tool} finds {sorted(before)} before and {sorted(after)} afterwards")
         for name in set(before) & set(after):
             asked = ((at, source) for start, length, source in spans if length for at in (start, start + length - 1))

@@ -164,6 +164,8 @@ def line_problems(old, new, spans):
     for name, read in (("readelf", sequences_by_readelf), ("llvm-dwarfdump", sequences_by_llvm)):
         before, after = in_force(read(old), [source for _, source in pairs]), in_force(read(new), [at for at, _ in pairs])
         rows = [before.get(source) for _, source in pairs]
+        if not any(rows):
+            return [f"{name} finds no lines before"]
         problems += differences(name, pairs, rows, [after.get(at) for at, _ in pairs])
     # gdb says the line of the code before where a row says line 0.
     return problems + asked_problems(old, new, [pair for pair, said in zip(pairs, rows) if said and said[-1][:2] != "0:"])

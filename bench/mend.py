@@ -17,7 +17,8 @@
 - Linkers leave pairs of zeros in `.debug_aranges` for functions that they left out. A table ends at such a pair, though
   some tools read on. They are put behind the others.
 
-It wants `riscv64-unknown-elf-readelf` and `-objdump`.
+Compressed tables are left as they are, and frames and ranges of 64-bit DWARF. It wants `riscv64-unknown-elf-readelf`
+and `-objdump`.
 """
 import bisect
 import re
@@ -50,13 +51,13 @@ def mend_locations(path):
     """Moves bounds of locations to starts of instructions. Gives how many it moved."""
     code, moved = Code(path), 0
     listed = output([CROSS + "readelf", "--debug-dump=loc", path])
-    _, table, _ = table_at(path, ".debug_loclists")
+    _, table, size = table_at(path, ".debug_loclists")
     with open(path, "r+b") as file:
         data = bytearray(file.read())
         for entry, *bounds in re.findall(r"^ +([0-9a-f]{8}) ([0-9a-f]{16}) ([0-9a-f]{16}) ", listed, re.M):
             place = table + int(entry, 16)
-            if data[place] != START_END:
-                continue
+            if not place + 1 + PAIR <= table + size or data[place] != START_END:
+                continue  # of another table, or of another kind
             for at, bound in zip((place + 1, place + 1 + ADDRESS), (int(bound, 16) for bound in bounds)):
                 start = code.start_of(bound)
                 if start != bound == int.from_bytes(data[at:at + ADDRESS], "little"):
@@ -113,10 +114,14 @@ def mend_ranges(path):
         while at < end:
             past = at + 4 + int.from_bytes(data[at:at + 4], "little")
             first = at + PAIR  # behind a header of 12 bytes, at a multiple of a pair's size (DWARF 5, section 6.1.2)
-            pairs = [bytes(data[place:place + PAIR]) for place in range(first, past, PAIR)]
-            ordered = b"".join(sorted(pairs, key=lambda pair: pair == bytes(PAIR)))
-            changed += ordered != data[first:past]
-            data[first:past] = ordered
+            if not first <= past <= end:
+                break  # 64-bit DWARF, or damaged: the rest is left as it is
+            # So is a table that has no whole number of pairs, or segments, or addresses of another size.
+            if (past - first) % PAIR == 0 and data[at + 10:at + 12] == bytes([ADDRESS, 0]):
+                pairs = [bytes(data[place:place + PAIR]) for place in range(first, past, PAIR)]
+                ordered = b"".join(sorted(pairs, key=lambda pair: pair == bytes(PAIR)))
+                changed += ordered != data[first:past]
+                data[first:past] = ordered
             at = past
         file.seek(0)
         file.write(data)
