@@ -34,10 +34,15 @@ def plain(text, silent):
     return text
 
 
-def apart(was, now):
+def difference(was, now):
     """Where two lines begin to differ."""
     first = max(len(os.path.commonprefix([was, now])) - 40, 0)
     return f"{was[first:first + 120]!r} before, {now[first:first + 120]!r} after"
+
+
+def value_of(number):
+    """The value of a number, which may have zeros before it, as gdb has them in texts and characters."""
+    return int(number, 16 if number.startswith("0x") else 10)
 
 
 def with_names(text, other):
@@ -85,9 +90,9 @@ class Debugged:
 
     def is_moved(self, was, now):
         """Whether two numbers are addresses of one instruction, before and after, or of what follows on one."""
-        if not (was[:1].isdigit() and now[:1].isdigit()):
+        if not (NUMBER.fullmatch(was) and NUMBER.fullmatch(now)):
             return False
-        return any(self.are_held(int(was, 0) - back, int(now, 0) - back) for back in (0, 1))
+        return any(self.are_held(value_of(was) - back, value_of(now) - back) for back in (0, 1))
 
     def are_held(self, *numbers):
         """Whether one instruction holds the first address before and the second one after."""
@@ -104,6 +109,8 @@ class Debugged:
         """Where gdb says another thing of the rewritten program, asked at the same instructions."""
         before, after = ask(self.old, places), ask(self.new, [self.moved[place] for place in places])
         found = []
+        if places and not (before and after):
+            return ["gdb says nothing " + ("afterwards" if before else "before")]
         if [self.moved.get(at) for at, _ in before] != [at for at, _ in after]:
             return [f"gdb stops {len(before)} times before and {len(after)} times afterwards, or elsewhere"]
         for (at, was), (_, now) in zip(before, after):
@@ -111,7 +118,7 @@ class Debugged:
             was, now = plain(was, silent), plain(with_names(now, was), silent)
             if not self.same(was, now):
                 pairs = zip(was.splitlines(), now.splitlines())
-                lines = [apart(a, b) for a, b in pairs if not self.same(a, b)]
+                lines = [difference(a, b) for a, b in pairs if not self.same(a, b)]
                 found.append(f"gdb at {at:x}: {(lines or ['more lines'])[0]}")
         return found
 
@@ -125,5 +132,7 @@ class Debugged:
             text = output([*GDB, *asked, "-ex", "info breakpoints", path])
             # (a cold part is one of its function's places)
             said.append(set(re.findall(r" in (\w+)\S* at (\S+:\d+)", text)))
+        if places and not all(said):
+            return ["gdb sets no breakpoint " + ("afterwards" if said[0] else "before")]
         other = sorted(said[0] ^ said[1])
         return [f"gdb: a breakpoint at {where} leads to {name} in one file alone" for name, where in other]

@@ -22,26 +22,31 @@ import os
 import re
 import sys
 
-sys.path.insert(0, os.path.dirname(os.path.abspath(__file__)))
-from profiles import CROSS, output  # noqa: E402
+from profiles import CROSS, output
 
 LINE, PAGE, COLUMNS, STEP = 64, 4096, 64, 8
 SIGNS = " .:-=+*#%@"
 COLOURS = ["#f4f4f4", "#fde6c8", "#fdd09a", "#fcb36b", "#f8924a", "#ee6d33", "#dc4a22", "#bd2a18", "#921410", "#5c0909"]
 
 
+def symbols_of(path):
+    """The addresses and names of the symbols of functions."""
+    rows = [line.split() for line in output([CROSS + "readelf", "-sW", path]).splitlines()]
+    return [(int(row[1], 16), row[7]) for row in rows if len(row) == 8 and row[3] == "FUNC" and row[6] != "UND"]
+
+
 def functions_of(path):
-    """The functions of a file: their addresses, ascending, and by address their names."""
+    """The functions of a file: their addresses, ascending, and by address a name of each."""
     names = {}
-    for line in output([CROSS + "readelf", "-sW", path]).splitlines():
-        fields = line.split()
-        if len(fields) == 8 and fields[3] == "FUNC" and fields[6] != "UND":
-            names.setdefault(int(fields[1], 16), fields[7])
+    for address, name in symbols_of(path):
+        names.setdefault(address, name)
     return sorted(names), names
 
 
 def entry_of(path):
     found = re.search(r"Entry point address: +0x([0-9a-f]+)", output([CROSS + "readelf", "-hW", path]))
+    if not found:
+        sys.exit(f"{path} is no ELF file")
     return int(found[1], 16)
 
 
@@ -51,24 +56,26 @@ def spans_of(path):
         return [(int(new, 16), int(size), int(old, 16)) for new, size, old in map(str.split, lines)]
 
 
-def edges_of(path, names):
-    """The pairs of addresses of a profile with their counts."""
+def edges_of(profile, path):
+    """The pairs of addresses of a profile of a file with their counts. A function may have several names; a name that
+    several have, and a line of another form, says nothing."""
     places = collections.defaultdict(set)
-    for address, name in names.items():
+    for address, name in symbols_of(path):
         places[name].add(address)
+    form = re.compile(r"1 (\S+) ([0-9a-f]+) 1 (\S+) ([0-9a-f]+) [0-9]+ ([0-9]+)")
 
     def place(name, offset):
-        at = int(name[1:], 16) if name.startswith("@") else next(iter(places[name])) if len(places[name]) == 1 else None
-        return None if at is None else at + int(offset, 16)
+        address = re.fullmatch("@(0|[1-9a-f][0-9a-f]*)", name)
+        found = {int(address[1], 16)} if address else places.get(name, ())
+        return min(found) + int(offset, 16) if len(found) == 1 else None
 
     edges = collections.Counter()
-    with open(path, encoding="utf-8", errors="replace") as lines:
+    with open(profile, encoding="utf-8", errors="replace", newline="\n") as lines:
         for line in lines:
-            fields = line.rstrip("\n").split(" ")
-            if len(fields) == 8 and fields[0] == fields[3] == "1":
-                start, end = place(*fields[1:3]), place(*fields[4:6])
+            if row := form.fullmatch(line.rstrip("\n")):
+                start, end = place(row[1], row[2]), place(row[3], row[4])
                 if start is not None and end is not None:
-                    edges[start, end] += int(fields[7])
+                    edges[start, end] += int(row[5])
     return edges
 
 
@@ -185,7 +192,10 @@ def pictures_of(old, new, map_path, profile, cell=None):
     spans = spans_of(map_path)
     named = functions_of(old)
     instructions = sorted(source for _, _, source in spans)
-    counts = counts_of(edges_of(profile, named[1]), entry_of(old), instructions, named[0])
+    # what doesn't fit is left out, as `rewrite` does with a profile of a program that changed
+    known = set(instructions)
+    edges = {pair: count for pair, count in edges_of(profile, old).items() if known.issuperset(pair)}
+    counts = counts_of(edges, entry_of(old), instructions, named[0])
     before = [(source, 2, counts[source]) for source in instructions]
     after = [(at, size, counts[source]) for at, size, source in spans]
     cell = cell or cell_for(before)
@@ -200,6 +210,9 @@ def main():
     for name in ("IN", "OUT", "MAP", "PROFILE"):
         words.add_argument(name)
     given = words.parse_args()
+    for path in (given.IN, given.OUT, given.MAP, given.PROFILE):
+        if not os.path.exists(path):
+            sys.exit(f"there is no file {path}")
     pictures = pictures_of(given.IN, given.OUT, given.MAP, given.PROFILE, given.cell)
     for picture in pictures:
         print(picture.text())

@@ -27,10 +27,9 @@ import subprocess
 import sys
 import tempfile
 
-sys.path.insert(0, os.path.dirname(os.path.abspath(__file__)))
-from debug_files import asked, build_with_tables, instructions  # noqa: E402
-from profiles import CROSS, output, record  # noqa: E402
-from real_programs import LONGER, ROOT, compilers  # noqa: E402
+from debug_files import asked, build_with_tables, instructions
+from profiles import CROSS, record
+from real_programs import LONGER, NO_COMPILER, ROOT, buildable, compilers
 
 
 def frames_of(text):
@@ -156,10 +155,12 @@ def main():
     words.add_argument("programs", nargs="*", default=sorted(LONGER))
     given = words.parse_args()
     tool, problems = given.tool.split(), 0
+    if not compilers():
+        sys.exit(NO_COMPILER)
     with tempfile.TemporaryDirectory() as room:
         folder = given.keep or room
         os.makedirs(folder, exist_ok=True)
-        for program in given.programs:
+        for program in buildable(given.programs):
             for compiler, parts in compilers().items():
                 for level in ("-O2", "-O3"):
                     name = f"{program}.{compiler}{level}"

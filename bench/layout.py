@@ -22,14 +22,14 @@ Beside it stands `llvm-bolt-19` with the same profile, where it is there and its
 """
 import argparse
 import os
+import re
 import shutil
 import subprocess
 import sys
 import tempfile
 
-sys.path.insert(0, os.path.dirname(os.path.abspath(__file__)))
-from profiles import CROSS, follow, output, record  # noqa: E402
-from real_programs import LONGER, PROGRAMS, ROOT, UNWINDING, build, compilers  # noqa: E402
+from profiles import CROSS, follow, output, record
+from real_programs import LONGER, NO_COMPILER, PROGRAMS, ROOT, UNWINDING, build, compilers
 
 LINE, PAGE, SETS, WAYS, ENTRIES = 64, 4096, 64, 8, 8
 
@@ -74,10 +74,27 @@ class Recent:
         self.members[member] = None
 
 
+class Code:
+    """The bytes of a file by their addresses, as its program headers have them."""
+
+    def __init__(self, path):
+        with open(path, "rb") as file:
+            self.data = file.read()
+        said = output([CROSS + "readelf", "-lW", path])
+        rows = re.findall(r"^ +LOAD +0x(\w+) 0x(\w+) 0x\w+ 0x(\w+) ", said, re.M)
+        self.segments = [[int(number, 16) for number in row] for row in rows]  # offset, address, and bytes in the file
+
+    def is_short(self, address):
+        """Whether an instruction has two bytes: the lowest two bits of one of four bytes are both set."""
+        places = [at - start + address for at, start, length in self.segments if start <= address < start + length]
+        return bool(places) and self.data[places[0]] & 3 != 3
+
+
 class Way:
     """Counts of a run by the addresses of its instructions."""
 
-    def __init__(self):
+    def __init__(self, code):
+        self.code = code
         self.instructions = self.taken = 0
         self.pages = set()
         self.cache = [Recent(WAYS) for _ in range(SETS)]
@@ -86,7 +103,9 @@ class Way:
 
     def go(self, address):
         self.instructions += 1
-        if self.before is not None and not 2 <= address - self.before <= 4:
+        distance = 2 if self.before is None else address - self.before
+        # a jump of two bytes over two others goes as far as an instruction of four bytes does that goes on
+        if distance != 2 and (distance != 4 or self.code.is_short(self.before)):
             self.taken += 1
         self.before = address
         if address // LINE != self.line:
@@ -106,10 +125,17 @@ class Way:
 
 
 def way_of(path, words, given=b""):
-    """The way of a run, its status and its output, or nothing where it crashes."""
-    way = Way()
+    """The way of a run, its status and its output, or nothing where it crashes or doesn't begin."""
+    way = Way(Code(path))
     status, printed = follow(path, words, way.go, given)
-    return (way, status, printed) if status >= 0 else None
+    return (way, status, printed) if status >= 0 and way.instructions else None
+
+
+def shown(result, first):
+    """What is said of a run beside the first one."""
+    if result is None:
+        return "doesn't run"
+    return str(result[0]) if first and result[1:] == first[1:] else "runs otherwise"
 
 
 def bolt_profile(path, old, new):
@@ -148,16 +174,17 @@ def compare(tool, name, path, words, folder):
             os.remove(bolted)
     print(f"{name:18} {done.stdout.strip()}", flush=True)
     for tool_name, result in found:
-        same = result and result[1:] == found[0][1][1:]
-        print(f"    {tool_name:10} {result[0] if same else 'runs otherwise' if result else 'crashes'}", flush=True)
+        print(f"    {tool_name:10} {shown(result, found[0][1])}", flush=True)
 
 
 def follow_files(paths, words):
+    for path in paths:
+        if not os.path.isfile(path):
+            sys.exit(f"there is no file {path}")
     given = b"" if sys.stdin.isatty() else sys.stdin.buffer.read()
     found = [way_of(path, words, given) for path in paths]
     for when, result in zip(("before", "after"), found):
-        same = result and result[1:] == found[0][1:]
-        print(f"{when:10} {result[0] if same else 'runs otherwise' if result else 'crashes'}")
+        print(f"{when:10} {shown(result, found[0])}")
 
 
 def main():
@@ -168,7 +195,7 @@ def main():
     given = words.parse_args()
     if given.files:
         return follow_files(given.files, given.functions)
-    gcc = compilers().get("gcc") or sys.exit(f"there is no {CROSS}gcc")
+    gcc = compilers().get("gcc") or sys.exit(NO_COMPILER)
     with tempfile.TemporaryDirectory() as folder:
         path = os.path.join(folder, "program")
         for program in sorted(set(LONGER) - set(UNWINDING)):

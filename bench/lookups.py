@@ -32,13 +32,12 @@ import subprocess
 import sys
 import tempfile
 
-sys.path.insert(0, os.path.dirname(os.path.abspath(__file__)))
-import debug_files  # noqa: E402
-from debug_files import apart, asked, best_of, build_with_tables, instructions  # noqa: E402
-from frames import rows_by_readelf  # noqa: E402
-from line_rows import by_addr2line, by_gdb, by_llvm, in_force, sequences_by_llvm, sequences_by_readelf  # noqa: E402
-from profiles import CROSS, output, record  # noqa: E402
-from real_programs import LONGER, ROOT, compilers  # noqa: E402
+import debug_files
+from debug_files import apart, asked, best_of, build_with_tables, instructions
+from frames import rows_by_readelf
+from line_rows import by_addr2line, by_gdb, by_llvm, in_force, sequences_by_llvm, sequences_by_readelf
+from profiles import CROSS, output, record
+from real_programs import LONGER, NO_COMPILER, ROOT, buildable, compilers
 
 REGISTERS = ["zero", "ra", "sp", "gp", "tp", "t0", "t1", "t2", "s0", "s1", *(f"a{n}" for n in range(8)),
              *(f"s{n}" for n in range(2, 12)), *(f"t{n}" for n in range(3, 7))]
@@ -143,19 +142,26 @@ class Comparison:
                      for path, line, _, _, _, flags in said.rows]
             self.same("readelf", at, by_readelf.get(at, []), shown)
 
+    def told(self, name, ask, places):
+        """What a tool says of each of these places."""
+        said = ask(self.path, places) if places else []
+        if len(said) != len(places):
+            self.problems.append(f"{name} says something of {len(said)} of {len(places)} addresses")
+        return said
+
     def asked(self):
         """Tools are asked where the last row in force has a line: they take another row, or none, where it is 0. gdb
         takes the last row that begins a statement."""
         told = [(at, said.rows[-1], said.rows) for at, said in zip(self.addresses, self.said)
                 if said.rows and said.rows[-1][1]]
         places = [at for at, _, _ in told]
-        for (at, row, _), said in zip(told, by_addr2line(self.path, places)):
+        for (at, row, _), said in zip(told, self.told("addr2line", by_addr2line, places)):
             self.same("addr2line", at, said.split()[0], str(row[1]))
-        for (at, row, _), said in zip(told, by_llvm(self.path, places)):
+        for (at, row, _), said in zip(told, self.told("llvm-symbolizer", by_llvm, places)):
             self.same("llvm-symbolizer", at, said.split(" (")[0], f"{row[0]}:{row[1]}")
         stated = [(at, [row for row in rows if "is_stmt" in row[5]]) for at, _, rows in told]
         begun = [(at, rows[-1]) for at, rows in stated if rows and rows[-1][1]]
-        for (at, row), said in zip(begun, by_gdb(self.path, [at for at, _ in begun])):
+        for (at, row), said in zip(begun, self.told("gdb", by_gdb, [at for at, _ in begun])):
             found = re.match(r'Line (\d+) of "(.*)"', said)
             wanted = (found[1], os.path.basename(found[2])) if found else said
             self.same("gdb", at, wanted, (str(row[1]), os.path.basename(row[0])))
@@ -243,12 +249,14 @@ def main():
     words.add_argument("programs", nargs="*")
     given = words.parse_args()
     tool, problems = given.tool.split(), 0
+    if not given.large and not compilers():
+        sys.exit(NO_COMPILER)
     with tempfile.TemporaryDirectory() as room:
         folder = given.keep or room
         os.makedirs(folder, exist_ok=True)
         if given.large:
             return time_large(tool, folder, [int(word) for word in given.programs] or [27, 64])
-        for program in given.programs or sorted(LONGER):
+        for program in buildable(given.programs or sorted(LONGER)):
             for compiler, parts in compilers().items():
                 name = f"{program}.{compiler}"
                 path = os.path.join(folder, name)

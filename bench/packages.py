@@ -9,10 +9,10 @@ import glob
 import os
 import subprocess
 import sys
+import tempfile
 
 BENCH = os.path.dirname(os.path.abspath(__file__))
 OWN = os.path.join(BENCH, "packages")
-PROGRAMS = os.path.join(BENCH, "programs")
 KEYS = "/usr/share/keyrings/debian-archive-keyring.gpg"
 MIRROR = f"deb-src [signed-by={KEYS}] http://deb.debian.org/debian bookworm main\n"
 
@@ -62,6 +62,15 @@ PACKAGES = {
 }
 
 
+def unpack(archive, sources):
+    """Unpacks what isn't in the folder yet; elsewhere first, so that no folder stands there of which a part lacks."""
+    with tempfile.TemporaryDirectory(dir=sources) as room:
+        subprocess.run(["tar", "xf", os.path.abspath(archive), "-C", room], check=True)
+        for name in os.listdir(room):
+            if not os.path.exists(os.path.join(sources, name)):
+                os.replace(os.path.join(room, name), os.path.join(sources, name))
+
+
 def fetch(sources, names):
     """Fetches and unpacks the sources of programs that aren't in the folder yet."""
     wanted = {PACKAGES[name].source: PACKAGES[name].folder for name in names}
@@ -77,4 +86,4 @@ def fetch(sources, names):
         if subprocess.run([*apt, *command], cwd=sources, check=False).returncode != 0:
             sys.exit(f"{' '.join([*apt, *command])} failed: the sources of {', '.join(wanted)} can't be had")
     for archive in glob.glob(os.path.join(sources, "*.orig.tar.*")):
-        subprocess.run(["tar", "xf", archive], cwd=sources, check=True)
+        unpack(archive, sources)

@@ -6,8 +6,9 @@
 Each program of `bench/programs` is compiled by GCC with GNU ld and by Clang with lld, with picolibc for RV64IMC, and
 linked with a script that leaves room behind the code, with the linker's own script with and without room, and with that
 script and unwind tables, which GCC makes itself and by its assembler; and with a line table and no other table of `-g`.
-Programs that throw or clean up while frames are unwound need the index of their table, which only lld makes, so lld links
-them all. COMMAND (`./sudrepka` where it isn't given) records a short run of each executable and rewrites it by that profile. Then
+Programs that throw or clean up while frames are unwound need the index of their table, which only lld makes, so lld
+links them all, and without it they are left out. COMMAND (`./sudrepka` where it isn't given) records a short run of each
+executable and rewrites it by that profile. Then
 
 - `run` and `qemu-riscv64` have to say the same of both files, for a short and for a longer run, and `run --symbols`
   has to follow the input to its end, but where it unwinds itself: it then reads the program header of its table, which
@@ -27,7 +28,6 @@ follows it. The status is 0 where there is none. It wants Debian's `gcc-riscv64-
 there. FOLDER keeps all files.
 """
 import argparse
-import glob
 import os
 import re
 import shutil
@@ -35,15 +35,15 @@ import subprocess
 import sys
 import tempfile
 
-sys.path.insert(0, os.path.dirname(os.path.abspath(__file__)))
-from dwarf_verify import verify_problems  # noqa: E402
-from frames import backtrace_problems, mend_tables, table_problems  # noqa: E402
-from line_rows import leave_lines, line_problems, table_size  # noqa: E402
-from profiles import CROSS, output, record  # noqa: E402
+from dwarf_verify import verify_problems
+from frames import backtrace_problems, mend_tables, table_problems
+from line_rows import leave_lines, line_problems, table_size
+from profiles import CROSS, output, record
 
 ROOT = os.path.dirname(os.path.dirname(os.path.abspath(__file__)))
 PROGRAMS = os.path.join(ROOT, "bench", "programs")
 PICOLIBC = "/usr/lib/picolibc/riscv64-unknown-elf"
+NO_COMPILER = f"there is no {CROSS}gcc, or no picolibc in {PICOLIBC}"
 LONGER = {"sorting": "150", "interpreter": "400", "shapes": "500", "packing": "5000",
           "exceptions": "50", "cleanups": "50"}
 # Programs that unwind themselves: their files, and a function at which they stop deep in calls.
@@ -86,10 +86,11 @@ def newest(name):
 
 
 def compilers():
+    """By their names the compilers that are there, and the libraries of a link; none without GCC and picolibc."""
     library = os.path.join(PICOLIBC, "lib", "rv64im", "lp64")
     gcc = CROSS + "gcc"
     found = {}
-    if shutil.which(gcc):
+    if shutil.which(gcc) and os.path.isdir(library):
         group = [f"-L{library}", "-Wl,--start-group", "-lc", "-lgcc", "-Wl,--end-group"]
         found["gcc"] = ([gcc, "-nostartfiles"], group)
     clang, lld = newest("clang"), newest("ld.lld")
@@ -97,6 +98,14 @@ def compilers():
         libgcc = output([gcc, *MACHINE, "-print-libgcc-file-name"]).strip()
         found["clang"] = ([clang, "--target=riscv64-unknown-elf", f"-fuse-ld={lld}"], [os.path.join(library, "libc.a"), libgcc])
     return found
+
+
+def buildable(programs):
+    """Those that can be linked here: without lld none that unwinds itself. Says which it leaves out."""
+    left = [] if newest("ld.lld") else [program for program in programs if program in UNWINDING]
+    if left:
+        print(f"there is no lld, so these are left out: {', '.join(left)}", file=sys.stderr)
+    return [program for program in programs if program not in left]
 
 
 def layouts_of(program, compiler):
@@ -273,22 +282,27 @@ class Checks:
         if not shutil.which("gdb-multiarch"):
             return
         single = self.single_names()
-        said = []
+        said, compared = [], 0
         for path in (self.old, self.new):
             words = ["gdb-multiarch", "-batch", "-nx", "-ex", "set riscv use-compressed-breakpoints auto"]
             for name in single:
                 asked = (f"output (long)&'{name}'", "echo \\n", f"x/2i &'{name}'", "echo ;\\n")
                 words += [word for command in asked for word in ("-ex", command)]
             said.append([text.strip().splitlines() for text in output([*words, path]).split(";\n")])
+        if any(len(texts) != len(single) + 1 for texts in said):  # the last is what stands behind the last `;`
+            return self.say("gdb doesn't say something of each function")
         for (name, (old, place)), before, lines in zip(single.items(), *said):
             if before[:1] != [str(old)]:
                 continue  # one of several destructors, which gdb names alike
+            compared += 1
             if lines[:1] != [str(place)]:
                 self.say(f"gdb finds {name} at {lines[:1]}, not at {place:x}")
                 continue
             places = [int(found[1], 16) for line in lines[1:] if (found := re.search(r"0x([0-9a-f]+)", line))]
             if not places or any(at not in new and at < max(new) for at in places):
                 self.say(f"gdb reads other instructions in {name}: {lines[1:]}")
+        if not compared:
+            self.say("gdb finds no function of the input")
 
     def unwinding(self, place, words):
         """Compares the unwind tables, and the frames where both programs come to a function."""
@@ -335,12 +349,12 @@ def main():
     given = words.parse_args()
     tool = given.tool.split()
     if not compilers():
-        sys.exit(f"there is no {CROSS}gcc")
+        sys.exit(NO_COMPILER)
     problems = 0
     with tempfile.TemporaryDirectory() as room:
         folder = given.keep or room
         os.makedirs(folder, exist_ok=True)
-        for program in given.programs:
+        for program in buildable(given.programs):
             for compiler, parts in compilers().items():
                 for layout in layouts_of(program, compiler):
                     for level in ("-O2", "-Os"):

@@ -26,7 +26,7 @@ import tempfile
 sys.path.insert(0, os.path.dirname(os.path.abspath(__file__)))
 from flow_files import BRANCHES, FALLS, JUMPS, RETURNS, Block, place, profile_line, write_file  # noqa: E402
 from profiles import record  # noqa: E402
-from real_programs import LONGER, build, compilers, layouts_of  # noqa: E402
+from real_programs import LONGER, build, buildable, compilers, layouts_of  # noqa: E402
 
 ROOT = os.path.dirname(os.path.dirname(os.path.abspath(__file__)))
 MIB = 1 << 20
@@ -252,7 +252,7 @@ def without(program, inner):
 
 def recorded(command, folder):
     """By how much profiles of recorded runs change: all but the ways into and out of functions balances in them."""
-    for program in sorted(LONGER):
+    for program in buildable(sorted(LONGER)):
         for compiler, parts in compilers().items():
             layout = layouts_of(program, compiler)[0]
             path = os.path.join(folder, "in")

@@ -2,14 +2,15 @@
 """All that is tried on real programs, in one table.
 
     python3 bench/report.py [--tool COMMAND] [--sources FOLDER] [--keep FOLDER] [--build] [--jobs N] \
-        [--levels LEVEL..] [PROGRAM..]
+        [--levels LEVELS] [PROGRAM..]
 
 The programs are those of Debian's source packages Lua, zlib, bzip2 and pugixml (`packages.py`; fetched into FOLDER,
 or into the cache of the user) and those of `programs/`. Each is built by GCC with GNU ld and by Clang with lld, with
-picolibc for RV64IMC: `debug` with all that `-g` makes, at each LEVEL (-O0 to -O3 and -Os where none is given); at -O2
-and -Os `bare` without debug data and unwind tables, and `tables` with unwind tables besides. Programs that unwind
-themselves are built in one way, `index`: with debug data, unwind tables and their index. N files are tried at a time.
-What is built goes into FOLDER, and isn't built again where it stands there; with --build that is all that is done.
+picolibc for RV64IMC: `debug` with all that `-g` makes, at each of LEVELS, as `O0,Os` (-O0 to -O3 and -Os where none are
+given); at -O2 and -Os `bare` without debug data and unwind tables, and `tables` with unwind tables besides. Programs
+that unwind themselves are built in one way, `index`: with debug data, unwind tables and their index. N files are tried
+at a time. What is built goes into FOLDER, and isn't built again where it stands there; with --build, which wants a
+FOLDER, that is all that is done.
 Of each file the table says, step by step, `yes` or `no`; what failed stands below the table, with its cause:
 
 - `record`, `repair`, `rewrite`, `verify` by COMMAND (`./sudrepka` where it isn't given), and `run --symbols` to the
@@ -33,16 +34,15 @@ import subprocess
 import sys
 import tempfile
 
-sys.path.insert(0, os.path.dirname(os.path.abspath(__file__)))
-from debug_files import bare_libraries, build_with_tables  # noqa: E402
-from debugged import Debugged, with_lines  # noqa: E402
-from heatmap import counts_of, edges_of, entry_of, functions_of  # noqa: E402
-from layout import bolt_profile, way_of  # noqa: E402
-from mend import mend  # noqa: E402
-from packages import OWN, PACKAGES, fetch  # noqa: E402
-from profiles import output  # noqa: E402
-from real_programs import COMPILE, LINES, LINK, LONGER, MACHINE, NO_TABLES, OWN_TABLES, PICOLIBC  # noqa: E402
-from real_programs import PROGRAMS, ROOT, UNWINDING, Checks, call, compilers, linker_of  # noqa: E402
+from debug_files import bare_libraries, build_with_tables
+from debugged import Debugged, with_lines
+from heatmap import counts_of, edges_of, entry_of, functions_of
+from layout import bolt_profile, shown, way_of
+from mend import mend
+from packages import OWN, PACKAGES, fetch
+from profiles import output
+from real_programs import (COMPILE, LINES, LINK, LONGER, MACHINE, NO_COMPILER, NO_TABLES, OWN_TABLES, PICOLIBC,
+                           PROGRAMS, ROOT, UNWINDING, Checks, buildable, call, compilers, linker_of, newest)
 
 KINDS = {"bare": NO_TABLES, "debug": [*LINES, "-fno-dwarf2-cfi-asm"], "tables": ["-g", *OWN_TABLES]}
 SCRIPTS = {"tables": "roomy_tables.ld"}
@@ -75,11 +75,14 @@ class Builder:
             for path in (os.path.join(found, "libc.a"), os.path.join(found, "libm.a"), gcc):
                 stripped.append(os.path.join(folder, os.path.basename(path)))
                 if not os.path.exists(stripped[-1]):
-                    call([strip, "-g", "-o", stripped[-1], path])
+                    made = stripped[-1] + ".part"
+                    call([strip, "-g", "-o", made, path])
+                    os.replace(made, stripped[-1])
             group = ["-Wl,--start-group", *stripped, "-Wl,--end-group"]
             self.parts[compiler] = (front, group)
             # what threads that build programs of kind `index` share
-            linker_of(folder, "exceptions", compiler)
+            if newest("ld.lld"):
+                linker_of(folder, "exceptions", compiler)
             bare_libraries(folder, group)
 
     def files(self, program):
@@ -189,9 +192,9 @@ class Try:
 
     def places(self, instructions):
         """Some of these instructions: such as ran, from those that ran often to those that ran once, and others."""
-        starts, names = functions_of(self.path)
+        starts, _ = functions_of(self.path)
         kept = sorted(instructions)
-        counts = counts_of(edges_of(self.at("profile"), names), entry_of(self.path), kept, starts)
+        counts = counts_of(edges_of(self.at("profile"), self.path), entry_of(self.path), kept, starts)
         ran = sorted((old for old in kept if counts[old]), key=lambda old: (-counts[old], old))
         never = [old for old in kept if not counts[old]]
         some = lambda places, count: places[::max(1, len(places) // count)][:count]
@@ -216,6 +219,8 @@ class Try:
             bolt_profile(self.at("profile"), self.path, self.at("named"))
             options = ["--reorder-blocks=ext-tsp", "--reorder-functions=cdsort", "--split-functions", "--data",
                        self.at("named")]
+            if os.path.exists(self.at("bolted")):  # of a run before
+                os.remove(self.at("bolted"))
             done = subprocess.run(["llvm-bolt-19", self.path, "-o", self.at("bolted"), *options], capture_output=True,
                                   text=True, errors="replace", check=False)
             said = re.findall(r"(?i)error: (.*)|(Emission failed.*)|(Assertion.*failed)|(UNREACHABLE.*)", done.stderr)
@@ -225,13 +230,17 @@ class Try:
 
 
 def row_of(way, first):
-    if way is None:
-        return "crashes"
     if isinstance(way, str):
         return f"no file: {way[:90]}"
-    if way[1:] != first[1:]:
-        return "runs otherwise"
-    return " ".join(str(way[0]).split())
+    return " ".join(shown(way, first).split())
+
+
+def levels_of(text):
+    """The levels of optimization that are asked for, with `-` before each or without."""
+    found = ["-" + level.strip().removeprefix("-") for level in text.split(",")]
+    if not set(found) <= set(LEVELS):
+        raise argparse.ArgumentTypeError(f"{text} isn't of {', '.join(LEVELS)}")
+    return [level for level in LEVELS if level in found]
 
 
 class Report:
@@ -312,20 +321,23 @@ def main():
     words.add_argument("--keep", help="a folder for all files")
     words.add_argument("--build", action="store_true", help="only builds the files")
     words.add_argument("--jobs", type=int, default=1, help="how many files are tried at a time")
-    words.add_argument("--levels", nargs="*", default=LEVELS, type=lambda level: "-" + level.lstrip("-"))
+    words.add_argument("--levels", default=LEVELS, type=levels_of, help="levels of optimization, as O0,Os")
     words.add_argument("programs", nargs="*", default=[*PACKAGES, *sorted(LONGER)])
     given = words.parse_args()
+    if given.build and not given.keep:
+        words.error("--build wants --keep")
     if not compilers():
-        sys.exit("there is no riscv64-unknown-elf-gcc")
-    fetch(given.sources, [name for name in given.programs if name in PACKAGES])
+        sys.exit(NO_COMPILER)
+    programs = buildable(given.programs)
+    fetch(given.sources, [name for name in programs if name in PACKAGES])
     with tempfile.TemporaryDirectory() as room:
         folder = given.keep or room
         os.makedirs(folder, exist_ok=True)
         report = Report(given.tool.split(), folder, given.sources)
         if given.build:
             with concurrent.futures.ThreadPoolExecutor(given.jobs) as pool:
-                return list(pool.map(report.built, report.files(given.programs, given.levels)))
-        problems = report.all(given.programs, given.levels, given.jobs)
+                return list(pool.map(report.built, report.files(programs, given.levels)))
+        problems = report.all(programs, given.levels, given.jobs)
     sys.exit(1 if problems else 0)
 
 
