@@ -6,10 +6,9 @@ import re
 import subprocess
 import sys
 import tempfile
-import time
 
 from frames import mend_tables
-from profiles import CROSS, output
+from profiles import CROSS, output, spent
 from real_programs import (COMPILE, LAYOUTS, LINK, MACHINE, OF_LINKER, OWN_TABLES, PICOLIBC, PROGRAMS, TABLES,
                            UNWINDING, call, linker_of)
 
@@ -92,8 +91,7 @@ __attribute__((noinline)) int f@(int *values, int count) {
 
 
 def build_large(path, mib):
-    """Builds a program of about so many MiB with all tables, of units of 200 functions each by GCC, and gives an
-    address in the middle of its code, of an inlined function."""
+    """Builds a program of about so many MiB with all tables, of units of 200 functions each by GCC; gives how many."""
     folder = os.path.dirname(path)
     source, one = (os.path.join(folder, name) for name in ("unit.c", "unit.o"))
     with open(source, "w", encoding="ascii") as file:
@@ -117,6 +115,11 @@ def build_large(path, mib):
           "-Wl,-Ttext-segment=0x100000", "-Wl,-z,max-page-size=0x100000", start, *objects, "-o", path])
     for name in [*objects, one]:
         os.remove(name)
+    return count
+
+
+def middle_of(path, count):
+    """An address in the middle of such a program, of an inlined function. It wants `llvm-symbolizer`."""
     names = [line.split() for line in output([CROSS + "nm", path]).splitlines()]
     low = next(int(row[0], 16) for row in names if row[-1] == f"u{count // 2}_f100")
     part = [f"--start-address={low}", f"--stop-address={low + 256}"]
@@ -127,8 +130,9 @@ def build_large(path, mib):
 
 
 def apart(script, *words):
-    """What a script prints, in a process of its own: a child's peak counts what its parent had when it began."""
-    return output([sys.executable, os.path.abspath(script), *(str(word) for word in words)])
+    """What a script prints, in a process of its own, so that the memory it takes is given back. It has to end well."""
+    command = [sys.executable, os.path.abspath(script), *map(str, words)]
+    return subprocess.run(command, stdout=subprocess.PIPE, text=True, check=True).stdout
 
 
 def best_of(command, runs):
@@ -136,14 +140,12 @@ def best_of(command, runs):
     best, peak, said = float("inf"), 0, ""
     for _ in range(runs):
         with tempfile.TemporaryFile() as printed:
-            began = time.monotonic()
-            process = subprocess.Popen(command, stdout=printed, stderr=subprocess.DEVNULL)
-            _, _, usage = os.wait4(process.pid, 0)
-            best, peak = min(best, time.monotonic() - began), max(peak, usage.ru_maxrss / 1024)
+            took = spent(command, stdout=printed, stderr=subprocess.DEVNULL)
+            best, peak = min(best, took.clock), max(peak, took.peak)
             printed.seek(0)
             said = " / ".join(printed.read().decode(errors="replace").split("\n"))[:100]
     return best, peak, said
 
 
 if __name__ == "__main__":
-    print(build_large(sys.argv[1], int(sys.argv[2])))
+    print(middle_of(sys.argv[1], build_large(sys.argv[1], int(sys.argv[2]))))

@@ -9,17 +9,18 @@ the table's end, and one with 65,000 section headers. COMMAND (`./sudrepka` wher
 `readelf`.
 """
 import argparse
-import multiprocessing
 import os
 import statistics
 import struct
 import subprocess
 import sys
 import tempfile
-import time
+
+from profiles import built, spent
 
 ROOT = os.path.dirname(os.path.dirname(os.path.abspath(__file__)))
 BASE, CODE = 0x10000, 0x78
+OUT_OF_STEPS = 226
 NAMES = b"\0.text\0.symtab\0.strtab\0.shstrtab\0"
 
 
@@ -62,16 +63,16 @@ def write(path, symbols, sections):
         file.write(elf(symbols, sections))
 
 
-def measure(words, runs):
-    """The median of the seconds, and the peak memory in MiB, of a command run so often."""
+def measure(words, status, runs):
+    """The median of the seconds, and the peak memory in MiB, of a command run so often, which ends with that status."""
     seconds, peak = [], 0
     for _ in range(runs):
-        start = time.monotonic()
-        process = subprocess.Popen(words, stdout=subprocess.DEVNULL, stderr=subprocess.DEVNULL)
-        usage = os.wait4(process.pid, 0)[2]
-        seconds.append(time.monotonic() - start)
-        peak = max(peak, usage.ru_maxrss)
-    return statistics.median(seconds), peak / 1024
+        took = spent(words, stdout=subprocess.DEVNULL, stderr=subprocess.DEVNULL)
+        if took.status != status:
+            sys.exit(f"{' '.join(words)} ended with {took.status}")
+        seconds.append(took.clock)
+        peak = max(peak, took.peak)
+    return statistics.median(seconds), peak
 
 
 def main():
@@ -79,20 +80,16 @@ def main():
     words.add_argument("--tool", default=os.path.join(ROOT, "sudrepka"), help="the command that takes `run ..`")
     words.add_argument("runs", nargs="?", type=int, default=5)
     given = words.parse_args()
-    command = given.tool.split()
-    subprocess.run(command, stdout=subprocess.DEVNULL, check=False)  # proves and builds it, where it isn't built
+    command = built(given.tool)
     with tempfile.TemporaryDirectory() as folder:
         for name, symbols, sections in [("million-symbols", 1_000_000, 5), ("many-sections", 10, 65_000)]:
             path = os.path.join(folder, name)
-            # in a process of its own, since a child's peak counts what its parent had when it began
-            maker = multiprocessing.Process(target=write, args=(path, symbols, sections))
-            maker.start()
-            maker.join()
-            for tool, line in [
-                ("sudrepka", [*command, "run", "--steps", "0", path]),
-                ("readelf", ["readelf", "-hSls", path]),
+            write(path, symbols, sections)
+            for tool, line, status in [
+                ("sudrepka", [*command, "run", "--steps", "0", path], OUT_OF_STEPS),
+                ("readelf", ["readelf", "-hSls", path], 0),
             ]:
-                seconds, peak = measure(line, given.runs)
+                seconds, peak = measure(line, status, given.runs)
                 print(f"{name:16} {tool:9} {seconds:8.3f} s {peak:8.1f} MiB")
 
 

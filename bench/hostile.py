@@ -10,16 +10,18 @@ it isn't given) does with each what NAME says, or all of COMMANDS: it rewrites i
 records a run, runs it on both machines, repairs its profile, and looks up an address, and the functions there. Each
 line has the kind, the command, the size, the seconds of the processor and the peak memory in MiB of the best of N runs
 (three), and by how much both grew since the file of half the size. Where a file takes less than 0.05 seconds or 32
-MiB, its growth says nothing and is left out.
+MiB, its growth says nothing and is left out. `verify` reads what `rewrite` writes, so that one runs with it; of a file
+that isn't rewritten it has no line.
 
 The seconds may be at most 3 and 6 millionths a byte, on a slow machine of 2026 that does other work besides; on one of
 twice the speed expect half of them. No memory may be more than 64 times the file and a GiB beside; and all growth
-has to be below 2.5 but where what is said has a bound, past which memory is said to be wanting (BOUNDED). The script
-ends with status 1 where some isn't so. No more is given than 6 GiB and 300 seconds. With --large those of LARGE are
-run, at a quarter, a half and the whole of the size that is named there: 60,000 units over one table of declarations, a
-million lists that overlap, 64 MiB of rows at one address, a million entries for one range, as many functions as a file
-may have with a row of lines for each instruction, and entries, ranges and locations in a file of nearly 64 MiB. With
---make the smallest file of each kind is written into FOLDER, and nothing is run.
+has to be below 2.5 but where what is said has a bound, past which memory is said to be wanting (BOUNDED). No command
+may end by a signal. The script ends with status 1 where some isn't so. No more is given than 6 GiB and 300 seconds.
+With --large those of LARGE are run, at a quarter, a half and the whole of the size that is named there: 60,000 units
+over one table of declarations, a million lists that overlap, 64 MiB of rows at one address, a million entries for one
+range, as many functions as a file may have with a row of lines for each instruction, and entries, ranges and locations
+in a file of nearly 64 MiB. With --make the smallest file of each kind is written into FOLDER, which is made where it
+isn't there, and nothing is run.
 """
 import argparse
 import os
@@ -31,6 +33,7 @@ import tempfile
 from hostile_files import BASE, BOUNDED_FILES, FILES, TEXT
 from hostile_tables import BOUNDED_TABLES, TABLES
 from hostile_units import BOUNDED_UNITS, UNITS
+from profiles import built, is_answer, spent
 
 ROOT = os.path.dirname(os.path.dirname(os.path.abspath(__file__)))
 MOST, LEAST_SECONDS, LEAST_MIB = 2.5, 0.05, 32
@@ -77,17 +80,18 @@ def limit():
 
 
 def measure(command, runs):
-    """The processor's seconds and the peak in MiB of the best of so many runs, and what the last one printed."""
+    """The processor's seconds and the peak in MiB of the best of so many runs, what the last one printed, and whether
+    all ended with an answer."""
     found = []
     for _ in range(runs):
         with tempfile.TemporaryFile() as said:
-            process = subprocess.Popen(command, stdout=said, stderr=said, preexec_fn=limit)
-            _, status, usage = os.wait4(process.pid, 0)
+            found.append(spent(command, stdout=said, stderr=said, preexec_fn=limit))
             said.seek(max(0, os.fstat(said.fileno()).st_size - 200))
             lines = said.read().decode(errors="replace").strip().splitlines()
-            last = lines[-1] if lines else f"status {os.waitstatus_to_exitcode(status)}"
-        found.append((usage.ru_utime + usage.ru_stime, usage.ru_maxrss / 1024))
-    return min(seconds for seconds, _ in found), min(peak for _, peak in found), last
+    status = found[-1].status
+    last = lines[-1] if lines and is_answer(status) else f"status {status}"
+    answered = all(is_answer(each.status) for each in found)
+    return min(each.seconds for each in found), min(each.peak for each in found), last, answered
 
 
 def growth(now, before, least):
@@ -108,7 +112,16 @@ def arguments():
     words.add_argument("--command", choices=list(COMMANDS), action="append", help="one of those that are run")
     words.add_argument("--make", help="writes the smallest file of each kind into this folder, and runs nothing")
     words.add_argument("kinds", nargs="*", choices=[[], *KINDS], default=[])
-    return words.parse_args()
+    given = words.parse_args()
+    if given.large and not set(given.kinds) <= set(LARGE):
+        words.error(f"with --large the kinds are {', '.join(LARGE)}")
+    return given
+
+
+def commands_of(given):
+    """The commands that are run, in the order of COMMANDS."""
+    asked = set(given.command or COMMANDS)
+    return [name for name in COMMANDS if name in asked or name == "rewrite" and "verify" in asked]
 
 
 def make(given, kind, times, folder):
@@ -116,7 +129,7 @@ def make(given, kind, times, folder):
     parts = ("file", "profile", "out", "map", "repaired", "recorded")
     names = {name: os.path.join(folder, f"{kind}.{times}.{name}") for name in parts}
     size = (LARGE[kind] // 4 if given.large else given.kib) * 1024 * times
-    # in a process of its own, since a child's peak counts what its parent had when it began
+    # in a process of its own, which has the limits too, and gives its memory back
     maker = [sys.executable, os.path.abspath(__file__), "--write", kind, str(size), names["file"], names["profile"]]
     subprocess.run(maker, check=True, preexec_fn=limit)
     return names | {"address": BASE + TEXT}
@@ -136,11 +149,11 @@ def measure_growth(given, kind, command, files):
         if command == "verify" and not os.path.exists(names["map"]):
             continue
         words = COMMANDS[command].format(**names).split()
-        seconds, peak, last = measure([*given.tool.split(), *words], given.runs)
+        seconds, peak, last, answered = measure([*given.tool, *words], given.runs)
         grew = growth(seconds, before[0], LEAST_SECONDS), growth(peak, before[1], LEAST_MIB)
         before = (seconds, peak)
         size = os.path.getsize(names["file"]) + os.path.getsize(names["profile"])
-        kept = is_kept(kind, size, seconds, peak, grew)
+        kept = answered and is_kept(kind, size, seconds, peak, grew)
         well = well and kept
         figures = f"{size // 1024:6} KiB {seconds:8.3f} s {show(grew[0]):5} {peak:8.1f} MiB {show(grew[1]):5}"
         print(f"{kind:18} {command:7} {figures} {'' if kept else '! '}{last[-60:]}", flush=True)
@@ -149,17 +162,17 @@ def measure_growth(given, kind, command, files):
 
 def main():
     given = arguments()
-    well = True
-    if not given.make:
-        # proves and builds it, where it isn't built
-        subprocess.run(given.tool.split(), stdout=subprocess.DEVNULL, check=False)
-    for kind in given.kinds or (LARGE if given.large else KINDS):
-        if given.make:
+    kinds = given.kinds or (LARGE if given.large else KINDS)
+    if given.make:
+        os.makedirs(given.make, exist_ok=True)
+        for kind in kinds:
             make(given, kind, 1, given.make)
-            continue
+        return
+    given.tool, well = built(given.tool), True
+    for kind in kinds:
         with tempfile.TemporaryDirectory() as folder:
             files = [make(given, kind, times, folder) for times in (1, 2, 4)]
-            for command in given.command or COMMANDS:
+            for command in commands_of(given):
                 well = measure_growth(given, kind, command, files) and well
     sys.exit(0 if well else 1)
 

@@ -5,7 +5,7 @@ import struct
 
 BASE, TEXT = 0x10000, 64 + 56  # the address of the file's first byte, and where in the file its code begins
 SHT_PROGBITS, SHT_SYMTAB, SHT_STRTAB, SHT_RELA, STT_FUNC = 1, 2, 3, 4, 0x12
-R_RISCV_64, R_RISCV_BRANCH, R_RISCV_RELAX = 2, 16, 51
+R_RISCV_64, R_RISCV_RELAX = 2, 51
 MOST_SECTIONS = 65_000
 RETURN = bytes.fromhex("67800000")  # ret
 NOP = bytes.fromhex("13000000")

@@ -18,9 +18,9 @@ import subprocess
 import sys
 import tempfile
 
-sys.path.insert(0, os.path.dirname(os.path.abspath(__file__)))
-from hostile_files import BASE, SHT_PROGBITS, TEXT, File  # noqa: E402
-from line_rows import table_size  # noqa: E402
+from hostile_files import BASE, SHT_PROGBITS, TEXT, File
+from line_rows import table_size
+from profiles import built, spent
 
 ROOT = os.path.dirname(os.path.dirname(os.path.abspath(__file__)))
 LENGTH = 96  # instructions of a function
@@ -63,12 +63,11 @@ def measure(command, runs):
     """The medians of the processor's seconds and of the peak in MiB."""
     seconds, peaks = [], []
     for _ in range(runs):
-        process = subprocess.Popen(command, stdout=subprocess.DEVNULL)
-        _, status, usage = os.wait4(process.pid, 0)
-        if status != 0:
-            sys.exit(f"{' '.join(command)} ended with {os.waitstatus_to_exitcode(status)}")
-        seconds.append(usage.ru_utime + usage.ru_stime)
-        peaks.append(usage.ru_maxrss / 1024)
+        took = spent(command, stdout=subprocess.DEVNULL)
+        if took.status != 0:
+            sys.exit(f"{' '.join(command)} ended with {took.status}")
+        seconds.append(took.seconds)
+        peaks.append(took.peak)
     return statistics.median(seconds), statistics.median(peaks)
 
 
@@ -76,20 +75,15 @@ def main():
     words = argparse.ArgumentParser(description="seconds and memory that a large line table takes")
     words.add_argument("--tool", default=os.path.join(ROOT, "sudrepka"), help="the command that takes `rewrite ..`")
     words.add_argument("--instructions", type=int, default=3_840_000)
-    words.add_argument("--write", nargs=2, help=argparse.SUPPRESS)
     words.add_argument("runs", type=int, nargs="?", default=3)
     given = words.parse_args()
-    if given.write:
-        return write(given.write[0], given.instructions, given.write[1] == "lines")
-    before = None
+    tool, before = built(given.tool), None
     with tempfile.TemporaryDirectory() as folder:
         path, plain, out, spans = (os.path.join(folder, name) for name in ("lines", "plain", "out", "map"))
         for part in (8, 4, 2, 1):
-            for name, kind in ((path, "lines"), (plain, "none")):
-                # in a process of its own, since a child's peak counts what its parent had when it began
-                words = ["--instructions", str(given.instructions // part), "--write", name, kind]
-                subprocess.run([sys.executable, os.path.abspath(__file__), *words], check=True)
-            rewrite = lambda name: [*given.tool.split(), "rewrite", name, "/dev/null", out, spans]
+            write(path, given.instructions // part, True)
+            write(plain, given.instructions // part, False)
+            rewrite = lambda name: [*tool, "rewrite", name, "/dev/null", out, spans]
             without = measure(rewrite(plain), given.runs)
             found = measure(rewrite(path), given.runs)
             dumped = measure(["llvm-dwarfdump", "--debug-line", path], given.runs)
@@ -100,8 +94,7 @@ def main():
             said = f"{sizes} MiB: {', '.join(parts)}; grew by {grew}"
             print(f"{given.instructions // part} instructions, {said}", flush=True)
             before = found
-    return 0
 
 
 if __name__ == "__main__":
-    sys.exit(main())
+    main()

@@ -7,7 +7,7 @@ Three executables are made in a temporary folder: a loop of ten million steps of
 in four stores or loads eight bytes, all over 256 KiB, and one that stores 64 MiB once, eight bytes at a time. Where
 `riscv64-unknown-elf-gcc` and picolibc are there, a fourth is the C program `sorting` of `bench/programs`, of some 100
 million steps. Any other static executables for RV64IMC may be named; one that the symbol machine refuses, or is stuck
-in, has no line for it. COMMAND stands for `./sudrepka`.
+in, has no line for it, and of one that doesn't end there is one line that says so. COMMAND stands for `./sudrepka`.
 
 Each line has the program, the tool, the median of the user's and the system's seconds, millions of steps a second,
 their share of those on bytes, and the greatest peak of memory. `record` has to do at least half of the steps a second
@@ -19,11 +19,10 @@ import shutil
 import statistics
 import struct
 import subprocess
-import sys
 import tempfile
 
-sys.path.insert(0, os.path.dirname(os.path.abspath(__file__)))
-from real_programs import PROGRAMS, ROOT, build, compilers  # noqa: E402
+from profiles import built, spent
+from real_programs import PROGRAMS, ROOT, build, compilers
 
 CODE_ADDRESS, DATA_ADDRESS, DATA_SIZE = 0x100B0, 0x50000, 0x400_0000
 STEPS = ["--steps", "100000000000"]
@@ -90,13 +89,12 @@ def measure(command, runs):
     seconds, peak, printed = [], 0, b""
     for _ in range(runs):
         with tempfile.TemporaryFile() as out:
-            process = subprocess.Popen(command, stdout=out, stdin=subprocess.DEVNULL)
-            usage = os.wait4(process.pid, 0)[2]
+            took = spent(command, stdout=out, stdin=subprocess.DEVNULL)
             out.seek(0)
             printed = out.read()
-        seconds.append(usage.ru_utime + usage.ru_stime)
-        peak = max(peak, usage.ru_maxrss)
-    return statistics.median(seconds), peak / 1024, printed
+        seconds.append(took.seconds)
+        peak = max(peak, took.peak)
+    return statistics.median(seconds), peak, printed
 
 
 def steps_in(printed):
@@ -121,6 +119,9 @@ def compare(command, name, path, words, runs):
             steps = steps_in(printed) or steps
             if steps_in(printed):
                 rows.append((machine, seconds, peak))
+    if steps is None:
+        print(f"{name:12} doesn't end on the machine of bytes", flush=True)
+        return
     if shutil.which("qemu-riscv64"):
         rows.append(("qemu", *measure(["qemu-riscv64", path, *words], runs)[:2]))
     for tool, seconds, peak in rows:
@@ -134,8 +135,7 @@ def main():
     words.add_argument("--runs", type=int, default=5)
     words.add_argument("files", nargs="*")
     given = words.parse_args()
-    command = given.tool.split()
-    subprocess.run(command, stdout=subprocess.DEVNULL, check=False)  # proves and builds it, where it isn't built
+    command = built(given.tool)
     with tempfile.TemporaryDirectory() as folder:
         for name, code in [("arithmetic", ARITHMETIC), ("memory", MEMORY), ("stores", STORES)]:
             path = os.path.join(folder, name)

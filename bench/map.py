@@ -8,22 +8,15 @@ copies of the crates that it stands on, proves it by `rt`, which takes some minu
 order of their inputs, and once in blocks of eight that were dealt out. Look-ups go up through the map, and all over
 it. Each line has the median of the runs and millions of spans, look-ups or bytes of text a second.
 """
-import os
 import re
-import shutil
 import statistics
 import subprocess
 import sys
 import tempfile
 
-ROOT = os.path.dirname(os.path.dirname(os.path.abspath(__file__)))
-LIBRARIES = ["rb_bytes", "rb_io", "rb_lanes", "addr_map"]
-CRATES = """rb_bytes: byteorder memchr itoa thiserror
-rb_io: thiserror
-rb_lanes:
-addr_map: rb_bytes rb_io rb_lanes itoa
-map_bench: rb_bytes rb_io rb_lanes addr_map anyhow
-"""
+from references import build
+
+PROGRAM, LIBRARIES = "map_bench", ["addr_map"]
 FILES = {
     "src/main.rt": """//! How fast maps are.
 #![tactic(auto)]
@@ -168,23 +161,6 @@ SECONDS = {"ns": 1e-9, "\u00b5s": 1e-6, "ms": 1e-3, "s": 1.0}
 LOOK_UPS, SPANS = 10_000_000, 8_388_608
 
 
-def build(folder):
-    """Makes the crate in a folder, and gives the path of its program."""
-    crates = os.path.join(folder, "crates")
-    for name in LIBRARIES:
-        shutil.copytree(os.path.join(ROOT, "crates", name), os.path.join(crates, name), ignore=shutil.ignore_patterns("out"))
-    with open(os.path.join(folder, "crates.txt"), "w", encoding="utf-8") as file:
-        file.write(CRATES)
-    for name, text in FILES.items():
-        path = os.path.join(crates, "map_bench", name)
-        os.makedirs(os.path.dirname(path), exist_ok=True)
-        with open(path, "w", encoding="utf-8") as file:
-            file.write(text)
-    home = os.path.join(crates, "map_bench")
-    subprocess.run(["rt", "run"], cwd=home, check=False, capture_output=True)
-    return os.path.join(home, "out", "map_bench")
-
-
 def measure(program, runs):
     """The seconds of each line that the program prints, by what stands before them, in order."""
     times = {}
@@ -200,13 +176,12 @@ def measure(program, runs):
 def main():
     runs = int(sys.argv[1]) if len(sys.argv) > 1 else 5
     with tempfile.TemporaryDirectory() as folder:
-        program = build(folder)
-        if not os.path.exists(program):
-            sys.exit("the program was not proved")
+        program = build(folder, PROGRAM, LIBRARIES, FILES)
         for (what, nth), seconds in measure(program, runs).items():
             median = statistics.median(seconds)
             count = SPANS if what.startswith("new") else LOOK_UPS if what.startswith(("moved", "owner")) else 154_959_872
             print(f"{what:24} {nth}  {median:8.3f} s  {count / median / 1e6:8.1f} million a second")
 
 
-main()
+if __name__ == "__main__":
+    main()

@@ -1,17 +1,68 @@
-"""What other scripts share: runs on `qemu-riscv64`, by the addresses of instructions or under `gdb`, and profiles by `record`."""
+"""What other scripts share: what commands take, runs on `qemu-riscv64`, by the addresses of instructions or under
+`gdb`, and profiles by `record`."""
 import os
 import shutil
 import subprocess
+import sys
 import tempfile
 import threading
 import time
+import typing
 
 CROSS = "riscv64-unknown-elf-"
 GDB = ["gdb-multiarch", "-batch", "-nx", "-ex", "set confirm off", "-ex", "set width 0"]
+# Runs a command, and writes what it took into the descriptor that stands before it.
+SPENT = """
+import os, sys, time
+told, *command = sys.argv[1:]
+os.set_inheritable(int(told), False)
+began = time.monotonic()
+_, status, usage = os.wait4(os.posix_spawnp(command[0], command, os.environ), 0)
+clock = time.monotonic() - began
+words = os.waitstatus_to_exitcode(status), usage.ru_utime + usage.ru_stime, clock, usage.ru_maxrss / 1024
+os.write(int(told), " ".join(map(str, words)).encode())
+"""
 
 
 def output(command):
     return subprocess.run(command, capture_output=True, text=True, errors="replace", check=False).stdout
+
+
+class Spent(typing.NamedTuple):
+    """How a command ended, and what it took: seconds of the processor and of the clock, and its peak in MiB."""
+
+    status: int
+    seconds: float
+    clock: float
+    peak: float
+
+
+def spent(command, **how):
+    """What a command takes. A small process runs it, since a child's peak counts what its parent had when it began."""
+    if not shutil.which(command[0]):
+        raise FileNotFoundError(command[0])
+    read, write = os.pipe()
+    with os.fdopen(read, encoding="ascii") as told:
+        try:
+            subprocess.run([sys.executable, "-ISc", SPENT, str(write), *command], pass_fds=[write], check=True, **how)
+        finally:
+            os.close(write)
+        status, *figures = told.read().split()
+    return Spent(int(status), *map(float, figures))
+
+
+def is_answer(status):
+    """Whether a tool was there, is built, and ended by itself: no answer of it has these numbers."""
+    return status >= 0 and status not in (1, 126, 127)
+
+
+def built(tool):
+    """The words of a tool, which is proved and built first where it has to be: without words it prints its usage."""
+    command = tool.split()
+    status = subprocess.run(command, stdout=subprocess.DEVNULL, check=False).returncode
+    if not is_answer(status):
+        sys.exit(f"{tool}: status {status}")
+    return command
 
 
 def follow(path, words, go, given=b""):

@@ -19,17 +19,14 @@ import argparse
 import math
 import os
 import random
-import subprocess
 import sys
 import tempfile
 
-sys.path.insert(0, os.path.dirname(os.path.abspath(__file__)))
-from flow_files import BRANCHES, FALLS, JUMPS, RETURNS, Block, place, profile_line, write_file  # noqa: E402
-from profiles import record  # noqa: E402
-from real_programs import LONGER, build, buildable, compilers, layouts_of  # noqa: E402
+from flow_files import BRANCHES, FALLS, JUMPS, RETURNS, Block, place, profile_line, write_file
+from profiles import built, record, spent
+from real_programs import LONGER, build, buildable, compilers, layouts_of
 
 ROOT = os.path.dirname(os.path.dirname(os.path.abspath(__file__)))
-MIB = 1 << 20
 
 
 class Maker:
@@ -209,12 +206,11 @@ def run(command, folder):
     """Seconds of the processor, MiB, the total change, and whether it ended well."""
     path = lambda name: os.path.join(folder, name)
     with open(path("printed"), "wb") as printed:
-        process = subprocess.Popen([*command, "repair", path("in"), path("profile"), path("out")], stdout=printed)
-        _, status, usage = os.wait4(process.pid, 0)
+        took = spent([*command, "repair", path("in"), path("profile"), path("out")], stdout=printed)
     with open(path("printed"), "rb") as printed:
         printed.seek(max(0, os.path.getsize(path("printed")) - 200))
-        last = printed.read().decode().splitlines()[-1] if status == 0 else f"status {os.waitstatus_to_exitcode(status)}"
-    return usage.ru_utime + usage.ru_stime, usage.ru_maxrss * 1024 / MIB, last
+        last = printed.read().decode().splitlines()[-1] if took.status == 0 else f"status {took.status}"
+    return took.seconds, took.peak, last
 
 
 def measure(command, folder, program, name, change, seed):
@@ -267,7 +263,7 @@ def main():
     words.add_argument("--tool", default=os.path.join(ROOT, "sudrepka"), help="the command that takes `repair ..`")
     words.add_argument("blocks", nargs="*", type=int, default=[1000, 20_000, 1_000_000])
     given = words.parse_args()
-    command = given.tool.split()
+    command = built(given.tool)
     changes = [("true", lambda dice, counts: dict(counts)), ("noisy", noisy), ("stale", stale), ("sampled", sampled)]
     with tempfile.TemporaryDirectory() as folder:
         for blocks in given.blocks:

@@ -17,8 +17,9 @@ import shutil
 import statistics
 import struct
 import subprocess
-import sys
 import tempfile
+
+from profiles import built, spent
 
 ROOT = os.path.dirname(os.path.dirname(os.path.abspath(__file__)))
 MIB = 1 << 20
@@ -145,14 +146,19 @@ def write_profile(path, count):
         file.write("".join(line + "\n" for line in lines))
 
 
+def make(folder, mib):
+    """Makes a file of about so many MiB in a folder, and its profile."""
+    path = lambda name: os.path.join(folder, name)
+    write_profile(path("profile"), write_file(path("in"), mib * MIB - 2048))
+
+
 def measure(command, runs):
-    """The median of the processor's seconds, the greatest peak in bytes, and whether it ended well."""
+    """The median of the processor's seconds, the greatest peak in MiB, and whether it ended well."""
     seconds, peak, well = [], 0, True
     for _ in range(runs):
-        process = subprocess.Popen(command, stdout=subprocess.DEVNULL, stderr=subprocess.DEVNULL)
-        _, status, usage = os.wait4(process.pid, 0)
-        seconds.append(usage.ru_utime + usage.ru_stime)
-        peak, well = max(peak, usage.ru_maxrss * 1024), well and status == 0
+        took = spent(command, stdout=subprocess.DEVNULL, stderr=subprocess.DEVNULL)
+        seconds.append(took.seconds)
+        peak, well = max(peak, took.peak), well and took.status == 0
     return statistics.median(seconds), peak, well
 
 
@@ -177,14 +183,10 @@ def main():
     words.add_argument("runs", nargs="?", type=int, default=3)
     words.add_argument("sizes", nargs="*", type=int, default=[1, 4, 16, 27, 64])
     given = words.parse_args()
-    command = given.tool.split()
-    if command == [os.path.join(ROOT, "sudrepka")]:
-        subprocess.run(command, stdout=subprocess.DEVNULL, check=False)  # proves and builds it, where it isn't built
+    command = built(given.tool)
     with tempfile.TemporaryDirectory() as folder:
         for size in given.sizes:
-            # in a process of its own, since a child's peak counts what its parent had when it began
-            maker = [sys.executable, os.path.abspath(__file__), "--make", folder, str(size * MIB - 2048)]
-            subprocess.run(maker, check=True)
+            make(folder, size)
             mib = os.path.getsize(os.path.join(folder, "in")) / MIB
             for tool, line in tools(command, folder):
                 seconds, peak, well = measure(line, given.runs)
@@ -192,14 +194,11 @@ def main():
                     print(f"{mib:5.1f} MiB {tool:10} doesn't take the file", flush=True)
                     continue
                 print(
-                    f"{mib:5.1f} MiB {tool:10} {seconds:8.3f} s {peak / MIB:8.1f} MiB, for each MiB "
-                    f"{seconds / mib:6.3f} s {peak / MIB / mib:6.2f} MiB",
+                    f"{mib:5.1f} MiB {tool:10} {seconds:8.3f} s {peak:8.1f} MiB, for each MiB "
+                    f"{seconds / mib:6.3f} s {peak / mib:6.2f} MiB",
                     flush=True,
                 )
 
 
 if __name__ == "__main__":
-    if sys.argv[1:2] == ["--make"]:
-        write_profile(os.path.join(sys.argv[2], "profile"), write_file(os.path.join(sys.argv[2], "in"), int(sys.argv[3])))
-    else:
-        main()
+    main()

@@ -8,7 +8,8 @@ with `-g` and its own unwind tables, and as many of them as make a file of so ma
 given). COMMAND (`./sudrepka` where it isn't given) records a run of each, and rewrites it by that profile. Each line
 has the tool, the median of the seconds of the processor of N runs (3), the greatest peak of memory, and both as parts
 of those of the size before it. Beside `rewrite` stand the same for the file without its debug tables, `objcopy`,
-which moves nothing, and `llvm-bolt-19`, with `--update-debug-sections` and without.
+which moves nothing, and `llvm-bolt-19`, with `--update-debug-sections` and without. It wants Debian's
+`gcc-riscv64-unknown-elf`.
 
 A file of 27 MiB has to be rewritten in 3 seconds and in 12 times its size; where the tables double, neither may grow
 by more than 2.2.
@@ -16,15 +17,13 @@ by more than 2.2.
 import argparse
 import os
 import shutil
-import sys
 import tempfile
 
-sys.path.insert(0, os.path.dirname(os.path.abspath(__file__)))
-from debug_files import apart, build_large  # noqa: E402
-from layout import bolt_profile  # noqa: E402
-from profiles import CROSS, output, record  # noqa: E402
-from real_programs import ROOT  # noqa: E402
-from rewrite import MIB, measure  # noqa: E402
+from debug_files import build_large
+from layout import bolt_profile
+from profiles import CROSS, built, record
+from real_programs import ROOT, call
+from rewrite import MIB, measure
 
 BOLT = ["--reorder-blocks=ext-tsp", "--reorder-functions=cdsort", "--split-functions"]
 
@@ -48,7 +47,7 @@ def prepare(tool, folder, mib):
     build_large(path, mib)
     said = record(tool, path, [], os.path.join(folder, "profile"))
     bolt_profile(os.path.join(folder, "profile"), path, os.path.join(folder, "named"))
-    output([CROSS + "objcopy", "--strip-debug", path, os.path.join(folder, "bare")])
+    call([CROSS + "objcopy", "--strip-debug", path, os.path.join(folder, "bare")])
     return said
 
 
@@ -58,26 +57,23 @@ def main():
     words.add_argument("--runs", type=int, default=3)
     words.add_argument("sizes", nargs="*", type=int, default=[7, 14, 27])
     given = words.parse_args()
-    before = {}
+    tool, before = built(given.tool), {}
     with tempfile.TemporaryDirectory() as folder:
         for size in given.sizes:
-            said = apart(__file__, "--make", given.tool, folder, size).strip()
+            said = prepare(tool, folder, size)
             mib = os.path.getsize(os.path.join(folder, "in")) / MIB
             print(f"{mib:5.1f} MiB, recorded: {said}", flush=True)
-            for name, command in commands(given.tool.split(), folder):
+            for name, command in commands(tool, folder):
                 seconds, peak, well = measure(command, given.runs)
                 if not well:
                     print(f"      {name:20} doesn't take the file", flush=True)
                     continue
                 last = before.get(name)
                 grown = f", {seconds / last[0]:4.2f} and {peak / last[1]:4.2f} of before" if last else ""
-                taken = f"{peak / MIB:8.0f} MiB, {peak / MIB / mib:5.1f} for each MiB"
+                taken = f"{peak:8.0f} MiB, {peak / mib:5.1f} for each MiB"
                 print(f"      {name:20} {seconds:8.2f} s {taken}{grown}", flush=True)
                 before[name] = (seconds, peak)
 
 
 if __name__ == "__main__":
-    if sys.argv[1:2] == ["--make"]:
-        print(prepare(sys.argv[2].split(), sys.argv[3], int(sys.argv[4])))
-    else:
-        main()
+    main()

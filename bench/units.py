@@ -28,6 +28,7 @@ import tempfile
 
 from hostile import LEAST_MIB, LEAST_SECONDS, MOST, growth, show
 from hostile_files import BASE, SHT_PROGBITS, TEXT, File
+from profiles import spent
 from references import build
 
 PROGRAM, LIBRARIES = "units_bench", ["elf_image", "addr_map", "table_core", "dw_unit"]
@@ -294,6 +295,7 @@ def write(path, kind, count):
 
 def measure(command):
     """What a command prints, by the words before it; the seconds of the processor, and the peak in MiB since it said `dropped`."""
+    # (a child of its own, and not by `spent`, since its number is wanted while it runs)
     child = subprocess.Popen(command, stdout=subprocess.PIPE, stderr=subprocess.DEVNULL, text=True)
     said = {}
     for line in child.stdout:
@@ -317,9 +319,10 @@ def best_of(program, what, path):
 
 def quiet(command):
     """The seconds and the peak of a tool whose output isn't kept."""
-    child = subprocess.Popen(command, stdout=subprocess.DEVNULL, stderr=subprocess.DEVNULL)
-    usage = os.wait4(child.pid, 0)[2]
-    return usage.ru_utime + usage.ru_stime, usage.ru_maxrss / 1024
+    took = spent(command, stdout=subprocess.DEVNULL, stderr=subprocess.DEVNULL)
+    if took.status != 0:
+        sys.exit(f"{' '.join(command)} ended with {took.status}")
+    return took.seconds, took.peak
 
 
 def run(program, kind, path, tools):
@@ -352,8 +355,6 @@ def main():
     given = words.parse_args()
     with tempfile.TemporaryDirectory() as folder:
         program = build(given.folder or folder, PROGRAM, LIBRARIES, FILES)
-        if not os.path.exists(program):
-            sys.exit("the program was not proved")
         well = [run(program, kind, os.path.join(folder, "file"), given.tools) for kind in given.kinds or KINDS]
     sys.exit(0 if all(well) else 1)
 

@@ -14,12 +14,11 @@ is, and each output is called faithful.
 import argparse
 import os
 import random
-import subprocess
 import sys
 import tempfile
 
-sys.path.insert(0, os.path.dirname(os.path.abspath(__file__)))
-from rewrite import MIB, ROOT, measure  # noqa: E402
+from profiles import built
+from rewrite import MIB, ROOT, make, measure
 
 GOAL, JUDGED = 2, 27  # times as long, for a file of so many MiB
 
@@ -42,43 +41,34 @@ def reorder(order, source, target):
         file.write(b"".join(ORDERS[order](lines)))
 
 
-def in_another_process(*words):
-    """A child's peak of memory counts what its parent had when it began, so large files are made by another process."""
-    subprocess.run([sys.executable, *words], check=True)
-
-
 def main():
     words = argparse.ArgumentParser(description="seconds and memory of verify")
     words.add_argument("--tool", default=os.path.join(ROOT, "sudrepka"), help="the command that takes `verify ..`")
     words.add_argument("runs", nargs="?", type=int, default=3)
     words.add_argument("sizes", nargs="*", type=int, default=[1, 4, 16, JUDGED])
     given = words.parse_args()
-    command = given.tool.split()
-    here = os.path.dirname(os.path.abspath(__file__))
+    command = built(given.tool)
     good = True
     with tempfile.TemporaryDirectory() as folder:
         path = lambda name: os.path.join(folder, name)
         for size in given.sizes:
-            in_another_process(os.path.join(here, "rewrite.py"), "--make", folder, str(size * MIB - 2048))
+            make(folder, size)
             mib = os.path.getsize(path("in")) / MIB
             made = measure([*command, "rewrite", path("in"), path("profile"), path("out"), path("map")], given.runs)
             if not made[2]:
                 sys.exit(f"a file of {mib:.1f} MiB isn't rewritten")
             for order in ORDERS:
-                in_another_process(os.path.abspath(__file__), "--reorder", order, path("map"), path("given"))
+                reorder(order, path("map"), path("given"))
                 seconds, peak, well = measure([*command, "verify", path("in"), path("out"), path("given")], given.runs)
                 times = seconds / made[0]
                 good = good and well and (size != JUDGED or times < GOAL)
                 print(
                     f"{mib:5.1f} MiB {order:15} rewrite {made[0]:7.3f} s, verify {seconds:7.3f} s, {times:5.2f} times; "
-                    f"{peak / MIB:8.1f} MiB, for each MiB {peak / MIB / mib:6.2f}" + ("" if well else ", not faithful"),
+                    f"{peak:8.1f} MiB, for each MiB {peak / mib:6.2f}" + ("" if well else ", not faithful"),
                     flush=True,
                 )
     sys.exit(0 if good else 1)
 
 
 if __name__ == "__main__":
-    if sys.argv[1:2] == ["--reorder"]:
-        reorder(*sys.argv[2:5])
-    else:
-        main()
+    main()
