@@ -116,9 +116,8 @@ def main() -> int:
         os.chdir(folder)
         tool = Tool(program)
         for words in (["sample", "1", "s", "p"], ["rewrite", "s", "p", "moved", "moved.map"]):
-            tool.run(words)
-        for name in ("moved", "moved.map"):
-            open(name, "ab").close()
+            if tool.run(words)[0].status != 0:
+                sys.exit(f"{' '.join(words)} fails")
         well = [judged(tool, name) for name in given.commands or COMMANDS]
     return 0 if all(well) else 1
 

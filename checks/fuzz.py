@@ -4,14 +4,14 @@
     python3 checks/fuzz.py PROGRAM FIRST [COUNT] [--jobs N] [--minutes M] [--runs FILE] [--keep FOLDER] [--only KIND]
                            [--command COMMAND]
 
-PROGRAM is a command, as `./sudrepka`. Inputs have numbers: COUNT of them are made from the number FIRST on, or just
-that one. An input is a command with its files, and a number is the same input wherever a run begins. A file is a
-program with unwind and debug tables of every kind, of which none, one or a few things are changed: a field of the
-file's headers, of a symbol or a relocation (`headers`, `symbols`), of a table (`tables`), an instruction (`code`),
-data, or any bytes. A table is kept as a list of fields: one gets another value, is left out, doubled or put elsewhere,
-while lengths and offsets follow unless they are what is changed; and a part may stand there a thousand times. Texts,
-as profiles and maps, are changed by words and lines; some commands are words at random, and some have a standard
-output that takes nothing.
+PROGRAM is the built program, as crates/bolt_cli/out/bolt_cli. Inputs have numbers: COUNT of them are made from the
+number FIRST on, or just that one. An input is a command with its files, and a number is the same input wherever a run
+begins. A file is a program with unwind and debug tables of every kind, of which none, one or a few things are changed:
+a field of the file's headers, of a symbol or a relocation (`headers`, `symbols`), of a table (`tables`), an instruction
+(`code`), data, or any bytes. A table is kept as a list of fields: one gets another value, is left out, doubled or put
+elsewhere, while lengths and offsets follow unless they are what is changed; and a part may stand there a thousand
+times. Texts, as profiles and maps, are changed by words and lines; some commands are words at random, and some have a
+standard output that takes nothing.
 
 What is reported (`fuzzed/promises.py`): a status or a text that isn't one of the command's, a fault that it doesn't
 look for, a signal, a file that is written where none should be or isn't where it should, seconds of the processor that

@@ -76,6 +76,38 @@ def hint(word, size):
     raise ValueError(hex(word))
 
 
+def compressed_meaning(name, parts, distance):
+    """What a two-byte instruction is, by its name without `c.`; nothing where a longer one of that name is the same."""
+    if name == "nop":
+        imm = int(parts[0], 0) if parts else 0
+        return show("addi", rd=0, rs1=0, imm=imm)
+    if name in ("addi", "addiw", "addi16sp", "slli", "srli", "srai", "andi"):
+        rd = register(parts[0])
+        if name == "addi16sp" and int(parts[1], 0) == 0:
+            return "none"
+        row = "addi" if name == "addi16sp" else name
+        return show(row, rd=rd, rs1=rd, imm=int(parts[1], 0))
+    if name in ("slli64", "srli64", "srai64"):
+        rd = register(parts[0])
+        return show(name[:4], rd=rd, rs1=rd, imm=0)
+    if name == "addi4spn":
+        return show("addi", rd=register(parts[0]), rs1=2, imm=int(parts[2], 0))
+    if name == "li":
+        return show("addi", rd=register(parts[0]), rs1=0, imm=int(parts[1], 0))
+    if name in ("sub", "xor", "or", "and", "subw", "addw", "add"):
+        rd = register(parts[0])
+        return show(name, rd=rd, rs1=rd, rs2=register(parts[1]))
+    if name == "mv":
+        return show("add", rd=register(parts[0]), rs1=0, rs2=register(parts[1]))
+    if name == "j":
+        return show("jal", rd=0, imm=distance(parts[0]))
+    if name in ("jr", "jalr"):
+        return show("jalr", rd=int(name == "jalr"), rs1=register(parts[0]), imm=0)
+    if name in ("beqz", "bnez"):
+        return show(name[:3], rs1=register(parts[0]), rs2=0, imm=distance(parts[1]))
+    return None
+
+
 def meaning(word, size, name, operands, address):
     if size == 4 and word & 0x707F == 0x0F:
         return show("fence", rd=word >> 7 & 31, rs1=word >> 15 & 31, imm=signed(word >> 20, 12))
@@ -89,33 +121,9 @@ def meaning(word, size, name, operands, address):
         return signed((int(text, 0) - address) % 2**64, 64)
 
     if compressed:
-        if name == "nop":
-            imm = int(parts[0], 0) if parts else 0
-            return show("addi", rd=0, rs1=0, imm=imm)
-        if name in ("addi", "addiw", "addi16sp", "slli", "srli", "srai", "andi"):
-            rd = register(parts[0])
-            if name == "addi16sp" and int(parts[1], 0) == 0:
-                return "none"
-            row = "addi" if name == "addi16sp" else name
-            return show(row, rd=rd, rs1=rd, imm=int(parts[1], 0))
-        if name in ("slli64", "srli64", "srai64"):
-            rd = register(parts[0])
-            return show(name[:4], rd=rd, rs1=rd, imm=0)
-        if name == "addi4spn":
-            return show("addi", rd=register(parts[0]), rs1=2, imm=int(parts[2], 0))
-        if name == "li":
-            return show("addi", rd=register(parts[0]), rs1=0, imm=int(parts[1], 0))
-        if name in ("sub", "xor", "or", "and", "subw", "addw", "add"):
-            rd = register(parts[0])
-            return show(name, rd=rd, rs1=rd, rs2=register(parts[1]))
-        if name == "mv":
-            return show("add", rd=register(parts[0]), rs1=0, rs2=register(parts[1]))
-        if name == "j":
-            return show("jal", rd=0, imm=distance(parts[0]))
-        if name in ("jr", "jalr"):
-            return show("jalr", rd=int(name == "jalr"), rs1=register(parts[0]), imm=0)
-        if name in ("beqz", "bnez"):
-            return show(name[:3], rs1=register(parts[0]), rs2=0, imm=distance(parts[1]))
+        own = compressed_meaning(name, parts, distance)
+        if own:
+            return own
         if name in ("lwsp", "ldsp", "swsp", "sdsp"):
             name = name[:2]
     if name in ("ecall", "ebreak"):

@@ -20,7 +20,7 @@ import tempfile
 
 CODE_ADDRESS = 0x100B0
 DATA_PLACE, DATA_ADDRESS = 0x3000, 0x50000
-ROW_CODE, ROW_DATA = 28, 24
+ROW_CODE = 28
 
 LD_X11, LD_X12, LI_X10_0, SD_X10, NEXT_ROW = 0x00043583, 0x00843603, 0x00000513, 0x00A43823, 0x01840413
 NOP, LI_X10_1, LD_X10 = 0x00000013, 0x00100513, 0x01043503
@@ -147,14 +147,16 @@ def main():
         if left == "next":
             left = CODE_ADDRESS + 4 + ROW_CODE * index + 20 + right
         table.append((word, left & MASK, right & MASK))
-    with open(sys.argv[1], "w") as out:
+    results = list(run(table))  # before the file is written over
+    with open(sys.argv[1], "w", encoding="ascii") as out:
         out.write("// Instructions, operands and results, as checks/machine_results.py takes them from qemu-riscv64.\n\n")
         out.write("/// A line is an instruction, the values of x11 and of x12, and the result, in hexadecimal.\n")
         out.write('pub const RESULTS: &str = "\\\n')
-        for word, left, right, result in run(table):
+        for word, left, right, result in results:
             out.write(f"{word:08x} {left:x} {right:x} {result:x}\n")
         out.write('";\n')
     print(len(table), "rows")
 
 
-main()
+if __name__ == "__main__":
+    main()

@@ -3,13 +3,14 @@
 
     python3 checks/odd_elves.py PROGRAM COUNT SEED [--only ODDITY] [--keep FOLDER]
 
-PROGRAM is a command, as `./sudrepka` or `python3 other.py`. COUNT files are made, the same ones for the same
-SEED; 2000 from 1 on have each oddity in some forty files. --only gives each file just the one of that name.
-Each is a small program for RV64, laid out by the ELF standard alone, with some oddities that no linker
-makes: tables in any order, headers and sections that name the same bytes or none, huge alignments, symbols
-without a home and so on. A rewriter has to take each file or to refuse it by name; but where an alignment is
-huge, so that a file would have more than a GiB, or the standard doesn't allow an oddity, as a symbol table
-that is no table of names and yet its own, it may be out of memory (`unwritable_oddity` of `odd/shape.py`).
+PROGRAM is the built program, as crates/bolt_cli/out/bolt_cli, or another command, as `python3 other.py`. COUNT
+files are made, the same ones for the same SEED; 2000 from 1 on have each oddity in some forty files. --only
+gives each file just the one of that name. Each is a small program for RV64, laid out by the ELF standard alone,
+with some oddities that no linker makes: tables in any order, headers and sections that name the same bytes or
+none, huge alignments, symbols without a home and so on. A rewriter has to take each file or to refuse it by
+name; but where an alignment is huge, so that a file would have more than a GiB, or the standard doesn't allow
+an oddity, as a symbol table that is no table of names and yet its own, it may be out of memory
+(`unwritable_oddity` of `odd/shape.py`).
 
 Reported are: a status other than 0 and 221, a signal, a run that takes more than a minute, a written file
 that ends otherwise than its input, where that ends with `--symbols`, and complaints of `readelf -aW` (GNU

@@ -3,10 +3,11 @@
 
     python3 checks/readme.py [--tool PROGRAM]
 
-They are typed into one shell, in a fresh clone of this repository. PROGRAM takes the place of `sudrepka` there, so that
-nothing has to be proved; where it isn't given, the clone is built. Lines that install packages, and the first look, are
-left out. ADDRESS is that of the moved function `main`. A line fails where it ends with 1, 2, 126, 127, or 220 and more,
-or doesn't print what stands below it. All of them are typed once for each compiler. The status is 0 where no line fails.
+They are typed into one shell, in a fresh clone of this repository, whose README.md is read. PROGRAM takes the place of
+`sudrepka` there, so that nothing has to be proved; where it isn't given, the clone is built. Lines that install
+packages, and the first look, are left out. ADDRESS is that of the moved function `main`. A line fails where it ends
+with 1, 2, 126, 127, or 220 and more, or doesn't print what stands below it. All of them are typed once for each
+compiler. The status is 0 where no line fails.
 """
 import argparse
 import os
@@ -48,6 +49,7 @@ def typed(lines, folder):
     for line, _ in lines:
         wait = "sleep 2; " if line.endswith("&") else ""  # until qemu listens
         text += f"{{ {line.replace('ADDRESS', ADDRESS)}\n}} < /dev/null\nstatus=$?; {wait}echo; echo '{MARK}' $status\n"
+    text += "kill $(jobs -pr) 2> /dev/null\n"  # what still waits holds the pipe open
     done = subprocess.run(["bash"], input=text, cwd=folder, stdout=subprocess.PIPE, stderr=subprocess.STDOUT, text=True,
                           errors="replace", check=False)
     parts = re.split(rf"^{MARK} (\d+)\n", done.stdout, flags=re.M)
@@ -64,12 +66,12 @@ def main():
     words = argparse.ArgumentParser(description="types the command lines of README.md, and says which fail")
     words.add_argument("--tool", help="the program that takes `rewrite ..`")
     given = words.parse_args()
-    with open(os.path.join(ROOT, "README.md"), encoding="utf-8") as file:
-        lines = command_lines(file.read())
     failed = 0
     with tempfile.TemporaryDirectory() as room:
         folder = os.path.join(room, "clone")
         subprocess.run(["git", "clone", "-q", ROOT, folder], check=True)
+        with open(os.path.join(folder, "README.md"), encoding="utf-8") as file:
+            lines = command_lines(file.read())
         if given.tool:
             lines = [(line, said) for line, said in lines if line != "./build"]
             with open(os.path.join(folder, "sudrepka"), "w", encoding="ascii") as file:

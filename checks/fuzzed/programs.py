@@ -7,7 +7,7 @@ from dataclasses import dataclass
 from fuzzed import frames, lines, units
 from fuzzed.fields import FORMATS, Mark, Raw, joined, mutate, odd_number, piece, written
 from odd import code as odd_code
-from odd.builder import PF_R, PT_LOAD, SHF_ALLOC, SHT_PROGBITS, SHT_RELA, SHT_SYMTAB
+from odd.builder import PF_R, SHF_ALLOC, SHT_PROGBITS, SHT_RELA, SHT_SYMTAB
 from odd.shape import Shape
 
 PT_GNU_EH_FRAME = 0x6474E550
