@@ -46,8 +46,8 @@ def value_of(number):
 
 
 def with_names(text, other):
-    """A text in which addresses have the names that they have in another one: expressions in tables are kept, and so is
-    the old address of a function in one."""
+    """A text in which numbers have the names that they have in another one: expressions in tables are kept, and so is the
+    old address of a function in one; and a number that is no address may lie in the new code."""
     names = dict(re.findall(r"(0x[0-9a-f]+) (<[\w.+]+>)", other))
     return re.sub(r"\b(0x[0-9a-f]+)\b(?! <)", lambda found: f"{found[1]} {names.get(found[1], '')}".rstrip(), text)
 
@@ -115,7 +115,7 @@ class Debugged:
             return [f"gdb stops {len(before)} times before and {len(after)} times afterwards, or elsewhere"]
         for (at, was), (_, now) in zip(before, after):
             silent = self.silent(was)
-            was, now = plain(was, silent), plain(with_names(now, was), silent)
+            was, now = plain(with_names(was, now), silent), plain(with_names(now, was), silent)
             if not self.same(was, now):
                 pairs = zip(was.splitlines(), now.splitlines())
                 lines = [difference(a, b) for a, b in pairs if not self.same(a, b)]
