@@ -195,6 +195,8 @@ def main():
     given = words.parse_args()
     if given.files:
         return follow_files(given.files, given.functions)
+    if not all(word.isdigit() for word in given.functions):
+        words.error("without --files numbers of functions are given")
     gcc = compilers().get("gcc") or sys.exit(NO_COMPILER)
     with tempfile.TemporaryDirectory() as folder:
         path = os.path.join(folder, "program")
