@@ -70,6 +70,7 @@ fn main(rt: HostRuntime) -> Result<(), anyhow::Error> {
 """,
 }
 
+
 def crates_below(names):
     """These crates and all of the repository below them, each with what it stands on."""
     with open(os.path.join(ROOT, "crates.txt"), encoding="utf-8") as file:
