@@ -1,5 +1,5 @@
 // The permissions of written files.
-use bolt_tool::command_line::{Command, parse};
+use cli_args::command_line::{Command, parse};
 use std::{fs, io};
 
 /// Gives the output of a rewrite the permissions of its input, where the system allows it: a program is to be run

@@ -3,14 +3,14 @@ use Rattle.std.proofs.Common.{◌≡◌, subst, ℕ, List, Some}
 use Rattle.cli_base.specs.Served.{IsInputKept}
 use Rattle.cli_base.specs.World.{World}
 use Rattle.cli_base.specs.declared.status.Status.{Status}
-use Rattle.cli_run.specs.RunArgs.{RunArgs}
+use Rattle.cli_args.specs.Args.{RunArgs}
 use Rattle.cli_run.specs.declared.running.RunMode.{RunMode}
 use Rattle.cli_run.specs.declared.running.RunMode.TheVariants.{Bytes, Symbols}
 use Rattle.cli_run.specs.recording.RecordAnswers.{RecordServes}
 use Rattle.cli_run.specs.run.Serving.{ServesRun}
 use Rattle.bolt_tool.specs.CommandAnswers.{KeepsInput, Serves}
-use Rattle.bolt_tool.specs.CommandLine.{Record}
-use Rattle.bolt_tool.specs.CommandLineViews.{run_on}
+use Rattle.cli_args.specs.CommandLine.{Record}
+use Rattle.bolt_tool.specs.RunCommands.{run_on}
 
 pub run_serves : (mode : RunMode) (args : RunArgs) (answer : Status) (old new : World) →
     ServesRun mode args answer old new → Serves (Some (run_on mode args)) answer old new

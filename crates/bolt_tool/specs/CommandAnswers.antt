@@ -1,5 +1,5 @@
 -- What holds at the end of the program, by its answer.
-use Rattle.std.specs.Prelude.{◌≡◌, Option, Some, None, IsTrue}
+use Rattle.std.specs.Prelude.{◌≡◌, Option, Some, None}
 use Rattle.std.specs.Process.{exit_status}
 use Rattle.std.specs.declared.process.ExitCode.{ExitCode}
 use Rattle.cli_base.specs.declared.status.Status.{Status}
@@ -7,21 +7,19 @@ use Rattle.cli_base.specs.declared.status.Status.TheVariants as status
 use Rattle.cli_base.specs.Status.{exit_number}
 use Rattle.cli_base.specs.Served.{IsInputKept, IsServed}
 use Rattle.cli_base.specs.World.{World}
-use Rattle.bolt_tool.specs.CommandLine.{Command, Rewrite, Map, Run, RunSymbols, Record, Repair, Lookup, Sample, Verify}
-use Rattle.bolt_tool.specs.CommandLine.{Frames}
+use Rattle.cli_args.specs.CommandLine.{Command, Rewrite, Map, Run, RunSymbols, Record, Repair, Lookup, Sample, Verify}
+use Rattle.cli_args.specs.CommandLine.{Frames}
 use Rattle.bolt_tool.specs.Lines.{usage_line}
 use Rattle.cli_base.specs.PrintedLines.{PrintsOnly, FailsAtLine}
 use Rattle.cli_run.specs.recording.RecordAnswers.{RecordAnswers, RecordCompletes}
-use Rattle.bolt_core.specs.Refusals.{IsRefused}
-use Rattle.cli_base.specs.Inputs.{IsAccepted, IsOkOrNoMemory, NoInputErrors, OfInputs}
 use Rattle.cli_check.specs.RepairAnswers.{RepairAnswers, RepairCompletes}
 use Rattle.cli_check.specs.VerifyAnswers.{VerifyAnswers, VerifyCompletes}
 use Rattle.cli_look.specs.LookAnswers.{LookAnswers, LookCompletes}
 use Rattle.cli_look.specs.LookingUp.{looking_up}
 use Rattle.cli_look.specs.declared.question.Question.TheVariants as question
 use Rattle.cli_look.specs.SampleAnswers.{SampleAnswers, SampleCompletes}
-use Rattle.bolt_tool.specs.rewrite.MapAnswers.{MapAnswers}
-use Rattle.bolt_tool.specs.rewrite.RewriteAnswers.{NoneRoseWriting, RewriteAnswers}
+use Rattle.cli_rewrite.specs.MapAnswers.{MapAnswers, MapCompletes}
+use Rattle.cli_rewrite.specs.RewriteAnswers.{RewriteAnswers, RewriteCompletes}
 use Rattle.cli_run.specs.run.ByteRuns.{byte_mode}
 use Rattle.cli_run.specs.run.RunAnswers.{CompletesRun, RunAnswers}
 use Rattle.cli_run.specs.run.SymbolRuns.{symbol_mode}
@@ -51,12 +49,8 @@ CommandAnswers None answer old new = UsageAnswers answer old new
 -- is judged, or memory runs out, where no fault is present and no count rose. A run of a file that can be run answers
 -- how that comes out.
 abbrev pub Completes : Option Command → Status → World → World → Type 0
-Completes (Some (Rewrite names)) answer old new =
-    IsTrue old.files.told → OfInputs old names.inputs (IsAccepted IsRefused) → NoneRoseWriting names old new →
-    IsOkOrNoMemory answer
-Completes (Some (Map names)) answer old new =
-    IsTrue old.files.told → OfInputs old names (IsAccepted IsRefused) → NoInputErrors names old new →
-    IsOkOrNoMemory answer
+Completes (Some (Rewrite names)) answer old new = RewriteCompletes names answer old new
+Completes (Some (Map names)) answer old new = MapCompletes names answer old new
 Completes (Some (Run args)) answer old new = CompletesRun byte_mode args answer old new
 Completes (Some (RunSymbols args)) answer old new = CompletesRun symbol_mode args answer old new
 Completes (Some (Record args)) answer old new = RecordCompletes args answer old new

@@ -2,18 +2,17 @@
 ghost use Rattle.std.specs.Prelude.{map, string_bytes, None, Some};
 ghost use Rattle.rb_io.specs.Views.{SourceSeen};
 ghost use Rattle.bolt_tool.specs.CommandAnswers.{KeepsInput, Serves};
-ghost use Rattle.bolt_tool.specs.CommandLineViews.{NamesDiffer, ArgsFit, command_read};
-ghost use Rattle.bolt_tool.specs.CommandLine.{command_of};
+ghost use Rattle.cli_args.specs.CommandLineViews.{NamesDiffer, ArgsFit, command_read};
+ghost use Rattle.cli_args.specs.CommandLine.{command_of};
 ghost use Rattle.cli_base.specs.World.{world};
 
-use crate::command_line::{Command, parse};
 use crate::lines;
-use crate::print_map::print_map;
-use crate::rewrite::rewrite;
 use crate::running::{record_tokens, run_tokens};
+use cli_args::command_line::{Command, parse};
 use cli_base::Status;
 use cli_check::{repair, verify};
 use cli_look::{Question, look_up, sample};
+use cli_rewrite::{print_map, rewrite};
 use cli_run::RunMode;
 use rb_io::{Files, Put, Sink, Source, print_all};
 use std::alloc::Global;

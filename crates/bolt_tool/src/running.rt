@@ -3,12 +3,14 @@ ghost use Rattle.std.specs.Prelude.{Some};
 ghost use Rattle.rv_memory.specs.Limits.{IsWithinLimits};
 ghost use Rattle.cli_base.specs.World.{world};
 ghost use Rattle.bolt_tool.specs.CommandAnswers.{KeepsInput, Serves};
-ghost use Rattle.bolt_tool.specs.CommandLineViews.{record_read, run_on, run_read};
-ghost use Rattle.bolt_tool.specs.CommandLine.{Record};
+ghost use Rattle.cli_args.specs.CommandLineViews.{record_read, run_read};
+ghost use Rattle.bolt_tool.specs.RunCommands.{run_on};
+ghost use Rattle.cli_args.specs.CommandLine.{Record};
 
-use crate::command_line::{RecordTokens, RunTokens, program_args};
+use cli_args::command_line::{RecordTokens, RunTokens, program_args};
+use cli_args::{RecordArgs, RunArgs};
 use cli_base::Status;
-use cli_run::{RecordArgs, RunArgs, RunMode, record, run};
+use cli_run::{RunMode, record, run};
 use rb_io::{Files, Sink, Source};
 use std::alloc::Global;
 

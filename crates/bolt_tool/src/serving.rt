@@ -1,7 +1,7 @@
 // What the process does with files and streams, whatever they are.
 ghost use Rattle.std.specs.Prelude.{map, string_bytes};
 ghost use Rattle.bolt_tool.specs.CommandAnswers.{Exits};
-ghost use Rattle.bolt_tool.specs.CommandLine.{command_of};
+ghost use Rattle.cli_args.specs.CommandLine.{command_of};
 ghost use Rattle.cli_base.specs.World.{world};
 
 use crate::commands::tool;

@@ -11,7 +11,8 @@ use Rattle.rb_bytes.specs.declared.fault.Refusal.TheVariants as refusal
 use Rattle.program.specs.Limits.{file_limit}
 use Rattle.program.specs.Refusals.{IsRefusalFor}
 use Rattle.cli_base.specs.BothRead.{BothRead}
-use Rattle.cli_base.specs.Inputs.{AreRead, HasInputFault, InputNames, IsAccepted, IsOkOrNoMemory, IsStopped, IsTooLong}
+use Rattle.cli_base.specs.Inputs.{AreRead, HasInputFault, IsAccepted, IsOkOrNoMemory, IsStopped, IsTooLong}
+use Rattle.cli_args.specs.Args.{InputNames}
 use Rattle.cli_base.specs.Inputs.{NoInputErrors, OfInputs, at_file, at_refusal, long_file, long_profile, no_memory, refused}
 use Rattle.cli_base.specs.Lines.{refused_line}
 use Rattle.cli_base.specs.PrintedLines.{IsSilent}

@@ -2,7 +2,7 @@
 use Rattle.std.specs.Prelude.{ℕ, List, Option, Vec}
 use Rattle.std.specs.declared.alloc.Global.{Global}
 use Rattle.program.specs.Limits.{file_limit}
-use Rattle.cli_base.specs.Inputs.{InputNames}
+use Rattle.cli_args.specs.Args.{InputNames}
 use Rattle.cli_base.specs.WithinLimit.{IsGiven}
 
 pub record BothRead (content : List ℕ → Option (List ℕ)) (names : InputNames) (file profile : Option (Vec ℕ Global)) : Type 0 where

@@ -6,20 +6,12 @@ use Rattle.rb_bytes.specs.declared.fault.FaultKind.TheVariants.{TooLarge}
 use Rattle.rb_bytes.specs.declared.limit.TheConstants.{FILE_BYTES, PROFILE_BYTES}
 use Rattle.rb_io.specs.FaultCounts.{Rose}
 use Rattle.program.specs.Limits.{file_limit}
+use Rattle.cli_args.specs.Args.{InputNames}
 use Rattle.cli_base.specs.Lines.{refused_line}
 use Rattle.cli_base.specs.PrintedLines.{PrintsOnly, IsSilent, FailsAtLine}
 use Rattle.cli_base.specs.World.{World, ReadRose}
-use Rattle.cli_base.specs.declared.inputs.InputArgs.{InputArgs}
 use Rattle.cli_base.specs.declared.status.Status.{Status}
 use Rattle.cli_base.specs.declared.status.Status.TheVariants as status
-
--- the names of an input and of its profile
-pub record InputNames : Type 0 where
-  pub file : List ℕ
-  pub profile : List ℕ
-
-abbrev pub inputs_read : InputArgs → InputNames
-inputs_read a = record { file = a.file.now; profile = a.profile.now }
 
 -- P holds of the contents of the input and of the profile, both being there
 abbrev pub OfInputs : World → InputNames → (List ℕ → List ℕ → Type 0) → Type 0

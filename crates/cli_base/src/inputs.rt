@@ -4,25 +4,20 @@ ghost use Rattle.rb_io.specs.Names.{Unchanged};
 ghost use Rattle.rb_io.specs.Views.{FilesGoOn, SourceSeen};
 ghost use Rattle.program.specs.Limits.{file_limit};
 ghost use Rattle.cli_base.specs.BothRead.{BothRead};
-ghost use Rattle.cli_base.specs.Inputs.{AreRead, IsStopped, IsTooLong, inputs_read};
+ghost use Rattle.cli_base.specs.Inputs.{AreRead, IsStopped, IsTooLong};
+ghost use Rattle.cli_args.specs.Args.{inputs_read};
 ghost use Rattle.cli_base.specs.WithinLimit.{FitsLimit, IsUnreadable};
 ghost use Rattle.cli_base.specs.World.{world};
 
 use crate::reading::read_within;
 use crate::refusal::refuse;
 use crate::status::Status;
+use cli_args::InputArgs;
 use program::FILE_LIMIT;
 use rb_bytes::fault::{Fault, FaultKind, Refusal};
 use rb_bytes::limit::{FILE_BYTES, PROFILE_BYTES};
 use rb_io::{Files, Sink};
 use std::alloc::Global;
-
-/// The names of an input and of its profile.
-#[derive(Clone, Copy)]
-pub struct InputArgs<'a> {
-    pub file: &'a str,
-    pub profile: &'a str,
-}
 
 /// An input and its profile, each of at most 64 MiB.
 #[derive(Drop)]

@@ -11,7 +11,7 @@ mod refusal;
 pub mod status;
 
 pub use images::file_image;
-pub use inputs::{InputArgs, Inputs, read_inputs};
+pub use inputs::{Inputs, read_inputs};
 pub use printing::print_line;
 pub use programs::file_program;
 pub use reading::{read_file, read_within};

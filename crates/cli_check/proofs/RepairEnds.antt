@@ -12,7 +12,7 @@ use Rattle.cli_base.proofs.FaultCounts.{rose_after}
 use Rattle.cli_base.proofs.InputAnswering.{IsBetween, stopped_completes}
 use Rattle.cli_check.specs.Phases.{RepairWritten, all_written, fails_at_file, fails_at_lines}
 use Rattle.cli_check.specs.RepairAnswers.{IsRepairOfFiles, NoneRoseRepairing, RepairAnswers, RepairServes, at_lines, at_out, done, stopped}
-use Rattle.cli_check.specs.RepairNames.{RepairNames}
+use Rattle.cli_args.specs.Args.{RepairNames}
 use Rattle.cli_check.specs.RepairedFiles.{CannotRepair, too_long}
 
 pub long_refused : (file profile : List ℕ) (fault : Fault) → IsTooLong file profile fault → CannotRepair file profile fault

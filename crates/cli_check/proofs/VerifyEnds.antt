@@ -18,7 +18,7 @@ use Rattle.cli_check.specs.VerdictLines.{status_of, verdict_line}
 use Rattle.cli_check.specs.VerifiedFiles.{IsRefusedBy, IsVerdictOn}
 use Rattle.cli_check.specs.VerifyAnswers.{AreAccepted, IsJudgedOrNoMemory, NoneRoseVerifying, OfFiles, OfTold, VerifyAnswers, VerifyServes}
 use Rattle.cli_check.specs.VerifyAnswers.{at_file, at_refusal, at_verdict, judged, no_memory, refused}
-use Rattle.cli_check.specs.VerifyNames.{VerifyNames}
+use Rattle.cli_args.specs.Args.{VerifyNames}
 use Rattle.cli_check.specs.declared.given.Given.{Given}
 use Rattle.cli_check.specs.declared.judging.Judged.{Judged}
 use Rattle.cli_check.specs.declared.judging.Judged.TheVariants as found

@@ -4,7 +4,7 @@ use Rattle.rb_io.specs.Views.{FilesSeen}
 use Rattle.program.specs.Limits.{file_limit}
 use Rattle.cli_base.specs.WithinLimit.{IsGiven, IsUnreadable}
 use Rattle.cli_base.specs.declared.status.Status.{Status}
-use Rattle.cli_check.specs.VerifyNames.{VerifyNames}
+use Rattle.cli_args.specs.Args.{VerifyNames}
 use Rattle.cli_check.specs.declared.given.Given.{Given}
 
 -- the most bytes of a map

@@ -2,9 +2,7 @@ pub mod GivenFiles
 pub mod Judged
 pub mod Phases
 pub mod RepairAnswers
-pub mod RepairNames
 pub mod RepairedFiles
 pub mod VerdictLines
 pub mod VerifiedFiles
 pub mod VerifyAnswers
-pub mod VerifyNames

@@ -3,14 +3,14 @@ use Rattle.std.specs.Prelude.{◌≡◌, ℕ, List, IsTrue}
 use Rattle.rb_io.specs.Names.{UnchangedBut}
 use Rattle.rb_io.specs.TakenText.{TakesAll}
 use Rattle.rb_io.specs.Views.{FilesSeen}
-use Rattle.cli_base.specs.Inputs.{AreRead, InputNames, IsAccepted, IsOkOrNoMemory, IsStopped, NoInputErrors, OfInputs}
+use Rattle.cli_base.specs.Inputs.{AreRead, IsAccepted, IsOkOrNoMemory, IsStopped, NoInputErrors, OfInputs}
+use Rattle.cli_args.specs.Args.{InputNames, RepairNames}
 use Rattle.cli_base.specs.PrintedLines.{FailsToPrint}
 use Rattle.cli_base.specs.Served.{IsServed}
 use Rattle.cli_base.specs.World.{World, WriteRose}
 use Rattle.cli_base.specs.WrittenFiles.{HoldsFile}
 use Rattle.cli_base.specs.declared.status.Status.{Status}
 use Rattle.cli_base.specs.declared.status.Status.TheVariants as status
-use Rattle.cli_check.specs.RepairNames.{RepairNames}
 use Rattle.cli_check.specs.RepairedFiles.{CannotRepair, IsRepairOf}
 
 -- both files were read, and this was made of them

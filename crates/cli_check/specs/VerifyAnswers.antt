@@ -10,7 +10,7 @@ use Rattle.cli_base.specs.declared.status.Status.TheVariants as status
 use Rattle.map_check.specs.declared.clause.Verdict.{Verdict}
 use Rattle.cli_check.specs.VerdictLines.{status_of, verdict_line}
 use Rattle.cli_check.specs.VerifiedFiles.{IsRefusedBy, IsVerdictOn}
-use Rattle.cli_check.specs.VerifyNames.{VerifyNames}
+use Rattle.cli_args.specs.Args.{VerifyNames}
 
 -- P holds of the contents of the three files, all being there
 abbrev pub OfFiles : World → VerifyNames → (List ℕ → List ℕ → List ℕ → Type 0) → Type 0

@@ -5,9 +5,9 @@ ghost use Rattle.rb_io.specs.Views.{FilesGoOn};
 ghost use Rattle.program.specs.Limits.{file_limit};
 ghost use Rattle.cli_base.specs.WithinLimit.{FitsLimit};
 ghost use Rattle.cli_check.specs.GivenFiles.{AreGiven, IsUngiven};
-ghost use Rattle.cli_check.specs.VerifyNames.{verify_given};
+ghost use Rattle.cli_args.specs.Args.{verify_given};
 
-use crate::verify_args::VerifyArgs;
+use cli_args::VerifyArgs;
 use cli_base::{Status, read_within};
 use program::FILE_LIMIT;
 use rb_io::Files;

@@ -5,13 +5,9 @@
 mod given;
 mod judging;
 mod making;
-pub mod repair_args;
 pub mod repairing;
 mod verdict_lines;
-pub mod verify_args;
 pub mod verifying;
 
-pub use repair_args::RepairArgs;
 pub use repairing::repair;
-pub use verify_args::VerifyArgs;
 pub use verifying::verify;

@@ -4,10 +4,10 @@ ghost use Rattle.rb_io.specs.Views.{FilesGoOn, SourceSeen};
 ghost use Rattle.cli_base.specs.World.{world};
 ghost use Rattle.cli_check.specs.Phases.{RepairWritten};
 ghost use Rattle.cli_check.specs.RepairAnswers.{RepairServes};
-ghost use Rattle.cli_check.specs.RepairNames.{repair_given};
+ghost use Rattle.cli_args.specs.Args.{repair_given};
 
 use crate::making::{Outputs, repaired};
-use crate::repair_args::RepairArgs;
+use cli_args::RepairArgs;
 use cli_base::{Status, read_inputs, refuse};
 use rb_io::{Files, Put, Sink, Wrote, print_all};
 use std::alloc::Global;

@@ -4,13 +4,13 @@ ghost use Rattle.rb_io.specs.Views.{SourceSeen};
 ghost use Rattle.cli_base.specs.World.{world};
 ghost use Rattle.cli_check.specs.VerdictLines.{status_of};
 ghost use Rattle.cli_check.specs.VerifyAnswers.{VerifyServes};
-ghost use Rattle.cli_check.specs.VerifyNames.{verify_given};
+ghost use Rattle.cli_args.specs.Args.{verify_given};
 ghost use Rattle.cli_check.specs.Judged.{Announces};
 
 use crate::given::read_given;
 use crate::judging::{Judged, judge};
 use crate::verdict_lines::{refused_output, status_of, verdict_line};
-use crate::verify_args::VerifyArgs;
+use cli_args::VerifyArgs;
 use cli_base::{Status, print_line, refuse};
 use rb_bytes::fault::{NoMemory, Refusal};
 use rb_io::{Files, Sink};

@@ -6,7 +6,7 @@ use Rattle.cli_base.specs.World.{World}
 use Rattle.cli_base.specs.declared.status.Status.{Status}
 use Rattle.cli_look.specs.SampleAnswers.{NoneRoseSampling, SampleAnswers, SampleServes, SampleWritten}
 use Rattle.cli_look.specs.SampleAnswers.{all_written, fails_at_file, fails_at_line, fails_at_profile, made, no_memory}
-use Rattle.cli_look.specs.SampleArgs.{SampleArgs}
+use Rattle.cli_args.specs.Args.{SampleArgs}
 
 module _ (args : SampleArgs) (old new : World) (answer : Status) where
   written_completes : (file profile line : List ℕ) → SampleWritten args file profile old new line answer →

@@ -11,7 +11,7 @@ use Rattle.cli_base.specs.declared.status.Status.{Status}
 use Rattle.cli_base.specs.declared.status.Status.TheVariants as status
 use Rattle.sample_gen.specs.Sample.{IsSample}
 use Rattle.cli_look.specs.Lines.{sample_line}
-use Rattle.cli_look.specs.SampleArgs.{SampleArgs}
+use Rattle.cli_args.specs.Args.{SampleArgs}
 
 module _ (args : SampleArgs) where
   module _ (file profile : List ℕ) (old new : World) where

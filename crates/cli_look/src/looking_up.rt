@@ -5,23 +5,17 @@ ghost use Rattle.cli_base.specs.World.{world};
 ghost use Rattle.program.specs.Limits.{file_limit};
 ghost use Rattle.program.specs.Refusals.{IsRefusalFor};
 ghost use Rattle.cli_look.specs.LookAnswers.{LookServes};
-ghost use Rattle.cli_look.specs.LookupArgs.{lookup_given};
+ghost use Rattle.cli_args.specs.Args.{lookup_given};
 ghost use Rattle.cli_look.specs.LookingUp.{CannotLookUp, IsAnswerAt, looking_up};
 
 use crate::question::{Question, answer};
+use cli_args::LookupArgs;
 use cli_base::{Status, read_file, refuse};
 use program::{FILE_LIMIT, has_too_much_code};
 use rb_bytes::fault::{Fault, FaultKind, Refusal};
 use rb_bytes::limit::CODE_BYTES;
 use rb_io::{Files, Put, Sink, print_all};
 use std::alloc::Global;
-
-/// The name of a file, and an address.
-#[derive(Clone, Copy)]
-pub struct LookupArgs<'a> {
-    pub file: &'a str,
-    pub address: u64,
-}
 
 // The answer at an address, or the fault for which a file is refused.
 fn answer_in(

@@ -3,10 +3,10 @@ ghost use Rattle.std.specs.Prelude.{◌≢◌, ◌≤◌};
 ghost use Rattle.rb_io.specs.Views.{FilesGoOn, SourceSeen};
 ghost use Rattle.cli_base.specs.World.{world};
 ghost use Rattle.cli_look.specs.SampleAnswers.{SampleServes, SampleWritten};
-ghost use Rattle.cli_look.specs.SampleArgs.{IsSampleNumber, sample_given};
+ghost use Rattle.cli_args.specs.Args.{IsSampleNumber, sample_given};
 
 use crate::lines;
-use crate::sample_args::SampleArgs;
+use cli_args::SampleArgs;
 use cli_base::Status;
 use rb_io::{Files, Put, Sink, Wrote, print_all};
 use std::alloc::Global;

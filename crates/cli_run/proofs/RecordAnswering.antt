@@ -12,7 +12,7 @@ use Rattle.cli_run.specs.recording.RecordRuns.{record_machine, record_mode}
 use Rattle.cli_run.specs.run.RunOutcomes.{Ends, HaltsAt, RunsOn}
 use Rattle.cli_run.specs.run.RunAnswers.{at_input, at_output, out_of_memory, under_way, IsRunAnswer, IsExact}
 use Rattle.cli_base.specs.ProgramFiles.{IsFileProgram, too_long}
-use Rattle.cli_run.specs.RunArgs.{RecordArgs}
+use Rattle.cli_args.specs.Args.{RecordArgs}
 use Rattle.cli_base.specs.World.{World}
 use Rattle.cli_base.specs.declared.status.Status.{Status}
 use Rattle.cli_base.specs.declared.status.Status.TheVariants as status

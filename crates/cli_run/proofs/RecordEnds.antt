@@ -24,7 +24,7 @@ use Rattle.cli_run.specs.recording.RecordAnswers.{IsAnsweredRecording, RecordsRu
 use Rattle.cli_run.specs.recording.RecordRuns.{record_machine, moving_steps}
 use Rattle.cli_run.specs.run.RunOutcomes.{Ending, Ends, HaltsAt, RunsOn, Loaded, answer_of, closing_line}
 use Rattle.cli_run.specs.run.RunAnswers.{Taking, ComesOut, out_of_memory, IsCutShort, IsExact, read_fault, write_fault, no_memory, outside}
-use Rattle.cli_run.specs.RunArgs.{RecordArgs}
+use Rattle.cli_args.specs.Args.{RecordArgs}
 use Rattle.cli_base.specs.World.{World}
 use Rattle.cli_base.specs.declared.status.Status.{Status}
 use Rattle.cli_base.proofs.FaultCounts.{rose_after}

@@ -21,7 +21,7 @@ use Rattle.cli_run.specs.run.RunAnswers.{AnswersRun, StopsRun, came_out, at_inpu
 use Rattle.cli_run.specs.run.RunAnswers.{HasRunFault, IsUnderWay, FileAnswers, RunAnswers, under_way, refused, at_refusal, at_file}
 use Rattle.cli_run.specs.run.RunAnswers.{before_run, IsRunAnswer, IsCutShort, read_fault, no_memory, NoRunErrors, IsExact, outside}
 use Rattle.cli_run.specs.run.RunAnswers.{IsComplete, RunCompletes, RunServes}
-use Rattle.cli_run.specs.RunArgs.{RunArgs}
+use Rattle.cli_args.specs.Args.{RunArgs}
 use Rattle.cli_base.specs.World.{World}
 use Rattle.cli_base.specs.declared.status.Status.{Status}
 use Rattle.cli_base.specs.declared.status.Status.TheVariants as status

@@ -9,7 +9,7 @@ use Rattle.cli_base.specs.Served.{IsInputKept}
 use Rattle.cli_base.specs.World.{World}
 use Rattle.cli_base.specs.declared.status.Status.{Status}
 use Rattle.cli_base.specs.declared.status.Status.TheVariants as status
-use Rattle.cli_run.specs.RunArgs.{RunArgs}
+use Rattle.cli_args.specs.Args.{RunArgs}
 use Rattle.cli_run.specs.declared.running.RunMode.{RunMode}
 use Rattle.cli_run.specs.declared.running.RunMode.TheVariants.{Bytes, Symbols}
 use Rattle.cli_run.specs.run.ByteRuns.{byte_mode}

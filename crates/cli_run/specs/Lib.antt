@@ -1,3 +1,2 @@
 pub mod recording
 pub mod run
-pub mod RunArgs

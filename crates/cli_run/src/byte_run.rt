@@ -3,13 +3,13 @@ ghost use Rattle.std.specs.Prelude.{◌≤◌};
 ghost use Rattle.elf_image.specs.faults.FileFaults.{IsSound};
 ghost use Rattle.elf_image.specs.file.ParsedFile.{IsElfOf};
 ghost use Rattle.rv_memory.specs.Limits.{IsWithinLimits};
-ghost use Rattle.cli_run.specs.RunArgs.{run_given};
+ghost use Rattle.cli_args.specs.Args.{run_given};
 ghost use Rattle.cli_run.specs.run.ByteRuns.{byte_machine};
 ghost use Rattle.cli_run.specs.run.RunAnswers.{IsAnsweredRun};
 ghost use Rattle.run_core.specs.Inputs.{outside_of};
 
 use crate::closing::{close, status_of};
-use crate::run_args::RunArgs;
+use cli_args::RunArgs;
 use cli_base::Status;
 use elf_image::Elf;
 use rb_io::{Sink, Source};

@@ -4,10 +4,8 @@
 mod byte_run;
 mod closing;
 pub mod recording;
-mod run_args;
 pub mod running;
 mod symbol_run;
 
 pub use recording::record;
-pub use run_args::{RecordArgs, RunArgs};
 pub use running::{RunMode, run};

@@ -7,14 +7,14 @@ ghost use Rattle.rv_machine.specs.StepResults.{answered};
 ghost use Rattle.program.specs.Program.{program_seen};
 ghost use Rattle.cli_base.specs.ProgramFiles.{IsFileProgram};
 ghost use Rattle.cli_base.specs.Served.{IsInputKept};
-ghost use Rattle.cli_run.specs.RunArgs.{record_given, run_given};
+ghost use Rattle.cli_args.specs.Args.{record_given, run_given};
 ghost use Rattle.cli_run.specs.recording.Phases.{Finished, ProfileWritten};
 ghost use Rattle.cli_run.specs.recording.RecordAnswers.{IsAnsweredRecording, RecordServes};
 ghost use Rattle.cli_run.specs.run.RunOutcomes.{closing_line};
 ghost use Rattle.cli_base.specs.World.{world};
 
 use crate::closing::{closing_line, status_of};
-use crate::run_args::RecordArgs;
+use cli_args::RecordArgs;
 use cli_base::{Status, file_program, read_file, refuse};
 use edge_record::{Recorded, trace_edges};
 use program::{FILE_LIMIT, Program};

@@ -2,13 +2,13 @@
 // machine.
 ghost use Rattle.rv_memory.specs.Limits.{IsWithinLimits};
 ghost use Rattle.cli_base.specs.Served.{IsInputKept};
-ghost use Rattle.cli_run.specs.RunArgs.{run_given};
+ghost use Rattle.cli_args.specs.Args.{run_given};
 ghost use Rattle.cli_run.specs.run.Serving.{ServesRun};
 ghost use Rattle.cli_base.specs.World.{world};
 
 use crate::byte_run::run_elf;
-use crate::run_args::RunArgs;
 use crate::symbol_run::run_program;
+use cli_args::RunArgs;
 use cli_base::{Status, file_image, file_program, read_file, refuse};
 use program::FILE_LIMIT;
 use rb_io::{Files, Sink, Source};

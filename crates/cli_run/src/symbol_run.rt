@@ -3,7 +3,7 @@ ghost use Rattle.std.specs.Prelude.{◌≡◌, ◌≤◌};
 ghost use Rattle.rv_memory.specs.Limits.{IsWithinLimits};
 ghost use Rattle.sym_machine.specs.MachineState.{answered};
 ghost use Rattle.program.specs.Program.{program_seen};
-ghost use Rattle.cli_run.specs.RunArgs.{run_given};
+ghost use Rattle.cli_args.specs.Args.{run_given};
 ghost use Rattle.cli_run.specs.run.Phases.{status_of};
 ghost use Rattle.cli_run.specs.run.RunAnswers.{IsAnsweredRun};
 ghost use Rattle.cli_base.specs.ProgramFiles.{IsFileProgram};
@@ -11,7 +11,7 @@ ghost use Rattle.cli_run.specs.run.SymbolRuns.{symbol_machine};
 ghost use Rattle.run_core.specs.Inputs.{outside_of};
 
 use crate::closing::close;
-use crate::run_args::RunArgs;
+use cli_args::RunArgs;
 use cli_base::Status;
 use program::{Program, is_tight};
 use rb_io::{Sink, Source};

@@ -15,7 +15,7 @@ use Rattle.cli_run.specs.run.RunOutcomes.{Ending, answer_of}
 use Rattle.cli_run.specs.run.RunAnswers.{Taking, ComesOut, StopsRun, FileAnswers, IsComplete, IsExact, NoRunErrors}
 use Rattle.cli_run.specs.run.RunAnswers.{outside}
 use Rattle.cli_base.specs.ProgramFiles.{IsFileProgram}
-use Rattle.cli_run.specs.RunArgs.{RecordArgs}
+use Rattle.cli_args.specs.Args.{RecordArgs}
 use Rattle.cli_base.specs.Served.{IsServed}
 use Rattle.cli_base.specs.World.{World, WriteRose}
 use Rattle.cli_base.specs.WrittenFiles.{HoldsFile}

@@ -14,7 +14,7 @@ use Rattle.cli_base.specs.Served.{IsServed}
 use Rattle.cli_base.specs.PrintedLines.{PrintsOnly, IsSilent, FailsAtLine}
 use Rattle.cli_run.specs.run.RunOutcomes.{Ending, Loaded, answer_of, closing_line, RunsTo}
 use Rattle.cli_run.specs.run.Modes.{Mode}
-use Rattle.cli_run.specs.RunArgs.{RunArgs}
+use Rattle.cli_args.specs.Args.{RunArgs}
 use Rattle.cli_base.specs.World.{World, ReadRose}
 use Rattle.cli_base.specs.declared.status.Status.{Status}
 use Rattle.cli_base.specs.declared.status.Status.TheVariants as status

@@ -1,7 +1,7 @@
 -- What the command `run` serves, by the machine that the file runs on.
 use Rattle.cli_base.specs.World.{World}
 use Rattle.cli_base.specs.declared.status.Status.{Status}
-use Rattle.cli_run.specs.RunArgs.{RunArgs}
+use Rattle.cli_args.specs.Args.{RunArgs}
 use Rattle.cli_run.specs.declared.running.RunMode.{RunMode}
 use Rattle.cli_run.specs.declared.running.RunMode.TheVariants as mode
 use Rattle.cli_run.specs.run.ByteRuns.{byte_mode}

@@ -3,8 +3,8 @@ use Rattle.rb_io.specs.Views.{FilesSeen, SourceSeen, SinkSeen}
 use Rattle.cli_base.specs.World.{world}
 use Rattle.cli_base.specs.declared.status.Status.{Status}
 use Rattle.bolt_tool.specs.CommandAnswers.{Serves}
-use Rattle.bolt_tool.specs.CommandLineViews.{command_read}
-use Rattle.bolt_tool.specs.declared.command_line.Command.{Command}
+use Rattle.cli_args.specs.CommandLineViews.{command_read}
+use Rattle.cli_args.specs.declared.command_line.Command.{Command}
 use Rattle.bolt_tool.proofs.commands.perform.Goals as goal
 
 -- what a command does that takes no input, whatever the input is

@@ -1,6 +1,6 @@
 use Rattle.std.proofs.Common.{Option, subst}
 use Rattle.bolt_tool.specs.CommandAnswers.{KeepsInput, Serves}
-use Rattle.bolt_tool.specs.CommandLine.{Command}
+use Rattle.cli_args.specs.CommandLine.{Command}
 use Rattle.cli_base.specs.World.{World, world}
 use Rattle.bolt_tool.proofs.commands.tool.Goals as goal
 

@@ -1,8 +1,8 @@
 use Rattle.std.proofs.Common.{◌≡◌, ◌∙◌, ap}
 use Rattle.std.specs.Prelude.{map, string_bytes}
 use Rattle.cli_base.specs.World.{World, world}
-use Rattle.cli_run.specs.RunArgs.{RecordArgs}
-use Rattle.bolt_tool.specs.CommandLineViews.{record_read}
+use Rattle.cli_args.specs.Args.{RecordArgs}
+use Rattle.cli_args.specs.CommandLineViews.{record_read}
 use Rattle.bolt_tool.proofs.GivenRuns.{given_records}
 use Rattle.bolt_tool.proofs.running.record_tokens.Goals as goal
 

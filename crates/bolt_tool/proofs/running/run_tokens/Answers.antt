@@ -2,9 +2,9 @@ use Rattle.std.proofs.Common.{◌≡◌, ◌∙◌, ap, refl}
 use Rattle.std.specs.Prelude.{map, string_bytes}
 use Rattle.cli_base.specs.World.{World, world}
 use Rattle.cli_base.specs.declared.status.Status.TheVariants as status
-use Rattle.cli_run.specs.RunArgs.{RunArgs}
+use Rattle.cli_args.specs.Args.{RunArgs}
 use Rattle.cli_run.proofs.RunModes.{no_memory_serves}
-use Rattle.bolt_tool.specs.CommandLineViews.{run_read}
+use Rattle.cli_args.specs.CommandLineViews.{run_read}
 use Rattle.bolt_tool.proofs.GivenRuns.{given_serves, run_keeps, run_serves}
 use Rattle.bolt_tool.proofs.running.run_tokens.Goals as goal
 

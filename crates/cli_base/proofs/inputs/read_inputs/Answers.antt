@@ -1,6 +1,7 @@
 use Rattle.std.proofs.Common.{refl}
 use Rattle.std.proofs.lemmas.Result.{err_from_is_err_and}
-use Rattle.cli_base.specs.Inputs.{InputNames, IsTooLong, inputs_read}
+use Rattle.cli_base.specs.Inputs.{IsTooLong}
+use Rattle.cli_args.specs.Args.{InputNames, inputs_read}
 use Rattle.cli_base.specs.World.{World, world}
 use Rattle.cli_base.proofs.InputAnswering.{are_both, of_long_file, of_long_profile, refuses, unread}
 use Rattle.cli_base.proofs.inputs.read_inputs.Goals as goal

@@ -5,7 +5,7 @@ use Rattle.cli_base.specs.World.{World, world}
 use Rattle.cli_base.proofs.FaultCounts.{go_on_after}
 use Rattle.cli_base.proofs.InputAnswering.{IsBetween, is_stopped, stops_too}
 use Rattle.cli_check.specs.RepairAnswers.{IsRepairOfFiles, stopped}
-use Rattle.cli_check.specs.RepairNames.{RepairNames, repair_given}
+use Rattle.cli_args.specs.Args.{RepairNames, repair_given}
 use Rattle.cli_check.specs.RepairedFiles.{CannotRepair}
 use Rattle.cli_check.proofs.RepairEnds.{ends, long_refused, serves}
 use Rattle.cli_check.proofs.repairing.repair.Goals as goal

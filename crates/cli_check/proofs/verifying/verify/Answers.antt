@@ -2,7 +2,7 @@ use Rattle.std.proofs.Common.{arith, refl}
 use Rattle.cli_base.specs.World.{World, world}
 use Rattle.cli_base.specs.declared.status.Status.TheVariants as status
 use Rattle.cli_check.specs.Judged.{IsJudged}
-use Rattle.cli_check.specs.VerifyNames.{VerifyNames, verify_given}
+use Rattle.cli_args.specs.Args.{VerifyNames, verify_given}
 use Rattle.cli_check.proofs.VerifyEnds.{announced, of_told, out_of_memory, serves, ungiven}
 use Rattle.cli_check.proofs.verifying.verify.Goals as goal
 

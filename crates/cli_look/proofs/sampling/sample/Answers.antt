@@ -2,7 +2,7 @@ use Rattle.std.proofs.Common.{◌∙◌, arith, subst, ℕ, List}
 use Rattle.cli_base.specs.World.{World, world}
 use Rattle.cli_look.specs.Lines.{sample_line}
 use Rattle.cli_look.specs.SampleAnswers.{SampleWritten, made}
-use Rattle.cli_look.specs.SampleArgs.{SampleArgs, sample_given}
+use Rattle.cli_args.specs.Args.{SampleArgs, sample_given}
 use Rattle.cli_look.proofs.SampleAnswering.{serves}
 use Rattle.cli_look.proofs.sampling.sample.Goals as goal
 

@@ -2,7 +2,7 @@ use Rattle.std.proofs.Common.{subst, refl}
 use Rattle.run_core.specs.Inputs.{Outside}
 use Rattle.rv_machine.specs.State.{state_of}
 use Rattle.rv_machine.specs.StepResults.{answered}
-use Rattle.cli_run.specs.RunArgs.{run_given}
+use Rattle.cli_args.specs.Args.{run_given}
 use Rattle.cli_run.specs.run.ByteRuns.{byte_machine}
 use Rattle.cli_run.specs.run.Phases.{Closed}
 use Rattle.cli_base.specs.declared.status.Status.{Status}

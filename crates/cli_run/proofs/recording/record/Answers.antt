@@ -1,8 +1,7 @@
 use Rattle.std.proofs.Common.{◌≤◌, refl, arith}
-use Rattle.cli_run.specs.RunArgs.{record_given}
+use Rattle.cli_args.specs.Args.{RecordArgs, record_given}
 use Rattle.cli_run.specs.recording.RecordRuns.{record_mode}
 use Rattle.program.specs.Program.{program_seen}
-use Rattle.cli_run.specs.RunArgs.{RecordArgs}
 use Rattle.cli_base.specs.World.{World, world}
 use Rattle.cli_run.proofs.RunAnswering.{passed_is, file_refused, file_unread}
 use Rattle.cli_run.proofs.RecordAnswering.{after_read, keeps_input, lawful, run_recorded, serves}

@@ -4,7 +4,7 @@ use Rattle.std.proofs.Common.{subst, sym}
 use Rattle.rv_code.specs.layout.FunctionLists.{AreLaidOut}
 use Rattle.program.specs.Program.{Program, program_seen}
 use Rattle.program.proofs.Programs.{laid_out}
-use Rattle.cli_run.specs.RunArgs.{record_given, RecordArgs}
+use Rattle.cli_args.specs.Args.{record_given, RecordArgs}
 use Rattle.cli_base.specs.World.{World, world}
 use Rattle.cli_run.proofs.RecordEnds as ends
 use Rattle.cli_run.proofs.recording.record_elf.Goals as goal

@@ -2,7 +2,7 @@ use Rattle.std.proofs.Common.{◌≤◌, refl, subst, sym, arith}
 use Rattle.cli_run.specs.run.ByteRuns.{byte_mode}
 use Rattle.program.specs.Program.{program_seen}
 use Rattle.cli_run.specs.run.SymbolRuns.{symbol_mode}
-use Rattle.cli_run.specs.RunArgs.{RunArgs, run_given}
+use Rattle.cli_args.specs.Args.{RunArgs, run_given}
 use Rattle.cli_run.specs.run.Serving.{ServesRun}
 use Rattle.cli_base.specs.World.{World, world}
 use Rattle.cli_run.specs.declared.running.RunMode.{RunMode}

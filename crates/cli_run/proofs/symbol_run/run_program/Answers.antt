@@ -10,7 +10,7 @@ use Rattle.sym_machine.specs.SymStart.{sym_start}
 use Rattle.sym_machine.specs.SymStep.{SymSteps}
 use Rattle.sym_machine.specs.MachineState.{state_of, answered, funcs_of}
 use Rattle.sym_machine.specs.declared.machine.SymMachine.{SymMachine}
-use Rattle.cli_run.specs.RunArgs.{run_given}
+use Rattle.cli_args.specs.Args.{run_given}
 use Rattle.cfi_rows.specs.Frames.{tabled}
 use Rattle.program.specs.Program.{Program, program_seen}
 use Rattle.program.proofs.Programs.{laid_out}

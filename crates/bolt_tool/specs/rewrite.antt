@@ -1,4 +1,0 @@
-pub mod InputAnswers
-pub mod MapAnswers
-pub mod Phases
-pub mod RewriteAnswers

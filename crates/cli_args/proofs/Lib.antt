@@ -1,0 +1,4 @@
+mod CommandLineExamples
+mod OptionTokens
+mod RunArguments
+mod StepLimit

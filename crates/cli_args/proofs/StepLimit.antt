@@ -1,0 +1,23 @@
+-- The limit that `--steps` sets, value after value.
+use Rattle.std.proofs.Common.{◌≡◌, ℕ, List, [], ◌∷◌, refl, Option, Some, None}
+use Rattle.rb_bytes.specs.Text.{decimal_number}
+use Rattle.cli_args.specs.CommandLine.{limit_of}
+
+-- the limit that the values of `--steps` say after the one that was read, if one was
+abbrev pub limit_after : Option ℕ → List (Option (List ℕ)) → Option ℕ
+limit_after None values = limit_of values
+limit_after (Some limit) [] = Some limit
+limit_after (Some limit) (value ∷ values) = None
+
+pub of_none : (values : List (Option (List ℕ))) → limit_of (None ∷ values) ≡ None
+of_none values = refl
+
+pub of_bad : (digits : List ℕ) (values : List (Option (List ℕ))) → decimal_number digits ≡ None →
+    limit_of (Some digits ∷ values) ≡ None
+of_bad digits [] bad = bad
+of_bad digits (value ∷ values) bad = refl
+
+pub of_number : (digits : List ℕ) (values : List (Option (List ℕ))) (limit : ℕ) → decimal_number digits ≡ Some limit →
+    limit_of (Some digits ∷ values) ≡ limit_after (Some limit) values
+of_number digits [] limit good = good
+of_number digits (value ∷ values) limit good = refl

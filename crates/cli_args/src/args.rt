@@ -1,0 +1,62 @@
+// The arguments of the commands.
+
+/// The names of an input and of its profile.
+#[derive(Clone, Copy)]
+pub struct InputArgs<'a> {
+    pub file: &'a str,
+    pub profile: &'a str,
+}
+
+/// The files of `rewrite`.
+#[derive(Clone, Copy)]
+pub struct RewriteArgs<'a> {
+    pub inputs: InputArgs<'a>,
+    pub out: &'a str,
+    pub map: &'a str,
+}
+
+/// The file that is run, the arguments that the program gets, which don't hold the file's name, and the most steps
+/// that it may do.
+#[derive(Clone, Copy)]
+pub struct RunArgs<'a> {
+    pub file: &'a str,
+    pub args: &'a [String],
+    pub limit: u64,
+}
+
+/// The run that is recorded, and the name of its profile.
+#[derive(Clone, Copy)]
+pub struct RecordArgs<'a> {
+    pub run: RunArgs<'a>,
+    pub out: &'a str,
+}
+
+/// An input and its profile, and the name of the repaired profile.
+#[derive(Clone, Copy)]
+pub struct RepairArgs<'a> {
+    pub inputs: InputArgs<'a>,
+    pub out: &'a str,
+}
+
+/// The name of a file, and an address.
+#[derive(Clone, Copy)]
+pub struct LookupArgs<'a> {
+    pub file: &'a str,
+    pub address: u64,
+}
+
+/// The number of a sample, from 1 to 1000, and the names of its file and of its profile.
+#[derive(Clone, Copy)]
+pub struct SampleArgs<'a> {
+    pub number: u16,
+    pub file: &'a str,
+    pub profile: &'a str,
+}
+
+/// The names of an input, of an output, and of the map between them.
+#[derive(Clone, Copy)]
+pub struct VerifyArgs<'a> {
+    pub input: &'a str,
+    pub output: &'a str,
+    pub map: &'a str,
+}
