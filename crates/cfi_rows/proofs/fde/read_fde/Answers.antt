@@ -1,6 +1,7 @@
-use Rattle.std.proofs.Common.{rules, ◌≡◌, ◌∙◌, List, [], ℕ, sym, ap, subst}
+use Rattle.std.proofs.Common.{rules, ◌≡◌, ◌∙◌, List, [], ℕ, sym, ap, subst, arith}
 use Rattle.std.specs.Prelude.{flat_map, sum_by}
 use Rattle.std.proofs.lemmas.Result.{err_from_is_err_and}
+use Rattle.std.proofs.lemmas.Grind.{common_steps}
 use Rattle.rb_bytes.specs.Readers.{Reading}
 use Rattle.cfi_rows.specs.Augmentations.{augmentation_of}
 use Rattle.cfi_rows.specs.EntryCounts.{registers_set, bytes_in}
@@ -61,3 +62,6 @@ returns-clause-ok c = λ is known kept.
     (ap (λ (e : RawEntry). e.place) c.entry.view_is)
     c.in_ok-registers.ensures.ok
     c.in_ok-bytes.ensures.ok
+
+pub returns-in_err-head-clause-err : goal.returns-in_err-head-clause-err
+returns-in_err-head-clause-err c = grind (arith, common_steps)

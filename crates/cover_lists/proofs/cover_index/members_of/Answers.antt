@@ -34,3 +34,6 @@ add_member-requires c =
     c.group_of.ensures r (slice_get-get_or c.args.ranged.now i nobody c.loop-number-test.true) in
     let below : r.group < c.args.count = c.requires i nobody c.loop-number-test.true in
     omega (arith, group, below, c.loop-number.invariant.0)
+
+pub returns-clause-each : goal.returns-clause-each
+returns-clause-each c = grind (arith, common_steps)

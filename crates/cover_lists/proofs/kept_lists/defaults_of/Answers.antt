@@ -1,3 +1,5 @@
+use Rattle.std.proofs.Common.{arith}
+use Rattle.std.proofs.lemmas.Grind.{common_steps}
 use Rattle.cover_lists.specs.KeptLists.{items_in}
 use Rattle.cover_lists.proofs.KeptListFacts.{defaults_more}
 use Rattle.cover_lists.proofs.kept_lists.defaults_of.Goals as goal
@@ -7,3 +9,6 @@ loop-place-preserved c =
     defaults_more c.args.places.now c.loop-place.place-index _ (items_in c.loop-place.copies.items)
     (items_in c.put_default.new.copies.items)
     c.loop-place-test.true c.loop-place.invariant c.in_ok-put_default.ensures
+
+pub returns : goal.returns
+returns c = grind (arith, common_steps)

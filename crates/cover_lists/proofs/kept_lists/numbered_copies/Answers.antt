@@ -1,4 +1,5 @@
-use Rattle.std.proofs.Common.{◌∙◌, ◌++◌, [], ℕ, List, Option, ap}
+use Rattle.std.proofs.Common.{◌∙◌, ◌++◌, [], ℕ, List, Option, ap, arith}
+use Rattle.std.proofs.lemmas.Grind.{common_steps}
 use Rattle.std.specs.List.{cons_option}
 use Rattle.cover_lists.specs.KeptLists.{items_in, expression_of}
 use Rattle.cover_lists.proofs.ByNumbers.{picked_more}
@@ -10,3 +11,6 @@ loop-number-preserved c =
     (items_in c.put_option.new.copies.items) c.loop-number-test.true c.loop-number.invariant
     (c.in_ok-put_option.ensures ∙ ap (λ (o : Option (List ℕ)). items_in c.loop-number.copies.items
     ++ cons_option o []) c.expression_of.ensures)
+
+pub returns : goal.returns
+returns c = grind (arith, common_steps)

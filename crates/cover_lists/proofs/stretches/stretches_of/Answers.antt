@@ -1,4 +1,5 @@
 use Rattle.std.proofs.Common.{arith, ◌∙◌, ◌≤◌, ℕ, List, Some, ap, sym, length}
+use Rattle.std.proofs.lemmas.Grind.{common_steps}
 use Rattle.std.specs.Option.{option_or}
 use Rattle.table_core.specs.declared.run.Run.{Run}
 use Rattle.table_core.specs.AnswerRuns.{said_runs, run_at}
@@ -29,3 +30,6 @@ loop-i-preserved c =
 
 pub returns-clause-within : goal.returns-clause-within
 returns-clause-within c = unsaid-within (bounds_before c.args.bounds.now) 0 _ _ c.loop-i.invariant.below
+
+pub returns-clause-runs : goal.returns-clause-runs
+returns-clause-runs c = grind (arith, common_steps)

@@ -1,5 +1,6 @@
 use Rattle.std.proofs.Common.{◌≤◌, ◌+◌, ◌++◌, ◌∙◌, ℕ, List, ◌∷◌, drop, sym, ap, subst, arith, get_or}
 use Rattle.std.proofs.lemmas.List.{drop_more}
+use Rattle.std.proofs.lemmas.Grind.{common_steps}
 use Rattle.std.specs.Prelude.{flat_map}
 use Rattle.dw_unit.specs.declared.entry.Attr.{Attr}
 use Rattle.dw_unit.specs.Changes.{Patch, patched, attr_patches}
@@ -44,3 +45,12 @@ loop-attr-preserved c =
 
 pub put_attr-requires-clause-room : goal.put_attr-requires-clause-room
 put_attr-requires-clause-room c = c.requires.room c.loop-attr.attr-index none c.loop-attr-test.true
+
+pub put_attr-requires-clause-placed : goal.put_attr-requires-clause-placed
+put_attr-requires-clause-placed c = grind (arith, common_steps)
+
+pub returns-clause-put : goal.returns-clause-put
+returns-clause-put c = grind (arith, common_steps)
+
+pub returns-clause-to : goal.returns-clause-to
+returns-clause-to c = grind (arith, common_steps)

@@ -2,6 +2,7 @@ use Rattle.std.proofs.Common.{◌≡◌, ◌≤◌, ◌+◌, ◌∙◌, ◌++◌
 use Rattle.std.specs.Prelude.{flat_map}
 use Rattle.std.specs.List.{list_any}
 use Rattle.std.proofs.lemmas.List.{append-nil, drop_more, drop_all}
+use Rattle.std.proofs.lemmas.Grind.{common_steps}
 use Rattle.table_core.specs.DebugUnits.{Walked}
 use Rattle.table_core.specs.ReadSteps.{oks}
 use Rattle.dw_unit.specs.Changes.{Patch, patched, unit_patches}
@@ -78,3 +79,12 @@ pub put_unit-requires-clause-written : goal.put_unit-requires-clause-written
 put_unit-requires-clause-written c =
     offset_key c.args.change.now.new_tables.now.offsets c.args.units.now c.loop-unit.unit-index c.unit-item.result c.unit-item.result
     c.requires.written c.loop-unit-test.true c.unit-item.is
+
+pub put_unit-requires-clause-behind : goal.put_unit-requires-clause-behind
+put_unit-requires-clause-behind c = grind (arith, common_steps)
+
+pub put_unit-requires-clause-within : goal.put_unit-requires-clause-within
+put_unit-requires-clause-within c = grind (arith, common_steps)
+
+pub split_at-requires : goal.split_at-requires
+split_at-requires c = grind (arith, common_steps)

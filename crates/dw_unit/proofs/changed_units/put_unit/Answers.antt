@@ -1,5 +1,6 @@
-use Rattle.std.proofs.Common.{◌≡◌, ◌+◌, ◌∙◌, ◌++◌, ◌∷◌, ℕ, List, Ok, ap, sym, drop, option_map}
+use Rattle.std.proofs.Common.{◌≡◌, ◌+◌, ◌∙◌, ◌++◌, ◌∷◌, ℕ, List, Ok, ap, sym, drop, option_map, arith}
 use Rattle.std.proofs.lemmas.Result.{IfOk-weaker}
+use Rattle.std.proofs.lemmas.Grind.{common_steps}
 use Rattle.std.specs.Prelude.{flat_map}
 use Rattle.std.specs.List.{list_any}
 use Rattle.byteorder.specs.Endian.{little_bytes}
@@ -69,3 +70,6 @@ put_entries-requires-clause-read c =
           entries.cursor.left c.requires.read.1 c.unit_entries-entries.ensures.header c.unit_entries-entries.ensures.table
           c.unit_entries-entries.ensures.place c.unit_entries-entries.ensures.end,
     )
+
+pub put_entries-requires-clause-behind : goal.put_entries-requires-clause-behind
+put_entries-requires-clause-behind c = grind (arith, common_steps)

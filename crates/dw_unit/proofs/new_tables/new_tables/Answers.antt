@@ -1,4 +1,5 @@
 use Rattle.std.proofs.Common.{rules, ◌≡◌, ◌∙◌, ◌++◌, ◌∷◌, [], ℕ, List, ap, arith, below_more, sym, length, get_or, nat_lt}
+use Rattle.std.proofs.lemmas.Grind.{common_steps}
 use Rattle.std.specs.Prelude.{filter, flat_map}
 use Rattle.dw_unit.specs.Changes.{declaration_bytes, is_own, table_bytes}
 use Rattle.dw_unit.specs.Declarations.{Table, table_at}
@@ -41,3 +42,6 @@ find-table-requires c = c.requires.read c.loop-offset.offset-index c.loop-offset
 
 pub returns-clause-found : goal.returns-clause-found
 returns-clause-found c = λ k h. c.loop-offset.invariant.keys k (omega arith)
+
+pub returns-clause-bytes : goal.returns-clause-bytes
+returns-clause-bytes c = grind (arith, common_steps)

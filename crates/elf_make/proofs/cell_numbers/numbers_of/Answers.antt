@@ -1,5 +1,6 @@
-use Rattle.std.proofs.Common.{◌≡◌, sym, subst, ℕ, ◌+◌, ◌<◌, List, ◌∷◌, [], ◌++◌, length, take, rules}
+use Rattle.std.proofs.Common.{◌≡◌, sym, subst, ℕ, ◌+◌, ◌<◌, List, ◌∷◌, [], ◌++◌, length, take, rules, arith}
 use Rattle.std.proofs.lemmas.List.{get_or_default}
+use Rattle.std.proofs.lemmas.Grind.{common_steps}
 use Rattle.elf_parts.specs.declared.number_at.NumberAt.{NumberAt}
 use Rattle.elf_make.specs.CellNumbers.{AreCellNumbers, IsCellNumber}
 use Rattle.elf_make.proofs.CellLists.{AreCellNumbers-more}
@@ -16,3 +17,6 @@ loop-cell-preserved c =
     below c.loop-cell.invariant
     (λ d. subst (λ (x : ℕ × ℕ × ℕ). IsCellNumber c.args.elf.now c.args.shift.now x n)
     (get_or_default c.args.cells.now i _ d below) c.in_ok-number.ensures))
+
+pub returns : goal.returns
+returns c = grind (arith, common_steps)

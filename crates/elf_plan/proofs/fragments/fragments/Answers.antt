@@ -1,4 +1,5 @@
-use Rattle.std.proofs.Common.{◌≡◌, subst, sym, rules, Some, List, take}
+use Rattle.std.proofs.Common.{◌≡◌, subst, sym, rules, Some, List, take, arith}
+use Rattle.std.proofs.lemmas.Grind.{common_steps}
 use Rattle.std.specs.Prelude.{slice_get}
 use Rattle.addr_map.specs.declared.span.Span.{Span}
 use Rattle.elf_plan.specs.FragmentLists.{AreFragments}
@@ -13,3 +14,6 @@ loop-i-preserved c =
     subst (λ (xs : List Span). AreFragments c.args.funcs.now xs c.add_span.new.fragments.items)
     (sym (taken spans i c.in_ok-span.span is))
     (c.in_ok-add_span.ensures (take i spans) c.loop-i.invariant)
+
+pub returns : goal.returns
+returns c = grind (arith, common_steps)

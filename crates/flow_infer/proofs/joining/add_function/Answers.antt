@@ -1,4 +1,5 @@
-use Rattle.std.proofs.Common.{◌≡◌, ◌+◌, ◌++◌, length, rules}
+use Rattle.std.proofs.Common.{◌≡◌, ◌+◌, ◌++◌, length, rules, arith}
+use Rattle.std.proofs.lemmas.Grind.{common_steps}
 use Rattle.flow_infer.specs.Heights.{AllHoldBy, AreAmong, ArePricesBy, BalancesWithin}
 use Rattle.flow_infer.proofs.JoinedLinks.{settled_added}
 use Rattle.flow_infer.proofs.joining.add_function.Goals as goal
@@ -17,3 +18,6 @@ returns-clause-settled c =
     settled_added c.args.flow.now.links.items c.settle.new.links c.extend_from_slice-2.new.self.items c.args.flow.now.prices.items
     c.in_ok-prices.prices.items c.extend_from_slice.new.self.items c.in_ok-heights.heights.items c.len-first.result c.args.nodes
     first tall links prices long by among balanced hold
+
+pub returns-clause-same : goal.returns-clause-same
+returns-clause-same c = grind (arith, common_steps)

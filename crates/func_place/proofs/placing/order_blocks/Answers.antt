@@ -1,6 +1,7 @@
 use Rattle.std.proofs.Common.{ℕ, ◌≡◌, ◌<◌, List, length, get_or, sym, ap, subst, ◌∙◌, arith, map, Vec, Global}
 use Rattle.std.specs.Prelude.{All, sum_by, slice_index}
 use Rattle.std.proofs.lemmas.List.FromFn.{get_or-map-range_with_len, length-map-range_with_len}
+use Rattle.std.proofs.lemmas.Grind.{common_steps}
 use Rattle.rv_code.specs.declared.placed.Block.{Block}
 use Rattle.rv_code.specs.layout.WorstSizes.{worst_size_of_block}
 use Rattle.func_place.specs.declared.calls.UnitCall.{UnitCall}
@@ -133,3 +134,15 @@ returns-clause-all c = has_all c.args.funcs.now c.args.blocks.now c.args.chains.
 pub returns-clause-near : goal.returns-clause-near
 returns-clause-near c = tied_near c.args.funcs.now c.args.blocks.now c.args.chains.now c.args.pairs.now c.requires.weights.0
     c.in_ok-order.order.items c.requires.blocks (own c) (low c)
+
+pub sums_of-requires-clause-numbers_len : goal.sums_of-requires-clause-numbers_len
+sums_of-requires-clause-numbers_len c = grind (arith, common_steps)
+
+pub place_units-requires-clause-heats_len : goal.place_units-requires-clause-heats_len
+place_units-requires-clause-heats_len c = grind (arith, common_steps)
+
+pub place_units-requires-clause-hot_in : goal.place_units-requires-clause-hot_in
+place_units-requires-clause-hot_in c = grind (arith, common_steps)
+
+pub place_units-requires-clause-cold_in : goal.place_units-requires-clause-cold_in
+place_units-requires-clause-cold_in c = grind (arith, common_steps)

@@ -1,6 +1,7 @@
 use Rattle.std.proofs.Common.{ℕ, ◌≡◌, ◌≤◌, ◌*◌, List, length, sym, ap, subst, ◌∙◌, arith}
 use Rattle.std.specs.Prelude.{All, sum, ◌^◌}
 use Rattle.std.proofs.lemmas.List.Sums.{sum_by-le}
+use Rattle.std.proofs.lemmas.Grind.{common_steps}
 use Rattle.rb_bytes.specs.FirstFault.{IsAnswered}
 use Rattle.rv_code.specs.layout.WorstSizes.{worst_size_of_block}
 use Rattle.func_place.specs.Faults.{HasPlacementFault}
@@ -58,3 +59,6 @@ returns-clause-free c =
     (no_long c.args.funcs.now c.args.blocks.now c.in_ok-units.units.items c.deref-3.result.now c.in_ok-units.ensures.units
     (c.deref-3.ensures.value ∙ sizes_is) c.in_default.ensures)
     (no_kept c.args.funcs.now c.in_default-first_kept.ensures)
+
+pub sums_of-requires-clause-numbers_len : goal.sums_of-requires-clause-numbers_len
+sums_of-requires-clause-numbers_len c = grind (arith, common_steps)

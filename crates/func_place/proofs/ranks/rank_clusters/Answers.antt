@@ -1,5 +1,6 @@
 use Rattle.std.proofs.Common.{ℕ, ◌≡◌, ◌<◌, length, get_or, arith, ◌∙◌, sym, ap, List, take, map}
 use Rattle.std.proofs.lemmas.List.{take_all}
+use Rattle.std.proofs.lemmas.Grind.{common_steps}
 use Rattle.func_place.specs.internal.ClusterState.{state_of, count_of}
 use Rattle.func_place.specs.declared.ranks.Rank.{Rank}
 use Rattle.func_place.proofs.Ranked.{AreRanks, ranks_more, ranks_skip, ranks_sorted}
@@ -36,3 +37,6 @@ returns c = λ sizes heats cluster k.
     (take_all (length items) items (omega arith) ∙ c.deref-rank-items.ensures.value) in
     rw units
     (ranks_sorted sizes heats cluster taken c.loop-unit.ranks.items c.sort_ranks.new.ranks.items ranks c.in_ok-sort_ranks.ensures)
+
+pub loop-rank-preserved : goal.loop-rank-preserved
+loop-rank-preserved c = grind (arith, common_steps)

@@ -1,6 +1,7 @@
 use Rattle.std.proofs.Common.{ℕ, ◌≡◌, ◌<◌, ◌++◌, List, length, map, Vec, Global, arith, refl, ap, ◌∙◌}
 use Rattle.std.specs.Prelude.{slice_index}
 use Rattle.std.proofs.lemmas.List.{map-set, length-map}
+use Rattle.std.proofs.lemmas.Grind.{common_steps}
 use Rattle.func_place.specs.internal.Groups.{list_at}
 use Rattle.func_place.proofs.UnitSums.{list_of, parts_next}
 use Rattle.func_place.proofs.sums.parts_of.Goals as goal
@@ -28,3 +29,12 @@ loop-function-preserved c =
     ∙ ap (λ (xs : List ℕ). list_at lists unit ++ xs) (c.deref.ensures.value ∙ more) in
     rw (map-set items own unit c.extend_from_slice.new.self)
     (parts_next units (list_at (map items parts)) i unit lists c.extend_from_slice.new.self.items refl unit_in is a)
+
+pub loop-unit-preserved : goal.loop-unit-preserved
+loop-unit-preserved c = grind (arith, common_steps)
+
+pub index_mut-requires : goal.index_mut-requires
+index_mut-requires c = grind (arith, common_steps)
+
+pub returns-clause-len : goal.returns-clause-len
+returns-clause-len c = grind (arith, common_steps)

@@ -1,6 +1,7 @@
 use Rattle.std.proofs.Common.{ℕ, ◌≡◌, ◌<◌, ◌+◌, length, get_or, arith, refl, ap}
 use Rattle.std.specs.Prelude.{slice_index}
 use Rattle.std.proofs.lemmas.List.{get_or_read}
+use Rattle.std.proofs.lemmas.Grind.{common_steps}
 use Rattle.func_place.proofs.UnitSums.{no_block, sums_next, sum_fits, sums_are, sums_within}
 use Rattle.func_place.proofs.sums.sums_of.Goals as goal
 
@@ -43,3 +44,6 @@ returns-clause-within c =
 pub returns-clause-sums : goal.returns-clause-sums
 returns-clause-sums c = sums_are c.args.units.now c.args.blocks.now c.args.numbers.now c.loop-place.place c.loop-place.sums.items
     (omega arith) c.loop-place.invariant
+
+pub loop-place-init : goal.loop-place-init
+loop-place-init c = grind (arith, common_steps)

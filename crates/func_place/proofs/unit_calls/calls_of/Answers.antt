@@ -1,4 +1,5 @@
-use Rattle.std.proofs.Common.{sym, ◌∙◌}
+use Rattle.std.proofs.Common.{sym, ◌∙◌, arith}
+use Rattle.std.proofs.lemmas.Grind.{common_steps}
 use Rattle.func_place.specs.Placement.{unit_call}
 use Rattle.func_place.proofs.CallLists.{given_some, given_none}
 use Rattle.func_place.proofs.unit_calls.calls_of.Goals as goal
@@ -12,3 +13,6 @@ loop-pair-preserved c = elim c.match-call_of.branch [
   | in_default w ↦ rw w.calls-is (given_none (unit_call c.args.funcs.now c.args.units.now) c.args.pairs.now c.loop-pair.pair-index
       (0, 0, 0) c.loop-pair.calls.items c.loop-pair-test.true (sym c.call_of.ensures ∙ w.in_default.is) c.loop-pair.invariant)
 ]
+
+pub returns : goal.returns
+returns c = grind (arith, common_steps)

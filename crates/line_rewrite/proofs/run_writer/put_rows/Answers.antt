@@ -1,3 +1,5 @@
+use Rattle.std.proofs.Common.{arith}
+use Rattle.std.proofs.lemmas.Grind.{common_steps}
 use Rattle.line_rewrite.proofs.RunSteps.{written_next, after_next, fits_next, fits_all}
 use Rattle.line_rewrite.proofs.run_writer.put_rows.Goals as goal
 
@@ -19,3 +21,9 @@ loop-row-preserved c =
 
 pub returns-clause-fits : goal.returns-clause-fits
 returns-clause-fits c = fits_all c.args.address c.loop-row.row-index c.args.rows.now c.loop-row-test.false c.loop-row.invariant.fits
+
+pub returns-clause-written : goal.returns-clause-written
+returns-clause-written c = grind (arith, common_steps)
+
+pub returns-clause-after : goal.returns-clause-after
+returns-clause-after c = grind (arith, common_steps)

@@ -1,4 +1,5 @@
-use Rattle.std.proofs.Common.{◌≡◌, ◌+◌, List, length, subst, sym, take}
+use Rattle.std.proofs.Common.{◌≡◌, ◌+◌, List, length, subst, sym, take, arith}
+use Rattle.std.proofs.lemmas.Grind.{common_steps}
 use Rattle.std.specs.List.{flat_map}
 use Rattle.elf_image.specs.declared.section.Section.{Section}
 use Rattle.elf_code.specs.Relocations.{entries_of}
@@ -20,3 +21,6 @@ loop-table-preserved c =
       whole = whole-more (IsWholeRun (length elf.file.now)) c.loop-table.runs.items c.push_some.new.list.items c.run_of.result
           c.in_ok-push_some.ensures.is c.run_of.ensures.whole c.loop-table.invariant.whole;
     }
+
+pub returns-clause-all : goal.returns-clause-all
+returns-clause-all c = grind (arith, common_steps)

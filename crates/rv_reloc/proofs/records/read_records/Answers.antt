@@ -1,4 +1,5 @@
-use Rattle.std.proofs.Common.{◌∙◌, sym, ap, List, ◌++◌, take}
+use Rattle.std.proofs.Common.{◌∙◌, sym, ap, List, ◌++◌, take, arith}
+use Rattle.std.proofs.lemmas.Grind.{common_steps}
 use Rattle.elf_code.specs.Relocations.{Relocation}
 use Rattle.rv_reloc.specs.declared.entry_run.EntryRun.{EntryRun}
 use Rattle.rv_reloc.specs.EntryRuns.{run_entries, entries}
@@ -14,3 +15,6 @@ loop-run-preserved c =
     ∙ ap (λ (r : EntryRun). entries file (take c.loop-run.run-index c.args.runs.now) ++ run_entries file r)
     c.run-item.is
     ∙ sym (entries-next file c.args.runs.now c.loop-run.run-index run c.loop-run-test.true)
+
+pub returns : goal.returns
+returns c = grind (arith, common_steps)

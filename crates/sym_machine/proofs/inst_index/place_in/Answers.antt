@@ -1,5 +1,6 @@
 use Rattle.std.proofs.Common.{◌≡◌, ◌∙◌, sym, subst, ap, ◌-◌, ◌<◌, ℕ, length, slice_index_or, arith}
 use Rattle.std.proofs.lemmas.List.{get_or_default}
+use Rattle.std.proofs.lemmas.Grind.{common_steps}
 use Rattle.rv_code.specs.declared.placed.Func.{Func}
 use Rattle.rv_code.specs.declared.placed.Placed.{Placed}
 use Rattle.sym_machine.proofs.Functions.{placed_at-searched, placed_at-missed, starts_rise, addrs_rise, insts_at}
@@ -53,3 +54,6 @@ returns-then-address_at-address-clause-none c =
     placed_at-missed c.args.funcs.now c.requires c.args.address c.starts_up_to-above.result c.insts_up_to-below.result
     c.index-funcs-above.result c.deref-insts.result.now f.bound (omega arith) f.below f.above c.index-funcs-above.is
     c.deref-insts.ensures.value g.bound g.below g.above (λ e some at. c.if-address_at-address.true (c.address_at.ensures e ∙ at))
+
+pub returns-clause-found : goal.returns-clause-found
+returns-clause-found c = grind (arith, common_steps)

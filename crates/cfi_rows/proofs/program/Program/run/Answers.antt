@@ -1,4 +1,5 @@
-use Rattle.std.proofs.Common.{◌≡◌, ◌≤◌, List, [], Some, subst, length}
+use Rattle.std.proofs.Common.{◌≡◌, ◌≤◌, List, [], Some, subst, length, arith}
+use Rattle.std.proofs.lemmas.Grind.{common_steps}
 use Rattle.std.specs.Rc.{rc_value}
 use Rattle.cfi_rows.specs.declared.instruction.Instruction.{Instruction}
 use Rattle.cfi_rows.specs.FrameRows.{rows, begins}
@@ -31,3 +32,6 @@ returns c =
     c.loop-instruction.invariant.rows (c.in_ok-add_row.ensures.rows c.loop-instruction.invariant.keeps) in
     run-kept c.args.self.now c.deref.result.now (rc_value c.in_ok-clone.field-0) (told c.add_row.new.self) c.deref.ensures
     c.in_ok-clone.ensures.cases c.len.ensures.ascends e
+
+pub loop-instruction-preserved : goal.loop-instruction-preserved
+loop-instruction-preserved c = grind (arith, common_steps)

@@ -84,3 +84,6 @@ returns-clause-answer g c =
     steps_up state_of (SymSteps (funcs_of c.args.self.now)) c.args.self.now _ c.loop-steps.self c.loop-steps.input_end.reached
     c.loop-steps.steps c.args.limit _ c.loop-steps.invariant.walk
     (omega (arith, c.loop-steps.invariant.within, c.loop-steps-test.false))
+
+pub ended-requires : goal.ended-requires
+ended-requires c = grind arith
