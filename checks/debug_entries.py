@@ -113,7 +113,7 @@ fn main(rt: HostRuntime) -> ExitCode {
 }
 '''
 
-CRATES = "rb_io rb_bytes rb_lanes rv_code rv_decode elf_image elf_code addr_map table_core dw_unit".split()
+CRATES = "rb_io rb_bytes rb_lanes rv_code rv_decode elf_image elf_code addr_map answer_runs table_core dw_unit".split()
 
 C = """
 struct point { int x; long y; const char *name; };

@@ -7,12 +7,12 @@ use Rattle.std.proofs.lemmas.Bool.Decides.{nat_tests}
 use Rattle.std.proofs.lemmas.Grind.{common_steps}
 use Rattle.std.proofs.lemmas.List.{map-append, take-append-drop}
 use Rattle.byteorder.specs.Endian.{little_bytes}
+use Rattle.answer_runs.specs.AddressRanges.{holds_address}
+use Rattle.answer_runs.specs.declared.range.Range.{Range}
 use Rattle.table_core.specs.WrittenUnits.{units_bytes, walked_units}
 use Rattle.table_core.proofs.UnitsBack.{units-back}
-use Rattle.table_core.specs.AddressRanges.{holds_address}
 use Rattle.table_core.specs.DebugUnits.{Walked, first_place, other_version, walked}
 use Rattle.table_core.specs.ReadSteps.{is_ok, oks}
-use Rattle.table_core.specs.declared.range.Range.{Range}
 use Rattle.dw_unit.specs.declared.trouble.Trouble.{Trouble}
 use Rattle.addr_rewrite.specs.Aranges.{AddressTable, address_tables, bad_table, table_in, table_of, unit_at}
 use Rattle.addr_rewrite.specs.ArangesReading.{all_entries}

@@ -10,11 +10,11 @@ use Rattle.rb_bytes.specs.FirstFault.{IsFree}
 use Rattle.elf_image.specs.declared.elf.Elf.{Elf}
 use Rattle.addr_map.specs.declared.span.Span.{Span}
 use Rattle.addr_map.specs.Spans.{owner}
-use Rattle.table_core.specs.AnswerRuns.{IsWithin, carried, run_at, said_runs}
-use Rattle.table_core.specs.CarriedAnswers.{Agree, IsCarried}
+use Rattle.answer_runs.specs.AnswerRuns.{IsWithin, carried, run_at, said_runs}
+use Rattle.answer_runs.specs.CarriedAnswers.{Agree, IsCarried}
+use Rattle.answer_runs.specs.Weights.{run_weight, weight_limit}
+use Rattle.answer_runs.specs.declared.run.Run.{Run}
 use Rattle.table_core.specs.DebugUnits.{other_version, units_from}
-use Rattle.table_core.specs.Weights.{run_weight, weight_limit}
-use Rattle.table_core.specs.declared.run.Run.{Run}
 use Rattle.table_core.specs.declared.written.Written.{Written}
 use Rattle.dw_unit.specs.Faults.{HasDwarfFault, unit_fault_places}
 use Rattle.dw_unit.specs.Tables.{sections_of}

@@ -2,8 +2,8 @@
 use Rattle.std.proofs.Common.{◌≡◌, ◌∙◌, ◌++◌, ℕ, List, [], ◌∷◌, Bool, true, false, Option, Some, refl, map, option_map}
 use Rattle.std.specs.Prelude.{◌||◌, if◌then◌else◌, find}
 use Rattle.std.specs.List.{list_any}
-use Rattle.table_core.specs.AddressRanges.{holds_address}
-use Rattle.table_core.specs.declared.range.Range.{Range}
+use Rattle.answer_runs.specs.AddressRanges.{holds_address}
+use Rattle.answer_runs.specs.declared.range.Range.{Range}
 use Rattle.addr_rewrite.specs.Aranges.{AddressTable}
 use Rattle.addr_rewrite.specs.ArangesReading.{all_entries}
 use Rattle.addr_rewrite.specs.declared.unit_range.UnitRange.{UnitRange}

@@ -2,8 +2,8 @@
 use Rattle.std.proofs.Common.{◌≡◌, ◌∙◌, ℕ, List, [], ◌∷◌, Option, Some, None}
 use Rattle.std.specs.Option.{option_or}
 use Rattle.rb_bytes.specs.FirstFault.{IsFree}
+use Rattle.answer_runs.specs.Choices.{unless_any}
 use Rattle.table_core.specs.DebugUnits.{other_version}
-use Rattle.table_core.specs.ReadSteps.{unless_any}
 use Rattle.dw_unit.specs.Faults.{FaultPlaces, HasDwarfFault}
 use Rattle.dw_unit.specs.Tables.{answers_if_free}
 use Rattle.dw_unit.proofs.NoFaults.{absent, free_of}

@@ -2,10 +2,10 @@
 use Rattle.std.proofs.Common.{◌≡◌, ◌∙◌, ℕ, List, Option, Some, None, refl, sym, ap, map, option_map}
 use Rattle.std.specs.Prelude.{find, option_and_then, position, slice_get}
 use Rattle.std.proofs.lemmas.Option.{slice_get-map}
-use Rattle.table_core.proofs.FoundFirst.{found_first}
-use Rattle.table_core.specs.AddressRanges.{holds_address}
-use Rattle.table_core.specs.FirstRanges.{first_range}
-use Rattle.table_core.specs.declared.first_range.FirstRange.{FirstRange}
+use Rattle.answer_runs.proofs.FoundFirst.{found_first}
+use Rattle.answer_runs.specs.AddressRanges.{holds_address}
+use Rattle.answer_runs.specs.FirstRanges.{first_range}
+use Rattle.answer_runs.specs.declared.first_range.FirstRange.{FirstRange}
 use Rattle.addr_rewrite.specs.declared.unit_range.UnitRange.{UnitRange}
 
 abbrev unit_in : UnitRange → ℕ

@@ -6,8 +6,8 @@ use Rattle.std.proofs.lemmas.Bool.Decides.{nat_tests}
 use Rattle.rb_bytes.specs.declared.gap.Gap.{Gap}
 use Rattle.rb_bytes.specs.declared.gap.Gap.TheVariants.{Short}
 use Rattle.rb_bytes.specs.Readers.{and_then, number_read}
+use Rattle.answer_runs.specs.declared.range.Range.{Range}
 use Rattle.table_core.specs.ReadSteps.{with_head}
-use Rattle.table_core.specs.declared.range.Range.{Range}
 use Rattle.table_core.proofs.Numbers.{same_left}
 use Rattle.dw_unit.specs.declared.trouble.Trouble.{Trouble}
 use Rattle.dw_unit.specs.declared.trouble.Trouble.TheVariants.{Unsound}

@@ -8,9 +8,9 @@ use Rattle.std.specs.Option.{option_or}
 use Rattle.std.proofs.lemmas.Bool.Decides.{nat_tests}
 use Rattle.std.proofs.lemmas.List.Elements.{All-cons, All-nil, All-head, All-tail, All-map, All-weaker}
 use Rattle.std.proofs.lemmas.List.Sorted.{All-permutation, list_any-IsPermutation}
-use Rattle.table_core.specs.AddressRanges.{holds_address}
-use Rattle.table_core.specs.AnswerRuns.{IsWithin, run_at}
-use Rattle.table_core.specs.declared.run.Run.{Run}
+use Rattle.answer_runs.specs.AddressRanges.{holds_address}
+use Rattle.answer_runs.specs.AnswerRuns.{IsWithin, run_at}
+use Rattle.answer_runs.specs.declared.run.Run.{Run}
 use Rattle.addr_rewrite.specs.WrittenAranges.{stretch_of}
 use Rattle.addr_rewrite.specs.declared.stretch.Stretch.{Stretch}
 use Rattle.addr_rewrite.specs.declared.unit_range.UnitRange.{UnitRange}

@@ -10,10 +10,10 @@ use Rattle.byteorder.specs.Numbers.{little_from-lt}
 use Rattle.rb_bytes.specs.declared.gap.Gap.{Gap}
 use Rattle.rb_bytes.specs.declared.gap.Gap.TheVariants.{Short}
 use Rattle.rb_bytes.specs.Readers.{and_then, bytes_at, number_read}
-use Rattle.table_core.specs.AddressRanges.{holds_address}
+use Rattle.answer_runs.specs.AddressRanges.{holds_address}
+use Rattle.answer_runs.specs.declared.range.Range.{Range}
 use Rattle.table_core.specs.DebugUnits.{Walked, is_other_version, is_whole_unit, unit_bytes, unit_length, units_from, walked}
 use Rattle.table_core.specs.ReadSteps.{and_so, oks}
-use Rattle.table_core.specs.declared.range.Range.{Range}
 use Rattle.dw_unit.specs.declared.trouble.Trouble.{Trouble}
 use Rattle.dw_unit.specs.declared.trouble.Trouble.TheVariants.{Unsound}
 use Rattle.dw_unit.specs.Trouble.{sound_if, whole}

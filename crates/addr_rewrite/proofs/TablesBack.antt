@@ -9,9 +9,9 @@ use Rattle.std.proofs.lemmas.List.Elements.{All-cons, All-nil, All-head, All-tai
 use Rattle.byteorder.specs.Endian.{little_number, little_bytes}
 use Rattle.byteorder.specs.Numbers.{little_number-reads_back, length-bytes_low_first}
 use Rattle.rb_bytes.specs.Readers.{bytes_at, number_read}
+use Rattle.answer_runs.specs.declared.range.Range.{Range}
 use Rattle.table_core.specs.WrittenUnits.{IsUnit}
 use Rattle.table_core.specs.ReadSteps.{with_head}
-use Rattle.table_core.specs.declared.range.Range.{Range}
 use Rattle.dw_unit.specs.declared.trouble.Trouble.{Trouble}
 use Rattle.addr_rewrite.specs.Aranges.{AddressTable, pairs_within, table_in}
 use Rattle.addr_rewrite.specs.ArangesReading.{pair_at}

@@ -2,9 +2,9 @@
 use Rattle.std.specs.Prelude.{◌≡◌, ◌+◌, ◌==◌, ◌&&◌, ◌^◌, ◌<◌, ℕ, List, map, flat_map, not, if◌then◌else◌, Option, Some}
 use Rattle.std.specs.Prelude.{None, Ok, Err, option_and_then, slice_get}
 use Rattle.rb_bytes.specs.Readers.{bytes_at, number_read, and_then}
-use Rattle.table_core.specs.declared.range.Range.{Range}
+use Rattle.answer_runs.specs.declared.range.Range.{Range}
+use Rattle.answer_runs.specs.FirstRanges.{first_range}
 use Rattle.table_core.specs.DebugUnits.{Walked, first_place}
-use Rattle.table_core.specs.FirstRanges.{first_range}
 use Rattle.table_core.specs.ReadSteps.{is_ok, oks}
 use Rattle.dw_unit.specs.declared.trouble.Trouble.TheVariants.{Unsound}
 use Rattle.dw_unit.specs.Trouble.{Read, whole}

@@ -1,7 +1,7 @@
 -- Tables of ranges of addresses as they are written. DWARF 5, sections 6.1.2 and 7.21.
 use Rattle.std.specs.Prelude.{◌==◌, ◌++◌, ℕ, zero, suc, List, [], ◌∷◌, if◌then◌else◌, length, take, drop, flat_map}
 use Rattle.byteorder.specs.Endian.{little_bytes}
-use Rattle.table_core.specs.declared.run.Run.{Run}
+use Rattle.answer_runs.specs.declared.run.Run.{Run}
 use Rattle.addr_rewrite.specs.declared.stretch.Stretch.{Stretch}
 
 abbrev pub stretch_of : Run ℕ → Stretch

@@ -6,10 +6,10 @@ ghost use Rattle.dw_unit.specs.Trouble.{whole};
 ghost use Rattle.addr_rewrite.specs.Aranges.{pairs_within};
 ghost use Rattle.addr_rewrite.specs.ArangesReading.{pair_at};
 
+use answer_runs::Range;
 use dw_unit::trouble::{Stop, Trouble};
 use rb_bytes::cursor::Cursor;
 use std::alloc::Global;
-use table_core::Range;
 
 fn number<'a>(cursor: &mut Cursor<'a>) -> Result<u64, Trouble>
     ensures read { IfOk result (λ x. whole (number_read 8 cursor.old.left) ≡ Ok (x, cursor.new.left)) }

@@ -3,9 +3,9 @@ ghost use Rattle.std.specs.Prelude.{◌≡◌, ◌<◌, ◌^◌, All, IfOk, map}
 ghost use Rattle.std.specs.List.Sorted.{IsNonDecreasingBy, IsPermutation};
 ghost use Rattle.addr_rewrite.specs.WrittenAranges.{stretch_of};
 
+use answer_runs::Run;
 use rb_bytes::fault::NoMemory;
 use std::alloc::Global;
-use table_core::Run;
 
 /// Bytes of new code that belong to one unit.
 #[derive(Clone, Copy)]

@@ -7,10 +7,10 @@ ghost use Rattle.addr_rewrite.specs.Aranges.{table_in};
 ghost use Rattle.addr_rewrite.specs.ArangesReading.{table_header};
 
 use crate::address_pairs::read_pairs;
+use answer_runs::Range;
 use dw_unit::trouble::{Stop, Trouble};
 use rb_bytes::cursor::Cursor;
 use std::alloc::Global;
-use table_core::Range;
 
 /// A table behind its length.
 #[derive(Drop)]

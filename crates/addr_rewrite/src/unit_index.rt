@@ -1,12 +1,12 @@
 // The units of addresses.
 ghost use Rattle.std.specs.Prelude.{◌≡◌, ℕ, IfOk, map, option_map};
 ghost use Rattle.std.specs.List.{find};
-ghost use Rattle.table_core.specs.AddressRanges.{holds_address};
+ghost use Rattle.answer_runs.specs.AddressRanges.{holds_address};
 
 use crate::unit_range::UnitRange;
+use answer_runs::{FirstRange, Range};
 use rb_bytes::fault::NoMemory;
 use std::alloc::Global;
-use table_core::{FirstRange, Range};
 
 /// Which unit the first of many ranges belongs to that holds an address.
 #[derive(Drop)]

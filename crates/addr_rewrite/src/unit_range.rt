@@ -1,5 +1,5 @@
 // Ranges of addresses that belong to units.
-use table_core::Range;
+use answer_runs::Range;
 
 /// A range of a table of addresses.
 #[derive(Clone, Copy)]

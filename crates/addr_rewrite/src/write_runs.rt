@@ -1,15 +1,15 @@
 // Tables of ranges of addresses written anew, of runs. DWARF 5, section 6.1.2.
 ghost use Rattle.std.specs.Prelude.{◌≡◌, ◌<◌, ◌≤◌, ◌-◌, ◌*◌, ◌^◌, ◌++◌, List, All, OnOk, length, map, min};
 ghost use Rattle.std.specs.List.Sorted.{IsNonDecreasingBy, IsPermutation};
-ghost use Rattle.table_core.specs.Weights.{run_weight, weight_limit};
+ghost use Rattle.answer_runs.specs.Weights.{run_weight, weight_limit};
 ghost use Rattle.addr_rewrite.specs.WrittenAranges as spec;
 ghost use Rattle.addr_rewrite.specs.declared.stretch.Stretch.{Stretch};
 
 use crate::put_tables::put_tables;
 use crate::stretch::sorted;
+use answer_runs::{RUN_WEIGHT, Run};
 use rb_bytes::fault::NoMemory;
 use std::alloc::Global;
-use table_core::{RUN_WEIGHT, Run};
 
 /// The weight of some runs; where it is none of 64 bits, the greatest number.
 pub fn weight_of(runs: &[Run<u64>]) -> u64

@@ -17,8 +17,8 @@ use Rattle.rv_code.specs.declared.placed.Placed.{Placed}
 use Rattle.rv_code.specs.layout.Blocks.{block_start}
 use Rattle.addr_map.specs.declared.span.Span.{Span}
 use Rattle.addr_map.specs.Spans.{ShareNoByte}
-use Rattle.table_core.specs.declared.run.Run.{Run}
-use Rattle.table_core.specs.AnswerRuns.{AreRunsOf, carried}
+use Rattle.answer_runs.specs.declared.run.Run.{Run}
+use Rattle.answer_runs.specs.AnswerRuns.{AreRunsOf, carried}
 use Rattle.cfi_rows.specs.FrameRows.{PlacedRow, RowValue, row_at, begins, nothing_known}
 use Rattle.cfi_rows.specs.Entries.{Fde, is_in_range, is_strictly_in}
 use Rattle.cfi_rows.specs.EntryCounts.{instructions_of}

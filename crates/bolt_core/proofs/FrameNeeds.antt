@@ -18,8 +18,8 @@ use Rattle.rv_code.specs.layout.FunctionLists.{AreLaidOut}
 use Rattle.branch_fixup.specs.Strips.{strips_of, pieces_of, spans_of}
 use Rattle.branch_fixup.proofs.Laid.{disjoint, once_each}
 use Rattle.branch_fixup.proofs.Placed.{are_strips, strips_once}
-use Rattle.table_core.specs.declared.run.Run.{Run}
-use Rattle.table_core.specs.AnswerRuns.{AreRunsOf, carried}
+use Rattle.answer_runs.specs.declared.run.Run.{Run}
+use Rattle.answer_runs.specs.AnswerRuns.{AreRunsOf, carried}
 use Rattle.table_core.specs.Sections.{held}
 use Rattle.cfi_rows.specs.Frames.{eh_frames}
 use Rattle.cfi_rows.specs.FrameNeed.{need_of, piece_count, piece_size}

@@ -27,7 +27,7 @@ use Rattle.addr_map.specs.declared.span.Span.{Span}
 use Rattle.addr_map.specs.Spans.{has_byte, is_of, new, owner, ShareNoByte}
 use Rattle.branch_fixup.proofs.Lists.{at_flat}
 use Rattle.rv_code.proofs.lists.Follows.{at_contains}
-use Rattle.table_core.specs.AnswerRuns.{AreLow}
+use Rattle.answer_runs.specs.AnswerRuns.{AreLow}
 use Rattle.cfi_rows.specs.Entries.{Fde, is_in_range, is_strictly_in}
 use Rattle.cfi_rows.specs.Frames.{eh_frames, tabled}
 use Rattle.frame_rewrite.specs.FrameAnswers.{cuts_of, is_marked_by}

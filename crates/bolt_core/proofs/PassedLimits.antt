@@ -11,7 +11,7 @@ use Rattle.elf_image.specs.declared.segment.Segment.{Segment}
 use Rattle.elf_image.specs.file.Header.{e_phnum, e_shnum}
 use Rattle.elf_image.specs.file.ParsedFile.{IsElfOf}
 use Rattle.elf_image.proofs.ReadLists.{length-segments_of}
-use Rattle.table_core.specs.Weights.{weight_limit}
+use Rattle.answer_runs.specs.Weights.{weight_limit}
 use Rattle.elf_write.specs.NameWeight.{name_weight}
 use Rattle.program.specs.Limits.{IsCodeTooLarge, IsLimitFault, many_functions, much_code}
 use Rattle.program.specs.Refusals.{IsRefusalFor}

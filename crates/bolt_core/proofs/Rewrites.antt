@@ -29,8 +29,8 @@ use Rattle.elf_write.specs.Source.{HasPlace, source_of}
 use Rattle.elf_write.specs.TablePlaces.{TablesStand}
 use Rattle.elf_write.specs.TableSizes.{table_size}
 use Rattle.area_room.specs.Need.{code_need}
-use Rattle.table_core.specs.AnswerRuns.{AreLow, AreRunsOf, carried}
-use Rattle.table_core.specs.declared.run.Run.{Run}
+use Rattle.answer_runs.specs.AnswerRuns.{AreLow, AreRunsOf, carried}
+use Rattle.answer_runs.specs.declared.run.Run.{Run}
 use Rattle.cfi_rows.specs.FrameNeed.{frame_need}
 use Rattle.cfi_rows.specs.ReadFrames.{read_as}
 use Rattle.frame_rewrite.specs.FrameAnswers.{FrameAnswer}

@@ -6,11 +6,11 @@ use Rattle.std.proofs.lemmas.Bool.{cases_lt}
 use Rattle.rb_bytes.proofs.Members.{Contains-nil, Contains-cons_cases}
 use Rattle.addr_map.specs.declared.span.Span.{Span}
 use Rattle.addr_map.specs.Spans.{ShareNoByte}
-use Rattle.table_core.specs.declared.run.Run.{Run}
-use Rattle.table_core.specs.AnswerRuns.{AreRunsOf, carried}
+use Rattle.answer_runs.specs.declared.run.Run.{Run}
+use Rattle.answer_runs.specs.AnswerRuns.{AreRunsOf, carried}
 use Rattle.branch_fixup.proofs.BlockSpans.{IsFirstFrom, Follows, Heads, IsLaidByBlocks}
-use Rattle.table_core.proofs.Pigeonhole.{HasPlace, weighed, all_owned, owned_has, all_weights}
-use Rattle.table_core.proofs.RunStarts.{RunStart, run_start, starts_rise}
+use Rattle.answer_runs.proofs.Pigeonhole.{HasPlace, weighed, all_owned, owned_has, all_weights}
+use Rattle.answer_runs.proofs.RunStarts.{RunStart, run_start, starts_rise}
 
 once_head : (u t : Span) (us : List Span) → AllPairs (λ (s t : Span). s.input ≢ t.input) (u ∷ us) → Contains us t → u.input ≢ t.input
 once_head u t us once (k, within, is) =

@@ -17,8 +17,8 @@ use Rattle.area_room.specs.Need.{code_need}
 use Rattle.branch_fixup.specs.Pieces.{end_from, laid_from}
 use Rattle.branch_fixup.specs.Strips.{pieces_of, spans_of, strips_of}
 use Rattle.branch_fixup.proofs.Laid.{inside}
-use Rattle.table_core.specs.AnswerRuns.{AreLow, AreRunsOf, carried}
-use Rattle.table_core.specs.declared.run.Run.{Run}
+use Rattle.answer_runs.specs.AnswerRuns.{AreLow, AreRunsOf, carried}
+use Rattle.answer_runs.specs.declared.run.Run.{Run}
 use Rattle.cfi_rows.specs.Entries.{Fde, Frames}
 use Rattle.cfi_rows.specs.FrameNeed.{frame_need, need_of}
 use Rattle.cfi_rows.specs.Frames.{eh_frames, tabled}

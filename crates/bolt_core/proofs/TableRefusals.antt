@@ -8,7 +8,7 @@ use Rattle.rb_bytes.specs.declared.fault.Refusal.{Refusal}
 use Rattle.rb_bytes.specs.declared.fault.Refusal.TheVariants as refusal
 use Rattle.frame_rewrite.specs.Faults.{IsRegisteredFrames}
 use Rattle.addr_map.specs.declared.span.Span.{Span}
-use Rattle.table_core.specs.Weights.{weight_limit}
+use Rattle.answer_runs.specs.Weights.{weight_limit}
 use Rattle.dw_unit.specs.AbbrevWeight.{abbrev_weight}
 use Rattle.dw_unit.specs.Faults.{HasDwarfFault, unit_fault_places}
 use Rattle.dw_unit.specs.Tables.{sections_of}

@@ -20,8 +20,8 @@ use Rattle.elf_write.specs.NewTables.{area_for}
 use Rattle.elf_write.specs.TablePlaces.{Holds, HoldsAt, IsLoadedAt, TablesStand, is_given}
 use Rattle.elf_write.specs.TableSizes.{table_size}
 use Rattle.rb_bytes.proofs.Tests.{clash}
-use Rattle.table_core.specs.declared.run.Run.{Run}
-use Rattle.table_core.specs.AnswerRuns.{AreRunsOf, carried}
+use Rattle.answer_runs.specs.declared.run.Run.{Run}
+use Rattle.answer_runs.specs.AnswerRuns.{AreRunsOf, carried}
 use Rattle.table_core.specs.Sections.{Held, bytes_of, held, held_by}
 use Rattle.cfi_rows.specs.Entries.{frames}
 use Rattle.cfi_rows.specs.Frames.{frames_of}

@@ -3,7 +3,7 @@ use Rattle.std.specs.Prelude.{◌≡◌, ◌<◌, ℕ, List}
 use Rattle.rv_code.specs.declared.placed.Func.{Func}
 use Rattle.elf_image.specs.declared.elf.Elf.{Elf}
 use Rattle.elf_image.specs.file.Header.{e_phnum, e_shnum}
-use Rattle.table_core.specs.Weights.{weight_limit}
+use Rattle.answer_runs.specs.Weights.{weight_limit}
 use Rattle.elf_write.specs.NameWeight.{name_weight}
 use Rattle.rb_bytes.specs.declared.limit.TheConstants.{HEADERS, WEIGHTS}
 use Rattle.program.specs.Limits.{IsCodeTooLarge}

@@ -4,7 +4,7 @@ ghost use Rattle.rb_bytes.specs.FirstFault.{IsFree};
 ghost use Rattle.rv_code.specs.layout.FunctionLists.{address_end};
 ghost use Rattle.addr_map.specs.MapText.{IsLineBefore};
 ghost use Rattle.addr_map.specs.Spans.{IsStretch, ShareNoByte};
-ghost use Rattle.table_core.specs.Weights.{weight_limit};
+ghost use Rattle.answer_runs.specs.Weights.{weight_limit};
 ghost use Rattle.dw_unit.specs.AbbrevWeight.{abbrev_weight};
 ghost use Rattle.dw_unit.specs.Faults.{HasDwarfFault, unit_fault_places};
 ghost use Rattle.dw_unit.specs.Tables.{sections_of};

@@ -5,7 +5,7 @@ ghost use Rattle.rv_code.specs.layout.FunctionLists.{AreLaidOut};
 ghost use Rattle.elf_image.specs.file.ParsedFile.{IsElfOf};
 ghost use Rattle.addr_map.specs.MapText.{IsLineBefore};
 ghost use Rattle.addr_map.specs.Spans.{ShareNoByte};
-ghost use Rattle.table_core.specs.AnswerRuns.{AreLow};
+ghost use Rattle.answer_runs.specs.AnswerRuns.{AreLow};
 ghost use Rattle.dw_unit.specs.Faults.{HasDwarfFault, unit_fault_places};
 ghost use Rattle.dw_unit.specs.Tables.{sections_of};
 ghost use Rattle.table_set.specs.AllTables.{AllComeFrom};
@@ -17,6 +17,7 @@ ghost use Rattle.bolt_core.specs.internal.TableLimits.{IsHeavy};
 ghost use Rattle.bolt_core.specs.Refusals.{Fit, IsRefusal};
 
 use addr_map::AddrMap;
+use answer_runs::WEIGHT_LIMIT;
 use elf_image::Elf;
 use elf_write::name_weight;
 use program::{FILE_LIMIT, check_code};
@@ -24,7 +25,6 @@ use rb_bytes::fault::{Fault, FaultKind, Refusal};
 use rb_bytes::limit::{FILE_BYTES, HEADERS, PROFILE_BYTES, WEIGHTS};
 use rv_code::Func;
 use std::alloc::Global;
-use table_core::WEIGHT_LIMIT;
 use table_set::{AllTables, is_too_heavy};
 
 // The most headers of sections, and of segments.

@@ -2,8 +2,8 @@
 use Rattle.std.proofs.Common.{◌≡◌, ◌∙◌, ℕ, List, Ok, Err, Some, None, refl, ap}
 use Rattle.std.specs.Prelude.{IsOkAnd, flat_map, sum_by, length}
 use Rattle.rb_bytes.proofs.Results.{ok_when}
+use Rattle.answer_runs.specs.Weights.{distinct}
 use Rattle.table_core.specs.ReadSteps.{and_so}
-use Rattle.table_core.specs.Weights.{distinct}
 use Rattle.cfi_rows.specs.declared.cie.Cie.{Cie as Kept}
 use Rattle.cfi_rows.specs.declared.instruction.Instruction.{Instruction}
 use Rattle.cfi_rows.specs.declared.instruction.Malformed.TheVariants.{Entry}

@@ -6,8 +6,8 @@ use Rattle.std.proofs.lemmas.List.Sums.{sum_by-append}
 use Rattle.std.proofs.lemmas.List.Concat.{flat_map-append}
 use Rattle.rb_bytes.specs.Readers.{and_then}
 use Rattle.rb_bytes.proofs.Results.{ok_when}
+use Rattle.answer_runs.specs.Weights.{distinct}
 use Rattle.table_core.specs.ReadSteps.{and_so}
-use Rattle.table_core.specs.Weights.{distinct}
 use Rattle.cfi_rows.specs.declared.cie.Cie.{Cie as Kept}
 use Rattle.cfi_rows.specs.declared.registers.Registers.{Registers}
 use Rattle.cfi_rows.specs.declared.fde.FdeHead.{FdeHead}

@@ -12,7 +12,7 @@ use Rattle.std.specs.List.{list_any}
 use Rattle.std.specs.Ordering.{nat_cmp, is_eq}
 use Rattle.std.specs.Prelude.{nat_lt}
 use Rattle.std.specs.BTreeSet.{BTreeSet, contains, Updates}
-use Rattle.table_core.specs.Weights.{distinct}
+use Rattle.answer_runs.specs.Weights.{distinct}
 use Rattle.cfi_rows.specs.declared.registers.Registers.{Registers}
 use Rattle.cfi_rows.specs.RegisterSets.{AreIn, AreCounted}
 

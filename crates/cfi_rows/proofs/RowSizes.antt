@@ -8,7 +8,7 @@ use Rattle.std.proofs.lemmas.List.Sums.{sum_by-cons}
 use Rattle.std.proofs.lemmas.List.Kept.{AllPairs-cons}
 use Rattle.std.proofs.lemmas.List.Elements.{Contains-append_left, Contains-append_right, Contains-get_or}
 use Rattle.rb_bytes.proofs.Members.{Contains-there, Contains-nil, Contains-cons_cases}
-use Rattle.table_core.specs.Weights.{distinct}
+use Rattle.answer_runs.specs.Weights.{distinct}
 use Rattle.cfi_rows.specs.declared.instruction.Instruction.{Instruction}
 use Rattle.cfi_rows.specs.declared.instruction.Instruction.TheVariants.{Advance, SetLoc, DefCfa, DefCfaRegister, DefCfaOffset}
 use Rattle.cfi_rows.specs.declared.instruction.Instruction.TheVariants.{SetRule, Restore, RememberState, RestoreState, Nop}
@@ -19,7 +19,7 @@ use Rattle.cfi_rows.specs.FrameRows.{PlacedRow, RowValue, Rules, Known, State, r
 use Rattle.cfi_rows.specs.FrameRows.{ends_row, with_cfa, with_register, with_offset, take_back, with_rule, without_rule, rule_of, restored}
 use Rattle.cfi_rows.specs.FrameRows.{moved_to, known_after}
 use Rattle.cfi_rows.specs.EntryCounts.{registers_set, cfa_bytes, rule_bytes, bytes_in}
-use Rattle.table_core.proofs.Pigeonhole.{weighed}
+use Rattle.answer_runs.proofs.Pigeonhole.{weighed}
 
 abbrev pub cfa_part : Instruction → ℕ
 cfa_part (DefCfa c) = cfa_bytes c

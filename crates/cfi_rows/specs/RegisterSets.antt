@@ -3,7 +3,7 @@ use Rattle.std.specs.Prelude.{ℕ, ◌≡◌, ◌+◌, ◌==◌, ◌++◌, ◌||
 use Rattle.std.specs.List.{list_any}
 use Rattle.std.specs.Ordering.{nat_cmp}
 use Rattle.std.specs.BTreeSet.{BTreeSet, contains}
-use Rattle.table_core.specs.Weights.{distinct}
+use Rattle.answer_runs.specs.Weights.{distinct}
 use Rattle.cfi_rows.specs.declared.registers.Registers.{Registers}
 
 -- a set has just the numbers of a list

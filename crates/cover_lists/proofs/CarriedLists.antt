@@ -9,10 +9,10 @@ use Rattle.std.proofs.lemmas.List.Elements.{All-nil, All-cons}
 use Rattle.std.proofs.lemmas.List.Sorted.{All-permutation, IsPermutation-sym}
 use Rattle.addr_map.specs.declared.span.Span.{Span}
 use Rattle.addr_map.specs.Spans.{owner}
-use Rattle.table_core.specs.declared.run.Run.{Run}
-use Rattle.table_core.specs.AnswerRuns.{carried, run_at, said_runs, AreLongest, AreRunsOf, IsWithin}
-use Rattle.table_core.specs.ReadSteps.{unless_empty}
-use Rattle.table_core.proofs.Grown.{said_at}
+use Rattle.answer_runs.specs.declared.run.Run.{Run}
+use Rattle.answer_runs.specs.AnswerRuns.{carried, run_at, said_runs, AreLongest, AreRunsOf, IsWithin}
+use Rattle.answer_runs.specs.Choices.{unless_empty}
+use Rattle.answer_runs.proofs.Grown.{said_at}
 use Rattle.cover_lists.specs.declared.kept_list.KeptList.{KeptList}
 use Rattle.cover_lists.specs.KeptLists.{list_bounds}
 use Rattle.cover_lists.specs.ListRuns.{list_answer}

@@ -8,11 +8,11 @@ use Rattle.std.specs.Option.{option_or}
 use Rattle.std.proofs.lemmas.Bool.{cases_eq, eq-eqb, ne_eqb}
 use Rattle.std.proofs.lemmas.Bool.Decides.{nat_tests}
 use Rattle.std.proofs.lemmas.List.Folds.{list_any-append}
-use Rattle.table_core.specs.declared.run.Run.{Run}
-use Rattle.table_core.specs.AnswerRuns.{answer_over, run_at, IsWithin}
-use Rattle.table_core.specs.LastRuns.{ends_at, lengthened}
-use Rattle.table_core.proofs.Grown.{or_none, within-up, run_at-more, within-more, longest-more, answer-more, apart-end, run_at-longer}
-use Rattle.table_core.proofs.Grown.{and_then-Some, within-longer, longest-longer, answer-longer}
+use Rattle.answer_runs.specs.declared.run.Run.{Run}
+use Rattle.answer_runs.specs.AnswerRuns.{answer_over, run_at, IsWithin}
+use Rattle.answer_runs.specs.LastRuns.{ends_at, lengthened}
+use Rattle.answer_runs.proofs.Grown.{or_none, within-up, run_at-more, within-more, longest-more, answer-more, apart-end, run_at-longer}
+use Rattle.answer_runs.proofs.Grown.{and_then-Some, within-longer, longest-longer, answer-longer}
 use Rattle.cover_lists.specs.declared.cover_tree.Cover.{Cover}
 use Rattle.cover_lists.specs.CoverTree.{holds}
 use Rattle.cover_lists.specs.Groups.{is_in_group, group_holds}

@@ -7,11 +7,11 @@ use Rattle.std.specs.List.Sorted.{IsStrictlyIncreasing}
 use Rattle.std.specs.Option.{option_or}
 use Rattle.std.proofs.lemmas.Bool.{cases_eq, eq-eqb, ne_eqb}
 use Rattle.std.proofs.lemmas.List.Folds.{list_any-append}
-use Rattle.table_core.proofs.Ascending.{Ascends, ascends_from}
-use Rattle.table_core.specs.declared.run.Run.{Run}
-use Rattle.table_core.specs.AnswerRuns.{answer_over, run_at, IsWithin, AreLongest}
-use Rattle.table_core.specs.ReadSteps.{unless_empty}
-use Rattle.table_core.proofs.Grown.{or_none, within-up}
+use Rattle.answer_runs.proofs.Ascending.{Ascends, ascends_from}
+use Rattle.answer_runs.specs.declared.run.Run.{Run}
+use Rattle.answer_runs.specs.AnswerRuns.{answer_over, run_at, IsWithin, AreLongest}
+use Rattle.answer_runs.specs.Choices.{unless_empty}
+use Rattle.answer_runs.proofs.Grown.{or_none, within-up}
 use Rattle.cover_lists.specs.GroupRuns.{runs_end}
 use Rattle.cover_lists.specs.declared.kept_list.KeptList.{KeptList}
 use Rattle.cover_lists.specs.KeptLists.{items_in}

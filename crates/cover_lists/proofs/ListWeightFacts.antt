@@ -2,12 +2,12 @@
 use Rattle.std.proofs.Common.{◌≡◌, ◌∙◌, ◌+◌, ◌∷◌, [], ℕ, suc, List, Option, refl, sym, ap, subst, arith, length}
 use Rattle.std.specs.Prelude.{sum_by}
 use Rattle.std.specs.Global.{Vec}
-use Rattle.table_core.specs.declared.run.Run.{Run}
+use Rattle.answer_runs.specs.declared.run.Run.{Run}
 use Rattle.std.proofs.lemmas.List.Sums.{sum_by-cons}
 use Rattle.addr_map.specs.declared.span.Span.{Span}
-use Rattle.table_core.specs.AnswerRuns.{said_runs, carried, AreRunsOf}
-use Rattle.table_core.specs.ReadSteps.{unless_empty}
-use Rattle.table_core.specs.Weights.{run_weight, IsWeightOf}
+use Rattle.answer_runs.specs.AnswerRuns.{said_runs, carried, AreRunsOf}
+use Rattle.answer_runs.specs.Choices.{unless_empty}
+use Rattle.answer_runs.specs.Weights.{run_weight, IsWeightOf}
 use Rattle.cover_lists.specs.declared.kept_list.KeptList.{KeptList}
 use Rattle.cover_lists.specs.KeptLists.{items_in, list_says, all_say}
 use Rattle.cover_lists.specs.ListRuns.{said, said_in, list_answer}

@@ -9,7 +9,7 @@ use Rattle.std.specs.Option.{option_map_or}
 use Rattle.std.proofs.lemmas.Bool.Decides.{nat_tests}
 use Rattle.std.proofs.lemmas.List.Folds.{list_any-append}
 use Rattle.std.proofs.lemmas.Option.{slice_get_within}
-use Rattle.table_core.proofs.Ascending.{AreBelow, ascends_from, range_filter}
+use Rattle.answer_runs.proofs.Ascending.{AreBelow, ascends_from, range_filter}
 use Rattle.cover_lists.specs.declared.cover_tree.Cover.{Cover}
 use Rattle.cover_lists.specs.declared.groups.RangedEntry.{RangedEntry}
 use Rattle.cover_lists.specs.CoverIndex.{members_in, is_member, is_held}

@@ -1,7 +1,7 @@
 -- Two lists that say the same up to an index.
 use Rattle.std.proofs.Common.{ℕ, ◌+◌, ◌≤◌, ◌<◌, ◌≡◌, ◌∙◌, List, sym, ap, arith, length, get_or, drop, map}
 use Rattle.std.proofs.lemmas.List.{length-map, get_or-map}
-use Rattle.table_core.proofs.SameLists.{same-more, same-end}
+use Rattle.answer_runs.proofs.SameLists.{same-more, same-end}
 
 pub mapped_more : {A B : Type 0} (f : A → B) (x y : List A) (i : ℕ) (d e : A) → i < length x → i < length y → f (get_or x i d)
     ≡ f (get_or y i e) →

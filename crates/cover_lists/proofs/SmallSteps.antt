@@ -1,6 +1,6 @@
 -- Small steps over booleans and options.
 use Rattle.std.proofs.Common.{◌≡◌, ◌||◌, ◌&&◌, ℕ, Bool, true, false, Option, Some, None, refl}
-use Rattle.table_core.specs.ReadSteps.{lower}
+use Rattle.answer_runs.specs.Choices.{lower}
 
 pub or_false : (b : Bool) → (b || false) ≡ b
 or_false true = refl

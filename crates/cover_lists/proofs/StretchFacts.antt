@@ -3,7 +3,7 @@ use Rattle.std.proofs.Common.{◌≡◌, ◌∙◌, ◌+◌, ◌<◌, ◌≤◌,
 use Rattle.std.proofs.Common.{filter, get_or}
 use Rattle.std.specs.Prelude.{if◌then◌else◌, nat_le, option_and_then, nat_lt, ◌&&◌, None}
 use Rattle.std.proofs.lemmas.Bool.Decides.{nat_tests}
-use Rattle.table_core.specs.AnswerRuns.{answer_over}
+use Rattle.answer_runs.specs.AnswerRuns.{answer_over}
 use Rattle.cover_lists.specs.Stretches.{bounds_before}
 
 at_most : (x a : ℕ) → x ≤ a → nat_le x a ≡ true

@@ -4,9 +4,9 @@ use Rattle.std.proofs.Common.{refl, sym, ap, arith, length, take, get_or}
 use Rattle.std.specs.Prelude.{if◌then◌else◌, option_and_then, nat_le, nat_lt}
 use Rattle.std.specs.Option.{option_or}
 use Rattle.std.proofs.lemmas.Bool.Decides.{nat_tests}
-use Rattle.table_core.specs.declared.run.Run.{Run}
-use Rattle.table_core.specs.AnswerRuns.{answer_over, answer_in, run_at, IsWithin}
-use Rattle.table_core.proofs.Grown.{or_none, run_at-more}
+use Rattle.answer_runs.specs.declared.run.Run.{Run}
+use Rattle.answer_runs.specs.AnswerRuns.{answer_over, answer_in, run_at, IsWithin}
+use Rattle.answer_runs.proofs.Grown.{or_none, run_at-more}
 use Rattle.cover_lists.specs.GroupRuns.{runs_end}
 
 -- where runs end

@@ -4,9 +4,9 @@ use Rattle.std.specs.Prelude.{Option, Some, None, option_and_then, slice_get, le
 use Rattle.std.specs.Global.{Vec}
 use Rattle.std.specs.List.{list_any}
 use Rattle.std.specs.Option.{option_or}
-use Rattle.table_core.specs.declared.run.Run.{Run}
-use Rattle.table_core.specs.AnswerRuns.{answer_over, run_at, IsWithin, AreLongest}
-use Rattle.table_core.specs.LastRuns.{IsAnswer, ends_at}
+use Rattle.answer_runs.specs.declared.run.Run.{Run}
+use Rattle.answer_runs.specs.AnswerRuns.{answer_over, run_at, IsWithin, AreLongest}
+use Rattle.answer_runs.specs.LastRuns.{IsAnswer, ends_at}
 use Rattle.cover_lists.specs.declared.cover_tree.Cover.{Cover}
 use Rattle.cover_lists.specs.CoverTree.{holds}
 use Rattle.cover_lists.specs.Groups.{group_holds}

@@ -5,9 +5,9 @@ use Rattle.std.specs.Global.{Vec}
 use Rattle.std.specs.List.{list_any}
 use Rattle.std.specs.List.Sorted.{IsStrictlyIncreasing}
 use Rattle.std.specs.Option.{option_or}
-use Rattle.table_core.specs.declared.run.Run.{Run}
-use Rattle.table_core.specs.AnswerRuns.{answer_over, run_at, said_runs, IsWithin, AreLongest}
-use Rattle.table_core.specs.ReadSteps.{unless_empty}
+use Rattle.answer_runs.specs.declared.run.Run.{Run}
+use Rattle.answer_runs.specs.AnswerRuns.{answer_over, run_at, said_runs, IsWithin, AreLongest}
+use Rattle.answer_runs.specs.Choices.{unless_empty}
 use Rattle.cover_lists.specs.declared.kept_list.KeptList.{KeptList}
 use Rattle.cover_lists.specs.KeptLists.{items_in, number_says}
 

@@ -2,10 +2,10 @@
 use Rattle.std.specs.Prelude.{◌+◌, ℕ, List, length, sum_by, [], ◌∷◌}
 use Rattle.std.specs.Global.{Vec}
 use Rattle.addr_map.specs.declared.span.Span.{Span}
-use Rattle.table_core.specs.declared.run.Run.{Run}
-use Rattle.table_core.specs.AnswerRuns.{carried}
-use Rattle.table_core.specs.ReadSteps.{unless_empty}
-use Rattle.table_core.specs.Weights.{run_weight, IsWeightOf}
+use Rattle.answer_runs.specs.declared.run.Run.{Run}
+use Rattle.answer_runs.specs.AnswerRuns.{carried}
+use Rattle.answer_runs.specs.Choices.{unless_empty}
+use Rattle.answer_runs.specs.Weights.{run_weight, IsWeightOf}
 use Rattle.cover_lists.specs.declared.kept_list.KeptList.{KeptList}
 use Rattle.cover_lists.specs.KeptLists.{all_say}
 

@@ -2,7 +2,7 @@
 ghost use Rattle.std.specs.Prelude.{◌≡◌, ℕ, AllPairs, IfOk, length};
 ghost use Rattle.addr_map.specs.MapText.{IsLineBefore};
 ghost use Rattle.addr_map.specs.Spans.{ShareNoByte};
-ghost use Rattle.table_core.specs.AnswerRuns.{carried, AreLow, AreRunsOf};
+ghost use Rattle.answer_runs.specs.AnswerRuns.{carried, AreLow, AreRunsOf};
 ghost use Rattle.cover_lists.specs.ListRuns.{list_answer, said_in};
 
 use crate::bounds::place_bounds;

@@ -3,8 +3,8 @@ ghost use Rattle.std.specs.Prelude.{◌≡◌, ◌≢◌, ◌+◌, ◌<◌, ◌^
 ghost use Rattle.std.specs.List.Sorted.{IsNonDecreasing};
 ghost use Rattle.addr_map.specs.MapText.{IsLineBefore};
 ghost use Rattle.addr_map.specs.Spans.{ShareNoByte};
-ghost use Rattle.table_core.specs.AnswerRuns.{carried, AreLow, AreRunsOf, IsWithin};
-ghost use Rattle.table_core.specs.LastRuns as last;
+ghost use Rattle.answer_runs.specs.AnswerRuns.{carried, AreLow, AreRunsOf, IsWithin};
+ghost use Rattle.answer_runs.specs.LastRuns as last;
 ghost use Rattle.cover_lists.specs.GroupRuns as spec;
 ghost use Rattle.cover_lists.specs.GroupRuns.{AreApart, AreHeld, IsStretched, AreStretched, IsGroupRuns, held_by};
 ghost use Rattle.cover_lists.specs.GroupRuns.{runs_in};
@@ -13,9 +13,9 @@ use crate::cost::is_too_much;
 use crate::cover_tree::CoverTree;
 use crate::stretches::stretches_of;
 use addr_map::AddrMap;
+use answer_runs::{Run, ends_at, lengthen};
 use rb_bytes::fault::NoMemory;
 use std::alloc::Global;
-use table_core::{Run, ends_at, lengthen};
 
 /// Of each group, by its number, the longest runs of new bytes that it holds; the answers are all `true`.
 pub type GroupRuns = Vec<Vec<Run<bool>>>;

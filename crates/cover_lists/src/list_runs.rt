@@ -1,8 +1,8 @@
 // The runs of new code at each of whose bytes a location list says the same.
 ghost use Rattle.std.specs.Prelude.{◌≡◌, ◌≢◌, ◌+◌, ◌-◌, ◌<◌, ◌^◌, [], ℕ, Some, IsTrue, IsFalse, IfOk, OnOk, length};
-ghost use Rattle.table_core.specs.AnswerRuns.{said_runs, IsWithin, AreLongest};
-ghost use Rattle.table_core.specs.LastRuns as last;
-ghost use Rattle.table_core.specs.ReadSteps.{unless_empty};
+ghost use Rattle.answer_runs.specs.AnswerRuns.{said_runs, IsWithin, AreLongest};
+ghost use Rattle.answer_runs.specs.LastRuns as last;
+ghost use Rattle.answer_runs.specs.Choices.{unless_empty};
 ghost use Rattle.cover_lists.specs.KeptLists.{items_in};
 ghost use Rattle.cover_lists.specs.ListFinder.{IsFinder};
 ghost use Rattle.cover_lists.specs.ListRuns as spec;
@@ -14,9 +14,9 @@ use crate::expressions::same_expressions;
 use crate::kept_list::KeptList;
 use crate::kept_lists::in_force;
 use crate::list_finder::ListFinder;
+use answer_runs::{Run, ends_at, lengthen};
 use rb_bytes::fault::NoMemory;
 use std::alloc::Global;
-use table_core::{Run, ends_at, lengthen};
 
 /// A stretch of new code at each byte of which a list has the same expressions in force.
 pub type ListRun = Run<Vec<Vec<u8>>>;

@@ -2,16 +2,16 @@
 ghost use Rattle.std.specs.Prelude.{◌≡◌, ◌-◌, ◌^◌, ℕ, AllPairs, IfOk, min};
 ghost use Rattle.addr_map.specs.MapText.{IsLineBefore};
 ghost use Rattle.addr_map.specs.Spans.{ShareNoByte};
-ghost use Rattle.table_core.specs.AnswerRuns.{AreLow};
+ghost use Rattle.answer_runs.specs.AnswerRuns.{AreLow};
 ghost use Rattle.cover_lists.specs.ListWeights as spec;
 
 use crate::carried_lists::carried_lists;
 use crate::kept_list::KeptList;
 use crate::list_runs::ListRun;
 use addr_map::AddrMap;
+use answer_runs::RUN_WEIGHT;
 use rb_bytes::fault::NoMemory;
 use std::alloc::Global;
-use table_core::RUN_WEIGHT;
 
 // What an expression weighs beside its bytes.
 const EXPRESSION_WEIGHT: u64 = 16;

@@ -1,11 +1,11 @@
 // The weight of the runs of entries that have ranges.
 ghost use Rattle.std.specs.Prelude.{◌≡◌, ◌*◌, ◌-◌, ◌^◌, length, min, sum_by};
-ghost use Rattle.table_core.specs.Weights.{run_weight};
+ghost use Rattle.answer_runs.specs.Weights.{run_weight};
 ghost use Rattle.cover_lists.specs.GroupRuns as spec;
 
 use crate::group_runs::runs_in;
 use crate::groups::RangedEntry;
-use table_core::{RUN_WEIGHT, Run};
+use answer_runs::{RUN_WEIGHT, Run};
 
 // The weight of the runs of an entry.
 fn entry_weight(entry: RangedEntry, lists: &[Vec<Run<bool>>]) -> u64

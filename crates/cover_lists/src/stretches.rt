@@ -3,16 +3,16 @@ ghost use Rattle.std.specs.Prelude.{◌≡◌, ◌≢◌, ◌<◌, ◌+◌, ◌-
 ghost use Rattle.std.specs.List.Sorted.{IsNonDecreasing};
 ghost use Rattle.addr_map.specs.MapText.{IsLineBefore};
 ghost use Rattle.addr_map.specs.Spans.{ShareNoByte};
-ghost use Rattle.table_core.specs.AnswerRuns.{said_runs, carried, AreLow, AreLongest, AreRunsOf, IsWithin};
-ghost use Rattle.table_core.specs.LastRuns as last;
+ghost use Rattle.answer_runs.specs.AnswerRuns.{said_runs, carried, AreLow, AreLongest, AreRunsOf, IsWithin};
+ghost use Rattle.answer_runs.specs.LastRuns as last;
 ghost use Rattle.cover_lists.specs.ListRuns.{IsExtended};
 ghost use Rattle.cover_lists.specs.Stretches.{bounds_before};
 
 use crate::bounds::count_near;
 use addr_map::{AddrMap, Span};
+use answer_runs::{Run, ends_at, lengthen};
 use rb_bytes::fault::NoMemory;
 use std::alloc::Global;
-use table_core::{Run, ends_at, lengthen};
 
 // How many of some bounds are at most an address, where about `near` are.
 fn bounds_before(bounds: &[u128], near: usize, a: u64) -> usize

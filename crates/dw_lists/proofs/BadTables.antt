@@ -6,8 +6,8 @@ use Rattle.std.specs.Option.{option_map_or}
 use Rattle.std.proofs.lemmas.List.{take_more}
 use Rattle.std.proofs.lemmas.List.Elements.{filter-append}
 use Rattle.std.proofs.lemmas.List.{map-append}
+use Rattle.answer_runs.specs.Choices.{lower, least}
 use Rattle.table_core.specs.DebugUnits.{Walked}
-use Rattle.table_core.specs.ReadSteps.{lower, least}
 use Rattle.dw_unit.proofs.Leasts.{least-append}
 use Rattle.dw_lists.specs.Faults.{is_list_table}
 use Rattle.cover_lists.proofs.SmallSteps.{lower_none}

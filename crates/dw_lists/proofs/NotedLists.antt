@@ -6,7 +6,7 @@ use Rattle.std.specs.Prelude.{None, if◌then◌else◌, not, is_some, flat_map,
 use Rattle.std.specs.List.{list_any, cons_option}
 use Rattle.std.proofs.lemmas.List.Folds.{list_any-append}
 use Rattle.std.proofs.lemmas.List.Concat.{flat_map-append}
-use Rattle.table_core.specs.ReadSteps.{lower, least}
+use Rattle.answer_runs.specs.Choices.{lower, least}
 use Rattle.dw_unit.specs.declared.entry.Attr.{Attr}
 use Rattle.dw_unit.specs.CompUnits.{Entry, Unit}
 use Rattle.dw_unit.proofs.Leasts.{least-append}

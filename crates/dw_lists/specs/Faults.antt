@@ -4,7 +4,7 @@ use Rattle.std.specs.Prelude.{filter, filter_map, Option, is_some, Result, Ok, E
 use Rattle.std.specs.List.{list_any}
 use Rattle.std.specs.Option.{option_or, option_map_or}
 use Rattle.byteorder.specs.Endian.{little_number}
-use Rattle.table_core.specs.ReadSteps.{least}
+use Rattle.answer_runs.specs.Choices.{least}
 use Rattle.table_core.specs.DebugUnits.{Walked, walked, first_place, other_version}
 use Rattle.dw_unit.specs.declared.entry.Attr.{Attr}
 use Rattle.dw_unit.specs.declared.trouble.Trouble.{Trouble}

@@ -2,11 +2,11 @@
 use Rattle.std.specs.Prelude.{◌≡◌, ◌||◌, ◌==◌, ◌^◌, ◌<◌, ◌≤◌, ℕ, Bool, IsTrue, List, [], All, Contains, length, Option}
 use Rattle.std.specs.Prelude.{Some}
 use Rattle.addr_map.specs.declared.span.Span.{Span}
+use Rattle.answer_runs.specs.Choices.{unless_empty}
+use Rattle.answer_runs.specs.Weights.{weight_limit}
 use Rattle.table_core.specs.declared.written.ListAt.{ListAt}
 use Rattle.table_core.specs.declared.written.Written.{Written}
-use Rattle.table_core.specs.ReadSteps.{unless_empty}
 use Rattle.table_core.specs.Sections.{section_limit}
-use Rattle.table_core.specs.Weights.{weight_limit}
 use Rattle.dw_unit.specs.declared.attribute.TheConstants.{DW_AT_location, DW_AT_frame_base, DW_AT_ranges, DW_AT_high_pc}
 use Rattle.dw_unit.specs.declared.attribute.TheConstants.{DW_AT_rnglists_base, DW_AT_loclists_base}
 use Rattle.dw_unit.specs.EntryMoves.{new_list_offset}

@@ -3,8 +3,8 @@ use Rattle.std.specs.Prelude.{◌+◌, ◌-◌, ◌*◌, ◌==◌, ◌&&◌, ◌
 use Rattle.std.specs.Prelude.{length}
 use Rattle.std.specs.Prelude.{drop, take, Option, Some, None, option_map, option_and_then, unwrap_or, Result, Ok, Err}
 use Rattle.std.specs.Option.{option_or}
+use Rattle.answer_runs.specs.declared.range.Range.{Range}
 use Rattle.table_core.specs.declared.form.TheConstants.{DW_FORM_sec_offset, DW_FORM_rnglistx, DW_FORM_loclistx}
-use Rattle.table_core.specs.declared.range.Range.{Range}
 use Rattle.table_core.specs.DebugUnits.{Walked, walked}
 use Rattle.dw_unit.specs.declared.attribute.TheConstants.{DW_AT_ranges, DW_AT_rnglists_base, DW_AT_loclists_base}
 use Rattle.dw_unit.specs.declared.entry.Attr.{Attr}

@@ -7,8 +7,8 @@ use Rattle.table_core.specs.declared.form.TheConstants.{DW_FORM_addr}
 use Rattle.dw_unit.specs.declared.attribute.TheConstants.{DW_AT_high_pc, DW_AT_ranges}
 use Rattle.dw_unit.specs.declared.entry.Attr.{Attr}
 use Rattle.dw_unit.specs.CompUnits.{Entry, Unit, units, attr, low_pc, enclosing}
-use Rattle.table_core.specs.declared.range.Range.{Range}
-use Rattle.table_core.specs.ReadSteps.{first_of}
+use Rattle.answer_runs.specs.declared.range.Range.{Range}
+use Rattle.answer_runs.specs.Choices.{first_of}
 use Rattle.dw_lists.specs.Lists.{ranges_kind, list_of}
 use Rattle.cover_lists.specs.Located.{Located, hold}
 use Rattle.dw_lists.specs.Faults.{ListSections}

@@ -3,9 +3,9 @@ use Rattle.std.specs.Prelude.{◌≡◌, ◌+◌, ◌*◌, ◌==◌, ℕ, Bool, 
 use Rattle.std.specs.Prelude.{if◌then◌else◌, Option, Some, None}
 use Rattle.std.specs.Option.{option_map_or}
 use Rattle.addr_map.specs.declared.span.Span.{Span}
-use Rattle.table_core.specs.ReadSteps.{unless_empty}
-use Rattle.table_core.specs.AnswerRuns.{carried}
-use Rattle.table_core.specs.Weights.{IsWeightOf, distinct}
+use Rattle.answer_runs.specs.Choices.{unless_empty}
+use Rattle.answer_runs.specs.AnswerRuns.{carried}
+use Rattle.answer_runs.specs.Weights.{IsWeightOf, distinct}
 use Rattle.dw_unit.specs.declared.entry.Attr.{Attr}
 use Rattle.dw_unit.specs.CompUnits.{Entry, Unit, units}
 use Rattle.dw_lists.specs.Lists.{ranges_kind, locations_kind, list_at}

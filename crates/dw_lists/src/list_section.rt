@@ -2,7 +2,7 @@
 ghost use Rattle.std.specs.Prelude.{◌≡◌, ◌+◌, ◌-◌, length, slice_get, ℕ, List, IfOk, nat_le, map, filter, option_map};
 ghost use Rattle.std.specs.Prelude.{take, drop, not, false};
 ghost use Rattle.std.specs.Option.{option_map_or};
-ghost use Rattle.table_core.specs.ReadSteps.{least};
+ghost use Rattle.answer_runs.specs.Choices.{least};
 ghost use Rattle.std.specs.List.Sorted.{IsNonDecreasingBy};
 ghost use Rattle.table_core.specs.DebugUnits.{walked};
 ghost use Rattle.dw_unit.specs.CompUnits.{Unit, base};

@@ -21,7 +21,7 @@ use Rattle.dw_unit.specs.Walking.{unit_bounds, walked_entry}
 use Rattle.dw_unit.proofs.Entries.{More, attrs_less, behind_attrs, behind_declaration, behind_code}
 use Rattle.dw_unit.proofs.Forms.{uleb_forward}
 use Rattle.dw_unit.proofs.Headers.{IsHeader, header_front}
-use Rattle.table_core.proofs.Ascending.{Ascends}
+use Rattle.answer_runs.proofs.Ascending.{Ascends}
 use Rattle.dw_unit.proofs.NewSections.{sound_units, units_behind}
 use Rattle.dw_unit.proofs.UnitsRead.{IsRead, IsGoodUnit, unit_read}
 

@@ -5,7 +5,7 @@ use Rattle.std.proofs.lemmas.Option.{slice_get_within, get_or_from_slice_get}
 use Rattle.std.proofs.lemmas.Bool.Decides.{nat_tests}
 use Rattle.std.proofs.lemmas.Grind.{common_steps}
 use Rattle.std.proofs.Common.{ℕ, suc, ◌+◌, length, drop, get_or, drop-cons, add-one}
-use Rattle.table_core.specs.ReadSteps.{lower, least}
+use Rattle.answer_runs.specs.Choices.{lower, least}
 use Rattle.dw_unit.specs.Declarations.{Declaration}
 use Rattle.dw_unit.specs.Faults.{places_with}
 use Rattle.dw_unit.specs.Lowest.{lower_if}

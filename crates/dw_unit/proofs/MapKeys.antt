@@ -9,7 +9,7 @@ use Rattle.std.proofs.lemmas.Grind.{get_or_default_zero}
 use Rattle.table_core.specs.DebugUnits.{Walked}
 use Rattle.dw_unit.specs.MapKeys.{HasKey, HasKeys, HasOffset, HasOffsets, KeepsKeys}
 use Rattle.dw_unit.specs.NamedOffsets.{is_named_by, is_of, offset_of}
-use Rattle.table_core.proofs.Ascending.{in_among}
+use Rattle.answer_runs.proofs.Ascending.{in_among}
 use Rattle.dw_unit.proofs.SpelledSteps.{key_more}
 
 module _ {X : Type 0} (old new : BTreeMap ℕ X) (k : ℕ) (v : X)

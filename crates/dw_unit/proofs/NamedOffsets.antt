@@ -10,7 +10,7 @@ use Rattle.std.proofs.lemmas.List.{drop_all}
 use Rattle.rb_bytes.specs.Readers.{and_then}
 use Rattle.rb_bytes.specs.FirstFault.{IsFree}
 use Rattle.rb_bytes.specs.declared.fault.FaultKind.TheVariants as fault
-use Rattle.table_core.proofs.Ascending.{AreBelow, among, range_filter, ascends_from}
+use Rattle.answer_runs.proofs.Ascending.{AreBelow, among, range_filter, ascends_from}
 use Rattle.table_core.specs.ReadSteps.{oks, and_so}
 use Rattle.table_core.specs.DebugUnits.{Walked, walked}
 use Rattle.dw_unit.specs.declared.trouble.Trouble.{Trouble}

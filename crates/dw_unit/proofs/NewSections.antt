@@ -7,7 +7,8 @@ use Rattle.std.specs.Option.{option_or, option_map_or}
 use Rattle.std.proofs.lemmas.Bool.{eq-eqb}
 use Rattle.rb_bytes.specs.FirstFault.{IsFree}
 use Rattle.rb_bytes.proofs.Options.{both_none}
-use Rattle.table_core.specs.ReadSteps.{and_so, least}
+use Rattle.answer_runs.specs.Choices.{least}
+use Rattle.table_core.specs.ReadSteps.{and_so}
 use Rattle.table_core.specs.DebugUnits.{Walked, walked, other_version, first_place}
 use Rattle.dw_unit.specs.declared.trouble.Trouble.{Trouble}
 use Rattle.dw_unit.specs.Trouble.{sound_if}

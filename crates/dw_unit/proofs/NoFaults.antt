@@ -7,7 +7,7 @@ use Rattle.std.specs.List.{find, list_any}
 use Rattle.rb_bytes.specs.FirstFault.{IsFree}
 use Rattle.rb_bytes.specs.declared.fault.FaultKind.TheVariants as fault
 use Rattle.rb_bytes.proofs.Options.{not_found}
-use Rattle.table_core.specs.ReadSteps.{least, lower}
+use Rattle.answer_runs.specs.Choices.{least, lower}
 use Rattle.table_core.specs.DebugUnits.{Walked, first_place}
 use Rattle.dw_unit.specs.Declarations.{Declaration}
 use Rattle.dw_unit.specs.Faults.{HasDwarfFault, FaultPlaces, places_with}

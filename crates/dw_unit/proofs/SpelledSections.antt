@@ -8,7 +8,7 @@ use Rattle.std.proofs.lemmas.Bool.Decides.{nat_tests}
 use Rattle.dw_unit.specs.Declarations.{table_at}
 use Rattle.dw_unit.specs.CompUnits.{Sections, Unit, units}
 use Rattle.dw_unit.specs.Changes.{changed_abbrevs, is_own, new_offset, table_bytes, table_offsets}
-use Rattle.table_core.proofs.Ascending.{Ascends, later_up}
+use Rattle.answer_runs.proofs.Ascending.{Ascends, later_up}
 use Rattle.dw_unit.proofs.Spelled.{bytes_of_table}
 
 kept_rising : (p : ℕ → Bool) (n a : ℕ) → Ascends a (filter p (range_with_len a n))

@@ -23,7 +23,7 @@ use Rattle.dw_unit.specs.CompUnits.{Entry, Unit, own_entry, unit_of}
 use Rattle.dw_unit.specs.EntryChanges.{own_places}
 use Rattle.dw_unit.specs.OwnPlaces.{names_own}
 use Rattle.dw_unit.specs.Told.{told_declaration}
-use Rattle.table_core.proofs.Ascending.{ascends_from}
+use Rattle.answer_runs.proofs.Ascending.{ascends_from}
 use Rattle.dw_unit.proofs.SpelledSections.{below_it}
 
 pub spec_written : (out name form x : List ℕ) (b : Bool) → b ≡ false →

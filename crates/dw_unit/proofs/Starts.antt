@@ -8,7 +8,7 @@ use Rattle.std.proofs.lemmas.Grind.{common_steps}
 use Rattle.std.proofs.lemmas.Option.{same_Some}
 use Rattle.rb_bytes.proofs.ListLemmas.{slice_get_found}
 use Rattle.rb_bytes.proofs.Tests.{at_key}
-use Rattle.table_core.specs.ReadSteps.{least}
+use Rattle.answer_runs.specs.Choices.{least}
 use Rattle.dw_unit.specs.declared.start.Start.{Start}
 use Rattle.dw_unit.specs.declared.indexed_table.IndexedTable.{IndexedTable}
 use Rattle.dw_unit.specs.Declarations.{Declaration, Table, table_at, has_bad_form, has_bad_high}

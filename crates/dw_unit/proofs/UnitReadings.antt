@@ -9,7 +9,8 @@ use Rattle.std.proofs.lemmas.List.{append-nil, map-append}
 use Rattle.std.proofs.lemmas.List.Concat.{flat_map-append}
 use Rattle.std.proofs.lemmas.List.Elements.{filter-append}
 use Rattle.std.proofs.lemmas.List.Folds.{find-append}
-use Rattle.table_core.specs.ReadSteps.{lower, least, oks}
+use Rattle.answer_runs.specs.Choices.{lower, least}
+use Rattle.table_core.specs.ReadSteps.{oks}
 use Rattle.table_core.specs.DebugUnits.{Walked, walked, first_place}
 use Rattle.dw_unit.specs.declared.trouble.Trouble.{Trouble}
 use Rattle.dw_unit.specs.declared.unit_reading.UnitReading.{UnitReading}

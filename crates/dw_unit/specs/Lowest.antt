@@ -1,6 +1,6 @@
 -- The lower of a place, if it counts, and another.
 use Rattle.std.specs.Prelude.{ℕ, Bool, if◌then◌else◌, Option, Some}
-use Rattle.table_core.specs.ReadSteps.{lower}
+use Rattle.answer_runs.specs.Choices.{lower}
 
 abbrev pub lower_if : Bool → ℕ → Option ℕ → Option ℕ
 lower_if b n y = if b then lower (Some n) y else y

@@ -2,7 +2,7 @@
 use Rattle.std.specs.Prelude.{◌≡◌, ◌<◌, ◌⊎◌, ℕ, List, Some, length, drop, slice_get}
 use Rattle.std.specs.Ordering.{nat_cmp}
 use Rattle.std.specs.BTreeMap.{BTreeMap, get}
-use Rattle.table_core.specs.ReadSteps.{least}
+use Rattle.answer_runs.specs.Choices.{least}
 use Rattle.dw_unit.specs.declared.start.Start.{Start}
 use Rattle.dw_unit.specs.declared.indexed_table.IndexedTable.{IndexedTable}
 use Rattle.dw_unit.specs.Declarations.{Declaration, Table, table_at, has_bad_form, has_bad_high}

@@ -7,8 +7,8 @@ use Rattle.elf_image.specs.declared.elf.Elf.{Elf}
 use Rattle.elf_code.specs.Parts.{IsInstAt}
 use Rattle.rb_bytes.specs.FirstFault.{IsFree}
 use Rattle.addr_map.specs.declared.span.Span.{Span}
+use Rattle.answer_runs.specs.Choices.{unless_any}
 use Rattle.table_core.specs.declared.written.ListAt.{ListAt}
-use Rattle.table_core.specs.ReadSteps.{unless_any}
 use Rattle.table_core.specs.Sections.{bytes_of}
 use Rattle.dw_unit.specs.Faults.{FaultPlaces, HasDwarfFault, unit_fault_places}
 use Rattle.dw_unit.specs.EntryMoves.{Moves, new_list_offset}

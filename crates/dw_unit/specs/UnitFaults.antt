@@ -1,7 +1,7 @@
 -- The faults of some units.
 use Rattle.std.specs.Prelude.{◌≡◌, ℕ, List, flat_map}
+use Rattle.answer_runs.specs.Choices.{least}
 use Rattle.table_core.specs.DebugUnits.{Walked, first_place}
-use Rattle.table_core.specs.ReadSteps.{least}
 use Rattle.dw_unit.specs.CompUnits.{unit_of}
 use Rattle.dw_unit.specs.Declarations.{has_bad_form, has_bad_high}
 use Rattle.dw_unit.specs.Faults.{declarations_of, places_with, unformed, fails, is_sound_unit}

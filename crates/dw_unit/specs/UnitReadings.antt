@@ -1,6 +1,7 @@
 -- What is read of a unit, and of several.
 use Rattle.std.specs.Prelude.{◌≡◌, ℕ, true, false, List, map, flat_map, MatchOption, None, Result, Ok}
-use Rattle.table_core.specs.ReadSteps.{least, oks}
+use Rattle.answer_runs.specs.Choices.{least}
+use Rattle.table_core.specs.ReadSteps.{oks}
 use Rattle.table_core.specs.DebugUnits.{Walked, first_place}
 use Rattle.dw_unit.specs.declared.unit_reading.UnitReading.{UnitReading}
 use Rattle.dw_unit.specs.declared.unit_reading.Readings.{Readings}

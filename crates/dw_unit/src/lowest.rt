@@ -1,6 +1,6 @@
 // The lowest of some places.
 ghost use Rattle.std.specs.Prelude.{◌≡◌};
-ghost use Rattle.table_core.specs.ReadSteps.{lower};
+ghost use Rattle.answer_runs.specs.Choices.{lower};
 ghost use Rattle.dw_unit.specs.Lowest.{lower_if};
 
 /// The lower of two places that may be there.

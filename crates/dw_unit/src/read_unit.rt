@@ -1,7 +1,7 @@
 // Units and their faults.
 ghost use Rattle.std.specs.Prelude.{◌≡◌, ◌≤◌, ◌<◌, ◌^◌, ◌++◌, ◌∷◌, [], ℕ, List, None, All, IfOk, Err, length};
+ghost use Rattle.answer_runs.specs.Choices.{least};
 ghost use Rattle.table_core.specs.DebugUnits.{Walked};
-ghost use Rattle.table_core.specs.ReadSteps.{least};
 ghost use Rattle.dw_unit.specs.Faults.{unformed};
 ghost use Rattle.dw_unit.specs.UnitReadings.{AreReadings, IsBehind, IsReading};
 ghost use Rattle.dw_unit.specs.CompUnits.{end_of, size_of, unit_by};

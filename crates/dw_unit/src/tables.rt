@@ -1,6 +1,6 @@
 // The tables of abbreviations that units name, each declaration read once.
 ghost use Rattle.std.specs.Prelude.{◌≡◌, ◌<◌, IfOk, OnOk, length};
-ghost use Rattle.table_core.specs.ReadSteps.{least};
+ghost use Rattle.answer_runs.specs.Choices.{least};
 ghost use Rattle.dw_unit.specs.Declarations.{table_at, has_bad_form, has_bad_high};
 ghost use Rattle.dw_unit.specs.Faults.{places_with};
 ghost use Rattle.dw_unit.specs.MapKeys.{HasKey, HasKeys, KeepsKeys};

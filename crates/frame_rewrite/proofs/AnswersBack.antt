@@ -12,9 +12,9 @@ use Rattle.std.proofs.lemmas.Bool.{ltb-true, ltb-false}
 use Rattle.rb_bytes.proofs.Tests.{bool_is}
 use Rattle.addr_map.specs.declared.span.Span.{Span}
 use Rattle.addr_map.specs.Spans.{new}
-use Rattle.table_core.specs.declared.run.Run.{Run}
-use Rattle.table_core.specs.AnswerRuns.{IsWithin, run_at}
-use Rattle.table_core.specs.CarriedAnswers.{Agree}
+use Rattle.answer_runs.specs.declared.run.Run.{Run}
+use Rattle.answer_runs.specs.AnswerRuns.{IsWithin, run_at}
+use Rattle.answer_runs.specs.CarriedAnswers.{Agree}
 use Rattle.cfi_rows.specs.FrameRows.{RowValue, row_at}
 use Rattle.cfi_rows.specs.Entries.{Fde, is_in_range}
 use Rattle.frame_rewrite.specs.FrameAnswers.{FrameAnswer, answer_of, answer_at}

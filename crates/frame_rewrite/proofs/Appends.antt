@@ -5,7 +5,7 @@ use Rattle.std.proofs.lemmas.Grind.{common_steps}
 use Rattle.std.proofs.lemmas.List.{append-nil, drop_more}
 use Rattle.std.specs.Prelude.{All}
 use Rattle.std.specs.List.{position_or_len}
-use Rattle.table_core.specs.declared.run.Run.{Run}
+use Rattle.answer_runs.specs.declared.run.Run.{Run}
 use Rattle.cfi_rows.specs.Entries.{RawEntry}
 use Rattle.frame_rewrite.specs.FrameAnswers.{FrameAnswer}
 use Rattle.frame_rewrite.specs.SpelledFrames.{zeros, padding, spelled_entry, spelled_row_before, spelled_rows}

@@ -9,7 +9,7 @@ use Rattle.rb_bytes.specs.Leb.{uleb, sleb}
 use Rattle.rb_bytes.proofs.UnsignedLeb.{length-uleb-le, uleb-last}
 use Rattle.rb_bytes.proofs.SignedLeb.{length-sleb-le}
 use Rattle.addr_map.specs.declared.span.Span.{Span}
-use Rattle.table_core.specs.declared.run.Run.{Run}
+use Rattle.answer_runs.specs.declared.run.Run.{Run}
 use Rattle.cfi_rows.specs.declared.row.Cfa.{Cfa}
 use Rattle.cfi_rows.specs.declared.row.Cfa.TheVariants.{Reg, Expr}
 use Rattle.cfi_rows.specs.declared.row.Rule.{Rule}

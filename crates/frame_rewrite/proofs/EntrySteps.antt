@@ -6,8 +6,8 @@ use Rattle.std.proofs.lemmas.Grind.{flat_map-append}
 use Rattle.std.proofs.lemmas.List.{append-nil, drop_more}
 use Rattle.std.proofs.lemmas.List.Elements.{All-cons, All-head, All-tail, All-take, All-drop}
 use Rattle.addr_map.specs.declared.span.Span.{Span}
-use Rattle.table_core.specs.declared.run.Run.{Run}
-use Rattle.table_core.specs.AnswerRuns.{IsWithin}
+use Rattle.answer_runs.specs.declared.run.Run.{Run}
+use Rattle.answer_runs.specs.AnswerRuns.{IsWithin}
 use Rattle.cfi_rows.specs.declared.row.Rule.{Rule}
 use Rattle.cfi_rows.specs.Entries.{RawEntry}
 use Rattle.cfi_rows.specs.FrameRows.{Rules}

@@ -5,8 +5,8 @@ use Rattle.std.specs.Prelude.{All}
 use Rattle.std.proofs.lemmas.Bool.Decides.{nat_tests}
 use Rattle.byteorder.specs.Endian.{little_bytes}
 use Rattle.rb_bytes.specs.Readers.{bytes_at, and_then}
+use Rattle.answer_runs.specs.declared.run.Run.{Run}
 use Rattle.table_core.specs.ReadSteps.{and_so}
-use Rattle.table_core.specs.declared.run.Run.{Run}
 use Rattle.addr_map.specs.declared.span.Span.{Span}
 use Rattle.cfi_rows.specs.declared.instruction.Instruction.{Instruction}
 use Rattle.cfi_rows.specs.FrameRows.{PlacedRow, begins, rows}

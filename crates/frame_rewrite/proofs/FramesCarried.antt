@@ -4,8 +4,8 @@ use Rattle.std.specs.Prelude.{IsSome, option_and_then}
 use Rattle.elf_image.specs.declared.elf.Elf.{Elf}
 use Rattle.addr_map.specs.declared.span.Span.{Span}
 use Rattle.addr_map.specs.Spans.{owner}
-use Rattle.table_core.specs.AnswerRuns.{carried}
-use Rattle.table_core.specs.CarriedAnswers.{Agree, IsCarried, IsCarriedFrom}
+use Rattle.answer_runs.specs.AnswerRuns.{carried}
+use Rattle.answer_runs.specs.CarriedAnswers.{Agree, IsCarried, IsCarriedFrom}
 use Rattle.cfi_rows.specs.Entries.{Fde, Frames}
 use Rattle.cfi_rows.specs.Frames.{debug_frames, eh_frames, frames_of}
 use Rattle.cfi_rows.specs.ReadFrames.{read_as, section_held}

@@ -10,8 +10,8 @@ use Rattle.std.proofs.lemmas.List.Elements.{All-head, All-tail}
 use Rattle.byteorder.specs.Endian.{little_bytes}
 use Rattle.rb_bytes.specs.Readers.{and_then}
 use Rattle.rb_bytes.specs.Leb.{uleb, sleb}
+use Rattle.answer_runs.specs.declared.run.Run.{Run}
 use Rattle.table_core.specs.ReadSteps.{with_head}
-use Rattle.table_core.specs.declared.run.Run.{Run}
 use Rattle.cfi_rows.specs.declared.row.Cfa.{Cfa}
 use Rattle.cfi_rows.specs.declared.row.Cfa.TheVariants.{Reg, Expr}
 use Rattle.cfi_rows.specs.declared.row.Rule.{Rule}

@@ -3,9 +3,9 @@ use Rattle.std.proofs.Common.{ℕ, ◌-◌, ◌*◌, ◌^◌, ◌≤◌, ◌≡�
 use Rattle.std.specs.Prelude.{All}
 use Rattle.rb_bytes.specs.FirstFault.{IsFree}
 use Rattle.addr_map.specs.declared.span.Span.{Span}
-use Rattle.table_core.specs.declared.run.Run.{Run}
-use Rattle.table_core.specs.AnswerRuns.{IsWithin, run_at}
-use Rattle.table_core.specs.CarriedAnswers.{Agree, IsCarried}
+use Rattle.answer_runs.specs.declared.run.Run.{Run}
+use Rattle.answer_runs.specs.AnswerRuns.{IsWithin, run_at}
+use Rattle.answer_runs.specs.CarriedAnswers.{Agree, IsCarried}
 use Rattle.cfi_rows.specs.Entries.{Fde, Frames, frames}
 use Rattle.frame_rewrite.specs.CarriedFrames.{IsCarriedFrame}
 use Rattle.frame_rewrite.specs.Faults.{IsFrameFault}

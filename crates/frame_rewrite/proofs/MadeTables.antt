@@ -6,8 +6,8 @@ use Rattle.std.proofs.lemmas.Grind.{common_steps, flat_map-append}
 use Rattle.std.proofs.lemmas.List.Elements.{All-nil, All-cons, All-head, All-tail, All-drop}
 use Rattle.addr_map.specs.declared.span.Span.{Span}
 use Rattle.addr_map.specs.Spans.{owner, is_new_code}
-use Rattle.table_core.specs.declared.run.Run.{Run}
-use Rattle.table_core.specs.AnswerRuns.{IsWithin, run_at, carried}
+use Rattle.answer_runs.specs.declared.run.Run.{Run}
+use Rattle.answer_runs.specs.AnswerRuns.{IsWithin, run_at, carried}
 use Rattle.cfi_rows.specs.Entries.{Fde, Frames, WalkedEntries, frames}
 use Rattle.frame_rewrite.specs.declared.cie_key.CieKey.{CieKey}
 use Rattle.frame_rewrite.specs.FrameAnswers.{FrameAnswer}

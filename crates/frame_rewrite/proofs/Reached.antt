@@ -10,8 +10,8 @@ use Rattle.rb_bytes.proofs.Members.{Contains-nil, Contains-cons_cases}
 use Rattle.rb_bytes.proofs.Searches.{find-found, find-finds}
 use Rattle.addr_map.specs.declared.span.Span.{Span}
 use Rattle.addr_map.specs.Spans.{new, owner, has_byte}
-use Rattle.table_core.specs.declared.run.Run.{Run}
-use Rattle.table_core.specs.AnswerRuns.{IsWithin, run_at, carried}
+use Rattle.answer_runs.specs.declared.run.Run.{Run}
+use Rattle.answer_runs.specs.AnswerRuns.{IsWithin, run_at, carried}
 use Rattle.cfi_rows.specs.FrameRows.{row_at}
 use Rattle.cfi_rows.specs.Entries.{Fde, is_in_range}
 use Rattle.frame_rewrite.specs.FrameAnswers.{FrameAnswer, answer_of, answer_at}

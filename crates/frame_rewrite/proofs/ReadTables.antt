@@ -6,7 +6,7 @@ use Rattle.rb_bytes.specs.FirstFault.{IsFree}
 use Rattle.elf_image.specs.declared.elf.Elf.{Elf}
 use Rattle.elf_image.specs.file.Cuts.{IsCutAddress}
 use Rattle.elf_image.proofs.CutLists.{IsCutAddress-from_lists, lists-from_IsCutAddress}
-use Rattle.table_core.specs.ReadSteps.{unless_any}
+use Rattle.answer_runs.specs.Choices.{unless_any}
 use Rattle.table_core.specs.Sections.{Held}
 use Rattle.cfi_rows.specs.declared.frame_table.Frames.{Frames as Kept}
 use Rattle.cfi_rows.specs.Entries.{Fde, Frames}

@@ -7,9 +7,9 @@ use Rattle.std.proofs.lemmas.Bool.Decides.{nat_tests}
 use Rattle.std.proofs.lemmas.List.Elements.{All-head, All-tail, All-drop}
 use Rattle.std.proofs.lemmas.Option.{same_Some, slice_get_within}
 use Rattle.addr_map.specs.declared.span.Span.{Span}
+use Rattle.answer_runs.specs.declared.run.Run.{Run}
+use Rattle.answer_runs.specs.AnswerRuns.{IsWithin}
 use Rattle.table_core.specs.ReadSteps.{and_so}
-use Rattle.table_core.specs.declared.run.Run.{Run}
-use Rattle.table_core.specs.AnswerRuns.{IsWithin}
 use Rattle.cfi_rows.specs.declared.instruction.Malformed.{Malformed}
 use Rattle.cfi_rows.specs.Entries.{RawEntry, Cie, Fde, is_cie, cie_id, cie_place, is_named, cie_in, cie_at, fde_at, end_of, sound_if}
 use Rattle.cfi_rows.specs.Entries.{frames_from, frames, WalkedEntries}

@@ -5,11 +5,11 @@ use Rattle.std.proofs.lemmas.Bool.Decides.{nat_tests}
 use Rattle.std.proofs.lemmas.Option.{none-some, same_Some, slice_get-map, slice_get-get_or}
 use Rattle.std.specs.Prelude.{nat_lt, IfOk, Result, Ok, Err, slice_get, option_and_then, position}
 use Rattle.std.specs.List.{find}
-use Rattle.table_core.specs.declared.range.Range.{Range}
-use Rattle.table_core.specs.AddressRanges.{holds_address}
-use Rattle.table_core.specs.FirstRanges.{first_range}
-use Rattle.table_core.specs.declared.first_range.FirstRange.{FirstRange}
-use Rattle.table_core.proofs.FoundFirst.{found_first}
+use Rattle.answer_runs.specs.declared.range.Range.{Range}
+use Rattle.answer_runs.specs.AddressRanges.{holds_address}
+use Rattle.answer_runs.specs.FirstRanges.{first_range}
+use Rattle.answer_runs.specs.declared.first_range.FirstRange.{FirstRange}
+use Rattle.answer_runs.proofs.FoundFirst.{found_first}
 use Rattle.cfi_rows.specs.declared.frame_table.Fde.{Fde as ReadFde}
 use Rattle.cfi_rows.specs.FrameRows.{RowValue, row_at}
 use Rattle.cfi_rows.specs.Entries.{Fde, is_in_range, range_of}

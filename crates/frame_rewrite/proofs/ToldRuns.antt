@@ -6,8 +6,8 @@ use Rattle.std.proofs.lemmas.List.Elements.{All-contains}
 use Rattle.rb_bytes.proofs.ListLemmas.{all_of, in_map}
 use Rattle.addr_map.specs.declared.span.Span.{Span}
 use Rattle.addr_map.specs.Spans.{new}
-use Rattle.table_core.specs.declared.run.Run.{Run}
-use Rattle.table_core.specs.AnswerRuns.{IsWithin, run_at, carried}
+use Rattle.answer_runs.specs.declared.run.Run.{Run}
+use Rattle.answer_runs.specs.AnswerRuns.{IsWithin, run_at, carried}
 use Rattle.table_core.specs.Sections.{Held}
 use Rattle.cfi_rows.specs.Entries.{Cie, Fde, walked_entries}
 use Rattle.cfi_rows.specs.Frames.{frames_of}

@@ -7,9 +7,9 @@ use Rattle.rb_bytes.specs.FirstFault.{IsFree}
 use Rattle.elf_image.specs.declared.section.Section.{Section}
 use Rattle.addr_map.specs.declared.span.Span.{Span}
 use Rattle.addr_map.specs.Spans.{owner, is_new_code}
-use Rattle.table_core.specs.declared.run.Run.{Run}
-use Rattle.table_core.specs.AnswerRuns.{IsWithin, run_at, carried}
-use Rattle.table_core.specs.CarriedAnswers.{Agree, IsCarried}
+use Rattle.answer_runs.specs.declared.run.Run.{Run}
+use Rattle.answer_runs.specs.AnswerRuns.{IsWithin, run_at, carried}
+use Rattle.answer_runs.specs.CarriedAnswers.{Agree, IsCarried}
 use Rattle.table_core.specs.Sections.{Held, held_by}
 use Rattle.table_core.specs.declared.written.Written.{Written}
 use Rattle.cfi_rows.specs.Entries.{Fde, Frames, frames, walk}

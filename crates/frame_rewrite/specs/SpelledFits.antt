@@ -3,8 +3,8 @@ use Rattle.std.specs.Prelude.{◌≡◌, ℕ, ◌+◌, ◌*◌, ◌++◌, ◌^�
 use Rattle.std.specs.Prelude.{FitsSigned, Some, slice_get, IsSome}
 use Rattle.std.specs.Int.{w64}
 use Rattle.addr_map.specs.declared.span.Span.{Span}
-use Rattle.table_core.specs.declared.run.Run.{Run}
-use Rattle.table_core.specs.AnswerRuns.{run_at}
+use Rattle.answer_runs.specs.declared.run.Run.{Run}
+use Rattle.answer_runs.specs.AnswerRuns.{run_at}
 use Rattle.cfi_rows.specs.declared.row.Cfa.{Cfa}
 use Rattle.cfi_rows.specs.declared.row.Cfa.TheVariants.{Reg, Expr}
 use Rattle.cfi_rows.specs.declared.row.Rule.{Rule}

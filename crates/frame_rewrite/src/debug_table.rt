@@ -12,11 +12,12 @@ use crate::lookup::{alike, index_of, tell};
 use crate::same::same_answer;
 use crate::write_runs::write_debug;
 use addr_map::AddrMap;
+use answer_runs::Run;
 use cfi_rows::frames;
 use elf_image::Elf;
 use rb_bytes::fault::{Fault, FaultKind, NoMemory, Refusal};
 use std::alloc::Global;
-use table_core::{AddrTable, ByAddress, Run, Written};
+use table_core::{AddrTable, ByAddress, Written};
 
 impl ByAddress for DebugFrames {
     type Answer = FrameAt;

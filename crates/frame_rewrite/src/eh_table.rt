@@ -13,11 +13,12 @@ use crate::marks::is_marked;
 use crate::same::same_answer;
 use crate::write_runs::write_eh;
 use addr_map::AddrMap;
+use answer_runs::Run;
 use cfi_rows::frames;
 use elf_image::{Elf, cuts};
 use rb_bytes::fault::{Fault, FaultKind, NoMemory, Refusal};
 use std::alloc::Global;
-use table_core::{AddrTable, ByAddress, Run, Written};
+use table_core::{AddrTable, ByAddress, Written};
 
 impl ByAddress for EhFrames {
     type Answer = FrameAt;

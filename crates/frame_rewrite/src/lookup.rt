@@ -1,18 +1,18 @@
 // The entry of a frame table that holds an address, and what it says there.
 ghost use Rattle.std.specs.Prelude.{◌≡◌, ℕ, List, IfOk, IsTrue, map, option_map, position};
-ghost use Rattle.table_core.specs.AddressRanges.{holds_address};
-ghost use Rattle.table_core.specs.FirstRanges.{first_range};
+ghost use Rattle.answer_runs.specs.AddressRanges.{holds_address};
+ghost use Rattle.answer_runs.specs.FirstRanges.{first_range};
 ghost use Rattle.cfi_rows.specs.Entries.{Fde as Entry, range_of};
 ghost use Rattle.cfi_rows.specs.ReadEntries.{fde_of};
 ghost use Rattle.cfi_rows.specs.ReadFrames.{read_as};
 ghost use Rattle.frame_rewrite.specs.FrameLookups.{told_at, answer_by};
 
 use crate::answer::FrameAt;
+use answer_runs::{FirstRange, Range};
 use cfi_rows::Row;
 use cfi_rows::frame_table::{Fde, Frames};
 use rb_bytes::fault::NoMemory;
 use std::alloc::Global;
-use table_core::{FirstRange, Range};
 
 /// The first entry that holds an address, and its row there.
 #[derive(Drop)]

@@ -2,7 +2,7 @@
 ghost use Rattle.std.specs.Prelude.{◌≡◌, ◌<◌, ◌≤◌, ◌+◌, ◌-◌, ◌*◌, ◌^◌, ◌++◌, ◌∷◌, Some, OnOk, IfOk, All};
 ghost use Rattle.std.specs.Prelude.{length, slice_get};
 ghost use Rattle.std.specs.List.{position_or_len};
-ghost use Rattle.table_core.specs.AnswerRuns.{IsWithin};
+ghost use Rattle.answer_runs.specs.AnswerRuns.{IsWithin};
 ghost use Rattle.frame_rewrite.specs.SpelledFrames as spec;
 ghost use Rattle.frame_rewrite.specs.SpelledFits.{RowFits, RunAscends, Writes, WritesAll, EndFits};
 
@@ -11,10 +11,10 @@ use crate::cie_key::{CieKey, key_of};
 use crate::put_cie::put_entry;
 use crate::spelling::{put_byte, put_row, put_row_before, put_zeros};
 use addr_map::AddrMap;
+use answer_runs::Run;
 use indexmap::IndexSet;
 use rb_bytes::fault::NoMemory;
 use rb_bytes::little::put_u64;
-use table_core::Run;
 
 /// The size of a CIE.
 pub(crate) const CIE_SIZE: usize = 32;

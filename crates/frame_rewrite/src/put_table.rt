@@ -1,6 +1,6 @@
 // Whole frame tables. LSB, "The .eh_frame section"; DWARF 5, section 6.4.1.
 ghost use Rattle.std.specs.Prelude.{◌≡◌, ◌<◌, ◌≤◌, ◌-◌, ◌^◌, ◌++◌, List, IfOk, OnOk, All, Contains, length};
-ghost use Rattle.table_core.specs.AnswerRuns.{IsWithin};
+ghost use Rattle.answer_runs.specs.AnswerRuns.{IsWithin};
 ghost use Rattle.frame_rewrite.specs.SpelledFrames as spec;
 ghost use Rattle.frame_rewrite.specs.SpelledFits.{KeyFits, RunAscends, RunReturns, IsSpelled};
 
@@ -10,10 +10,10 @@ use crate::put_cie::put_cies;
 use crate::put_fde::put_fdes;
 use crate::spelling::put_zeros;
 use addr_map::AddrMap;
+use answer_runs::Run;
 use indexmap::IndexSet;
 use rb_bytes::fault::NoMemory;
 use std::alloc::Global;
-use table_core::Run;
 
 /// The kinds of frames that runs need, each once.
 pub(crate) fn keys_of(

@@ -2,8 +2,8 @@
 ghost use Rattle.std.specs.Prelude.{◌≡◌, ◌<◌, ◌-◌, ◌^◌, ℕ, All, IfOk};
 ghost use Rattle.elf_image.specs.declared.elf.Elf.{Elf};
 ghost use Rattle.rb_bytes.specs.FirstFault.{IsFree};
-ghost use Rattle.table_core.specs.AnswerRuns.{IsWithin, run_at, carried};
-ghost use Rattle.table_core.specs.CarriedAnswers.{IsCarried};
+ghost use Rattle.answer_runs.specs.AnswerRuns.{IsWithin, run_at, carried};
+ghost use Rattle.answer_runs.specs.CarriedAnswers.{IsCarried};
 ghost use Rattle.cfi_rows.specs.Frames.{eh_frames, debug_frames};
 ghost use Rattle.frame_rewrite.specs.CarriedFrames.{IsCarriedFrame};
 ghost use Rattle.frame_rewrite.specs.Faults.{IsFrameFault};
@@ -14,9 +14,10 @@ use crate::debug::DebugFrames;
 use crate::eh::EhFrames;
 use crate::put_table::{keys_of, written};
 use addr_map::AddrMap;
+use answer_runs::Run;
 use rb_bytes::fault::NoMemory;
 use std::alloc::Global;
-use table_core::{Run, Written};
+use table_core::Written;
 
 // What a slice of bytes holds are bytes.
 fn are_bytes(bytes: &[u8])

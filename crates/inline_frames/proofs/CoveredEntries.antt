@@ -6,9 +6,9 @@ use Rattle.std.proofs.lemmas.Bool.Decides.{nat_tests}
 use Rattle.std.proofs.lemmas.List.{map-append}
 use Rattle.std.proofs.lemmas.Bool.{and_right}
 use Rattle.rb_bytes.specs.FirstFault.{IsFree}
-use Rattle.table_core.specs.declared.range.Range.{Range}
+use Rattle.answer_runs.specs.declared.range.Range.{Range}
 use Rattle.dw_unit.proofs.EntryPlaces.{places_ascend}
-use Rattle.table_core.proofs.Ascending.{Ascends}
+use Rattle.answer_runs.proofs.Ascending.{Ascends}
 use Rattle.dw_unit.specs.CompUnits.{Entry, Unit, units}
 use Rattle.dw_unit.specs.Faults.{HasDwarfFault, unit_fault_places}
 use Rattle.range_loc_rewrite.specs.Faults.{ListSections}

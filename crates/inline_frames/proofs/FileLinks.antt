@@ -7,7 +7,7 @@ use Rattle.std.specs.Option.{option_or}
 use Rattle.std.specs.Ordering.{nat_cmp}
 use Rattle.std.proofs.lemmas.List.Folds.{find-append}
 use Rattle.rb_bytes.specs.FirstFault.{IsFree}
-use Rattle.table_core.specs.ReadSteps.{first_of}
+use Rattle.answer_runs.specs.Choices.{first_of}
 use Rattle.table_core.specs.declared.form.TheConstants.{DW_FORM_sec_offset}
 use Rattle.table_core.specs.declared.written.TheConstants.{DW_AT_stmt_list}
 use Rattle.dw_unit.specs.declared.attribute.TheConstants.{DW_AT_str_offsets_base}

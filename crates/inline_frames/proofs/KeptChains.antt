@@ -4,7 +4,7 @@ use Rattle.std.specs.Prelude.{◌≡◌, ◌==◌, ◌&&◌, ℕ, false, true, n
 use Rattle.std.specs.List.{AllZip, list_any}
 use Rattle.std.proofs.lemmas.Bool.{or_parts}
 use Rattle.elf_image.specs.declared.elf.Elf.{Elf}
-use Rattle.table_core.specs.CarriedAnswers.{Agree}
+use Rattle.answer_runs.specs.CarriedAnswers.{Agree}
 use Rattle.table_core.specs.declared.form.TheConstants.{DW_FORM_addr, DW_FORM_string, DW_FORM_sec_offset}
 use Rattle.table_core.specs.declared.written.TheConstants.{DW_AT_stmt_list}
 use Rattle.dw_unit.specs.declared.entry.Attr.{Attr}

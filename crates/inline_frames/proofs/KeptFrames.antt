@@ -3,7 +3,7 @@ use Rattle.std.proofs.Common.{◌≡◌, ◌∙◌, ℕ, Bool, true, false, List
 use Rattle.std.specs.Prelude.{◌==◌, ◌||◌, if◌then◌else◌, option_and_then, option_map, unwrap_or, slice_get}
 use Rattle.std.specs.List.{AllZip}
 use Rattle.elf_image.specs.declared.elf.Elf.{Elf}
-use Rattle.table_core.specs.CarriedAnswers.{Agree}
+use Rattle.answer_runs.specs.CarriedAnswers.{Agree}
 use Rattle.table_core.specs.AttributeForms.{is_address_index}
 use Rattle.table_core.specs.declared.form.TheConstants.{DW_FORM_addr, DW_FORM_sec_offset}
 use Rattle.dw_unit.specs.declared.entry.Attr.{Attr}

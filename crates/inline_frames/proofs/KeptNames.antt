@@ -5,7 +5,7 @@ use Rattle.std.specs.List.{AllZip, find}
 use Rattle.std.specs.Option.{option_or}
 use Rattle.std.proofs.lemmas.Bool.{eqb-true}
 use Rattle.elf_image.specs.declared.elf.Elf.{Elf}
-use Rattle.table_core.specs.CarriedAnswers.{Agree}
+use Rattle.answer_runs.specs.CarriedAnswers.{Agree}
 use Rattle.table_core.specs.AttributeForms.{is_text_index}
 use Rattle.table_core.specs.Texts.{text_in}
 use Rattle.table_core.specs.declared.form.TheConstants.{DW_FORM_addr, DW_FORM_string, DW_FORM_strp, DW_FORM_line_strp}

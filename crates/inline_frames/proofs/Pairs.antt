@@ -2,8 +2,8 @@
 use Rattle.std.proofs.Common.{◌≡◌, Bool, true, false, List, [], ◌∷◌, ◌++◌, Option, Some, None, refl}
 use Rattle.std.specs.Prelude.{option_and_then, flat_map, if◌then◌else◌}
 use Rattle.std.specs.List.{AllZip, find}
-use Rattle.table_core.specs.CarriedAnswers.{Agree}
-use Rattle.table_core.specs.ReadSteps.{first_of}
+use Rattle.answer_runs.specs.CarriedAnswers.{Agree}
+use Rattle.answer_runs.specs.Choices.{first_of}
 
 -- each of a list
 abbrev pub AllOf : {A : Type 0} → (A → Type 0) → List A → Type 0

@@ -1,9 +1,9 @@
 -- What is kept of the entries of functions.
 use Rattle.std.specs.Prelude.{◌==◌, ◌||◌, ℕ, List, if◌then◌else◌, Option, Some, None, option_and_then, option_map}
+use Rattle.answer_runs.specs.Choices.{first_of}
 use Rattle.table_core.specs.declared.form.TheConstants.{DW_FORM_addr, DW_FORM_sec_offset}
 use Rattle.table_core.specs.declared.written.TheConstants.{DW_AT_stmt_list}
 use Rattle.table_core.specs.AttributeForms.{is_address_index}
-use Rattle.table_core.specs.ReadSteps.{first_of}
 use Rattle.dw_unit.specs.declared.attribute.TheConstants.{DW_AT_call_file, DW_AT_call_line, DW_AT_call_column}
 use Rattle.dw_unit.specs.declared.attribute.TheConstants.{DW_AT_str_offsets_base}
 use Rattle.dw_unit.specs.declared.entry.Attr.{Attr}

@@ -5,7 +5,7 @@ use Rattle.std.specs.List.{filter_map, cons_option}
 use Rattle.std.specs.Option.{option_to_list}
 use Rattle.std.proofs.lemmas.List.{append-nil, map-append, take_more, drop_more}
 use Rattle.std.proofs.lemmas.Grind.{common_steps}
-use Rattle.table_core.specs.declared.range.Range.{Range}
+use Rattle.answer_runs.specs.declared.range.Range.{Range}
 use Rattle.table_core.specs.DebugUnits.{Walked}
 use Rattle.line_rewrite.specs.declared.kept.KeptSequence.{KeptSequence}
 use Rattle.line_rewrite.specs.declared.unit.Unit as kept

@@ -6,7 +6,7 @@ use Rattle.std.proofs.lemmas.List.{take_more, map-append}
 use Rattle.std.proofs.lemmas.List.Elements.{All-nil, All-push}
 use Rattle.std.proofs.lemmas.List.Sums.{sum_by_push, sum_by_more}
 use Rattle.std.proofs.lemmas.Grind.{common_steps}
-use Rattle.table_core.specs.ReadSteps.{unless_any}
+use Rattle.answer_runs.specs.Choices.{unless_any}
 use Rattle.rb_bytes.specs.declared.fault.Fault.{Fault}
 use Rattle.rb_bytes.specs.declared.fault.FaultKind.{FaultKind}
 use Rattle.rb_bytes.specs.declared.fault.FaultKind.TheVariants.{DwarfVersion, LineFault}

@@ -6,11 +6,11 @@ use Rattle.std.proofs.lemmas.Option.{slice_get-map, slice_get_read, slice_get_pa
 use Rattle.std.proofs.lemmas.Bool.Decides.{nat_tests}
 use Rattle.std.proofs.lemmas.List.Elements.{All-head, All-tail}
 use Rattle.std.proofs.lemmas.Bool.{and_parts}
-use Rattle.table_core.specs.declared.first_range.FirstRange.{FirstRange}
-use Rattle.table_core.specs.AddressRanges.{holds_address}
+use Rattle.answer_runs.specs.declared.first_range.FirstRange.{FirstRange}
+use Rattle.answer_runs.specs.AddressRanges.{holds_address}
+use Rattle.answer_runs.specs.FirstRanges.{first_range}
+use Rattle.answer_runs.proofs.FoundFirst.{found_first}
 use Rattle.table_core.specs.DebugUnits.{Walked, walked}
-use Rattle.table_core.specs.FirstRanges.{first_range}
-use Rattle.table_core.proofs.FoundFirst.{found_first}
 use Rattle.line_rewrite.specs.declared.found.FoundRows.{FoundRows}
 use Rattle.line_rewrite.specs.declared.kept.Kept.{Kept}
 use Rattle.line_rewrite.specs.declared.kept.KeptSequence.{KeptSequence}

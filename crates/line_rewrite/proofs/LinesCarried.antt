@@ -4,11 +4,11 @@ use Rattle.std.specs.Prelude.{IsSome, option_and_then}
 use Rattle.elf_image.specs.declared.elf.Elf.{Elf}
 use Rattle.addr_map.specs.declared.span.Span.{Span}
 use Rattle.addr_map.specs.Spans.{owner}
+use Rattle.answer_runs.specs.AnswerRuns.{carried}
+use Rattle.answer_runs.specs.CarriedAnswers.{Agree, IsCarried, IsCarriedFrom}
+use Rattle.answer_runs.specs.Choices.{unless_any}
 use Rattle.table_core.specs.declared.written.Written.{Written}
-use Rattle.table_core.specs.AnswerRuns.{carried}
-use Rattle.table_core.specs.CarriedAnswers.{Agree, IsCarried, IsCarriedFrom}
 use Rattle.table_core.specs.DebugUnits.{units_from}
-use Rattle.table_core.specs.ReadSteps.{unless_any}
 use Rattle.line_rewrite.specs.LineAnswers.{LineSaid}
 use Rattle.line_rewrite.specs.LineTable.{LinesMade, places_in}
 use Rattle.line_rewrite.specs.Tables.{LineSections, line, line_answers, line_at, line_fault, line_sections, line_version}

@@ -4,7 +4,7 @@ use Rattle.std.proofs.Common.{Bool, true, false, cond, nat_le, nat_lt, length, O
 use Rattle.std.specs.Prelude.{find}
 use Rattle.std.proofs.lemmas.Bool.Decides.{nat_tests}
 use Rattle.std.proofs.lemmas.List.Elements.{filter-append}
-use Rattle.table_core.specs.AddressRanges.{holds_address}
+use Rattle.answer_runs.specs.AddressRanges.{holds_address}
 use Rattle.line_rewrite.specs.declared.registers.Registers.{Registers}
 use Rattle.line_rewrite.specs.LineMachine.{Sequence, in_force, reached, greatest_address}
 use Rattle.line_rewrite.specs.LineAnswers.{first_address, range_of}

@@ -7,12 +7,12 @@ use Rattle.std.proofs.lemmas.Iterator.Adapters.{option_map_id}
 use Rattle.elf_image.specs.declared.elf.Elf.{Elf}
 use Rattle.rb_bytes.specs.FirstFault.{IsFree}
 use Rattle.addr_map.specs.declared.span.Span.{Span}
-use Rattle.table_core.specs.AnswerRuns.{IsWithin, run_at, said_runs, carried}
-use Rattle.table_core.specs.CarriedAnswers.{Agree, IsCarried}
+use Rattle.answer_runs.specs.AnswerRuns.{IsWithin, run_at, said_runs, carried}
+use Rattle.answer_runs.specs.CarriedAnswers.{Agree, IsCarried}
+use Rattle.answer_runs.specs.Choices.{unless_any}
+use Rattle.answer_runs.specs.declared.first_range.FirstRange.{FirstRange}
+use Rattle.answer_runs.specs.declared.run.Run.{Run}
 use Rattle.table_core.specs.DebugUnits.{Walked, walked}
-use Rattle.table_core.specs.ReadSteps.{unless_any}
-use Rattle.table_core.specs.declared.first_range.FirstRange.{FirstRange}
-use Rattle.table_core.specs.declared.run.Run.{Run}
 use Rattle.table_core.specs.declared.written.Written.{Written}
 use Rattle.table_core.specs.WrittenUnits.{units_bytes, walked_units}
 use Rattle.table_core.proofs.UnitsBack.{units-back}

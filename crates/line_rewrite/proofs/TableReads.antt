@@ -4,10 +4,10 @@ use Rattle.std.specs.Prelude.{sum_by}
 use Rattle.rb_bytes.specs.FirstFault.{IsFree, IsRefusalBy}
 use Rattle.rb_bytes.specs.declared.fault.Refusal.{Refusal}
 use Rattle.elf_image.specs.declared.elf.Elf.{Elf}
-use Rattle.table_core.specs.declared.run.Run.{Run}
-use Rattle.table_core.specs.AnswerRuns.{said_runs}
+use Rattle.answer_runs.specs.declared.run.Run.{Run}
+use Rattle.answer_runs.specs.AnswerRuns.{said_runs}
+use Rattle.answer_runs.specs.Weights.{run_weight}
 use Rattle.table_core.specs.DebugUnits.{walked}
-use Rattle.table_core.specs.Weights.{run_weight}
 use Rattle.line_rewrite.specs.declared.unit.Unit as kept
 use Rattle.line_rewrite.specs.LineAnswers.{LineSaid}
 use Rattle.line_rewrite.specs.Tables.{LineSections, HasLineFault, line_sections, line_version, line_at, line_answers, row_weight}

@@ -8,9 +8,9 @@ use Rattle.std.proofs.lemmas.List.Elements.{All-nil, All-cons, All-head, All-tai
 use Rattle.std.proofs.lemmas.Option.{same_Some}
 use Rattle.byteorder.specs.Endian.{little_bytes, little_number}
 use Rattle.addr_map.specs.declared.span.Span.{Span}
-use Rattle.table_core.specs.AnswerRuns.{IsWithin}
+use Rattle.answer_runs.specs.AnswerRuns.{IsWithin}
+use Rattle.answer_runs.specs.declared.run.Run.{Run}
 use Rattle.table_core.specs.DebugUnits.{Walked}
-use Rattle.table_core.specs.declared.run.Run.{Run}
 use Rattle.table_core.specs.WrittenUnits.{units_bytes, walked_units, IsUnit}
 use Rattle.line_rewrite.specs.declared.registers.Registers.{Registers}
 use Rattle.line_rewrite.specs.declared.header.Header.{Header}
@@ -26,7 +26,7 @@ use Rattle.line_rewrite.proofs.PieceSequences.{strands}
 use Rattle.line_rewrite.specs.WrittenRuns.{Placed, placed, AllRowsFit}
 use Rattle.line_rewrite.specs.WrittenUnits.{spelled_units}
 use Rattle.line_rewrite.specs.WrittenUnits as unit
-use Rattle.table_core.specs.AddressRanges.{holds_address}
+use Rattle.answer_runs.specs.AddressRanges.{holds_address}
 use Rattle.line_rewrite.proofs.HeadersBack.{written_unit, piece_program, unit_back}
 use Rattle.line_rewrite.proofs.RunPieces.{pieces, one_of, has_run, piece_found}
 use Rattle.line_rewrite.proofs.UnitSizes.{fields_length, unit_length}

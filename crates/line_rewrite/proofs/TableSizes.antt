@@ -12,12 +12,12 @@ use Rattle.byteorder.specs.Endian.{little_bytes}
 use Rattle.byteorder.specs.Numbers.{length-bytes_low_first}
 use Rattle.addr_map.specs.declared.span.Span.{Span}
 use Rattle.addr_map.specs.Spans.{owner}
-use Rattle.table_core.specs.AnswerRuns.{IsWithin, run_at, carried}
+use Rattle.answer_runs.specs.AnswerRuns.{IsWithin, run_at, carried}
+use Rattle.answer_runs.specs.declared.first_range.FirstRange.{FirstRange}
+use Rattle.answer_runs.specs.declared.run.Run.{Run}
+use Rattle.answer_runs.specs.Weights.{run_weight, weight_limit}
 use Rattle.table_core.specs.DebugUnits.{Walked, walked, units_from, unit_bytes, unit_length, is_whole_unit, is_other_version}
-use Rattle.table_core.specs.declared.first_range.FirstRange.{FirstRange}
-use Rattle.table_core.specs.declared.run.Run.{Run}
 use Rattle.table_core.specs.Sections.{section_limit}
-use Rattle.table_core.specs.Weights.{run_weight, weight_limit}
 use Rattle.table_core.proofs.UnitsWalk.{whole_fits}
 use Rattle.line_rewrite.specs.declared.sequence_index.SequenceIndex.{SequenceIndex}
 use Rattle.line_rewrite.specs.declared.unit.Unit as kept

@@ -1,9 +1,9 @@
 -- The sequences of many units, one after another.
 use Rattle.std.specs.Prelude.{◌≡◌, ◌+◌, ◌++◌, ℕ, List, [], ◌∷◌, map, slice_get, Option, Some, None, position}
 use Rattle.std.specs.List.{find}
-use Rattle.table_core.specs.declared.range.Range.{Range}
-use Rattle.table_core.specs.AddressRanges.{holds_address}
-use Rattle.table_core.specs.FirstRanges.{first_range}
+use Rattle.answer_runs.specs.declared.range.Range.{Range}
+use Rattle.answer_runs.specs.AddressRanges.{holds_address}
+use Rattle.answer_runs.specs.FirstRanges.{first_range}
 use Rattle.line_rewrite.specs.declared.found.FoundRows.{FoundRows}
 use Rattle.line_rewrite.specs.declared.kept.KeptSequence.{KeptSequence}
 use Rattle.line_rewrite.specs.declared.registers.Registers.{Registers}

@@ -4,11 +4,11 @@ use Rattle.rb_bytes.specs.declared.fault.FaultKind.TheVariants.{LineFault}
 use Rattle.rb_bytes.specs.declared.fault.Refusal.{Refusal}
 use Rattle.rb_bytes.specs.declared.fault.Refusal.TheVariants as refusal
 use Rattle.rb_bytes.specs.Fault.{fault_at}
-use Rattle.table_core.specs.declared.range.Range.{Range}
-use Rattle.table_core.specs.declared.first_range.FirstRange.{FirstRange}
-use Rattle.table_core.specs.AddressRanges.{holds_address}
+use Rattle.answer_runs.specs.declared.range.Range.{Range}
+use Rattle.answer_runs.specs.declared.first_range.FirstRange.{FirstRange}
+use Rattle.answer_runs.specs.AddressRanges.{holds_address}
+use Rattle.answer_runs.specs.FirstRanges.{first_range}
 use Rattle.table_core.specs.DebugUnits.{Walked, walked}
-use Rattle.table_core.specs.FirstRanges.{first_range}
 use Rattle.line_rewrite.specs.declared.sequence_index.SequenceIndex.{SequenceIndex}
 use Rattle.line_rewrite.specs.declared.unit.Unit as kept
 use Rattle.line_rewrite.specs.Entries.{Strings}

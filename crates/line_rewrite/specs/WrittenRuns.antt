@@ -2,7 +2,7 @@
 use Rattle.std.specs.Prelude.{ℕ, All, Bool, List, [], ◌∷◌, slice_set, slice_index_or, Option, Some, None, option_map}
 use Rattle.addr_map.specs.declared.span.Span.{Span}
 use Rattle.addr_map.specs.Spans.{owner}
-use Rattle.table_core.specs.declared.run.Run.{Run}
+use Rattle.answer_runs.specs.declared.run.Run.{Run}
 use Rattle.line_rewrite.specs.declared.unit.Unit as kept
 use Rattle.line_rewrite.specs.LineAnswers.{LineSaid}
 use Rattle.line_rewrite.specs.SequenceIndex.{Numbered, numbered_at, numbered_rows}

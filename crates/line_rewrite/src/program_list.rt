@@ -1,6 +1,6 @@
 // The programs of all line units, written run by run.
 ghost use Rattle.std.specs.Prelude.{◌≡◌, ◌<◌, ◌+◌, ◌^◌, ◌-◌, All, IfOk, OnOk, length};
-ghost use Rattle.table_core.specs.AnswerRuns.{IsWithin};
+ghost use Rattle.answer_runs.specs.AnswerRuns.{IsWithin};
 ghost use Rattle.line_rewrite.specs.SequenceIndex.{IsIndexOf};
 ghost use Rattle.line_rewrite.specs.WrittenRuns as spec;
 
@@ -10,9 +10,9 @@ use crate::run_writer::Program;
 use crate::sequence_index::SequenceIndex;
 use crate::unit::Unit;
 use addr_map::AddrMap;
+use answer_runs::Run;
 use rb_bytes::fault::NoMemory;
 use std::alloc::Global;
-use table_core::Run;
 
 // A program with no sequence for each unit.
 fn begun(alloc: Global, units: &[Unit]) -> Result<Vec<Program>, NoMemory>

@@ -1,12 +1,12 @@
 // The first of the sequences of many units that holds an address.
 ghost use Rattle.std.specs.Prelude.{◌≡◌, ◌++◌, IfOk, OnOk, map, slice_get, option_and_then};
-ghost use Rattle.table_core.specs.FirstRanges.{first_range};
+ghost use Rattle.answer_runs.specs.FirstRanges.{first_range};
 ghost use Rattle.line_rewrite.specs.SequenceIndex.{unit_numbered, kept_range, place_of, IsIndexOf};
 
 use crate::unit::Unit;
+use answer_runs::{FirstRange, Range};
 use rb_bytes::fault::NoMemory;
 use std::alloc::Global;
-use table_core::{FirstRange, Range};
 
 /// A sequence, by the number of its unit and its own number there.
 #[derive(Clone, Copy)]

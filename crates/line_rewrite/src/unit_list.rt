@@ -1,8 +1,8 @@
 // The line units of a section.
 ghost use Rattle.std.specs.Prelude.{◌≡◌, ◌≤◌, ℕ, IfOk, MatchResult, Some, None, map, position};
-ghost use Rattle.table_core.specs.AddressRanges.{holds_address};
+ghost use Rattle.answer_runs.specs.AddressRanges.{holds_address};
+ghost use Rattle.answer_runs.specs.FirstRanges.{first_range};
 ghost use Rattle.table_core.specs.DebugUnits.{Walked, first_place, walked};
-ghost use Rattle.table_core.specs.FirstRanges.{first_range};
 ghost use Rattle.line_rewrite.specs.KeptEntries.{strings_held, texts_strings};
 ghost use Rattle.line_rewrite.specs.KeptUnits.{HasTables, told_unit};
 ghost use Rattle.line_rewrite.specs.Tables.{HasLineFault, line_sections_held, line_version};
@@ -15,9 +15,10 @@ use crate::text::Texts;
 use crate::trouble::Trouble;
 use crate::unit::Unit;
 use crate::unit_reader::read_unit;
+use answer_runs::{FirstRange, Range};
 use rb_bytes::fault::{Fault, FaultKind, NoMemory, Refusal};
 use std::alloc::Global;
-use table_core::{DWARF_VERSION, DebugUnit, FirstRange, Range, debug_units};
+use table_core::{DWARF_VERSION, DebugUnit, debug_units};
 
 // The first unit of another version.
 fn first_other(units: &[DebugUnit]) -> Option<u64>

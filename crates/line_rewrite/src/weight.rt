@@ -1,10 +1,10 @@
 // Weights of line tables.
 ghost use Rattle.std.specs.Prelude.{◌≡◌, ◌+◌, ◌*◌, ◌-◌, ◌^◌, length, min, sum_by};
-ghost use Rattle.table_core.specs.Weights.{run_weight};
+ghost use Rattle.answer_runs.specs.Weights.{run_weight};
 ghost use Rattle.line_rewrite.specs.Tables.{row_weight};
 
 use crate::answer::LineAt;
-use table_core::{RUN_WEIGHT, Run};
+use answer_runs::{RUN_WEIGHT, Run};
 
 // What a row weighs.
 const ROW_WEIGHT: u64 = 96;

@@ -1,6 +1,6 @@
 // Line tables written anew, of runs. DWARF 5, section 6.2.
 ghost use Rattle.std.specs.Prelude.{◌≡◌, ◌<◌, ◌-◌, ◌^◌, All, IfOk, length, map};
-ghost use Rattle.table_core.specs.AnswerRuns.{IsWithin};
+ghost use Rattle.answer_runs.specs.AnswerRuns.{IsWithin};
 ghost use Rattle.line_rewrite.specs.LineTable.{moved_units, places_in};
 ghost use Rattle.line_rewrite.specs.SequenceIndex.{IsIndexOf};
 ghost use Rattle.line_rewrite.specs.WrittenRuns as spec;
@@ -12,10 +12,11 @@ use crate::sequence_index::SequenceIndex;
 use crate::unit::Unit;
 use crate::unit_writer::put_units;
 use addr_map::AddrMap;
+use answer_runs::Run;
 use rb_bytes::fault::NoMemory;
 use std::alloc::Global;
 use table_core::written::DW_AT_stmt_list;
-use table_core::{DWARF_VERSION, DebugUnit, ListAt, Run, Written, debug_units};
+use table_core::{DWARF_VERSION, DebugUnit, ListAt, Written, debug_units};
 
 // The places of units, with those of others in the same order.
 fn paired(alloc: Global, olds: &[DebugUnit], news: &[DebugUnit]) -> Result<Vec<ListAt>, NoMemory>

@@ -4,9 +4,9 @@ use Rattle.std.specs.Prelude.{if◌then◌else◌, flat_map, filter_map}
 use Rattle.std.specs.List.{list_any}
 use Rattle.std.proofs.lemmas.List.{map-append}
 use Rattle.std.proofs.lemmas.List.Elements.{filter-append}
-use Rattle.table_core.specs.declared.range.Range.{Range}
-use Rattle.table_core.specs.AddressRanges.{holds_address}
-use Rattle.table_core.specs.ReadSteps.{first_of}
+use Rattle.answer_runs.specs.declared.range.Range.{Range}
+use Rattle.answer_runs.specs.AddressRanges.{holds_address}
+use Rattle.answer_runs.specs.Choices.{first_of}
 use Rattle.dw_unit.specs.CompUnits.{Entry, Unit, units, enclosing}
 use Rattle.cover_lists.specs.declared.cover_tree.Cover.{Cover}
 use Rattle.cover_lists.specs.declared.groups.RangedEntry.{RangedEntry}

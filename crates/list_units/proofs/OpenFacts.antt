@@ -7,8 +7,8 @@ use Rattle.std.specs.Option.{option_or, option_to_list}
 use Rattle.std.proofs.lemmas.Bool.Decides.{nat_tests}
 use Rattle.std.proofs.lemmas.List.{reverse-append, length-reverse, get_or-reverse}
 use Rattle.std.proofs.lemmas.Option.{slice_get-get_or}
-use Rattle.table_core.specs.declared.range.Range.{Range}
-use Rattle.table_core.specs.ReadSteps.{first_of}
+use Rattle.answer_runs.specs.declared.range.Range.{Range}
+use Rattle.answer_runs.specs.Choices.{first_of}
 use Rattle.dw_unit.specs.CompUnits.{Entry, enclosing}
 use Rattle.cover_lists.specs.declared.groups.Groups.{Groups}
 use Rattle.list_units.specs.declared.open_entries.OpenEntry.{OpenEntry}

@@ -4,8 +4,8 @@ use Rattle.std.specs.Prelude.{flat_map, not, false}
 use Rattle.std.specs.Option.{option_or, option_map_or}
 use Rattle.rb_bytes.specs.FirstFault.{IsFree}
 use Rattle.rb_bytes.specs.declared.fault.FaultKind.TheVariants as fault
+use Rattle.answer_runs.specs.Choices.{lower, least}
 use Rattle.table_core.specs.DebugUnits.{Walked, walked, first_place}
-use Rattle.table_core.specs.ReadSteps.{lower, least}
 use Rattle.dw_unit.specs.Faults.{HasDwarfFault, bad_address_table}
 use Rattle.dw_unit.specs.CompUnits.{units}
 use Rattle.dw_unit.proofs.Leasts.{least-append}

@@ -6,10 +6,10 @@ use Rattle.std.specs.List.{list_all}
 use Rattle.std.proofs.lemmas.Bool.{and_parts}
 use Rattle.std.proofs.lemmas.List.Folds.{list_all-append}
 use Rattle.std.specs.Global.{Vec}
+use Rattle.answer_runs.specs.Choices.{lower, least}
 use Rattle.table_core.specs.declared.form.TheConstants.{DW_FORM_sec_offset, DW_FORM_loclistx, DW_FORM_rnglistx}
 use Rattle.table_core.specs.AttributeForms.{is_address_index, is_text_index}
 use Rattle.table_core.specs.DebugUnits.{Walked, first_place}
-use Rattle.table_core.specs.ReadSteps.{lower, least}
 use Rattle.dw_unit.specs.declared.unit_reading.UnitReading.{UnitReading}
 use Rattle.dw_unit.specs.declared.attribute.TheConstants.{DW_AT_ranges, DW_AT_str_offsets_base, DW_AT_rnglists_base, DW_AT_loclists_base}
 use Rattle.dw_unit.specs.declared.entry.Attr.{Attr}

@@ -2,8 +2,8 @@
 use Rattle.std.proofs.Common.{◌≡◌, ◌∙◌, ◌++◌, ◌∷◌, [], ℕ, Bool, true, false, List, Option, refl, sym, ap, subst, map}
 use Rattle.std.specs.Prelude.{if◌then◌else◌, nat_lt, flat_map, filter_map}
 use Rattle.std.specs.List.{cons_option}
-use Rattle.table_core.specs.declared.range.Range.{Range}
-use Rattle.table_core.specs.ReadSteps.{least, first_of}
+use Rattle.answer_runs.specs.declared.range.Range.{Range}
+use Rattle.answer_runs.specs.Choices.{least, first_of}
 use Rattle.dw_unit.specs.declared.entry.Attr.{Attr}
 use Rattle.dw_unit.specs.CompUnits.{Entry, Unit, enclosing}
 use Rattle.dw_unit.specs.ListedEntries.{ListedEntry, listed}

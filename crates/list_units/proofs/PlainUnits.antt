@@ -2,7 +2,7 @@
 use Rattle.std.proofs.Common.{◌≡◌, ◌∙◌, ◌++◌, ◌∷◌, [], ℕ, List, refl, sym, ap, map, filter, subst}
 use Rattle.std.specs.Prelude.{not, is_some, flat_map, filter_map}
 use Rattle.std.specs.List.{list_any}
-use Rattle.table_core.specs.ReadSteps.{least}
+use Rattle.answer_runs.specs.Choices.{least}
 use Rattle.dw_unit.specs.declared.entry.Attr.{Attr}
 use Rattle.dw_unit.specs.CompUnits.{Entry, Unit}
 use Rattle.dw_unit.specs.ListedEntries.{ListedEntry, listed}

@@ -5,8 +5,9 @@ use Rattle.std.specs.Prelude.{if◌then◌else◌, flat_map, is_some, MatchOptio
 use Rattle.std.specs.Global.{Vec}
 use Rattle.std.proofs.lemmas.List.{map-append}
 use Rattle.std.proofs.lemmas.List.Sums.{sum_by_push}
+use Rattle.answer_runs.specs.Choices.{lower, least}
 use Rattle.table_core.specs.DebugUnits.{Walked, first_place}
-use Rattle.table_core.specs.ReadSteps.{lower, least, oks}
+use Rattle.table_core.specs.ReadSteps.{oks}
 use Rattle.dw_unit.specs.declared.trouble.Trouble.{Trouble}
 use Rattle.dw_unit.specs.declared.unit_reading.UnitReading.{UnitReading}
 use Rattle.dw_unit.specs.CompUnits.{Unit, unit_of}

@@ -1,7 +1,7 @@
 -- The entries that the next one may lie in, the innermost first.
 use Rattle.std.specs.Prelude.{◌≡◌, ℕ, Bool, false, not, List, [], ◌∷◌, nat_lt, if◌then◌else◌, filter_map, Option, None}
-use Rattle.table_core.specs.declared.range.Range.{Range}
-use Rattle.table_core.specs.ReadSteps.{first_of}
+use Rattle.answer_runs.specs.declared.range.Range.{Range}
+use Rattle.answer_runs.specs.Choices.{first_of}
 use Rattle.dw_unit.specs.CompUnits.{Entry, enclosing}
 use Rattle.cover_lists.specs.declared.groups.Groups.{Groups}
 use Rattle.list_units.specs.declared.open_entries.OpenEntry.{OpenEntry}

@@ -1,6 +1,6 @@
 -- Ranges and locations of the entries of a unit, one entry after another.
 use Rattle.std.specs.Prelude.{◌≡◌, ◌++◌, ℕ, true, List, reverse, flat_map}
-use Rattle.table_core.specs.ReadSteps.{least}
+use Rattle.answer_runs.specs.Choices.{least}
 use Rattle.dw_unit.specs.declared.entry.Attr.{Attr}
 use Rattle.dw_unit.specs.CompUnits.{Entry, Unit}
 use Rattle.cover_lists.specs.declared.groups.Groups.{Groups}

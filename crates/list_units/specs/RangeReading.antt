@@ -1,8 +1,9 @@
 -- What was read of the ranges of some units.
 use Rattle.std.specs.Prelude.{◌≡◌, ◌||◌, ◌+◌, ◌-◌, ◌^◌, ℕ, Bool, List, if◌then◌else◌, flat_map, map, Some, None, min}
 use Rattle.std.specs.Prelude.{sum_by}
+use Rattle.answer_runs.specs.Choices.{lower, least}
 use Rattle.table_core.specs.DebugUnits.{Walked, first_place}
-use Rattle.table_core.specs.ReadSteps.{lower, least, oks}
+use Rattle.table_core.specs.ReadSteps.{oks}
 use Rattle.dw_unit.specs.CompUnits.{Unit, unit_of, units}
 use Rattle.dw_unit.specs.Declarations.{has_bad_form, has_bad_high}
 use Rattle.dw_unit.specs.Faults.{declarations_of, places_with, unformed, is_bad}

@@ -6,8 +6,8 @@ use Rattle.std.specs.Option.{option_or}
 use Rattle.std.proofs.lemmas.Bool.Decides.{nat_tests}
 use Rattle.std.proofs.lemmas.List.{map-append}
 use Rattle.std.proofs.lemmas.List.Elements.{filter-append}
-use Rattle.table_core.specs.declared.run.Run.{Run}
-use Rattle.table_core.specs.AnswerRuns.{run_at, IsWithin}
+use Rattle.answer_runs.specs.declared.run.Run.{Run}
+use Rattle.answer_runs.specs.AnswerRuns.{run_at, IsWithin}
 use Rattle.list_writer.specs.ListBytes.{Bounded, located_at}
 use Rattle.cover_lists.specs.Located.{Located, is_bounded_at, is_default, expressions, unless_bounded, in_force}
 use Rattle.list_writer.specs.WrittenLocations.{over, bounded}

@@ -4,8 +4,8 @@ use Rattle.std.proofs.Common.{map, All, nat_le, nat_lt}
 use Rattle.std.specs.Prelude.{is_some, if◌then◌else◌}
 use Rattle.std.specs.Option.{option_or}
 use Rattle.std.proofs.lemmas.List.Elements.{All-cons, All-nil}
-use Rattle.table_core.specs.declared.run.Run.{Run}
-use Rattle.table_core.specs.AnswerRuns.{run_at, IsWithin}
+use Rattle.answer_runs.specs.declared.run.Run.{Run}
+use Rattle.answer_runs.specs.AnswerRuns.{run_at, IsWithin}
 use Rattle.dw_lists.specs.declared.list_kind.ListKind.TheVariants.{Ranges}
 use Rattle.cover_lists.specs.Located.{ranges_in, hold}
 use Rattle.list_writer.specs.ListBytes.{IsWritable, located_at}

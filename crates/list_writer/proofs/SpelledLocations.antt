@@ -6,8 +6,8 @@ use Rattle.std.specs.Global.{Vec}
 use Rattle.std.proofs.lemmas.List.{take_more, take_all, map_push}
 use Rattle.std.proofs.lemmas.List.Elements.{All-append, All-cons, All-nil}
 use Rattle.std.proofs.lemmas.List.Concat.{flat_map-append}
-use Rattle.table_core.specs.declared.run.Run.{Run}
-use Rattle.table_core.specs.AnswerRuns.{said_runs}
+use Rattle.answer_runs.specs.declared.run.Run.{Run}
+use Rattle.answer_runs.specs.AnswerRuns.{said_runs}
 use Rattle.dw_lists.specs.declared.list_kind.ListKind.TheVariants.{Locations}
 use Rattle.cover_lists.specs.KeptLists.{items_in}
 use Rattle.list_writer.specs.ListBytes.{Bounded, IsWritable, entry_bytes, list_bytes}

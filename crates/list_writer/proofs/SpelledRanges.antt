@@ -2,7 +2,7 @@
 use Rattle.std.proofs.Common.{◌≡◌, ◌∙◌, ◌≤◌, ◌++◌, ◌∷◌, [], ℕ, Bool, List, refl, ap, length, take, map, append_assoc}
 use Rattle.std.specs.Prelude.{flat_map}
 use Rattle.std.proofs.lemmas.List.{take_all}
-use Rattle.table_core.specs.declared.run.Run.{Run}
+use Rattle.answer_runs.specs.declared.run.Run.{Run}
 use Rattle.dw_lists.specs.declared.list_kind.ListKind.TheVariants.{Ranges}
 use Rattle.list_writer.specs.ListBytes.{entry_bytes, list_bytes}
 use Rattle.list_writer.specs.WrittenRanges.{bounded, run_bytes}

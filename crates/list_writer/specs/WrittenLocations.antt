@@ -1,8 +1,8 @@
 -- Location lists that are written anew, of the runs of a list. DWARF 5, section 7.29.
 use Rattle.std.specs.Prelude.{ℕ, List, All, map, flat_map}
 use Rattle.std.specs.Global.{Vec}
-use Rattle.table_core.specs.declared.run.Run.{Run}
-use Rattle.table_core.specs.AnswerRuns.{said_runs}
+use Rattle.answer_runs.specs.declared.run.Run.{Run}
+use Rattle.answer_runs.specs.AnswerRuns.{said_runs}
 use Rattle.dw_lists.specs.declared.list_kind.ListKind.TheVariants.{Locations}
 use Rattle.list_writer.specs.ListBytes.{Bounded, IsWritable, entry_bytes, list_bytes}
 use Rattle.cover_lists.specs.ListRuns.{said}

@@ -1,7 +1,7 @@
 -- Range lists that are written anew: those of groups, and the attributes that name them. DWARF 5, section 7.28.
 use Rattle.std.specs.Prelude.{ℕ, Bool, List, [], map}
 use Rattle.std.specs.Global.{Vec}
-use Rattle.table_core.specs.declared.run.Run.{Run}
+use Rattle.answer_runs.specs.declared.run.Run.{Run}
 use Rattle.dw_unit.specs.declared.attribute.TheConstants.{DW_AT_ranges}
 use Rattle.cover_lists.specs.declared.groups.RangedEntry.{RangedEntry}
 use Rattle.dw_lists.specs.declared.list_kind.ListKind.TheVariants.{Ranges}

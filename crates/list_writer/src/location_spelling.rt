@@ -1,6 +1,6 @@
 // Location lists written anew. DWARF 5, sections 2.6.2 and 7.29.
 ghost use Rattle.std.specs.Prelude.{◌≡◌, ◌++◌, ◌∷◌, [], IfOk, OnOk, All, map};
-ghost use Rattle.table_core.specs.AnswerRuns.{said_runs};
+ghost use Rattle.answer_runs.specs.AnswerRuns.{said_runs};
 ghost use Rattle.dw_lists.specs.declared.list_kind.ListKind.TheVariants as kind;
 ghost use Rattle.cover_lists.specs.KeptLists.{items_in};
 ghost use Rattle.list_writer.specs.ListBytes.{IsWritable, list_bytes};

@@ -6,13 +6,13 @@ ghost use Rattle.list_writer.specs.ListBytes.{list_bytes};
 ghost use Rattle.list_writer.specs.WrittenRanges as spec;
 
 use crate::list_writing::{put_end, put_entry};
+use answer_runs::Run;
 use cover_lists::groups::RangedEntry;
 use dw_lists::list_kind::ListKind;
 use dw_lists::named_list::NamedList;
 use dw_unit::attribute::DW_AT_ranges;
 use rb_bytes::fault::NoMemory;
 use std::alloc::Global;
-use table_core::Run;
 
 fn put_run(out: &mut Vec<u8>, run: &Run<bool>) -> Result<(), NoMemory>
     ensures { OnOk result (out.new.items ≡ out.old.items ++ spec.run_bytes run.now) }

@@ -5,7 +5,7 @@ use Rattle.std.specs.List.{AllZip}
 use Rattle.std.specs.Option.{option_map_or}
 use Rattle.std.proofs.lemmas.Bool.{eqb-true, eq-eqb}
 use Rattle.rb_bytes.proofs.Members.{Contains-nil}
-use Rattle.table_core.specs.ReadSteps.{first_of}
+use Rattle.answer_runs.specs.Choices.{first_of}
 use Rattle.dw_unit.specs.declared.entry.Attr.{Attr}
 use Rattle.dw_unit.specs.CompUnits.{Entry, Unit, attr, base}
 use Rattle.dw_unit.specs.Changes.{is_own, is_first_of, new_value}

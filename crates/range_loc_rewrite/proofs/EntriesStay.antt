@@ -7,17 +7,17 @@ use Rattle.std.specs.List.{AllZip}
 use Rattle.std.proofs.lemmas.Bool.{eqb-true, eq-eqb}
 use Rattle.addr_map.specs.declared.span.Span.{Span}
 use Rattle.addr_map.specs.Spans.{owner}
-use Rattle.table_core.specs.declared.range.Range.{Range}
-use Rattle.table_core.specs.declared.run.Run.{Run}
+use Rattle.answer_runs.specs.declared.range.Range.{Range}
+use Rattle.answer_runs.specs.declared.run.Run.{Run}
+use Rattle.answer_runs.specs.AnswerRuns.{run_at}
 use Rattle.table_core.specs.declared.written.ListAt.{ListAt}
-use Rattle.table_core.specs.AnswerRuns.{run_at}
 use Rattle.table_core.specs.WrittenUnits.{IsUnit, units_bytes}
 use Rattle.dw_unit.specs.declared.entry.Attr.{Attr}
 use Rattle.dw_unit.specs.CompUnits.{Entry, Unit, attr, base, number_in, low_pc, may_repeat}
 use Rattle.dw_unit.specs.Changes.{is_own, is_first_of}
 use Rattle.dw_unit.specs.ChangedEntries.{IsChangedEntry}
 use Rattle.dw_unit.specs.EntryMoves.{Moves, new_list_offset}
-use Rattle.table_core.proofs.Ascending.{Ascends}
+use Rattle.answer_runs.proofs.Ascending.{Ascends}
 use Rattle.dw_unit.proofs.SoundEntries.{IsSoundEntry, AreSoundUnits}
 use Rattle.cover_lists.specs.declared.cover_tree.Cover.{Cover}
 use Rattle.cover_lists.specs.declared.groups.RangedEntry.{RangedEntry}

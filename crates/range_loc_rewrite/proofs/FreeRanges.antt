@@ -3,7 +3,7 @@ use Rattle.std.proofs.Common.{◌≡◌, ◌∷◌, [], ℕ, Option, Some, None,
 use Rattle.rb_bytes.specs.FirstFault.{IsFree}
 use Rattle.rb_bytes.specs.declared.fault.FaultKind.TheVariants as fault
 use Rattle.elf_image.specs.declared.elf.Elf.{Elf}
-use Rattle.table_core.specs.ReadSteps.{unless_any}
+use Rattle.answer_runs.specs.Choices.{unless_any}
 use Rattle.dw_unit.specs.Faults.{FaultPlaces, HasDwarfFault}
 use Rattle.dw_unit.specs.Tables.{answers_if_free}
 use Rattle.dw_lists.specs.Faults.{ListSections, range_places}

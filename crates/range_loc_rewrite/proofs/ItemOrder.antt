@@ -4,7 +4,7 @@ use Rattle.std.specs.Prelude.{flat_map, Contains, option_and_then, if◌then◌e
 use Rattle.std.specs.List.{AllZip}
 use Rattle.dw_unit.specs.declared.entry.Attr.{Attr}
 use Rattle.dw_unit.specs.CompUnits.{Entry, Unit, units, attr}
-use Rattle.table_core.proofs.Ascending.{Ascends}
+use Rattle.answer_runs.proofs.Ascending.{Ascends}
 use Rattle.cover_lists.specs.declared.kept_list.KeptList.{KeptList}
 use Rattle.dw_lists.specs.declared.list_kind.ListKind.TheVariants.{Locations}
 use Rattle.dw_lists.specs.declared.named_list.NamedList.{NamedList}

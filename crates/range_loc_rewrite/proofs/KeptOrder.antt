@@ -8,7 +8,7 @@ use Rattle.std.proofs.lemmas.List.Elements.{All-head, All-tail}
 use Rattle.rb_bytes.proofs.Members.{Contains-there}
 use Rattle.dw_unit.specs.declared.entry.Attr.{Attr}
 use Rattle.dw_unit.specs.CompUnits.{Entry, Unit, attr, units}
-use Rattle.table_core.proofs.Ascending.{Ascends}
+use Rattle.answer_runs.proofs.Ascending.{Ascends}
 use Rattle.cover_lists.specs.declared.cover_tree.Cover.{Cover}
 use Rattle.cover_lists.specs.declared.groups.RangedEntry.{RangedEntry}
 use Rattle.dw_lists.specs.declared.named_list.NamedList.{NamedList}

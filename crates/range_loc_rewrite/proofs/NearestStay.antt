@@ -3,10 +3,10 @@ use Rattle.std.proofs.Common.{◌≡◌, ◌∙◌, ◌+◌, ◌≤◌, ◌++◌
 use Rattle.std.proofs.Common.{map, filter, length}
 use Rattle.std.specs.Prelude.{if◌then◌else◌, is_some, nat_lt, filter_map}
 use Rattle.std.specs.List.{AllZip, cons_option}
-use Rattle.table_core.specs.declared.range.Range.{Range}
-use Rattle.table_core.specs.ReadSteps.{first_of}
+use Rattle.answer_runs.specs.declared.range.Range.{Range}
+use Rattle.answer_runs.specs.Choices.{first_of}
 use Rattle.dw_unit.specs.CompUnits.{Entry, enclosing}
-use Rattle.table_core.proofs.Ascending.{Ascends}
+use Rattle.answer_runs.proofs.Ascending.{Ascends}
 use Rattle.dw_lists.specs.Ranges.{Ranged, ranged_from}
 use Rattle.cover_lists.specs.Located.{hold}
 

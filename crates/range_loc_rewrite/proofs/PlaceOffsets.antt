@@ -4,7 +4,7 @@ use Rattle.std.proofs.Common.{arith, length}
 use Rattle.std.specs.Prelude.{flat_map, Contains, if◌then◌else◌}
 use Rattle.std.specs.Global.{Vec}
 use Rattle.byteorder.specs.Endian.{little_bytes}
-use Rattle.table_core.specs.declared.run.Run.{Run}
+use Rattle.answer_runs.specs.declared.run.Run.{Run}
 use Rattle.table_core.specs.declared.written.ListAt.{ListAt}
 use Rattle.addr_map.specs.declared.span.Span.{Span}
 use Rattle.dw_unit.specs.declared.entry.Attr.{Attr}

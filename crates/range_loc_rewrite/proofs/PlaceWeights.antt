@@ -5,10 +5,10 @@ use Rattle.std.specs.Option.{option_or, option_map_or}
 use Rattle.rb_bytes.specs.FirstFault.{IsFree}
 use Rattle.rb_bytes.proofs.Options.{both_none}
 use Rattle.addr_map.specs.declared.span.Span.{Span}
-use Rattle.table_core.specs.AnswerRuns.{carried}
+use Rattle.answer_runs.specs.AnswerRuns.{carried}
+use Rattle.answer_runs.specs.Choices.{unless_empty}
+use Rattle.answer_runs.specs.Weights.{IsWeightOf}
 use Rattle.table_core.specs.DebugUnits.{walked, first_place}
-use Rattle.table_core.specs.ReadSteps.{unless_empty}
-use Rattle.table_core.specs.Weights.{IsWeightOf}
 use Rattle.dw_unit.specs.CompUnits.{Unit, units}
 use Rattle.dw_unit.specs.Faults.{HasDwarfFault, is_bad, bad_address_table}
 use Rattle.dw_unit.proofs.NoFaults.{absent, none_least, both_nil}

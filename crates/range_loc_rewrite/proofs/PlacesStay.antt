@@ -9,11 +9,12 @@ use Rattle.std.proofs.lemmas.Bool.{eqb-true, eq-eqb}
 use Rattle.rb_bytes.proofs.Members.{Contains-nil, Contains-cons_cases}
 use Rattle.addr_map.specs.declared.span.Span.{Span}
 use Rattle.addr_map.specs.Spans.{owner}
-use Rattle.table_core.specs.declared.run.Run.{Run}
+use Rattle.answer_runs.specs.declared.run.Run.{Run}
+use Rattle.answer_runs.specs.AnswerRuns.{run_at, carried, IsWithin}
+use Rattle.answer_runs.specs.Choices.{unless_empty}
 use Rattle.table_core.specs.declared.written.ListAt.{ListAt}
-use Rattle.table_core.specs.AnswerRuns.{run_at, carried, IsWithin}
 use Rattle.table_core.specs.AttributeForms.{is_block, shape_of}
-use Rattle.table_core.specs.ReadSteps.{unless_empty, and_so}
+use Rattle.table_core.specs.ReadSteps.{and_so}
 use Rattle.table_core.specs.WrittenUnits.{IsUnit, units_bytes}
 use Rattle.dw_unit.specs.declared.entry.Attr.{Attr}
 use Rattle.dw_unit.specs.CompUnits.{Entry, Unit, units, attr, base, number_in, value_bytes}
@@ -21,7 +22,7 @@ use Rattle.dw_unit.specs.Changes.{is_own, is_first_of, new_value, new_address, n
 use Rattle.dw_unit.specs.ChangedEntries.{IsChangedEntry}
 use Rattle.dw_unit.specs.EntryMoves.{Moves, new_list_offset}
 use Rattle.dw_unit.specs.Trouble.{sound_if}
-use Rattle.table_core.proofs.Ascending.{Ascends}
+use Rattle.answer_runs.proofs.Ascending.{Ascends}
 use Rattle.dw_unit.proofs.SoundEntries.{IsSoundEntry, AreSoundUnits}
 use Rattle.cover_lists.specs.declared.kept_list.KeptList.{KeptList}
 use Rattle.dw_lists.specs.declared.list_kind.ListKind.TheVariants.{Locations}

@@ -7,10 +7,10 @@ use Rattle.std.proofs.lemmas.List.Elements.{All-head, All-tail}
 use Rattle.rb_bytes.specs.FirstFault.{IsFree}
 use Rattle.elf_image.specs.declared.elf.Elf.{Elf}
 use Rattle.addr_map.specs.declared.span.Span.{Span}
-use Rattle.table_core.specs.declared.run.Run.{Run}
+use Rattle.answer_runs.specs.declared.run.Run.{Run}
+use Rattle.answer_runs.specs.AnswerRuns.{carried, AreRunsOf}
+use Rattle.answer_runs.specs.CarriedAnswers.{IsCarriedFrom}
 use Rattle.table_core.specs.declared.written.Written.{Written}
-use Rattle.table_core.specs.AnswerRuns.{carried, AreRunsOf}
-use Rattle.table_core.specs.CarriedAnswers.{IsCarriedFrom}
 use Rattle.dw_unit.specs.Faults.{HasDwarfFault}
 use Rattle.dw_lists.specs.declared.list_kind.ListKind.TheVariants.{Locations}
 use Rattle.cover_lists.specs.declared.kept_list.KeptList.{KeptList}

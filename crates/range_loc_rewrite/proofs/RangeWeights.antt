@@ -11,11 +11,11 @@ use Rattle.std.proofs.lemmas.List.Elements.{All-head, All-tail}
 use Rattle.rb_bytes.proofs.Members.{Contains-nil, Contains-cons_cases, Contains-there}
 use Rattle.addr_map.specs.declared.span.Span.{Span}
 use Rattle.addr_map.specs.Spans.{owner}
-use Rattle.table_core.specs.declared.range.Range.{Range}
-use Rattle.table_core.specs.declared.run.Run.{Run}
-use Rattle.table_core.specs.AddressRanges.{holds_address}
-use Rattle.table_core.specs.AnswerRuns.{run_at, carried, AreRunsOf}
-use Rattle.table_core.specs.Weights.{IsWeightOf, run_weight}
+use Rattle.answer_runs.specs.declared.range.Range.{Range}
+use Rattle.answer_runs.specs.declared.run.Run.{Run}
+use Rattle.answer_runs.specs.AddressRanges.{holds_address}
+use Rattle.answer_runs.specs.AnswerRuns.{run_at, carried, AreRunsOf}
+use Rattle.answer_runs.specs.Weights.{IsWeightOf, run_weight}
 use Rattle.dw_unit.specs.CompUnits.{Entry, Unit, units}
 use Rattle.cover_lists.specs.declared.cover_tree.Cover.{Cover}
 use Rattle.cover_lists.specs.declared.cover_index.CoverIndex.{CoverIndex}

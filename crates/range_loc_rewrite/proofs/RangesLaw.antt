@@ -12,13 +12,13 @@ use Rattle.rb_bytes.proofs.Members.{Contains-there}
 use Rattle.rb_bytes.specs.FirstFault.{IsFree}
 use Rattle.addr_map.specs.declared.span.Span.{Span}
 use Rattle.addr_map.specs.Spans.{owner}
-use Rattle.table_core.specs.declared.range.Range.{Range}
-use Rattle.table_core.specs.declared.run.Run.{Run}
+use Rattle.answer_runs.specs.declared.range.Range.{Range}
+use Rattle.answer_runs.specs.declared.run.Run.{Run}
+use Rattle.answer_runs.specs.AnswerRuns.{run_at, carried}
+use Rattle.answer_runs.specs.CarriedAnswers.{Agree, IsCarried}
+use Rattle.answer_runs.specs.Choices.{first_of, unless_empty}
 use Rattle.table_core.specs.declared.written.ListAt.{ListAt}
-use Rattle.table_core.specs.AnswerRuns.{run_at, carried}
-use Rattle.table_core.specs.CarriedAnswers.{Agree, IsCarried}
 use Rattle.table_core.specs.DebugUnits.{Walked, walked, other_version}
-use Rattle.table_core.specs.ReadSteps.{first_of, unless_empty}
 use Rattle.table_core.specs.WrittenUnits.{units_bytes}
 use Rattle.dw_unit.specs.CompUnits.{Entry, Unit, units, enclosing}
 use Rattle.dw_unit.specs.Changes.{is_first_of}

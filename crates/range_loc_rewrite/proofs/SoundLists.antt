@@ -7,8 +7,8 @@ use Rattle.std.specs.Option.{option_or}
 use Rattle.rb_bytes.proofs.Members.{Contains-nil, Contains-cons_cases, Contains-there}
 use Rattle.rb_bytes.specs.FirstFault.{IsFree}
 use Rattle.rb_bytes.proofs.Options.{both_none}
+use Rattle.answer_runs.specs.Choices.{least}
 use Rattle.table_core.specs.DebugUnits.{Walked, walked, first_place, other_version}
-use Rattle.table_core.specs.ReadSteps.{least}
 use Rattle.dw_unit.specs.declared.entry.Attr.{Attr}
 use Rattle.dw_unit.specs.declared.trouble.Trouble.{Trouble}
 use Rattle.dw_unit.specs.CompUnits.{Entry, Unit, units, unit_of}

@@ -5,8 +5,8 @@ use Rattle.std.specs.List.{find}
 use Rattle.std.specs.Option.{option_or, option_map_or}
 use Rattle.rb_bytes.specs.FirstFault.{IsFree}
 use Rattle.rb_bytes.proofs.Options.{both_none}
+use Rattle.answer_runs.specs.Choices.{least}
 use Rattle.table_core.specs.DebugUnits.{Walked, walked, first_place, other_version}
-use Rattle.table_core.specs.ReadSteps.{least}
 use Rattle.dw_unit.specs.CompUnits.{Entry, Unit, units, unit_of}
 use Rattle.dw_unit.specs.Faults.{HasDwarfFault, unit_fault_places, is_bad, bad_address_table}
 use Rattle.dw_unit.proofs.NewSections.{sound_units}

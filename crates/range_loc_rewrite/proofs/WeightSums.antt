@@ -2,7 +2,7 @@
 use Rattle.std.proofs.Common.{◌≡◌, ◌+◌, ◌==◌, ◌++◌, ◌∷◌, [], ℕ, Bool, true, false, List, refl, sym, subst, arith, map, filter}
 use Rattle.std.specs.Prelude.{if◌then◌else◌, not}
 use Rattle.std.specs.List.{list_any}
-use Rattle.table_core.specs.Weights.{distinct}
+use Rattle.answer_runs.specs.Weights.{distinct}
 use Rattle.cover_lists.specs.ListWeights.{IsSumOf}
 use Rattle.cover_lists.specs.ListWeights.IsSumOf.{none, more}
 use Rattle.list_units.specs.ReadLists.{firsts}

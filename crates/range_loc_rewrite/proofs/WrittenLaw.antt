@@ -6,10 +6,10 @@ use Rattle.rb_bytes.specs.FirstFault.{IsFree}
 use Rattle.elf_image.specs.declared.elf.Elf.{Elf}
 use Rattle.addr_map.specs.declared.span.Span.{Span}
 use Rattle.addr_map.specs.Spans.{owner}
-use Rattle.table_core.specs.declared.run.Run.{Run}
+use Rattle.answer_runs.specs.declared.run.Run.{Run}
+use Rattle.answer_runs.specs.AnswerRuns.{run_at, carried, AreRunsOf, IsWithin}
+use Rattle.answer_runs.specs.CarriedAnswers.{IsCarriedFrom}
 use Rattle.table_core.specs.declared.written.Written.{Written}
-use Rattle.table_core.specs.AnswerRuns.{run_at, carried, AreRunsOf, IsWithin}
-use Rattle.table_core.specs.CarriedAnswers.{IsCarriedFrom}
 use Rattle.dw_unit.specs.CompUnits.{units}
 use Rattle.dw_unit.specs.Faults.{HasDwarfFault}
 use Rattle.dw_unit.proofs.EntryPlaces.{places_ascend}

@@ -1,7 +1,7 @@
 // What is said of locations at an address, by the attributes and lists that are kept.
 ghost use Rattle.std.specs.Prelude.{◌≡◌, ◌++◌, ◌∷◌, [], IfOk, OnOk, flat_map, map, option_map, slice_get};
 ghost use Rattle.std.specs.Option.{option_copied};
-ghost use Rattle.table_core.specs.ReadSteps as steps;
+ghost use Rattle.answer_runs.specs.Choices as choices;
 ghost use Rattle.cover_lists.specs.KeptLists.{items_in};
 ghost use Rattle.range_loc_rewrite.specs.KeptPlaces.{said_by_number, ranged_of};
 ghost use Rattle.dw_lists.specs.Locations.{all_said, attr_says};
@@ -105,7 +105,7 @@ pub fn places_at(
 
 /// What is said of locations, unless nothing is.
 pub fn unless_empty(places: Vec<PlaceAt>) -> Option<Vec<PlaceAt>>
-    ensures { option_map all_said result ≡ steps.unless_empty (all_said places) }
+    ensures { option_map all_said result ≡ choices.unless_empty (all_said places) }
 {
     if places.is_empty() {
         None

@@ -1,6 +1,6 @@
 // The places of entries by their numbers.
 ghost use Rattle.std.specs.Prelude.{◌≡◌, IfOk, filter_map, option_map};
-ghost use Rattle.table_core.specs.ReadSteps.{unless_empty};
+ghost use Rattle.answer_runs.specs.Choices.{unless_empty};
 ghost use Rattle.cover_lists.specs.CoverIndex.{place_at};
 
 use cover_lists::groups::RangedEntry;

@@ -1,5 +1,4 @@
 pub mod Placed
-pub mod Ranges
 pub mod RunWeights
 pub mod Listless
 pub mod LightTables

@@ -13,8 +13,8 @@ use Rattle.rv_code.specs.layout.ProgramCode.{is_code_address}
 use Rattle.elf_image.specs.declared.elf.Elf.{Elf}
 use Rattle.addr_map.specs.declared.span.Span.{Span}
 use Rattle.addr_map.specs.Spans.{IsMap}
-use Rattle.table_core.specs.AnswerRuns.{carried}
-use Rattle.table_core.specs.Weights.{IsWeightOf, run_weight, weight_limit}
+use Rattle.answer_runs.specs.AnswerRuns.{carried}
+use Rattle.answer_runs.specs.Weights.{IsWeightOf, run_weight, weight_limit}
 use Rattle.dw_unit.specs.CompUnits.{Unit, units}
 use Rattle.dw_unit.specs.ListedEntries.{listed_entries}
 use Rattle.dw_unit.specs.Tables.{sections_of}

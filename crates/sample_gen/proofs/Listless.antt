@@ -7,8 +7,8 @@ use Rattle.std.proofs.lemmas.List.Elements.{All-contains}
 use Rattle.std.proofs.lemmas.List.Sums.{sum_by-cons}
 use Rattle.rb_bytes.proofs.ListLemmas.{from_flat, in_flat, in_map}
 use Rattle.rb_bytes.proofs.Members.{Contains-there}
+use Rattle.answer_runs.specs.Weights.{distinct}
 use Rattle.table_core.specs.declared.form.TheConstants.{DW_FORM_sec_offset, DW_FORM_rnglistx, DW_FORM_loclistx}
-use Rattle.table_core.specs.Weights.{distinct}
 use Rattle.dw_unit.specs.declared.entry.Attr.{Attr}
 use Rattle.dw_unit.specs.CompUnits.{Entry, Sections, Unit, entries, units}
 use Rattle.dw_unit.specs.Faults.{is_located}

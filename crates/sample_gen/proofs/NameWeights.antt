@@ -9,7 +9,7 @@ use Rattle.rv_code.specs.declared.placed.Func.{Func}
 use Rattle.elf_image.specs.declared.elf.Elf.{Elf}
 use Rattle.elf_image.specs.declared.symbol.Symbol.{Symbol}
 use Rattle.elf_image.specs.file.Cuts.{names_function}
-use Rattle.table_core.specs.Weights.{weight_limit}
+use Rattle.answer_runs.specs.Weights.{weight_limit}
 use Rattle.elf_plan.specs.ColdSymbols.{first_named, start_around}
 use Rattle.elf_plan.specs.NameTables.{names_of_sections, names_of_symbols, size_of}
 use Rattle.elf_plan.specs.NameWeight.{cold_weight, name_weight, section_weight}

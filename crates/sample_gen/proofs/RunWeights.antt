@@ -13,11 +13,11 @@ use Rattle.rv_code.specs.layout.Flow.{insts_of}
 use Rattle.rv_code.specs.layout.ProgramCode.{is_code_address}
 use Rattle.addr_map.specs.declared.span.Span.{Span}
 use Rattle.addr_map.specs.Spans.{ShareNoByte}
-use Rattle.table_core.specs.declared.run.Run.{Run}
-use Rattle.table_core.specs.AnswerRuns.{carried}
-use Rattle.table_core.specs.Weights.{IsWeightOf, run_weight}
-use Rattle.table_core.proofs.Pigeonhole.{HasPlace, weighed}
-use Rattle.table_core.proofs.RunStarts.{RunStart, run_start, starts_rise}
+use Rattle.answer_runs.specs.declared.run.Run.{Run}
+use Rattle.answer_runs.specs.AnswerRuns.{carried}
+use Rattle.answer_runs.specs.Weights.{IsWeightOf, run_weight}
+use Rattle.answer_runs.proofs.Pigeonhole.{HasPlace, weighed}
+use Rattle.answer_runs.proofs.RunStarts.{RunStart, run_start, starts_rise}
 
 sum_same : {X : Type 0} (n : ℕ) (xs : List X) → sum_by (λ x. n) xs ≡ n * length xs
 sum_same n [] = grind arith

@@ -5,7 +5,7 @@ use Rattle.rv_code.specs.layout.ProgramCode.{IsNamed, is_code_address}
 use Rattle.elf_image.specs.file.Header.{e_phnum, e_shnum}
 use Rattle.addr_map.specs.declared.span.Span.{Span}
 use Rattle.addr_map.specs.Spans.{IsMap}
-use Rattle.table_core.specs.Weights.{weight_limit}
+use Rattle.answer_runs.specs.Weights.{weight_limit}
 use Rattle.elf_plan.specs.NameWeight.{name_weight}
 use Rattle.frame_rewrite.specs.Faults.{IsRegisteredFrames}
 use Rattle.func_place.specs.Faults.{HasPlacementFault}

@@ -1,6 +1,3 @@
-pub mod SampleCode
-pub mod SampleText
-pub mod FoundCode
 pub mod Faultless
 pub mod internal
 pub mod Sample

@@ -1,9 +1,9 @@
 -- What a sample is: a file with its code, and its profile, in which no fault is present.
 use Rattle.std.specs.Prelude.{◌≡◌, ℕ, List}
 use Rattle.program.specs.Program.{Program}
+use Rattle.sample_file.specs.FoundCode.{HasSampleCode}
+use Rattle.sample_file.specs.SampleText.{sample_profile}
 use Rattle.sample_gen.specs.Faultless.{HasNoFault}
-use Rattle.sample_gen.specs.FoundCode.{HasSampleCode}
-use Rattle.sample_gen.specs.SampleText.{sample_profile}
 
 -- Sample n. Its program is what is read of the file.
 pub record IsSample (n : ℕ) (file profile : List ℕ) : Type 0 where

@@ -1,14 +1,14 @@
 // Samples, as they are made and then read back.
 ghost use Rattle.std.specs.Prelude.{◌≡◌, ◌≤◌, IfOk, IsTrue};
+ghost use Rattle.sample_file.specs.SampleText.{sample_profile};
 ghost use Rattle.sample_gen.specs.Sample.{IsSample};
-ghost use Rattle.sample_gen.specs.SampleText.{sample_profile};
 
-use crate::code_check::has_sample_code;
 use crate::fault_check::is_faultless;
-use crate::file::file;
-use crate::profile::profile;
 use program::{FILE_LIMIT, read_program};
 use rb_bytes::fault::{NoMemory, Refusal};
+use sample_file::code_check::has_sample_code;
+use sample_file::file::file;
+use sample_file::profile::profile;
 use std::alloc::Global;
 
 // Whether a file is sample `n` with its profile; or a fault that keeps it from being rewritten.

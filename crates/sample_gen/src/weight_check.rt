@@ -4,7 +4,7 @@ ghost use Rattle.std.specs.Prelude.{◌≡◌, ◌≤◌, ℕ, All, IfOk, IsTrue
 ghost use Rattle.rv_code.specs.declared.placed.Placed.{Placed};
 ghost use Rattle.rv_code.specs.layout.FunctionLists.{AreLaidOut};
 ghost use Rattle.elf_image.specs.declared.symbol.Symbol.{Symbol};
-ghost use Rattle.table_core.specs.Weights.{weight_limit};
+ghost use Rattle.answer_runs.specs.Weights.{weight_limit};
 ghost use Rattle.dw_unit.specs.ListedEntries.{ListedEntry};
 ghost use Rattle.dw_unit.specs.Tables.{sections_of};
 ghost use Rattle.elf_plan.specs.NameWeight.{name_weight};
@@ -12,6 +12,7 @@ ghost use Rattle.line_rewrite.specs.Tables.{line_sections};
 ghost use Rattle.sample_gen.specs.internal.Light.{AreLightFuncs, AreLightTables, AreLightUnits, HasOneRow, IsLightFunc};
 ghost use Rattle.sample_gen.specs.internal.Light.{is_listless};
 
+use answer_runs::WEIGHT_LIMIT;
 use dw_unit::attribute::{DW_AT_frame_base, DW_AT_location};
 use dw_unit::{Attr, Entry, abbrev_weight, units};
 use elf_image::{Elf, Symbol};
@@ -20,8 +21,8 @@ use line_rewrite::Lines;
 use rb_bytes::fault::{NoMemory, Refusal};
 use rv_code::{Func, Placed};
 use std::alloc::Global;
+use table_core::ByAddress;
 use table_core::form::{DW_FORM_loclistx, DW_FORM_rnglistx, DW_FORM_sec_offset};
-use table_core::{ByAddress, WEIGHT_LIMIT};
 
 // How many functions a sample has at most, one of them at the entry point, and how many instructions each has.
 const MOST_FUNCTIONS: usize = 1001;

@@ -1,14 +1,3 @@
-pub mod Grown
-pub mod NewCode
 pub mod UnitsBack
 pub mod UnitsWalk
-pub mod OnlyRuns
-pub mod MergedPieces
-pub mod FoundFirst
-pub mod OnlyWeights
 pub mod Numbers
-pub mod SameLists
-pub mod SilentTables
-pub mod Pigeonhole
-pub mod RunStarts
-pub mod Ascending

@@ -7,14 +7,14 @@ ghost use Rattle.rb_bytes.specs.FirstFault.{IsFree, IsRefusalBy};
 ghost use Rattle.addr_map.specs.MapText.{IsLineBefore};
 ghost use Rattle.addr_map.specs.Spans.{ShareNoByte};
 ghost use Rattle.addr_map.specs.declared.span.Span.{Span};
-ghost use Rattle.table_core.specs.declared.run.Run.{Run};
+ghost use Rattle.answer_runs.specs.declared.run.Run.{Run};
+ghost use Rattle.answer_runs.specs.AnswerRuns.{carried, run_at, said_runs, AreLow, IsWithin};
+ghost use Rattle.answer_runs.specs.CarriedAnswers.{IsCarried};
 ghost use Rattle.table_core.specs.declared.written.Written.{Written};
-ghost use Rattle.table_core.specs.AnswerRuns.{carried, run_at, said_runs, AreLow, IsWithin};
-ghost use Rattle.table_core.specs.CarriedAnswers.{IsCarried};
 
-use crate::run::Run;
 use crate::written::Written;
 use addr_map::AddrMap;
+use answer_runs::Run;
 use elf_image::elf::Elf;
 use rb_bytes::fault::{NoMemory, Refusal};
 use std::alloc::Global;

@@ -8,10 +8,10 @@ use Rattle.elf_image.specs.declared.section.Section.{Section}
 use Rattle.elf_image.specs.declared.section.TheConstants.{SHT_NOBITS}
 use Rattle.elf_image.specs.file.SectionNames.{section_called}
 use Rattle.addr_map.specs.declared.span.Span.{Span}
-use Rattle.table_core.specs.declared.run.Run.{Run}
-use Rattle.table_core.specs.AnswerRuns.{AreRunsOf, carried}
+use Rattle.answer_runs.specs.declared.run.Run.{Run}
+use Rattle.answer_runs.specs.AnswerRuns.{AreRunsOf, carried}
+use Rattle.answer_runs.specs.Weights.{run_weight, weight_limit}
 use Rattle.table_core.specs.Sections.{Held, bytes_of, held, held_by, section_limit}
-use Rattle.table_core.specs.Weights.{run_weight, weight_limit}
 use Rattle.frame_rewrite.specs.declared.debug.DebugFrames.{DebugFrames}
 use Rattle.frame_rewrite.specs.Tables.{DebugComesFrom}
 use Rattle.line_rewrite.specs.LineAnswers.{LineSaid}

@@ -1,9 +1,9 @@
 -- A weight of a written table is one number, so a table whose weight was found to be within the limit has no other.
 use Rattle.std.proofs.Common.{◌≡◌, ℕ, ◌+◌, ◌-◌, ◌*◌, ◌^◌, ◌<◌, List, [], ◌∷◌, length, refl, subst, min, arith}
 use Rattle.addr_map.specs.declared.span.Span.{Span}
-use Rattle.table_core.specs.AnswerRuns.{carried}
-use Rattle.table_core.specs.Weights.{weight_limit}
-use Rattle.table_core.proofs.OnlyWeights.{only_weight}
+use Rattle.answer_runs.specs.AnswerRuns.{carried}
+use Rattle.answer_runs.specs.Weights.{weight_limit}
+use Rattle.answer_runs.proofs.OnlyWeights.{only_weight}
 use Rattle.dw_unit.specs.CompUnits.{Unit, units}
 use Rattle.line_rewrite.specs.LineAnswers.{LineSaid}
 use Rattle.line_rewrite.specs.Tables.{IsLineWeight, LineSections, line_at, row_weight}

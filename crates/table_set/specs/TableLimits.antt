@@ -2,7 +2,7 @@
 use Rattle.std.specs.Prelude.{◌<◌, ℕ, List}
 use Rattle.elf_image.specs.declared.elf.Elf.{Elf}
 use Rattle.addr_map.specs.declared.span.Span.{Span}
-use Rattle.table_core.specs.Weights.{weight_limit}
+use Rattle.answer_runs.specs.Weights.{weight_limit}
 use Rattle.dw_unit.specs.AbbrevWeight.{abbrev_weight}
 use Rattle.dw_unit.specs.Tables.{sections_of}
 use Rattle.line_rewrite.specs.Tables.{line_sections, IsLineWeight}

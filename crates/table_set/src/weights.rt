@@ -3,7 +3,7 @@ ghost use Rattle.std.specs.Prelude.{◌≡◌, AllPairs, IfOk, IsTrue, false};
 ghost use Rattle.rb_bytes.specs.FirstFault.{IsFree};
 ghost use Rattle.addr_map.specs.MapText.{IsLineBefore};
 ghost use Rattle.addr_map.specs.Spans.{ShareNoByte};
-ghost use Rattle.table_core.specs.AnswerRuns.{AreLow};
+ghost use Rattle.answer_runs.specs.AnswerRuns.{AreLow};
 ghost use Rattle.dw_unit.specs.Faults.{HasDwarfFault, unit_fault_places};
 ghost use Rattle.dw_unit.specs.Tables.{sections_of};
 ghost use Rattle.table_set.specs.AllTables.{AllComeFrom};
@@ -11,11 +11,12 @@ ghost use Rattle.table_set.specs.TableLimits.{IsTooHeavy};
 
 use crate::all::AllTables;
 use addr_map::AddrMap;
+use answer_runs::WEIGHT_LIMIT;
 use dw_unit::abbrev_weight;
 use elf_image::Elf;
 use rb_bytes::fault::NoMemory;
 use std::alloc::Global;
-use table_core::{AddrTable, WEIGHT_LIMIT};
+use table_core::AddrTable;
 
 // How much the declarations of units may weigh for each byte of the file, and beside: units can begin theirs at any
 // declaration of one long table, and each gets all that follow.

@@ -3,8 +3,8 @@ use Rattle.std.specs.Prelude.{◌+◌, ◌*◌, ◌≤◌, ℕ, IsTrue, List, su
 use Rattle.elf_image.specs.declared.elf.Elf.{Elf}
 use Rattle.rv_code.specs.layout.FunctionLists.{address_end}
 use Rattle.addr_map.specs.declared.span.Span.{Span}
-use Rattle.table_core.specs.declared.run.Run.{Run}
-use Rattle.table_core.specs.AnswerRuns.{AreRunsOf, carried}
+use Rattle.answer_runs.specs.declared.run.Run.{Run}
+use Rattle.answer_runs.specs.AnswerRuns.{AreRunsOf, carried}
 use Rattle.cfi_rows.specs.ReadFrames.{read_as}
 use Rattle.frame_rewrite.specs.declared.eh.EhFrames.{EhFrames}
 use Rattle.frame_rewrite.specs.FrameAnswers.{FrameAnswer}

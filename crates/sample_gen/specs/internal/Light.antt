@@ -3,8 +3,8 @@ use Rattle.std.specs.Prelude.{◌≤◌, ◌==◌, ◌&&◌, ℕ, Bool, not, All
 use Rattle.rv_code.specs.declared.placed.Func.{Func}
 use Rattle.rv_code.specs.declared.placed.Placed.{Placed}
 use Rattle.elf_image.specs.declared.elf.Elf.{Elf}
+use Rattle.answer_runs.specs.Weights.{weight_limit}
 use Rattle.table_core.specs.declared.form.TheConstants.{DW_FORM_sec_offset, DW_FORM_rnglistx, DW_FORM_loclistx}
-use Rattle.table_core.specs.Weights.{weight_limit}
 use Rattle.dw_unit.specs.declared.entry.Attr.{Attr}
 use Rattle.dw_unit.specs.AbbrevWeight.{abbrev_weight}
 use Rattle.dw_unit.specs.CompUnits.{Sections}

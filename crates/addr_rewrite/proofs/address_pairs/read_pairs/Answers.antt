@@ -1,7 +1,7 @@
 use Rattle.std.proofs.Common.{◌∙◌, sym, ap, Ok, List}
 use Rattle.std.proofs.lemmas.List.{append-nil}
 use Rattle.std.proofs.lemmas.Result.{err_from_is_err_and}
-use Rattle.table_core.specs.declared.range.Range.{Range}
+use Rattle.answer_runs.specs.declared.range.Range.{Range}
 use Rattle.addr_rewrite.proofs.PairSteps.{all_pairs, front_pairs, pairs_end, pairs_more, pairs_trouble, with_pairs}
 use Rattle.addr_rewrite.proofs.address_pairs.read_pairs.Goals as goal
 

@@ -1,6 +1,6 @@
 use Rattle.std.proofs.Common.{◌<◌, ◌^◌, [], ℕ, arith}
 use Rattle.std.proofs.lemmas.List.Elements.{All-get_or}
-use Rattle.table_core.specs.declared.run.Run.{Run}
+use Rattle.answer_runs.specs.declared.run.Run.{Run}
 use Rattle.addr_rewrite.specs.WrittenAranges.{stretch_of}
 use Rattle.addr_rewrite.proofs.ListLoops.{mapped_more, mapped_all}
 use Rattle.addr_rewrite.proofs.stretch.stretches_of.Goals as goal

@@ -1,6 +1,6 @@
 use Rattle.std.proofs.Common.{◌∙◌, ◌++◌, List, ap, map, sym}
 use Rattle.std.proofs.lemmas.List.{append-nil}
-use Rattle.table_core.specs.declared.range.Range.{Range}
+use Rattle.answer_runs.specs.declared.range.Range.{Range}
 use Rattle.addr_rewrite.specs.declared.unit_range.UnitRange.{UnitRange}
 use Rattle.addr_rewrite.proofs.ListLoops.{mapped_more, mapped_all}
 use Rattle.addr_rewrite.proofs.table_list.add_ranges.Goals as goal

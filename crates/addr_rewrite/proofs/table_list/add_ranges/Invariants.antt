@@ -1,5 +1,5 @@
 use Rattle.std.proofs.Common.{◌≡◌, ◌++◌, map, take}
-use Rattle.table_core.specs.declared.range.Range.{Range}
+use Rattle.answer_runs.specs.declared.range.Range.{Range}
 use Rattle.addr_rewrite.proofs.table_list.add_ranges.Given as goal
 
 abbrev pub invariant-loop-range : goal.invariant-loop-range

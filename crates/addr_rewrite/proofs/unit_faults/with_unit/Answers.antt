@@ -1,6 +1,6 @@
 use Rattle.std.proofs.Common.{◌≡◌, ◌∙◌, Ok, ap, sym}
 use Rattle.std.specs.Option.{option_or}
-use Rattle.table_core.specs.ReadSteps.{lower}
+use Rattle.answer_runs.specs.Choices.{lower}
 use Rattle.dw_unit.specs.CompUnits.{unit_of}
 use Rattle.dw_unit.specs.Declarations.{has_bad_form, has_bad_high}
 use Rattle.dw_unit.specs.Faults.{fails, is_sound_unit}

@@ -1,7 +1,7 @@
 use Rattle.std.proofs.Common.{◌<◌, ◌≤◌, length, rules, arith}
 use Rattle.std.proofs.lemmas.Result.{err_from_is_err_and}
 use Rattle.elf_write.specs.NameWeight.{name_weight}
-use Rattle.table_core.specs.Weights.{weight_limit}
+use Rattle.answer_runs.specs.Weights.{weight_limit}
 use Rattle.bolt_core.specs.Limits.{header_limit}
 use Rattle.bolt_core.proofs.PassedLimits.{at_code, at_names, at_sections, at_segments, segment_count, within}
 use Rattle.bolt_core.proofs.limits.check_sizes.Goals as goal

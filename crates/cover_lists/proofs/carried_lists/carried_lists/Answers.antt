@@ -2,8 +2,8 @@ use Rattle.std.proofs.Common.{◌≡◌, ℕ, List, [], length, refl, rules, sym
 use Rattle.std.proofs.lemmas.List.{nil_from_length}
 use Rattle.std.proofs.lemmas.Result.{IfOk-weaker}
 use Rattle.std.specs.List.Sorted.{IsPermutation}
-use Rattle.table_core.specs.declared.run.Run.{Run}
-use Rattle.table_core.proofs.SilentTables.{no_runs}
+use Rattle.answer_runs.specs.declared.run.Run.{Run}
+use Rattle.answer_runs.proofs.SilentTables.{no_runs}
 use Rattle.cover_lists.specs.GroupRuns.{runs_end}
 use Rattle.cover_lists.specs.KeptLists.{list_bounds}
 use Rattle.cover_lists.specs.ListRuns.{IsListRuns, list_answer, said_in}

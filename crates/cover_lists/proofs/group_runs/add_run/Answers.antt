@@ -3,7 +3,7 @@ use Rattle.std.specs.Prelude.{slice_index_or}
 use Rattle.std.specs.Global.{Vec}
 use Rattle.std.specs.List.{list_any}
 use Rattle.std.proofs.lemmas.List.{take_more}
-use Rattle.table_core.specs.declared.run.Run.{Run}
+use Rattle.answer_runs.specs.declared.run.Run.{Run}
 use Rattle.cover_lists.specs.GroupRuns.{AreStretched, runs_in}
 use Rattle.cover_lists.proofs.GroupRunFacts.{still_within, stretched_more, stretched_none}
 use Rattle.cover_lists.proofs.group_runs.add_run.Goals as goal

@@ -1,8 +1,8 @@
 use Rattle.std.proofs.Common.{◌-◌, ◌^◌, ℕ, List, ap, subst, sym}
 use Rattle.std.proofs.lemmas.Result.{IfOk-weaker}
-use Rattle.table_core.specs.declared.run.Run.{Run}
-use Rattle.table_core.specs.AnswerRuns.{IsWithin}
-use Rattle.table_core.proofs.Grown.{within-up}
+use Rattle.answer_runs.specs.declared.run.Run.{Run}
+use Rattle.answer_runs.specs.AnswerRuns.{IsWithin}
+use Rattle.answer_runs.proofs.Grown.{within-up}
 use Rattle.cover_lists.specs.GroupRuns.{IsGroupRuns, held_by, if_held, runs_end, runs_in}
 use Rattle.cover_lists.proofs.CarriedLists.{carried_runs}
 use Rattle.cover_lists.proofs.StretchRuns.{runs_end_le}

@@ -1,7 +1,7 @@
 use Rattle.std.proofs.Common.{◌≡◌, ◌∙◌, ◌-◌, ◌^◌, ℕ, List, sym, subst, arith, take}
 use Rattle.std.specs.Prelude.{slice_index_or}
 use Rattle.std.proofs.lemmas.List.{take_more}
-use Rattle.table_core.specs.declared.run.Run.{Run}
+use Rattle.answer_runs.specs.declared.run.Run.{Run}
 use Rattle.cover_lists.specs.GroupRuns as spec
 use Rattle.cover_lists.specs.GroupRuns.{IsGroupRuns, runs_in}
 use Rattle.cover_lists.proofs.GroupRunFacts.{held_before, group_more}

@@ -1,8 +1,8 @@
 use Rattle.std.proofs.Common.{◌≡◌, ◌∙◌, ◌+◌, ◌^◌, Bool, true, false, List, ap, sym, subst}
-use Rattle.table_core.specs.declared.run.Run.{Run}
-use Rattle.table_core.specs.AnswerRuns.{IsWithin}
-use Rattle.table_core.specs.LastRuns as last
-use Rattle.table_core.proofs.Grown.{last-room}
+use Rattle.answer_runs.specs.declared.run.Run.{Run}
+use Rattle.answer_runs.specs.AnswerRuns.{IsWithin}
+use Rattle.answer_runs.specs.LastRuns as last
+use Rattle.answer_runs.proofs.Grown.{last-room}
 use Rattle.cover_lists.proofs.GroupRunFacts.{lengthens, pushes}
 use Rattle.cover_lists.proofs.group_runs.stretch.Goals as goal
 

@@ -1,7 +1,7 @@
 use Rattle.std.proofs.Common.{◌∙◌, ℕ, List, sym, subst, take}
 use Rattle.std.specs.Prelude.{slice_index_or}
 use Rattle.std.proofs.lemmas.List.{take_more}
-use Rattle.table_core.specs.AnswerRuns.{IsWithin, AreLongest}
+use Rattle.answer_runs.specs.AnswerRuns.{IsWithin, AreLongest}
 use Rattle.cover_lists.specs.ListRuns.{AreExtended}
 use Rattle.cover_lists.proofs.ListRunFacts.{not_before, not_extended, extended_more}
 use Rattle.cover_lists.proofs.list_runs.add_lists.Goals as goal

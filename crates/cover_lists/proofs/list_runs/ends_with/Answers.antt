@@ -1,6 +1,6 @@
 use Rattle.std.proofs.Common.{arith, ◌≡◌, ◌≢◌, ◌∙◌, sym, ap, Some, false, IsTrue}
 use Rattle.std.proofs.lemmas.Option.{get_or_from_slice_get, slice_get_within}
-use Rattle.table_core.proofs.Grown.{last-get, said-last}
+use Rattle.answer_runs.proofs.Grown.{last-get, said-last}
 use Rattle.cover_lists.specs.KeptLists.{items_in}
 use Rattle.cover_lists.specs.ListRuns.{said}
 use Rattle.cover_lists.proofs.list_runs.ends_with.Goals as goal

@@ -1,8 +1,8 @@
 use Rattle.std.proofs.Common.{◌∙◌, ◌-◌, ◌^◌, ℕ, List, sym, subst, arith, take}
 use Rattle.std.specs.Prelude.{slice_index_or}
 use Rattle.std.proofs.lemmas.List.{take_more}
-use Rattle.table_core.specs.declared.run.Run.{Run}
-use Rattle.table_core.proofs.Grown.{within-up}
+use Rattle.answer_runs.specs.declared.run.Run.{Run}
+use Rattle.answer_runs.proofs.Grown.{within-up}
 use Rattle.cover_lists.specs.GroupRuns.{runs_end}
 use Rattle.cover_lists.specs.ListRuns.{IsListRuns, AreCandidates, said_in}
 use Rattle.cover_lists.proofs.StretchRuns.{within_at}

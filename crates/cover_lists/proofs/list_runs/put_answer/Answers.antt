@@ -1,7 +1,7 @@
 use Rattle.std.proofs.Common.{◌≡◌, ◌∙◌, ℕ, List, Option, ap, sym, subst}
 use Rattle.std.specs.Prelude.{slice_get}
 use Rattle.std.specs.Global.{Vec}
-use Rattle.table_core.specs.AnswerRuns.{said_runs}
+use Rattle.answer_runs.specs.AnswerRuns.{said_runs}
 use Rattle.cover_lists.specs.ListRuns.{said, IsExtended}
 use Rattle.cover_lists.proofs.ListRunFacts.{none_extended, some_said, none_said}
 use Rattle.cover_lists.proofs.list_runs.put_answer.Goals as goal

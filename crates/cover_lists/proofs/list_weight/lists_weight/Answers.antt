@@ -1,7 +1,7 @@
 use Rattle.std.proofs.Common.{◌∙◌, ◌-◌, ◌^◌, ℕ, List, ap}
 use Rattle.std.specs.Prelude.{min}
 use Rattle.std.specs.Global.{Vec}
-use Rattle.table_core.specs.declared.run.Run.{Run}
+use Rattle.answer_runs.specs.declared.run.Run.{Run}
 use Rattle.cover_lists.specs.ListWeights.{total_weight}
 use Rattle.cover_lists.proofs.ListWeightFacts.{total_is}
 use Rattle.cover_lists.proofs.list_weight.lists_weight.Goals as goal

@@ -1,6 +1,6 @@
 use Rattle.std.proofs.Common.{◌≡◌, ◌*◌, ◌-◌, ◌^◌, length, take}
 use Rattle.std.specs.Prelude.{min, sum_by}
-use Rattle.table_core.specs.Weights.{run_weight}
+use Rattle.answer_runs.specs.Weights.{run_weight}
 use Rattle.cover_lists.specs.GroupRuns.{runs_in}
 use Rattle.cover_lists.proofs.range_weight.runs_weight.Given as goal
 

@@ -1,10 +1,10 @@
 use Rattle.std.proofs.Common.{arith, ◌+◌, ◌≢◌, sym, refl, ◌∙◌, ap, ◌^◌, Some, List, ℕ, subst}
 use Rattle.std.specs.Option.{option_or}
-use Rattle.table_core.specs.LastRuns.{IfLast, IsAnswer, ends_at}
-use Rattle.table_core.specs.declared.run.Run.{Run}
-use Rattle.table_core.specs.AnswerRuns.{said_runs, run_at, answer_over}
-use Rattle.table_core.proofs.Grown.{run_at-more, longest-more, within-more, said-more, IsApart, apart-end, last-weaker, run_at-longer}
-use Rattle.table_core.proofs.Grown.{within-longer, longest-longer, said-longer, said-ends, last-room, unsaid-within, and_then-Some}
+use Rattle.answer_runs.specs.LastRuns.{IfLast, IsAnswer, ends_at}
+use Rattle.answer_runs.specs.declared.run.Run.{Run}
+use Rattle.answer_runs.specs.AnswerRuns.{said_runs, run_at, answer_over}
+use Rattle.answer_runs.proofs.Grown.{run_at-more, longest-more, within-more, said-more, IsApart, apart-end, last-weaker, run_at-longer}
+use Rattle.answer_runs.proofs.Grown.{within-longer, longest-longer, said-longer, said-ends, last-room, unsaid-within, and_then-Some}
 use Rattle.cover_lists.specs.Stretches.{bounds_before}
 use Rattle.cover_lists.proofs.stretches.add_span.Goals as goal
 use Rattle.cover_lists.proofs.stretches.add_span.Goals.{else-ends_at-via-then-ends_at+else-goes_on, else-ends_at-via-else-ends_at}

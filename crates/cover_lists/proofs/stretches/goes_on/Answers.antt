@@ -1,7 +1,7 @@
 use Rattle.std.proofs.Common.{arith, ◌≡◌, ◌≢◌, ◌∙◌, sym, ap, Some}
 use Rattle.std.proofs.lemmas.Bool.Decides.{nat_tests}
 use Rattle.std.proofs.lemmas.Option.{get_or_from_slice_get, slice_get_within}
-use Rattle.table_core.proofs.Grown.{last-get, said-last}
+use Rattle.answer_runs.proofs.Grown.{last-get, said-last}
 use Rattle.cover_lists.specs.Stretches.{bounds_before}
 use Rattle.cover_lists.proofs.stretches.goes_on.Goals as goal
 

@@ -1,10 +1,10 @@
 use Rattle.std.proofs.Common.{arith, ◌∙◌, ◌≤◌, ℕ, List, Some, ap, sym, length}
 use Rattle.std.proofs.lemmas.Grind.{common_steps}
 use Rattle.std.specs.Option.{option_or}
-use Rattle.table_core.specs.declared.run.Run.{Run}
-use Rattle.table_core.specs.AnswerRuns.{said_runs, run_at}
-use Rattle.table_core.proofs.Grown.{unsaid-within}
-use Rattle.table_core.proofs.NewCode.{made_more, made_same, past}
+use Rattle.answer_runs.specs.declared.run.Run.{Run}
+use Rattle.answer_runs.specs.AnswerRuns.{said_runs, run_at}
+use Rattle.answer_runs.proofs.Grown.{unsaid-within}
+use Rattle.answer_runs.proofs.NewCode.{made_more, made_same, past}
 use Rattle.cover_lists.specs.Stretches.{bounds_before}
 use Rattle.cover_lists.proofs.StretchFacts.{over_said}
 use Rattle.cover_lists.proofs.stretches.stretches_of.Goals as goal

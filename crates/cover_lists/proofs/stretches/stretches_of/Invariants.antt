@@ -1,6 +1,6 @@
 use Rattle.std.proofs.Common.{Some}
-use Rattle.table_core.specs.AnswerRuns.{said_runs}
-use Rattle.table_core.proofs.NewCode.{AreMade}
+use Rattle.answer_runs.specs.AnswerRuns.{said_runs}
+use Rattle.answer_runs.proofs.NewCode.{AreMade}
 use Rattle.cover_lists.specs.Stretches.{bounds_before}
 use Rattle.cover_lists.proofs.stretches.stretches_of.Given as goal
 

@@ -1,5 +1,5 @@
 use Rattle.std.proofs.Common.{◌∙◌, Some, ap, sym}
-use Rattle.table_core.specs.ReadSteps.{lower}
+use Rattle.answer_runs.specs.Choices.{lower}
 use Rattle.table_core.specs.DebugUnits.{Walked}
 use Rattle.dw_lists.proofs.BadTables.{bad_more, bad_same}
 use Rattle.dw_lists.proofs.list_section.bad_table.Goals as goal

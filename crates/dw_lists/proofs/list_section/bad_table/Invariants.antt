@@ -1,6 +1,6 @@
 use Rattle.std.proofs.Common.{◌≡◌, map, filter, take, not, false}
 use Rattle.std.specs.Option.{option_map_or}
-use Rattle.table_core.specs.ReadSteps.{least}
+use Rattle.answer_runs.specs.Choices.{least}
 use Rattle.dw_lists.specs.Faults.{is_list_table}
 use Rattle.dw_lists.proofs.list_section.bad_table.Given as goal
 

@@ -1,7 +1,7 @@
 use Rattle.std.proofs.Common.{◌≡◌, ◌∙◌, ℕ, List, [], ◌∷◌, Option, Some, None, ap, sym, map}
 use Rattle.std.specs.Prelude.{option_and_then, unwrap_or, slice_get}
 use Rattle.std.specs.Option.{option_copied}
-use Rattle.table_core.specs.ReadSteps.{first_of}
+use Rattle.answer_runs.specs.Choices.{first_of}
 use Rattle.dw_unit.specs.CompUnits as units
 use Rattle.dw_unit.specs.ListedEntries.{ListedEntry}
 use Rattle.dw_unit.specs.ListedUnits.{plain, plain_unit}

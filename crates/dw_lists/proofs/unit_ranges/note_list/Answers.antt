@@ -1,6 +1,6 @@
 use Rattle.std.proofs.Common.{◌≡◌, ◌∙◌, Some, List, ℕ, ap, sym, refl}
 use Rattle.std.specs.Prelude.{is_some}
-use Rattle.table_core.specs.ReadSteps.{lower}
+use Rattle.answer_runs.specs.Choices.{lower}
 use Rattle.dw_lists.specs.Faults.{table_place}
 use Rattle.dw_lists.specs.Lists.{ranges_kind, list_offset}
 use Rattle.dw_lists.proofs.NotedLists.{noted_sound, noted_bad}

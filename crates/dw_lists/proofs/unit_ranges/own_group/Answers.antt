@@ -3,7 +3,7 @@ use Rattle.std.specs.Prelude.{option_map}
 use Rattle.std.specs.List.{find}
 use Rattle.std.specs.Option.{option_copied}
 use Rattle.std.proofs.lemmas.Result.{IfOk-weaker}
-use Rattle.table_core.specs.declared.range.Range.{Range}
+use Rattle.answer_runs.specs.declared.range.Range.{Range}
 use Rattle.dw_unit.specs.declared.attribute.TheConstants.{DW_AT_ranges}
 use Rattle.dw_unit.specs.declared.entry.Attr.{Attr}
 use Rattle.dw_unit.specs.CompUnits.{attr}

@@ -3,7 +3,7 @@ use Rattle.std.specs.Prelude.{◌==◌}
 use Rattle.std.specs.List.{list_any}
 use Rattle.std.proofs.lemmas.List.Filters.{dedup_is}
 use Rattle.std.proofs.lemmas.Map.Keys.{IsStrictlyIncreasing-dedup}
-use Rattle.table_core.proofs.Ascending.{among_kept}
+use Rattle.answer_runs.proofs.Ascending.{among_kept}
 use Rattle.dw_unit.proofs.offsets.abbrev_offsets.Goals as goal
 
 pub returns-clause-rising : goal.returns-clause-rising

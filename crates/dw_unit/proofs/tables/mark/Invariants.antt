@@ -1,5 +1,5 @@
 use Rattle.std.proofs.Common.{◌≡◌}
-use Rattle.table_core.specs.ReadSteps.{least}
+use Rattle.answer_runs.specs.Choices.{least}
 use Rattle.dw_unit.specs.Declarations.{has_bad_form, has_bad_high}
 use Rattle.dw_unit.specs.Faults.{places_with}
 use Rattle.dw_unit.specs.MapKeys.{KeepsKeys}

@@ -1,6 +1,6 @@
 use Rattle.std.proofs.Common.{rules, ◌≡◌, ◌≤◌, ◌<◌, ◌∙◌, ◌++◌, ◌∷◌, [], ⊎_elim, refl, ℕ, List, sym, ap, subst, arith, length, min}
 use Rattle.std.proofs.lemmas.Bool.{cases_lt}
-use Rattle.table_core.specs.ReadSteps.{least}
+use Rattle.answer_runs.specs.Choices.{least}
 use Rattle.dw_unit.specs.declared.start.Start.{Start}
 use Rattle.dw_unit.specs.declared.indexed_table.IndexedTable.{IndexedTable}
 use Rattle.dw_unit.specs.Declarations.{Table, table_at, has_bad_form, has_bad_high}

@@ -1,6 +1,6 @@
 use Rattle.std.proofs.Common.{rules, ◌≡◌, ◌∙◌, ℕ, Some, ap, sym}
 use Rattle.cfi_rows.specs.ReadFrames.{read_as}
-use Rattle.table_core.specs.FirstRanges.{first_range}
+use Rattle.answer_runs.specs.FirstRanges.{first_range}
 use Rattle.frame_rewrite.proofs.ToldEntries.{told-alike}
 use Rattle.frame_rewrite.proofs.lookup.alike.Goals as goal
 

@@ -3,7 +3,7 @@ use Rattle.std.specs.Prelude.{slice_get, map}
 use Rattle.cfi_rows.specs.ReadEntries.{fde_of}
 use Rattle.cfi_rows.specs.ReadFrames.{read_as}
 use Rattle.cfi_rows.specs.KeptTables.{SaidFrames}
-use Rattle.table_core.specs.FirstRanges.{first_range}
+use Rattle.answer_runs.specs.FirstRanges.{first_range}
 use Rattle.frame_rewrite.proofs.ToldEntries.{told-none, item-at, some-row, no-row}
 use Rattle.frame_rewrite.proofs.lookup.tell.Goals as goal
 

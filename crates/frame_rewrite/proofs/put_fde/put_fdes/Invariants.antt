@@ -1,6 +1,6 @@
 use Rattle.std.proofs.Common.{◌≡◌, ◌≤◌, ◌*◌, ◌-◌, ◌++◌, length, ◌^◌}
 use Rattle.std.specs.Prelude.{All}
-use Rattle.table_core.specs.AnswerRuns.{IsWithin}
+use Rattle.answer_runs.specs.AnswerRuns.{IsWithin}
 use Rattle.frame_rewrite.specs.SpelledFrames.{spelled_entries, fde_entries}
 use Rattle.frame_rewrite.specs.SpelledFits.{RunAscends, WritesAll}
 use Rattle.frame_rewrite.proofs.TableBack.{Before}

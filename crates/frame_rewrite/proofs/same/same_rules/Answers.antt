@@ -1,5 +1,5 @@
 use Rattle.std.proofs.Common.{arith, sym, ◌∙◌, refl, ◌≤◌, ◌<◌, length}
-use Rattle.table_core.proofs.SameLists.{same-more, same-end}
+use Rattle.answer_runs.proofs.SameLists.{same-more, same-end}
 use Rattle.frame_rewrite.proofs.same.same_rules.Goals as goal
 
 pub loop-i-preserved : goal.loop-i-preserved

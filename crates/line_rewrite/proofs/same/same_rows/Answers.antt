@@ -1,5 +1,5 @@
 use Rattle.std.proofs.Common.{arith, sym, ◌∙◌, refl, ◌≤◌, ◌<◌, length}
-use Rattle.table_core.proofs.SameLists.{same-more, same-end}
+use Rattle.answer_runs.proofs.SameLists.{same-more, same-end}
 use Rattle.line_rewrite.proofs.same.same_rows.Goals as goal
 
 pub loop-i-preserved : goal.loop-i-preserved

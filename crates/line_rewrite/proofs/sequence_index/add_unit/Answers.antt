@@ -1,5 +1,5 @@
 use Rattle.std.proofs.Common.{◌≡◌, ◌∙◌, ◌<◌, ◌≤◌, ◌++◌, ◌∷◌, [], ap, arith, length, get_or, List}
-use Rattle.table_core.specs.declared.range.Range.{Range}
+use Rattle.answer_runs.specs.declared.range.Range.{Range}
 use Rattle.line_rewrite.specs.declared.kept.KeptSequence.{KeptSequence}
 use Rattle.line_rewrite.specs.SequenceIndex.{kept_range, place_of}
 use Rattle.line_rewrite.proofs.Indexing.{numbered_more, numbered_done}

@@ -1,10 +1,10 @@
 use Rattle.std.proofs.Common.{◌≡◌, ◌∙◌, ap, subst, map, ℕ, List, IfOk}
 use Rattle.std.specs.Prelude.{position}
 use Rattle.std.proofs.lemmas.List.{take_all}
-use Rattle.table_core.specs.declared.range.Range.{Range}
-use Rattle.table_core.specs.AddressRanges.{holds_address}
+use Rattle.answer_runs.specs.declared.range.Range.{Range}
+use Rattle.answer_runs.specs.AddressRanges.{holds_address}
+use Rattle.answer_runs.specs.FirstRanges.{first_range}
 use Rattle.table_core.specs.DebugUnits.{walked}
-use Rattle.table_core.specs.FirstRanges.{first_range}
 use Rattle.line_rewrite.specs.UnitLists.{place_range}
 use Rattle.line_rewrite.proofs.Indexing.{ranges_more}
 use Rattle.line_rewrite.proofs.unit_list.offsets_of.Goals as goal

@@ -1,8 +1,8 @@
 use Rattle.std.proofs.Common.{◌≡◌, ◌∙◌, ◌+◌, ◌-◌, ◌*◌, ◌^◌, ℕ, sym, ap, arith, rules, min, take, get_or, length}
 use Rattle.std.specs.Prelude.{sum_by}
 use Rattle.std.proofs.lemmas.List.Sums.{sum_by_more}
-use Rattle.table_core.specs.declared.run.Run.{Run}
-use Rattle.table_core.specs.Weights.{run_weight}
+use Rattle.answer_runs.specs.declared.run.Run.{Run}
+use Rattle.answer_runs.specs.Weights.{run_weight}
 use Rattle.line_rewrite.specs.LineAnswers.{LineSaid}
 use Rattle.line_rewrite.specs.Tables.{row_weight}
 use Rattle.line_rewrite.proofs.weight.weight_of.Goals as goal

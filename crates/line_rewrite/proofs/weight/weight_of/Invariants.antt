@@ -1,6 +1,6 @@
 use Rattle.std.proofs.Common.{◌≡◌, ◌+◌, ◌*◌, ◌-◌, ◌^◌, length, take}
 use Rattle.std.specs.Prelude.{min, sum_by}
-use Rattle.table_core.specs.Weights.{run_weight}
+use Rattle.answer_runs.specs.Weights.{run_weight}
 use Rattle.line_rewrite.specs.Tables.{row_weight}
 use Rattle.line_rewrite.proofs.weight.weight_of.Given as goal
 

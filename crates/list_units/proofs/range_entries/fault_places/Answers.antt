@@ -1,7 +1,7 @@
 use Rattle.std.proofs.Common.{◌≡◌, ◌∙◌, ◌++◌, ℕ, false, List, sym, ap, map, filter}
 use Rattle.std.specs.Prelude.{flat_map, not}
 use Rattle.std.specs.Option.{option_or, option_map_or}
-use Rattle.table_core.specs.ReadSteps.{lower, least}
+use Rattle.answer_runs.specs.Choices.{lower, least}
 use Rattle.table_core.specs.DebugUnits.{Walked, walked, first_place, other_version}
 use Rattle.dw_unit.specs.CompUnits.{unit_of}
 use Rattle.dw_unit.specs.Declarations.{has_bad_form}

@@ -1,6 +1,6 @@
 use Rattle.std.proofs.Common.{◌≡◌, ◌∙◌, Some, None, List, ℕ, ap, sym, refl, subst}
 use Rattle.std.specs.Prelude.{is_some}
-use Rattle.table_core.specs.ReadSteps.{lower}
+use Rattle.answer_runs.specs.Choices.{lower}
 use Rattle.dw_lists.specs.Faults.{table_place}
 use Rattle.dw_lists.specs.Lists.{locations_kind, list_offset}
 use Rattle.list_units.specs.ReadLists.{AreListed, offsets_in}

@@ -1,7 +1,7 @@
 use Rattle.std.proofs.Common.{◌∙◌, ◌++◌, ℕ, List, All, ap, sym, subst, append-nil}
 use Rattle.std.specs.Global.{Vec}
 use Rattle.std.proofs.lemmas.List.Elements.{All-nil}
-use Rattle.table_core.specs.declared.run.Run.{Run}
+use Rattle.answer_runs.specs.declared.run.Run.{Run}
 use Rattle.cover_lists.specs.ListRuns.{said}
 use Rattle.list_writer.specs.WrittenLocations.{over}
 use Rattle.list_writer.proofs.SpelledLists.{spelled_more}

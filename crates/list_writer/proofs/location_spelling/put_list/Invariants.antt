@@ -1,6 +1,6 @@
 use Rattle.std.proofs.Common.{◌≡◌, ◌++◌, take, All}
 use Rattle.std.specs.Prelude.{flat_map}
-use Rattle.table_core.specs.AnswerRuns.{said_runs}
+use Rattle.answer_runs.specs.AnswerRuns.{said_runs}
 use Rattle.cover_lists.specs.ListRuns.{said}
 use Rattle.list_writer.specs.WrittenLocations.{bounded}
 use Rattle.list_writer.proofs.SpelledLocations.{run_bytes, Fits}

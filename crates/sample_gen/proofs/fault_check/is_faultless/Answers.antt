@@ -6,7 +6,7 @@ use Rattle.rv_code.specs.layout.FunctionLists.{AreLaidOut}
 use Rattle.rv_code.specs.layout.ProgramCode.{IsNamed}
 use Rattle.elf_image.specs.declared.segment.Segment.{Segment}
 use Rattle.elf_image.proofs.ReadLists.{length-segments_of}
-use Rattle.table_core.specs.Weights.{weight_limit}
+use Rattle.answer_runs.specs.Weights.{weight_limit}
 use Rattle.elf_plan.specs.NameWeight.{name_weight}
 use Rattle.func_place.specs.Faults.{HasPlacementFault}
 use Rattle.program.specs.Limits.{IsCodeTooLarge}

@@ -3,8 +3,8 @@ use Rattle.std.proofs.lemmas.Result.{IfOk-weaker}
 use Rattle.rv_code.specs.declared.cell.CodeCell.{CodeCell}
 use Rattle.rv_code.specs.declared.placed.Func.{Func}
 use Rattle.program.specs.Program.{IsProgramOf, program_seen}
+use Rattle.sample_file.specs.FoundCode.{HasSampleCode}
 use Rattle.sample_gen.specs.Faultless.{HasNoFault}
-use Rattle.sample_gen.specs.FoundCode.{HasSampleCode}
 use Rattle.sample_gen.proofs.sampling.is_sample.Goals as goal
 
 pub is_faultless-requires : goal.is_faultless-requires

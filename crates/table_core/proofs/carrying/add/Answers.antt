@@ -1,11 +1,11 @@
 use Rattle.std.proofs.Common.{arith, ◌≢◌, sym, refl, ◌∙◌, ap, ◌^◌, Some, subst}
 use Rattle.std.specs.Option.{option_or}
-use Rattle.table_core.specs.LastRuns.{IfLast, IsAnswer, ends_at}
-use Rattle.table_core.specs.declared.run.Run.{Run}
-use Rattle.table_core.specs.AnswerRuns.{said_runs, run_at, answer_over}
-use Rattle.table_core.proofs.Grown.{run_at-more, longest-more, within-more, answer-more, said-more, IsApart, apart-end, last-weaker}
-use Rattle.table_core.proofs.Grown.{run_at-longer, within-longer, longest-longer, answer-longer, said-longer, said-ends, last-room}
-use Rattle.table_core.proofs.Grown.{unsaid-within, and_then-Some}
+use Rattle.answer_runs.specs.LastRuns.{IfLast, IsAnswer, ends_at}
+use Rattle.answer_runs.specs.declared.run.Run.{Run}
+use Rattle.answer_runs.specs.AnswerRuns.{said_runs, run_at, answer_over}
+use Rattle.answer_runs.proofs.Grown.{run_at-more, longest-more, within-more, answer-more, said-more, IsApart, apart-end, last-weaker}
+use Rattle.answer_runs.proofs.Grown.{run_at-longer, within-longer, longest-longer, answer-longer, said-longer, said-ends, last-room}
+use Rattle.answer_runs.proofs.Grown.{unsaid-within, and_then-Some}
 use Rattle.table_core.proofs.carrying.add.Goals as goal
 use Rattle.table_core.proofs.carrying.add.Goals.{else-ends_at-via-then-ends_at+else-ends_with, else-ends_at-via-else-ends_at}
 

@@ -1,8 +1,8 @@
 use Rattle.std.proofs.Common.{arith, sym, refl, ◌∙◌, ap, ◌^◌, subst}
-use Rattle.table_core.specs.LastRuns.{IsAnswer, ends_at}
-use Rattle.table_core.specs.AnswerRuns.{said_runs}
-use Rattle.table_core.proofs.Grown.{run_at-longer, within-longer, longest-longer, answer-longer, said-longer, said-ends, last-room}
-use Rattle.table_core.proofs.Grown.{unsaid-within, within-up}
+use Rattle.answer_runs.specs.LastRuns.{IsAnswer, ends_at}
+use Rattle.answer_runs.specs.AnswerRuns.{said_runs}
+use Rattle.answer_runs.proofs.Grown.{run_at-longer, within-longer, longest-longer, answer-longer, said-longer, said-ends, last-room}
+use Rattle.answer_runs.proofs.Grown.{unsaid-within, within-up}
 use Rattle.table_core.proofs.carrying.add_span.Goals as goal
 
 pub ends_at-requires : goal.ends_at-requires

@@ -1,7 +1,7 @@
 use Rattle.std.proofs.Common.{◌≡◌, ◌∙◌, ℕ, option_map}
 use Rattle.std.proofs.lemmas.Result.{IfOk-weaker}
-use Rattle.table_core.specs.AnswerRuns.{run_at, carried}
-use Rattle.table_core.proofs.Grown.{said_at, unsaid-within, wanted-same}
+use Rattle.answer_runs.specs.AnswerRuns.{run_at, carried}
+use Rattle.answer_runs.proofs.Grown.{said_at, unsaid-within, wanted-same}
 use Rattle.table_core.proofs.carrying.carry.Goals as goal
 
 pub runs_of-requires-clause-low : goal.runs_of-requires-clause-low

@@ -1,6 +1,6 @@
 use Rattle.std.proofs.Common.{arith, ◌≡◌, ◌≢◌, sym, ap, Some, false, IsTrue}
 use Rattle.std.proofs.lemmas.Option.{get_or_from_slice_get, slice_get_within}
-use Rattle.table_core.proofs.Grown.{last-get, said-last}
+use Rattle.answer_runs.proofs.Grown.{last-get, said-last}
 use Rattle.table_core.proofs.carrying.ends_with.Goals as goal
 
 pub returns-in-Some-clause-has : goal.returns-in-Some-clause-has

@@ -1,6 +1,6 @@
 use Rattle.std.proofs.Common.{arith, ◌≤◌, sym, length}
-use Rattle.table_core.proofs.NewCode.{made_more, made_same, past}
-use Rattle.table_core.proofs.SilentTables.{no_runs}
+use Rattle.answer_runs.proofs.NewCode.{made_more, made_same, past}
+use Rattle.answer_runs.proofs.SilentTables.{no_runs}
 use Rattle.table_core.proofs.carrying.runs_of.Goals as goal
 use Rattle.table_core.proofs.carrying.runs_of.Goals.{in-Some+then-span-gt0+in_ok-add_span, in-Some+else-span-gt0, in_default}
 

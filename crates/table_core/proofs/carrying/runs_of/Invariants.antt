@@ -1,6 +1,6 @@
-use Rattle.table_core.specs.LastRuns.{IsAnswer}
-use Rattle.table_core.specs.AnswerRuns.{said_runs}
-use Rattle.table_core.proofs.NewCode.{AreMade}
+use Rattle.answer_runs.specs.LastRuns.{IsAnswer}
+use Rattle.answer_runs.specs.AnswerRuns.{said_runs}
+use Rattle.answer_runs.proofs.NewCode.{AreMade}
 use Rattle.table_core.proofs.carrying.runs_of.Given as goal
 
 abbrev pub invariant-loop-i : goal.invariant-loop-i

@@ -2,7 +2,7 @@ use Rattle.std.proofs.Common.{◌≡◌, ◌<◌, ◌≤◌, ◌-◌, ◌^◌, �
 use Rattle.std.proofs.lemmas.Bool.{ltb-false}
 use Rattle.dw_unit.specs.AbbrevWeight.{abbrev_weight}
 use Rattle.dw_unit.specs.Tables.{sections_of}
-use Rattle.table_core.specs.Weights.{weight_limit}
+use Rattle.answer_runs.specs.Weights.{weight_limit}
 use Rattle.line_rewrite.specs.Tables.{IsLineWeight, LineSections}
 use Rattle.range_loc_rewrite.specs.Faults.{ListSections}
 use Rattle.range_loc_rewrite.specs.Weights.{IsPlacesWeight, IsRangesWeight}

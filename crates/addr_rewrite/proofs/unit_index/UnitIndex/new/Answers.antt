@@ -1,7 +1,7 @@
 use Rattle.std.proofs.Common.{◌∙◌, List, ap}
 use Rattle.std.specs.Prelude.{position}
-use Rattle.table_core.specs.AddressRanges.{holds_address}
-use Rattle.table_core.specs.declared.range.Range.{Range}
+use Rattle.answer_runs.specs.AddressRanges.{holds_address}
+use Rattle.answer_runs.specs.declared.range.Range.{Range}
 use Rattle.addr_rewrite.proofs.IndexedUnits.{indexed}
 use Rattle.addr_rewrite.proofs.unit_index.UnitIndex.new.Goals as goal
 

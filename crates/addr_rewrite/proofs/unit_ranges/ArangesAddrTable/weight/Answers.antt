@@ -1,8 +1,8 @@
 use Rattle.std.proofs.Common.{◌∙◌, ◌+◌, ◌-◌, ◌*◌, ◌^◌, refl, sym, ap, ℕ, List, length, min}
 use Rattle.std.specs.Prelude.{sum_by}
-use Rattle.table_core.specs.AnswerRuns.{said_runs}
-use Rattle.table_core.specs.Weights.{run_weight}
-use Rattle.table_core.specs.declared.run.Run.{Run}
+use Rattle.answer_runs.specs.AnswerRuns.{said_runs}
+use Rattle.answer_runs.specs.Weights.{run_weight}
+use Rattle.answer_runs.specs.declared.run.Run.{Run}
 use Rattle.addr_rewrite.proofs.ArangesLaw.{weight_is}
 use Rattle.addr_rewrite.proofs.unit_ranges.ArangesAddrTable.weight.Goals as goal
 

@@ -1,5 +1,5 @@
 use Rattle.std.proofs.Common.{◌∙◌, sym, ap}
-use Rattle.table_core.specs.ReadSteps.{least}
+use Rattle.answer_runs.specs.Choices.{least}
 use Rattle.dw_unit.specs.Declarations.{Table, has_bad_form, has_bad_high}
 use Rattle.dw_unit.specs.Faults.{places_with}
 use Rattle.dw_unit.proofs.tables.Tables.find.Goals as goal

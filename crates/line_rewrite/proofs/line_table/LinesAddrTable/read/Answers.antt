@@ -1,9 +1,9 @@
 use Rattle.std.proofs.Common.{◌≡◌, ◌∙◌, subst, map, ℕ, List, None}
 use Rattle.std.specs.Prelude.{position}
 use Rattle.std.proofs.lemmas.Result.{err_from_is_err_and}
-use Rattle.table_core.specs.AddressRanges.{holds_address}
+use Rattle.answer_runs.specs.AddressRanges.{holds_address}
+use Rattle.answer_runs.specs.FirstRanges.{first_range}
 use Rattle.table_core.specs.DebugUnits.{walked}
-use Rattle.table_core.specs.FirstRanges.{first_range}
 use Rattle.line_rewrite.specs.declared.unit.Unit as kept
 use Rattle.line_rewrite.specs.SequenceIndex.{IsIndexOf}
 use Rattle.line_rewrite.specs.Tables.{LineSections, line_sections, line_sections_held, line_version}

@@ -1,7 +1,7 @@
 use Rattle.std.proofs.Common.{◌∙◌, ◌-◌, ◌^◌, refl, sym, ap, ℕ, List, min}
 use Rattle.std.specs.Prelude.{sum_by}
-use Rattle.table_core.specs.declared.run.Run.{Run}
-use Rattle.table_core.specs.AnswerRuns.{said_runs}
+use Rattle.answer_runs.specs.declared.run.Run.{Run}
+use Rattle.answer_runs.specs.AnswerRuns.{said_runs}
 use Rattle.line_rewrite.specs.LineAnswers.{LineSaid}
 use Rattle.line_rewrite.proofs.TableReads.{weight_in, said_weight}
 use Rattle.line_rewrite.proofs.line_table.LinesAddrTable.weight.Goals as goal

@@ -1,8 +1,8 @@
 use Rattle.std.proofs.Common.{◌≡◌, ◌∙◌, ◌++◌, ap, subst, map, ℕ, List}
 use Rattle.std.specs.Prelude.{position}
-use Rattle.table_core.specs.declared.range.Range.{Range}
-use Rattle.table_core.specs.AddressRanges.{holds_address}
-use Rattle.table_core.specs.FirstRanges.{first_range}
+use Rattle.answer_runs.specs.declared.range.Range.{Range}
+use Rattle.answer_runs.specs.AddressRanges.{holds_address}
+use Rattle.answer_runs.specs.FirstRanges.{first_range}
 use Rattle.line_rewrite.specs.declared.unit.Unit as kept
 use Rattle.line_rewrite.specs.SequenceIndex.{unit_numbered, kept_range, place_of}
 use Rattle.line_rewrite.proofs.Indexing.{all_more, all_done}

@@ -1,8 +1,8 @@
 use Rattle.std.proofs.Common.{◌≡◌, ◌∙◌, ℕ, List, [], ap, sym, subst, map, length, All}
 use Rattle.std.specs.Global.{Vec}
 use Rattle.rb_bytes.specs.FirstFault.{IsFree}
-use Rattle.table_core.specs.AnswerRuns.{carried, AreRunsOf}
-use Rattle.table_core.specs.CarriedAnswers.{IsCarriedFrom}
+use Rattle.answer_runs.specs.AnswerRuns.{carried, AreRunsOf}
+use Rattle.answer_runs.specs.CarriedAnswers.{IsCarriedFrom}
 use Rattle.dw_unit.specs.Faults.{HasDwarfFault}
 use Rattle.dw_unit.proofs.EntryPlaces.{places_ascend}
 use Rattle.cover_lists.specs.declared.kept_list.KeptList.{KeptList}

@@ -1,5 +1,5 @@
 use Rattle.std.proofs.Common.{◌≡◌, ℕ, List, Option, sym, subst}
-use Rattle.table_core.specs.CarriedAnswers.{IsCarried}
+use Rattle.answer_runs.specs.CarriedAnswers.{IsCarried}
 use Rattle.dw_lists.specs.Locations.{PlaceSaid}
 use Rattle.dw_lists.specs.Tables.{place_answers}
 use Rattle.range_loc_rewrite.proofs.location_lists.PlacesAddrTable.write_runs.Goals as goal

@@ -1,5 +1,5 @@
 use Rattle.std.proofs.Common.{◌≡◌, ◌∙◌, ℕ, List, All, ap, sym, subst, nat_le}
-use Rattle.table_core.specs.ReadSteps.{unless_empty}
+use Rattle.answer_runs.specs.Choices.{unless_empty}
 use Rattle.dw_lists.specs.Faults.{ListSections}
 use Rattle.dw_lists.specs.ListTables.{place_says}
 use Rattle.range_loc_rewrite.proofs.location_lists.PlacesByAddress.alike.Goals as goal

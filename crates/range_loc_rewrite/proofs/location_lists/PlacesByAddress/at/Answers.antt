@@ -1,6 +1,6 @@
 use Rattle.std.proofs.Common.{◌≡◌, ◌∙◌, ap}
 use Rattle.std.specs.Prelude.{flat_map}
-use Rattle.table_core.specs.ReadSteps.{unless_empty}
+use Rattle.answer_runs.specs.Choices.{unless_empty}
 use Rattle.dw_lists.specs.Faults.{ListSections, list_sections_held}
 use Rattle.range_loc_rewrite.specs.KeptPlaces.{said_by_number, ranged_of}
 use Rattle.dw_lists.specs.ListTables.{place_says}

@@ -1,8 +1,8 @@
 use Rattle.std.proofs.Common.{◌≡◌, ◌∙◌, ◌<◌, ℕ, List, [], ap, sym, subst, map, length}
 use Rattle.std.specs.Global.{Vec}
 use Rattle.std.specs.List.Sorted.{IsNonDecreasing}
-use Rattle.table_core.specs.AnswerRuns.{carried, AreRunsOf}
-use Rattle.table_core.specs.CarriedAnswers.{IsCarriedFrom}
+use Rattle.answer_runs.specs.AnswerRuns.{carried, AreRunsOf}
+use Rattle.answer_runs.specs.CarriedAnswers.{IsCarriedFrom}
 use Rattle.cover_lists.specs.declared.cover_tree.Cover.{Cover}
 use Rattle.cover_lists.specs.GroupRuns.{AreApart, held_by, runs_in}
 use Rattle.dw_lists.specs.declared.list_kind.ListKind.TheVariants.{Ranges}

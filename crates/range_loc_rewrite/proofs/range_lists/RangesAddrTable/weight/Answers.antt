@@ -1,8 +1,8 @@
 use Rattle.std.proofs.Common.{◌∙◌, ◌+◌, ◌-◌, ◌*◌, ◌^◌, ◌<◌, ℕ, List, ap, sym, subst, length, min}
 use Rattle.std.specs.Prelude.{sum_by}
 use Rattle.std.specs.List.Sorted.{IsNonDecreasing}
-use Rattle.table_core.specs.AnswerRuns.{carried, AreRunsOf}
-use Rattle.table_core.specs.Weights.{run_weight}
+use Rattle.answer_runs.specs.AnswerRuns.{carried, AreRunsOf}
+use Rattle.answer_runs.specs.Weights.{run_weight}
 use Rattle.cover_lists.specs.declared.cover_tree.Cover.{Cover}
 use Rattle.cover_lists.specs.GroupRuns.{AreApart, held_by, runs_in}
 use Rattle.dw_lists.specs.Faults.{ListSections, list_sections_held}

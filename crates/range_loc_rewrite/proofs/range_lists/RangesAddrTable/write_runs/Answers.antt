@@ -1,5 +1,5 @@
 use Rattle.std.proofs.Common.{◌≡◌, ℕ, List, Option, sym, subst}
-use Rattle.table_core.specs.CarriedAnswers.{IsCarried}
+use Rattle.answer_runs.specs.CarriedAnswers.{IsCarried}
 use Rattle.dw_lists.specs.Tables.{range_answers}
 use Rattle.range_loc_rewrite.proofs.range_lists.RangesAddrTable.write_runs.Goals as goal
 

@@ -1,6 +1,6 @@
 use Rattle.std.proofs.Common.{◌≡◌, ◌∙◌, ap}
 use Rattle.std.specs.Prelude.{filter_map}
-use Rattle.table_core.specs.ReadSteps.{unless_empty}
+use Rattle.answer_runs.specs.Choices.{unless_empty}
 use Rattle.cover_lists.specs.CoverIndex.{place_at}
 use Rattle.dw_lists.specs.Faults.{ListSections, list_sections_held}
 use Rattle.dw_lists.specs.ListTables.{range_says}

@@ -1,0 +1,11 @@
+pub mod Grown
+pub mod NewCode
+pub mod OnlyRuns
+pub mod MergedPieces
+pub mod FoundFirst
+pub mod OnlyWeights
+pub mod SameLists
+pub mod SilentTables
+pub mod Pigeonhole
+pub mod RunStarts
+pub mod Ascending

@@ -1,0 +1,40 @@
+// The first of many ranges that holds an address.
+ghost use Rattle.std.specs.Prelude.{◌≡◌, ℕ, IfOk, position};
+ghost use Rattle.std.specs.List.Sorted.{IsNonDecreasingBy};
+ghost use Rattle.answer_runs.specs.AddressRanges.{holds_address};
+
+use crate::pieces::{Piece, count_up_to, pieces_of};
+use crate::range::Range;
+use rb_bytes::fault::NoMemory;
+use std::alloc::Global;
+
+/// Which of many ranges is the first that holds an address. It is made in the time of a sort, takes 64 bytes a range,
+/// and answers in the time of a binary search.
+#[derive(Drop)]
+pub struct FirstRange {
+    pieces: Vec<Piece>,
+    ghost rises: { IsNonDecreasingBy (λ p. p.start) pieces.items },
+}
+
+impl FirstRange {
+    ghost use Rattle.answer_runs.specs.FirstRanges.{first_range};
+
+    /// An index of some ranges, which are numbered from 0.
+    pub fn new(alloc: Global, ranges: &[Range]) -> Result<FirstRange, NoMemory>
+        ensures { IfOk result (λ index. (a : ℕ) → first_range index a ≡ position (holds_address a) ranges.now) }
+    {
+        let pieces = pieces_of(alloc, ranges, 0)?;
+        Ok(FirstRange { pieces })
+    }
+
+    /// The number of the first range that holds an address.
+    pub fn find(&self, a: u64) -> Option<usize>
+        ensures { result ≡ first_range self.now a }
+    {
+        let started = count_up_to(&self.pieces, a as u128);
+        if started == 0 {
+            return None;
+        }
+        self.pieces[started - 1].first
+    }
+}

@@ -1,0 +1,15 @@
+//! Stretches of addresses with one answer, their sizes, and which of many ranges is the first that holds an address.
+#![tactic(auto)]
+
+mod first_range;
+mod last_run;
+mod pieces;
+pub mod range;
+pub mod run;
+mod weights;
+
+pub use first_range::FirstRange;
+pub use last_run::{ends_at, lengthen};
+pub use range::Range;
+pub use run::Run;
+pub use weights::{ANSWER_SIZE, MOST_BESIDE, RUN_WEIGHT, WEIGHT_LIMIT};

@@ -1,0 +1,3 @@
+pub mod SampleCode
+pub mod SampleText
+pub mod FoundCode
