@@ -1,5 +1,6 @@
 use Rattle.std.proofs.Common.{◌≡◌, ◌-◌, ◌≤◌, ◌∙◌, length, take, drop, ap, arith, refl, length-append}
 use Rattle.std.proofs.lemmas.List.{length-take}
+use Rattle.std.proofs.lemmas.Grind.{common_steps}
 use Rattle.addr_map.proofs.Texts.{piece_is, taken_more, taken_front, text_more}
 use Rattle.addr_map.proofs.text.print_text.Goals as goal
 
@@ -35,3 +36,9 @@ loop-first-preserved g c =
       taken = taken_more _ _ _ _ lines first last l.taken c.in-Took.ensures.all piece le;
       never_falls = omega arith;
     }
+
+pub returns-clause-whole : goal.returns-clause-whole
+returns-clause-whole c = grind (arith, common_steps)
+
+pub returns-clause-all : goal.returns-clause-all
+returns-clause-all c = grind (arith, common_steps)

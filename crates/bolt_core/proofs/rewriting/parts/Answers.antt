@@ -1,5 +1,6 @@
-use Rattle.std.proofs.Common.{◌≡◌, subst, sym, ℕ, List}
+use Rattle.std.proofs.Common.{◌≡◌, subst, sym, ℕ, List, arith}
 use Rattle.std.proofs.lemmas.Result.{IfOk-weaker}
+use Rattle.std.proofs.lemmas.Grind.{common_steps}
 use Rattle.rv_code.specs.declared.cell.CodeCell.{CodeCell}
 use Rattle.rv_code.specs.declared.placed.Block.{Block}
 use Rattle.rv_code.specs.declared.placed.Func.{Func}
@@ -58,3 +59,6 @@ returns-clause-parts c =
       edges_are = edges.edges_are;
       chains = chains;
     }) c.chains_by.ensures.chains
+
+pub edges-requires-clause-targets : goal.edges-requires-clause-targets
+edges-requires-clause-targets c = grind (arith, common_steps)

@@ -1,4 +1,5 @@
 use Rattle.std.proofs.Common.{◌≡◌, ◌+◌, ◌<◌, ◌^◌, arith}
+use Rattle.std.proofs.lemmas.Grind.{common_steps}
 use Rattle.branch_fixup.specs.Growth.{end_at, block_offset}
 use Rattle.branch_fixup.proofs.Rounds.{place-more, place_low, pushed}
 use Rattle.branch_fixup.proofs.growth.places.Goals as goal
@@ -35,3 +36,6 @@ loop-k-preserved c =
 
 pub returns-clause-low : goal.returns-clause-low
 returns-clause-low c = place_low c.args.block_ends.now c.args.forms.now c.requires.block_ends
+
+pub overflow_add-at : goal.overflow_add-at
+overflow_add-at c = grind (arith, common_steps)

@@ -1,4 +1,5 @@
 use Rattle.std.proofs.Common.{◌+◌, arith}
+use Rattle.std.proofs.lemmas.Grind.{common_steps}
 use Rattle.branch_fixup.proofs.Appended.{no_inst, inner_more, end_more, end_part}
 use Rattle.branch_fixup.proofs.spans.put_inner.Goals as goal
 
@@ -19,3 +20,9 @@ loop-inst-preserved c = (
   end_more c.args.at c.loop-inst.at c.args.insts.now
       c.loop-inst.inst-index no_inst (omega arith) c.loop-inst.invariant.1,
 )
+
+pub returns-clause-spans : goal.returns-clause-spans
+returns-clause-spans c = grind (arith, common_steps)
+
+pub returns-clause-end : goal.returns-clause-end
+returns-clause-end c = grind (arith, common_steps)

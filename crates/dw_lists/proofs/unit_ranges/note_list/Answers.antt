@@ -1,4 +1,5 @@
-use Rattle.std.proofs.Common.{◌≡◌, ◌∙◌, Some, List, ℕ, ap, sym, refl}
+use Rattle.std.proofs.Common.{◌≡◌, ◌∙◌, Some, List, ℕ, ap, sym, refl, arith}
+use Rattle.std.proofs.lemmas.Grind.{common_steps}
 use Rattle.std.specs.Prelude.{is_some}
 use Rattle.answer_runs.specs.Choices.{lower}
 use Rattle.dw_lists.specs.Faults.{table_place}
@@ -34,3 +35,9 @@ returns-in-None c = λ s u attrs b r n k noted.
           (c.lower.ensures ∙ ap (λ (n : ℕ). lower c.args.others.bad (Some n)) (c.table_place.ensures
           ∙ ap (λ (l : List ℕ). table_place l c.in-Some.at) b)),
     )
+
+pub returns-then-not-has_list : goal.returns-then-not-has_list
+returns-then-not-has_list c = grind (arith, common_steps)
+
+pub returns-in_default : goal.returns-in_default
+returns-in_default c = grind (arith, common_steps)

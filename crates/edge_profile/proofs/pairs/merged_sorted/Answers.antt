@@ -1,4 +1,5 @@
-use Rattle.std.proofs.Common.{rules}
+use Rattle.std.proofs.Common.{rules, arith}
+use Rattle.std.proofs.lemmas.Grind.{common_steps}
 use Rattle.edge_profile.proofs.Merging.{merged_more, merged_all}
 use Rattle.edge_profile.proofs.pairs.merged_sorted.Goals as goal
 
@@ -11,3 +12,6 @@ pub returns : goal.returns
 returns c =
     merged_all c.args.said.now c.loop-p.p-index c.loop-p.pairs.items c.loop-p-test.false
     c.loop-p.auto.p-index-end c.loop-p.invariant
+
+pub loop-p-preserved-then-p-eq0 : goal.loop-p-preserved-then-p-eq0
+loop-p-preserved-then-p-eq0 c = grind (arith, common_steps)

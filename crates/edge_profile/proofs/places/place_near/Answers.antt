@@ -1,5 +1,6 @@
 use Rattle.std.proofs.Common.{◌≡◌, ◌<◌, ◌-◌, length, arith, sym, subst, AllPairs, false, List}
 use Rattle.std.proofs.lemmas.List.{get_or_default}
+use Rattle.std.proofs.lemmas.Grind.{common_steps}
 use Rattle.rv_code.specs.declared.placed.Func.{Func}
 use Rattle.rv_code.specs.declared.placed.Placed.{Placed}
 use Rattle.edge_profile.specs.Weights.{starts_at}
@@ -31,3 +32,6 @@ returns-in_err-inst-clause-none c =
     subst (λ (insts : List Placed). starts_at insts c.args.address ≡ false) c.deref.ensures.value c.in_err-inst.ensures.none in
     subst (λ (f : Func). starts_at f.insts.items c.args.address ≡ false)
     (get_or_default c.args.funcs.now (c.count_up_to-below.result - 1) c.index-funcs-func.result d within) here))
+
+pub returns-clause-some : goal.returns-clause-some
+returns-clause-some c = grind (arith, common_steps)

@@ -1,4 +1,5 @@
 use Rattle.std.proofs.Common.{◌+◌, ◌∙◌, ap, sym, subst, arith, take}
+use Rattle.std.proofs.lemmas.Grind.{common_steps}
 use Rattle.elf_image.specs.file.Sections.{text_of}
 use Rattle.elf_image.specs.file.Symbols.{symbol_names}
 use Rattle.edge_profile.specs.NameEnds.{index_of, indices_in}
@@ -43,3 +44,6 @@ loop-index-preserved c =
     subst (AreKnown names (take (c.loop-index.index + 1) c.args.symbols.now)) (sym c.note_value.ensures)
     (known-more names c.args.symbols.now c.loop-index.index _ c.loop-index-test.true c.loop-index.known.items
     c.loop-index.invariant (sym c.names_function.ensures ∙ c.if-not-names_function.false) c.index_at-name.result own)
+
+pub returns : goal.returns
+returns c = grind (arith, common_steps)

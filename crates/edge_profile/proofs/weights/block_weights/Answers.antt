@@ -1,5 +1,6 @@
-use Rattle.std.proofs.Common.{◌∙◌, sym, subst, take, List, ℕ, ◌+◌}
+use Rattle.std.proofs.Common.{◌∙◌, sym, subst, take, List, ℕ, ◌+◌, arith}
 use Rattle.std.proofs.lemmas.List.{take_at, take_all}
+use Rattle.std.proofs.lemmas.Grind.{common_steps}
 use Rattle.edge_profile.specs.PairCounts.{Counted}
 use Rattle.edge_profile.proofs.Weighing.{AreWeights, weights_more, weights_all}
 use Rattle.edge_profile.proofs.weights.block_weights.Goals as goal
@@ -24,3 +25,12 @@ returns-clause-weights c =
     weights_all c.args.funcs.now c.args.blocks.now _ c.loop-pair.weights.items
     (subst (λ (pairs : List Counted). AreWeights c.args.funcs.now c.args.blocks.now pairs c.loop-pair.weights.items)
     all c.loop-pair.invariant)
+
+pub loop-pair-init : goal.loop-pair-init
+loop-pair-init c = grind (arith, common_steps)
+
+pub add-near-requires-clause-fits : goal.add-near-requires-clause-fits
+add-near-requires-clause-fits c = grind (arith, common_steps)
+
+pub returns-clause-few : goal.returns-clause-few
+returns-clause-few c = grind (arith, common_steps)

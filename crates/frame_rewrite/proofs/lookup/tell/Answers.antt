@@ -1,4 +1,5 @@
-use Rattle.std.proofs.Common.{rules, ◌≡◌, ◌∙◌, None, Some, ap, sym}
+use Rattle.std.proofs.Common.{rules, ◌≡◌, ◌∙◌, None, Some, ap, sym, arith}
+use Rattle.std.proofs.lemmas.Grind.{common_steps}
 use Rattle.std.specs.Prelude.{slice_get, map}
 use Rattle.cfi_rows.specs.ReadEntries.{fde_of}
 use Rattle.cfi_rows.specs.ReadFrames.{read_as}
@@ -29,3 +30,6 @@ returns-in-None c =
     let found : first_range c.args.index.now c.args.a ≡ Some c.in-Some.i = search rules in
     sym (no-row c.args.index.now (read_as c.args.frames.now).list c.args.a c.in-Some.i (c.requires c.args.a) found
     (c.in_ok-row.ensures ∙ c.in-None.is))
+
+pub returns-in_default-get : goal.returns-in_default-get
+returns-in_default-get c = grind (arith, common_steps)

@@ -1,5 +1,6 @@
-use Rattle.std.proofs.Common.{subst}
+use Rattle.std.proofs.Common.{subst, arith}
 use Rattle.std.proofs.lemmas.List.Elements.{All-more}
+use Rattle.std.proofs.lemmas.Grind.{common_steps}
 use Rattle.frame_rewrite.specs.SpelledFrames.{spelled_rule}
 use Rattle.frame_rewrite.proofs.Appends.{spelled-more, all-taken}
 use Rattle.frame_rewrite.proofs.EntrySteps.{EntryFits, rules-fit}
@@ -21,3 +22,6 @@ returns-clause-fits c =
     rules-fit 0 c.args.rules.now c.requires (all-taken EntryFits c.args.rules.now c.loop-register.register-index
     c.loop-register-test.false
     c.loop-register.invariant.fits)
+
+pub returns-clause-spelled : goal.returns-clause-spelled
+returns-clause-spelled c = grind (arith, common_steps)

@@ -1,4 +1,5 @@
-use Rattle.std.proofs.Common.{rules, ◌≡◌, ◌∙◌, ◌<◌, List, ap, length, subst}
+use Rattle.std.proofs.Common.{rules, ◌≡◌, ◌∙◌, ◌<◌, List, ap, length, subst, arith}
+use Rattle.std.proofs.lemmas.Grind.{common_steps}
 use Rattle.table_core.specs.DebugUnits.{Walked}
 use Rattle.inline_frames.specs.FileChains.{LacksPlaces, unit_links}
 use Rattle.inline_frames.proofs.FileUnits.{found_more, found_same, is_read, walked_at, walked_is, walked_same, walked_there}
@@ -37,3 +38,6 @@ loop-number-preserved-then-not-has_place c =
     found_same s.abbrevs s.addr c.args.str_offsets.now c.args.covering.now s.units n (walked_at s.units n) c.loop-number.found.items within
     (walked_there s.units n within) (walked_is s.units n within) c.requires
     (subst (LacksPlaces c.args.covering.now) is (c.has_place.ensures c.if-not-has_place.true)) c.loop-number.invariant
+
+pub returns : goal.returns
+returns c = grind (arith, common_steps)

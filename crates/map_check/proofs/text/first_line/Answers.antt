@@ -1,4 +1,5 @@
 use Rattle.std.proofs.Common.{◌≡◌, refl, sym, ◌∙◌, ◌<◌, ◌++◌, ◌∷◌, ◌^◌, ℕ, List, arith}
+use Rattle.std.proofs.lemmas.Grind.{common_steps}
 use Rattle.std.specs.Prelude.{decimal}
 use Rattle.rb_bytes.specs.Text.{hexadecimal}
 use Rattle.addr_map.specs.declared.span.Span.{Span}
@@ -30,3 +31,9 @@ returns-in_err-input-clause-none c =
     (decimal_lacks 32 s.len refl wide_s) (sym c.in_ok-len.ensures.some ∙ out.after) in
     c.in_err-input.ensures.none s.input rest fits.input len.after in
     in_none _ _ none
+
+pub returns-in_err-out-clause-none : goal.returns-in_err-out-clause-none
+returns-in_err-out-clause-none c = grind (arith, common_steps)
+
+pub returns-clause-some : goal.returns-clause-some
+returns-clause-some c = grind (arith, common_steps)

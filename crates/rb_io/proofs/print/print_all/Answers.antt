@@ -1,4 +1,5 @@
 use Rattle.std.proofs.Common.{arith}
+use Rattle.std.proofs.lemmas.Grind.{common_steps}
 use Rattle.rb_io.proofs.Printing.{TakesAll-take-add}
 use Rattle.rb_io.proofs.print.print_all.Goals as goal
 
@@ -9,3 +10,6 @@ loop-done-preserved g c = record {
       (rw c.split_at.ensures.back at c.in-Took.ensures.added);
   never_falls = omega arith;
 }
+
+pub returns-clause-all : goal.returns-clause-all
+returns-clause-all c = grind (arith, common_steps)

@@ -1,5 +1,6 @@
 use Rattle.std.proofs.Common.{◌≡◌, ◌∙◌, ◌+◌, ◌-◌, ◌*◌, ℕ, List, ◌++◌, ap, refl, rules, arith, length, take}
 use Rattle.std.proofs.lemmas.List.{length-map}
+use Rattle.std.proofs.lemmas.Grind.{common_steps}
 use Rattle.std.specs.Prelude.{map, replicate, string_bytes}
 use Rattle.elf_image.specs.memory.Break.{rounded_down}
 use Rattle.rv_memory.specs.Start.{program_arguments, random_address, random_bytes, texts, texts_address, start_bytes, stack_pointer}
@@ -47,3 +48,6 @@ returns c =
     ∙ ap (λ bytes. bytes ++ random_bytes)
     (c.in_ok-extend_from_slice.ensures.items ∙ ap (λ bytes. bytes ++ c.deref-ends.result.now) resized
     ∙ ap (λ bytes. (start_bytes file args ++ replicate (n - length (start_bytes file args)) 0) ++ bytes) ends)
+
+pub stack_pointer-pointer-requires-clause-count : goal.stack_pointer-pointer-requires-clause-count
+stack_pointer-pointer-requires-clause-count c = grind (arith, common_steps)

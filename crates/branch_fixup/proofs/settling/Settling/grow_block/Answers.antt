@@ -1,4 +1,5 @@
 use Rattle.std.proofs.Common.{◌≡◌, ◌+◌, ◌-◌, ◌<◌, length, arith, sym, ap, ◌∙◌, slice_index, false}
+use Rattle.std.proofs.lemmas.Grind.{common_steps}
 use Rattle.branch_fixup.specs.Growth.{form_at, is_enough, longer, end_at}
 use Rattle.branch_fixup.specs.Pieces.{piece_length}
 use Rattle.branch_fixup.proofs.Rounds.{longer_length, same_ends}
@@ -76,3 +77,6 @@ returns-clause-same c =
     let one = c.requires.settling.sound.one_each in
     let inside = c.requires.inside in
     rw c.longer-grown.ensures (same_ends c.args.forms.now c.args.k (omega (arith, one, inside)))
+
+pub returns-clause-fewer : goal.returns-clause-fewer
+returns-clause-fewer c = grind (arith, common_steps)

@@ -49,3 +49,6 @@ pub returns-clause-answer : goal.returns-clause-answer
 returns-clause-answer g c =
     steps_up state_of Steps c.args.self.now _ c.loop-steps.self c.loop-steps.input_end.reached c.loop-steps.steps c.args.limit _
     c.loop-steps.invariant.walk (omega (arith, c.loop-steps.invariant.within, c.loop-steps-test.false))
+
+pub ended-requires : goal.ended-requires
+ended-requires c = grind arith

@@ -1,0 +1,9 @@
+use Rattle.std.proofs.Common.{arith}
+use Rattle.std.proofs.lemmas.Grind.{common_steps}
+use Rattle.map_check.proofs.spans.addresses.Goals as goal
+
+pub loop-func-preserved : goal.loop-func-preserved
+loop-func-preserved c = grind (arith, common_steps)
+
+pub returns : goal.returns
+returns c = grind (arith, common_steps)
