@@ -70,6 +70,7 @@ pub fn put_tables(out: &mut Vec<u8>, stretches: &[Stretch]) -> Result<(), NoMemo
         ≡ out.old.items ++ spec.spelled_tables (spec.tables_of (length stretches.now) stretches.now)) }
 {
     let mut rest = stretches;
+    // Each has a stretch or more.
     for count in 0..stretches.len() {
         match rest.split_first() {
             None => return Ok(()),

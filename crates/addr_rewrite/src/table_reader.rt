@@ -54,6 +54,7 @@ fn header<'a>(cursor: &mut Cursor<'a>) -> Result<u64, Trouble>
     let unit = word(cursor)?;
     let sizes = half(cursor)?;
     padding(cursor)?;
+    // Addresses of 8 bytes, and no segment selectors.
     if sizes == 8 {
         Ok(unit as u64)
     } else {

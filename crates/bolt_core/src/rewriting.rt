@@ -47,7 +47,7 @@ pub struct Rewritten {
     pub ignored: u64,
 }
 
-// What a slice of bytes holds are bytes.
+// Does nothing: its clause tells the proof of its caller that what a slice of bytes holds is below 256.
 fn are_bytes(bytes: &[u8])
     ensures { All (λ b. b < 256) bytes.now }
 {}

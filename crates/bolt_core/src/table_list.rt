@@ -22,15 +22,15 @@ fn has_frames(elf: &Elf) -> bool
     elf.section_called(EH_FRAME).is_some()
 }
 
-// Whether programs find it by an index.
+// Whether programs find that table by an index.
 fn has_index(elf: &Elf) -> bool
     ensures { result ≡ has_index elf.now }
 {
     has_frames(elf) && has_index_header(&elf.segments)
 }
 
-// The index of a written unwind table, which stands behind so many bytes of code from a start on; none where the file
-// has none.
+// The index of the written unwind table `frames`, which stands behind the new code, of `code` bytes from `start` on;
+// none where the file has none.
 fn new_index(
     alloc: Global,
     elf: &Elf,
@@ -85,7 +85,7 @@ fn ranges_if(elf: &Elf, ranges: Vec<u8>) -> Option<Vec<u8>>
 }
 
 /// The tables of a file in their new contents, and the index of its unwind table, by the names of their sections. The
-/// new code has so many bytes from a start on.
+/// new code has `code` bytes from `start` on.
 pub fn listed(
     alloc: Global,
     elf: &Elf,

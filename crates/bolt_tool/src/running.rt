@@ -14,7 +14,7 @@ use cli_run::{RunMode, record, run};
 use rb_io::{Files, Sink, Source};
 use std::alloc::Global;
 
-/// Does `run`.
+/// Does `run`, whose program's arguments are made of the tokens first.
 pub fn run_tokens<F: Files, I: Source, O: Sink>(
     alloc: Global,
     tokens: &RunTokens<'_>,
@@ -40,7 +40,7 @@ pub fn run_tokens<F: Files, I: Source, O: Sink>(
     run(alloc, &given, mode, files, input, out)
 }
 
-/// Does `record`.
+/// Does `record`, whose program's arguments are made of the tokens first.
 pub fn record_tokens<F: Files, I: Source, O: Sink>(
     alloc: Global,
     tokens: &RecordTokens<'_>,

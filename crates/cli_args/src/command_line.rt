@@ -77,6 +77,7 @@ pub struct Tokens<'a> {
     pub options: bool,
 }
 
+// Whether an argument has the form of an option: a hyphen, and something behind it.
 fn is_option(arg: &str) -> bool
     ensures { result ≡ is_option arg.now }
 {
@@ -249,7 +250,7 @@ fn verify_args(mut tokens: Tokens<'_>) -> Option<VerifyArgs<'_>>
     Some(VerifyArgs { input, output, map })
 }
 
-// No options but those of `run` are among the tokens.
+// Whether no options but those of `run` are among the tokens.
 fn has_only_run_options(tokens: Tokens<'_>) -> bool
     ensures { result ≡ list_all is_run_token (tokens_of tokens.entry) }
 {
@@ -269,22 +270,20 @@ fn has_only_run_options(tokens: Tokens<'_>) -> bool
     true
 }
 
-// The most steps of a run.
+// The most steps of a run: those of `--steps`, or the default without it. None where it is there twice, or its value
+// is no number.
 #[tactic(auto, using(crate::proofs::StepLimit::of_none, crate::proofs::StepLimit::of_bad, crate::proofs::StepLimit::of_number))]
 fn limit(tokens: Tokens<'_>) -> Option<u64>
     ensures { result ≡ limit_of (values_of steps_name (tokens_of tokens.entry)) }
 {
     let mut limit = None;
     for token in tokens {
-        let value = match token {
-            Token::Positional(_) => continue,
-            Token::Named { name, value } => {
-                if name != STEPS {
-                    continue;
-                }
-                value
-            }
+        let Token::Named { name, value } = token else {
+            continue;
         };
+        if name != STEPS {
+            continue;
+        }
         if limit.is_some() {
             return None;
         }
@@ -293,7 +292,7 @@ fn limit(tokens: Tokens<'_>) -> Option<u64>
     Some(limit.unwrap_or(DEFAULT_LIMIT))
 }
 
-// Whether a file is run on the symbol machine.
+// Whether a file is run on the symbol machine. None where the option is there twice.
 #[tactic(auto, using(crate::proofs::RunArguments::symbols_of_more))]
 fn symbols(tokens: Tokens<'_>) -> Option<bool>
     ensures { result ≡ symbols_of (values_of symbols_name (tokens_of tokens.entry)) }
@@ -334,7 +333,8 @@ fn holds_zero(arg: &str) -> bool
     arg.as_bytes().contains(&0)
 }
 
-// The positional tokens may be given to a program as its arguments.
+// Whether the positional tokens may be given to a program as its arguments: there are few enough of them, they aren't
+// too long together, and each can end with a zero byte, since none has one.
 fn are_program_args(tokens: Tokens<'_>) -> bool
     ensures { result ≡ are_program_args (positionals (tokens_of tokens.entry)) }
 {
@@ -380,7 +380,7 @@ fn run_args(mut tokens: Tokens<'_>) -> Option<Command<'_>>
     }
 }
 
-// No options but that of `record` are among the tokens.
+// Whether no options but that of `record` are among the tokens.
 fn has_only_record_options(tokens: Tokens<'_>) -> bool
     ensures { result ≡ list_all is_record_token (tokens_of tokens.entry) }
 {
@@ -446,7 +446,7 @@ pub fn parse(args: &[String]) -> Option<Command<'_>>
     }
 }
 
-/// The arguments that the program of a run gets, which don't hold the file's name.
+/// The arguments that the program of a run gets: the positional tokens behind those that name files.
 pub fn program_args(alloc: Global, args: &RunTokens<'_>) -> Result<Vec<String>, NoMemory>
     ensures { IfOk result (λ list. map string_bytes list.items ≡ (run_read args.now).args) }
 {

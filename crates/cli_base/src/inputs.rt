@@ -26,7 +26,7 @@ pub struct Inputs {
     pub profile: Vec<u8>,
 }
 
-// Reads both, before either is judged.
+// Reads both, before either is judged: None is one that is too long.
 fn read_both<F: Files>(
     alloc: Global,
     args: &InputArgs<'_>,
@@ -47,8 +47,8 @@ fn read_both<F: Files>(
     Ok((file, profile))
 }
 
-/// Reads an input and its profile. Where that isn't done, one that is too long is refused, and this is how the command
-/// ends.
+/// Reads an input and its profile. The error is how the command ends; the line that refuses one that is too long was
+/// printed then, or could not be.
 pub fn read_inputs<F: Files, O: Sink>(
     alloc: Global,
     args: &InputArgs<'_>,

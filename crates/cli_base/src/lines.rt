@@ -10,6 +10,7 @@ use rv_code::Cause;
 use std::alloc::Global;
 use sym_machine::Reason;
 
+// What is needed and what room there is, where that is the fault, and the end of the line.
 fn put_refused_end(line: &mut Vec<u8>, fault: &Fault) -> Result<(), NoMemory>
     ensures { OnOk result (line.new.items ≡ line.old.items
         ++ refused_end fault.now.kind fault.now.need fault.now.room) }

@@ -12,7 +12,8 @@ use rb_bytes::limit::FILE_BYTES;
 use rb_io::{Files, ReadAll, Sink};
 use std::alloc::Global;
 
-/// The content of a file, if it has no more than `limit` bytes; or how the command ends where it can't be read.
+/// The content of a file, or None where it has more than `limit` bytes. The error is how the command ends: the file
+/// can't be read, or memory is wanting.
 pub fn read_within<F: Files>(
     alloc: Global,
     name: &str,
@@ -35,8 +36,8 @@ pub fn read_within<F: Files>(
     }
 }
 
-/// The content of a file of at most `limit` bytes. Where it isn't read, a file that is too long is refused, and this is
-/// how the command ends.
+/// The content of a file of at most `limit` bytes. The error is how the command ends; the line that refuses a longer
+/// file was printed then, or could not be.
 pub fn read_file<F: Files, O: Sink>(
     alloc: Global,
     name: &str,

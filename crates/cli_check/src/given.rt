@@ -13,7 +13,7 @@ use program::FILE_LIMIT;
 use rb_io::Files;
 use std::alloc::Global;
 
-/// The most bytes of a map.
+/// The most bytes of a map: more than one of 16 MiB of code has, with a line of at most 21 bytes for each instruction.
 pub const MAP_LIMIT: usize = 200_000_000;
 
 /// An input, an output and a map, each where it isn't too long.
@@ -24,7 +24,7 @@ pub struct Given {
     pub map: Option<Vec<u8>>,
 }
 
-/// Reads an input, an output and a map, or says how the command ends.
+/// Reads an input, an output and a map. The error is how the command ends.
 pub fn read_given<F: Files>(
     alloc: Global,
     args: &VerifyArgs<'_>,

@@ -30,6 +30,7 @@ fn answer_in(
 {
     let elf = elf_image::read(alloc, file)?;
     let text = answer(alloc, &elf, question, address)?;
+    // `TooLarge` has the highest number, so it is answered only where no table has a fault.
     if has_too_much_code(&elf) {
         return Err(Refusal::Fault(Fault::at(FaultKind::TooLarge, CODE_BYTES)));
     }

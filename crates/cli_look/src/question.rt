@@ -33,8 +33,7 @@ pub fn answer(
     match question {
         Question::Report => {
             let report = look(alloc, elf, address)?;
-            let text = Vec::from_slice(alloc, report.text())?;
-            Ok(text)
+            Ok(report.into_text())
         }
         Question::Frames => {
             let frames = frames(alloc, elf, address)?;

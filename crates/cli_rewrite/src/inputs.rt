@@ -14,7 +14,8 @@ use cli_base::{Status, read_inputs, refuse};
 use rb_io::{Files, Sink};
 use std::alloc::Global;
 
-/// Rewrites an input by its profile, and writes nothing. Where that isn't done it says why, and how the command ends.
+/// Rewrites an input by its profile, and writes no file. The error is how the command ends; the line of a refusal was
+/// printed then, or could not be.
 pub fn rewrite_inputs<F: Files, O: Sink>(
     alloc: Global,
     args: &InputArgs<'_>,

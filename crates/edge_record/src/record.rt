@@ -89,7 +89,7 @@ pub fn trace_edges<I: Source, O: Sink>(
     finish(alloc, funcs, &counts, ran)
 }
 
-// The text to what a run came to.
+// What a run came to, with the text of its profile.
 fn finish(alloc: Global, funcs: &[Func], counts: &EdgeCounts, ran: Ran) -> Recorded
     requires { AreLaidOut funcs.now }
     ensures { IsFinished funcs.now (said_of counts.now) (answered ran.end) ran.steps

@@ -62,7 +62,7 @@ fn note(counts: &mut EdgeCounts, watched: &Watched, from: u64, to: u64) -> Resul
         ≡ count_among x y (said_of counts.old) + (if watches watched.now (from, to)
         && is_pair x y (from, to, 1) then 1 else 0)) }
 {
-    if watched.counts(from, to) {
+    if watched.has(from, to) {
         counts.add(from, to)?;
     }
     Ok(())

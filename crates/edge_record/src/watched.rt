@@ -13,10 +13,12 @@ use rv_code::flow::is_call;
 use rv_code::{Block, Func, Placed};
 use std::alloc::Global;
 
-/// The addresses of instructions, and of those from which control may go elsewhere.
+/// Which moves are counted: those from one of the sources to an instruction.
 #[derive(Drop)]
 pub struct Watched {
+    /// The addresses of all instructions.
     pub(crate) code: AddressSet,
+    /// Those of the instructions that end a block or save a return address.
     pub(crate) sources: AddressSet,
 }
 
@@ -41,7 +43,7 @@ impl Watched {
     }
 
     /// Whether a move from one address to another is counted.
-    pub fn counts(&self, from: u64, to: u64) -> bool
+    pub fn has(&self, from: u64, to: u64) -> bool
         ensures { result ≡ watches self.now (from, to) }
     {
         self.sources.has(from) && self.code.has(to)
@@ -77,6 +79,7 @@ fn insert_insts(code: &mut AddressSet, sources: &mut AddressSet, funcs: &[Func])
     }
 }
 
+// The same of the instructions of one function.
 fn insert_insts_of(code: &mut AddressSet, sources: &mut AddressSet, insts: &[Placed])
     requires code_room { All (λ p. HasRoomFor code.old p.addr) insts.now }
     requires source_room { All (λ p. HasRoomFor sources.old p.addr) insts.now }

@@ -157,8 +157,8 @@ impl<'a> KeptNames<'a> {
         KeptNames::new(symbol_names(elf), symbol_names(written))
     }
 
-    // Whether the name that begins at a place stays, whose old text is given: it ends within the old table of names,
-    // as each name does in a file without a fault.
+    // Whether the name that begins at `place`, and was `name`, is the same in the new table: it ends within the old
+    // one, with which the new one begins. In a file without a fault each name does.
     fn stays(&self, place: u32, name: &[u8]) -> bool
         ensures { IsTrue result → text_of self.now.new.texts.now place ≡ text_of self.now.old.texts.now place }
     {
@@ -168,7 +168,7 @@ impl<'a> KeptNames<'a> {
         }
     }
 
-    /// Whether an entry has the name of an old one, which is given. Both have an index.
+    /// Whether the entry at the index `new` has the name of the old entry at the index `old`, which is `name`.
     pub fn is_same(&self, old: usize, name: &[u8], new: usize) -> bool
         requires { name.now ≡ name_of self.now.old old }
         ensures { IsTrue result → name_of self.now.new new ≡ name.now }

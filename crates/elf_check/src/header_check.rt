@@ -32,7 +32,8 @@ fn are_same(segments: &[Segment], others: &[Segment]) -> bool
     segments == others
 }
 
-// Whether headers are those that follow from what they name. The executable segment's has an index.
+// Whether `segments` are the headers that follow from what they name. `code` is the index of the executable segment's
+// header in the input.
 fn has_made(
     alloc: Global,
     places: &Places,

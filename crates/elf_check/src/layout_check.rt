@@ -64,7 +64,8 @@ fn contents_start(elf: &Elf, area: &Area, shift: &Shift) -> Result<u64, Unwritab
     sum(table_place(elf, area, shift)?, size)
 }
 
-// Where the contents of the section of an index end, which stand at their alignment at or behind an offset.
+// Where the contents of the section at `index` end. They have to begin at the first multiple of their alignment at or
+// behind `start`.
 fn end_behind(sections: &[Section], start: u64, index: usize) -> Result<u64, Unwritable>
     ensures { IfOk result (λ end. spec.StandsBehind sections.now start index end) }
 {
@@ -74,6 +75,7 @@ fn end_behind(sections: &[Section], start: u64, index: usize) -> Result<u64, Unw
     }
 }
 
+// The same of a section that is there.
 fn end_at(section: &Section, start: u64) -> Result<u64, Unwritable>
     ensures place { IfOk result (λ end. section.now.offset ≡ rounded_up (max 1 section.now.align) start) }
     ensures end { IfOk result (λ end. end ≡ section.now.offset + section.now.size) }
@@ -84,7 +86,8 @@ fn end_at(section: &Section, start: u64) -> Result<u64, Unwritable>
     sum(section.offset, section.size)
 }
 
-// Where the contents of the sections of some indices end, which stand one behind another.
+// Where the contents of sections end that have to stand one behind another from `start` on: the second number of each
+// item of `order` is a section's index.
 fn end_of(sections: &[Section], start: u64, order: &[(u64, usize)]) -> Result<u64, Unwritable>
     ensures { IfOk result (λ end. spec.StandFrom sections.now start (map (λ place. place.1) order.now) end) }
 {
@@ -95,7 +98,7 @@ fn end_of(sections: &[Section], start: u64, order: &[(u64, usize)]) -> Result<u6
     Ok(end)
 }
 
-// Where the contents of the sections of some indices end, and behind them a table of ranges, if it is added.
+// Where the contents of these sections end, and behind them those of the last one, if a table of ranges is added.
 fn end_of_all(
     sections: &[Section],
     start: u64,
@@ -122,7 +125,8 @@ fn ends_with_headers(new: Header, sections: &[Section], end: u64) -> Result<bool
     Ok(new.fields().shoff == place && new.file.len() as u64 == file_end)
 }
 
-/// Whether the written file is laid out so.
+/// Whether the written file is laid out as it must be: the fields of its header that aren't written are those of the
+/// input, its program headers and the contents of its sections stand where they must, and the section headers end it.
 pub fn is_laid_out(tables: &SectionTables) -> Result<bool, Unwritable>
     requires { IsArranged tables.now }
     ensures { IfOk result (λ holds. IsTrue holds →

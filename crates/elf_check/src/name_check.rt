@@ -164,7 +164,8 @@ impl<'a> NewNames<'a> {
         }
     }
 
-    // Whether bytes are the names that are added to those of sections, whose table has an index.
+    // Whether `bytes` are the names that are added to those of sections, whose table is the section at `index`: where
+    // it has the names of symbols too, those of cold parts are the last.
     fn are_added(&self, names: &BTreeMap<u64, Symbol>, bytes: &[u8], index: usize) -> bool
         requires laid_out { AreLaidOut self.now.funcs.now }
         requires names { AreFirstNames self.now.tables.now.elf.now.symbols.items names.now }
@@ -206,7 +207,7 @@ impl<'a> NewNames<'a> {
         }
     }
 
-    // Whether the table of an index has the names of cold parts.
+    // Whether the table at `index` is the old one, with the names of cold parts behind it.
     fn has_cold(&self, names: &BTreeMap<u64, Symbol>, index: usize) -> bool
         requires laid_out { AreLaidOut self.now.funcs.now }
         requires names { AreFirstNames self.now.tables.now.elf.now.symbols.items names.now }

@@ -17,11 +17,14 @@ fn one_if(test: bool) -> usize
     if test { 1 } else { 0 }
 }
 
-/// The input, and the written file as it was read back.
+/// The input, the written file, and what was planned of it.
 #[derive(Clone, Copy)]
 pub struct SectionTables<'a> {
+    /// The input.
     pub elf: &'a Elf<'a>,
+    /// The written file, as it was read back.
     pub new: &'a Elf<'a>,
+    /// The tables that were given to be written.
     pub tables: &'a [Table],
     pub area: Area,
     pub shift: Shift,
@@ -47,7 +50,8 @@ impl<'a> SectionTables<'a> {
     ghost use Rattle.elf_plan.specs.OldNames.{new_name};
     ghost use Rattle.rv_code.specs.isa.Op.{flag};
 
-    // Whether a section is what one of the input becomes, which has an index, by where its contents are.
+    // Whether the section `n` is what the section `s` of the input becomes, by where its contents are. Both stand at
+    // `index`.
     fn becomes(
         &self,
         contents: Contents,

@@ -95,7 +95,7 @@ impl<'a> CodeSymbols<'a> {
         }
     }
 
-    // Whether a symbol, which has an index, is what one of the input becomes, which has its own.
+    // Whether the symbol `n`, at the index `new`, is what the symbol `s` of the input becomes, at the index `old`.
     fn is_new(&self, names: &KeptNames, old: usize, s: &Symbol, new: usize, n: &Symbol) -> bool
         requires old { s.now.name.now ≡ name_of names.now.old old }
         requires new { n.now.name.now ≡ name_of names.now.new new }
@@ -109,7 +109,8 @@ impl<'a> CodeSymbols<'a> {
             && self.is_at_place(s, n)
     }
 
-    /// Whether symbols are what those of the input become. Both begin with those of some indices.
+    /// Whether the symbols `new`, from the index `to` on, are what the symbols `old` of the input become, from the
+    /// index `from` on.
     pub fn are_new(
         &self,
         names: &KeptNames,

@@ -16,7 +16,7 @@ fn local_count(symbols: &[Symbol], table: &Section) -> usize
     symbols.len().min(table.info as usize)
 }
 
-// Whether the header of a table says what it must, to which so many symbols are added.
+// Whether the header `new` has the number of local symbols that it must, where `added` are put behind those of `table`.
 fn has_info(symbols: &[Symbol], added: usize, table: &Section, new: &Section) -> bool
     ensures { IsTrue result → new.now.info ≡ spec.new_info symbols.now added table.now }
 {
@@ -27,14 +27,14 @@ fn has_info(symbols: &[Symbol], added: usize, table: &Section, new: &Section) ->
     }
 }
 
-// So many of the first symbols.
+// The first `count` symbols.
 fn first<'a, 'b>(symbols: &'b [Symbol<'a>], count: usize) -> &'b [Symbol<'a>]
     ensures { result.now ≡ take count symbols.now }
 {
     &symbols[..count.min(symbols.len())]
 }
 
-// The symbols behind so many.
+// The symbols behind the first `count`.
 fn behind<'a, 'b>(symbols: &'b [Symbol<'a>], count: usize) -> &'b [Symbol<'a>]
     ensures { result.now ≡ drop count symbols.now }
 {

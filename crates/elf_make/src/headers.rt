@@ -24,6 +24,13 @@ const MOST_TIMES: u64 = 32;
 
 const MOST_ZEROS: u64 = 4 << 20;
 
+// The alignments of the sections in the new area: of the code, of the unwind table and of its index.
+const CODE_ALIGN: u64 = 16;
+
+const FRAMES_ALIGN: u64 = 8;
+
+const INDEX_ALIGN: u64 = 4;
+
 /// The contents that are written anew.
 #[derive(Clone, Copy)]
 pub struct NewContents<'a> {
@@ -87,16 +94,17 @@ pub fn area_headers(
 ) -> Result<(), Unwritable> {
     let code = area.code_end.saturating_sub(area.start);
     let name = names.add(b".text", b"")?;
-    headers.push(area_section(name, SHF_ALLOC + SHF_EXECINSTR, area, area.start, code, 16)?)?;
+    let flags = SHF_ALLOC + SHF_EXECINSTR;
+    headers.push(area_section(name, flags, area, area.start, code, CODE_ALIGN)?)?;
     if let Some(frames) = area.frames {
         let name = names.add(EH_FRAME, b"")?;
         let size = table_size(tables, EH_FRAME).unwrap_or(0) as u64;
-        headers.push(area_section(name, SHF_ALLOC, area, frames, size, 8)?)?;
+        headers.push(area_section(name, SHF_ALLOC, area, frames, size, FRAMES_ALIGN)?)?;
     }
     if let Some(index) = area.index {
         let name = names.add(EH_FRAME_HDR, b"")?;
         let size = table_size(tables, EH_FRAME_HDR).unwrap_or(0) as u64;
-        headers.push(area_section(name, SHF_ALLOC, area, index, size, 4)?)?;
+        headers.push(area_section(name, SHF_ALLOC, area, index, size, INDEX_ALIGN)?)?;
     }
     Ok(())
 }

@@ -69,8 +69,9 @@ fn written(
 /// contents of code cells, the map, and the tables that are written anew.
 ///
 /// What is written is read back, so no file is ever answered that the reader refuses, or whose sections, program
-/// headers or symbols aren't what they must be; but for the bytes of the new area, which need no look. Where no file can be
-/// written, for whichever reason of [`Unwritable`], want of memory is answered.
+/// headers or symbols aren't what they must be. The bytes of the new area alone aren't read again: what they are is
+/// proved where they are made. Where no file can be written, for whichever reason of [`Unwritable`], want of memory is
+/// answered.
 pub fn write(
     alloc: Global,
     elf: &Elf,

@@ -22,7 +22,8 @@ const DATA_ALIGNMENT_FACTOR: u8 = 1;
 // the handler's address.
 const AUGMENTATION_SIZE: u8 = 11;
 
-// The greatest number of bytes of an entry's contents: its length field has no value that says that it is longer.
+// The greatest number of bytes of an entry's contents: with the id before them its length stays below ffffffff, which
+// says that the length has 64 bits.
 const MAX_BODY: usize = 0xffff_fff0;
 
 // The greatest id of an entry.

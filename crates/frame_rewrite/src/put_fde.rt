@@ -195,6 +195,7 @@ pub(crate) fn put_fdes(
     ensures writes { OnOk result (WritesAll map.now keys.now.keys (length runs.now) (length out.old.items) runs.now) }
 {
     let mut rest = runs;
+    // Each has a run or more.
     for count in 0..runs.len() {
         match rest.split_first() {
             None => return Ok(()),

@@ -19,7 +19,7 @@ use rb_bytes::fault::NoMemory;
 use std::alloc::Global;
 use table_core::Written;
 
-// What a slice of bytes holds are bytes.
+// Does nothing: its clause tells the proof of its caller that what a slice of bytes holds is below 256.
 fn are_bytes(bytes: &[u8])
     ensures { All (λ b. b < 256) bytes.now }
 {}

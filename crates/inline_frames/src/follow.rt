@@ -97,6 +97,7 @@ fn namings_at(
         }
         let reading = reader.read(alloc, number)?;
         let Some(entries) = reading.entries else {
+            // A file with a unit that can't be read was refused.
             unreachable!();
         };
         add_namings(str_offsets, &entries, wanted, &mut found)?;

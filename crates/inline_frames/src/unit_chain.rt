@@ -62,6 +62,7 @@ pub fn links_in(
         return Ok(links);
     };
     let own = own_says(entries);
+    // Entries stand in the order of their tree: going back, one that is less deep than all before it is around them.
     let mut depth = depth_of(entries, inner) + 1;
     for number in (0..inner + 1).rev() {
         let entry = &entries[number];

@@ -50,6 +50,7 @@ pub fn file_links(
         }
         let reading = reader.read(alloc, number)?;
         let Some(entries) = reading.entries else {
+            // A file with a unit that can't be read was refused.
             unreachable!();
         };
         let links = links_in(alloc, str_offsets, &entries, covering)?;

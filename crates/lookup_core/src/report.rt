@@ -34,6 +34,13 @@ impl Report {
     {
         &self.text
     }
+
+    /// The report, without a copy of it.
+    pub fn into_text(self) -> Vec<u8>
+        ensures { result.items ≡ self.text.items }
+    {
+        self.text
+    }
 }
 
 // The text of the report, of what the tables say.

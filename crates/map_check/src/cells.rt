@@ -44,7 +44,7 @@ fn number_of(table: &[Span], kind: &CellKind) -> u64
     }
 }
 
-// As much of a number as a cell of so many bytes holds.
+// What of a number fits a cell's width.
 fn cut(number: u64, cell: &CodeCell) -> u64
     requires { HasWidth cell.now }
     ensures { result ≡ number % 256 ^ cell.now.width }
@@ -98,7 +98,8 @@ fn holds_entry(output: &Elf, address: u64) -> bool
     }
 }
 
-/// The lowest address of a cell, or of the loaded field of the entry point, that doesn't hold its new value.
+/// The lowest address of a cell, or of the loaded field of the entry point, that doesn't hold its new value. `entry` is
+/// the address of that field, if it is loaded.
 pub fn lowest_bad_cell(
     output: &Elf,
     table: &[Span],

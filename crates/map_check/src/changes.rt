@@ -30,7 +30,7 @@ fn has_byte(cell: &CodeCell, a: u64) -> bool
     cell.addr <= a && a - cell.addr < cell.width as u64
 }
 
-// Whether the field of the entry point has the byte at an address.
+// Whether the field of the entry point, which is loaded at `entry`, has the byte at an address.
 fn in_entry(entry: Option<u64>, a: u64) -> bool
     ensures { result ≡ in_entry entry a }
 {

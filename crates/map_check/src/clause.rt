@@ -16,11 +16,11 @@ pub enum Clause {
     Instruction,
     /// Control doesn't go on to what follows.
     Next,
-    /// The entry points differ.
+    /// The output's entry point isn't where that of the input went.
     Entry,
-    /// A byte of the input isn't kept.
+    /// A byte that the input loads isn't kept.
     Byte,
-    /// A cell doesn't hold its value.
+    /// A code cell, or the loaded field of the entry point, doesn't hold its new value.
     Cell,
     /// The layout that a program sees differs.
     Table,

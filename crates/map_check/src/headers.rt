@@ -41,14 +41,14 @@ impl Headers {
     }
 }
 
-// Whether a field of so many bytes has an offset.
+// Whether the field of `size` bytes from `start` on has an offset.
 fn has(start: u128, size: u64, offset: u128) -> bool
     ensures { result ≡ is_in_range offset (record { start = start; size = size }) }
 {
     start <= offset && offset - start < size as u128
 }
 
-// Whether fields before or one more, if it is hidden, have an offset.
+// Whether other fields have an offset, as `found` says, or this one, if it is hidden.
 fn or_has(found: bool, is_hidden: bool, start: u128, size: u64, offset: u128) -> bool
     ensures { result
         ≡ (found || list_any (is_in_range offset) (only is_hidden (record { start = start; size = size }))) }

@@ -27,7 +27,7 @@ fn calls_to(inst: &Inst, rd: u8, from: u64, to: u64) -> bool
     }
 }
 
-// Whether a JAL that saves is kept.
+// Whether a JAL that saves a return address in `rd` is kept.
 fn keeps_call(output: &Elf, table: &[Span], p: &Placed, rd: u8, target: u64) -> bool
     requires low { IsLow output.now }
     requires sorted { IsNonDecreasingBy (λ s. s.input) table.now }

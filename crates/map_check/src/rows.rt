@@ -66,6 +66,7 @@ pub fn gets_to(output: &Elf, table: &[Span], from: u64, next: Option<u64>) -> bo
     }
 }
 
+// Whether control gets from `yes` to where the target of a branch went, and from `no` to the next instruction.
 fn leads(output: &Elf, table: &[Span], yes: u64, no: u64, target: u64, next: Option<u64>) -> bool
     requires low { IsLow output.now }
     requires sorted { IsNonDecreasingBy (λ s. s.input) table.now }

@@ -70,6 +70,7 @@ fn lowest_miscounted(
     Ok(first_difference(sorted, &addresses))
 }
 
+// Whether a span has no bytes, or has them where an instruction can stand.
 fn is_placed(span: &Span) -> bool
     ensures { IsTrue result ↔ IsPlaced span.now }
 {

@@ -114,7 +114,8 @@ pub fn unless_empty(places: Vec<PlaceAt>) -> Option<Vec<PlaceAt>>
     }
 }
 
-/// The entries of attributes, with the groups of their nearest ranges.
+/// The entries of attributes, with the groups of their nearest ranges. They are for an index by address, which asks for
+/// no more of an entry.
 pub fn ranged_of(alloc: Global, located: &[LocatedAttr]) -> Result<Vec<RangedEntry>, NoMemory>
     ensures { IfOk result (λ rs. rs.items ≡ map ranged_of located.now) }
 {

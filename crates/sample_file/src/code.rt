@@ -77,7 +77,7 @@ fn call_high(at: u64, to: u64) -> Placed
     placed(at, inst, Role::CallHi { target: to })
 }
 
-// The JALR behind it.
+// The JALR behind the AUIPC at `at`.
 fn call_low(at: u64, to: u64) -> Placed
     requires at_low { at < 2 ^ 62 }
     requires to_low { to < 2 ^ 62 }
@@ -98,7 +98,7 @@ const NOP: Inst = Inst::Addi {
     imm: 0,
 };
 
-// The two instructions that call the next function, which the last one hasn't.
+// The two instructions that call the next function, which the last one hasn't. Both are given where the first stands.
 fn next_high(is_last: bool, at: u64, to: u64) -> Placed
     requires at_low { at < 2 ^ 62 }
     requires to_low { to < 2 ^ 62 }
@@ -129,6 +129,7 @@ fn addi(rd: u8, rs1: u8, imm: i64) -> Inst
     Inst::Addi { rd, rs1, imm }
 }
 
+// Sets T0 to 1 where the argument is odd, and else to 0.
 fn is_odd() -> Inst
     ensures { result ≡ Inst.Andi 5 10 (pos 1) }
 {
@@ -221,13 +222,14 @@ fn put_insts(code: &mut Vec<u8>, insts: &[Placed]) -> Result<(), NoMemory> {
     for placed in insts {
         match encode(&placed.inst, Width::Full) {
             Some(Word::Full(word)) => put_u32(code, word)?,
+            // Not reached: each instruction of a sample has a word of four bytes.
             _ => return Err(NoMemory),
         }
     }
     Ok(())
 }
 
-/// The bytes of the code.
+/// The bytes of the code of a sample with `n` functions.
 pub fn code(alloc: Global, n: u64) -> Result<Vec<u8>, NoMemory>
     requires { n ≤ 1000 }
 {

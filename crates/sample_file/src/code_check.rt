@@ -1,4 +1,5 @@
-// Whether a file that was read has the code of a sample.
+// Whether a file that was read has the code of a sample. Sample `n` has `n` functions, with the numbers `k` from 0 on,
+// and behind them the code at the entry point, which counts as number `n`.
 ghost use Rattle.std.specs.Prelude.{◌≡◌, ◌+◌, ◌≤◌, ◌<◌, ℕ, IsTrue, IfOk, map, filter};
 ghost use Rattle.elf_image.specs.file.Cuts.{names_function};
 ghost use Rattle.sample_file.specs.SampleCode.{function_shape, start_shape, sample_function, sample_functions};

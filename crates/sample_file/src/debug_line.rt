@@ -18,11 +18,11 @@ const FIELDS: &[u8] = b"\x01\x01\x01\xfb\x0e\x0d\0\x01\x01\x01\x01\0\0\0\x01\0\0
 const NAMES: &[u8] = b"\x01\x01\x08\x01/s\0\x02\x01\x08\x02\x0b\x02sample.c\0\0sample.c\0\0";
 
 // The operations of a program that append a row, advance the address, and advance the line.
-const DW_LNS_COPY: u8 = 1;
+const DW_LNS_copy: u8 = 1;
 
-const DW_LNS_ADVANCE_PC: u8 = 2;
+const DW_LNS_advance_pc: u8 = 2;
 
-const DW_LNS_ADVANCE_LINE: u8 = 3;
+const DW_LNS_advance_line: u8 = 3;
 
 // The operations that set the address, and that end the sequence, each behind a zero and its length.
 const SET_ADDRESS: &[u8] = b"\0\x09\x02";
@@ -36,23 +36,23 @@ const ROWS: [u64; 4] = [0, 0x10, 0x18, 0x1c];
 const LINES_BETWEEN: i64 = 7;
 
 fn put_advance(program: &mut Vec<u8>, by: u64) -> Result<(), NoMemory> {
-    program.push(DW_LNS_ADVANCE_PC)?;
+    program.push(DW_LNS_advance_pc)?;
     put_uleb(program, by)?;
     Ok(())
 }
 
 // Appends that the line goes up, and a row.
 fn put_row(program: &mut Vec<u8>, lines: i64) -> Result<(), NoMemory> {
-    program.push(DW_LNS_ADVANCE_LINE)?;
+    program.push(DW_LNS_advance_line)?;
     put_sleb(program, lines)?;
-    program.push(DW_LNS_COPY)?;
+    program.push(DW_LNS_copy)?;
     Ok(())
 }
 
 // Appends the rows of a function. The program stands at its first byte, or at the last row of the function before it.
 fn put_rows(program: &mut Vec<u8>, is_first: bool) -> Result<(), NoMemory> {
     if is_first {
-        program.push(DW_LNS_COPY)?;
+        program.push(DW_LNS_copy)?;
     } else {
         put_advance(program, FUNCTION_SIZE - ROWS[3])?;
         put_row(program, LINES_BETWEEN)?;

@@ -7,7 +7,7 @@ use crate::debug_line::lines;
 use crate::frames::{frames, index};
 use crate::places::{BASE, CODE, DATA, function_at, round_up};
 use crate::relocations::{calls, data, pointers};
-use crate::sections::{Sections, loaded, relocations, symbol_table, unloaded};
+use crate::sections::{Sections, TEXT, loaded, relocations, symbol_table, unloaded};
 use crate::symbols::make_symbols;
 use elf_image::Segment;
 use elf_image::header::{EHDR_SIZE, EM_RISCV, ET_EXEC, IDENTIFICATION};
@@ -21,9 +21,7 @@ use std::alloc::Global;
 // The flag of a section that may be written. gABI, "Section Attribute Flags".
 const SHF_WRITE: u64 = 1;
 
-// The indices of sections to which others refer: code, pointers, the symbol table and its names.
-const TEXT: u32 = 1;
-
+// The indices of sections to which others refer, beside that of the code: pointers, the symbol table and its names.
 const POINTERS: u32 = 4;
 
 const SYMBOLS: u32 = 10;
@@ -32,9 +30,11 @@ const SYMBOL_NAMES: u32 = 11;
 
 const SECTION_NAMES: u16 = 12;
 
-const SECTION_COUNT: u16 = 13;
+/// How many section headers a sample has.
+pub const SECTION_COUNT: u16 = 13;
 
-const SEGMENT_COUNT: u16 = 3;
+/// How many program headers it has.
+pub const SEGMENT_COUNT: u16 = 3;
 
 // How many bytes the headers in front have: the file's, and those of the segments.
 const FILE_HEADER: u64 = EHDR_SIZE as u64;
@@ -70,6 +70,7 @@ impl Memory {
     }
 }
 
+// Makes all that is loaded, and says where it is.
 fn load(alloc: Global, n: u64) -> Result<Memory, NoMemory>
     requires { n ≤ 1000 }
 {
@@ -111,7 +112,7 @@ fn add_relocations(sections: &mut Sections, alloc: Global, n: u64) -> Result<(),
     requires { n ≤ 1000 }
 {
     let of_calls = calls(alloc, n)?;
-    sections.add(b".rela.text", relocations(SYMBOLS, TEXT), &of_calls)?;
+    sections.add(b".rela.text", relocations(SYMBOLS, TEXT as u32), &of_calls)?;
     let of_pointers = pointers(alloc, n)?;
     sections.add(b".rela.data", relocations(SYMBOLS, POINTERS), &of_pointers)
 }
@@ -178,6 +179,7 @@ const EV_CURRENT: u32 = 1;
 // Appends the file's header. `sections_at` is where the section headers stand.
 fn put_file_header(file: &mut Vec<u8>, entry: u64, sections_at: u64) -> Result<(), NoMemory> {
     file.extend_from_slice(IDENTIFICATION)?;
+    // `EI_OSABI` and `EI_ABIVERSION`, which are none, and zeros up to `EI_NIDENT`.
     file.extend_from_slice(&[0; 9])?;
     put_u16(file, ET_EXEC)?;
     put_u16(file, EM_RISCV)?;
@@ -185,6 +187,7 @@ fn put_file_header(file: &mut Vec<u8>, entry: u64, sections_at: u64) -> Result<(
     put_u64(file, entry)?;
     put_u64(file, FILE_HEADER)?;
     put_u64(file, sections_at)?;
+    // No flags: no compressed instructions, and the soft-float ABI.
     put_u32(file, 0)?;
     put_sizes(file)
 }

@@ -12,8 +12,8 @@ use std::alloc::Global;
 const COMMON: &[u8] = b"\x14\0\0\0\0\0\0\0\x01zR\0\x01\x78\x01\x01\x1b\x0c\x02\0\0\0\0\0";
 
 // The operations of a function: behind its first instruction the frame has 16 bytes, and behind the second the return
-// address stands in it; that ends before the last instruction but one, and the frame before the last. Four nops fill the
-// entry up.
+// address stands in it; that ends before the last instruction but one, and the frame before the last. Four nops fill
+// the entry up.
 const OPERATIONS: &[u8] = b"\x44\x0e\x10\x44\x81\x01\x60\xc1\x44\x0e\0\0\0\0\0";
 
 // The bytes of a function's entry, and those behind its length.
@@ -55,7 +55,7 @@ pub fn frames(alloc: Global, n: u64, at: u64) -> Result<Vec<u8>, NoMemory>
     Ok(table)
 }
 
-/// The index of the table at `frames`, which is itself loaded at `at`.
+/// The index, which is loaded at `at`, of the table that is loaded at `frames`.
 pub fn index(alloc: Global, n: u64, frames: u64, at: u64) -> Result<Vec<u8>, NoMemory>
     requires { n ≤ 1000 }
 {

@@ -10,6 +10,9 @@ use elf_plan::section_bytes::SHT_NULL;
 use rb_bytes::fault::NoMemory;
 use std::alloc::Global;
 
+/// The index of the section with the code.
+pub const TEXT: u16 = 1;
+
 // The flag of relocations: the header's `info` is the index of the section that they change.
 const SHF_INFO_LINK: u64 = 0x40;
 

@@ -4,6 +4,7 @@ ghost use Rattle.std.specs.Prelude.{◌≤◌};
 use crate::numbers::{low, put_text};
 use crate::places::{FUNCTION_SIZE, START_SIZE, function_at};
 use crate::profile::{START_NAME, function_name};
+use crate::sections::TEXT;
 use elf_image::symbol::SYM_SIZE;
 use elf_parts::spell::{SymbolEntry, put_symbol};
 use rb_bytes::fault::NoMemory;
@@ -11,9 +12,6 @@ use std::alloc::Global;
 
 // The binding and the type of a global symbol of a function.
 const GLOBAL_FUNCTION: u8 = 0x12;
-
-// The index of the section of code.
-const CODE_SECTION: u16 = 1;
 
 /// The symbol table and its names.
 #[derive(Drop)]
@@ -27,7 +25,7 @@ fn add_symbol(symbols: &mut Symbols, name: &[u8], value: u64, size: u64) -> Resu
         name: low(symbols.names.len() as u64),
         info: GLOBAL_FUNCTION,
         other: 0,
-        section: CODE_SECTION,
+        section: TEXT,
         value,
         size,
     };

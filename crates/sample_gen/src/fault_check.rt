@@ -17,13 +17,9 @@ use program::{FILE_LIMIT, Program, check_code, new_start};
 use rb_bytes::fault::Refusal;
 use rv_code::worst_sizes::NEAR_LIMIT;
 use rv_code::{Block, Func, worst_size_of_block};
+use sample_file::file::{SECTION_COUNT, SEGMENT_COUNT};
 use std::alloc::Global;
 use table_set::read_all;
-
-// How many headers a sample has, of sections and of segments.
-const SECTION_COUNT: usize = 13;
-
-const SEGMENT_COUNT: usize = 3;
 
 // Whether a jump reaches from anywhere to anywhere in the code, wherever its blocks are put.
 fn is_near(funcs: &[Func], blocks: &[Block]) -> bool
@@ -60,8 +56,8 @@ fn is_small(program: &Program<'_>, profile: &[u8]) -> bool
     ensures segments { IsTrue result → length program.now.elf.segments.items ≡ 3 }
     ensures profile { IsTrue result → length profile.now ≤ file_limit }
 {
-    program.elf.sections.len() == SECTION_COUNT
-        && program.elf.segments.len() == SEGMENT_COUNT
+    program.elf.sections.len() == SECTION_COUNT as usize
+        && program.elf.segments.len() == SEGMENT_COUNT as usize
         && profile.len() <= FILE_LIMIT
 }
 

@@ -286,8 +286,7 @@ fn change(alloc: Global, file: &mut Vec<u8>, words: &str) -> Result<(), BuildErr
 ///
 /// - `code NAME ADDR INSTRUCTION; ..`: a section of the first segment, whose address is the entry point
 /// - `loaded NAME ADDR BYTES`, `zeros NAME ADDR SIZE`, `writable NAME ADDR BYTES`, `zeroed NAME ADDR SIZE`: a section
-/// of the
-///   last segment; of the last the file has no bytes
+///   of the last segment; of `zeroed` the file has no bytes
 /// - `unloaded NAME 0 BYTES`: a section that isn't loaded
 /// - `segment r|rw OFFSET ADDR`: another segment
 /// - `header TYPE FLAGS OFFSET ADDR FILESZ MEMSZ`: a program header of bytes that stand there, or of none

@@ -2,8 +2,8 @@
 use crate::sessions::{commands_refuse, play_rows};
 use std::test::Fail;
 
-// Each of these names a file that is there.
-const NO_COMMANDS: [&str; 62] = [
+// The input and the profile that they name are there: only the arguments are wrong.
+const NO_COMMANDS: [&str; 64] = [
     "$",
     "$ rewrite",
     "$ rewrite in profile out",
@@ -14,7 +14,7 @@ const NO_COMMANDS: [&str; 62] = [
     "$ -- rewrite in profile out map",
     "$ map in",
     "$ map in profile out",
-    "$ run --steps=x in",
+    "$ map --steps=3 in profile",
     "$ lookup",
     "$ lookup in",
     "$ lookup in zz",
@@ -22,6 +22,7 @@ const NO_COMMANDS: [&str; 62] = [
     "$ lookup in 0X10078",
     "$ lookup in 00000000000010078",
     "$ lookup in 10078 more",
+    "$ lookup --steps=3 in 10078",
     "$ sample 1 out",
     "$ sample 0 out map",
     "$ sample 1001 out map",
@@ -66,6 +67,7 @@ const NO_COMMANDS: [&str; 62] = [
     "$ frames in",
     "$ frames in 0x",
     "$ frames in 10078 more",
+    "$ frames --steps=3 in 10078",
 ];
 
 const USAGE: &str = "\

@@ -31,8 +31,8 @@ fn profile(alloc: Global, words: &str) -> Result<Vec<u8>, Fail> {
     Ok(bytes)
 }
 
-/// Files with an input, the profile of these words, and room for outputs and for maps: `room files SIZE`. A call of the
-/// files may fail: `fail files NUMBER`.
+/// Files with an input, the profile of these words (`profile LINE`, as many as there are), and room for outputs and for
+/// maps: `room files SIZE`. A call of the files may fail: `fail files NUMBER`.
 pub fn files_with(alloc: Global, words: &str, input: Vec<u8>) -> Result<MemFiles, Fail> {
     let fail = number_said(words, "fail files ", 0)?;
     let room = number_said(words, "room files ", 0x1_0000)? as usize;
@@ -176,6 +176,9 @@ fn patch(alloc: Global, files: &mut MemFiles, words: &str) -> Result<(), Fail> {
 /// - `NUMBER STATUS PRINTED`: its answer and what it printed, with `/` for the end of a line
 /// - `patch FILE OFFSET BYTES`: these bytes stand in the file from there on
 /// - `none FILE`, `text FILE TEXT`, `starts FILE TEXT`, `ends FILE TEXT`, `bytes FILE OFFSET BYTES`
+///
+/// The words have standard input, `input TEXT`, and how many bytes standard output takes, `room printed SIZE`. A call
+/// of either may fail: `fail input NUMBER`, `fail printed NUMBER`.
 pub fn play(
     rt: &impl Abort,
     alloc: Global,
