@@ -13,7 +13,7 @@ use Rattle.rv_code.specs.layout.BlockOrders.{HasAllBlocks}
 use Rattle.addr_map.specs.declared.span.Span.{Span}
 use Rattle.addr_map.specs.Spans.{new}
 use Rattle.branch_fixup.specs.Ends.{begins_of}
-use Rattle.branch_fixup.specs.Inputs.{AreBlocksOf, AreDirect}
+use Rattle.branch_fixup.specs.Inputs.{AreBlocksOf, LeadsToCode}
 use Rattle.branch_fixup.specs.Pieces.{Piece, PlacedFrom, end_from}
 use Rattle.branch_fixup.specs.Strips.{Strip, insts_in, pieces_of, pieces_of_strip, spans_of, strips_of}
 use Rattle.branch_fixup.proofs.Appended.{end_append, pieces_all, pieces_more, pieces_part}
@@ -36,7 +36,7 @@ use Rattle.code_emit.proofs.Pieces.{block_can, block_placed, one_each, start_at}
 -- what all is given
 pub record IsGiven (funcs : List Func) (blocks : List Block) (order : List ℕ) (fs : List Form) (lines : List Span) : Type 0 where
   pub laid : AreLaidOut funcs
-  pub direct : AreDirect funcs
+  pub direct : All (LeadsToCode funcs) (insts_of funcs)
   pub blocks_of : AreBlocksOf funcs blocks
   pub perm : HasAllBlocks blocks order
   pub insts : All CanMove (insts_of funcs)

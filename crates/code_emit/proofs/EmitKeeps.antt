@@ -15,7 +15,7 @@ use Rattle.addr_map.specs.Spans.{new}
 use Rattle.move_law.specs.Rewrite.{Rewrite, Goes, out}
 use Rattle.move_law.specs.FaithfulRewrite.{GoesOn, KeepsInst}
 use Rattle.rb_bytes.proofs.ListLemmas.{all_of}
-use Rattle.branch_fixup.specs.Inputs.{AreDirect}
+use Rattle.branch_fixup.specs.Inputs.{LeadsToCode}
 use Rattle.branch_fixup.specs.Pieces.{Piece, PlacedFrom, length_of}
 use Rattle.branch_fixup.specs.Strips.{pieces_of, spans_of, strips_of}
 use Rattle.branch_fixup.proofs.Laid.{laid_has}
@@ -35,7 +35,7 @@ any_permuted : (P : Span → Type 0) (xs ys : List Span) → ((s : Span) → Con
 any_permuted P xs ys same (k, s, within, is, p) = let (j, more, at) = same s (k, within, is) in (j, s, more, at, p)
 
 module _ (code : ProgramCode) (blocks : List Block) (order : List ℕ) (laid : AreLaidOut code.funcs)
-    (direct : AreDirect code.funcs) (are : AreBlocks code blocks) (perm : HasAllBlocks blocks order)
+    (direct : All (LeadsToCode code.funcs) (insts_of code.funcs)) (are : AreBlocks code blocks) (perm : HasAllBlocks blocks order)
     (can : All CanMove (insts_of code.funcs)) (fs : List Form) (base : ℕ) (lines : List Span)
     (m : AreMapped (strips_of code.funcs blocks order) fs base lines) (r : Rewrite) (bytes : List ℕ)
     (puts : Puts r code.funcs lines base bytes)

@@ -19,7 +19,7 @@ use Rattle.rv_code.specs.layout.BlockOrders.{HasAllBlocks}
 use Rattle.addr_map.specs.declared.span.Span.{Span}
 use Rattle.addr_map.specs.Spans.{is_of, new}
 use Rattle.addr_map.proofs.Orders.{lines_apart, moved_permutation}
-use Rattle.branch_fixup.specs.Inputs.{AreDirect, LeadsToCode}
+use Rattle.branch_fixup.specs.Inputs.{LeadsToCode}
 use Rattle.branch_fixup.specs.Pieces.{Piece, PlacedFrom, end_from, laid_from, length_of}
 use Rattle.branch_fixup.specs.Distances.{AllLand, added_leap, new_target, lands, main_leap}
 use Rattle.branch_fixup.specs.Strips.{Strip, pieces_of, spans_of, strips_of}
@@ -99,8 +99,8 @@ low_role (role.Lo hi t) p s = let h = s.2 in let k = s.3 in (omega (arith, k), o
 low_role (role.AbsHi t) p s = let h = s.2 in omega (arith, h)
 low_role (role.AbsLo t) p s = let h = s.2 in omega (arith, h)
 
-pub low_targets : (funcs : List Func) (p : Placed) → AreLaidOut funcs → AreDirect funcs → All CanMove (insts_of funcs) →
-    Contains (insts_of funcs) p → HasLowTargets p
+pub low_targets : (funcs : List Func) (p : Placed) → AreLaidOut funcs → All (LeadsToCode funcs) (insts_of funcs) →
+    All CanMove (insts_of funcs) → Contains (insts_of funcs) p → HasLowTargets p
 low_targets funcs p laid direct can c =
     let low = (is_in funcs p laid c).low in
     record {
@@ -113,10 +113,10 @@ low_targets funcs p laid direct can c =
     by None e = tt
     by (Some t) e = let h = target_low funcs p t laid direct c e in omega (arith, h)
 
-target_even : (funcs : List Func) (p : Placed) (t : ℕ) → AreLaidOut funcs → AreDirect funcs → Contains (insts_of funcs) p →
-    target_of p ≡ Some t → t % 2 ≡ 0
+target_even : (funcs : List Func) (p : Placed) (t : ℕ) → AreLaidOut funcs → All (LeadsToCode funcs) (insts_of funcs) →
+    Contains (insts_of funcs) p → target_of p ≡ Some t → t % 2 ≡ 0
 target_even funcs p t laid direct c e =
-    let x = code_at funcs t ((All-contains (LeadsToCode funcs) (insts_of funcs) p direct.lead c).to_code t e) in
+    let x = code_at funcs t ((All-contains (LeadsToCode funcs) (insts_of funcs) p direct c).to_code t e) in
     let there = flat_at (λ (g : Func). g.insts.items) funcs x.f x.func x.p x.at_func
     (at_contains x.func.insts.items x.i x.p x.at_inst) in
     subst (λ (n : ℕ). n % 2 ≡ 0) x.addr (is_in funcs x.p laid there).even
@@ -128,7 +128,7 @@ can_join (x ∷ xs) ys h k = (h.0, can_join xs ys h.1 k)
 -- Pieces.
 
 module _ (code : ProgramCode) (blocks : List Block) (order : List ℕ) (laid : AreLaidOut code.funcs)
-    (direct : AreDirect code.funcs) (are : AreBlocks code blocks) (perm : HasAllBlocks blocks order)
+    (direct : All (LeadsToCode code.funcs) (insts_of code.funcs)) (are : AreBlocks code blocks) (perm : HasAllBlocks blocks order)
     (can : All CanMove (insts_of code.funcs)) (fs : List Form) (base : ℕ) (lines : List Span)
     (m : AreMapped (strips_of code.funcs blocks order) fs base lines) where
   abbrev ss : List Strip

@@ -1,7 +1,7 @@
 -- What the blocks of a plan are in the input: where each instruction of them goes on.
 use Rattle.std.proofs.Common.{◌≡◌, ℕ, suc, ◌+◌, ◌-◌, ◌^◌, ◌<◌, ◌≤◌, List, [], ◌∷◌, ◌++◌, Some, Bool, true, refl, sym, ap, ◌∙◌}
 use Rattle.std.proofs.Common.{arith, take, drop}
-use Rattle.std.specs.Prelude.{Contains, slice_get}
+use Rattle.std.specs.Prelude.{All, Contains, slice_get}
 use Rattle.std.proofs.lemmas.List.Elements.{All-contains}
 use Rattle.std.proofs.lemmas.Option.{slice_get_within}
 use Rattle.rv_code.specs.declared.placed.Placed.{Placed}
@@ -14,7 +14,7 @@ use Rattle.rv_code.specs.layout.ProgramCode.{ProgramCode, is_code_address}
 use Rattle.rv_code.specs.layout.BlockOrders.{HasAllBlocks}
 use Rattle.move_law.specs.Rewrite.{Rewrite, out}
 use Rattle.move_law.specs.FaithfulRewrite.{next}
-use Rattle.branch_fixup.specs.Inputs.{AreDirect, LeadsToCode}
+use Rattle.branch_fixup.specs.Inputs.{LeadsToCode}
 use Rattle.branch_fixup.specs.Strips.{Strip, insts_in, strips_of}
 use Rattle.branch_fixup.proofs.Falls.{below_limit, code_at}
 use Rattle.rv_code.proofs.lists.Follows.{follow_next, laid_func, at_contains}
@@ -32,10 +32,10 @@ code_low funcs a laid is =
     let addr = c.addr in
     omega (arith, low, addr)
 
-pub target_low : (funcs : List Func) (p : Placed) (t : ℕ) → AreLaidOut funcs → AreDirect funcs → Contains (insts_of funcs) p →
-    target_of p ≡ Some t → t ≤ address_end
+pub target_low : (funcs : List Func) (p : Placed) (t : ℕ) → AreLaidOut funcs → All (LeadsToCode funcs) (insts_of funcs) →
+    Contains (insts_of funcs) p → target_of p ≡ Some t → t ≤ address_end
 target_low funcs p t laid direct is_in e =
-    code_low funcs t laid ((All-contains (LeadsToCode funcs) (insts_of funcs) p direct.lead is_in).to_code t e)
+    code_low funcs t laid ((All-contains (LeadsToCode funcs) (insts_of funcs) p direct is_in).to_code t e)
 
 -- An instruction and the next one of its block.
 
@@ -56,7 +56,8 @@ strip_get code b s x k p at =
     let less = take_in n (drop b.first x.func.insts.items) k p h in
     sym (at_drop b.first x.func.insts.items k (b.first + k) refl) ∙ sym (at_take n (drop b.first x.func.insts.items) k less) ∙ h
 
-module _ (r : Rewrite) (code : ProgramCode) (laid : AreLaidOut code.funcs) (direct : AreDirect code.funcs)
+module _ (r : Rewrite) (code : ProgramCode) (laid : AreLaidOut code.funcs)
+    (direct : All (LeadsToCode code.funcs) (insts_of code.funcs))
     (funcs_are : r.code.funcs ≡ code.funcs) (small : (t : ℕ) → t ≤ address_end → out r t < 2 ^ 63) where
   next_is : (p : Placed) → next r p ≡ next_among code.funcs p
   next_is p = ap (λ (funcs : List Func). next_among funcs p) funcs_are

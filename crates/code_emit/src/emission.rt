@@ -9,7 +9,7 @@ ghost use Rattle.move_law.specs.FaithfulRewrite.{KeepsInst, GoesOn};
 ghost use Rattle.move_law.specs.Rewrite.{Rewrite, Goes};
 ghost use Rattle.branch_fixup.specs.Ends.{begins_of};
 ghost use Rattle.branch_fixup.specs.Forms.{new_code_end};
-ghost use Rattle.branch_fixup.specs.Inputs.{AreBlocksOf, AreDirect};
+ghost use Rattle.branch_fixup.specs.Inputs.{AreBlocksOf, LeadsToCode};
 ghost use Rattle.branch_fixup.specs.Strips.{pieces_of, strips_of};
 ghost use Rattle.code_emit.specs.Bytes.{Adds};
 ghost use Rattle.code_emit.specs.Inputs.{AreMapped, CanMove, HaveMap, IsLowCell};
@@ -48,7 +48,7 @@ fn code(
     moved: &AddrMap,
 ) -> Result<Vec<u8>, AllocError>
     requires laid { AreLaidOut funcs.now }
-    requires direct { AreDirect funcs.now }
+    requires direct { All (LeadsToCode funcs.now) (insts_of funcs.now) }
     requires blocks { AreBlocksOf funcs.now blocks.now }
     requires order { HasAllBlocks blocks.now order.now }
     requires insts { All CanMove (insts_of funcs.now) }
@@ -84,7 +84,7 @@ pub fn emit(
     cells: &[CodeCell],
 ) -> Result<Emitted, NoMemory>
     requires laid { AreLaidOut funcs.now }
-    requires direct { AreDirect funcs.now }
+    requires direct { All (LeadsToCode funcs.now) (insts_of funcs.now) }
     requires blocks { AreBlocksOf funcs.now blocks.now }
     requires order { HasAllBlocks blocks.now plan.now.order.items }
     requires insts { All CanMove (insts_of funcs.now) }

@@ -32,6 +32,9 @@ low_end end start sum limit upto low = omega (arith, upto, low)
 fits_sum : (n end start sum : ℕ) → start + n ≡ end → end ≤ start + sum → n ≤ sum
 fits_sum n end start sum is upto = omega (arith, is, upto)
 
+pub emit-requires-clause-direct : goal.emit-requires-clause-direct
+emit-requires-clause-direct c = c.requires.direct.lead
+
 pub emit-requires-clause-cells : goal.emit-requires-clause-cells
 emit-requires-clause-cells c =
     subst (λ (cs : List CodeCell). All IsLowCell cs) (sym c.deref-2.ensures.value) c.requires.cells
