@@ -125,8 +125,64 @@ fn take_step<'a>(
     }
 }
 
+// How many entries a list may have for each that gives a place, and how many beside; how many bytes an entry may have
+// but for its expression; and how many of a list may be read before it turns out to be bad. A list is read again for
+// each unit that names it, and only what is kept of it is counted.
+const MOST_TIMES: usize = 4;
+
+const MOST_BESIDE: usize = 8;
+
+const MOST_NUMBERS: usize = 64;
+
+const MOST_BAD: usize = 1 << 9;
+
+// How many bytes below 0x80 an entry has at most, but for its expression: its kind, two addresses of eight bytes, and
+// the last bytes of three numbers.
+const MOST_ENDS: usize = 20;
+
+// How many bytes an entry of some size has but for its expression, if it gave a place beside so many.
+fn own_size(places: &[Place<'_>], before: usize, size: usize) -> usize {
+    if places.len() == before {
+        return size;
+    }
+    match places.last() {
+        Some(place) => size.saturating_sub(place.expression.len()),
+        None => size,
+    }
+}
+
+// Whether a list has more entries that give no place, or an entry of more bytes.
+fn is_dear(entries: usize, places: &[Place<'_>], own: usize) -> bool {
+    entries / MOST_TIMES > places.len().saturating_add(MOST_BESIDE) || own > MOST_NUMBERS
+}
+
+// Whether a number of the entry at the front may have more bytes than are read of a bad list.
+fn may_be_long(bytes: &[u8]) -> bool {
+    if bytes.len() <= MOST_BAD {
+        return false;
+    }
+    let (front, _) = bytes.split_at(MOST_BAD);
+    let mut ends: usize = 0;
+    for byte in front {
+        if *byte < 0x80 {
+            ends = ends.saturating_add(1);
+        }
+    }
+    ends < MOST_ENDS
+}
+
+// Whether it may have taken long to find that a list is bad, where so many bytes are left from the bad entry on.
+fn was_dear(bytes: &[u8], left: usize) -> bool {
+    let read = bytes.len().saturating_sub(left).min(bytes.len());
+    let (_, rest) = bytes.split_at(read);
+    read > MOST_BAD || may_be_long(rest)
+}
+
 /// What the list at the front of some bytes says, by a unit's base address and addresses; none where it isn't as the
 /// format has it, doesn't end in these bytes, or uses an index of no address.
+///
+/// Want of memory is answered too where it is long and says little, or can't be read: compilers make no such list, and
+/// each entry could name one.
 pub fn read_list<'a>(
     alloc: Global,
     list: ListKind,
@@ -142,10 +198,21 @@ pub fn read_list<'a>(
     let mut base = base;
     let mut places = Vec::new(alloc);
     for i in 0..bytes.len() {
+        let left = cursor.left();
+        let before = places.len();
         match take_step(list, addresses, &mut base, &mut places, &mut cursor)? {
             Flow::More => {}
             Flow::End => return Ok(Some(places)),
-            Flow::Bad => return Ok(None),
+            Flow::Bad => {
+                if was_dear(bytes, left) {
+                    return Err(NoMemory);
+                }
+                return Ok(None);
+            }
+        }
+        let size = left.saturating_sub(cursor.left());
+        if is_dear(i, &places, own_size(&places, before, size)) {
+            return Err(NoMemory);
         }
     }
     Ok(None)

@@ -15,6 +15,10 @@ use table_core::form::DW_FORM_implicit_const;
 use table_core::shape::Shape;
 use table_core::value::value;
 
+// How many attributes a declaration has at most. Compilers list fewer than forty; each entry of a declaration with
+// more, whose attributes need have no bytes, would take that long to read.
+const MOST_SPECS: usize = 1 << 8;
+
 /// What a declaration says of an attribute.
 #[derive(Clone, Copy)]
 pub struct Spec {
@@ -76,7 +80,12 @@ fn read_specs<'a>(alloc: Global, cursor: &mut Cursor<'a>) -> Result<Vec<Spec>, S
     let mut specs = Vec::new(alloc);
     'specs: loop {
         match next_spec(cursor)? {
-            Some(spec) => specs.push(spec)?,
+            Some(spec) => {
+                specs.push(spec)?;
+                if specs.len() > MOST_SPECS {
+                    return Err(Stop::Memory);
+                }
+            }
             None => return Ok(specs),
         }
     }

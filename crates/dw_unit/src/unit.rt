@@ -17,7 +17,7 @@ use std::alloc::Global;
 // and attributes of some forms, as DW_FORM_flag_present, none, so that few bytes could list any number of them.
 const MEMORY_A_BYTE: usize = 56;
 
-const MEMORY_BESIDE: usize = 1 << 24;
+const MEMORY_BESIDE: usize = 1 << 14;
 
 // How many bytes of memory an entry takes, and an attribute of it, or a few more.
 const ENTRY_SIZE: usize = 56;

@@ -75,6 +75,14 @@ fn frame_of(
 // entries may be ends of one long text.
 const MOST_BYTES: usize = 1 << 27;
 
+// How many bytes may be looked through in vain for the end of a name: those of a section that doesn't end in a zero.
+fn open_size(section: &[u8]) -> usize {
+    match section.last() {
+        Some(0) | None => 0,
+        Some(_) => section.len(),
+    }
+}
+
 // The frames of some links, the first of them at a position. Memory is wanting where their names and paths are too
 // long.
 fn frames_from(
@@ -93,12 +101,14 @@ fn frames_from(
     let mut frames = Vec::new(alloc);
     let mut position = first;
     let mut bytes: usize = 0;
+    let searched = open_size(texts.str).saturating_add(open_size(texts.line_str));
     for number in 0..links.len() {
         let next = call_position(alloc, lines, links[number])?;
         let frame = frame_of(alloc, texts, namings[number], position)?;
         bytes = bytes
             .saturating_add(frame.name.len())
-            .saturating_add(frame.path.len());
+            .saturating_add(frame.path.len())
+            .saturating_add(searched);
         if bytes > MOST_BYTES {
             return Err(NoMemory);
         }

@@ -4,11 +4,11 @@ ghost use Rattle.std.specs.Option.{option_to_list};
 ghost use Rattle.line_rewrite.specs.Entries.{is_absolute, directory_path, path_of};
 ghost use Rattle.line_rewrite.specs.FilePaths.{file_path};
 ghost use Rattle.line_rewrite.specs.LineAnswers.{row_said};
-ghost use Rattle.line_rewrite.specs.KeptEntries.{strings_held, told_entry, told_entries};
+ghost use Rattle.line_rewrite.specs.KeptEntries.{strings_held, told_name, told_entry, told_entries};
 ghost use Rattle.line_rewrite.specs.KeptUnits.{told_unit};
 
 use crate::answer::LineRow;
-use crate::entry::Entry;
+use crate::entry::{Entry, Text};
 use crate::registers::Registers;
 use crate::unit::Unit;
 use std::alloc::{AllocError, Global};
@@ -28,18 +28,23 @@ fn is_absolute(name: &[u8]) -> bool
     }
 }
 
-// The path of the directory of an index, by its name and that of the directory of the compilation.
+// The path of the directory of an index, by its name and that of the directory of the compilation. The text of the
+// latter, which may be long, is looked for only where the path begins with it.
 fn directory_path(
     alloc: Global,
-    compiled_in: &[u8],
+    str: &[u8],
+    line_str: &[u8],
+    compiled_in: &Text,
     index: u64,
     name: &[u8],
 ) -> Result<Vec<u8>, AllocError>
-    ensures { IfOk result (λ path. path.items ≡ directory_path compiled_in.now index name.now) }
+    ensures { IfOk result (λ path. path.items
+        ≡ directory_path (told_name (strings_held str.now line_str.now) compiled_in.now) index name.now) }
 {
     if is_absolute(name) || index == 0 {
         return Vec::from_slice(alloc, name);
     }
+    let compiled_in = compiled_in.bytes(str, line_str);
     let mut path = Vec::from_slice(alloc, compiled_in)?;
     path.push(SLASH)?;
     path.extend_from_slice(name)?;
@@ -69,9 +74,15 @@ fn path_of(
     let Some(directory) = directories.get(file.directory as usize) else {
         return Ok(None);
     };
-    let compiled_in = compiled_in.text.bytes(str, line_str);
     let directory = directory.text.bytes(str, line_str);
-    let mut path = directory_path(alloc, compiled_in, file.directory, directory)?;
+    let mut path = directory_path(
+        alloc,
+        str,
+        line_str,
+        &compiled_in.text,
+        file.directory,
+        directory,
+    )?;
     path.push(SLASH)?;
     path.extend_from_slice(name)?;
     Ok(Some(path))

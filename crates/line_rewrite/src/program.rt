@@ -55,7 +55,8 @@ fn sequence_at(
     let mut present = start(program.coding);
     let mut count: usize = 0;
     let mut due = Due { row: 0, place: 0 };
-    let mut kept = Vec::new(alloc);
+    // Most sequences are short: of these only the first state is kept.
+    let mut kept = Vec::with_capacity(alloc, 1)?;
     'ops: while cursor.left() > 0 {
         let here = program.bytes.len() - cursor.left();
         let Ok(op) = read_op(&mut cursor, program.coding.opcode_base, program.lengths) else {

@@ -16,6 +16,10 @@ use elf_image::{Elf, Section};
 use rb_bytes::fault::NoMemory;
 use std::alloc::Global;
 
+// For how many bytes of a file one relocation is read at most. A table has 24 bytes for each, which may apply to two
+// sections; tables that share bytes, of which no linker makes any, could say far more.
+const BYTES_A_RECORD: usize = 6;
+
 /// A relocation with a section that it applies to.
 #[derive(Clone, Copy)]
 pub struct Record<'a> {
@@ -92,6 +96,9 @@ fn read_records<'a>(
     let mut records = Vec::new(alloc);
     for run in runs {
         push_run(&mut records, file, run)?;
+        if records.len() > file.len() / BYTES_A_RECORD {
+            return Err(NoMemory);
+        }
     }
     Ok(records)
 }

@@ -18,13 +18,14 @@ use rb_bytes::fault::NoMemory;
 use std::alloc::Global;
 use table_core::AddrTable;
 
-// How much the declarations of units may weigh for each byte of the file, and beside: units can begin theirs at any
-// declaration of one long table, and each gets all that follow.
+// How much lists and the declarations of units may weigh for each byte of the file, and beside: a unit that uses one
+// index of a list gets an offset for each index below it too; and units can begin their declarations at any of one long
+// table, and each gets all that follow.
 const MOST_TIMES: u64 = 64;
 
 const MOST_BESIDE: u64 = 1 << 28;
 
-// Whether declarations weigh so much that memory could be wanting while they are written.
+// Whether these weigh so much that memory could be wanting while they are written.
 fn is_much(weight: u64, file_size: u64) -> bool {
     weight
         > file_size
@@ -65,7 +66,8 @@ pub fn is_too_heavy(
         return Ok(true);
     }
     let abbrevs = abbrev_weight(alloc, elf)?;
-    if abbrevs <= WEIGHT_LIMIT && is_much(abbrevs, elf.file.len() as u64) {
+    let weight = ranges.saturating_add(places).saturating_add(abbrevs);
+    if abbrevs <= WEIGHT_LIMIT && is_much(weight, elf.file.len() as u64) {
         return Err(NoMemory);
     }
     Ok(abbrevs > WEIGHT_LIMIT)

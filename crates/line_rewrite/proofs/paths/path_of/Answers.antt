@@ -1,6 +1,6 @@
 use Rattle.std.proofs.Common.{◌∙◌, ◌++◌, refl, sym, ap}
 use Rattle.line_rewrite.specs.Entries.{Strings, is_absolute, directory_path}
-use Rattle.line_rewrite.specs.KeptEntries.{strings_held}
+use Rattle.line_rewrite.specs.KeptEntries.{strings_held, told_name}
 use Rattle.line_rewrite.proofs.LineLookups.{item_at}
 use Rattle.line_rewrite.proofs.KeptPaths.{path_is}
 use Rattle.line_rewrite.proofs.paths.path_of.Goals as goal
@@ -16,5 +16,6 @@ returns c =
     (ap is_absolute (sym c.bytes-name.ensures) ∙ sym c.is_absolute.ensures ∙ c.if-is_absolute.false)
     (item_at ds ds 0 root c.in-Some.ensures.lookup.0 c.in-Some.ensures.lookup.1 refl)
     (item_at ds ds file.directory d c.in-Some-get.ensures.lookup.0 c.in-Some-get.ensures.lookup.1 refl)
-    (c.in_ok-path-2.ensures ∙ (λ i. directory_path (c.bytes-compiled_in.ensures i) file.directory (c.bytes-directory.ensures i)))
+    (c.in_ok-path-2.ensures
+    ∙ (λ i. directory_path (told_name strings root.text) file.directory (c.bytes-directory.ensures i)))
     (c.in_ok-extend_from_slice.ensures.items ∙ (λ i. c.in_ok-push.ensures.items i ++ c.bytes-name.ensures i))
