@@ -23,12 +23,13 @@ use Rattle.rb_bytes.proofs.Tests.{clash}
 use Rattle.answer_runs.specs.declared.run.Run.{Run}
 use Rattle.answer_runs.specs.AnswerRuns.{AreRunsOf, carried}
 use Rattle.table_core.specs.Sections.{Held, bytes_of, held, held_by}
-use Rattle.cfi_rows.specs.Entries.{frames}
+use Rattle.cfi_rows.specs.Entries.{Fde, Frames, frames}
 use Rattle.cfi_rows.specs.Frames.{frames_of}
 use Rattle.cfi_rows.specs.ReadFrames.{read_as}
 use Rattle.frame_rewrite.specs.FrameAnswers.{FrameAnswer}
-use Rattle.frame_rewrite.specs.Index.{IsIndexOf, StandsIndex, has_frames, has_index}
-use Rattle.frame_rewrite.specs.Tables.{EndsWithMark, StandsAs, eh_name, eh_says, run_size}
+use Rattle.frame_rewrite.specs.Index.{AreApart, AreFilled, IsIndexOf, StandsIndex, has_frames, has_index}
+use Rattle.frame_rewrite.specs.Tables.{EndsWithMark, StandsAs, debug_name, eh_name, eh_says, run_size}
+use Rattle.frame_rewrite.proofs.FramesCarried.{read_is}
 use Rattle.line_rewrite.specs.Tables.{LineSections}
 use Rattle.bolt_core.specs.CarriedAnswers.{CarriesTables}
 use Rattle.bolt_core.specs.GivenTables.{AreGivenFor, DebugContents, ReadTable, debug_listed, ranges_given}
@@ -350,12 +351,23 @@ module _ (elf : Elf) (t : AllTables) (comes : AllComeFrom t elf) (spans : List S
         (subst (λ (h : Held). IsIndexOf (frames_at start (length code)) h.address (frames false (frames_at start (length code)) eh).list
         h.bytes) (sym (index_held loads x is)) index.is)
 
+    -- what is so of a written table wherever it stands is so where it stands
+    of_frames : (debug : Bool) (name bytes : List ℕ) (P : List Fde → Type 0) → ((at : ℕ) → P (frames debug at bytes).list)
+        → bytes_of new name ≡ bytes → P (frames_of debug (held new name)).list
+    of_frames debug name bytes P all is =
+        subst (λ (l : List ℕ). P (frames debug (held new name).address l).list) (sym is) (all (held new name).address)
+
     pub carries_tables : CarriesTables spans elf new
     carries_tables = record {
       answers = all_carried elf spans t made.written comes made.are_carried new hold_all;
       sound = no_fault new (all_sound elf spans t made.written comes made.are_carried new hold_all);
       ends = λ e. subst EndsWithMark (sym eh_stands) (made.are_carried.eh_made.ends (there ∙ e));
       index = index_stands;
+      apart = λ apart. of_frames false eh_name eh AreApart
+          (made.are_carried.eh_made.apart (subst (λ (f : Frames). AreApart f.list) (sym (read_is t.eh elf comes.eh)) apart))
+          eh_stands;
+      filled = of_frames false eh_name eh AreFilled made.are_carried.eh_made.filled eh_stands;
+      debug_apart = of_frames true debug_name made.written.df.bytes.items AreApart made.are_carried.df_made.apart hold_all.df;
       lists = all_lists made.written;
       kept = record {
         units = units_kept elf spans t made.written comes made.are_carried new hold_all;

@@ -6,7 +6,8 @@ use Rattle.rb_bytes.specs.FirstFault.{IsFree}
 use Rattle.addr_map.specs.declared.span.Span.{Span}
 use Rattle.table_core.specs.declared.written.ListAt.{ListAt}
 use Rattle.table_core.specs.Sections.{bytes_of}
-use Rattle.frame_rewrite.specs.Index.{StandsIndex, has_frames, has_index}
+use Rattle.cfi_rows.specs.Frames.{eh_frames, debug_frames}
+use Rattle.frame_rewrite.specs.Index.{AreApart, AreFilled, StandsIndex, has_frames, has_index}
 use Rattle.frame_rewrite.specs.Tables.{EndsWithMark}
 use Rattle.table_set.specs.AllAnswers.{AllCarried}
 use Rattle.table_set.specs.KeptData.{IsDebugKept}
@@ -19,6 +20,11 @@ pub record CarriesTables (spans : List Span) (i f : Elf) : Type 0 where
   pub sound : IsFree (HasTableFault f)
   pub ends : IsTrue (has_frames i) → EndsWithMark (bytes_of f (codes ".eh_frame"))
   pub index : IsTrue (has_index i) → StandsIndex f
+  -- No address is in two entries; in `.eh_frame`, if none is in two of the input's. No entry there is empty, so a search
+  -- in the index then ends at the one that holds an address.
+  pub apart : AreApart (eh_frames i).list → AreApart (eh_frames f).list
+  pub filled : AreFilled (eh_frames f).list
+  pub debug_apart : AreApart (debug_frames f).list
   -- units, their entries and line units are kept, changed in place by the offsets of these lists, and so is all other
   -- debug data
   pub lists : List ListAt

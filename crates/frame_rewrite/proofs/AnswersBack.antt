@@ -164,7 +164,7 @@ in-entry : (is_marked : Fde → Bool) (f : Fde) (fs : List Fde) (p : ℕ) → is
     → answer_at is_marked (f ∷ fs) p ≡ answer_of is_marked f p
 in-entry is_marked f fs p e = rw e refl
 
-ranged : (s p e : ℕ) → (leb s p && ltb p e) ≡ true → (s ≤ p) × (p < e)
+pub ranged : (s p e : ℕ) → (leb s p && ltb p e) ≡ true → (s ≤ p) × (p < e)
 ranged s p e t = (grind (arith, nat_tests), grind (arith, nat_tests))
 
 pub none-made : (is_marked : Fde → Bool) (spans : List Span) (all : Runs) (n place : ℕ) (rs : Runs) (p : ℕ)

@@ -1,11 +1,12 @@
 -- A marked range from 10078 to 10090, of which the instruction at 1007c moved to 20000. Between where the range starts, which
 -- didn't move, and that instruction stands code of another function.
-use Rattle.std.proofs.Common.{◌≡◌, ℕ, pos, [], ◌∷◌, Option, true, false, refl, sym, ap, subst, arith}
+use Rattle.std.proofs.Common.{◌≡◌, ℕ, pos, [], ◌∷◌, Option, Some, true, false, refl, sym, ap, subst, arith}
 use Rattle.std.specs.Prelude.{IsTrue, unwrap_or}
 use Rattle.addr_map.specs.declared.span.Span.{Span}
 use Rattle.cfi_rows.specs.Entries.{Cie, Fde, is_in_range, no_augmentation}
 use Rattle.cfi_rows.specs.FrameRows.{nothing_known}
 use Rattle.frame_rewrite.specs.FrameAnswers.{is_marked_by}
+use Rattle.frame_rewrite.specs.Index.{AreApart, last_from}
 use Rattle.frame_rewrite.specs.Tables.{MovesWhole}
 
 abbrev cie : Cie
@@ -49,3 +50,22 @@ gap whole =
     let same : found.0 ≡ 0x30000 = sym (ap (λ (o : Option ℕ). unwrap_or o 0) found.1) in
     let inside : is_in_range fde 0x30000 ≡ true = subst (λ (o : ℕ). IsTrue (is_in_range fde o)) same found.2 in
     absurd (cc)
+
+-- A piece of it that begins where it does holds its first addresses too. A search for the address behind the piece finds
+-- the later one of the two.
+abbrev piece : Fde
+piece = record {
+  place = 56;
+  start = 0x10078;
+  end = 0x1007c;
+  table = 0x12000;
+  cie = cie;
+  instructions = [];
+  rows = [];
+}
+
+shared : AreApart (fde ∷ piece ∷ []) → ⊥
+shared apart = apart 0 1 fde (omega arith) (omega arith) 0x10078 refl refl
+
+missed : last_from (fde ∷ piece ∷ []) 0x1007c ≡ Some piece
+missed = refl

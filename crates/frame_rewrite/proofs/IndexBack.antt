@@ -13,6 +13,7 @@ use Rattle.cfi_rows.specs.declared.frame_table.Fde.{Fde as ReadFde}
 use Rattle.cfi_rows.specs.Entries.{Fde}
 use Rattle.cfi_rows.specs.ReadEntries.{fde_of}
 use Rattle.frame_rewrite.specs.Index.{IsIndexOf, pair_bytes, distance, distance_bytes}
+use Rattle.frame_rewrite.proofs.IndexSearch.{leads-to}
 use Rattle.frame_rewrite.proofs.NumbersBack.{length-little}
 
 -- the pair of what is kept of an entry
@@ -51,10 +52,14 @@ index-of at index list were kept bytes e p up is =
     let l : length were ≡ length list = ap length (sym e) ∙ length-map fde_of list in
     let m : length kept ≡ length (apply_swaps list p.moves) = ap length (sym same)
     ∙ length-map fde_of (apply_swaps list p.moves) in
+    let swapped : IsPermutation list (apply_swaps list p.moves) =
+    record { moves = p.moves; below = subst (λ (n : ℕ). SwapsInRange n p.moves) l p.below; is = refl } in
+    let rise = ascends (apply_swaps list p.moves) kept same up in
     record {
       sorted = apply_swaps list p.moves;
-      same = record { moves = p.moves; below = subst (λ (n : ℕ). SwapsInRange n p.moves) l p.below; is = refl };
-      ascend = ascends (apply_swaps list p.moves) kept same up;
+      same = swapped;
+      ascend = rise;
+      leads = leads-to list (apply_swaps list p.moves) swapped rise;
       bytes_are = is
           ∙ ap (λ (n : ℕ). (1 ∷ 0x1b ∷ 0x03 ∷ 0x3b ∷ []) ++ distance_bytes at (index + 4) ++ little_bytes 4 n ++ flat_map
           (pairs_of at index) kept) m

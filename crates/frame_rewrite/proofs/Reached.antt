@@ -80,6 +80,7 @@ pub record Answered (marks : Fde → Bool) (list : List Fde) (spans : List Span)
   pub in_list : Contains list fde
   pub in_range : is_in_range fde span.input ≡ true
   pub start : a.start ≡ fde.start
+  pub table : a.table ≡ fde.table
   pub marked : a.marked ≡ marks fde
   -- the kind of frame is the CIE's
   pub ra : a.ra ≡ fde.cie.ra
@@ -106,6 +107,7 @@ owned-answer marks list spans p a h =
       in_list = holds.1;
       in_range = subst (λ (n : ℕ). is_in_range f n ≡ true) (sym input) holds.0;
       start = sym (ap (λ (x : FrameAnswer). x.start) said);
+      table = sym (ap (λ (x : FrameAnswer). x.table) said);
       marked = sym (ap (λ (x : FrameAnswer). x.marked) said);
       ra = sym (ap (λ (x : FrameAnswer). x.ra) said);
       handler = sym (ap (λ (x : FrameAnswer). x.handler) said);
@@ -149,7 +151,7 @@ holds-answer marks list o f begins c t =
       started : (s e : ℕ) → (leb s o && ltb o e) ≡ true → s ≤ o
       started s e t = grind (arith, nat_tests)
 
-abbrev AreWhole : (Fde → Bool) → List Fde → List Span → Type 0
+abbrev pub AreWhole : (Fde → Bool) → List Fde → List Span → Type 0
 AreWhole marks list spans = All (λ f. IsTrue (marks f) → MovesWhole spans f) list
 
 module _ (marks : Fde → Bool) (list : List Fde) (spans : List Span) (runs : Runs) (hi : ℕ) (within : IsWithin 0 runs hi)

@@ -1,8 +1,9 @@
 -- The law and what is made, of the two tables where they stand.
-use Rattle.std.proofs.Common.{ℕ, ◌+◌, ◌-◌, ◌*◌, ◌^◌, ◌≤◌, ◌≡◌, List, [], Option, Some, None, Bool, true, false, refl, sym, ◌∙◌, ap, subst}
+use Rattle.std.proofs.Common.{ℕ, ◌+◌, ◌-◌, ◌*◌, ◌^◌, ◌≤◌, ◌<◌, ◌≡◌, List, [], Option, Some, None, Bool, true, false, refl, sym, ◌∙◌, ap, subst}
 use Rattle.std.proofs.Common.{arith, length}
 use Rattle.std.specs.Prelude.{All, is_some, option_and_then, sum_by}
 use Rattle.std.proofs.lemmas.List.Elements.{All-nil}
+use Rattle.rb_bytes.proofs.ListLemmas.{one_of}
 use Rattle.rb_bytes.specs.FirstFault.{IsFree}
 use Rattle.elf_image.specs.declared.section.Section.{Section}
 use Rattle.addr_map.specs.declared.span.Span.{Span}
@@ -21,8 +22,10 @@ use Rattle.frame_rewrite.specs.CarriedFrames.{IsCarriedFrame}
 use Rattle.frame_rewrite.specs.Faults.{IsFrameFault}
 use Rattle.frame_rewrite.specs.declared.debug.DebugFrames.{DebugFrames}
 use Rattle.frame_rewrite.specs.FrameAnswers.{FrameAnswer, answer_at, is_marked_by, is_never_marked}
+use Rattle.frame_rewrite.specs.Index.{AreApart, AreFilled, ShareNoAddress}
 use Rattle.frame_rewrite.specs.SpelledFits.{KeyFits, IsReached, IsSpelled}
-use Rattle.frame_rewrite.specs.Tables.{answers, EhMakes, MovesWhole, run_size, eh_says, debug_says, EhAllows}
+use Rattle.frame_rewrite.specs.Tables.{answers, DebugMakes, EhMakes, MovesWhole, run_size, eh_says, debug_says, EhAllows}
+use Rattle.frame_rewrite.proofs.ApartEntries.{Alike, all-alike, written-apart, written-filled}
 use Rattle.frame_rewrite.proofs.EntrySizes.{least-total}
 use Rattle.frame_rewrite.proofs.FirstRows.{frames-begin}
 use Rattle.frame_rewrite.proofs.Law.{law, reads-as}
@@ -87,15 +90,21 @@ nothing-held file (Some s) e = absurd (cc)
 
 -- What is made
 
+nothing-apart : (debug : Bool) (at : ℕ) (bytes : List ℕ) → bytes ≡ [] → AreApart (frames debug at bytes).list
+nothing-apart debug at bytes e = subst (λ (x : Frames). AreApart x.list) (sym (ap (frames debug at) e ∙ none-framed debug at))
+    (λ i j d less inside. absurd (omega arith))
+
 pub makes : (t : EhFrames) (spans : List Span) (keys : List CieKey) (runs : Runs) (w : Written) → All KeyFits keys
     → IsWithin 0 runs (2 ^ 64 - 1)
     → ((p : ℕ) → run_at runs p ≡ carried (eh_says t) spans p) → All (IsReached spans runs) runs
-    → length keys ≤ (read_as t.frames).cies
+    → (AreApart (read_as t.frames).list → All (Alike spans runs) runs) → length keys ≤ (read_as t.frames).cies
     → t.has_section ≡ true → IsSpelled false spans keys runs w.bytes.items → w.lists.items ≡ [] → EhMakes t spans runs w
-makes t spans keys runs w f within a r few there s lists =
+makes t spans keys runs w f within a r alike few there s lists =
     record {
       sound = λ at. ap (λ (x : Frames). x.bad) (reads-as false spans keys runs w.bytes.items at f within r s);
       starts = λ at. starts-in (eh_says t) spans keys runs w.bytes.items at f within a r s;
+      filled = λ at. written-filled false spans keys runs w.bytes.items at f within r s;
+      apart = λ apart at. written-apart false spans keys runs w.bytes.items at f within r (alike apart) s;
       count = λ at. count-of spans keys runs w.bytes.items at f within r s;
       size = size-of spans keys runs w.bytes.items (read_as t.frames).cies few s;
       ends = λ _. ends-with spans keys runs w.bytes.items s;
@@ -113,6 +122,8 @@ makes-nothing t spans runs w none e lists =
       sound = λ at. ap (λ (x : Frames). x.bad) (empty at);
       starts = λ at. subst (λ (x : Frames). All (λ (f : Fde). is_new_code spans f.start ≡ true) x.list) (sym (empty at))
           (All-nil (λ (f : Fde). is_new_code spans f.start ≡ true));
+      filled = λ at. subst (λ (x : Frames). AreFilled x.list) (sym (empty at)) (All-nil (λ (f : Fde). f.start < f.end));
+      apart = λ apart at. nothing-apart false at w.bytes.items e;
       count = λ at. subst (λ (x : Frames). length x.list ≤ length runs) (sym (empty at)) (least (length runs));
       size = subst (λ (l : List ℕ). length l + 8 * length runs ≤ 16 + 64 * (read_as t.frames).cies + sum_by
           (λ (r : Run FrameAnswer). run_size r.answer) runs) (sym e)
@@ -129,6 +140,24 @@ makes-nothing t spans runs w none e lists =
 
       room : (n c s : ℕ) → n ≤ s → 0 + n ≤ 16 + 64 * c + s
       room n c s h = omega arith
+
+-- that of `.debug_frame`
+
+pub debug-makes : (t : DebugFrames) (spans : List Span) (keys : List CieKey) (runs : Runs) (w : Written) → All KeyFits keys
+    → IsWithin 0 runs (2 ^ 64 - 1) → All (IsReached spans runs) runs → All (Alike spans runs) runs
+    → (t.frames.section.items ≡ [] → ⊥) → IsSpelled true spans keys runs w.bytes.items → w.lists.items ≡ [] → DebugMakes t w
+debug-makes t spans keys runs w f within r alike some s lists = record {
+  apart = λ at. written-apart true spans keys runs w.bytes.items at f within r alike s;
+  nothing = λ none. absurd (some none);
+  lists = lists;
+}
+
+pub debug-makes-nothing : (t : DebugFrames) (w : Written) → w.bytes.items ≡ [] → w.lists.items ≡ [] → DebugMakes t w
+debug-makes-nothing t w e lists = record {
+  apart = λ at. nothing-apart true at w.bytes.items e;
+  nothing = λ _. e;
+  lists = lists;
+}
 
 -- the entries of marked runs hold no bytes but those of runs
 pub all-reached : (debug : Bool) (is_marked : Fde → Bool) (section : Held) (spans : List Span) (runs : Runs)
@@ -152,3 +181,19 @@ debug-reached t spans runs w a = all-reached t.frames.debug is_never_marked (sec
     (λ k d h m. absurd (clash m)) where
       clash : false ≡ true → ⊥
       clash e = cc
+
+-- and of these only those that go on in them
+
+pub eh-alike : (t : EhFrames) (spans : List Span) (runs : Runs) → EhAllows t spans → IsWithin 0 runs (2 ^ 64 - 1)
+    → ((p : ℕ) → run_at runs p ≡ carried (eh_says t) spans p) → AreApart (read_as t.frames).list
+    → All (Alike spans runs) runs
+eh-alike t spans runs allowed w a apart =
+    all-alike (is_marked_by t.cuts.items) (read_as t.frames).list spans runs (2 ^ 64 - 1) w a allowed.1
+    (λ f g p f_in g_in m x y. one_of ShareNoAddress (read_as t.frames).list f g apart f_in g_in (λ s. s p x y) (λ s. s p y x))
+
+pub debug-alike : (t : DebugFrames) (spans : List Span) (runs : Runs) → IsWithin 0 runs (2 ^ 64 - 1)
+    → ((p : ℕ) → run_at runs p ≡ carried (debug_says t) spans p) → All (Alike spans runs) runs
+debug-alike t spans runs w a = all-alike is_never_marked (read_as t.frames).list spans runs (2 ^ 64 - 1) w a
+    (λ k d h m. absurd (never m)) (λ f g p f_in g_in m x y. absurd (never m)) where
+      never : false ≡ true → ⊥
+      never e = cc

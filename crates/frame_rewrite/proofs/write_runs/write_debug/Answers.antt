@@ -1,4 +1,4 @@
-use Rattle.std.proofs.Common.{◌∙◌, ◌≡◌, true, rules, subst, length}
+use Rattle.std.proofs.Common.{◌∙◌, ◌≡◌, ◌≢◌, true, rules, ap, subst, length}
 use Rattle.std.proofs.lemmas.List.{nil_from_length}
 use Rattle.table_core.specs.Sections.{held}
 use Rattle.cfi_rows.specs.ReadFrames.{read_as, section_held}
@@ -7,7 +7,7 @@ use Rattle.frame_rewrite.specs.Tables.{debug_name}
 use Rattle.frame_rewrite.proofs.AnswersBack.{reached-before}
 use Rattle.frame_rewrite.proofs.ReturnRegisters.{Bytes}
 use Rattle.frame_rewrite.proofs.ToldRuns.{all-ascend, all-return}
-use Rattle.frame_rewrite.proofs.WrittenTables.{stands, none-listed, nothing-stands, debug-reached}
+use Rattle.frame_rewrite.proofs.WrittenTables.{stands, none-listed, nothing-stands, debug-reached, debug-alike, debug-makes, debug-makes-nothing}
 use Rattle.frame_rewrite.proofs.write_runs.write_debug.Goals as goal
 
 pub returns-then-is_empty-clause-law : goal.returns-then-is_empty-clause-law
@@ -17,6 +17,9 @@ returns-then-is_empty-clause-law c =
     (read_as c.args.table.now.frames).list (held f debug_name)
     (none-listed c.args.table.now.frames.debug (section_held c.args.table.now.frames)
     (nil_from_length c.args.table.now.frames.section.items none)) (there ∙ c.new.ensures.items) c.requires.answers
+
+pub returns-then-is_empty-clause-made : goal.returns-then-is_empty-clause-made
+returns-then-is_empty-clause-made c = debug-makes-nothing c.args.table.now _ c.new.ensures.items c.new-lists.ensures.items
 
 pub keys_of-requires : goal.keys_of-requires
 keys_of-requires c =
@@ -39,3 +42,11 @@ returns-clause-law c = λ f there.
     c.in_ok-keys.ensures.fits c.requires.within
     (debug-reached c.args.table.now c.args.map.now c.args.runs.now c.requires.within c.requires.answers)
     c.in_ok-bytes.ensures there
+
+pub returns-clause-made : goal.returns-clause-made
+returns-clause-made c =
+    let some : length c.args.table.now.frames.section.items ≢ 0 = search rules in
+    debug-makes c.args.table.now c.args.map.now _ c.args.runs.now _ c.in_ok-keys.ensures.fits c.requires.within
+    (debug-reached c.args.table.now c.args.map.now c.args.runs.now c.requires.within c.requires.answers)
+    (debug-alike c.args.table.now c.args.map.now c.args.runs.now c.requires.within c.requires.answers)
+    (λ none. some (ap length none)) c.in_ok-bytes.ensures c.new-lists.ensures.items

@@ -8,7 +8,7 @@ use Rattle.frame_rewrite.specs.Tables.{eh_name}
 use Rattle.frame_rewrite.proofs.AnswersBack.{reached-before}
 use Rattle.frame_rewrite.proofs.ReturnRegisters.{Bytes}
 use Rattle.frame_rewrite.proofs.ToldRuns.{all-ascend, all-return, few-kinds}
-use Rattle.frame_rewrite.proofs.WrittenTables.{stands, none-listed, nothing-stands, nothing-held, eh-reached, makes, makes-nothing}
+use Rattle.frame_rewrite.proofs.WrittenTables.{stands, none-listed, nothing-stands, nothing-held, eh-reached, eh-alike, makes, makes-nothing}
 use Rattle.frame_rewrite.proofs.write_runs.write_eh.Goals as goal
 
 pub returns-then-not-table-clause-law : goal.returns-then-not-table-clause-law
@@ -54,4 +54,5 @@ returns-clause-made c =
     in
     makes c.args.table.now c.args.map.now _ c.args.runs.now _ c.in_ok-keys.ensures.fits c.requires.within c.requires.answers
     (eh-reached c.args.table.now c.args.map.now c.args.runs.now c.requires.allowed c.requires.within c.requires.answers)
+    (eh-alike c.args.table.now c.args.map.now c.args.runs.now c.requires.allowed c.requires.within c.requires.answers)
     few c.if-not-table.false c.in_ok-bytes.ensures c.new-lists.ensures.items
