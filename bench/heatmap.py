@@ -51,9 +51,14 @@ def entry_of(path):
 
 
 def spans_of(path):
-    """The lines of a map: new address, bytes, old address."""
-    with open(path, encoding="ascii") as lines:
-        return [(int(new, 16), int(size), int(old, 16)) for new, size, old in map(str.split, lines)]
+    """The lines of a map, of which there is one at least: new address, bytes, old address."""
+    spans = []
+    try:
+        with open(path, encoding="ascii") as lines:
+            spans = [(int(new, 16), int(size), int(old, 16)) for new, size, old in map(str.split, lines)]
+    except ValueError:
+        pass  # another file, or one of bytes
+    return spans or sys.exit(f"{path} is no map: the names are those of IN, OUT, MAP and PROFILE, in this order")
 
 
 def edges_of(profile, path):
@@ -195,6 +200,8 @@ def pictures_of(old, new, map_path, profile, cell=None):
     # what doesn't fit is left out, as `rewrite` does with a profile of a program that changed
     known = set(instructions)
     edges = {pair: count for pair, count in edges_of(profile, old).items() if known.issuperset(pair)}
+    if not edges:
+        print(f"no line of {profile} names two instructions of {old}", file=sys.stderr)
     counts = counts_of(edges, entry_of(old), instructions, named[0])
     before = [(source, 2, counts[source]) for source in instructions]
     after = [(at, size, counts[source]) for at, size, source in spans]

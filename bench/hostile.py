@@ -19,9 +19,9 @@ has to be below 2.5 but where what is said has a bound, past which memory is sai
 may end by a signal. The script ends with status 1 where some isn't so. No more is given than 6 GiB and 300 seconds.
 With --large those of LARGE are run, at a quarter, a half and the whole of the size that is named there: 60,000 units
 over one table of declarations, a million lists that overlap, 64 MiB of rows at one address, a million entries for one
-range, as many functions as a file may have with a row of lines for each instruction, and entries, ranges and locations
-in a file of nearly 64 MiB. With --make the smallest file of each kind is written into FOLDER, which is made where it
-isn't there, and nothing is run.
+range, as many functions as a file may have with a row of lines for each instruction, and entries, ranges, locations,
+attributes, lists, relocations and sequences of lines in files of nearly 64 MiB. With --make the smallest file of each
+kind is written into FOLDER, which is made where it isn't there, and nothing is run.
 """
 import argparse
 import os
@@ -31,6 +31,7 @@ import sys
 import tempfile
 
 from hostile_files import BASE, BOUNDED_FILES, FILES, TEXT
+from hostile_lists import BOUNDED_LISTS, LISTS
 from hostile_tables import BOUNDED_TABLES, TABLES
 from hostile_units import BOUNDED_UNITS, UNITS
 from profiles import built, is_answer, spent
@@ -57,6 +58,12 @@ LARGE = {
     "one-range-list": 65000,
     "default-locations": 65000,
     "mixed": 65500,
+    "line-directory-rows": 65000,
+    "short-sequences": 65000,
+    "relocation-phases": 65000,
+    "few-flagged-units": 65000,
+    "few-indexed-lists": 65000,
+    "endless-names": 65000,
 }
 # The commands, with the words behind the tool's.
 COMMANDS = {
@@ -70,8 +77,8 @@ COMMANDS = {
     "lookup": "lookup {file} {address:x}",
     "frames": "frames {file} {address:x}",
 }
-BOUNDED = BOUNDED_FILES | BOUNDED_TABLES | BOUNDED_UNITS
-KINDS = FILES | TABLES | UNITS | BOUNDED
+BOUNDED = BOUNDED_FILES | BOUNDED_TABLES | BOUNDED_UNITS | BOUNDED_LISTS
+KINDS = FILES | TABLES | UNITS | LISTS | BOUNDED
 
 
 def limit():
@@ -156,7 +163,7 @@ def measure_growth(given, kind, command, files):
         kept = answered and is_kept(kind, size, seconds, peak, grew)
         well = well and kept
         figures = f"{size // 1024:6} KiB {seconds:8.3f} s {show(grew[0]):5} {peak:8.1f} MiB {show(grew[1]):5}"
-        print(f"{kind:18} {command:7} {figures} {'' if kept else '! '}{last[-60:]}", flush=True)
+        print(f"{kind:21} {command:7} {figures} {'' if kept else '! '}{last[-60:]}", flush=True)
     return well
 
 

@@ -168,6 +168,22 @@ def relocation_targets(size):
     return file.bytes(), b""
 
 
+def relocation_phases(size):
+    """Tables at all 24 places in an entry over the same random bytes, each for two sections: so each byte begins two
+    relocations."""
+    file = File(RETURN)
+    file.add_symbols([(0, BASE + TEXT, 4)], b"\0")
+    names = len(file.headers) - 1
+    offset = file.put(random.Random(1).randbytes(size))
+    for _ in range(2):
+        file.headers.append(section(0, SHT_PROGBITS, 2, BASE + TEXT, TEXT, len(RETURN)))
+        target = len(file.headers) - 1
+        for phase in range(24):
+            length = (size - phase) // 24 * 24
+            file.add_header(SHT_RELA, offset + phase, length, link=names, info=target, entsize=24)
+    return file.bytes(), b""
+
+
 def symbol_headers(size):
     return headers_over(size, SHT_SYMTAB, symbol(0, BASE + TEXT, 4) * (size // 2 // 24), 24)
 
@@ -206,6 +222,11 @@ def debug_file(tables, code=NOP + RETURN, length=None):
     return file.bytes(), b""
 
 
+def halfwords(count):
+    """So many instructions of two bytes."""
+    return b"\x01\0" * (count - 1) + b"\x82\x80"  # c.nop, and c.jr ra
+
+
 def uleb(number):
     """A number as ULEB128."""
     out = bytearray()
@@ -231,4 +252,4 @@ FILES = {
     "few-text-headers": few_text_headers,
 }
 # Those in which a few bytes say so much that it has a bound.
-BOUNDED_FILES = {"indirect-jumps": indirect_jumps}
+BOUNDED_FILES = {"indirect-jumps": indirect_jumps, "relocation-phases": relocation_phases}

@@ -2,7 +2,7 @@
 the file and its profile have to both. DWARF 5, sections 6.2 and 6.4."""
 import struct
 
-from hostile_files import BASE, NOP, RETURN, SHT_PROGBITS, TEXT, File, debug_file, long_name, uleb
+from hostile_files import BASE, NOP, RETURN, SHT_PROGBITS, TEXT, File, debug_file, halfwords, long_name, uleb
 
 
 def frame_entry(fields):
@@ -41,9 +41,9 @@ def frame_entries(size):
     return framed_functions(size, 4, False)
 
 
-def line_unit(program, files=b"\2\1\x08\2\x0b\2a.c\0\0a.c\0\0"):
-    """A unit of `.debug_line` of version 5, with one file."""
-    numbers = bytes.fromhex("010101fb0e0d000101010100000001000001") + b"\1\1\x08\1/s\0" + files
+def line_unit(program, files=b"\2\1\x08\2\x0b\2a.c\0\0a.c\0\0", directories=b"\1\1\x08\1/s\0"):
+    """A unit of `.debug_line` of version 5, with one file and one directory where no others are given."""
+    numbers = bytes.fromhex("010101fb0e0d000101010100000001000001") + directories + files
     unit = struct.pack("<HBBI", 5, 8, 0, len(numbers)) + numbers + program
     return struct.pack("<I", len(unit)) + unit
 
@@ -166,6 +166,33 @@ def line_address_paths(size):
     return debug_file({".debug_line": line_unit(program, files)})
 
 
+def rows_in_root(rows, size, code=NOP + RETURN):
+    """Rows of a file in the directory of index 1, which is `/`; that of index 0 is a text of so many bytes, and no part
+    of the file's path."""
+    directories = b"\1\1\x1f\2" + struct.pack("<II", 2, 0)  # DW_LNCT_path by DW_FORM_line_strp
+    files = b"\2\1\x08\2\x0b\2" + 2 * b"a\0\1"
+    table = line_unit(line_sequence(BASE + TEXT, rows), files, directories)
+    return debug_file({".debug_line": table, ".debug_line_str": b"/\0" + b"d" * size + b"\0"}, code)
+
+
+def line_directory(size):
+    """Each instruction of two bytes has a row, and the directory of the compilation is half of the file."""
+    count = size // 2 // 3
+    rows = b"\x12" + b"\x2f" * (count - 1) + b"\2\2"  # special opcodes, by a line and two bytes each
+    return rows_in_root(rows, size // 2, halfwords(count))
+
+
+def line_directory_rows(size):
+    """The same, with as many rows at one address."""
+    count = min(size // 2, (1 << 22) - 8)
+    return rows_in_root(b"\x12\x13" * (count // 2) + b"\2\x08", size - count)
+
+
+def short_sequences(size):
+    """Sequences of four bytes, each of one row at address 0."""
+    return debug_file({".debug_line": line_unit(b"\x12\0\1\1" * (size // 4))})
+
+
 def jump(distance):
     """`j` over so many bytes."""
     fields = ((20, 1, 31), (1, 10, 21), (11, 1, 20), (12, 8, 12))  # of the distance: from which bit how many, and where
@@ -198,6 +225,9 @@ TABLES = {
     "line-operations": line_operations,
     "line-address": line_address,
     "line-paths": line_paths,
+    "line-directory": line_directory,
+    "line-directory-rows": line_directory_rows,
+    "short-sequences": short_sequences,
     "one-range": frames_of_one_range,
     "nested-ranges": frames_of_nested_ranges,
 }

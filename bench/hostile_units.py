@@ -2,8 +2,11 @@
 bytes the file and its profile have to both. DWARF 5, sections 2.6, 2.17, 6.1.2 and 7."""
 import struct
 
-from hostile_files import BASE, NOP, RETURN, TEXT, debug_file, long_name, uleb
+from hostile_files import BASE, NOP, RETURN, TEXT, debug_file, halfwords, long_name, uleb
 from hostile_tables import frame_entry, frame_rows, line_sequence, line_unit, nested_ranges
+
+MOST_ATTRIBUTES = 256  # of a declaration
+ADDRESSES = struct.pack("<IHBBQ", 12, 5, 8, 0, BASE + TEXT)  # `.debug_addr` with one address
 
 
 def unit(entries, declarations=0):
@@ -45,12 +48,13 @@ def units_at_declarations(size):
     return debug_file({".debug_info": units, ".debug_abbrev": table + b"\0"})
 
 
-def units_inside_declaration(size):
-    """Units without entries, whose declarations each begin at another place inside one long declaration."""
-    count = size // 2 // 13
-    step = 2 * (size // 4 // count)
-    table = b"\1" * (size // 2 // 2 * 2 + 1) + bytes(3)  # its attributes: DW_AT_sibling by DW_FORM_addr
-    return debug_file({".debug_info": b"".join(unit(b"\0", step * k) for k in range(count)), ".debug_abbrev": table})
+def units_inside_declarations(size):
+    """Units without entries, whose declarations each begin at another place inside a long one of one table."""
+    long = b"\1" * (3 + 2 * MOST_ATTRIBUTES) + b"\0\0"  # its attributes: DW_AT_sibling by DW_FORM_addr
+    count = size // 2 // len(long)
+    places = (len(long) * (k % count) + 2 + 2 * (k // count) for k in range(size // 2 // 13))
+    units = b"".join(unit(b"\0", place) for place in places)
+    return debug_file({".debug_info": units, ".debug_abbrev": long * count + b"\0"})
 
 
 def nested_entries(size):
@@ -59,12 +63,48 @@ def nested_entries(size):
     return debug_file({".debug_info": unit(b"\1" * (size // 2) + bytes(size // 2)), ".debug_abbrev": declarations})
 
 
+def flags(count):
+    """So many attributes that take no bytes in an entry, by DW_FORM_flag_present; their name may repeat."""
+    return [(0x3F10, 0x19)] * count
+
+
 def entry_attributes(size):
-    """As many attributes of a declaration as entries that have it; none takes bytes in an entry."""
-    count = size // 2 // 4
-    attributes = ((0x2200 + k, 0x19) for k in range(count))  # DW_FORM_flag_present
-    declarations = declaration(1, 0x34, 0, *attributes) + declaration(2, 0x11, 1) + b"\0"
-    return debug_file({".debug_info": unit(b"\2" + b"\1" * (size // 2) + b"\0"), ".debug_abbrev": declarations})
+    """Entries of one byte with as many attributes as a declaration may have; none takes bytes in an entry."""
+    declarations = declaration(1, 0x34, 0, *flags(MOST_ATTRIBUTES)) + declaration(2, 0x11, 1) + b"\0"
+    return debug_file({".debug_info": unit(b"\2" + b"\1" * size + b"\0"), ".debug_abbrev": declarations})
+
+
+def flagged_units(size):
+    """Units of one entry, all of one declaration, whose attributes take no bytes; it is half of the file."""
+    declarations = declaration(1, 0x11, 0, *flags(size // 2 // 3)) + b"\0"
+    return debug_file({".debug_info": unit(b"\1") * (size // 2 // 13), ".debug_abbrev": declarations})
+
+
+def flagged_bad_units(size):
+    """The same, but a last attribute lacks its bytes: DW_AT_low_pc by DW_FORM_addr."""
+    declarations = declaration(1, 0x11, 0, *flags(size // 2 // 3), (0x11, 0x01)) + b"\0"
+    return debug_file({".debug_info": unit(b"\1") * (size // 2 // 13), ".debug_abbrev": declarations})
+
+
+def few_flagged_units(size):
+    """Units of two entries with as many attributes as are listed: of the first as a declaration may have, and of the
+    second as the entries of a unit may, by the memory that they take (56 bytes for each of theirs and 2^14 beside; an
+    entry takes 56 and an attribute 48)."""
+    declarations = declaration(1, 0x11, 1, *flags(MOST_ATTRIBUTES)) + declaration(2, 0x34, 0, *flags(85)) + b"\0"
+    return debug_file({".debug_info": unit(b"\1\2") * (size // 14), ".debug_abbrev": declarations})
+
+
+def few_flagged_bad_units(size):
+    """The same, with a third entry, of whose attributes the last lacks its bytes: it is read before it is counted."""
+    declarations = declaration(1, 0x11, 1, *flags(MOST_ATTRIBUTES)) + declaration(2, 0x34, 0, *flags(86))
+    declarations += declaration(3, 0x34, 0, *flags(MOST_ATTRIBUTES - 1), (0x11, 0x01)) + b"\0"
+    return debug_file({".debug_info": unit(b"\1\2\3") * (size // 15), ".debug_abbrev": declarations})
+
+
+def list_table(lists, offsets=()):
+    """A table of lists, with offsets of some that indexes name, each counted from where these begin."""
+    contents = struct.pack(f"<HBBI{len(offsets)}I", 5, 8, 0, len(offsets), *offsets) + lists
+    return struct.pack("<I", len(contents)) + contents
 
 
 def lists_that_overlap(size):
@@ -74,9 +114,8 @@ def lists_that_overlap(size):
     declarations = declaration(1, 0x11, 1, (0x11, 0x01)) + declaration(2, 0x2E, 0, (0x55, 0x17)) + b"\0"
     entries = b"".join(struct.pack("<BI", 2, 12 + 3 * k) for k in range(count))
     info = unit(b"\1" + struct.pack("<Q", BASE + TEXT) + entries + b"\0")
-    ranges = b"\4\0\4" * count + b"\0"  # DW_RLE_offset_pair 0, 4
-    head = struct.pack("<IHBBI", 8 + len(ranges), 5, 8, 0, 0)
-    return debug_file({".debug_info": info, ".debug_abbrev": declarations, ".debug_rnglists": head + ranges})
+    ranges = list_table(b"\4\0\4" * count + b"\0")  # DW_RLE_offset_pair 0, 4
+    return debug_file({".debug_info": info, ".debug_abbrev": declarations, ".debug_rnglists": ranges})
 
 
 def one_list(size):
@@ -85,26 +124,24 @@ def one_list(size):
     entries = struct.pack("<BI", 2, 12) * (size // 2 // 5)
     info = unit(b"\1" + struct.pack("<QI", BASE + TEXT, 8) + entries + b"\0")
     places = b"\4\0\0\1\x50" * (size // 2 // 5) + b"\4\0\4\1\x50\0"  # DW_LLE_offset_pair, and DW_OP_reg0
-    head = struct.pack("<IHBBI", 8 + len(places), 5, 8, 0, 0)
-    return debug_file({".debug_info": info, ".debug_abbrev": declarations, ".debug_loclists": head + places})
+    return debug_file({".debug_info": info, ".debug_abbrev": declarations, ".debug_loclists": list_table(places)})
 
 
 def small_ranges(size):
     """Entries of six bytes, each with a range: the index of an address, and a length."""
     fields = ((0x11, 0x01), (0x12, 0x06), (0x73, 0x17))  # DW_AT_addr_base by DW_FORM_sec_offset
     info = unit(b"\1" + bounds(0, 8) + struct.pack("<I", 8) + b"\2\0\4\0\0\0" * (size // 6) + b"\0")
-    addresses = struct.pack("<IHBBQ", 12, 5, 8, 0, BASE + TEXT)
     scope = declaration(2, 0x0B, 0, (0x11, 0x29), (0x12, 0x06))  # by DW_FORM_addrx1 and DW_FORM_data4
     declarations = declaration(1, 0x11, 1, *fields) + scope + b"\0"
-    return debug_file({".debug_info": info, ".debug_abbrev": declarations, ".debug_addr": addresses})
+    return debug_file({".debug_info": info, ".debug_abbrev": declarations, ".debug_addr": ADDRESSES})
 
 
 def entries_of_unit(fields, entries, **tables):
     """A unit over eight bytes of code, of entries that have one attribute, with tables of lists by their names."""
     declarations = declaration(1, 0x11, 1, (0x11, 0x01), (0x12, 0x06)) + declaration(2, 0x34, 0, fields) + b"\0"
     info = unit(b"\1" + struct.pack("<QI", BASE + TEXT, 8) + entries + b"\0")
-    heads = {f".debug_{name}": struct.pack("<IHBBI", 8 + len(x), 5, 8, 0, 0) + x for name, x in tables.items()}
-    return debug_file({".debug_info": info, ".debug_abbrev": declarations, **heads})
+    lists = {f".debug_{name}": list_table(contents) for name, contents in tables.items()}
+    return debug_file({".debug_info": info, ".debug_abbrev": declarations, **lists})
 
 
 def small_locations(size):
@@ -141,11 +178,6 @@ def location(start, end, expression):
     return b"\4" + uleb(start) + uleb(end) + uleb(len(expression)) + expression
 
 
-def halfwords(count):
-    """So many instructions of two bytes."""
-    return b"\x01\0" * (count - 1) + b"\x82\x80"  # c.nop, and c.jr ra
-
-
 def turns(count):
     """A location list in which another register holds the value at each instruction of two bytes."""
     return b"".join(location(2 * k, 2 * k + 2, bytes([0x50 + k % 2])) for k in range(count)) + b"\0"
@@ -167,7 +199,7 @@ def listed(entries, places, code, texts=b""):
     info = unit(b"\1" + bounds(0, len(code)) + entries + b"\0")
     tables = {".debug_info": info, ".debug_abbrev": declarations}
     if places:
-        tables[".debug_loclists"] = struct.pack("<IHBBI", 8 + len(places), 5, 8, 0, 0) + places
+        tables[".debug_loclists"] = list_table(places)
     if texts:
         tables[".debug_str"] = texts
     return debug_file(tables, code)
@@ -221,6 +253,19 @@ def inlined_names(size):
     return listed(b"\5" + bounds(0, 4) + calls + bytes(count + 1), b"", halfwords(2), long_name(size // 2) + b"\0")
 
 
+def endless_names(size):
+    """Inlined calls each inside the one before, whose names have no end: no byte of `.debug_str` is zero."""
+    own, call = (0x11, 0x29), ((0x03, 0x25), (0x11, 0x29), (0x12, 0x06))  # by strx1, addrx1 and data4
+    declarations = declaration(1, 0x11, 1, (0x72, 0x17), (0x73, 0x17), (0x11, 0x01), (0x12, 0x06))
+    declarations += declaration(2, 0x2E, 1, own, (0x12, 0x06)) + declaration(3, 0x1D, 1, *call) + b"\0"
+    count = min(size // 4 // 7, size // 32 + (1 << 17) - 1000)
+    bases = struct.pack("<II", 8, 8)  # of the offsets of texts, and of the addresses
+    info = unit(b"\1" + bases + bounds(0, 8) + b"\2\0\x08\0\0\0" + b"\3\0\0\x08\0\0\0" * count)
+    tables = {".debug_info": info, ".debug_abbrev": declarations, ".debug_addr": ADDRESSES}
+    tables[".debug_str_offsets"] = struct.pack("<IHHI", 8, 5, 0, 0)
+    return debug_file(tables | {".debug_str": b"a" * (size - 7 * count)})
+
+
 MIXED = 96  # instructions of a function of `mixed`
 
 
@@ -240,9 +285,9 @@ def mixed_code(size):
 def mixed_entries(count, size):
     """In so many bytes: entries with a range, as many variables with a list of one location each, and entries of a byte
     with as many attributes without bytes as the entries of a unit may have by the memory that they take (56 bytes for
-    each of theirs and 2^24 beside; an entry takes 56 and an attribute 48)."""
+    each of theirs and 2^14 beside; an entry takes 56 and an attribute 48)."""
     single = size - 11 * count
-    left = 56 * size + (1 << 24) - 256 * count - 56 * single - 4096
+    left = 56 * size + (1 << 14) - 256 * count - 56 * single - 4096
     flagged = min(single, left // 48)
     listed = b"".join(b"\2\0\4\0\0\0\3" + struct.pack("<I", 12 + 6 * k) for k in range(count))
     return b"\4" * flagged + b"\5" * (single - flagged) + listed
@@ -262,8 +307,7 @@ def mixed(size):
     info = unit(b"\1" + bounds(0, len(code)) + struct.pack("<I", 8) + entries + b"\0")
     places = (location(0, 4, b"\x50") + b"\0") * count
     tables |= {".debug_info": info, ".debug_abbrev": declarations}
-    tables[".debug_loclists"] = struct.pack("<IHBBI", 8 + len(places), 5, 8, 0, 0) + places
-    tables[".debug_addr"] = struct.pack("<IHBBQ", 12, 5, 8, 0, BASE + TEXT)
+    tables |= {".debug_loclists": list_table(places), ".debug_addr": ADDRESSES}
     return debug_file(tables, code, 2 * MIXED)
 
 
@@ -272,12 +316,16 @@ UNITS = {
     "aranges": tables_of_nested_ranges,
     "declarations": units_over_declarations,
     "nested": nested_entries,
+    "few-flagged-units": few_flagged_units,
+    "few-flagged-bad-units": few_flagged_bad_units,
 }
 # Those in which a few bytes say so much that it has a bound.
 BOUNDED_UNITS = {
     "attributes": entry_attributes,
     "own-declarations": units_at_declarations,
-    "in-declaration": units_inside_declaration,
+    "in-declaration": units_inside_declarations,
+    "flagged-units": flagged_units,
+    "flagged-bad-units": flagged_bad_units,
     "one-list": one_list,
     "one-range-list": one_range_list,
     "small-ranges": small_ranges,
@@ -291,5 +339,6 @@ BOUNDED_UNITS = {
     "scopes": scopes_in_scopes,
     "one-expression": one_expression,
     "inlined-names": inlined_names,
+    "endless-names": endless_names,
     "mixed": mixed,
 }

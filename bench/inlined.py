@@ -28,7 +28,7 @@ import sys
 import tempfile
 
 from debug_files import asked, build_with_tables, instructions
-from profiles import CROSS, record
+from profiles import CROSS, built, record
 from real_programs import LONGER, NO_COMPILER, ROOT, buildable, compilers
 
 
@@ -154,9 +154,9 @@ def main():
     words.add_argument("--inputs", action="store_true", help="without outputs")
     words.add_argument("programs", nargs="*", default=sorted(LONGER))
     given = words.parse_args()
-    tool, problems = given.tool.split(), 0
     if not compilers():
         sys.exit(NO_COMPILER)
+    tool, problems = built(given.tool), 0
     with tempfile.TemporaryDirectory() as room:
         folder = given.keep or room
         os.makedirs(folder, exist_ok=True)

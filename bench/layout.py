@@ -28,7 +28,7 @@ import subprocess
 import sys
 import tempfile
 
-from profiles import CROSS, follow, output, record
+from profiles import CROSS, built, follow, output, record
 from real_programs import LONGER, NO_COMPILER, PROGRAMS, ROOT, UNWINDING, build, compilers
 
 LINE, PAGE, SETS, WAYS, ENTRIES = 64, 4096, 64, 8, 8
@@ -193,22 +193,25 @@ def main():
     words.add_argument("--files", nargs=2, metavar=("IN", "OUT"), help="follows runs of these, with the words behind them")
     words.add_argument("functions", nargs="*", metavar="FUNCTIONS or WORDS")
     given = words.parse_args()
+    if not shutil.which("qemu-riscv64"):
+        sys.exit("there is no qemu-riscv64, which Debian's qemu-user has")
     if given.files:
         return follow_files(given.files, given.functions)
     if not all(word.isdigit() for word in given.functions):
         words.error("without --files numbers of functions are given")
     gcc = compilers().get("gcc") or sys.exit(NO_COMPILER)
+    tool = built(given.tool)
     with tempfile.TemporaryDirectory() as folder:
         path = os.path.join(folder, "program")
         for program in sorted(set(LONGER) - set(UNWINDING)):
             build(path, os.path.join(PROGRAMS, program), "gcc", gcc, "roomy", "-O2")
-            compare(given.tool.split(), program, path, [LONGER[program]], folder)
+            compare(tool, program, path, [LONGER[program]], folder)
         for functions in map(int, given.functions or ["400", "3000"]):
             source = os.path.join(folder, "spread")
             with open(source + ".c", "w", encoding="ascii") as file:
                 file.write(spread(functions))
             build(path, source, "gcc", gcc, "roomy", "-O2")
-            compare(given.tool.split(), f"spread, {functions}", path, [], folder)
+            compare(tool, f"spread, {functions}", path, [], folder)
 
 
 if __name__ == "__main__":

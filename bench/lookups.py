@@ -36,7 +36,7 @@ import debug_files
 from debug_files import apart, asked, best_of, build_with_tables, instructions
 from frames import rows_by_readelf
 from line_rows import by_addr2line, by_gdb, by_llvm, in_force, sequences_by_llvm, sequences_by_readelf
-from profiles import CROSS, output, record
+from profiles import CROSS, built, output, record
 from real_programs import LONGER, NO_COMPILER, ROOT, buildable, compilers
 
 REGISTERS = ["zero", "ra", "sp", "gp", "tp", "t0", "t1", "t2", "s0", "s1", *(f"a{n}" for n in range(8)),
@@ -248,9 +248,9 @@ def main():
     words.add_argument("--large", action="store_true", help="times one address of large files")
     words.add_argument("programs", nargs="*")
     given = words.parse_args()
-    tool, problems = given.tool.split(), 0
     if not given.large and not compilers():
         sys.exit(NO_COMPILER)
+    tool, problems = built(given.tool), 0
     with tempfile.TemporaryDirectory() as room:
         folder = given.keep or room
         os.makedirs(folder, exist_ok=True)

@@ -21,7 +21,9 @@ Compressed tables are left as they are, and frames and ranges of 64-bit DWARF. I
 and `-objdump`.
 """
 import bisect
+import os
 import re
+import shutil
 import sys
 
 from frames import after_leb, mend_tables, table_at
@@ -137,6 +139,10 @@ def mend(path):
 if __name__ == "__main__":
     if len(sys.argv) < 2:
         sys.exit("mend.py FILE..: mends the tables of these files")
+    if not shutil.which(CROSS + "readelf") or not shutil.which(CROSS + "objdump"):
+        sys.exit(f"there is no {CROSS}readelf or no {CROSS}objdump, which Debian's binutils-riscv64-unknown-elf has")
     for name in sys.argv[1:]:
+        if not os.path.isfile(name):
+            sys.exit(f"there is no file {name}")
         bounds, calls, tables = mend(name)
         print(f"{name}: mended {bounds} bounds of locations, {calls} declarations of calls, {tables} tables of ranges")

@@ -38,7 +38,7 @@ import tempfile
 from dwarf_verify import verify_problems
 from frames import backtrace_problems, mend_tables, table_problems
 from line_rows import leave_lines, line_problems, table_size
-from profiles import CROSS, output, record
+from profiles import CROSS, built, output, record
 
 ROOT = os.path.dirname(os.path.dirname(os.path.abspath(__file__)))
 PROGRAMS = os.path.join(ROOT, "bench", "programs")
@@ -347,10 +347,9 @@ def main():
     words.add_argument("--keep", help="a folder for all files")
     words.add_argument("programs", nargs="*", default=every)
     given = words.parse_args()
-    tool = given.tool.split()
     if not compilers():
         sys.exit(NO_COMPILER)
-    problems = 0
+    tool, problems = built(given.tool), 0
     with tempfile.TemporaryDirectory() as room:
         folder = given.keep or room
         os.makedirs(folder, exist_ok=True)

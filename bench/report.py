@@ -40,7 +40,7 @@ from heatmap import counts_of, edges_of, entry_of, functions_of
 from layout import bolt_profile, shown, way_of
 from mend import mend
 from packages import OWN, PACKAGES, fetch
-from profiles import output
+from profiles import built, output
 from real_programs import (COMPILE, LINES, LINK, LONGER, MACHINE, NO_COMPILER, NO_TABLES, OWN_TABLES, PICOLIBC,
                            PROGRAMS, ROOT, UNWINDING, Checks, buildable, call, compilers, linker_of, newest)
 
@@ -267,7 +267,8 @@ class Report:
         path = self.built(file)
         found = Try(self.tool, path, compiler, words, given, program in UNWINDING)
         found.go()
-        ways = found.ways() if (kind, level) == ("bare", "-O2") and found.results.get("rewrite") else []
+        is_followed = (kind, level) == ("bare", "-O2") and found.results.get("rewrite") and shutil.which("qemu-riscv64")
+        ways = found.ways() if is_followed else []
         return os.path.basename(path), found, ways
 
     def table(self, files, jobs):
@@ -328,12 +329,13 @@ def main():
         words.error("--build wants --keep")
     if not compilers():
         sys.exit(NO_COMPILER)
+    tool = [] if given.build else built(given.tool)
     programs = buildable(given.programs)
     fetch(given.sources, [name for name in programs if name in PACKAGES])
     with tempfile.TemporaryDirectory() as room:
         folder = given.keep or room
         os.makedirs(folder, exist_ok=True)
-        report = Report(given.tool.split(), folder, given.sources)
+        report = Report(tool, folder, given.sources)
         if given.build:
             with concurrent.futures.ThreadPoolExecutor(given.jobs) as pool:
                 return list(pool.map(report.built, report.files(programs, given.levels)))

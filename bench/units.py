@@ -215,6 +215,7 @@ UNIT = 0x11, 1, [(0x25, STRP), (0x13, DATA1), (0x03, STRP), (0x1B, STRP), (0x11,
 TYPE = 0x24, 0, [(0x03, STRP), (0x3E, DATA1), (0x0B, DATA1), (0x3A, DATA1), (0x3B, DATA1), (0x39, DATA1), (0x3F, FLAG), (0x34, FLAG)]
 FUNCTION = 0x2E, 1, [(0x03, STRP), (0x3A, DATA1), (0x3B, DATA1), (0x49, REF4), (0x3F, FLAG), (0x11, ADDR), (0x12, DATA4), (0x40, EXPRESSION)]
 VARIABLE = 0x34, 0, [(0x03, STRP), (0x3A, DATA1), (0x3B, DATA1), (0x39, DATA1), (0x49, REF4), (0x3F, FLAG), (0x34, FLAG), (0x3C, FLAG)]
+PAIRS = 250  # of a declaration, which has 256 at most
 FRAME = bytes([7]) + 6 * b"\x96" + b"\x9c"  # an expression of eight bytes, the first of which is its length
 
 
@@ -274,9 +275,10 @@ def shared(count):
 
 
 def overlapping(count):
-    """Each unit's abbreviations begin within the pairs of one declaration, and go to its end."""
-    table = bytes([DATA1]) * (2 * count + 3) + b"\0\0\0"
-    return file_of(b"".join(unit(2 * number, b"") for number in range(count)), table, RETURN)
+    """Each unit's abbreviations begin at another place within the pairs of a declaration, of which each has 250."""
+    long = bytes([DATA1]) * (2 * PAIRS + 3) + b"\0\0"
+    offsets = (number // PAIRS * len(long) + number % PAIRS * 2 + 2 for number in range(count))
+    return file_of(b"".join(unit(offset, b"") for offset in offsets), long * (count // PAIRS) + b"\0", RETURN)
 
 
 # how a file of a kind is made, for which counts, and what is done with it

@@ -34,6 +34,9 @@ from odd.builder import (
     SHT_SYMTAB, STB_LOCAL, STT_NOTYPE, Elf, RelocationTable, Strings, Symbol, SymbolTable)
 
 ROOT = os.path.dirname(os.path.dirname(os.path.abspath(__file__)))
+sys.path.insert(0, os.path.join(ROOT, "bench"))
+from profiles import built  # noqa: E402
+
 BASE, TEXT, DATA = 0x10000, 0x200, 0x12000  # of the file's first byte, of the code in the file, of the data
 ZERO, RA, T0, A0, A7 = 0, 1, 5, 10, 17
 RETURN = 0x00008067  # jalr x0, 0(ra)
@@ -463,7 +466,7 @@ def main():
     words.add_argument("--tool", default=os.path.join(ROOT, "sudrepka"), help="the command that takes `verify ..`")
     words.add_argument("--jobs", type=int, default=1, help="how many at a time")
     given = words.parse_args()
-    command = given.tool.split()
+    command = built(given.tool)
     with tempfile.TemporaryDirectory() as folder:
         file, text = written(command, folder)
         start(command, file, text)

@@ -22,6 +22,7 @@ import tempfile
 ROOT = os.path.dirname(os.path.dirname(os.path.abspath(__file__)))
 sys.path.insert(0, os.path.join(ROOT, "bench"))
 from flow_files import BRANCHES, FALLS, JUMPS, RETURNS, Block, place, profile_line, write_file  # noqa: E402
+from profiles import built  # noqa: E402
 
 MOST = (1 << 64) - 1
 
@@ -187,11 +188,11 @@ def main():
     words.add_argument("files", nargs="?", type=int, default=1000)
     words.add_argument("seed", nargs="?", type=int, default=0)
     given = words.parse_args()
-    functions, links = 0, 0
+    command, functions, links = built(given.tool), 0, 0
     with tempfile.TemporaryDirectory() as folder:
         for seed in range(given.seed, given.seed + given.files):
             try:
-                more = check(given.tool.split(), folder, seed)
+                more = check(command, folder, seed)
             except AssertionError as error:
                 sys.exit(f"seed {seed}: {error}")
             functions, links = functions + more[0], links + more[1]
