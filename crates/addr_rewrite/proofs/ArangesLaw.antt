@@ -10,6 +10,7 @@ use Rattle.rb_bytes.specs.FirstFault.{IsFree}
 use Rattle.elf_image.specs.declared.elf.Elf.{Elf}
 use Rattle.addr_map.specs.declared.span.Span.{Span}
 use Rattle.addr_map.specs.Spans.{owner}
+use Rattle.answer_runs.specs.AddressRanges.{AreApart}
 use Rattle.answer_runs.specs.AnswerRuns.{IsWithin, carried, run_at, said_runs}
 use Rattle.answer_runs.specs.CarriedAnswers.{Agree, IsCarried}
 use Rattle.answer_runs.specs.Weights.{run_weight, weight_limit}
@@ -23,6 +24,7 @@ use Rattle.addr_rewrite.specs.ArangesTable.{ArangesFit, ArangesMade}
 use Rattle.addr_rewrite.specs.Tables.{StandsAranges, aranges_of, aranges_places, unit, unit_answers}
 use Rattle.addr_rewrite.specs.WrittenAranges.{spelled_tables, stretch_of, tables_of}
 use Rattle.addr_rewrite.specs.declared.stretch.Stretch.{Stretch}
+use Rattle.addr_rewrite.proofs.PairsApart.{all_ranges, ranges_in, stretches_apart}
 use Rattle.addr_rewrite.proofs.SingleTables.{told_once}
 use Rattle.addr_rewrite.proofs.FreePlaces.{answers_free, places_free}
 use Rattle.addr_rewrite.proofs.ArangesBack.{bad_none, tables_are, unit_written, version_none}
@@ -132,6 +134,9 @@ module _ (section : List ℕ) (small : (a u : ℕ) → unit_at section a ≡ Som
           let zero_long : length ss ≡ 0 = count ∙ ap length none in
           is ∙ nothing_written ss zero_long;
       lists = lists;
+      apart =
+          subst (λ (ts : List AddressTable). AreApart (ranges_in ts)) (sym (ap address_tables is ∙ tables_are (length ss) ss few are))
+          (subst AreApart (sym (all_ranges (length ss) ss (omega arith))) (stretches_apart (2 ^ 64 - 1) rs ss within permuted));
       once = subst (AllPairs (λ (t u : AddressTable). t.unit < u.unit)) (sym (ap address_tables is ∙ tables_are (length ss) ss few are))
           (told_once (length ss) ss rises);
     } where

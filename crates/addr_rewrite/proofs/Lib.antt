@@ -12,6 +12,7 @@ mod TableSteps
 mod RunUnits
 mod ArangesBack
 mod SingleTables
+mod PairsApart
 mod FreePlaces
 mod ArangesLaw
 mod Examples

@@ -44,14 +44,14 @@ run_here r rs a b e = ap (λ (t : Bool). option_or (if t then Some r.answer else
 low_of : (r : Run ℕ) (a : ℕ) → has a (stretch_of r) ≡ true → r.start ≤ a
 low_of r a e = grind (arith, nat_tests)
 
-past : (r : Run ℕ) (a : ℕ) → r.start + r.len ≤ a → has a (stretch_of r) ≡ false
+pub past : (r : Run ℕ) (a : ℕ) → r.start + r.len ≤ a → has a (stretch_of r) ≡ false
 past r a h = let t : nat_lt a (r.start + r.len) ≡ false = grind (arith, nat_tests) in
     ap (λ (b : Bool). nat_le r.start a && b) t ∙ and_false (nat_le r.start a) where
       and_false : (b : Bool) → (b && false) ≡ false
       and_false true = refl
       and_false false = refl
 
-runs_say : (lo hi a : ℕ) (rs : List (Run ℕ)) → IsWithin lo rs hi → All (Says lo a rs) rs
+pub runs_say : (lo hi a : ℕ) (rs : List (Run ℕ)) → IsWithin lo rs hi → All (Says lo a rs) rs
 runs_say lo hi a [] w = All-nil (Says lo a [])
 runs_say lo hi a (r ∷ rs) w =
     All-cons (Says lo a (r ∷ rs)) r rs

@@ -30,7 +30,8 @@ use Rattle.frame_rewrite.specs.FrameAnswers.{FrameAnswer}
 use Rattle.frame_rewrite.specs.Index.{AreApart, AreFilled, IsIndexOf, StandsIndex, has_frames, has_index}
 use Rattle.frame_rewrite.specs.Tables.{EndsWithMark, StandsAs, debug_name, eh_name, eh_says, run_size}
 use Rattle.frame_rewrite.proofs.FramesCarried.{read_is}
-use Rattle.line_rewrite.specs.Tables.{LineSections}
+use Rattle.line_rewrite.specs.Tables.{AreSequencesApart, LineSections, line_sections}
+use Rattle.addr_rewrite.specs.Aranges.{ArePairsApart}
 use Rattle.bolt_core.specs.CarriedAnswers.{CarriesTables}
 use Rattle.bolt_core.specs.GivenTables.{AreGivenFor, DebugContents, ReadTable, debug_listed, ranges_given}
 use Rattle.bolt_core.specs.internal.CarriedTables.{AreNewTables, debug_contents}
@@ -357,6 +358,12 @@ module _ (elf : Elf) (t : AllTables) (comes : AllComeFrom t elf) (spans : List S
     of_frames debug name bytes P all is =
         subst (λ (l : List ℕ). P (frames debug (held new name).address l).list) (sym is) (all (held new name).address)
 
+    lines_are : record { line = made.written.lines.bytes.items; strings = t.lines.strings } ≡ line_sections new
+    lines_are = λ j. record {
+      line = sym hold_all.lines j;
+      strings = (ap (λ (s : LineSections). s.strings) comes.lines ∙ sym hold_all.strings) j;
+    }
+
     pub carries_tables : CarriesTables spans elf new
     carries_tables = record {
       answers = all_carried elf spans t made.written comes made.are_carried new hold_all;
@@ -368,6 +375,8 @@ module _ (elf : Elf) (t : AllTables) (comes : AllComeFrom t elf) (spans : List S
           eh_stands;
       filled = of_frames false eh_name eh AreFilled made.are_carried.eh_made.filled eh_stands;
       debug_apart = of_frames true debug_name made.written.df.bytes.items AreApart made.are_carried.df_made.apart hold_all.df;
+      lines_apart = subst AreSequencesApart lines_are made.are_carried.lines_made.apart;
+      units_apart = subst ArePairsApart (sym hold_all.aranges) made.are_carried.aranges_made.apart;
       lists = all_lists made.written;
       kept = record {
         units = units_kept elf spans t made.written comes made.are_carried new hold_all;

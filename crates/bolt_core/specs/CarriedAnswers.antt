@@ -9,6 +9,9 @@ use Rattle.table_core.specs.Sections.{bytes_of}
 use Rattle.cfi_rows.specs.Frames.{eh_frames, debug_frames}
 use Rattle.frame_rewrite.specs.Index.{AreApart, AreFilled, StandsIndex, has_frames, has_index}
 use Rattle.frame_rewrite.specs.Tables.{EndsWithMark}
+use Rattle.line_rewrite.specs.Tables.{AreSequencesApart, line_sections}
+use Rattle.addr_rewrite.specs.Aranges.{ArePairsApart}
+use Rattle.addr_rewrite.specs.Tables.{aranges_of}
 use Rattle.table_set.specs.AllAnswers.{AllCarried}
 use Rattle.table_set.specs.KeptData.{IsDebugKept}
 use Rattle.table_set.specs.TableFaults.{HasTableFault}
@@ -25,6 +28,9 @@ pub record CarriesTables (spans : List Span) (i f : Elf) : Type 0 where
   pub apart : AreApart (eh_frames i).list → AreApart (eh_frames f).list
   pub filled : AreFilled (eh_frames f).list
   pub debug_apart : AreApart (debug_frames f).list
+  -- none is in two sequences of line units, or in two pairs of `.debug_aranges`
+  pub lines_apart : AreSequencesApart (line_sections f)
+  pub units_apart : ArePairsApart (aranges_of f)
   -- units, their entries and line units are kept, changed in place by the offsets of these lists, and so is all other
   -- debug data
   pub lists : List ListAt

@@ -30,7 +30,7 @@ first_is files a end [] more are some = absurd (omega arith)
 first_is files a end (row ∷ rows) more are some = are.1
 
 -- a strand ends no sooner than its first piece
-ends_later : (files e : ℕ) (us : List Piece) → ArePieces files e us → e ≤ end_on e us
+pub ends_later : (files e : ℕ) (us : List Piece) → ArePieces files e us → e ≤ end_on e us
 unfolding end_on
 ends_later files e [] are = omega arith
 ends_later files e (u ∷ us) are = by (e == u.start) (ends_later files (piece_end u) us are.2)
@@ -66,7 +66,7 @@ strand_low : (files : ℕ) (u : Piece) (us : List Piece) → IsPiece files u →
 strand_low files u us piece = first_is files u.start (end_on (piece_end u) us) u.rows (rows_on (piece_end u) us) piece.rows piece.any
 
 -- none of those behind an address
-not_above : (files p : ℕ) (u : Piece) (us : List Piece) → IsPiece files u → p < u.start → Holds p (strand_at u us) ≡ false
+pub not_above : (files p : ℕ) (u : Piece) (us : List Piece) → IsPiece files u → p < u.start → Holds p (strand_at u us) ≡ false
 not_above files p u us piece h =
     let low : (range_of (strand_at u us)).low ≡ u.start = strand_low files u us piece in
     let t : nat_le u.start p ≡ false = grind (arith, nat_tests) in
@@ -104,11 +104,11 @@ abbrev pub piece_rows : ℕ → List Piece → Option (List Registers)
 piece_rows p us = option_map (λ u. u.rows) (find (has_address p) us)
 
 -- a first strand that doesn't hold the address
-passed : (p : ℕ) (s : Sequence) (ss : List Sequence) → Holds p s ≡ false → strand_rows p (s ∷ ss) ≡ strand_rows p ss
+pub passed : (p : ℕ) (s : Sequence) (ss : List Sequence) → Holds p s ≡ false → strand_rows p (s ∷ ss) ≡ strand_rows p ss
 passed p s ss e = rw e refl
 
 -- one that does
-taken : (p : ℕ) (s : Sequence) (ss : List Sequence) → Holds p s ≡ true → strand_rows p (s ∷ ss) ≡ Some (in_force p s.rows)
+pub taken : (p : ℕ) (s : Sequence) (ss : List Sequence) → Holds p s ≡ true → strand_rows p (s ∷ ss) ≡ Some (in_force p s.rows)
 taken p s ss e = rw e refl
 
 -- two that agree in whether they do, and in their rows in force

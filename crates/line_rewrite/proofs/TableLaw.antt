@@ -1,12 +1,13 @@
 -- The law of the written table: it has no fault, says what its runs do, and keeps units.
 use Rattle.std.proofs.Common.{◌≡◌, ◌∙◌, ◌<◌, ◌-◌, ◌+◌, ◌^◌, ℕ, suc, List, [], ◌∷◌, Option, Some, None, refl, sym, ap, subst}
 use Rattle.std.proofs.Common.{arith, length, map, option_map, Bool, true, false, cond}
-use Rattle.std.specs.Prelude.{All, find, filter_map, option_and_then, slice_get, not, is_some}
+use Rattle.std.specs.Prelude.{All, find, filter_map, flat_map, option_and_then, slice_get, not, is_some}
 use Rattle.std.proofs.lemmas.List.{length-map}
 use Rattle.std.proofs.lemmas.Iterator.Adapters.{option_map_id}
 use Rattle.elf_image.specs.declared.elf.Elf.{Elf}
 use Rattle.rb_bytes.specs.FirstFault.{IsFree}
 use Rattle.addr_map.specs.declared.span.Span.{Span}
+use Rattle.answer_runs.specs.AddressRanges.{AreApart}
 use Rattle.answer_runs.specs.AnswerRuns.{IsWithin, run_at, said_runs, carried}
 use Rattle.answer_runs.specs.CarriedAnswers.{Agree, IsCarried}
 use Rattle.answer_runs.specs.Choices.{unless_any}
@@ -21,19 +22,20 @@ use Rattle.line_rewrite.specs.declared.unit.Unit as kept
 use Rattle.line_rewrite.specs.Entries.{Strings}
 use Rattle.line_rewrite.specs.KeptLineUnits.{files_of, AreKeptUnits}
 use Rattle.line_rewrite.specs.KeptUnits.{told_unit}
-use Rattle.line_rewrite.specs.LineAnswers.{LineSaid, said_at, line_units}
+use Rattle.line_rewrite.specs.LineAnswers.{LineSaid, range_of, said_at, line_units}
 use Rattle.line_rewrite.specs.LineMachine.{in_force}
 use Rattle.line_rewrite.specs.SequenceIndex.{unit_sequence}
 use Rattle.line_rewrite.specs.LineTable.{LineFits, LinesMade, moved_units, places_in}
 use Rattle.line_rewrite.specs.LineUnits.{LineUnit, unit_in}
 use Rattle.line_rewrite.specs.Tables.{LineSections, line_sections, line_version, line_fault, line_at, line_answers, HasLineFault}
-use Rattle.line_rewrite.specs.Tables.{StandsLines}
+use Rattle.line_rewrite.specs.Tables.{AreSequencesApart, StandsLines}
 use Rattle.line_rewrite.specs.UnitLists.{AreLines}
 use Rattle.line_rewrite.specs.WrittenRuns.{placed_by, placed, with_runs, begun, AllRowsFit}
 use Rattle.line_rewrite.specs.WrittenUnits.{written_units, spelled_units}
 use Rattle.line_rewrite.proofs.FoundRows.{unit_stands, moved_said}
 use Rattle.line_rewrite.proofs.LineFaults.{units_are, line_free}
 use Rattle.line_rewrite.proofs.RunPieces.{has_run}
+use Rattle.line_rewrite.proofs.SequencesApart.{sequences_apart}
 use Rattle.line_rewrite.proofs.TableBack.{run_found, new_units, new_bytes, all_written}
 use Rattle.line_rewrite.proofs.TableSays.{said_rows, says_none, says_some, units_walked, all_back, none_bad, none_other}
 use Rattle.line_rewrite.proofs.TableSays.{walked_count, bytes_same, tables_kept, files_kept}
@@ -187,6 +189,10 @@ module _ (s : LineSections) (us : List kept.Unit) (index : SequenceIndex) (offse
     pub made : (written : Written) → written.bytes.items ≡ bytes
         → written.lists.items ≡ moved_units (places_in s.line) (places_in written.bytes.items) → LinesMade s written
     made written e lists = record {
+      apart =
+          subst (λ (l : List ℕ). AreSequencesApart (record { line = l; strings = s.strings })) (sym e)
+          (subst (λ (l : List LineUnit). AreApart (map range_of (flat_map (λ (u : LineUnit). u.sequences) l))) (sym new_units_are)
+          (sequences_apart s.strings us spans rs (2 ^ 64 - 1) within low fit from_first));
       count =
           ap (λ (l : List ℕ). length (places_in l)) e
           ∙ length-map (walked 5 bytes) (λ (w : Walked). w.place)
