@@ -122,6 +122,14 @@ def frames_of_many_rules(size):
     return debug_file({".debug_frame": b"".join(table)}, NOP * (count - 1) + RETURN)
 
 
+def frame_of_many_instructions(size):
+    """One entry of `.debug_frame` that sets the rules of 64 registers again and again, in two bytes each."""
+    head = struct.pack("<I", 0xFFFFFFFF) + bytes.fromhex("040008000478010c0200")
+    rules = b"".join(b"\x07" + uleb(k) for k in range(64)) * (size // 128)  # DW_CFA_undefined
+    table = frame_entry(head) + frame_entry(struct.pack("<IQQ", 0, BASE + TEXT, 8) + rules)
+    return debug_file({".debug_frame": table})
+
+
 def frame_of_growing_rules(size):
     """One entry of `.debug_frame` with a rule more at each instruction."""
     count = size // 9
@@ -234,6 +242,7 @@ TABLES = {
 # Those in which a few bytes say so much that it has a bound.
 BOUNDED_TABLES = {
     "cie-rules": frames_of_many_rules,
+    "entry-instructions": frame_of_many_instructions,
     "growing-rules": frame_of_growing_rules,
     "long-rules": frames_of_long_rules,
     "line-long-path": line_long_path,

@@ -16,6 +16,10 @@ use crate::operand::byte;
 use rb_bytes::cursor::Cursor;
 use std::alloc::Global;
 
+// The most instructions of an entry. Memory is said to be wanting for more, which take some 200 bytes each when they are
+// run, and no entry of a function needs so many.
+const MOST_INSTRUCTIONS: usize = 1 << 23;
+
 // The next instruction.
 fn instruction(
     alloc: Global,
@@ -49,6 +53,9 @@ pub(crate) fn instructions(
     for count in 0..cursor.left() {
         if cursor.left() == 0 {
             return Ok(list);
+        }
+        if count >= MOST_INSTRUCTIONS {
+            return Err(Failed::Memory);
         }
         list.push(instruction(alloc, cursor, factors)?)?;
     }
