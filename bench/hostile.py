@@ -155,7 +155,7 @@ def measure_growth(given, kind, command, files):
     for names in files:
         if command == "verify" and not os.path.exists(names["map"]):
             continue
-        words = COMMANDS[command].format(**names).split()
+        words = [word.format(**names) for word in COMMANDS[command].split()]
         seconds, peak, last, answered = measure([*given.tool, *words], given.runs)
         grew = growth(seconds, before[0], LEAST_SECONDS), growth(peak, before[1], LEAST_MIB)
         before = (seconds, peak)

@@ -6,7 +6,7 @@ import struct
 BASE, TEXT = 0x10000, 64 + 56  # the address of the file's first byte, and where in the file its code begins
 SHT_PROGBITS, SHT_SYMTAB, SHT_STRTAB, SHT_RELA, STT_FUNC = 1, 2, 3, 4, 0x12
 R_RISCV_64, R_RISCV_RELAX = 2, 51
-MOST_SECTIONS = 65_000
+MOST_SECTIONS = 64_900  # a file may have 65,000 headers, and has a few beside
 RETURN = bytes.fromhex("67800000")  # ret
 NOP = bytes.fromhex("13000000")
 CHOICE = bytes.fromhex("630c0500") + RETURN  # beqz a0, past the ret; ret
@@ -95,13 +95,13 @@ def named_names(size):
     starts = [1 + max(k - count // 2, 0) * (2 * len(text) // count) for k in range(count)]
     file = File(RETURN * count)
     file.add_symbols([(starts[k], BASE + TEXT, 4) for k in range(count)], b"\0" + text + b"\0")
-    lines, left, length = [], size // 2, len(text)
+    lines, left, length = [], size // 4, len(text) // 8
     while left > 2 * length and length > 0:
         name = text[len(text) - length :]
         lines.append(b"1 %s 0 1 %s 0 0 1\n" % (name, name))
         left -= 2 * length
         length //= 2
-    lines += [b"1 %s 0 1 %s 0 0 1\n" % (text[-k:], text[-k:]) for k in range(1, int((size / 2) ** 0.5))]
+    lines += [b"1 %s 0 1 %s 0 0 1\n" % (text[-k:], text[-k:]) for k in range(1, int((size / 4) ** 0.5))]
     return file.bytes(), b"".join(lines)
 
 
@@ -139,10 +139,11 @@ def headers_over(size, kind, table, entsize, step=0, infos=(1,), most=MOST_SECTI
     file = File(RETURN)
     file.add_symbols([(0, BASE + TEXT, 4)], b"\0")
     names = len(file.headers) - 1
+    link = names - 1 if kind == SHT_RELA else names  # the symbols, or their names
     offset = file.put(table)
     for k in range(min(size // 2 // 64, most)):
         info = infos[k % len(infos)]
-        file.add_header(kind, offset + step * k, len(table) - step * k, link=names, info=info, entsize=entsize)
+        file.add_header(kind, offset + step * k, len(table) - step * k, link=link, info=info, entsize=entsize)
     return file.bytes(), b""
 
 
@@ -159,12 +160,12 @@ def relocation_targets(size):
     """As many sections over the code as tables over one list of relocations: each table is for a section of its own."""
     file = File(RETURN)
     file.add_symbols([(0, BASE + TEXT, 4)], b"\0")
-    names = len(file.headers) - 1
+    symbols = len(file.headers) - 2
     table = relocation(BASE + TEXT, R_RISCV_RELAX) * (size // 2 // 24)
     offset = file.put(table)
     for _ in range(min(size // 2 // 128, MOST_SECTIONS // 2)):
         file.headers.append(section(0, SHT_PROGBITS, 2, BASE + TEXT, TEXT, len(RETURN)))
-        file.add_header(SHT_RELA, offset, len(table), link=names, info=len(file.headers) - 1, entsize=24)
+        file.add_header(SHT_RELA, offset, len(table), link=symbols, info=len(file.headers) - 1, entsize=24)
     return file.bytes(), b""
 
 
@@ -173,14 +174,14 @@ def relocation_phases(size):
     relocations."""
     file = File(RETURN)
     file.add_symbols([(0, BASE + TEXT, 4)], b"\0")
-    names = len(file.headers) - 1
+    symbols = len(file.headers) - 2
     offset = file.put(random.Random(1).randbytes(size))
     for _ in range(2):
         file.headers.append(section(0, SHT_PROGBITS, 2, BASE + TEXT, TEXT, len(RETURN)))
         target = len(file.headers) - 1
         for phase in range(24):
             length = (size - phase) // 24 * 24
-            file.add_header(SHT_RELA, offset + phase, length, link=names, info=target, entsize=24)
+            file.add_header(SHT_RELA, offset + phase, length, link=symbols, info=target, entsize=24)
     return file.bytes(), b""
 
 

@@ -73,6 +73,7 @@ def unpack(archive, sources):
 
 def fetch(sources, names):
     """Fetches and unpacks the sources of programs that aren't in the folder yet."""
+    sources = os.path.abspath(sources)  # apt looks for others in its own folder
     wanted = {PACKAGES[name].source: PACKAGES[name].folder for name in names}
     wanted = [source for source, folder in wanted.items() if not os.path.isdir(os.path.join(sources, folder))]
     if not wanted:

@@ -58,7 +58,7 @@ def is_answer(status):
 
 def built(tool):
     """The words of a tool, which is proved and built first where it has to be: without words it prints its usage."""
-    command = tool.split()
+    command = [tool] if os.path.exists(tool) else tool.split()
     status = subprocess.run(command, stdout=subprocess.DEVNULL, check=False).returncode
     if not is_answer(status):
         sys.exit(f"{tool}: status {status}")

@@ -16,7 +16,8 @@ these take grows by four where the size doubles, until 2^25 bytes were read agai
 
 Each line has what was done, the seconds of the best of three runs (the processor's, and of one run, for the tools), the
 peak memory in MiB, and by how much both grew since the file of half the size. All growth but that of `overlapping` has to be
-below 2.5, unless it is of less than 0.05 seconds or 32 MiB: the script ends with status 1 where some isn't.
+below 2.5, unless it is of less than 0.05 seconds or 32 MiB: the script ends with status 1 where some isn't, or where one
+has no answer.
 """
 import argparse
 import multiprocessing
@@ -288,6 +289,7 @@ KINDS = {
     "overlapping": (overlapping, [1_000, 2_000, 4_000], ["units"]),
 }
 BOUNDED = ["overlapping"]  # what a constant bounds, and not the size
+NO_ANSWER = "no answer: memory is wanting, or a fault"
 
 
 def write(path, kind, count):
@@ -316,7 +318,7 @@ def best_of(program, what, path):
     done = [(said[what][0] / 1000, peak, said[what][1:]) for said, _, peak in runs if what in said]
     if done:
         return min(seconds for seconds, _, _ in done), min(peak for _, peak, _ in done), " ".join(map(str, done[0][2]))
-    return min(seconds for _, seconds, _ in runs), min(peak for _, _, peak in runs), "no answer: memory is wanting, or a fault"
+    return min(seconds for _, seconds, _ in runs), min(peak for _, _, peak in runs), NO_ANSWER
 
 
 def quiet(command):
@@ -335,11 +337,14 @@ def run(program, kind, path, tools):
         maker = multiprocessing.Process(target=write, args=(path, kind, count))
         maker.start()
         maker.join()
+        if maker.exitcode != 0:
+            sys.exit(f"{kind} {count} can't be made")
         for what in KINDS[kind][2]:
             seconds, peak, numbers = best_of(program, what, path)
             old = before.get(what, (None, None))
             grew = growth(seconds, old[0], LEAST_SECONDS), growth(peak, old[1], LEAST_MIB)
             before[what] = seconds, peak
+            well = well and numbers != NO_ANSWER
             well = well and (kind in BOUNDED or all(each is None or each < MOST for each in grew))
             print(f"{kind:12} {count or '':6} {what:7} {seconds:8.2f} s {show(grew[0]):5} {peak:8.0f} MiB {show(grew[1]):5} {numbers}", flush=True)
         if tools and kind == "large":

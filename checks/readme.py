@@ -6,12 +6,13 @@
 They are typed into one shell, in a fresh clone of this repository, whose README.md is read. PROGRAM takes the place of
 `sudrepka` there, so that nothing has to be proved; where it isn't given, the clone is built. Lines that install
 packages, and the first look, are left out. ADDRESS is that of the moved function `main`. A line fails where it ends
-with 1, 2, 126, 127, or 220 and more, or doesn't print what stands below it. All of them are typed once for each
-compiler. The status is 0 where no line fails.
+with 1, 2, 126, 127, 129 to 159 as by a signal, or 220 and more, or doesn't print what stands below it. All of them are
+typed once for each compiler. The status is 0 where no line fails.
 """
 import argparse
 import os
 import re
+import shlex
 import subprocess
 import sys
 import tempfile
@@ -59,7 +60,8 @@ def typed(lines, folder):
 def is_well(status, printed, said):
     """Whether a line that printed this did what it has to."""
     seen = " ".join(printed.split())
-    return status not in (1, 2, 126, 127) and status < 220 and all(" ".join(part.split()) in seen for part in said)
+    ended = status not in (1, 2, 126, 127) and not 128 < status < 160 and status < 220
+    return ended and all(" ".join(part.split()) in seen for part in said)
 
 
 def main():
@@ -75,7 +77,7 @@ def main():
         if given.tool:
             lines = [(line, said) for line, said in lines if line != "./build"]
             with open(os.path.join(folder, "sudrepka"), "w", encoding="ascii") as file:
-                file.write(f'#!/bin/sh\nexec {os.path.abspath(given.tool)} "$@"\n')
+                file.write(f'#!/bin/sh\nexec {shlex.quote(os.path.abspath(given.tool))} "$@"\n')
         for compiler, session in sessions(lines):
             for (line, said), (printed, status) in zip(session, typed(session, folder), strict=True):
                 well = is_well(status, printed, said)
