@@ -414,7 +414,9 @@ class Trial:
                 target.write(content)
         paths = [os.path.join(folder, name) for name in ("in", "out", "map")]
         done = subprocess.run([*self.command, "verify", *paths], capture_output=True, text=True, check=False)
-        return done.stdout.strip() or f"status {done.returncode}"
+        said = done.stdout.removesuffix("\n")
+        wanted = 0 if said == "faithful" else 228
+        return said if done.returncode == wanted else f"{said} with status {done.returncode}"
 
     def change(self, index):
         """All changes of one byte: what they were answered, with their counts, and what is wrong with them."""

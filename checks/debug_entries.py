@@ -229,7 +229,7 @@ def ours(place, paths):
         elif kind == "F":
             files.append((entries, int(numbers[0])))
             entries = []
-    if len(files) != len(paths):
+    if len(files) != len(paths) or done.returncode:
         sys.exit(f"the program that lists entries ends with {done.returncode} after {len(files)} files")
     return files
 

@@ -47,7 +47,7 @@ void *malloc(size_t size) { return is_refused() ? NULL : __libc_malloc(size); }
 
 void *realloc(void *old, size_t size) { return is_refused() ? NULL : __libc_realloc(old, size); }
 """
-NO_MEMORY = 224
+USAGE, NO_MEMORY = 220, 224
 COMMANDS = {
     "usage": "", "rewrite": "rewrite s p out map", "map": "map s p", "run": "run s word",
     "run --symbols": "run --symbols s word", "record": "record s out", "repair": "repair s p out",
@@ -77,7 +77,8 @@ class Tool:
             if os.path.exists(name):
                 os.unlink(name)
         with open("marks", "w+b") as marks:
-            environment = {"LD_PRELOAD": os.path.abspath("shim.so"), "REFUSED_REQUEST": str(number),
+            # (spaces and colons of a path would part it there)
+            environment = {"LD_PRELOAD": "./shim.so", "REFUSED_REQUEST": str(number),
                            "MARKS": str(marks.fileno())}
             done = subprocess.run([self.program, *words], env=environment, capture_output=True, timeout=120,
                                   stdin=subprocess.DEVNULL, pass_fds=[marks.fileno()], check=False)
@@ -101,6 +102,9 @@ def judged(tool: Tool, name: str) -> bool:
             wrong += 1
             print(f"{name}, request {number}: status {answer.status}, {answer.printed[:80]!r}, {answer.said[:80]!r}")
         number += 1
+    if number == 1 or usual.status < 0 or (usual.status >= USAGE) != (name == "usage"):
+        print(f"{name}: {number - 1} requests, and status {usual.status} where none is refused: nothing was tried")
+        return False
     last = usual.printed.decode(errors="replace").splitlines()[-1][-60:]
     print(f"{name}: {number - 1} requests, {wanting} times out of memory; else {last}", flush=True)
     return wrong == 0

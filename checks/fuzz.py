@@ -24,8 +24,8 @@ these files are small: one of a few KiB could take a GiB, or seconds, unseen.
 
 With --keep the files of what is reported, or of a single input, stay in FOLDER, in a folder each, with the words. The
 last lines count the answers of each command. `out of memory`, where the same command isn't so with all the memory there
-is, is reported; else it is only counted, with the first such input of each command. With --minutes no input is begun
-after that time. With --runs a line on the run is added to FILE: which inputs of which program were tried (the first
+is, is reported; else it is only counted, with the first such input of each command. With --minutes no 200 inputs more
+are begun after that time. With --runs a line on the run is added to FILE: which inputs of which program were tried (the first
 digits of its SHA-256), and what came of them. The status is 0 where nothing was reported.
 """
 from __future__ import annotations
@@ -36,7 +36,6 @@ import hashlib
 import multiprocessing
 import os
 import random
-import resource
 import shlex
 import shutil
 import sys
@@ -53,6 +52,8 @@ CHUNK = 200                             # inputs that share a program, from a mu
 COMMANDS = {"rewrite": 24, "map": 4, "run": 8, "symbols": 12, "record": 6, "lookup": 24, "frames": 12, "repair": 6,
             "verify": 10, "sample": 1, "words": 3, "full": 2}
 STEPS, SLACK, LONGEST, FILES = 3000, 16 * MIB, 64 * MIB, ("in", "profile", "out", "map")
+STREAMS = ("input", "printed", "said")
+LIMITED = 'ulimit -v "$1"; ulimit -t "$2"; shift 2; exec "$@"'
 SECONDS_AT_MOST, UNLIMITED = 60, 1 << 62
 WRITTEN = WRITES | {"words": ["out", "map"]}
 FILLED = ["rewrite in profile out map", "map in profile", "run --steps 900 in", "run --symbols --steps 900 in",
@@ -81,7 +82,7 @@ class Tool:
 
     def __init__(self, words: list[str]):
         self.words = [shutil.which(words[0]) or os.path.abspath(words[0]), *words[1:]]
-        self.streams = [os.open(name, os.O_RDWR | os.O_CREAT | os.O_TRUNC) for name in ("input", "printed", "said")]
+        self.streams = [os.open(name, os.O_RDWR | os.O_CREAT) for name in STREAMS]
         self.actions = [(os.POSIX_SPAWN_DUP2, stream, number) for number, stream in enumerate(self.streams)]
         self.to_full = [*self.actions, (os.POSIX_SPAWN_OPEN, 1, "/dev/full", os.O_WRONLY, 0)]
         self.own = 0
@@ -102,18 +103,20 @@ class Tool:
             os.lseek(stream, 0, os.SEEK_SET)
         for stream in self.streams[1:]:
             os.ftruncate(stream, 0)
-        there = {name for name in FILES[2:] if os.path.exists(name)}
+        there = stamps()
         actions = self.to_full if is_full else self.actions
-        child = os.posix_spawn(self.words[0], self.words + words, {}, file_actions=actions)
-        try:
-            resource.prlimit(child, resource.RLIMIT_AS, (memory, memory))
-            resource.prlimit(child, resource.RLIMIT_CPU, (SECONDS_AT_MOST, SECONDS_AT_MOST))
-        except ProcessLookupError:
-            pass
+        # (limits that this process set would come while the program already runs)
+        shell = ["/bin/sh", "-c", LIMITED, "sh", str(memory >> 10), str(SECONDS_AT_MOST)]
+        child = os.posix_spawn(shell[0], [*shell, *self.words, *words], {}, file_actions=actions)
         _, status, usage = os.wait4(child, 0)
         printed, said = (os.pread(stream, 1 << 26, 0) for stream in self.streams[1:])
-        wrote = [name for name in FILES[2:] if name not in there and os.path.exists(name)]
+        wrote = sorted((name for name, stamp in stamps().items() if there.get(name) != stamp), reverse=True)
         return Answer(os.waitstatus_to_exitcode(status), printed, said, wrote, usage.ru_utime + usage.ru_stime)
+
+
+def stamps() -> dict[str, tuple[int, int]]:
+    """The files of the folder but the streams, with what tells whether one was written."""
+    return {it.name: (it.stat().st_mtime_ns, it.stat().st_size) for it in os.scandir() if it.name not in STREAMS}
 
 
 def put(name: str, data: bytes) -> None:
@@ -164,7 +167,7 @@ class Worker:
         kinds = KINDS + ("tables",) * (6 if command in ("lookup", "frames") else 2)
         if self.given.only:
             kinds = (self.given.only,)
-        remove(*FILES)
+        remove(*stamps())
         self.changes, self.seed = [command], seed
         getattr(self, command)(rng, kinds)
 
@@ -414,7 +417,7 @@ def arguments() -> argparse.Namespace:
     parser.add_argument("--only", choices=KINDS)
     parser.add_argument("--command", choices=list(COMMANDS))
     given = parser.parse_args()
-    program = shlex.split(given.program)
+    program = [given.program] if os.path.exists(given.program) else shlex.split(given.program)
     given.program = shlex.join([os.path.abspath(shutil.which(program[0]) or program[0]), *program[1:]])
     return given
 

@@ -186,6 +186,7 @@ class Judge:
             return f"status {status}", [f"status {status}"]
         wrong = []
         ends = [ending(self.program, before, "--symbols"), ending(self.program, after)]
+        wrong += [f"a run ends with {end}" for end in ends if not end.startswith("[")]
         if ends[0].startswith("[ended") and ends[0] != ends[1]:
             wrong.append(f"runs end differently: {ends[0]}, {ends[1]}")
         for tool, complaints in self.tools:
@@ -210,7 +211,7 @@ def main():
     words = parser.parse_args()
     if words.keep:
         os.makedirs(words.keep, exist_ok=True)
-    judge = Judge(shlex.split(words.program))
+    judge = Judge([words.program] if os.path.exists(words.program) else shlex.split(words.program))
     answers, unwritten, reported = collections.Counter(), collections.Counter(), collections.Counter()
     for seed in range(words.seed, words.seed + words.count):
         file, profile, oddities = make(random.Random(seed), words.only)

@@ -134,14 +134,14 @@ class Specs:
         file = self.files[module]
         found = set()
         for word in WORDS.findall(file.texts[name]):
-            parts = word.strip(".").split(".")
-            for part, behind in zip(parts, parts[1:] + [""]):
-                if part in file.uses.names:
-                    found.add(self.find(*file.uses.names[part]))
-                elif part in file.texts or part in file.cases:
-                    found.add((module, file.cases.get(part, part)))
-                elif part in file.uses.modules and behind:
-                    found.add(self.find(file.uses.modules[part], behind))
+            # (behind a name that is no module's stand fields)
+            part, behind = [*word.split("."), ""][:2]
+            if part in file.uses.names:
+                found.add(self.find(*file.uses.names[part]))
+            elif part in file.texts or part in file.cases:
+                found.add((module, file.cases.get(part, part)))
+            elif part in file.uses.modules and behind:
+                found.add(self.find(file.uses.modules[part], behind))
         return found - {None}
 
     def reached(self):
@@ -182,6 +182,8 @@ def listed():
             before = None
             for name, star in re.findall(r"`([\w/]+)`(\\\*)?", line.split("|")[2]):
                 before = full_name(name, None if folder else before, folder)
+                if before in files:
+                    sys.exit(f"{before} is listed twice")
                 files[before] = bool(star)
     return files
 

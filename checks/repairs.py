@@ -86,7 +86,7 @@ def random_counts(dice, functions):
 
 def holds(gain, flow, count):
     """Whether prices hold on a link whose end has so much higher a price than its start."""
-    if gain > 1:
+    if gain > 1 or flow < 0:
         return False
     if flow > count:
         return gain == 1
@@ -183,6 +183,8 @@ def check(command, folder, seed):
 
 
 def main():
+    if not __debug__:
+        sys.exit("this judges by assertions, which python3 -O leaves out")
     words = argparse.ArgumentParser(description="repaired profiles of random graphs")
     words.add_argument("--tool", default=os.path.join(ROOT, "sudrepka"), help="the command that takes `repair ..`")
     words.add_argument("files", nargs="?", type=int, default=1000)

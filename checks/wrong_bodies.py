@@ -36,8 +36,8 @@ class BadEdit(Exception):
 class Edit:
     """A wrong body: the texts that it changes, and the function around its first change, if there is one."""
 
-    def __init__(self, crate, path):
-        self.crate, self.path = crate, path
+    def __init__(self, folder, crate, path):
+        self.crate, self.path, self.home = crate, path, folder / "crates" / crate
         self.texts = {}
         self.function = None
         file = old = None
@@ -52,7 +52,7 @@ class Edit:
                 self.replace(file, old, rest)
 
     def replace(self, file, old, new):
-        text = self.texts.get(file) or (ROOT / "crates" / self.crate / file).read_text()
+        text = self.texts.get(file) or (self.home / file).read_text()
         if text.count(old) != 1:
             raise BadEdit(f"its text stands in {file} {text.count(old)} times")
         if not self.texts:
@@ -99,7 +99,8 @@ def check(folder, crate, function=None):
     only = ["--only", function] if function else []
     run = subprocess.run(["rt", "check", *only], cwd=folder / "crates" / crate, stdin=subprocess.DEVNULL,
                          stdout=subprocess.PIPE, stderr=subprocess.STDOUT, text=True, errors="replace")
-    return run.returncode == 0, run.stdout
+    # (`rt` ends with 1 where it refuses; where it ends otherwise, as for want of memory, it judged nothing)
+    return {0: True, 1: False}.get(run.returncode), run.stdout
 
 
 # An answer names a goal that the edit took away: that is no sign of what the contract refuses.
@@ -133,7 +134,7 @@ def try_edit(folder, edit):
             proved, said = check(folder, edit.crate, function)
             if not proved and GONE.search(said) and not refusals(said):
                 return False, "NO VERDICT: only goals that answers name are gone"
-            if not proved and not NO_VERDICT.search(said):
+            if proved is False and not NO_VERDICT.search(said):
                 return True, f"refused ({function or 'whole crate'}): {reason(said)}"
             if not proved and not function:
                 return False, f"NO VERDICT: {reason(said)}"
@@ -148,16 +149,18 @@ def try_crate(folder, crate):
     edits, refused = [], 0
     for path in sorted((EDITS / crate).glob("*.edit")):
         try:
-            edits.append(Edit(crate, path))
-        except BadEdit as bad:
+            edits.append(Edit(folder, crate, path))
+        except (BadEdit, OSError) as bad:
             print(f"{crate}/{path.name}: BAD EDIT: {bad}", flush=True)
-    for function in sorted({edit.function for edit in edits if edit.function}):
+    for function in [*sorted({edit.function for edit in edits if edit.function}), None]:
+        if not any(edit.function == function for edit in edits):
+            continue
         proved, said = check(folder, crate, function)
-        if NO_VERDICT.search(said):
+        if function and NO_VERDICT.search(said):
             for edit in edits:
                 edit.function = None if edit.function == function else edit.function
         elif not proved:
-            print(f"{crate}: {function} isn't proved as it stands: {reason(said)}", flush=True)
+            print(f"{crate}: {function or 'the crate'} isn't proved as it stands: {reason(said)}", flush=True)
             edits = [edit for edit in edits if edit.function != function]
     for edit in edits:
         was_refused, told = try_edit(folder, edit)
@@ -168,7 +171,11 @@ def try_crate(folder, crate):
 
 def copy_repository(folder):
     """Copies what checks read, with the libraries that are built already, which a check would else build again."""
-    shutil.copytree(ROOT / "crates", folder / "crates", ignore=shutil.ignore_patterns("must-fail"))
+    def left_out(at, names):
+        # (what `./build` keeps for itself, up to 4 GiB)
+        return {"must-fail", "out"} if pathlib.Path(at) == ROOT / "crates" / "bolt_cli" else {"must-fail"}
+
+    shutil.copytree(ROOT / "crates", folder / "crates", ignore=left_out)
     for file in ("crates.txt", "HANDLES"):
         shutil.copy(ROOT / file, folder)
     return folder

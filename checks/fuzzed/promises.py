@@ -37,7 +37,7 @@ CLOSINGS = {
     STUCK: re.compile(rb"\[stuck (NotCode|EndOfFunction|FellOff|Operate|Compare|Mixed|Hidden|Access|CallArg|Break) "
                       rb"at [0-9a-f]+ after \d+ steps\]\n\Z")}
 FAULTS = {"rewrite": {*NAMES}, "map": {*NAMES}, "run": IMAGE, "symbols": CODE, "record": CODE,
-          "repair": CODE, "verify": CODE, "lookup": TABLES, "frames": TABLES, "sample": set()}
+          "repair": CODE, "verify": CODE, "lookup": TABLES, "frames": TABLES - {21}, "sample": set()}
 WRITES = {"rewrite": ["out", "map"], "record": ["out"], "repair": ["out"], "sample": ["out", "map"]}
 
 
@@ -74,7 +74,7 @@ def refusal_complaints(command: str, printed: bytes) -> list[str]:
     number = int(line[1])
     if line[2].decode() not in NAMES.get(number, "").split("|") or number not in FAULTS[command]:
         return [f"refused {number} {line[2].decode()}"]
-    if (line[3] is not None) != (number == 27) or line[4] and command != "verify":
+    if (line[3] is not None) != (number == 27) or line[4] and (command != "verify" or number not in IMAGE):
         return [f"a refusal prints {printed[:80]!r}"]
     return []
 

@@ -163,8 +163,8 @@ def names_end_in_names(shape, rng):
 
 @oddity
 def names_are_loaded(shape, rng):
-    for section in {shape.elf.names_section, shape.table.names_section} - {None}:
-        if rng.random() < 0.6:
+    for section in dict.fromkeys([shape.elf.names_section, shape.table.names_section]):
+        if section and rng.random() < 0.6:
             section.part, section.address = shape.load(bytes(0x1000), rng.choice([PF_R, PF_R | PF_W]))
             section.flags, section.size = SHF_ALLOC, 0x1000
 
