@@ -141,6 +141,8 @@ def best_of(command, runs):
     for _ in range(runs):
         with tempfile.TemporaryFile() as printed:
             took = spent(command, stdout=printed, stderr=subprocess.DEVNULL)
+            if took.status != 0:
+                sys.exit(f"{' '.join(command)} ended with {took.status}")
             best, peak = min(best, took.clock), max(peak, took.peak)
             printed.seek(0)
             said = " / ".join(printed.read().decode(errors="replace").split("\n"))[:100]

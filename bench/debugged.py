@@ -30,7 +30,7 @@ def plain(text, silent):
     text = re.sub(r"0x[0-9a-f]+ <([\w.]+)(?:\+\d+)?>", r"<\1>", text)
     text = re.sub(r" (?:starts|is) at address .*", "", text).replace(".cold>", ">")
     for label in silent:
-        text = re.sub(rf"^({label} .*?) at \S+:\d+$", r"\1", text, flags=re.M)
+        text = re.sub(rf"^({label} .*?) at .+:\d+$", r"\1", text, flags=re.M)
     return text
 
 
@@ -131,7 +131,7 @@ class Debugged:
         for path in (self.old, self.new):
             text = output([*GDB, *asked, "-ex", "info breakpoints", path])
             # (a cold part is one of its function's places)
-            said.append(set(re.findall(r" in (\w+)\S* at (\S+:\d+)", text)))
+            said.append(set(re.findall(r" in (.+?)(?:\.cold\S*)? at (.+:\d+)$", text, re.M)))
         if places and not all(said):
             return ["gdb sets no breakpoint " + ("afterwards" if said[0] else "before")]
         other = sorted(said[0] ^ said[1])

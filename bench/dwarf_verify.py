@@ -12,6 +12,7 @@ from frames import table_at
 from mend import CALL_SITE, declarations
 
 CALL_SITE_PARAMETER = 0x49
+NO_END, CRASH = ["it doesn't come to an end"], ["it crashes"]
 
 
 def copy_without_calls(path, copy):
@@ -26,14 +27,16 @@ def copy_without_calls(path, copy):
 
 
 def complaints(dump, path, folder):
-    """The errors and warnings, without the numbers in them; and one where it didn't end."""
+    """The errors and warnings, without the numbers in them; and one where it didn't end, or crashed."""
     copy = os.path.join(folder, "copy")
     copy_without_calls(path, copy)
     try:
         done = subprocess.run([dump, "--verify", copy], capture_output=True, text=True, errors="replace", timeout=120,
                               check=False)
     except subprocess.TimeoutExpired:
-        return ["it doesn't come to an end"]
+        return NO_END
+    if done.returncode < 0:
+        return CRASH
     lines = (done.stdout + done.stderr).splitlines()
     return [re.sub(r"0x[0-9a-f]+|\b\d+\b", "N", line) for line in lines if re.match(r"(error|warning):", line)]
 
@@ -44,4 +47,6 @@ def verify_problems(dump, old, new):
     more by now."""
     with tempfile.TemporaryDirectory() as folder:
         before, after = (complaints(dump, path, folder) for path in (old, new))
+    if before in (NO_END, CRASH):
+        return [f"llvm-dwarfdump --verify: {before[0]}, of the input"]
     return [f"llvm-dwarfdump --verify: {line}" for line in sorted(set(after) - set(before))]

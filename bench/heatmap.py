@@ -4,11 +4,11 @@
     python3 bench/heatmap.py [--svg FILE] [--cell BYTES] IN OUT MAP PROFILE
 
 IN, OUT and MAP are those of `rewrite`, and PROFILE the profile that it took, or any other of IN. The text that is
-printed has a sign for each 64 bytes of code, a cache line, or for each BYTES, 64 of them in a row: the darker the
-sign, the more often an instruction there ran, each step of the scale being eight times as often. Rows in which
-nothing ran are counted. Below each of both pictures stands how many lines and how many pages of 4096 bytes hold a
-half, nine tenths and all of what ran. The SVG has both pictures beside each other, with the function and the count of
-a cell where the pointer rests on it.
+printed has a sign for each 64 bytes of code, a cache line (for more where the code has over a MiB, so that there are
+some 256 rows), or for each BYTES, 64 of them in a row: the darker the sign, the more often an instruction there ran,
+each step of the scale being eight times as often. Rows in which nothing ran are counted. Below each of both pictures
+stands how many lines and how many pages of 4096 bytes hold a half, nine tenths and all of what ran. The SVG has both
+pictures beside each other, with the function and the count of a cell where the pointer rests on it.
 
 How often an instruction ran is what the profile says: where control came to a place so many times, each instruction
 from there to the next place from which the profile has control go on ran as often, within one function. It wants
@@ -20,6 +20,7 @@ import collections
 import html
 import os
 import re
+import shutil
 import sys
 
 from profiles import CROSS, output
@@ -115,12 +116,14 @@ class Picture:
         self.first = min(at for at, _, _ in places) // (cell * COLUMNS) * cell * COLUMNS
         self.last = max(at + size for at, size, _ in places)
         self.cells, self.lines, self.pages = collections.Counter(), collections.Counter(), collections.Counter()
+        self.hottest = {}  # where the instruction stands that has a cell's count
         for at, size, count in places:
             if size and count:
                 for whole, unit in ((self.lines, LINE), (self.pages, PAGE)):
                     whole[at // unit] += count
                 number = (at - self.first) // cell
-                self.cells[number] = max(self.cells[number], count)
+                if count > self.cells[number]:
+                    self.cells[number], self.hottest[number] = count, at
         self.rows = (self.last - self.first + cell * COLUMNS - 1) // (cell * COLUMNS)
 
     def level(self, number):
@@ -167,7 +170,7 @@ class Picture:
         for number in sorted(self.cells):
             at = self.first + number * self.cell
             x, y = left + number % COLUMNS * size, 24 + number // COLUMNS * size
-            name = html.escape(f"{at:x} {self.function(at + self.cell - 1)}: {self.cells[number]}")
+            name = html.escape(f"{at:x} {self.function(self.hottest[number])}: {self.cells[number]}")
             shown.append(f'<rect x="{x}" y="{y}" width="{size}" height="{size}" fill="{COLOURS[self.level(number)]}">'
                          f"<title>{name}</title></rect>")
         shown.append(f'<text x="{left}" y="{44 + self.rows * size}">{html.escape(self.shares())}</text>')
@@ -185,7 +188,7 @@ def svg(pictures, size=8):
 
 
 def cell_for(places):
-    """The bytes of a cell: a line, or so many that no picture has more than 256 rows."""
+    """The bytes of a cell: a line, or so many that these places take no more than 257 rows."""
     cell, length = LINE, max(at + size for at, size, _ in places) - min(at for at, _, _ in places)
     while length > cell * COLUMNS * 256:
         cell *= 2
@@ -217,6 +220,10 @@ def main():
     for name in ("IN", "OUT", "MAP", "PROFILE"):
         words.add_argument(name)
     given = words.parse_args()
+    if given.cell is not None and given.cell < 1:
+        words.error("--cell wants a number of bytes")
+    if not shutil.which(CROSS + "readelf"):
+        sys.exit(f"there is no {CROSS}readelf, which Debian's binutils-riscv64-unknown-elf has")
     for path in (given.IN, given.OUT, given.MAP, given.PROFILE):
         if not os.path.exists(path):
             sys.exit(f"there is no file {path}")

@@ -18,7 +18,7 @@ from symbols.
 
 A line for each file has the count of its instructions, of those with inlined functions, and of differences of each
 kind; a line for each of the first problems follows. The status is 0 where there is none. It wants what
-`real_programs.py` wants. FOLDER keeps all files."""
+`real_programs.py` wants, and `llvm-symbolizer`. FOLDER keeps all files."""
 import argparse
 import collections
 import os
@@ -28,18 +28,22 @@ import sys
 import tempfile
 
 from debug_files import asked, build_with_tables, instructions
-from profiles import CROSS, built, record
+from profiles import CROSS, built, record, want
 from real_programs import LONGER, NO_COMPILER, ROOT, buildable, compilers
 
 
 def frames_of(text):
     """The frames that a tool's text has: a name, a path, a line and a column each."""
-    found = [re.fullmatch(r"(.*) (\S*):(\d+):(\d+)", line) for line in text.splitlines()]
+    found = [re.fullmatch(r"(.*?) (/.*|\S*):(\d+):(\d+)", line) for line in text.splitlines()]
     return [(row[1], row[2], int(row[3]), int(row[4])) for row in found if row]
 
 
 def by_tool(tool, path, addresses):
-    return [frames_of(text) if text != "none\n" else [] for text in asked(tool, "frames", path, addresses)]
+    texts = asked(tool, "frames", path, addresses)
+    for at, text in zip(addresses, texts):
+        if re.match(r"-?\d+ ", text) and not frames_of(text):
+            sys.exit(f"frames says {text.strip()} at {at:x} in {path}")
+    return [frames_of(text) if text != "none\n" else [] for text in texts]
 
 
 def by_llvm(path, addresses):
@@ -105,6 +109,8 @@ PROBLEMS = {"llvm-symbolizer": ("other", "other names", "inner functions lack"),
 
 def compared(path, addresses, ours):
     """By the name of each tool the kinds of differences, and the others."""
+    if not addresses:
+        sys.exit(f"objdump finds no instruction in {path}")
     found = {}
     for name, ask in (("llvm-symbolizer", by_llvm), ("addr2line", by_addr2line)):
         theirs = ask(path, addresses)
@@ -154,6 +160,7 @@ def main():
     words.add_argument("--inputs", action="store_true", help="without outputs")
     words.add_argument("programs", nargs="*", default=sorted(LONGER))
     given = words.parse_args()
+    want("llvm-symbolizer")
     if not compilers():
         sys.exit(NO_COMPILER)
     tool, problems = built(given.tool), 0

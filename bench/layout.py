@@ -17,8 +17,8 @@ address, from which this counts
   the longest time goes;
 - misses of 8 entries for pages of 4096 bytes, of which the same goes.
 
-Beside it stands `llvm-bolt-19` with the same profile, where it is there and its output runs. It wants Debian's
-`gcc-riscv64-unknown-elf`, `picolibc-riscv64-unknown-elf` and `qemu-user`.
+Beside it stands `llvm-bolt-19` with the same profile, where it is there, or that its output doesn't run. It wants
+Debian's `gcc-riscv64-unknown-elf`, `picolibc-riscv64-unknown-elf` and `qemu-user`.
 """
 import argparse
 import os
@@ -155,6 +155,8 @@ def bolt_profile(path, old, new):
 
 def compare(tool, name, path, words, folder):
     profile, moved = os.path.join(folder, "profile"), os.path.join(folder, "moved")
+    if os.path.exists(profile):  # of the program before
+        os.remove(profile)
     recorded = record(tool, path, words, profile)
     command = [*tool, "rewrite", path, profile, moved, os.path.join(folder, "map")]
     done = subprocess.run(command, capture_output=True, text=True, check=False)
@@ -183,6 +185,8 @@ def follow_files(paths, words):
             sys.exit(f"there is no file {path}")
     given = b"" if sys.stdin.isatty() else sys.stdin.buffer.read()
     found = [way_of(path, words, given) for path in paths]
+    if not found[0]:
+        sys.exit(f"{paths[0]} doesn't run on qemu-riscv64, or that has no -singlestep and -d exec: run it by itself")
     for when, result in zip(("before", "after"), found):
         print(f"{when:10} {shown(result, found[0])}")
 

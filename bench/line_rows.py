@@ -8,6 +8,7 @@ import os
 import re
 import shutil
 import struct
+import subprocess
 import tempfile
 
 from profiles import CROSS, output
@@ -20,7 +21,8 @@ def leave_lines(path):
     """Takes all debug tables out of an executable but that of lines and the texts of debug tables."""
     leaves = [word for name in DEBUG_TABLES for word in ("-R", f".debug_{name}", "-R", f".rela.debug_{name}")]
     # Symbols that Clang makes in the line table would lie past the end of a shorter one.
-    output([CROSS + "objcopy", *leaves, "--wildcard", "--strip-symbol=.Lline_table_start*", "--strip-symbol=.Ldebug_line*", path])
+    marks = ["--strip-symbol=.Lline_table_start*", "--strip-symbol=.Ldebug_line*"]
+    subprocess.run([CROSS + "objcopy", *leaves, "--wildcard", *marks, path], capture_output=True, check=True)
 
 
 def table_size(path):
@@ -111,7 +113,7 @@ def write_units(path, units, addresses, folder):
         with open(part, "wb") as file:
             file.write(contents)
         command += ["--add-section", f"{name}={part}"]
-    output([*command, path])
+    subprocess.run([*command, path], capture_output=True, check=True)
 
 
 def by_addr2line(path, addresses):

@@ -8,7 +8,8 @@ with five rows each in `.debug_line`, which has 16 units with a sequence for eac
 if N isn't given, that is a file of 64 MiB with 19 million rows. COMMAND (`./sudrepka` where it isn't given) rewrites
 each file, and the same file without the table; `llvm-dwarfdump --debug-line` prints the table to /dev/null. Each line
 has the MiB of the table before and after, the medians of the processor's seconds and of the peak in MiB, and by how
-much the seconds and the peak of the first grew since the file of half the size.
+much the seconds and the peak of the first grew since the file of half the size. It wants `llvm-dwarfdump` and
+`riscv64-unknown-elf-readelf`.
 """
 import argparse
 import os

@@ -17,8 +17,8 @@ the output. Of the input
 
 At the output `lookup` has to say what it said of the owner in the input, but that a handler that was moved has its
 new address. A line for each file has the count of addresses and of lines that were compared; a line for each of the
-first problems follows. The status is 0 where there is none. It wants what `real_programs.py` wants. FOLDER keeps
-all files.
+first problems follows. The status is 0 where there is none. It wants what `real_programs.py` wants, and LLVM's tools
+and `gdb-multiarch`. FOLDER keeps all files.
 
 With --large a program of so many MiB (27 and 64 where it isn't said) is looked up at one address by `lookup` and
 `frames`, and by `addr2line -i`, `llvm-symbolizer` and `gdb -batch`: each line has the best seconds of the clock of
@@ -36,7 +36,7 @@ import debug_files
 from debug_files import apart, asked, best_of, build_with_tables, instructions
 from frames import rows_by_readelf
 from line_rows import by_addr2line, by_gdb, by_llvm, in_force, sequences_by_llvm, sequences_by_readelf
-from profiles import CROSS, built, output, record
+from profiles import CROSS, built, output, record, want
 from real_programs import LONGER, NO_COMPILER, ROOT, buildable, compilers
 
 REGISTERS = ["zero", "ra", "sp", "gp", "tp", "t0", "t1", "t2", "s0", "s1", *(f"a{n}" for n in range(8)),
@@ -113,6 +113,10 @@ def own_unwind(line):
     return re.sub(r" r\d+=undefined", "", kept)
 
 
+# line and column, the file, and behind it the instruction set, the discriminator, of newer versions an index, and flags
+BY_LLVM = re.compile(r"(\S+) (.*?) (\d+) (\d+)(?: \d+)?((?: [a-z_]+)*)")
+
+
 class Comparison:
     """What is asked of a file at its addresses."""
 
@@ -133,9 +137,10 @@ class Comparison:
         for at, said in zip(self.addresses, self.said):
             rows = by_llvm_rows.get(at, [])
             found = [f"{line}:{column} {isa} {disc} {flags}".strip() for _, line, column, isa, disc, flags in said.rows]
-            wanted = [re.sub(r"^(\S+) \S+ (\d+) (\d+)(?: \d+)?", r"\1 \2 \3", row).strip() for row in rows]
+            parts = [BY_LLVM.fullmatch(row) for row in rows]
+            wanted = [f"{part[1]} {part[3]} {part[4]}{part[5]}" for part in parts]
             self.same("llvm-dwarfdump", at, wanted, found)
-            files = [row.split()[1] for row in rows]
+            files = [part[2] for part in parts]
             if any(not path.endswith(file) for (path, *_), file in zip(said.rows, files)):
                 self.say("llvm-dwarfdump", at, files, [row[0] for row in said.rows])
             shown = [f"{os.path.basename(path)} {line}{' x' if 'is_stmt' in flags else ''}"
@@ -179,8 +184,10 @@ class Comparison:
             self.same("readelf", at, as_unwind(rows[0]) if rows else None, own)
 
     def all(self):
-        refused = [(at, said.text) for at, said in zip(self.addresses, self.said) if said.text[:1].isdigit()]
-        if refused:
+        refused = [(at, said.text) for at, said in zip(self.addresses, self.said) if re.match(r"-?\d", said.text)]
+        if not self.addresses:
+            self.problems.append("objdump finds no instruction")
+        elif refused:
             self.problems.append(f"lookup says {refused[0][1].strip()} at {refused[0][0]:x}")
         else:
             self.rows()
@@ -248,6 +255,7 @@ def main():
     words.add_argument("--large", action="store_true", help="times one address of large files")
     words.add_argument("programs", nargs="*")
     given = words.parse_args()
+    want("llvm-dwarfdump", "llvm-symbolizer", "gdb-multiarch")
     if not given.large and not compilers():
         sys.exit(NO_COMPILER)
     tool, problems = built(given.tool), 0

@@ -85,16 +85,17 @@ def executable(words):
 
 
 def measure(command, runs):
-    """The median of the processor's seconds of a command, its greatest peak of memory in MiB, and what it printed."""
-    seconds, peak, printed = [], 0, b""
+    """The median of the processor's seconds of a command, its greatest peak of memory in MiB, what it printed, and its
+    status."""
+    seconds, peak, printed, status = [], 0, b"", 0
     for _ in range(runs):
         with tempfile.TemporaryFile() as out:
             took = spent(command, stdout=out, stdin=subprocess.DEVNULL)
             out.seek(0)
             printed = out.read()
         seconds.append(took.seconds)
-        peak = max(peak, took.peak)
-    return statistics.median(seconds), peak, printed
+        peak, status = max(peak, took.peak), took.status
+    return statistics.median(seconds), peak, printed, status
 
 
 def steps_in(printed):
@@ -107,7 +108,7 @@ def steps_in(printed):
 
 def compare(command, name, path, words, runs):
     """Runs a file on both machines, records it, and runs it with the other tool."""
-    rows, steps = [], None
+    rows, steps, ended = [], None, None
     with tempfile.NamedTemporaryFile() as profile:
         lines = [
             ("bytes", [*command, "run", *STEPS, path, *words]),
@@ -115,15 +116,19 @@ def compare(command, name, path, words, runs):
             ("symbols", [*command, "run", "--symbols", *STEPS, path, *words]),
         ]
         for machine, line in lines:
-            seconds, peak, printed = measure(line, runs)
-            steps = steps_in(printed) or steps
+            seconds, peak, printed, status = measure(line, runs)
             if steps_in(printed):
+                steps, ended = steps_in(printed), status
                 rows.append((machine, seconds, peak))
     if steps is None:
         print(f"{name:12} doesn't end on the machine of bytes", flush=True)
         return
     if shutil.which("qemu-riscv64"):
-        rows.append(("qemu", *measure(["qemu-riscv64", path, *words], runs)[:2]))
+        seconds, peak, _, status = measure(["qemu-riscv64", path, *words], runs)
+        if status == ended:
+            rows.append(("qemu", seconds, peak))
+        else:
+            print(f"{name:12} ends with {status} on qemu, and with {ended} here", flush=True)
     for tool, seconds, peak in rows:
         speed, share = steps / seconds / 1e6, rows[0][1] / seconds
         print(f"{name:12} {tool:9} {seconds:8.3f} s {speed:9.1f} M/s {share:6.2f} of bytes {peak:8.1f} MiB", flush=True)

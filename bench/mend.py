@@ -144,5 +144,8 @@ if __name__ == "__main__":
     for name in sys.argv[1:]:
         if not os.path.isfile(name):
             sys.exit(f"there is no file {name}")
+        with open(name, "rb") as file:
+            if file.read(4) != b"\x7fELF":
+                sys.exit(f"{name} is no ELF file")
         bounds, calls, tables = mend(name)
         print(f"{name}: mended {bounds} bounds of locations, {calls} declarations of calls, {tables} tables of ranges")

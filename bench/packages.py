@@ -40,12 +40,14 @@ class Program:
         return sorted({os.path.dirname(file) for file in self.files(sources)}) + [OWN]
 
     def input(self, sources):
+        if not self.given:
+            return b""
         for folder in (os.path.join(sources, self.folder), OWN):
             path = os.path.join(folder, self.given)
             if os.path.isfile(path):
                 with open(path, "rb") as file:
                     return file.read(self.length)
-        return b""
+        raise FileNotFoundError(self.given)
 
 
 PACKAGES = {

@@ -10,6 +10,7 @@ import time
 import typing
 
 CROSS = "riscv64-unknown-elf-"
+MOST_SECONDS = 600  # for a run that may not end
 GDB = ["gdb-multiarch", "-batch", "-nx", "-ex", "set confirm off", "-ex", "set width 0"]
 # Runs a command, and writes what it took into the descriptor that stands before it.
 SPENT = """
@@ -22,6 +23,13 @@ clock = time.monotonic() - began
 words = os.waitstatus_to_exitcode(status), usage.ru_utime + usage.ru_stime, clock, usage.ru_maxrss / 1024
 os.write(int(told), " ".join(map(str, words)).encode())
 """
+
+
+def want(*tools):
+    """Ends where a tool isn't there."""
+    for tool in tools:
+        if not shutil.which(tool):
+            sys.exit(f"there is no {tool}")
 
 
 def output(command):
@@ -57,12 +65,17 @@ def is_answer(status):
 
 
 def built(tool):
-    """The words of a tool, which is proved and built first where it has to be: without words it prints its usage."""
+    """The words of a tool, which is proved and built first where it has to be: without words it prints its usage. The
+    program stands for the script `sudrepka`, which looks at the times of all sources each time that it is called."""
     command = [tool] if os.path.exists(tool) else tool.split()
+    found = shutil.which(command[0]) if command else None
+    if not found:
+        sys.exit(f"there is no command {tool}")
     status = subprocess.run(command, stdout=subprocess.DEVNULL, check=False).returncode
     if not is_answer(status):
         sys.exit(f"{tool}: status {status}")
-    return command
+    program = os.path.join(os.path.dirname(os.path.realpath(found)), "crates", "bolt_cli", "out", "bolt_cli")
+    return [program] if os.path.basename(found) == "sudrepka" and os.path.isfile(program) else command
 
 
 def follow(path, words, go, given=b""):
@@ -88,7 +101,7 @@ def follow(path, words, go, given=b""):
 def is_open(door):
     """Whether a program listens at a socket in the file system (proc(5), /proc/net/unix: __SO_ACCEPTCON in its flags)."""
     with open("/proc/net/unix", encoding="utf-8", errors="replace") as sockets:
-        rows = [line.split() for line in sockets]
+        rows = [line.rstrip("\n").split(None, 7) for line in sockets]  # (the last is a path, which may have blanks)
     return any(row[-1] == door and row[3] == "00010000" for row in rows)
 
 
@@ -103,12 +116,16 @@ def debug(path, words, commands, given=b""):
         program, door = shutil.copy(path, os.path.join(folder, "program")), os.path.join(folder, "door")
         machine = subprocess.Popen(["qemu-riscv64", "-g", door, program, *words], stdin=file, stdout=subprocess.DEVNULL,
                                    stderr=subprocess.DEVNULL)
+        # where the program doesn't end, gdb says so of the connection, and goes on
+        longest = threading.Timer(MOST_SECONDS, machine.kill)
+        longest.start()
         try:
             while not is_open(door) and machine.poll() is None:
                 time.sleep(0.02)
             asked = [word for command in commands for word in ("-ex", command)]
             return output([*GDB, "-ex", f"target remote {door}", *asked, path])
         finally:
+            longest.cancel()
             machine.kill()
             machine.wait()
             shutil.rmtree(folder)

@@ -16,7 +16,7 @@ executable and rewrites it by that profile. Then
 - `readelf -aW`, `eu-elflint` and `llvm-dwarfdump --verify` may not complain of the output where they don't of the
   input;
 - `objdump` has to find an instruction at each line of the map, with the same operation but for branches and jumps;
-- `gdb` has to find the functions at their new addresses, and to read the same instructions there;
+- `gdb` has to find the functions at their new addresses, and instructions there that begin where those of `objdump` do;
 - `readelf` has to find the same rows of unwind tables at the bytes of the new code as at their owners, `llvm-dwarfdump`
   the same handlers and exception tables, and `gdb` the same frames where both programs stop at one function;
 - `llvm-dwarfdump` and `readelf` have to find the same rows of lines in force at the bytes of the new code as at their
@@ -38,7 +38,7 @@ import tempfile
 from dwarf_verify import verify_problems
 from frames import backtrace_problems, mend_tables, table_problems
 from line_rows import leave_lines, line_problems, table_size
-from profiles import CROSS, built, output, record
+from profiles import CROSS, MOST_SECONDS, built, output, record
 
 ROOT = os.path.dirname(os.path.dirname(os.path.abspath(__file__)))
 PROGRAMS = os.path.join(ROOT, "bench", "programs")
@@ -186,10 +186,18 @@ class Checks:
             self.say("the output runs otherwise")
         if shutil.which("qemu-riscv64"):
             for path in (self.old, self.new):
-                done = subprocess.run(["qemu-riscv64", path, *words], input=self.given, capture_output=True, check=False)
-                if (done.returncode, done.stdout) != before[:2]:
+                if self.run_by_qemu(path, words) != before[:2]:
                     self.say(f"qemu runs {os.path.basename(path)} otherwise")
         return before[2], after[2]
+
+    def run_by_qemu(self, path, words):
+        """The status and what was printed; nothing where it doesn't end."""
+        try:
+            done = subprocess.run(["qemu-riscv64", path, *words], input=self.given, capture_output=True, check=False,
+                                  timeout=MOST_SECONDS)
+        except subprocess.TimeoutExpired:
+            return None
+        return done.returncode, done.stdout
 
     def judged(self, map_path):
         """Asks the tool itself whether the output is a faithful rewrite."""

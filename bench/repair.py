@@ -4,7 +4,7 @@
     python3 bench/repair.py [--tool COMMAND] [BLOCKS..]
 
 The programs have branches, loops and jumps, nested at random, and counts that balance: those are the true ones. They are
-one function of so many blocks each, and, of the largest number, functions of up to 2,000 blocks. A noisy profile has each
+one function of so many blocks each, and, of numbers above 20,000, functions of up to 2,000 blocks. A noisy profile has each
 count off by up to a tenth, a stale one lacks three lines of ten, and a sampled one has each tenth occurrence, ten times.
 Each line has the seconds of the processor, the peak of memory, the total change, and how far the counts of edges are from
 the true ones in sum, before and after, as parts of the sum of true counts. Last come functions that are one path of

@@ -1,4 +1,4 @@
-/* Added to the linker's own script: no unwind tables, and the bounds of thread-local data. */
+/* Added to the linker's own script: no unwind tables. */
 SECTIONS {
   /DISCARD/ : { *(.eh_frame .eh_frame.*) *(.note .note.*) }
 }

@@ -18,3 +18,4 @@ SECTIONS {
   .bss : { *(.sbss .sbss.*) *(.bss .bss.*) *(COMMON) } :data
   /DISCARD/ : { *(.eh_frame .eh_frame.*) *(.note .note.*) }
 }
+ASSERT(SIZEOF(.tdata) + SIZEOF(.tbss) <= 4096, "start.c has 4096 bytes for thread-local data")

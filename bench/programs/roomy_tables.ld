@@ -19,3 +19,4 @@ SECTIONS {
   .bss : { *(.sbss .sbss.*) *(.bss .bss.*) *(COMMON) } :data
   /DISCARD/ : { *(.note .note.*) }
 }
+ASSERT(SIZEOF(.tdata) + SIZEOF(.tbss) <= 4096, "start.c has 4096 bytes for thread-local data")

@@ -1,4 +1,4 @@
-/* What runs before main: thread-local data, arguments, and the system calls read, write, exit and brk of Linux. */
+/* What runs before main: thread-local data, arguments, and the system calls write, exit and brk of Linux. */
 #include <stddef.h>
 #include <stdio.h>
 #include <stdlib.h>
@@ -57,13 +57,13 @@ FILE *const stdout = &out;
 __strong_reference(stdout, stderr);
 
 extern char __tdata_start[], __tdata_end[];
-static char thread_local[4096] __attribute__((aligned(64)));
+static char thread_data[4096] __attribute__((aligned(64)));
 
 int main(int argc, char **argv);
 
 __attribute__((used, noreturn)) void start(long *stack) {
-    memcpy(thread_local, __tdata_start, (size_t)(__tdata_end - __tdata_start));
-    __asm__ volatile("mv tp, %0" : : "r"(thread_local));
+    memcpy(thread_data, __tdata_start, (size_t)(__tdata_end - __tdata_start));
+    __asm__ volatile("mv tp, %0" : : "r"(thread_data));
     int status = main((int)stack[0], (char **)(stack + 1));
     flush();
     _exit(status);
