@@ -10,7 +10,8 @@ OFFSET, RANGES_INDEX, LOCATION_INDEX = 0x17, 0x23, 0x22  # DW_FORM_sec_offset, D
 BASES = ((0x73, OFFSET), (0x74, OFFSET), (0x8C, OFFSET))  # DW_AT_addr_base, DW_AT_rnglists_base, DW_AT_loclists_base
 BASE_ENTRY = b"\1\0"  # DW_RLE_base_addressx 0, which is DW_LLE_base_addressx 0 too
 MOST_ENTRIES = 36  # of a list that gives nothing
-MOST_BAD_ENTRIES = 256  # of a list before one that can't be read
+MOST_BAD = 512  # bytes of a list before an entry that can't be read
+RANGE, PLACE, BAD = b"\4\0\1", b"\4\0\1\0", b"\x7f"  # a pair of offsets, in both tables, and an entry of no kind
 NAMED = 128  # lists of a unit whose indexes have one byte
 
 
@@ -51,15 +52,17 @@ def long_number_lists(size):
     return debug_file({".debug_info": units, ".debug_abbrev": declarations, ".debug_rnglists": ranges})
 
 
-def units_naming(lists, places, count):
-    """So many units, of which each names the lists of ranges and of locations at these places, of the same bytes."""
+def units_naming(lists, places, count, locations=None):
+    """So many units, of which each names the lists of ranges and of locations at these places, of the same bytes where
+    no others are given, or as long ones."""
     fields = ((RANGES, RANGES_INDEX), (LOCATION, LOCATION_INDEX))
     declarations = declaration(1, 0x11, 1, *BASES) + declaration(2, 0x34, 0, *fields) + b"\0"
     own = b"\1" + struct.pack("<III", 8, 12, 12)
     info = unit(own + b"".join(bytes([2, k, k]) for k in range(len(places)))) * count
-    lists = list_table(lists, [4 * len(places) + place for place in places])
+    offsets = [4 * len(places) + place for place in places]
     tables = {".debug_info": info, ".debug_abbrev": declarations, ".debug_addr": ADDRESSES}
-    return tables | {".debug_rnglists": lists, ".debug_loclists": lists}
+    tables |= {".debug_rnglists": list_table(lists, offsets), ".debug_loclists": list_table(locations or lists, offsets)}
+    return tables
 
 
 UNIT_SIZE = 12 + 13 + 3 * NAMED  # of a unit that names so many lists
@@ -83,9 +86,12 @@ def few_base_lists(size):
 
 
 def few_endless_lists(size):
-    """Lists of nearly as many bases as one that can't be read may have: behind them is no entry of any kind."""
-    lists, places = base_entries(MOST_BAD_ENTRIES, b"\x7f")
-    return debug_file(units_naming(lists, places, (size - 2 * len(lists)) // UNIT_SIZE))
+    """Lists of as many ranges, and of as many locations, as may stand before an entry that can't be read."""
+    ranges, locations = (entry * (MOST_BAD // len(entry)) + BAD for entry in (RANGE, PLACE))
+    length = max(len(ranges), len(locations))
+    ranges, locations = (one.ljust(length, b"\0") * NAMED for one in (ranges, locations))
+    places = [length * k for k in range(NAMED)]
+    return debug_file(units_naming(ranges, places, (size - 2 * len(ranges)) // UNIT_SIZE, locations))
 
 
 def units_of_long_lists(size, behind):
@@ -133,7 +139,7 @@ def few_indexed_lists(size):
     index = size // 4 // 4
     own = b"\1" + bounds(0, 8) + struct.pack("<III", 8, 12, 12) + b"\2" + 2 * uleb(index)
     weight = min(64 * size + (1 << 28), 4_000_000_000) * 31 // 32
-    count = min(size // 2 // (12 + len(own)), weight // (4 * index + 36))
+    count = min(size // 2 // (12 + len(own)), weight // (2 * (4 * index + 36)))
     fields = ((RANGES, RANGES_INDEX), (LOCATION, LOCATION_INDEX))
     declarations = declaration(1, 0x11, 1, (0x11, 0x01), (0x12, 0x06), *BASES)
     declarations += declaration(2, 0x34, 0, *fields) + b"\0"
