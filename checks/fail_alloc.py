@@ -9,8 +9,8 @@ one of a number. `rt try --fail-alloc` refuses one number a run of the toolchain
 program that is used. Each command is run on the sample of one function once for each of its requests. It has to be out
 of memory, with nothing printed and no file written; or to do the same as where nothing is refused, where it could do
 without. A line says for each command how many requests it makes, and how often it was out of memory; the status is 1
-where something else came. On 2026-11-29 nothing else came: of 2,589 requests of all commands, 686 of them of `rewrite`,
-2,437 were answered as out of memory.
+where something else came. On 2026-11-30 nothing else came: of 2,588 requests of all commands, 686 of them of `rewrite`,
+2,436 were answered as out of memory.
 """
 from __future__ import annotations
 import argparse
