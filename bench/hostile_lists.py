@@ -53,8 +53,8 @@ def long_number_lists(size):
 
 
 def units_naming(lists, places, count, locations=None):
-    """So many units, of which each names the lists of ranges and of locations at these places, of the same bytes where
-    no others are given, or as long ones."""
+    """So many units, of which each names the lists of ranges and of locations at these places. Those of locations have
+    the bytes of those of ranges, unless others are given."""
     fields = ((RANGES, RANGES_INDEX), (LOCATION, LOCATION_INDEX))
     declarations = declaration(1, 0x11, 1, *BASES) + declaration(2, 0x34, 0, *fields) + b"\0"
     own = b"\1" + struct.pack("<III", 8, 12, 12)

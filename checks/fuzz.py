@@ -110,6 +110,7 @@ class Tool:
         child = os.posix_spawn(shell[0], [*shell, *self.words, *words], {}, file_actions=actions)
         _, status, usage = os.wait4(child, 0)
         printed, said = (os.pread(stream, 1 << 26, 0) for stream in self.streams[1:])
+        # (`out` before `map`, as WRITES has them)
         wrote = sorted((name for name, stamp in stamps().items() if there.get(name) != stamp), reverse=True)
         return Answer(os.waitstatus_to_exitcode(status), printed, said, wrote, usage.ru_utime + usage.ru_stime)
 
