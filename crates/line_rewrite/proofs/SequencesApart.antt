@@ -8,7 +8,7 @@ use Rattle.std.proofs.lemmas.List.Kept.{AllPairs-cons}
 use Rattle.rb_bytes.proofs.ListLemmas.{all_of, pairs_map}
 use Rattle.rb_bytes.proofs.Searches.{Contains-filter}
 use Rattle.addr_map.specs.declared.span.Span.{Span}
-use Rattle.answer_runs.specs.AddressRanges.{holds_address, AreApart, ShareNoAddress}
+use Rattle.answer_runs.specs.AddressRanges.{AreApart, ShareNoAddress}
 use Rattle.answer_runs.specs.AnswerRuns.{IsWithin}
 use Rattle.answer_runs.specs.declared.run.Run.{Run}
 use Rattle.line_rewrite.specs.declared.unit.Unit as kept
@@ -21,42 +21,39 @@ use Rattle.line_rewrite.specs.WrittenRuns.{Placed, placed, AllRowsFit}
 use Rattle.line_rewrite.proofs.PieceSequences.{end_on, strand_at, strand, others_on, strands}
 use Rattle.line_rewrite.proofs.RunPieces.{pieces, one_of, has_run, piece_found}
 use Rattle.line_rewrite.proofs.Strands.{ArePieces}
-use Rattle.line_rewrite.proofs.StrandsFound.{ends_later, not_above, passed, taken, strand_rows, strands_say}
+use Rattle.line_rewrite.proofs.StrandsFound.{holds, ends_later, not_above, passed, taken, strand_rows, strands_say}
 use Rattle.line_rewrite.proofs.TableBack.{unit_pieces, new_units, AreFrom, first_from, next_from}
 
 module _ (p : ℕ) where
-  abbrev holds : Sequence → Bool
-  holds s = holds_address p (range_of s)
-
   -- how many sequences hold an address
   abbrev holding : List Sequence → ℕ
-  holding ss = length (filter holds ss)
+  holding ss = length (filter (holds p) ss)
 
-  skips : (s : Sequence) (ss : List Sequence) → holds s ≡ false → holding (s ∷ ss) ≡ holding ss
+  skips : (s : Sequence) (ss : List Sequence) → holds p s ≡ false → holding (s ∷ ss) ≡ holding ss
   skips s ss e = rw e refl
 
-  takes : (s : Sequence) (ss : List Sequence) → holds s ≡ true → holding (s ∷ ss) ≡ suc (holding ss)
+  takes : (s : Sequence) (ss : List Sequence) → holds p s ≡ true → holding (s ∷ ss) ≡ suc (holding ss)
   takes s ss e = rw e refl
 
   both : (xs ys : List Sequence) → holding (xs ++ ys) ≡ holding xs + holding ys
-  both xs ys = ap length (filter-append holds xs ys) ∙ length-append (filter holds xs) (filter holds ys)
+  both xs ys = ap length (filter-append (holds p) xs ys) ∙ length-append (filter (holds p) xs) (filter (holds p) ys)
 
-  before_end : (s : Sequence) → holds s ≡ true → p < s.end
+  before_end : (s : Sequence) → holds p s ≡ true → p < s.end
   before_end s e = grind (arith, nat_tests)
 
   fewer : (s : Sequence) (ss : List Sequence) → holding (s ∷ ss) ≤ 1 → holding ss ≤ 1
-  fewer s ss h = by (holds s) refl
+  fewer s ss h = by (holds p s) refl
     where
-      by : (b : Bool) → holds s ≡ b → holding ss ≤ 1
+      by : (b : Bool) → holds p s ≡ b → holding ss ≤ 1
       by true e = let t = takes s ss e in omega (arith, t, h)
       by false e = let t = skips s ss e in omega (arith, t, h)
 
   -- where no rows are found, no sequence holds the address
   none_holds : (ss : List Sequence) → strand_rows p ss ≡ None → holding ss ≡ 0
   none_holds [] e = refl
-  none_holds (s ∷ ss) e = by (holds s) refl (none_holds ss)
+  none_holds (s ∷ ss) e = by (holds p s) refl (none_holds ss)
     where
-      by : (b : Bool) → holds s ≡ b → (strand_rows p ss ≡ None → holding ss ≡ 0) → holding (s ∷ ss) ≡ 0
+      by : (b : Bool) → holds p s ≡ b → (strand_rows p ss ≡ None → holding ss ≡ 0) → holding (s ∷ ss) ≡ 0
       by true t more = let some = sym (taken p s ss t) ∙ e in absurd (cc)
       by false t more = skips s ss t ∙ more (sym (passed p s ss t) ∙ e)
 
@@ -79,9 +76,9 @@ module _ (p : ℕ) where
 
     opened_once : (u : Piece) (us : List Piece) → ArePieces files (piece_end u) us → holding (others_on (piece_end u) us) ≤ 1
         → holding (strand u us) ≤ 1
-    opened_once u us are more = by (holds (strand_at u us)) refl
+    opened_once u us are more = by (holds p (strand_at u us)) refl
       where
-        by : (b : Bool) → holds (strand_at u us) ≡ b → holding (strand u us) ≤ 1
+        by : (b : Bool) → holds p (strand_at u us) ≡ b → holding (strand u us) ≤ 1
         by true e =
             let t = takes (strand_at u us) (others_on (piece_end u) us) e in
             let none = none_behind (piece_end u) us are (before_end (strand_at u us) e) in

@@ -17,8 +17,8 @@ use Rattle.line_rewrite.proofs.Strands.{ArePieceRows, IsPiece, ArePieces}
 abbrev pub has_address : ℕ → Piece → Bool
 has_address p u = nat_le u.start p && nat_lt p (piece_end u)
 
-abbrev Holds : ℕ → Sequence → Bool
-Holds p s = holds_address p (range_of s)
+abbrev pub holds : ℕ → Sequence → Bool
+holds p s = holds_address p (range_of s)
 
 all_at : (files a : ℕ) (rows : List Registers) → ArePieceRows files a rows → AllAt a rows
 all_at files a [] are = tt
@@ -66,25 +66,25 @@ strand_low : (files : ℕ) (u : Piece) (us : List Piece) → IsPiece files u →
 strand_low files u us piece = first_is files u.start (end_on (piece_end u) us) u.rows (rows_on (piece_end u) us) piece.rows piece.any
 
 -- none of those behind an address
-pub not_above : (files p : ℕ) (u : Piece) (us : List Piece) → IsPiece files u → p < u.start → Holds p (strand_at u us) ≡ false
+pub not_above : (files p : ℕ) (u : Piece) (us : List Piece) → IsPiece files u → p < u.start → holds p (strand_at u us) ≡ false
 not_above files p u us piece h =
     let low : (range_of (strand_at u us)).low ≡ u.start = strand_low files u us piece in
     let t : nat_le u.start p ≡ false = grind (arith, nat_tests) in
     rw (low, t) refl
 
-none_others : (files e p : ℕ) (us : List Piece) → ArePieces files e us → p < e → find (Holds p) (others_on e us) ≡ None
+none_others : (files e p : ℕ) (us : List Piece) → ArePieces files e us → p < e → find (holds p) (others_on e us) ≡ None
 unfolding others_on
 none_others files e p [] are h = refl
 none_others files e p (u ∷ us) are h =
     let low : e ≤ u.start = are.1 in
     by (e == u.start) (none_others files (piece_end u) p us are.2 (omega arith))
   where
-    passed_by : Holds p (strand_at u us) ≡ false → find (Holds p) (others_on (piece_end u) us) ≡ None
-        → find (Holds p) (strand_at u us ∷ others_on (piece_end u) us) ≡ None
-    passed_by t rest = ap (λ (b : Bool). cond b (Some (strand_at u us)) (find (Holds p) (others_on (piece_end u) us))) t ∙ rest
+    passed_by : holds p (strand_at u us) ≡ false → find (holds p) (others_on (piece_end u) us) ≡ None
+        → find (holds p) (strand_at u us ∷ others_on (piece_end u) us) ≡ None
+    passed_by t rest = ap (λ (b : Bool). cond b (Some (strand_at u us)) (find (holds p) (others_on (piece_end u) us))) t ∙ rest
 
-    by : (b : Bool) → find (Holds p) (others_on (piece_end u) us) ≡ None
-        → find (Holds p) (cond b (others_on (piece_end u) us) (strand_at u us ∷ others_on (piece_end u) us)) ≡ None
+    by : (b : Bool) → find (holds p) (others_on (piece_end u) us) ≡ None
+        → find (holds p) (cond b (others_on (piece_end u) us) (strand_at u us ∷ others_on (piece_end u) us)) ≡ None
     by true rest = rest
     by false rest =
         let low : e ≤ u.start = are.1 in
@@ -98,27 +98,27 @@ none_pieces files lo p (u ∷ us) are h =
     rw t (none_pieces files (piece_end u) p us are.2 (omega arith))
 
 abbrev pub strand_rows : ℕ → List Sequence → Option (List Registers)
-strand_rows p ss = option_map (λ s. in_force p s.rows) (find (λ s. holds_address p (range_of s)) ss)
+strand_rows p ss = option_map (λ s. in_force p s.rows) (find (holds p) ss)
 
 abbrev pub piece_rows : ℕ → List Piece → Option (List Registers)
 piece_rows p us = option_map (λ u. u.rows) (find (has_address p) us)
 
 -- a first strand that doesn't hold the address
-pub passed : (p : ℕ) (s : Sequence) (ss : List Sequence) → Holds p s ≡ false → strand_rows p (s ∷ ss) ≡ strand_rows p ss
+pub passed : (p : ℕ) (s : Sequence) (ss : List Sequence) → holds p s ≡ false → strand_rows p (s ∷ ss) ≡ strand_rows p ss
 passed p s ss e = rw e refl
 
 -- one that does
-pub taken : (p : ℕ) (s : Sequence) (ss : List Sequence) → Holds p s ≡ true → strand_rows p (s ∷ ss) ≡ Some (in_force p s.rows)
+pub taken : (p : ℕ) (s : Sequence) (ss : List Sequence) → holds p s ≡ true → strand_rows p (s ∷ ss) ≡ Some (in_force p s.rows)
 taken p s ss e = rw e refl
 
 -- two that agree in whether they do, and in their rows in force
-same_front : (p : ℕ) (s t : Sequence) (ss : List Sequence) → Holds p s ≡ Holds p t → in_force p s.rows ≡ in_force p t.rows
+same_front : (p : ℕ) (s t : Sequence) (ss : List Sequence) → holds p s ≡ holds p t → in_force p s.rows ≡ in_force p t.rows
     → strand_rows p (s ∷ ss) ≡ strand_rows p (t ∷ ss)
 same_front p s t ss h f =
-    map_cond (λ s. in_force p s.rows) (Holds p s) s (find (Holds p) ss)
+    map_cond (λ s. in_force p s.rows) (holds p s) s (find (holds p) ss)
     ∙ ap (λ (b : Bool). cond b (Some (in_force p s.rows)) (strand_rows p ss)) h
-    ∙ ap (λ (l : List Registers). cond (Holds p t) (Some l) (strand_rows p ss)) f
-    ∙ sym (map_cond (λ s. in_force p s.rows) (Holds p t) t (find (Holds p) ss))
+    ∙ ap (λ (l : List Registers). cond (holds p t) (Some l) (strand_rows p ss)) f
+    ∙ sym (map_cond (λ s. in_force p s.rows) (holds p t) t (find (holds p) ss))
 
 where_is : (p a e : ℕ) → (p < a) ⊎ (((a ≤ p) × (p < e)) ⊎ ((a ≤ p) × (e ≤ p)))
 where_is p a e = grind (arith, nat_tests)
@@ -150,8 +150,8 @@ module _ (files p : ℕ) where
       let end : piece_end u ≤ end_on (piece_end u) us = ends_later files (piece_end u) us are in
       let t : nat_le u.start p ≡ true = grind (arith, nat_tests) in
       let s : nat_lt p (end_on (piece_end u) us) ≡ true = grind (arith, nat_tests) in
-      let holds : Holds p (strand_at u us) ≡ true = rw (start, t, s) refl in
-      taken p (strand_at u us) (others_on (piece_end u) us) holds ∙ ap Some (force u.rows piece.rows piece.any)
+      let held : holds p (strand_at u us) ≡ true = rw (start, t, s) refl in
+      taken p (strand_at u us) (others_on (piece_end u) us) held ∙ ap Some (force u.rows piece.rows piece.any)
     where
       force : (rows : List Registers) → ArePieceRows files u.start rows → 0 < length rows
           → in_force p (rows ++ rows_on (piece_end u) us) ≡ rows
@@ -184,7 +184,7 @@ module _ (files p : ℕ) where
           greatest_more (reached p v.rows) (reached p (rows_on (piece_end v) us)) in
           rw split (omega (arith, h, k))
 
-      hold : Holds p (record { rows = u.rows ++ (v.rows ++ rows_on (piece_end v) us); end = end_on (piece_end v) us }) ≡ Holds p
+      hold : holds p (record { rows = u.rows ++ (v.rows ++ rows_on (piece_end v) us); end = end_on (piece_end v) us }) ≡ holds p
           (strand_at v us)
       hold =
           let a : first_address (u.rows ++ (v.rows ++ rows_on (piece_end v) us)) (end_on (piece_end v) us) ≡ u.start =
@@ -222,7 +222,7 @@ module _ (files p : ℕ) where
       let high : nat_lt p (piece_end u) ≡ true = grind (arith, nat_tests) in
       first_has u us piece are from to ∙ sym (rw (low, high) refl)
 
-  ended : (rows : List Registers) (e : ℕ) → e ≤ p → Holds p (record { rows = rows; end = e }) ≡ false
+  ended : (rows : List Registers) (e : ℕ) → e ≤ p → holds p (record { rows = rows; end = e }) ≡ false
   ended rows e h =
       let t : nat_lt p e ≡ false = grind (arith, nat_tests) in
       ap (λ (b : Bool). nat_le (first_address rows e) p && b) t ∙ and_none (nat_le (first_address rows e) p)

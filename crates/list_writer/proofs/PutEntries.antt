@@ -1,5 +1,5 @@
 -- Attributes whose lists are written get names, one after another.
-use Rattle.std.proofs.Common.{◌≡◌, ◌≢◌, ◌∙◌, ◌+◌, ◌^◌, ◌<◌, ◌≤◌, ◌==◌, ◌&&◌, ◌||◌, ◌*◌, ◌⊎◌, inl, inr, ◌++◌, ◌∷◌, [], ℕ, zero, suc, Bool}
+use Rattle.std.proofs.Common.{◌≡◌, ◌≢◌, ◌∙◌, ◌+◌, ◌-◌, ◌^◌, ◌<◌, ◌≤◌, ◌==◌, ◌&&◌, ◌||◌, ◌*◌, ◌⊎◌, inl, inr, ◌++◌, ◌∷◌, [], ℕ, zero, suc, Bool}
 use Rattle.std.proofs.Common.{true, false, List, Option, Some, None, BTreeMap, nat_cmp}
 use Rattle.std.proofs.Common.{refl, sym, ap, subst, arith, length, take, get_or, All, ⊎_elim}
 use Rattle.std.specs.Prelude.{if◌then◌else◌, Contains, option_map, IsTrue, flat_map}
@@ -7,7 +7,7 @@ use Rattle.std.specs.BTreeMap.{get, is_at}
 use Rattle.std.specs.Global.{Vec}
 use Rattle.std.specs.List.{find}
 use Rattle.std.specs.Option.{option_or}
-use Rattle.std.proofs.lemmas.Bool.{cases_eq, eq-eqb, eqb-true, ne_eqb}
+use Rattle.std.proofs.lemmas.Bool.{cases_eq, cases_lt, eq-eqb, eqb-true, ne_eqb}
 use Rattle.std.proofs.lemmas.Grind.{common_steps}
 use Rattle.std.proofs.lemmas.List.{take_more}
 use Rattle.std.proofs.lemmas.List.Elements.{All-append, All-cons, All-nil}
@@ -91,11 +91,11 @@ and_both : (a b : Bool) → a ≡ true → b ≡ true → (a && b) ≡ true
 and_both true b e f = f
 and_both false b e f = absurd (cc)
 
-and_left : (a b : Bool) → a ≡ false → (a && b) ≡ false
+pub and_left : (a b : Bool) → a ≡ false → (a && b) ≡ false
 and_left true b e = absurd (cc)
 and_left false b e = refl
 
-and_right : (a b : Bool) → b ≡ false → (a && b) ≡ false
+pub and_right : (a b : Bool) → b ≡ false → (a && b) ≡ false
 and_right true b e = e
 and_right false b e = refl
 
@@ -114,9 +114,19 @@ pub new_name : (xs : List ListAt) (l : ListAt) → new_list_offset xs l.entry l.
     new_list_offset (xs ++ l ∷ []) l.entry l.attr ≡ Some l.offset
 new_name xs l none = offset_more xs l l.entry l.attr ∙ (λ i. option_or (none i) (named_self l i))
 
+pub other_name : (xs : List ListAt) (l : ListAt) (e attr : ℕ) → (l.entry == e && l.attr == attr) ≡ false →
+    new_list_offset (xs ++ l ∷ []) e attr ≡ new_list_offset xs e attr
+other_name xs l e attr f =
+    offset_more xs l e attr ∙ ap (λ (x : Option ℕ). option_or (new_list_offset xs e attr) x) (named_other l e attr f)
+    ∙ or_none (new_list_offset xs e attr)
+  where
+    or_none : (x : Option ℕ) → option_or x None ≡ x
+    or_none None = refl
+    or_none (Some n) = refl
+
 still_none : (xs : List ListAt) (l : ListAt) (e attr : ℕ) → new_list_offset xs e attr ≡ None → (l.entry == e && l.attr == attr) ≡ false →
     new_list_offset (xs ++ l ∷ []) e attr ≡ None
-still_none xs l e attr none f = offset_more xs l e attr ∙ (λ i. option_or (none i) (named_other l e attr f i))
+still_none xs l e attr none f = other_name xs l e attr f ∙ none
 
 -- The attributes of a kind
 
@@ -303,6 +313,14 @@ module _ (lists : List (Vec ℕ)) (start : ℕ) (r : NamedList) (ps : List Named
     subst (Keeps names) (sym given.0) (λ e attr o is. is),
   )
 
+  bases_by : (kind : ListKind) (index : Option ℕ) → IsNaming kind r.attr → IsOffsetGiven start o r names more indexes now index → (e : ℕ) →
+      new_list_offset more e (base_name kind) ≡ new_list_offset names e (base_name kind)
+  bases_by kind None naming given e =
+      ap (λ (l : List ListAt). new_list_offset l e (base_name kind)) given.0
+      ∙ other_name names (name_at r (start + o)) e (base_name kind)
+      (and_right (r.place == e) (r.attr == base_name kind) (no_base kind r.attr naming))
+  bases_by kind (Some i) naming given e = ap (λ (l : List ListAt). new_list_offset l e (base_name kind)) given.0
+
   put_by : (kind : ListKind) (lo own : ℕ) (was : List ListAt) → ArePut kind lists start lo own old indexes was names ps →
       keys_end lo ps ≤ key r.place r.attr →
       IsNaming kind r.attr → (index : Option ℕ) → r.index ≡ index → IsOffsetGiven start o r names more indexes now index →
@@ -312,6 +330,7 @@ module _ (lists : List (Vec ℕ)) (start : ℕ) (r : NamedList) (ps : List Named
       record {
         names_are = subst (λ (e : ℕ). AreNames kind e own more) (sym (keys_more lo ps r)) n.0;
         keeps = λ e attr x f. n.1 e attr x (p.keeps e attr x f);
+        bases = λ e. bases_by kind index naming given e ∙ p.bases e;
         each = λ k c. ⊎_elim
             (λ (there : Contains ps k). still_put index is given n.1 k k.index (p.each k there))
             (λ (same : r ≡ k).
@@ -341,3 +360,18 @@ index_more rs i count more d h before least above r x c e = ⊎_elim
     (λ (there : Contains (take i rs) r). omega (arith, before r x there e, least))
     (λ (same : get_or rs i d ≡ r). above x (ap (λ (q : NamedList). q.index) same ∙ e))
     (contains_more (take i rs) (get_or rs i d) r (subst (λ (l : List NamedList). Contains l r) (take_more rs i d h) c))
+
+pub index_used : (rs : List NamedList) (i count more : ℕ) (d : NamedList) → i < length rs →
+    (0 < count → (r : NamedList) × Contains (take i rs) r × (r.index ≡ Some (count - 1))) → count ≤ more →
+    (count < more → (get_or rs i d).index ≡ Some (more - 1)) → 0 < more →
+    (r : NamedList) × Contains (take (i + 1) rs) r × (r.index ≡ Some (more - 1))
+index_used rs i count more d h before least used some = ⊎_elim
+    (λ (lt : count < more). (get_or rs i d, within (get_or rs i d) (contains_last (take i rs) (get_or rs i d)), used lt))
+    (λ (le : more ≤ count).
+    let same : count ≡ more = omega (arith, le, least) in
+    let b = before (omega (arith, same, some)) in
+    (b.0, within b.0 (contains_still (take i rs) (get_or rs i d ∷ []) b.0 b.1), b.2 ∙ ap (λ (n : ℕ). Some (n - 1)) same))
+    (cases_lt count more)
+  where
+    within : (r : NamedList) → Contains (take i rs ++ get_or rs i d ∷ []) r → Contains (take (i + 1) rs) r
+    within r c = subst (λ (l : List NamedList). Contains l r) (sym (take_more rs i d h)) c

@@ -8,6 +8,7 @@ use Rattle.std.proofs.lemmas.List.Elements.{All-append, All-cons, All-nil}
 use Rattle.rb_bytes.proofs.Members.{Contains-nil, Contains-cons_cases, Contains-there}
 use Rattle.table_core.specs.declared.written.ListAt.{ListAt}
 use Rattle.table_core.specs.WrittenUnits.{IsUnit, units_bytes}
+use Rattle.dw_unit.specs.EntryMoves.{new_list_offset}
 use Rattle.dw_lists.specs.declared.list_kind.ListKind.{ListKind}
 use Rattle.dw_lists.specs.declared.named_list.NamedList.{NamedList}
 use Rattle.dw_lists.specs.Faults.{is_list_table}
@@ -147,6 +148,9 @@ module _ (kind : ListKind) (lists : List (Vec ℕ)) (all done rest unit behind :
         (λ (there : Contains done r). named_still kind lists w.tables (u.table ∷ []) names more all r r.index u.keeps (w.each r there))
         (λ (there : Contains unit r). named_of kind lists (w.tables ++ u.table ∷ []) more unit all r r.index within (u.each r there))
         (contains_split done unit r c);
+    unbased = λ e free.
+        u.bases e (λ own_is r c. free r (contains_behind done unit r c) (owned r c ∙ sym own_is))
+        ∙ w.unbased e (λ r c. free r (contains_still done unit r c));
   }
 
 pub first_own : (lo own : ℕ) (rest : List NamedList) (first : NamedList) → OwnsRise lo rest → 0 < length rest →
@@ -174,6 +178,7 @@ none_written kind lists all bytes names empty unnamed up rise = record {
     bases = λ e h. refl;
   });
   each = λ r c. absurd (Contains-nil r c);
+  unbased = λ e free. ap (λ (l : List ListAt). new_list_offset l e (base_name kind)) unnamed;
 }
 
 split_is : (xs : List NamedList) (n : ℕ) → xs ≡ take n xs ++ drop n xs

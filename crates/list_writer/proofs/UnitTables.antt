@@ -4,7 +4,7 @@ use Rattle.std.proofs.Common.{Option, Some, None, BTreeMap}
 use Rattle.std.proofs.Common.{refl, sym, ap, subst, arith, length, drop, ⊎_elim, append-nil, append_assoc, length-append, add-one}
 use Rattle.std.specs.Prelude.{Contains, nat_le, unwrap_or}
 use Rattle.std.specs.Global.{Vec}
-use Rattle.std.proofs.lemmas.Bool.{cases_lt}
+use Rattle.std.proofs.lemmas.Bool.{cases_lt, ne_eqb}
 use Rattle.std.proofs.lemmas.Bool.Decides.{nat_tests}
 use Rattle.byteorder.specs.Endian.{little_number, little_bytes}
 use Rattle.byteorder.specs.Numbers.{little_number-reads_back}
@@ -15,8 +15,9 @@ use Rattle.dw_lists.specs.declared.list_kind.ListKind.{ListKind}
 use Rattle.dw_lists.specs.declared.named_list.NamedList.{NamedList}
 use Rattle.dw_lists.specs.Faults.{is_list_table}
 use Rattle.list_writer.specs.WrittenTables.{bytes_in, base_name, Begins, AreNames, Keeps, base_at, IsPut, ArePut, keys_end, list_header}
-use Rattle.list_writer.specs.WrittenTables.{offset_of, list_offsets, list_table, IsTablePut, StandsAt, IsNamed, IsUnitWritten}
-use Rattle.list_writer.proofs.PutEntries.{keeps_more, new_name, names_less, names_base}
+use Rattle.list_writer.specs.WrittenTables.{offset_of, list_offsets, list_table, IsTablePut, StandsAt, IsNamed, AreUnindexed}
+use Rattle.list_writer.specs.WrittenTables.{IsUnitWritten}
+use Rattle.list_writer.proofs.PutEntries.{keeps_more, new_name, other_name, names_less, names_base, and_left}
 use Rattle.list_writer.proofs.SpelledEntries.{length-little}
 
 -- Offsets
@@ -236,6 +237,7 @@ module _ (kind : ListKind) (lists : List (Vec ℕ)) (lo bound own count base : �
     (put : ArePut kind lists (base + 4 * count) lo bound body m was names entries) (le : bound ≤ own)
     (owned : (r : NamedList) → Contains entries r → r.own ≡ own)
     (counted : (r : NamedList) (i : ℕ) → Contains entries r → r.index ≡ Some i → i < count)
+    (used : 0 < count → (r : NamedList) × Contains entries r × (r.index ≡ Some (count - 1)))
     (some : 0 < count → more ≡ names ++ base_at kind own base ∷ []) (none : count ≡ 0 → more ≡ names)
     (table : IsTablePut count m body old new) where
   at_tables : base ≡ length (units_bytes tables) + 12
@@ -254,6 +256,21 @@ module _ (kind : ListKind) (lists : List (Vec ℕ)) (lo bound own count base : �
             (names_base kind (keys_end lo entries) bound own base names put.names_are le small),
       )
 
+  bases_by : (n : ℕ) → count ≡ n → (e : ℕ) → (e ≡ own → AreUnindexed entries) →
+      new_list_offset more e (base_name kind) ≡ new_list_offset names e (base_name kind)
+  bases_by zero c e free = ap (λ (l : List ListAt). new_list_offset l e (base_name kind)) (none c)
+  bases_by (suc n) c e free =
+      let is : more ≡ names ++ base_at kind own base ∷ [] = some (omega (arith, c)) in
+      ap (λ (l : List ListAt). new_list_offset l e (base_name kind)) is
+      ∙ other_name names (base_at kind own base) e (base_name kind)
+      (and_left (own == e) (base_name kind == base_name kind) (ne_eqb own e other))
+    where
+      other : own ≡ e → ⊥
+      other same =
+          let u = used (omega (arith, c)) in
+          let no : Some (count - 1) ≡ None = sym u.2 ∙ free (sym same) u.0 u.1 in
+          absurd (cc)
+
   pub unit_written : IsUnitWritten kind lists lo own entries tables new was more
   unit_written =
       let k = kept_by count refl in
@@ -267,6 +284,7 @@ module _ (kind : ListKind) (lists : List (Vec ℕ)) (lo bound own count base : �
         is_table = is_table count m body fits table.small;
         names_are = k.1;
         keeps = λ e attr o is. k.0 e attr o (put.keeps e attr o is);
+        bases = λ e free. bases_by count refl e free ∙ put.bases e;
         each = λ r there. is_named lists tables count base m body table.low at_tables kind own names more entries k.0 owned counted
             (λ h. ap (λ (l : List ListAt). new_list_offset l own (base_name kind)) (some h)
             ∙ new_name names (base_at kind own base) (put.names_are.bases own le)) r there r.index refl (put.each r there);

@@ -119,6 +119,8 @@ pub record ArePut (kind : ListKind) (lists : List (Vec ℕ)) (start lo own : ℕ
     (old names : List ListAt) (entries : List NamedList) : Type 0 where
   pub names_are : AreNames kind (keys_end lo entries) own names
   pub keeps : Keeps old names
+  -- No base is named.
+  pub bases : (e : ℕ) → new_list_offset names e (base_name kind) ≡ new_list_offset old e (base_name kind)
   pub each : (r : NamedList) → Contains entries r → IsPut lists start body indexes names entries r r.index
 
 -- Tables
@@ -164,6 +166,10 @@ IsNamed kind lists tables names all r (Some i) =
     × StandsAt tables (base + 4 * i) (little_bytes 4 o) × (o < 2 ^ 32) × (like.own ≡ r.own) × (like.index ≡ Some i)
     × Contains all like × StandsAt tables (base + o) (bytes_in lists like.list)
 
+-- Attributes that use no indexes.
+abbrev pub AreUnindexed : List NamedList → Type 0
+AreUnindexed entries = (r : NamedList) → Contains entries r → r.index ≡ None
+
 -- A table more, in which the attributes of a unit's entries find their lists.
 pub record IsUnitWritten (kind : ListKind) (lists : List (Vec ℕ)) (lo own : ℕ) (entries : List NamedList)
     (tables : List (List ℕ))
@@ -174,6 +180,9 @@ pub record IsUnitWritten (kind : ListKind) (lists : List (Vec ℕ)) (lo own : �
   pub is_table : is_list_table table ≡ true
   pub names_are : AreNames kind (keys_end lo entries) (own + 1) names
   pub keeps : Keeps old names
+  -- No base is named but the unit's own, and that only where its attributes use indexes.
+  pub bases : (e : ℕ) → (e ≡ own → AreUnindexed entries) →
+      new_list_offset names e (base_name kind) ≡ new_list_offset old e (base_name kind)
   pub each : (r : NamedList) → Contains entries r → IsNamed kind lists (tables ++ table ∷ []) names entries r r.index
 
 -- Own entries of units stand at places that don't fall.
@@ -194,3 +203,6 @@ pub record AreWritten (kind : ListKind) (lists : List (Vec ℕ)) (all entries re
   pub order : AreInOrder kind (keys_end 0 entries) rest
   pub names_are : AreNames kind (keys_end 0 entries) own names
   pub each : (r : NamedList) → Contains entries r → IsNamed kind lists tables names all r r.index
+  -- A unit none of whose attributes uses an index gets no base.
+  pub unbased : (e : ℕ) → ((r : NamedList) → Contains entries r → r.own ≡ e → r.index ≡ None) →
+      new_list_offset names e (base_name kind) ≡ None

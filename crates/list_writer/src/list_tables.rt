@@ -57,7 +57,9 @@ fn list_offset(
     number: usize,
 ) -> Result<u64, NoMemory>
     requires { AreListed lists.now body.old.items known.old }
-    ensures { IfOk result (λ o. IsListed lists.now number o body.old.items body.new.items known.new) }
+    ensures listed { IfOk result (λ o. IsListed lists.now number o body.old.items body.new.items known.new) }
+    ensures again { (o : ℕ) → get nat_cmp known.old number ≡ Some o →
+        IfOk result (λ offset. (offset ≡ o) × (body.new.items ≡ body.old.items)) }
 {
     if let Some(offset) = known_offset(known, number) {
         return Ok(offset);
@@ -151,10 +153,11 @@ fn unit_body(
     Ok(UnitBody { bytes, indexes })
 }
 
-// At least a number, and more than an index if there is one.
+// The least number that isn't below another and is more than an index, if there is one.
 fn above(count: u64, index: Option<u64>) -> Result<u64, NoMemory>
     ensures least { IfOk result (λ n. count ≤ n) }
     ensures more { IfOk result (λ n. (i : ℕ) → index ≡ Some i → i < n) }
+    ensures used { IfOk result (λ n. count < n → index ≡ Some (n - 1)) }
 {
     match index {
         Some(index) => {
@@ -167,9 +170,10 @@ fn above(count: u64, index: Option<u64>) -> Result<u64, NoMemory>
     }
 }
 
-// How many offsets the indexes of some entries need.
+// How many offsets the indexes of some entries need: one for each number up to the greatest.
 fn offset_count(entries: &[NamedList]) -> Result<u64, NoMemory>
-    ensures { IfOk result (λ n. (r : code.NamedList) (i : ℕ) → Contains entries.now r → r.index ≡ Some i → i < n) }
+    ensures above { IfOk result (λ n. (r : code.NamedList) (i : ℕ) → Contains entries.now r → r.index ≡ Some i → i < n) }
+    ensures used { IfOk result (λ n. 0 < n → (r : code.NamedList) × Contains entries.now r × (r.index ≡ Some (n - 1))) }
 {
     let mut count = 0;
     for entry in entries {

@@ -3,6 +3,7 @@ use Rattle.std.proofs.Common.{◌≡◌, ◌∙◌, ◌+◌, ◌<◌, ◌≤◌,
 use Rattle.std.proofs.Common.{refl, sym, ap, subst, arith, map, ⊎_elim}
 use Rattle.std.specs.Prelude.{flat_map, Contains, option_and_then, option_map, if◌then◌else◌}
 use Rattle.rb_bytes.proofs.Members.{Contains-nil, Contains-cons_cases, Contains-there}
+use Rattle.answer_runs.specs.Choices.{first_of}
 use Rattle.answer_runs.specs.declared.range.Range.{Range}
 use Rattle.dw_unit.specs.declared.entry.Attr.{Attr}
 use Rattle.dw_unit.specs.CompUnits.{Entry, Unit, attr, low_pc}
@@ -117,6 +118,13 @@ module _ (s : ListSections) (covers : List Cover) where
       (contains_split front back r c)
 
 -- Own entries of units stand at places of their own.
+
+pub first_there : (es : List Entry) (d : Entry) → first_of es ≡ Some d → Contains es d
+first_there [] d e = absurd (cc)
+first_there (x ∷ es) d e = (0, omega arith, same x d e)
+  where
+    same : (x d : Entry) → Some x ≡ Some d → x ≡ d
+    same x d e = cc
 
 abbrev pub entries_end : ℕ → List Entry → ℕ
 entries_end lo [] = lo

@@ -43,6 +43,7 @@ pub record AreNamed (lists : List (Vec (Run Bool))) (kept : List RangedEntry) (b
   pub units : All (IsUnit 5) tables
   pub sound : All (λ b. is_list_table b ≡ true) tables
   pub each : (r : RangedEntry) → Contains kept r → IsNamed lists tables names kept r r.index
+  pub unbased : (e : ℕ) → ((r : RangedEntry) → Contains kept r → r.own ≡ e → r.index ≡ None) → new_list_offset names e 0x74 ≡ None
 
 contains_map : (kept : List RangedEntry) (r : RangedEntry) → Contains kept r → Contains (map named_of kept) (named_of r)
 contains_map [] r c = absurd (Contains-nil r c)
@@ -99,6 +100,9 @@ module _ (bs : List (Vec ℕ)) (lists : List (Vec (Run Bool))) (kept : List Rang
     units = w.units;
     sound = w.sound;
     each = λ r c. named_by r c r.index (w.each (named_of r) (contains_map kept r c));
+    unbased = λ e free. w.unbased e (λ n c own.
+        let q = map_contains kept n c in
+        sym (ap (λ (x : NamedList). x.index) q.2) ∙ free q.0 q.1 (ap (λ (x : NamedList). x.own) q.2 ∙ own));
   }
 
 -- the attributes of entries are in their order

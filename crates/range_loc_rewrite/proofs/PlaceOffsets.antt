@@ -1,14 +1,17 @@
 -- Each attribute that names a location list gets an offset in a table that was written, or its unit a base.
 use Rattle.std.proofs.Common.{◌≡◌, ◌+◌, ◌*◌, ◌<◌, ◌==◌, ◌&&◌, ◌||◌, ◌∙◌, [], ℕ, Bool, true, false, List, Option, Some, None, refl, sym, ap, subst}
-use Rattle.std.proofs.Common.{arith, length}
+use Rattle.std.proofs.Common.{arith, length, map}
 use Rattle.std.specs.Prelude.{flat_map, Contains, if◌then◌else◌}
+use Rattle.std.specs.Option.{option_map_or}
 use Rattle.std.specs.Global.{Vec}
+use Rattle.std.proofs.lemmas.Bool.{ne_eqb}
 use Rattle.byteorder.specs.Endian.{little_bytes}
 use Rattle.answer_runs.specs.declared.run.Run.{Run}
+use Rattle.answer_runs.proofs.Ascending.{Ascends}
 use Rattle.table_core.specs.declared.written.ListAt.{ListAt}
 use Rattle.addr_map.specs.declared.span.Span.{Span}
 use Rattle.dw_unit.specs.declared.entry.Attr.{Attr}
-use Rattle.dw_unit.specs.CompUnits.{Entry, Unit, units, attr}
+use Rattle.dw_unit.specs.CompUnits.{Entry, Unit, units, attr, own_entry}
 use Rattle.dw_unit.specs.EntryMoves.{new_list_offset}
 use Rattle.cover_lists.specs.declared.kept_list.KeptList.{KeptList}
 use Rattle.dw_lists.specs.declared.list_kind.ListKind.TheVariants.{Locations}
@@ -17,13 +20,14 @@ use Rattle.dw_lists.specs.Faults.{ListSections}
 use Rattle.dw_lists.specs.Lists.{locations_kind, has_list}
 use Rattle.dw_lists.specs.UnitLists.{own_place}
 use Rattle.list_units.specs.Listing.{AreNamesOf, IsNameOf, ListItem, all_items, list_index}
-use Rattle.list_units.proofs.Zips.{zip_right}
+use Rattle.list_units.proofs.Zips.{zip_left, zip_right}
 use Rattle.list_writer.specs.WrittenLocations.{bounded}
 use Rattle.list_writer.specs.WrittenTables.{AreWritten, IsNamed, StandsAt, bytes_in}
 use Rattle.list_writer.proofs.ListsThere.{list_inside, base_inside}
-use Rattle.range_loc_rewrite.specs.NewOffsets.{GetsOffset, PlacesGetOffsets}
+use Rattle.range_loc_rewrite.specs.NewOffsets.{GetsOffset, PlacesGetOffsets, UsesIndex}
 use Rattle.range_loc_rewrite.proofs.ItemsThere.{IsPlaceName, HasItem, has_item}
-use Rattle.range_loc_rewrite.proofs.PlacesStay.{AreSpelled}
+use Rattle.range_loc_rewrite.proofs.KeptLookups.{all_of, own_unique, place_of, first_there}
+use Rattle.range_loc_rewrite.proofs.PlacesStay.{AreSpelled, is_item}
 use Rattle.range_loc_rewrite.proofs.RangesStay.{found_name}
 use Rattle.range_loc_rewrite.proofs.SoundLists.{AreThere}
 
@@ -31,7 +35,8 @@ module _ (s : ListSections) (fine : (u : Unit) → Contains (units s.units) u �
     AreThere locations_kind s.locations s.units.addr u (flat_map (λ (e : Entry). e.attrs) u.entries))
     (lists : List KeptList) (named : List NamedList) (items : AreNamesOf lists named (all_items s))
     (bs : List (Vec ℕ)) (spans : List Span) (runs : ℕ → List (Run (List (List ℕ)))) (spelled : AreSpelled lists bs spans runs named)
-    (bytes : List ℕ) (names : List ListAt) (w : AreWritten Locations bs named named [] bytes names) where
+    (bytes : List ℕ) (names : List ListAt) (w : AreWritten Locations bs named named [] bytes names)
+    (up : Ascends 0 (map place_of (all_of (units s.units)))) where
   module _ (u : Unit) (uc : Contains (units s.units) u) (e : Entry) (ec : Contains u.entries e) (k : ℕ) (a : Attr)
       (is : attr k e ≡ Some a) (name : IsPlaceName k) where
     -- the name that the attribute's list has
@@ -80,8 +85,31 @@ module _ (s : ListSections) (fine : (u : Unit) → Contains (units s.units) u �
           within = subst (λ (l : List ℕ). x.0 < length l) (sym w.bytes_are) (base_inside w.tables x.0 a.value x.1 x.4 w.units);
         }
 
+  -- a unit that uses no index
+  kept_base : (u : Unit) → Contains (units s.units) u → (d : Entry) → own_entry u ≡ Some d → (UsesIndex locations_kind u → ⊥) →
+      new_list_offset names d.place 0x8c ≡ None
+  kept_base u uc d is none = w.unbased d.place (λ r there own.
+      let x = zip_left (IsNameOf lists) named (all_items s) r items there in
+      let y = is_item s x.0 x.1 in
+      let place : own_place u ≡ d.place = ap (λ (o : Option Entry). option_map_or (λ (e : Entry). e.place) o 0) is in
+      let same : y.u ≡ u = own_unique 0 (units s.units) y.u u y.e d up y.unit y.entry uc (first_there u.entries d is)
+      (sym y.own ∙ sym x.2.own ∙ own ∙ sym place) in
+      x.2.index ∙ y.index ∙ plain y.a (λ form. none (record {
+        e = y.e;
+        entry = subst (λ (v : Unit). Contains v.entries y.e) same y.entry;
+        name = y.name;
+        a = y.a;
+        is = y.is;
+        names = y.naming;
+        form = form;
+      })))
+    where
+      plain : (a : Attr) → (a.form ≡ 0x22 → ⊥) → list_index a ≡ None
+      plain a other = ap (λ (b : Bool). if b then Some a.value else None) (ne_eqb a.form 0x22 other)
+
   pub places_get_offsets : PlacesGetOffsets s.units names bytes
   places_get_offsets = record {
     offsets = λ u uc e ec k a is name form. by_offset u uc e ec k a is name form;
-    bases = λ u uc e ec k a is name form. by_index u uc e ec k a is name form;
+    bases = λ u uc x. by_index u uc x.e x.entry x.name x.a x.is x.names x.form;
+    kept = kept_base;
   }

@@ -52,21 +52,24 @@ use Rattle.list_units.proofs.Zips.{zip_left, zip_right}
 
 -- What an item is of
 
-record IsItem (s : ListSections) (x : ListItem) : Type 0 where
+pub record IsItem (s : ListSections) (x : ListItem) : Type 0 where
   pub u : Unit
   pub unit : Contains (units s.units) u
   pub e : Entry
   pub entry : Contains u.entries e
+  pub name : ℕ
+  pub naming : IsPlaceName name
   pub a : Attr
+  pub is : attr name e ≡ Some a
   pub own : x.own ≡ own_place u
   pub index : x.index ≡ list_index a
   pub list : list_named s u a ≡ Some x.list
 
 module _ (s : ListSections) where
-  item_by : (u : Unit) → Contains (units s.units) u → (e : Entry) → Contains u.entries e → (name : ℕ) (o : Option Attr) (x : ListItem) →
-      Contains (attr_items s u e.place name o) x → IsItem s x
-  item_by u uc e ec name None x c = absurd (Contains-nil x c)
-  item_by u uc e ec name (Some a) x c = by_list (list_named s u a) refl c
+  item_by : (u : Unit) → Contains (units s.units) u → (e : Entry) → Contains u.entries e → (name : ℕ) → IsPlaceName name → (o : Option Attr) →
+      attr name e ≡ o → (x : ListItem) → Contains (attr_items s u e.place name o) x → IsItem s x
+  item_by u uc e ec name naming None is x c = absurd (Contains-nil x c)
+  item_by u uc e ec name naming (Some a) is x c = by_list (list_named s u a) refl c
     where
       by_list : (o : Option (List Located)) → list_named s u a ≡ o → Contains (item_of e.place name (own_place u) (list_index a) o) x →
           IsItem s x
@@ -77,7 +80,10 @@ module _ (s : ListSections) where
             unit = uc;
             e = e;
             entry = ec;
+            name = name;
+            naming = naming;
             a = a;
+            is = is;
             own = sym (ap (λ (y : ListItem). y.own) same);
             index = sym (ap (λ (y : ListItem). y.index) same);
             list = f ∙ ap (λ (y : ListItem). Some y.list) same;
@@ -85,13 +91,13 @@ module _ (s : ListSections) where
           (λ (there : Contains [] x). absurd (Contains-nil x there))
           (Contains-cons_cases (record { place = e.place; attr = name; own = own_place u; index = list_index a; list = ls }) [] x c)
 
-  is_item : (x : ListItem) → Contains (all_items s) x → IsItem s x
+  pub is_item : (x : ListItem) → Contains (all_items s) x → IsItem s x
   is_item x c =
       let p = flat_from (unit_items s) (units s.units) x c in
       let q = flat_from (entry_items s p.0) p.0.entries x p.2 in
       ⊎_elim
-      (λ (here : Contains (attr_items s p.0 q.0.place 0x02 (attr 0x02 q.0)) x). item_by p.0 p.1 q.0 q.1 0x02 (attr 0x02 q.0) x here)
-      (λ (there : Contains (attr_items s p.0 q.0.place 0x40 (attr 0x40 q.0)) x). item_by p.0 p.1 q.0 q.1 0x40 (attr 0x40 q.0) x there)
+      (λ (here : Contains (attr_items s p.0 q.0.place 0x02 (attr 0x02 q.0)) x). item_by p.0 p.1 q.0 q.1 0x02 refl (attr 0x02 q.0) refl x here)
+      (λ (there : Contains (attr_items s p.0 q.0.place 0x40 (attr 0x40 q.0)) x). item_by p.0 p.1 q.0 q.1 0x40 refl (attr 0x40 q.0) refl x there)
       (contains_split (attr_items s p.0 q.0.place 0x02 (attr 0x02 q.0)) (attr_items s p.0 q.0.place 0x40 (attr 0x40 q.0)) x q.2)
 
 -- New values

@@ -3,13 +3,15 @@ use Rattle.std.proofs.Common.{◌≡◌, ◌∙◌, ◌<◌, ◌==◌, ◌&&◌,
 use Rattle.std.proofs.Common.{arith, length, map, ⊎_elim}
 use Rattle.std.specs.Prelude.{Contains, if◌then◌else◌, is_some, option_and_then, option_map}
 use Rattle.std.specs.Global.{Vec}
-use Rattle.std.proofs.lemmas.Bool.{eqb-true}
+use Rattle.std.specs.Option.{option_map_or}
+use Rattle.std.proofs.lemmas.Bool.{eqb-true, ne_eqb}
 use Rattle.rb_bytes.specs.FirstFault.{IsFree}
 use Rattle.answer_runs.specs.declared.range.Range.{Range}
 use Rattle.answer_runs.specs.declared.run.Run.{Run}
+use Rattle.answer_runs.proofs.Ascending.{Ascends}
 use Rattle.table_core.specs.declared.written.ListAt.{ListAt}
 use Rattle.dw_unit.specs.declared.entry.Attr.{Attr}
-use Rattle.dw_unit.specs.CompUnits.{Entry, Unit, units, attr, low_pc}
+use Rattle.dw_unit.specs.CompUnits.{Entry, Unit, units, attr, low_pc, own_entry}
 use Rattle.dw_unit.specs.EntryMoves.{new_list_offset}
 use Rattle.dw_unit.specs.Faults.{HasDwarfFault}
 use Rattle.dw_unit.proofs.SoundEntries.{IsSoundEntry, all_sound}
@@ -29,8 +31,9 @@ use Rattle.list_units.specs.RangeReading.{all_seen}
 use Rattle.list_writer.specs.WrittenRanges.{bounded}
 use Rattle.list_writer.proofs.ListsThere.{list_inside, base_inside}
 use Rattle.list_writer.proofs.PutEntries.{flat_has}
-use Rattle.range_loc_rewrite.specs.NewOffsets.{GetsOffset, RangesGetOffsets}
-use Rattle.range_loc_rewrite.proofs.KeptLookups.{IsFound, kept_entry, no_bounds, sound_at}
+use Rattle.range_loc_rewrite.specs.NewOffsets.{GetsOffset, RangesGetOffsets, UsesIndex}
+use Rattle.range_loc_rewrite.proofs.KeptLookups.{IsFound, all_of, first_there, kept_entry, kept_from, no_bounds}
+use Rattle.range_loc_rewrite.proofs.KeptLookups.{own_unique, place_of, sound_at}
 use Rattle.range_loc_rewrite.proofs.KeptPairs.{all_paired}
 use Rattle.range_loc_rewrite.proofs.NamedRanges.{AreNamed, IsNamed}
 use Rattle.range_loc_rewrite.proofs.RangesStay.{found_name, found_there}
@@ -39,7 +42,7 @@ use Rattle.range_loc_rewrite.proofs.UnitsFree.{units_free}
 
 module _ (s : ListSections) (free : IsFree (HasDwarfFault (range_places s))) (covers : List Cover) (kept : List RangedEntry)
     (seen : (a : ℕ) → seen_kept covers kept a ≡ all_seen s a) (lists : List (Vec (Run Bool))) (bytes : List ℕ) (names : List ListAt)
-    (w : AreNamed lists kept bytes names) where
+    (w : AreNamed lists kept bytes names) (up : Ascends 0 (map place_of (all_of (units s.units)))) where
   module _ (u : Unit) (uc : Contains (units s.units) u) (e : Entry) (ec : Contains u.entries e) where
     sound : IsSoundEntry s.units.addr u e
     sound = sound_at s.units.addr (units s.units) u e (all_sound s.units (units_free s free)) uc ec
@@ -112,11 +115,35 @@ module _ (s : ListSections) (free : IsFree (HasDwarfFault (range_places s))) (co
         ranges_index e.attrs ≡ o
     index_is a is o f = ap (option_and_then (λ (a : Attr). if a.form == 0x23 then Some a.value else None)) is ∙ f
 
+  -- a unit that uses no index
+  kept_base : (u : Unit) → Contains (units s.units) u → (d : Entry) → own_entry u ≡ Some d → (UsesIndex ranges_kind u → ⊥) →
+      new_list_offset names d.place 0x74 ≡ None
+  kept_base u uc d is none = w.unbased d.place (λ r there own.
+      let y = kept_from s covers (units s.units) kept r (all_paired s covers (units s.units) kept seen) there in
+      let place : own_place u ≡ d.place = ap (λ (o : Option Entry). option_map_or (λ (e : Entry). e.place) o 0) is in
+      let same : y.u ≡ u = own_unique 0 (units s.units) y.u u y.e d up y.unit y.there uc (first_there u.entries d is)
+      (sym y.kept_as.own ∙ own ∙ sym place) in
+      y.kept_as.index ∙ plain (attr 0x55 y.e) (λ a named form. none (record {
+        e = y.e;
+        entry = subst (λ (v : Unit). Contains v.entries y.e) same y.there;
+        name = 0x55;
+        a = a;
+        is = named;
+        names = refl;
+        form = form;
+      })))
+    where
+      plain : (o : Option Attr) → ((a : Attr) → o ≡ Some a → a.form ≡ 0x23 → ⊥) →
+          option_and_then (λ (a : Attr). if a.form == 0x23 then Some a.value else None) o ≡ None
+      plain None other = refl
+      plain (Some a) other = ap (λ (b : Bool). if b then Some a.value else None) (ne_eqb a.form 0x23 (other a refl))
+
   pub ranges_get_offsets : RangesGetOffsets s.units names bytes
   ranges_get_offsets = record {
     listed = record {
       offsets = λ u uc e ec k a is name form. offset_of u uc e ec k a is (eqb-true k 0x55 name) form;
-      bases = λ u uc e ec k a is name form. base_of u uc e ec k a is (eqb-true k 0x55 name) form;
+      bases = λ u uc x. base_of u uc x.e x.entry x.name x.a x.is (eqb-true x.name 0x55 x.names) x.form;
+      kept = kept_base;
     };
     ends = λ u uc e ec a is. ends u uc e ec a is;
   }

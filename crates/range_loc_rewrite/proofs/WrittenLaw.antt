@@ -69,6 +69,7 @@ module _ (s : ListSections) (kept : List RangedEntry) (count : ℕ) (index : Cov
 
   pub offsets_of : RangesGetOffsets s.units w.lists.items w.bytes.items
   offsets_of = ranges_get_offsets s are.free index.tree kept are.seen lists w.bytes.items w.lists.items are_written
+      (places_ascend s.units (units_free s are.free))
 
 module _ (i f : Elf) (spans : List Span) (kept : List RangedEntry) (count : ℕ) (index : CoverIndex) (bounds : List ℕ) (weight : ℕ)
     (are : AreKept (list_sections i) kept count index bounds weight) (lists : List (Vec (Run Bool)))

@@ -4,8 +4,8 @@ use Rattle.list_writer.specs.WrittenTables.{IsListed, bytes_in}
 use Rattle.list_writer.proofs.WrittenLists.{list_more}
 use Rattle.list_writer.proofs.list_tables.list_offset.Goals as goal
 
-pub returns : goal.returns
-returns c =
+pub returns-clause-listed : goal.returns-clause-listed
+returns-clause-listed c =
     let lists = c.args.lists.now in
     let old : List ℕ = c.args.body.now.items in
     let new : List ℕ = c.extend_from_slice.new.self.items in

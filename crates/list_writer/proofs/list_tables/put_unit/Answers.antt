@@ -24,5 +24,6 @@ returns c = λ tables lo bound before named up le owned.
     unit_written c.args.kind lists lo bound c.args.own count base c.args.entries.now tables c.args.out.now.items c.put_table.new.out.items
     body indexes c.args.names.now.items
     c.unit_body.new.names.items c.name_base.new.names.items before based c.in_ok-base.ensures.1
-    (subst (λ (n : ℕ). n < 2 ^ 32) c.in_ok-size.ensures.0 c.in_ok-size.ensures.1) put le owned c.in_ok-count.ensures
+    (subst (λ (n : ℕ). n < 2 ^ 32) c.in_ok-size.ensures.0 c.in_ok-size.ensures.1) put le owned c.in_ok-count.ensures.above
+    c.in_ok-count.ensures.used
     c.in_ok-name_base.ensures.some c.in_ok-name_base.ensures.none table

@@ -104,4 +104,4 @@ returns-clause-offsets c =
     subst (λ (x : ListSections). PlacesGetOffsets x.units w.lists.items w.bytes.items) c.self.view_is
     (places_get_offsets s (places_fine s c.self.invariant.free).there t.kept.lists.items t.named.items c.self.invariant.names bs spans
     (said_in rs) (are_spelled s t.kept.lists.items t.named.items c.self.invariant.names spans rs count each bs spelled fits)
-    w.bytes.items w.lists.items written)
+    w.bytes.items w.lists.items written (places_ascend s.units (units_free s (places_fine s c.self.invariant.free).ranges)))
