@@ -18,7 +18,7 @@ fn put_expression(text: &mut Vec<u8>, x: &[u8]) -> Result<(), NoMemory>
     put_bytes(text, x)
 }
 
-fn put_line(text: &mut Vec<u8>, entry: u64, attr: u64, x: &[u8]) -> Result<(), NoMemory>
+fn put_place_line(text: &mut Vec<u8>, entry: u64, attr: u64, x: &[u8]) -> Result<(), NoMemory>
     ensures { OnOk result (text.new.items ≡ text.old.items ++ place_line entry attr x.now) }
 {
     text.extend_from_slice(b"places ")?;
@@ -36,7 +36,7 @@ fn put_place(text: &mut Vec<u8>, place: &PlaceAt) -> Result<(), NoMemory>
     ensures { OnOk result (text.new.items ≡ text.old.items ++ places_lines (place_said place.now)) }
 {
     for x in &place.2 {
-        put_line(text, place.0, place.1, x)?;
+        put_place_line(text, place.0, place.1, x)?;
     }
     Ok(())
 }

@@ -7,11 +7,11 @@ ghost use Rattle.elf_image.specs.declared.elf.Elf.{Elf};
 ghost use Rattle.table_set.specs.AllTables.{AreReadAt};
 ghost use Rattle.table_set.specs.TableFaults.{HasTableFault};
 
-use crate::answers::unwind_at;
 use crate::covers::put_covers;
 use crate::lines::put_line;
 use crate::places::put_places;
 use crate::unwind::put_frame;
+use crate::unwinding::unwind_at;
 use elf_image::Elf;
 use frame_rewrite::FrameAt;
 use line_rewrite::LineAt;

@@ -10,12 +10,14 @@ use frame_rewrite::FrameAt;
 use rb_bytes::fault::NoMemory;
 use rb_bytes::text::put_hex;
 
-fn put_expression(text: &mut Vec<u8>, x: &Expression) -> Result<(), NoMemory>
+// Appends the bytes of an expression, in two digits each.
+fn put_expression_bytes(text: &mut Vec<u8>, x: &Expression) -> Result<(), NoMemory>
     ensures { OnOk result (text.new.items ≡ text.old.items ++ bytes_text x.now) }
 {
     put_bytes(text, &x.bytes)
 }
 
+// Appends how the canonical frame address is found.
 fn put_cfa(text: &mut Vec<u8>, cfa: &Cfa) -> Result<(), NoMemory>
     ensures { OnOk result (text.new.items ≡ text.old.items ++ cfa_text cfa.now) }
 {
@@ -26,12 +28,13 @@ fn put_cfa(text: &mut Vec<u8>, cfa: &Cfa) -> Result<(), NoMemory>
         }
         Cfa::Expr(x) => {
             text.extend_from_slice(b"expr ")?;
-            put_expression(text, x)?;
+            put_expression_bytes(text, x)?;
         }
     }
     Ok(())
 }
 
+// Appends a number with its sign, between two words.
 fn put_between(text: &mut Vec<u8>, before: &[u8], n: i64, after: &[u8]) -> Result<(), NoMemory>
     ensures { OnOk result (text.new.items ≡ text.old.items ++ (before.now ++ offset_text n ++ after.now)) }
 {
@@ -41,6 +44,7 @@ fn put_between(text: &mut Vec<u8>, before: &[u8], n: i64, after: &[u8]) -> Resul
     Ok(())
 }
 
+// Appends the bytes of an expression, between two words.
 fn put_within(
     text: &mut Vec<u8>,
     before: &[u8],
@@ -50,11 +54,12 @@ fn put_within(
     ensures { OnOk result (text.new.items ≡ text.old.items ++ (before.now ++ bytes_text x.now ++ after.now)) }
 {
     text.extend_from_slice(before)?;
-    put_expression(text, x)?;
+    put_expression_bytes(text, x)?;
     text.extend_from_slice(after)?;
     Ok(())
 }
 
+// Appends a word.
 fn put_word(text: &mut Vec<u8>, word: &[u8]) -> Result<(), NoMemory>
     ensures { OnOk result (text.new.items ≡ text.old.items ++ word.now) }
 {
@@ -62,6 +67,7 @@ fn put_word(text: &mut Vec<u8>, word: &[u8]) -> Result<(), NoMemory>
     Ok(())
 }
 
+// Appends how the value that a register had in the caller is found.
 fn put_rule(text: &mut Vec<u8>, rule: &Rule) -> Result<(), NoMemory>
     ensures { OnOk result (text.new.items ≡ text.old.items ++ rule_text rule.now) }
 {
@@ -76,6 +82,7 @@ fn put_rule(text: &mut Vec<u8>, rule: &Rule) -> Result<(), NoMemory>
     }
 }
 
+// Appends a register and its rule, with a space before them.
 fn put_register_rule(text: &mut Vec<u8>, rule: &(u64, Rule)) -> Result<(), NoMemory>
     ensures { OnOk result (text.new.items ≡ text.old.items ++ register_rule rule.now) }
 {
@@ -86,6 +93,7 @@ fn put_register_rule(text: &mut Vec<u8>, rule: &(u64, Rule)) -> Result<(), NoMem
     Ok(())
 }
 
+// Appends registers with their rules, one after another.
 fn put_rules(text: &mut Vec<u8>, rules: &[(u64, Rule)]) -> Result<(), NoMemory>
     ensures { OnOk result (text.new.items ≡ text.old.items ++ flat_map register_rule rules.now) }
 {
@@ -95,7 +103,8 @@ fn put_rules(text: &mut Vec<u8>, rules: &[(u64, Rule)]) -> Result<(), NoMemory>
     Ok(())
 }
 
-fn put_row(text: &mut Vec<u8>, row: &Row, ra: u64) -> Result<(), NoMemory>
+// Appends a row, with the column of the return address.
+fn put_cfi_row(text: &mut Vec<u8>, row: &Row, ra: u64) -> Result<(), NoMemory>
     ensures { OnOk result (text.new.items ≡ text.old.items
         ++ (cfa_text row.now.cfa ++ codes " ra " ++ register_text ra ++ flat_map register_rule row.now.rules)) }
 {
@@ -106,6 +115,7 @@ fn put_row(text: &mut Vec<u8>, row: &Row, ra: u64) -> Result<(), NoMemory>
     Ok(())
 }
 
+// Appends the address of a handler, if there is one. A `*` before it says that the handler's address stands there.
 fn put_handler(text: &mut Vec<u8>, handler: u64, indirect: bool) -> Result<(), NoMemory>
     ensures { OnOk result (text.new.items ≡ text.old.items ++ handler_text handler indirect) }
 {
@@ -118,11 +128,12 @@ fn put_handler(text: &mut Vec<u8>, handler: u64, indirect: bool) -> Result<(), N
     Ok(())
 }
 
+// Appends the line of what a table says.
 fn put_unwind(text: &mut Vec<u8>, x: &FrameAt) -> Result<(), NoMemory>
     ensures { OnOk result (text.new.items ≡ text.old.items ++ unwind_line x.now) }
 {
     text.extend_from_slice(b"unwind cfa ")?;
-    put_row(text, &x.row, x.ra)?;
+    put_cfi_row(text, &x.row, x.ra)?;
     put_handler(text, x.handler, x.indirect)?;
     put_address(text, b" table ", x.table)?;
     put_if(text, x.signal, b" signal")?;

@@ -19,7 +19,7 @@ use Rattle.move_law.specs.Rewrite.{Rewrite, width_at, out, inst_end, HasAt, Goes
 use Rattle.move_law.specs.FaithfulRewrite.{HasInSpan, GetsToNext, KeepsBranch, same, opposite, next, made_anew}
 use Rattle.map_check.specs.internal.OutputCode.{IsOnlyAt, FindsAt}
 use Rattle.map_check.specs.internal.InstRows.{IsChecked, IsInSpan, Leads}
-use Rattle.map_check.specs.declared.rows.Found.{Found}
+use Rattle.map_check.specs.declared.found.Found.{Found}
 use Rattle.map_check.proofs.NamedSpans.{find_some, find_not_none}
 
 pub same_bool : (a b : Bool) → beq a b ≡ true → a ≡ b

@@ -17,7 +17,7 @@ use Rattle.elf_image.specs.memory.Executables.{Executable, executable_read}
 use Rattle.move_law.specs.Rewrite.{Rewrite, width_at, out, inst_end, Goes}
 use Rattle.move_law.specs.FaithfulRewrite.{HasInSpan, GetsToNext, KeepsAction, KeepsCall, GoesOn, goes_on}
 use Rattle.map_check.specs.internal.InstRows.{IsChecked, IsInSpan, calls_to}
-use Rattle.map_check.specs.declared.rows.Found.{Found}
+use Rattle.map_check.specs.declared.found.Found.{Found}
 use Rattle.map_check.proofs.CheckedRows.{new_is, goes_same}
 
 calls_parts : (inst : Inst) (rd from to : ℕ) → calls_to inst rd from to ≡ true →

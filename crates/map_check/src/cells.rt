@@ -18,7 +18,7 @@ ghost use Rattle.map_check.specs.Lacking.{LacksAt};
 ghost use Rattle.map_check.specs.internal.Cells.{HasWidth};
 ghost use Rattle.map_check.specs.internal.InstRows.{IsChecked};
 
-use crate::rows::new_of;
+use crate::found::new_of;
 use addr_map::Span;
 use code_starts::loaded::loaded_number;
 use elf_image::Elf;

@@ -9,9 +9,9 @@ ghost use Rattle.move_law.specs.FaithfulRewrite as faithful;
 ghost use Rattle.code_starts.specs.LoadedMemory.{IsLow};
 ghost use Rattle.map_check.specs.internal.InstRows.{IsChecked, calls_to};
 
+use crate::found::{found_in_span, gets_to, keeps_branch, new_of};
 use crate::others::keeps_other;
 use crate::output::{goes, width_at};
-use crate::rows::{found_in_span, gets_to, keeps_branch, new_of};
 use addr_map::Span;
 use elf_image::Elf;
 use rv_code::flow::{is_branch, is_plain_jump, moved_by};

@@ -10,7 +10,7 @@ ghost use Rattle.move_law.specs.FaithfulRewrite.{HasInSpan, made_anew};
 ghost use Rattle.code_starts.specs.LoadedMemory.{IsLow};
 ghost use Rattle.map_check.specs.internal.InstRows.{IsChecked};
 
-use crate::rows::{found_in_span, new_of};
+use crate::found::{found_in_span, new_of};
 use addr_map::Span;
 use elf_image::Elf;
 use move_law::with_immediate;

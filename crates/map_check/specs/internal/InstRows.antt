@@ -19,7 +19,7 @@ use Rattle.move_law.specs.FaithfulRewrite.{GoesOn, HasInSpan, KeepsInst, GetsToN
 use Rattle.map_check.specs.Lacking.{LacksAt}
 use Rattle.map_check.specs.declared.insts.Demand.{Demand}
 use Rattle.map_check.specs.declared.insts.Demand.TheVariants.{Kept, Followed}
-use Rattle.map_check.specs.declared.rows.Found.{Found}
+use Rattle.map_check.specs.declared.found.Found.{Found}
 
 -- the output that was read, and the spans in the order of their inputs, each input once
 pub record IsChecked (r : Rewrite) (output : Elf) (table : List Span) : Type 0 where

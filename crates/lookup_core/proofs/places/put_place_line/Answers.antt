@@ -1,6 +1,6 @@
 use Rattle.std.proofs.Common.{arith}
 use Rattle.std.proofs.lemmas.Grind.{common_steps}
-use Rattle.lookup_core.proofs.places.put_line.Goals as goal
+use Rattle.lookup_core.proofs.places.put_place_line.Goals as goal
 
 pub returns : goal.returns
 returns c = grind (arith, common_steps)

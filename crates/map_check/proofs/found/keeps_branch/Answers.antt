@@ -5,7 +5,7 @@ use Rattle.rv_code.specs.isa.TwosComplement.{unsigned64}
 use Rattle.rv_code.specs.machine.Machine.{plus}
 use Rattle.map_check.specs.internal.InstRows.{Leads}
 use Rattle.map_check.proofs.CheckedRows.{same_sense, other_sense, other_inst, no_branch, same_bool, other_bool}
-use Rattle.map_check.proofs.rows.keeps_branch.Goals as goal
+use Rattle.map_check.proofs.found.keeps_branch.Goals as goal
 
 pub returns-then-same-wanted : goal.returns-then-same-wanted
 returns-then-same-wanted c = λ r ch nx.
