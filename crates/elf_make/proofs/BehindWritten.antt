@@ -1,5 +1,5 @@
 -- A file that was made has the bytes behind the executable segment that a segment names and doesn't load.
-use Rattle.std.proofs.Common.{◌≡◌, ◌∙◌, sym, ap, subst, refl, ℕ, zero, suc, ◌+◌, ◌-◌, ◌*◌, ◌≤◌, ◌<◌, ◌⊎◌, inl, inr, List}
+use Rattle.std.proofs.Common.{◌≡◌, ◌∙◌, sym, ap, subst, refl, ℕ, zero, suc, ◌+◌, ◌*◌, ◌≤◌, ◌<◌, ◌⊎◌, inl, inr, List}
 use Rattle.std.proofs.Common.{Bool, true, false, length, map, get_or, arith}
 use Rattle.std.specs.Prelude.{All, Contains, nat_lt}
 use Rattle.std.specs.List.{list_any}
@@ -84,8 +84,8 @@ module _ (s : Source) (tight : Bool) (w : List ℕ) (read : IsElfOf s.elf.file.n
 
     fields-beside : All (IsBeside at) (map patch_of (header_numbers made.fields))
     fields-beside zero e below = field-is_beside 0x18 8 made.fields.entry (omega arith)
-    fields-beside (suc zero) e below = field-is_beside 0x20 8 made.fields.segments_at (omega arith)
-    fields-beside (suc (suc zero)) e below = field-is_beside 0x28 8 made.fields.sections_at (omega arith)
+    fields-beside (suc zero) e below = field-is_beside 0x20 8 made.fields.program_headers_at (omega arith)
+    fields-beside (suc (suc zero)) e below = field-is_beside 0x28 8 made.fields.section_headers_at (omega arith)
     fields-beside (suc (suc (suc zero))) e below = field-is_beside 0x38 2 made.fields.segments (omega arith)
     fields-beside (suc (suc (suc (suc zero)))) e below = field-is_beside 0x3c 2 made.fields.sections (omega arith)
     fields-beside (suc (suc (suc (suc (suc zero))))) e below = field-is_beside 0x3e 2 made.fields.names (omega arith)

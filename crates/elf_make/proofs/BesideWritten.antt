@@ -48,7 +48,7 @@ module _ (s : Source) (tight : Bool) (w : List ℕ) (read : IsElfOf s.elf.file.n
 
   -- the written table, which stands in its place
   abbrev pub table_patch : Patch
-  table_patch = record { offset = made.table_at; bytes = segment_table made.segments }
+  table_patch = record { offset = made.program_headers_at; bytes = segment_table made.segments }
 
   -- A byte of the input, and where it goes.
   module _ (k at : ℕ) (goes : at ≡ moved_by from step k) where
@@ -101,7 +101,7 @@ module _ (s : Source) (tight : Bool) (w : List ℕ) (read : IsElfOf s.elf.file.n
     field-beside o n v (inr behind) = let long = length-bytes_low_first 0 n v in inr (omega (arith, long, behind))
 
     -- A table that stands where the input's went has as many headers.
-    pub table-beside : made.layout.area.tight ≡ false → made.table_at ≡ moved_by from step s.elf.phoff →
+    pub table-beside : made.layout.area.tight ≡ false → made.program_headers_at ≡ moved_by from step s.elf.phoff →
         (k < s.elf.phoff) ⊎ (s.elf.phoff + table_size ≤ k) → IsBeside at table_patch
     table-beside not_tight stands apart = cases (moved-beside s.elf.phoff table_size apart)
       where

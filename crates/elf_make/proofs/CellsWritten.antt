@@ -123,8 +123,8 @@ module _ (s : Source) (tight : Bool) (w : List ℕ) (read : IsElfOf s.elf.file.n
     table-size = length-segment_table made.segments
 
     -- beside the table in a file with a new segment, where it stands behind all that is loaded
-    beside-above : tight ≡ true → (made.table_at + length (segment_table made.segments) ≤ (put_number i).offset)
-        ⊎ ((put_number i).offset + (put_number i).width ≤ made.table_at)
+    beside-above : tight ≡ true → (made.program_headers_at + length (segment_table made.segments) ≤ (put_number i).offset)
+        ⊎ ((put_number i).offset + (put_number i).width ≤ made.program_headers_at)
     beside-above e =
         let stays : (put_number i).offset ≡ at =
         moved_at ∙ moved-none made.layout.shift.from made.layout.shift.by at (by-tight s tight w read sound made e) in
@@ -133,16 +133,16 @@ module _ (s : Source) (tight : Bool) (w : List ℕ) (read : IsElfOf s.elf.file.n
         let unit = align-above s.elf.segments.items in
         let above =
         rounded_up-above (greatest_align s.elf.segments.items) (loads_end s.elf.segments.items) (omega (arith, unit)) in
-        let offset : made.table_at ≡ made.layout.area.offset = made.table_place.above (tight-is s tight w read sound made ∙ e) in
+        let offset : made.program_headers_at ≡ made.layout.area.offset = made.table_place.above (tight-is s tight w read sound made ∙ e) in
         let from = offset-tight s tight w read sound made e in
         inr (omega (arith, stays, width, in_file, ends, offset, from, above))
 
     -- where it stays or moves with the bytes beside it, and where it is added behind all others
     beside-behind : tight ≡ false → (b : Bool) → is_kept_table s.elf made.layout.shift ≡ b →
-        (made.table_at + length (segment_table made.segments) ≤ (put_number i).offset)
-        ⊎ ((put_number i).offset + (put_number i).width ≤ made.table_at)
+        (made.program_headers_at + length (segment_table made.segments) ≤ (put_number i).offset)
+        ⊎ ((put_number i).offset + (put_number i).width ≤ made.program_headers_at)
     beside-behind e false kept =
-        let high : size_of made.layout.parts ≤ made.table_at =
+        let high : size_of made.layout.parts ≤ made.program_headers_at =
         made.table_place.added (tight-is s tight w read sound made ∙ e) kept in
         let from : at + wide_by ≤ segment.offset + segment.filesz = in_file in
         let within : moved_by made.layout.parts.keep made.layout.shift.by at + wide_by ≤ size_of made.layout.parts =
@@ -157,7 +157,7 @@ module _ (s : Source) (tight : Bool) (w : List ℕ) (read : IsElfOf s.elf.file.n
         not_tight : made.layout.area.tight ≡ false
         not_tight = tight-is s tight w read sound made ∙ e
 
-        where_at : made.table_at ≡ moved_by made.layout.shift.from made.layout.shift.by s.elf.phoff
+        where_at : made.program_headers_at ≡ moved_by made.layout.shift.from made.layout.shift.by s.elf.phoff
         where_at = made.table_place.kept not_tight kept
 
         long : length (segment_table made.segments) ≡ PHDR_SIZE * length s.elf.segments.items
@@ -165,8 +165,8 @@ module _ (s : Source) (tight : Bool) (w : List ℕ) (read : IsElfOf s.elf.file.n
             ∙ ap (λ (n : ℕ). PHDR_SIZE * n) made.are_headers.are.count
 
         cases : (at + wide_by ≤ s.elf.phoff) ⊎ (s.elf.phoff + PHDR_SIZE * length s.elf.segments.items ≤ at) →
-            (made.table_at + length (segment_table made.segments) ≤ (put_number i).offset)
-            ⊎ ((put_number i).offset + (put_number i).width ≤ made.table_at)
+            (made.program_headers_at + length (segment_table made.segments) ≤ (put_number i).offset)
+            ⊎ ((put_number i).offset + (put_number i).width ≤ made.program_headers_at)
         cases (inl before) =
             let more = moved-more made.layout.shift.from made.layout.shift.by s.elf.phoff at wide_by before in
             inr (omega (arith, more, moved_at, where_at, width))
@@ -175,8 +175,8 @@ module _ (s : Source) (tight : Bool) (w : List ℕ) (read : IsElfOf s.elf.file.n
             (PHDR_SIZE * length s.elf.segments.items) behind in
             inl (omega (arith, more, moved_at, where_at, long))
 
-    beside-table : (b : Bool) → tight ≡ b → (made.table_at + length (segment_table made.segments) ≤ (put_number i).offset)
-        ⊎ ((put_number i).offset + (put_number i).width ≤ made.table_at)
+    beside-table : (b : Bool) → tight ≡ b → (made.program_headers_at + length (segment_table made.segments) ≤ (put_number i).offset)
+        ⊎ ((put_number i).offset + (put_number i).width ≤ made.program_headers_at)
     beside-table true e = beside-above e
     beside-table false e = beside-behind e (is_kept_table s.elf made.layout.shift) refl
 

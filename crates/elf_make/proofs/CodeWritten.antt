@@ -163,7 +163,7 @@ module _ (s : Source) (tight : Bool) (w : List ℕ) (read : IsElfOf s.elf.file.n
   table-size : length (segment_table made.segments) ≡ PHDR_SIZE * length made.segments
   table-size = length-segment_table made.segments
 
-  table-above : tight ≡ true → IsBesideArea made.table_at (length (segment_table made.segments))
+  table-above : tight ≡ true → IsBesideArea made.program_headers_at (length (segment_table made.segments))
   table-above e =
       let at = made.table_place.above (tight-is s tight w read sound made ∙ e) in
       let count = count-more s tight w made e in
@@ -179,7 +179,7 @@ module _ (s : Source) (tight : Bool) (w : List ℕ) (read : IsElfOf s.elf.file.n
 
   table-kept : (e : tight ≡ false) → (b : Bool) → is_kept_table s.elf made.layout.shift ≡ b →
       (s.elf.phoff < made.layout.shift.from) ⊎ (made.layout.shift.from ≤ s.elf.phoff) →
-      IsBesideArea made.table_at (length (segment_table made.segments))
+      IsBesideArea made.program_headers_at (length (segment_table made.segments))
   table-kept e false kept order =
       let added = made.table_place.added (tight-is s tight w read sound made ∙ e) kept in
       let past = behind in
@@ -197,7 +197,7 @@ module _ (s : Source) (tight : Bool) (w : List ℕ) (read : IsElfOf s.elf.file.n
       let found : list_any (loads_range (table_of s.elf)) ps ≡ true = ap (λ (b : Bool). b
       || list_any (loads_range (table_of s.elf)) ps) (sym (le-ltb s.elf.phoff made.layout.shift.from beyond)) ∙ kept in
       let any : Any (λ p. loads_range (table_of s.elf) p ≡ true) ps = Any-from_list_any (loads_range (table_of s.elf)) ps found in
-      let at : made.table_at ≡ moved_by made.layout.shift.from made.layout.shift.by s.elf.phoff =
+      let at : made.program_headers_at ≡ moved_by made.layout.shift.from made.layout.shift.by s.elf.phoff =
       made.table_place.kept (tight-is s tight w read sound made ∙ e) kept in
       let long : length (segment_table made.segments) ≡ PHDR_SIZE * length ps =
       table-size ∙ ap (λ (n : ℕ). PHDR_SIZE * n) (sym (count-same s tight w read sound made placed e)) in
@@ -207,10 +207,10 @@ module _ (s : Source) (tight : Bool) (w : List ℕ) (read : IsElfOf s.elf.file.n
       (loaded-beside any.1 s.elf.phoff (PHDR_SIZE * length ps) (any.0, any.2, any.3) (omega (arith, code))
       (loads-range s.elf.phoff (PHDR_SIZE * length ps) any.1 any.4)))
 
-  table-beside : IsBesideArea made.table_at (length (segment_table made.segments))
+  table-beside : IsBesideArea made.program_headers_at (length (segment_table made.segments))
   table-beside = cases tight refl
     where
-      cases : (b : Bool) → tight ≡ b → IsBesideArea made.table_at (length (segment_table made.segments))
+      cases : (b : Bool) → tight ≡ b → IsBesideArea made.program_headers_at (length (segment_table made.segments))
       cases true e = table-above e
       cases false e = table-kept e (is_kept_table s.elf made.layout.shift) refl (cases_lt s.elf.phoff made.layout.shift.from)
 

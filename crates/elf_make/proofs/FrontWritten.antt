@@ -115,8 +115,8 @@ module _ (s : Source) (tight : Bool) (w : List ℕ) (read : IsElfOf s.elf.file.n
 
     fields-beside : All (IsBeside k) (map patch_of (header_numbers made.fields))
     fields-beside zero e below = field-is_beside 0x18 8 made.fields.entry (out 0 (omega arith))
-    fields-beside (suc zero) e below = field-is_beside 0x20 8 made.fields.segments_at (out 1 (omega arith))
-    fields-beside (suc (suc zero)) e below = field-is_beside 0x28 8 made.fields.sections_at (out 3 (omega arith))
+    fields-beside (suc zero) e below = field-is_beside 0x20 8 made.fields.program_headers_at (out 1 (omega arith))
+    fields-beside (suc (suc zero)) e below = field-is_beside 0x28 8 made.fields.section_headers_at (out 3 (omega arith))
     fields-beside (suc (suc (suc zero))) e below = field-is_beside 0x38 2 made.fields.segments (out 2 (omega arith))
     fields-beside (suc (suc (suc (suc zero)))) e below = field-is_beside 0x3c 2 made.fields.sections (out 4 (omega arith))
     fields-beside (suc (suc (suc (suc (suc zero))))) e below = field-is_beside 0x3e 2 made.fields.names (out 5 (omega arith))
@@ -129,7 +129,7 @@ module _ (s : Source) (tight : Bool) (w : List ℕ) (read : IsElfOf s.elf.file.n
     table-is_beside : IsBeside k (table_patch s tight w read sound bytes made)
     table-is_beside = cases tight refl front beside
       where
-        above : tight ≡ true → k < loads_end s.elf.segments.items → k < made.table_at
+        above : tight ≡ true → k < loads_end s.elf.segments.items → k < made.program_headers_at
         above e below =
             let at = made.table_place.above (tight-is s tight w read sound made ∙ e) in
             let offset = offset-tight s tight w read sound made e in

@@ -230,17 +230,17 @@ module _ (s : Source) (tight : Bool) (w : List ℕ) (read : IsElfOf s.elf.file.n
         (λ from below. absurd (unchanged (changed-e_entry s tight p k (input-once s tight w read sound made) (λ q there_q in_q.
         file-once s tight w read sound made k p q there there_q in_file in_q) there in_file in_memory from below)))
 
-    place-left : IsLeft (patch_of (number 0x20 8 made.fields.segments_at))
-    place-left = field-left 0x20 8 made.fields.segments_at (omega arith)
+    place-left : IsLeft (patch_of (number 0x20 8 made.fields.program_headers_at))
+    place-left = field-left 0x20 8 made.fields.program_headers_at (omega arith)
         (λ from below. cases from below (tight || nat_le (executable_end ps) s.elf.phoff) refl)
       where
         cases : 0x20 ≤ k → k < 0x28 → (b : Bool) → (tight || nat_le (executable_end ps) s.elf.phoff) ≡ b →
-            get_or (little_bytes 8 made.fields.segments_at) (k - 0x20) 0 ≡ get_or file k 0
+            get_or (little_bytes 8 made.fields.program_headers_at) (k - 0x20) 0 ≡ get_or file k 0
         cases from below true moves = absurd (shown (hides-e_phoff s.elf tight k from below moves))
-        cases from below false stays = same-number 0x20 8 made.fields.segments_at (made.segments_at
+        cases from below false stays = same-number 0x20 8 made.fields.program_headers_at (made.place
             ∙ kept-place (or_parts tight (nat_le (executable_end ps) s.elf.phoff) stays) ∙ read.phoff) from below
           where
-            kept-place : (tight ≡ false) × (nat_le (executable_end ps) s.elf.phoff ≡ false) → made.table_at ≡ s.elf.phoff
+            kept-place : (tight ≡ false) × (nat_le (executable_end ps) s.elf.phoff ≡ false) → made.program_headers_at ≡ s.elf.phoff
             kept-place both =
                 let before : s.elf.phoff < executable_end ps = leb-false (executable_end ps) s.elf.phoff both.1 in
                 let end : executable_end ps ≡ made.layout.shift.from = end-is in
@@ -266,7 +266,7 @@ module _ (s : Source) (tight : Bool) (w : List ℕ) (read : IsElfOf s.elf.file.n
     fields-left : All IsLeft (map patch_of (header_numbers made.fields))
     fields-left zero e below = entry-left
     fields-left (suc zero) e below = place-left
-    fields-left (suc (suc zero)) e below = field-left 0x28 8 made.fields.sections_at (omega arith)
+    fields-left (suc (suc zero)) e below = field-left 0x28 8 made.fields.section_headers_at (omega arith)
         (λ from under. absurd (shown (hides-e_shoff s.elf tight k from under)))
     fields-left (suc (suc (suc zero))) e below = count-left
     fields-left (suc (suc (suc (suc zero)))) e below = field-left 0x3c 2 made.fields.sections (omega arith)
@@ -279,31 +279,31 @@ module _ (s : Source) (tight : Bool) (w : List ℕ) (read : IsElfOf s.elf.file.n
     some_bytes : 0 < p.filesz
     some_bytes = let from = in_file.1 in let below = in_file.2 in omega (arith, from, below)
 
-    table-left : IsLeft (record { offset = made.table_at; bytes = segment_table made.segments })
+    table-left : IsLeft (record { offset = made.program_headers_at; bytes = segment_table made.segments })
     table-left = cases tight refl
       where
-        above : tight ≡ true → IsLeft (record { offset = made.table_at; bytes = segment_table made.segments })
+        above : tight ≡ true → IsLeft (record { offset = made.program_headers_at; bytes = segment_table made.segments })
         above e =
             let stays : moved_by keep step k ≡ k = moved-none keep step k (by-tight s tight w read sound made e) in
             let ends : p.offset + p.filesz ≤ loads_end ps = ends-below ps p there in_file.0 some_bytes in
             let unit = align-above ps in
             let up = rounded_up-above (greatest_align ps) (loads_end ps) (omega (arith, unit)) in
-            let offset : made.table_at ≡ made.layout.area.offset =
+            let offset : made.program_headers_at ≡ made.layout.area.offset =
             made.table_place.above (tight-is s tight w read sound made ∙ e) in
             let from = offset-tight s tight w read sound made e in
             let inside : k < p.offset + p.filesz = in_file.2 in
-            leaves-elsewhere made.table_at (moved_by keep step k) (get_or file k 0) (segment_table made.segments)
+            leaves-elsewhere made.program_headers_at (moved_by keep step k) (get_or file k 0) (segment_table made.segments)
             (omega (arith, stays, ends, offset, from, up, inside))
 
         behind : tight ≡ false → (b : Bool) → is_kept_table s.elf made.layout.shift ≡ b →
-            IsLeft (record { offset = made.table_at; bytes = segment_table made.segments })
+            IsLeft (record { offset = made.program_headers_at; bytes = segment_table made.segments })
         behind e false added =
-            let high : size_of parts ≤ made.table_at = made.table_place.added (tight-is s tight w read sound made ∙ e) added in
+            let high : size_of parts ≤ made.program_headers_at = made.table_place.added (tight-is s tight w read sound made ∙ e) added in
             let inside : k < p.offset + p.filesz = in_file.2 in
             let within : moved_by keep step k + 1 ≤ size_of parts =
             stretch-within parts ps step (length file) (length made.layout.bytes.items) parts-fit made.laid_out.can p k 1 there
             in_file.0 (omega arith) in_file.1 (omega arith) in
-            leaves-elsewhere made.table_at (moved_by keep step k) (get_or file k 0) (segment_table made.segments)
+            leaves-elsewhere made.program_headers_at (moved_by keep step k) (get_or file k 0) (segment_table made.segments)
             (omega (arith, high, within))
         behind e true stays = subst IsLeft (sym same) (subst (λ (o : ℕ). Leaves o (get_or file k 0) (record {
           offset = moved_by made.layout.shift.from step s.elf.phoff;
@@ -328,26 +328,26 @@ module _ (s : Source) (tight : Bool) (w : List ℕ) (read : IsElfOf s.elf.file.n
                 (low-bytes file bytes) (sym end-is) header-read are table-apart refl
                 (λ hides. shown (subst (λ (t : Bool). list_any (is_in_range k) (hidden_fields s.elf t) ≡ true) (sym e) hides))
 
-            at : made.table_at ≡ moved_by made.layout.shift.from step s.elf.phoff
+            at : made.program_headers_at ≡ moved_by made.layout.shift.from step s.elf.phoff
             at = made.table_place.kept not_tight stays
 
             table : segment_table made.segments ≡ segment_table made.are_headers.renewed
             table = ap segment_table (made.are_headers.kept not_tight)
 
-            same : ◌≡◌ {A = Patch} (record { offset = made.table_at; bytes = segment_table made.segments }) (record {
+            same : ◌≡◌ {A = Patch} (record { offset = made.program_headers_at; bytes = segment_table made.segments }) (record {
               offset = moved_by made.layout.shift.from step s.elf.phoff;
               bytes = segment_table made.are_headers.renewed;
             })
             same = λ i. record { offset = at i; bytes = table i }
 
-        cases : (b : Bool) → tight ≡ b → IsLeft (record { offset = made.table_at; bytes = segment_table made.segments })
+        cases : (b : Bool) → tight ≡ b → IsLeft (record { offset = made.program_headers_at; bytes = segment_table made.segments })
         cases true e = above e
         cases false e = behind e (is_kept_table s.elf made.layout.shift) refl
 
     pub all-left : All IsLeft patches
     all-left =
         All-append IsLeft (map patch_of made.cells) (headers s tight w made) cells-left
-        (All-cons IsLeft (record { offset = made.table_at; bytes = segment_table made.segments })
+        (All-cons IsLeft (record { offset = made.program_headers_at; bytes = segment_table made.segments })
         (map patch_of (header_numbers made.fields)) table-left fields-left)
 
   -- the whole memory

@@ -85,7 +85,7 @@ module _ (s : Source) (tight : Bool) (w : List ℕ) (made : IsMade s tight w) wh
   with_cells = put_all joined (map patch_of made.cells)
 
   abbrev pub headers : List Patch
-  headers = header_patches made.table_at (segment_table made.segments) (header_numbers made.fields)
+  headers = header_patches made.program_headers_at (segment_table made.segments) (header_numbers made.fields)
 
   pub written-is : w ≡ put_all with_cells headers
   written-is = made.put.assembled.is
@@ -146,10 +146,10 @@ module _ (s : Source) (tight : Bool) (w : List ℕ) (made : IsMade s tight w) wh
       < 256 ^ (get_or (header_numbers made.fields) k (number 0 0 0)).width
   field-fits k below = (made.put.fields_fit k (number 0 0 0) below).fits
 
-  puts-table : PutsTable headers made.table_at made.segments
+  puts-table : PutsTable headers made.program_headers_at made.segments
   puts-table = record {
-    place = subst (PutsNumber headers 0x20 8) made.segments_at (2, omega arith, refl);
-    place_fits = subst (λ (n : ℕ). n < 256 ^ 8) made.segments_at (field-fits 1 (omega arith));
+    place = subst (PutsNumber headers 0x20 8) made.place (2, omega arith, refl);
+    place_fits = subst (λ (n : ℕ). n < 256 ^ 8) made.place (field-fits 1 (omega arith));
     count = subst (PutsNumber headers 0x38 2) made.count (4, omega arith, refl);
     count_fits = subst (λ (n : ℕ). n < 256 ^ 2) made.count (field-fits 3 (omega arith));
     fits = made.put.fit;
@@ -159,10 +159,10 @@ module _ (s : Source) (tight : Bool) (w : List ℕ) (made : IsMade s tight w) wh
   -- the program headers
   pub segments-written : segments_of w ≡ made.segments
   segments-written = ap segments_of written-is
-      ∙ segments_of-put_all headers with_cells made.table_at made.segments headers-within headers-apart puts-table
+      ∙ segments_of-put_all headers with_cells made.program_headers_at made.segments headers-within headers-apart puts-table
 
-  pub e_phoff-written : e_phoff w ≡ made.table_at
-  e_phoff-written = ap e_phoff written-is ∙ number_at-put_all headers with_cells 0x20 8 made.table_at headers-within headers-apart
+  pub e_phoff-written : e_phoff w ≡ made.program_headers_at
+  e_phoff-written = ap e_phoff written-is ∙ number_at-put_all headers with_cells 0x20 8 made.program_headers_at headers-within headers-apart
       puts-table.place puts-table.place_fits
 
   pub e_phnum-written : e_phnum w ≡ length made.segments

@@ -273,7 +273,7 @@ module _ (s : Source) (tight : Bool) (w : List ℕ) (read : IsElfOf s.elf.file.n
             omega (arith, enough, below, low)
 
     -- where it stands
-    stands : StandsAlike from by area_end s.elf.phoff table_size ps made.are_headers.renewed made.table_at
+    stands : StandsAlike from by area_end s.elf.phoff table_size ps made.are_headers.renewed made.program_headers_at
     stands = cases (is_kept_table s.elf made.layout.shift) refl (cases_lt s.elf.phoff from)
       where
         or-true : (a b : Bool) → b ≡ true → (a || b) ≡ true
@@ -287,7 +287,7 @@ module _ (s : Source) (tight : Bool) (w : List ℕ) (read : IsElfOf s.elf.file.n
             absurd (cc)
 
         cases : (b : Bool) → is_kept_table s.elf made.layout.shift ≡ b → (s.elf.phoff < from) ⊎ (from ≤ s.elf.phoff) →
-            StandsAlike from by area_end s.elf.phoff table_size ps made.are_headers.renewed made.table_at
+            StandsAlike from by area_end s.elf.phoff table_size ps made.are_headers.renewed made.program_headers_at
         cases true kept (inl low) =
             subst (StandsAlike from by area_end s.elf.phoff table_size ps made.are_headers.renewed)
             (sym (made.table_place.kept not_tight kept ∙ moved-before from by s.elf.phoff low))
@@ -299,19 +299,19 @@ module _ (s : Source) (tight : Bool) (w : List ℕ) (read : IsElfOf s.elf.file.n
             (sym (made.table_place.kept not_tight kept ∙ moved-behind from by s.elf.phoff behind))
             (moves behind (table-behind behind found))
         cases false kept order =
-            unloaded made.table_at
+            unloaded made.program_headers_at
             (λ k d below loads. never (list_any_at (loads_range (table_of s.elf)) ps k d below
             (range-loads s.elf.phoff table_size (get_or ps k d) loads)) kept)
             (λ k d below loads.
-            let high : size_of made.layout.parts ≤ made.table_at = made.table_place.added not_tight kept in
-            let ends = ends-before k d below made.table_at table_size some_headers loads in
+            let high : size_of made.layout.parts ≤ made.program_headers_at = made.table_place.added not_tight kept in
+            let ends = ends-before k d below made.program_headers_at table_size some_headers loads in
             let past = loads.in_file in
             let some = some_headers in
             absurd (omega (arith, high, ends, past, some)))
 
     pub table-written : table_address s.elf.file.now ≡ table_address w
     table-written = before ∙ sym (address-kept from by area.end area_end s.elf.phoff table_size area.tight
-        (grows_at area.tight made.layout.code) ps made.are_headers.renewed made.table_at some_headers made.are_headers.are
+        (grows_at area.tight made.layout.code) ps made.are_headers.renewed made.program_headers_at some_headers made.are_headers.are
         (λ k d below load. apart k d below) (λ k d below is. grows k d below is) stands) ∙ sym after
       where
         before : table_address s.elf.file.now ≡ range_address s.elf.phoff table_size ps
@@ -320,12 +320,12 @@ module _ (s : Source) (tight : Bool) (w : List ℕ) (read : IsElfOf s.elf.file.n
             ∙ ap (λ (n : ℕ). range_address s.elf.phoff (PHDR_SIZE * n) (segments_of s.elf.file.now)) count-is
             ∙ ap (λ (xs : List Segment). range_address s.elf.phoff table_size xs) (ps-is s tight w read sound made)
 
-        after : table_address w ≡ range_address made.table_at table_size made.are_headers.renewed
+        after : table_address w ≡ range_address made.program_headers_at table_size made.are_headers.renewed
         after =
             ap (λ (o : ℕ). range_address o (PHDR_SIZE * e_phnum w) (segments_of w)) (e_phoff-written s tight w made)
-            ∙ ap (λ (n : ℕ). range_address made.table_at (PHDR_SIZE * n) (segments_of w))
+            ∙ ap (λ (n : ℕ). range_address made.program_headers_at (PHDR_SIZE * n) (segments_of w))
             (e_phnum-written s tight w made ∙ sym count-same)
-            ∙ ap (λ (xs : List Segment). range_address made.table_at table_size xs)
+            ∙ ap (λ (xs : List Segment). range_address made.program_headers_at table_size xs)
             (segments-written s tight w made ∙ headers-are)
 
   pub places-written : KeepsPlaces s.elf tight w

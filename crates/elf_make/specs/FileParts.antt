@@ -49,18 +49,18 @@ number offset width value = record { offset = offset; width = width; value = val
 -- The fields of the file's header, as numbers at their places. gABI, "ELF Header".
 abbrev pub header_numbers : HeaderFields → List NumberAt
 header_numbers fields =
-    number 0x18 8 fields.entry ∷ number 0x20 8 fields.segments_at ∷ number 0x28 8 fields.sections_at
+    number 0x18 8 fields.entry ∷ number 0x20 8 fields.program_headers_at ∷ number 0x28 8 fields.section_headers_at
     ∷ number 0x38 2 fields.segments ∷ number 0x3c 2 fields.sections ∷ number 0x3e 2 fields.names ∷ []
 
 -- The parts and a tail, with code cells, the table of program headers and fields of the file's header put
 -- over their bytes. All lie within the file.
 pub record IsPut (layout : Layout) (input tail : List ℕ) (cells : List NumberAt) (segments : List Segment)
-    (fields : List NumberAt) (table_at : ℕ) (w : List ℕ) : Type 0 where
+    (fields : List NumberAt) (program_headers_at : ℕ) (w : List ℕ) : Type 0 where
   pub fit : All SegmentFits segments
   pub cells_fit : All (CanPut (size_of layout.parts + length tail)) cells
   pub fields_fit : All (CanPut (size_of layout.parts + length tail)) fields
-  pub table_fits : table_at + length (segment_table segments) ≤ size_of layout.parts + length tail
-  pub assembled : IsAssembled layout.parts input layout.bytes.items tail cells table_at
+  pub table_fits : program_headers_at + length (segment_table segments) ≤ size_of layout.parts + length tail
+  pub assembled : IsAssembled layout.parts input layout.bytes.items tail cells program_headers_at
       (segment_table segments) fields w
 
 -- All of it.
@@ -74,14 +74,14 @@ pub record IsMade (s : Source) (tight : Bool) (w : List ℕ) : Type 0 where
   pub segments : List Segment
   pub are_headers : AreNewHeaders layout.shift.from layout.shift.by layout.area layout.code s.elf.segments.items
       segments
-  pub table_at : ℕ
-  pub table_place : IsTablePlace s.elf layout.area layout.shift (size_of layout.parts) table_at
+  pub program_headers_at : ℕ
+  pub table_place : IsTablePlace s.elf layout.area layout.shift (size_of layout.parts) program_headers_at
   -- the fields of the file's header
   pub fields : HeaderFields
   pub entry : moved s.spans s.elf.entry ≡ Some fields.entry
-  pub segments_at : fields.segments_at ≡ table_at
+  pub place : fields.program_headers_at ≡ program_headers_at
   pub count : fields.segments ≡ length segments
   pub names : fields.names ≡ e_shstrndx s.elf.file.now
   -- they are put over the parts
   pub tail : List ℕ
-  pub put : IsPut layout s.elf.file.now tail cells segments (header_numbers fields) table_at w
+  pub put : IsPut layout s.elf.file.now tail cells segments (header_numbers fields) program_headers_at w

@@ -13,10 +13,10 @@ pub struct HeaderFields {
     /// The entry point.
     pub entry: u64,
     /// Where the table of program headers stands, and how many there are.
-    pub segments_at: u64,
+    pub program_headers_at: u64,
     pub segments: u64,
     /// Where the table of section headers stands, how many there are, and which one names the sections.
-    pub sections_at: u64,
+    pub section_headers_at: u64,
     pub sections: u64,
     pub names: u64,
 }
@@ -31,8 +31,8 @@ impl HeaderFields {
     {
         let mut numbers = Vec::new(alloc);
         numbers.push(number(E_ENTRY, 8, self.entry))?;
-        numbers.push(number(E_PHOFF, 8, self.segments_at))?;
-        numbers.push(number(E_SHOFF, 8, self.sections_at))?;
+        numbers.push(number(E_PHOFF, 8, self.program_headers_at))?;
+        numbers.push(number(E_SHOFF, 8, self.section_headers_at))?;
         numbers.push(number(E_PHNUM, 2, self.segments))?;
         numbers.push(number(E_SHNUM, 2, self.sections))?;
         numbers.push(number(E_SHSTRNDX, 2, self.names))?;

@@ -42,20 +42,20 @@ fn put_together(
     cells: &[NumberAt],
     segments: &[Segment],
     fields: &[NumberAt],
-    table_at: u64,
+    program_headers_at: u64,
 ) -> Result<Vec<u8>, Unwritable>
     requires can { PartsFit layout.now.parts (length elf.now.file.now) (length layout.now.bytes.items) }
     requires base { tail.now.base ≡ size_of layout.now.parts }
     ensures { IfOk result
-        (λ w. IsPut layout.now elf.now.file.now tail.now.bytes.items cells.now segments.now fields.now table_at
-        w.items) }
+        (λ w. IsPut layout.now elf.now.file.now tail.now.bytes.items cells.now segments.now fields.now
+        program_headers_at w.items) }
 {
     let mut table = Vec::new(alloc);
     put_segments(&mut table, segments)?;
     let size = tail.end()? as usize;
     if !can_put_all(size, cells)
         || !can_put_all(size, fields)
-        || table_at as u128 + table.len() as u128 > size as u128
+        || program_headers_at as u128 + table.len() as u128 > size as u128
     {
         return Err(Unwritable::Layout);
     }
@@ -66,7 +66,7 @@ fn put_together(
         &layout.bytes,
         tail.bytes(),
         cells,
-        table_at as usize,
+        program_headers_at as usize,
         &table,
         fields,
     )?;
@@ -88,20 +88,20 @@ fn fields_of(
     map: &AddrMap,
     sections: &NewSections,
     segments: &[Segment],
-    table_at: u64,
+    program_headers_at: u64,
 ) -> Result<HeaderFields, Unwritable>
     ensures entry { IfOk result (λ fields. moved map.now elf.now.entry ≡ Some fields.entry) }
-    ensures segments_at { IfOk result (λ fields. fields.segments_at ≡ table_at) }
+    ensures program_headers_at { IfOk result (λ fields. fields.program_headers_at ≡ program_headers_at) }
     ensures segments { IfOk result (λ fields. fields.segments ≡ length segments.now) }
-    ensures sections_at { IfOk result (λ fields. fields.sections_at ≡ sections.now.table_at) }
+    ensures section_headers_at { IfOk result (λ fields. fields.section_headers_at ≡ sections.now.section_headers_at) }
     ensures sections { IfOk result (λ fields. fields.sections ≡ length sections.now.headers.items) }
     ensures names { IfOk result (λ fields. fields.names ≡ sections.now.names) }
 {
     Ok(HeaderFields {
         entry: map.moved(elf.entry).ok_or(Unwritable::Layout)?,
-        segments_at: table_at,
+        program_headers_at,
         segments: segments.len() as u64,
-        sections_at: sections.table_at,
+        section_headers_at: sections.section_headers_at,
         sections: sections.headers.len() as u64,
         names: sections.names as u64,
     })
@@ -128,23 +128,31 @@ pub fn made(
     let elf = source.elf;
     let layout = Layout::new(alloc, elf, plan, &emitted.code, source.tables)?;
     let mut tail = Tail::new(alloc, layout.end()?);
-    let table_at = table_place(elf, &layout.area, &layout.shift, &mut tail)?;
+    let program_headers_at = table_place(elf, &layout.area, &layout.shift, &mut tail)?;
     let sections = put(alloc, source, plan, &mut tail)?;
-    let sections_at = places_of(alloc, &sections.headers)?;
+    let section_offsets = places_of(alloc, &sections.headers)?;
     let places = Places {
         elf,
         area: layout.area,
         shift: layout.shift,
-        table_at,
+        table_at: program_headers_at,
         contents: &plan.contents,
-        sections_at: &sections_at,
+        sections_at: &section_offsets,
         index_size: table_size(source.tables, EH_FRAME_HDR).unwrap_or(0) as u64,
         file_size: tail.end()?,
     };
     let segments = places.segments(alloc, layout.code)?;
     let cells = cell_numbers(alloc, elf, &layout.shift, &emitted.cells)?;
-    let fields = fields_of(elf, source.map, &sections, &segments, table_at)?.numbers(alloc)?;
+    let header = fields_of(elf, source.map, &sections, &segments, program_headers_at)?;
+    let fields = header.numbers(alloc)?;
     put_together(
-        alloc, elf, &layout, &tail, &cells, &segments, &fields, table_at,
+        alloc,
+        elf,
+        &layout,
+        &tail,
+        &cells,
+        &segments,
+        &fields,
+        program_headers_at,
     )
 }

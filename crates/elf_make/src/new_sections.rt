@@ -38,7 +38,7 @@ pub struct NewSections {
     /// The index of the section with the names of sections.
     pub names: usize,
     /// Where the table of headers stands.
-    pub table_at: u64,
+    pub section_headers_at: u64,
 }
 
 // The tables of names: that of sections, and that of symbols, where it is another one.
@@ -206,11 +206,11 @@ pub fn put(
         tail,
     )?;
     put_ranges(ranges, source.tables, &mut headers, tail)?;
-    let table_at = put_table(alloc, &mut headers, tail)?;
+    let section_headers_at = put_table(alloc, &mut headers, tail)?;
     Ok(NewSections {
         headers,
         names: plan.own.section_names,
-        table_at,
+        section_headers_at,
     })
 }
 
@@ -253,16 +253,18 @@ fn put_table(
 ) -> Result<u64, Unwritable>
     ensures { IfOk result (λ at. tail.new.base ≡ tail.old.base) }
 {
-    let table_at = tail.align_to(8)?;
+    let section_headers_at = tail.align_to(8)?;
     let size = (headers.len() as u64)
         .checked_mul(SHDR_SIZE as u64)
         .ok_or(Unwritable::Layout)?;
-    let end = table_at.checked_add(size).ok_or(Unwritable::Layout)?;
+    let end = section_headers_at
+        .checked_add(size)
+        .ok_or(Unwritable::Layout)?;
     for header in headers.iter_mut() {
         header.offset = header.offset.min(end);
     }
     let mut bytes = Vec::new(alloc);
     put_sections(&mut bytes, headers)?;
     tail.add(1, &bytes)?;
-    Ok(table_at)
+    Ok(section_headers_at)
 }

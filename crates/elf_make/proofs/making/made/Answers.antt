@@ -31,6 +31,7 @@ returns c =
     let tail : List ℕ = c.put.new.tail.bytes.items in
     let cells : List NumberAt = c.in_ok-cells.cells.items in
     let segments : List Segment = c.in_ok-segments.segments.items in
+    let at : ℕ = c.in_ok-program_headers_at.program_headers_at in
     IfOk-weaker c.put_together.result _ _
     (λ w put.
     record {
@@ -44,21 +45,21 @@ returns c =
             c.deref-5.ensures.value c.in_ok-cells.ensures;
         segments = segments;
         are_headers = c.in_ok-segments.ensures.headers;
-        table_at = c.in_ok-table_at.table_at;
-        table_place = subst (λ (base : ℕ). IsTablePlace elf layout.area layout.shift base c.in_ok-table_at.table_at)
-            (c.new-tail.ensures ∙ c.in_ok-end.ensures) c.in_ok-table_at.ensures.place;
-        fields = c.in_ok-fields_of.field-0;
-        entry = c.in_ok-fields_of.ensures.entry;
-        segments_at = c.in_ok-fields_of.ensures.segments_at;
-        count = c.in_ok-fields_of.ensures.segments ∙ ap length c.deref-6.ensures.value;
-        names = c.in_ok-fields_of.ensures.names ∙ c.in_ok-sections.ensures.names;
+        program_headers_at = at;
+        table_place = subst (λ (base : ℕ). IsTablePlace elf layout.area layout.shift base at)
+            (c.new-tail.ensures ∙ c.in_ok-end.ensures) c.in_ok-program_headers_at.ensures.place;
+        fields = c.in_ok-header.header;
+        entry = c.in_ok-header.ensures.entry;
+        place = c.in_ok-header.ensures.program_headers_at;
+        count = c.in_ok-header.ensures.segments ∙ ap length c.deref-6.ensures.value;
+        names = c.in_ok-header.ensures.names ∙ c.in_ok-sections.ensures.names;
         tail = tail;
-        put = subst (λ (xs : List NumberAt). IsPut layout elf.file.now tail cells segments xs c.in_ok-table_at.table_at w.items)
+        put = subst (λ (xs : List NumberAt). IsPut layout elf.file.now tail cells segments xs at w.items)
             (c.deref-9.ensures.value ∙ c.in_ok-fields.ensures)
-            (subst (λ (xs : List Segment). IsPut layout elf.file.now tail cells xs c.deref-9.result.now c.in_ok-table_at.table_at
-            w.items) c.deref-8.ensures.value
-            (subst (λ (xs : List NumberAt). IsPut layout elf.file.now tail xs c.deref-8.result.now c.deref-9.result.now
-            c.in_ok-table_at.table_at w.items) c.deref-7.ensures.value put));
+            (subst (λ (xs : List Segment). IsPut layout elf.file.now tail cells xs c.deref-9.result.now at w.items)
+            c.deref-8.ensures.value
+            (subst (λ (xs : List NumberAt). IsPut layout elf.file.now tail xs c.deref-8.result.now c.deref-9.result.now at w.items)
+            c.deref-7.ensures.value put));
       };
       has_tables = c.in_ok-layout.ensures.tables;
     })
