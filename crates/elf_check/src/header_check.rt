@@ -4,7 +4,7 @@ ghost use Rattle.elf_plan.specs.HeaderPlaces.{HasNewHeaders};
 ghost use Rattle.elf_check.specs.ArrangedTables.{IsArranged};
 ghost use Rattle.elf_plan.specs.PlacedHeaders.{AreMade};
 
-use crate::section_tables::SectionTables;
+use crate::section_tables::FileCheck;
 use elf_image::code_segment::executable_segment;
 use elf_image::named::EH_FRAME_HDR;
 use elf_image::{Section, Segment};
@@ -50,23 +50,23 @@ fn has_made(
 }
 
 /// Whether the program headers are those that the file must have.
-pub fn has_headers(alloc: Global, tables: &SectionTables) -> Result<bool, Unwritable>
-    requires { IsArranged tables.now }
+pub fn has_headers(alloc: Global, check: &FileCheck) -> Result<bool, Unwritable>
+    requires { IsArranged check.now }
     ensures { IfOk result (λ holds. IsTrue holds →
-        HasNewHeaders tables.now.elf.now tables.now.new.now tables.now.tables.now tables.now.area tables.now.shift) }
+        HasNewHeaders check.now.elf.now check.now.new.now check.now.given.now check.now.area check.now.shift) }
 {
-    let segments = tables.elf.segments.as_slice();
+    let segments = check.elf.segments.as_slice();
     let (code, _) = executable_segment(segments).ok_or(Unwritable::Layout)?;
-    let sections_at = offsets_of(alloc, &tables.new.sections)?;
+    let sections_at = offsets_of(alloc, &check.new.sections)?;
     let places = Places {
-        elf: tables.elf,
-        area: tables.area,
-        shift: tables.shift,
-        table_at: tables.new.phoff,
-        contents: tables.contents,
+        elf: check.elf,
+        area: check.area,
+        shift: check.shift,
+        table_at: check.new.phoff,
+        contents: check.contents,
         sections_at: &sections_at,
-        index_size: table_size(tables.tables, EH_FRAME_HDR).unwrap_or(0) as u64,
-        file_size: tables.new.file.len() as u64,
+        index_size: table_size(check.given, EH_FRAME_HDR).unwrap_or(0) as u64,
+        file_size: check.new.file.len() as u64,
     };
-    has_made(alloc, &places, code, &tables.new.segments)
+    has_made(alloc, &places, code, &check.new.segments)
 }

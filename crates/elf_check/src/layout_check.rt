@@ -6,7 +6,7 @@ ghost use Rattle.elf_image.specs.memory.Break.{rounded_up};
 ghost use Rattle.elf_plan.specs.FileLayout as spec;
 ghost use Rattle.elf_check.specs.ArrangedTables.{IsArranged};
 
-use crate::section_tables::SectionTables;
+use crate::section_tables::FileCheck;
 use elf_image::header::{E_ENTRY, E_FLAGS, E_PHNUM, E_SHENTSIZE, E_SHNUM, Header};
 use elf_image::section::SHDR_SIZE;
 use elf_image::segment::PHDR_SIZE;
@@ -127,22 +127,21 @@ fn ends_with_headers(new: Header, sections: &[Section], end: u64) -> Result<bool
 
 /// Whether the written file is laid out as it must be: the fields of its header that aren't written are those of the
 /// input, its program headers and the contents of its sections stand where they must, and the section headers end it.
-pub fn is_laid_out(tables: &SectionTables) -> Result<bool, Unwritable>
-    requires { IsArranged tables.now }
+pub fn is_laid_out(check: &FileCheck) -> Result<bool, Unwritable>
+    requires { IsArranged check.now }
     ensures { IfOk result (λ holds. IsTrue holds →
-        spec.HasFileLayout tables.now.elf.now tables.now.new.now tables.now.tables.now tables.now.area
-        tables.now.shift) }
+        spec.HasFileLayout check.now.elf.now check.now.new.now check.now.given.now check.now.area check.now.shift) }
 {
-    let elf = tables.elf;
-    let new = tables.new;
+    let elf = check.elf;
+    let new = check.new;
     let header = Header { file: new.file };
     if !keeps_header_fields(Header { file: elf.file }, header) {
         return Ok(false);
     }
-    if header.fields().phoff != table_place(elf, &tables.area, &tables.shift)? {
+    if header.fields().phoff != table_place(elf, &check.area, &check.shift)? {
         return Ok(false);
     }
-    let start = contents_start(elf, &tables.area, &tables.shift)?;
-    let end = end_of_all(&new.sections, start, tables.order, tables.adds_ranges())?;
+    let start = contents_start(elf, &check.area, &check.shift)?;
+    let end = end_of_all(&new.sections, start, check.order, check.adds_ranges())?;
     ends_with_headers(header, &new.sections, end)
 }

@@ -7,7 +7,7 @@ ghost use Rattle.elf_check.specs.NewNames as spec;
 ghost use Rattle.elf_check.specs.NewNames.{HaveNewNames};
 
 use crate::name_parts::behind;
-use crate::section_tables::SectionTables;
+use crate::section_tables::FileCheck;
 use elf_image::named::{EH_FRAME, EH_FRAME_HDR};
 use elf_image::{Elf, Section, Symbol};
 use elf_plan::area::Area;
@@ -97,7 +97,7 @@ fn table_bytes<'a>(elf: &Elf<'a>, index: usize) -> &'a [u8]
 /// The tables of names of the input and of a written file.
 #[derive(Clone, Copy)]
 pub struct NewNames<'a> {
-    pub tables: &'a SectionTables<'a>,
+    pub check: &'a FileCheck<'a>,
     pub funcs: &'a [Func],
     /// The addresses of cold parts.
     pub cold: &'a [u64],
@@ -122,9 +122,9 @@ impl<'a> NewNames<'a> {
         address: u64,
     ) -> Option<&'b [u8]>
         requires laid_out { AreLaidOut self.now.funcs.now }
-        requires names { AreFirstNames self.now.tables.now.elf.now.symbols.items names.now }
+        requires names { AreFirstNames self.now.check.now.elf.now.symbols.items names.now }
         ensures { IfSome result (λ rest. bytes.now ≡
-            name_behind (named_around self.now.tables.now.elf.now.symbols.items self.now.funcs.now address)
+            name_behind (named_around self.now.check.now.elf.now.symbols.items self.now.funcs.now address)
             ++ rest.now) }
     {
         match named_around(names, self.funcs, address) {
@@ -140,9 +140,9 @@ impl<'a> NewNames<'a> {
         bytes: &'b [u8],
     ) -> Option<&'b [u8]>
         requires laid_out { AreLaidOut self.now.funcs.now }
-        requires names { AreFirstNames self.now.tables.now.elf.now.symbols.items names.now }
+        requires names { AreFirstNames self.now.check.now.elf.now.symbols.items names.now }
         ensures { IfSome result (λ rest. bytes.now ≡
-            cold_names self.now.tables.now.elf.now self.now.funcs.now self.now.cold.now ++ rest.now) }
+            cold_names self.now.check.now.elf.now self.now.funcs.now self.now.cold.now ++ rest.now) }
     {
         let mut rest = bytes;
         for address in self.cold {
@@ -154,8 +154,8 @@ impl<'a> NewNames<'a> {
     // Whether bytes are the names of cold parts.
     fn are_cold(&self, names: &BTreeMap<u64, Symbol>, bytes: &[u8]) -> bool
         requires laid_out { AreLaidOut self.now.funcs.now }
-        requires names { AreFirstNames self.now.tables.now.elf.now.symbols.items names.now }
-        ensures { IsTrue result → bytes.now ≡ cold_names self.now.tables.now.elf.now self.now.funcs.now
+        requires names { AreFirstNames self.now.check.now.elf.now.symbols.items names.now }
+        ensures { IsTrue result → bytes.now ≡ cold_names self.now.check.now.elf.now self.now.funcs.now
             self.now.cold.now }
     {
         match self.behind_cold_names(names, bytes) {
@@ -168,17 +168,17 @@ impl<'a> NewNames<'a> {
     // it has the names of symbols too, those of cold parts are the last.
     fn are_added(&self, names: &BTreeMap<u64, Symbol>, bytes: &[u8], index: usize) -> bool
         requires laid_out { AreLaidOut self.now.funcs.now }
-        requires names { AreFirstNames self.now.tables.now.elf.now.symbols.items names.now }
-        requires index { index ≡ e_shstrndx self.now.tables.now.elf.now.file.now }
-        ensures { IsTrue result → bytes.now ≡ names_added self.now.tables.now.elf.now self.now.tables.now.area
-            (adds_ranges self.now.tables.now.elf.now.sections.items self.now.tables.now.tables.now) self.now.funcs.now
+        requires names { AreFirstNames self.now.check.now.elf.now.symbols.items names.now }
+        requires index { index ≡ e_shstrndx self.now.check.now.elf.now.file.now }
+        ensures { IsTrue result → bytes.now ≡ names_added self.now.check.now.elf.now self.now.check.now.area
+            (adds_ranges self.now.check.now.elf.now.sections.items self.now.check.now.given.now) self.now.funcs.now
             self.now.cold.now }
     {
-        let elf = self.tables.elf;
+        let elf = self.check.elf;
         let Some(rest) = behind_old_names(bytes, &elf.sections) else {
             return false;
         };
-        let Some(rest) = behind_added(rest, &self.tables.area, self.tables.adds_ranges()) else {
+        let Some(rest) = behind_added(rest, &self.check.area, self.check.adds_ranges()) else {
             return false;
         };
         if place_of_names(elf) == Some(index) {
@@ -191,17 +191,17 @@ impl<'a> NewNames<'a> {
     // Whether the table of names of sections is what it must be.
     fn has_sections(&self, names: &BTreeMap<u64, Symbol>) -> bool
         requires laid_out { AreLaidOut self.now.funcs.now }
-        requires names { AreFirstNames self.now.tables.now.elf.now.symbols.items names.now }
+        requires names { AreFirstNames self.now.check.now.elf.now.symbols.items names.now }
         ensures { IsTrue result →
-            table_bytes self.now.tables.now.new.now (e_shstrndx self.now.tables.now.elf.now.file.now) ≡
-            extended (table_bytes self.now.tables.now.elf.now (e_shstrndx self.now.tables.now.elf.now.file.now))
-            (names_added self.now.tables.now.elf.now self.now.tables.now.area
-            (adds_ranges self.now.tables.now.elf.now.sections.items self.now.tables.now.tables.now) self.now.funcs.now
+            table_bytes self.now.check.now.new.now (e_shstrndx self.now.check.now.elf.now.file.now) ≡
+            extended (table_bytes self.now.check.now.elf.now (e_shstrndx self.now.check.now.elf.now.file.now))
+            (names_added self.now.check.now.elf.now self.now.check.now.area
+            (adds_ranges self.now.check.now.elf.now.sections.items self.now.check.now.given.now) self.now.funcs.now
             self.now.cold.now) }
     {
-        let index = place_of_section_names(self.tables.elf);
-        let old = table_bytes(self.tables.elf, index);
-        match behind_old_table(table_bytes(self.tables.new, index), old) {
+        let index = place_of_section_names(self.check.elf);
+        let old = table_bytes(self.check.elf, index);
+        match behind_old_table(table_bytes(self.check.new, index), old) {
             Some(rest) => self.are_added(names, rest, index),
             None => false,
         }
@@ -210,13 +210,13 @@ impl<'a> NewNames<'a> {
     // Whether the table at `index` is the old one, with the names of cold parts behind it.
     fn has_cold(&self, names: &BTreeMap<u64, Symbol>, index: usize) -> bool
         requires laid_out { AreLaidOut self.now.funcs.now }
-        requires names { AreFirstNames self.now.tables.now.elf.now.symbols.items names.now }
-        ensures { IsTrue result → table_bytes self.now.tables.now.new.now index ≡
-            extended (table_bytes self.now.tables.now.elf.now index)
-            (cold_names self.now.tables.now.elf.now self.now.funcs.now self.now.cold.now) }
+        requires names { AreFirstNames self.now.check.now.elf.now.symbols.items names.now }
+        ensures { IsTrue result → table_bytes self.now.check.now.new.now index ≡
+            extended (table_bytes self.now.check.now.elf.now index)
+            (cold_names self.now.check.now.elf.now self.now.funcs.now self.now.cold.now) }
     {
-        let old = table_bytes(self.tables.elf, index);
-        match behind_old_table(table_bytes(self.tables.new, index), old) {
+        let old = table_bytes(self.check.elf, index);
+        match behind_old_table(table_bytes(self.check.new, index), old) {
             Some(rest) => self.are_cold(names, rest),
             None => false,
         }
@@ -225,13 +225,13 @@ impl<'a> NewNames<'a> {
     // Whether the table of names of symbols is what it must be, where it is another one.
     fn has_symbols(&self, names: &BTreeMap<u64, Symbol>) -> bool
         requires laid_out { AreLaidOut self.now.funcs.now }
-        requires names { AreFirstNames self.now.tables.now.elf.now.symbols.items names.now }
-        ensures { IsTrue result → IfSome (place_of_names self.now.tables.now.elf.now) (λ i.
-            i ≢ e_shstrndx self.now.tables.now.elf.now.file.now →
-            table_bytes self.now.tables.now.new.now i ≡ extended (table_bytes self.now.tables.now.elf.now i)
-            (cold_names self.now.tables.now.elf.now self.now.funcs.now self.now.cold.now)) }
+        requires names { AreFirstNames self.now.check.now.elf.now.symbols.items names.now }
+        ensures { IsTrue result → IfSome (place_of_names self.now.check.now.elf.now) (λ i.
+            i ≢ e_shstrndx self.now.check.now.elf.now.file.now →
+            table_bytes self.now.check.now.new.now i ≡ extended (table_bytes self.now.check.now.elf.now i)
+            (cold_names self.now.check.now.elf.now self.now.funcs.now self.now.cold.now)) }
     {
-        let elf = self.tables.elf;
+        let elf = self.check.elf;
         match place_of_names(elf) {
             Some(index) => index == place_of_section_names(elf) || self.has_cold(names, index),
             None => true,
@@ -241,10 +241,10 @@ impl<'a> NewNames<'a> {
     // Whether both tables of names are what they must be.
     fn are_new(&self, names: &BTreeMap<u64, Symbol>) -> bool
         requires laid_out { AreLaidOut self.now.funcs.now }
-        requires names { AreFirstNames self.now.tables.now.elf.now.symbols.items names.now }
+        requires names { AreFirstNames self.now.check.now.elf.now.symbols.items names.now }
         ensures { IsTrue result →
-            HaveNewNames self.now.tables.now.elf.now self.now.tables.now.new.now self.now.tables.now.tables.now
-            self.now.tables.now.area self.now.funcs.now self.now.cold.now }
+            HaveNewNames self.now.check.now.elf.now self.now.check.now.new.now self.now.check.now.given.now
+            self.now.check.now.area self.now.funcs.now self.now.cold.now }
     {
         if !self.has_sections(names) {
             return false;
@@ -256,19 +256,15 @@ impl<'a> NewNames<'a> {
 /// Whether the tables of names are what they must be.
 pub fn has_names(
     names: &BTreeMap<u64, Symbol>,
-    tables: &SectionTables,
+    check: &FileCheck,
     funcs: &[Func],
     cold: &[u64],
 ) -> bool
     requires laid_out { AreLaidOut funcs.now }
-    requires names { AreFirstNames tables.now.elf.now.symbols.items names.now }
+    requires names { AreFirstNames check.now.elf.now.symbols.items names.now }
     ensures { IsTrue result →
-        HaveNewNames tables.now.elf.now tables.now.new.now tables.now.tables.now tables.now.area funcs.now cold.now }
+        HaveNewNames check.now.elf.now check.now.new.now check.now.given.now check.now.area funcs.now cold.now }
 {
-    let tables = NewNames {
-        tables,
-        funcs,
-        cold,
-    };
+    let tables = NewNames { check, funcs, cold };
     tables.are_new(names)
 }

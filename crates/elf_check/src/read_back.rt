@@ -22,7 +22,7 @@ use crate::entry_names::KeptNames;
 use crate::header_check::has_headers;
 use crate::layout_check::is_laid_out;
 use crate::name_check::has_names;
-use crate::section_tables::SectionTables;
+use crate::section_tables::FileCheck;
 use crate::symbol_check::CodeSymbols;
 use crate::symbol_tables::SymbolTables;
 use elf_image::symbol::SYM_SIZE;
@@ -36,53 +36,53 @@ use rb_bytes::fault::Refusal;
 use std::alloc::Global;
 
 // Whether the layout and the program headers are those that the file must have.
-fn has_places(alloc: Global, tables: &SectionTables) -> Result<bool, Unwritable>
-    requires { IsArranged tables.now }
+fn has_places(alloc: Global, check: &FileCheck) -> Result<bool, Unwritable>
+    requires { IsArranged check.now }
     ensures layout { IfOk result (λ holds. IsTrue holds →
-        HasFileLayout tables.now.elf.now tables.now.new.now tables.now.tables.now tables.now.area tables.now.shift) }
+        HasFileLayout check.now.elf.now check.now.new.now check.now.given.now check.now.area check.now.shift) }
     ensures headers { IfOk result (λ holds. IsTrue holds →
-        HasNewHeaders tables.now.elf.now tables.now.new.now tables.now.tables.now tables.now.area tables.now.shift) }
+        HasNewHeaders check.now.elf.now check.now.new.now check.now.given.now check.now.area check.now.shift) }
 {
-    if !is_laid_out(tables)? {
+    if !is_laid_out(check)? {
         return Ok(false);
     }
-    has_headers(alloc, tables)
+    has_headers(alloc, check)
 }
 
 // Whether the sections are those that the file must have.
-fn has_new_sections(tables: &SectionTables) -> bool
-    requires old { WasRead tables.now.elf.now }
-    requires new { WasRead tables.now.new.now }
-    requires arranged { IsArranged tables.now }
-    requires names { e_shstrndx tables.now.new.now.file.now ≡ e_shstrndx tables.now.elf.now.file.now }
+fn has_new_sections(check: &FileCheck) -> bool
+    requires old { WasRead check.now.elf.now }
+    requires new { WasRead check.now.new.now }
+    requires arranged { IsArranged check.now }
+    requires names { e_shstrndx check.now.new.now.file.now ≡ e_shstrndx check.now.elf.now.file.now }
     ensures { IsTrue result →
-        AreaStands tables.now.area tables.now.tables.now tables.now.code.now tables.now.new.now.file.now →
-        AreNewSections tables.now.elf.now tables.now.new.now tables.now.tables.now tables.now.area tables.now.shift
-        tables.now.code.now }
+        AreaStands check.now.area check.now.given.now check.now.code.now check.now.new.now.file.now →
+        AreNewSections check.now.elf.now check.now.new.now check.now.given.now check.now.area check.now.shift
+        check.now.code.now }
 {
-    let names = KeptNames::of_sections(tables.elf, tables.new);
-    tables.are_new(&names)
+    let names = KeptNames::of_sections(check.elf, check.new);
+    check.are_new(&names)
 }
 
 // Whether the sections, their layout and the program headers are those that the file must have.
-fn has_sections(alloc: Global, tables: &SectionTables) -> Result<bool, Unwritable>
-    requires old { WasRead tables.now.elf.now }
-    requires new { WasRead tables.now.new.now }
-    requires arranged { IsArranged tables.now }
-    requires names { e_shstrndx tables.now.new.now.file.now ≡ e_shstrndx tables.now.elf.now.file.now }
+fn has_sections(alloc: Global, check: &FileCheck) -> Result<bool, Unwritable>
+    requires old { WasRead check.now.elf.now }
+    requires new { WasRead check.now.new.now }
+    requires arranged { IsArranged check.now }
+    requires names { e_shstrndx check.now.new.now.file.now ≡ e_shstrndx check.now.elf.now.file.now }
     ensures sections { IfOk result (λ holds. IsTrue holds →
-        AreaStands tables.now.area tables.now.tables.now tables.now.code.now tables.now.new.now.file.now →
-        AreNewSections tables.now.elf.now tables.now.new.now tables.now.tables.now tables.now.area tables.now.shift
-        tables.now.code.now) }
+        AreaStands check.now.area check.now.given.now check.now.code.now check.now.new.now.file.now →
+        AreNewSections check.now.elf.now check.now.new.now check.now.given.now check.now.area check.now.shift
+        check.now.code.now) }
     ensures layout { IfOk result (λ holds. IsTrue holds →
-        HasFileLayout tables.now.elf.now tables.now.new.now tables.now.tables.now tables.now.area tables.now.shift) }
+        HasFileLayout check.now.elf.now check.now.new.now check.now.given.now check.now.area check.now.shift) }
     ensures headers { IfOk result (λ holds. IsTrue holds →
-        HasNewHeaders tables.now.elf.now tables.now.new.now tables.now.tables.now tables.now.area tables.now.shift) }
+        HasNewHeaders check.now.elf.now check.now.new.now check.now.given.now check.now.area check.now.shift) }
 {
-    if !has_new_sections(tables) {
+    if !has_new_sections(check) {
         return Ok(false);
     }
-    has_places(alloc, tables)
+    has_places(alloc, check)
 }
 
 // What stands in a table behind its last whole symbol.
@@ -180,25 +180,25 @@ fn has_symbols(alloc: Global, source: &SectionSource, new: &Elf) -> Result<bool,
 fn has_names_and_symbols(
     alloc: Global,
     source: &SectionSource,
-    tables: &SectionTables,
+    check: &FileCheck,
 ) -> Result<bool, Unwritable>
     requires old { WasRead source.now.elf.now }
-    requires new { WasRead tables.now.new.now }
+    requires new { WasRead check.now.new.now }
     requires laid_out { AreLaidOut source.now.funcs.now }
     requires fragments { AreFragments source.now.funcs.now source.now.map.now source.now.fragments.now }
     requires firsts { AreFirstNames source.now.elf.now.symbols.items source.now.names.now }
-    requires input { tables.now.elf.now ≡ source.now.elf.now }
+    requires input { check.now.elf.now ≡ source.now.elf.now }
     ensures names { IfOk result (λ holds. IsTrue holds →
-        HaveNewNames source.now.elf.now tables.now.new.now tables.now.tables.now tables.now.area source.now.funcs.now
+        HaveNewNames source.now.elf.now check.now.new.now check.now.given.now check.now.area source.now.funcs.now
         source.now.cold.now) }
     ensures symbols { IfOk result (λ holds. IsTrue holds →
-        HaveNewSymbols source.now.elf.now tables.now.new.now source.now.funcs.now source.now.map.now
+        HaveNewSymbols source.now.elf.now check.now.new.now source.now.funcs.now source.now.map.now
         source.now.cold.now) }
 {
-    if !has_names(source.names, tables, source.funcs, source.cold) {
+    if !has_names(source.names, check, source.funcs, source.cold) {
         return Ok(false);
     }
-    has_symbols(alloc, source, tables.new)
+    has_symbols(alloc, source, check.new)
 }
 
 // Whether sections, program headers, names, symbols and layout are what they must be.
@@ -231,20 +231,20 @@ fn has_new_tables(
         HasFileLayout source.now.elf.now new.now source.now.tables.now
         plan.now.area plan.now.shift) }
 {
-    let tables = SectionTables {
+    let check = FileCheck {
         elf: source.elf,
         new,
-        tables: source.tables,
+        given: source.tables,
         area: plan.area,
         shift: plan.shift,
         contents: &plan.contents,
         order: &plan.order,
         code,
     };
-    if !has_sections(alloc, &tables)? {
+    if !has_sections(alloc, &check)? {
         return Ok(false);
     }
-    has_names_and_symbols(alloc, source, &tables)
+    has_names_and_symbols(alloc, source, &check)
 }
 
 /// Whether the reader takes a file, and finds the sections, program headers, names, symbols and layout in it that the

@@ -17,15 +17,15 @@ fn one_if(test: bool) -> usize
     if test { 1 } else { 0 }
 }
 
-/// The input, the written file, and what was planned of it.
+/// What a check looks at: the input, the written file, and what was planned of it.
 #[derive(Clone, Copy)]
-pub struct SectionTables<'a> {
+pub struct FileCheck<'a> {
     /// The input.
     pub elf: &'a Elf<'a>,
     /// The written file, as it was read back.
     pub new: &'a Elf<'a>,
     /// The tables that were given to be written.
-    pub tables: &'a [Table],
+    pub given: &'a [Table],
     pub area: Area,
     pub shift: Shift,
     /// Where the contents of each of the input's sections are, and the order of those that are written.
@@ -35,7 +35,7 @@ pub struct SectionTables<'a> {
     pub code: &'a [u8],
 }
 
-impl<'a> SectionTables<'a> {
+impl<'a> FileCheck<'a> {
     ghost use Rattle.std.specs.Prelude.{◌≡◌, ℕ, ◌+◌, ◌-◌, ◌<◌, IfSome, IsTrue, Some, codes, is_some, length, slice_get};
     ghost use Rattle.elf_image.specs.declared.section.Section.{Section};
     ghost use Rattle.elf_image.specs.file.Header.{e_shstrndx};
@@ -61,18 +61,18 @@ impl<'a> SectionTables<'a> {
         n: &Section,
     ) -> bool
         requires contents { contents ≡
-            contents_of self.now.elf.now self.now.tables.now self.now.area self.now.shift index s.now }
+            contents_of self.now.elf.now self.now.given.now self.now.area self.now.shift index s.now }
         requires old { s.now.name.now ≡ name_of names.now.old index }
         requires new { n.now.name.now ≡ name_of names.now.new index }
         ensures called { IsTrue result → n.now.name.now ≡ new_name s.now }
         ensures follows { IsTrue result →
-            Follows self.now.tables.now self.now.shift self.now.elf.now.file.now self.now.new.now.file.now
-            (contents_of self.now.elf.now self.now.tables.now self.now.area self.now.shift index s.now) s.now n.now }
+            Follows self.now.given.now self.now.shift self.now.elf.now.file.now self.now.new.now.file.now
+            (contents_of self.now.elf.now self.now.given.now self.now.area self.now.shift index s.now) s.now n.now }
     {
         let files = Files {
             old: self.elf.file,
             new: self.new.file,
-            tables: self.tables,
+            tables: self.given,
             shift: self.shift,
         };
         has_new_name(names, index, s, n) && files.follows(contents, s, n)
@@ -87,8 +87,8 @@ impl<'a> SectionTables<'a> {
             slice_get self.now.new.now.sections.items index ≡ Some n → n.name.now ≡ new_name s }
         ensures follows { IsTrue result → (s n : Section) → slice_get self.now.elf.now.sections.items index ≡ Some s →
             slice_get self.now.new.now.sections.items index ≡ Some n →
-            Follows self.now.tables.now self.now.shift self.now.elf.now.file.now self.now.new.now.file.now
-            (contents_of self.now.elf.now self.now.tables.now self.now.area self.now.shift index s) s n }
+            Follows self.now.given.now self.now.shift self.now.elf.now.file.now self.now.new.now.file.now
+            (contents_of self.now.elf.now self.now.given.now self.now.area self.now.shift index s) s n }
     {
         let Some(contents) = self.contents.get(index) else {
             return false;
@@ -109,8 +109,8 @@ impl<'a> SectionTables<'a> {
         ensures follows { IsTrue result → (i : ℕ) (s n : Section) →
             slice_get self.now.elf.now.sections.items i ≡ Some s →
             slice_get self.now.new.now.sections.items i ≡ Some n →
-            Follows self.now.tables.now self.now.shift self.now.elf.now.file.now self.now.new.now.file.now
-            (contents_of self.now.elf.now self.now.tables.now self.now.area self.now.shift i s) s n }
+            Follows self.now.given.now self.now.shift self.now.elf.now.file.now self.now.new.now.file.now
+            (contents_of self.now.elf.now self.now.given.now self.now.area self.now.shift i s) s n }
     {
         for i in 0..self.elf.sections.len() {
             if !self.follows(names, i) {
@@ -168,9 +168,9 @@ impl<'a> SectionTables<'a> {
     // Whether the section of an index is that of the table with a name, where the area has a place for it.
     fn has_table(&self, index: usize, name: &[u8], place: Option<u64>, align: u64) -> bool
         ensures { IsTrue result → IfSome place (λ a.
-            Stands self.now.new.now.file.now (area_offset self.now.area a) (bytes_called self.now.tables.now name.now) →
+            Stands self.now.new.now.file.now (area_offset self.now.area a) (bytes_called self.now.given.now name.now) →
             At self.now.new.now.sections.items index
-            (IsInArea self.now.new.now.file.now self.now.area name.now (bytes_called self.now.tables.now name.now)
+            (IsInArea self.now.new.now.file.now self.now.area name.now (bytes_called self.now.given.now name.now)
             SHF_ALLOC a align)) }
     {
         match place {
@@ -178,7 +178,7 @@ impl<'a> SectionTables<'a> {
                 index,
                 &Added {
                     name,
-                    bytes: bytes_called(self.tables, name),
+                    bytes: bytes_called(self.given, name),
                     flags: SHF_ALLOC,
                     addr,
                     align,
@@ -190,17 +190,17 @@ impl<'a> SectionTables<'a> {
 
     /// Whether a table of ranges is added.
     pub fn adds_ranges(&self) -> bool
-        ensures { result ≡ adds_ranges self.now.elf.now.sections.items self.now.tables.now }
+        ensures { result ≡ adds_ranges self.now.elf.now.sections.items self.now.given.now }
     {
-        table_called(self.tables, DEBUG_RNGLISTS).is_some()
+        table_called(self.given, DEBUG_RNGLISTS).is_some()
             && self.elf.section_called(DEBUG_RNGLISTS).is_none()
     }
 
     fn has_ranges(&self, index: usize) -> bool
-        ensures { IsTrue result → IsTrue (adds_ranges self.now.elf.now.sections.items self.now.tables.now) →
+        ensures { IsTrue result → IsTrue (adds_ranges self.now.elf.now.sections.items self.now.given.now) →
             At self.now.new.now.sections.items index
             (IsAdded self.now.new.now.file.now (codes ".debug_rnglists")
-            (bytes_called self.now.tables.now (codes ".debug_rnglists")) 0 0 1) }
+            (bytes_called self.now.given.now (codes ".debug_rnglists")) 0 0 1) }
     {
         if !self.adds_ranges() {
             return true;
@@ -209,7 +209,7 @@ impl<'a> SectionTables<'a> {
             index,
             &Added {
                 name: DEBUG_RNGLISTS,
-                bytes: bytes_called(self.tables, DEBUG_RNGLISTS),
+                bytes: bytes_called(self.given, DEBUG_RNGLISTS),
                 flags: 0,
                 addr: 0,
                 align: 1,
@@ -222,7 +222,7 @@ impl<'a> SectionTables<'a> {
         ensures { IsTrue result →
             length self.now.new.now.sections.items ≡ (length self.now.elf.now.sections.items + 1)
             + (flag (is_some self.now.area.frames) + (flag (is_some self.now.area.index)
-            + flag (adds_ranges self.now.elf.now.sections.items self.now.tables.now))) }
+            + flag (adds_ranges self.now.elf.now.sections.items self.now.given.now))) }
     {
         let area = one_if(self.area.frames.is_some()) + one_if(self.area.index.is_some());
         let added = area + one_if(self.adds_ranges());
@@ -236,8 +236,8 @@ impl<'a> SectionTables<'a> {
         requires new { AreNamed (λ s. s.name.now) names.now.new 0 self.now.new.now.sections.items }
         requires names { e_shstrndx self.now.new.now.file.now ≡ e_shstrndx self.now.elf.now.file.now }
         ensures { IsTrue result →
-            AreaStands self.now.area self.now.tables.now self.now.code.now self.now.new.now.file.now →
-            AreNewSections self.now.elf.now self.now.new.now self.now.tables.now self.now.area self.now.shift
+            AreaStands self.now.area self.now.given.now self.now.code.now self.now.new.now.file.now →
+            AreNewSections self.now.elf.now self.now.new.now self.now.given.now self.now.area self.now.shift
             self.now.code.now }
     {
         let count = self.elf.sections.len();

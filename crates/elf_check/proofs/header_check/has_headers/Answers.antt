@@ -12,26 +12,26 @@ use Rattle.elf_check.proofs.header_check.has_headers.Goals as goal
 
 pub returns : goal.returns
 returns c =
-    let tables = c.args.tables.now in
-    let elf = tables.elf.now in
-    let new = tables.new.now in
+    let check = c.args.check.now in
+    let elf = check.elf.now in
+    let new = check.new.now in
     let found : executable_segment elf.segments.items ≡ Some (c.in_ok-code.code, c.in_ok-code.field-0-1) = search rules in
     let offsets : c.deref-2.result.now ≡ map (λ n. n.offset) new.sections.items =
     c.deref-2.ensures.value ∙ c.in_ok-sections_at.ensures ∙ ap (map (λ (n : Section). n.offset)) c.deref.ensures.value in
-    let index : c.unwrap_or.result ≡ unwrap_or (table_size tables.tables.now (codes ".eh_frame_hdr")) 0 = search rules in
+    let index : c.unwrap_or.result ≡ unwrap_or (table_size check.given.now (codes ".eh_frame_hdr")) 0 = search rules in
     let places : Places = record {
-      elf = tables.elf;
-      area = tables.area;
-      shift = tables.shift;
+      elf = check.elf;
+      area = check.area;
+      shift = check.shift;
       table_at = new.phoff;
-      contents = tables.contents;
+      contents = check.contents;
       sections_at = c.deref-2.result;
       index_size = c.unwrap_or.result;
       file_size = length new.file.now;
     } in
     IfOk-weaker c.has_made.result _ _
     (λ holds gives is.
-    headers-read tables.tables.now new places c.in_ok-code.code c.in_ok-code.field-0-1 found c.requires.contents_are offsets refl index
+    headers-read check.given.now new places c.in_ok-code.code c.in_ok-code.field-0-1 found c.requires.contents_are offsets refl index
     refl
     (subst (λ (qs : List Segment). AreMade places c.in_ok-code.code qs) c.deref-3.ensures.value (gives is)))
     c.has_made.ensures

@@ -10,18 +10,18 @@ use Rattle.elf_check.proofs.layout_check.is_laid_out.Goals as goal
 
 pub returns : goal.returns
 returns c =
-    let tables = c.args.tables.now in
-    let elf = tables.elf.now in
-    let new = tables.new.now in
+    let check = c.args.check.now in
+    let elf = check.elf.now in
+    let new = check.new.now in
     let news = new.sections.items in
-    let order = tables.order.now in
+    let order = check.order.now in
     let start = c.in_ok-start.start in
     let end = c.in_ok-end.end in
     let adds = c.adds_ranges.result in
     let Stand : List Section → ℕ → List (ℕ × ℕ) → Bool → Type 0 = λ ns from places b.
     StandFrom ns from (map (λ (place : ℕ × ℕ). place.1) places ++ added_ranges b (length ns)) end in
-    let begins = contents_start elf tables.area tables.shift in
-    let stand : Stand news begins order (adds_ranges elf.sections.items tables.tables.now) =
+    let begins = contents_start elf check.area check.shift in
+    let stand : Stand news begins order (adds_ranges elf.sections.items check.given.now) =
     subst (Stand news begins order) c.adds_ranges.ensures
     (subst (λ (from : ℕ). Stand news from order adds) c.in_ok-start.ensures
     (subst (λ (ns : List Section). Stand ns start order adds) c.deref.ensures.value c.in_ok-end.ensures)) in

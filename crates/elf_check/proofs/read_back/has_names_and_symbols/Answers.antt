@@ -12,9 +12,9 @@ has_names-requires-clause-names c =
 pub returns-clause-names : goal.returns-clause-names
 returns-clause-names c =
     let source = c.args.source.now in
-    let tables = c.args.tables.now in
+    let check = c.args.check.now in
     IfOk-weaker c.has_symbols.result _ _
     (λ holds _ _. subst
-    (λ (e : Elf). HaveNewNames e tables.new.now tables.tables.now tables.area source.funcs.now source.cold.now)
+    (λ (e : Elf). HaveNewNames e check.new.now check.given.now check.area source.funcs.now source.cold.now)
     c.requires.input (c.has_names.ensures c.if-not-has_names.false))
     c.has_symbols.ensures

@@ -3,7 +3,7 @@ use Rattle.std.specs.Prelude.{codes, is_some, IfSome}
 use Rattle.rv_code.specs.isa.Op.{flag}
 use Rattle.elf_image.specs.declared.section.TheConstants.{SHF_ALLOC, SHF_EXECINSTR}
 use Rattle.elf_plan.specs.NewSections.{At, IsAdded, IsInArea, adds_ranges, bytes_called}
-use Rattle.elf_check.proofs.section_tables.SectionTables.are_new.Goals as goal
+use Rattle.elf_check.proofs.section_tables.FileCheck.are_new.Goals as goal
 
 both : (P Q : ℕ → Type 0) (place : Option ℕ) → IfSome place (λ a. P a → Q a) → IfSome place P → IfSome place Q
 both P Q None gives holds = record {}
@@ -15,7 +15,7 @@ returns c = λ holds stands.
     let olds = self.elf.now.sections.items in
     let news = self.new.now.sections.items in
     let w = self.new.now.file.now in
-    let bytes = bytes_called self.tables.now in
+    let bytes = bytes_called self.given.now in
     let count : c.len-count.result ≡ length olds = search rules in
     let whole : c.len.result ≡ length news = search rules in
     let frames : c.one_if-frames.result ≡ flag (is_some self.area.frames) =
@@ -39,7 +39,7 @@ returns c = λ holds stands.
           (ap (λ (k : ℕ). (k + 1) + c.one_if-frames.result) count ∙ ap (λ (k : ℕ). (length olds + 1) + k) frames)
           (both _ _ self.area.index (c.has_table-2.ensures c.if-not-has_table-2.false) stands.index);
       ranges = subst
-          (λ (k : ℕ). IsTrue (adds_ranges olds self.tables.now) →
+          (λ (k : ℕ). IsTrue (adds_ranges olds self.given.now) →
           At news (k - 1) (IsAdded w (codes ".debug_rnglists") (bytes (codes ".debug_rnglists")) 0 0 1))
           whole (c.has_ranges.ensures holds);
     }

@@ -1,6 +1,6 @@
 use Rattle.std.proofs.Common.{below_more, arith}
 use Rattle.std.proofs.lemmas.Option.{slice_get_within}
-use Rattle.elf_check.proofs.section_tables.SectionTables.all_follow.Goals as goal
+use Rattle.elf_check.proofs.section_tables.FileCheck.all_follow.Goals as goal
 
 pub loop-i-preserved : goal.loop-i-preserved
 loop-i-preserved c = record {

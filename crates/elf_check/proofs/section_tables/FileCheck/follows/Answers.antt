@@ -1,7 +1,7 @@
 use Rattle.std.proofs.Common.{◌≡◌, ◌<◌, refl, get_or, length, rules}
 use Rattle.std.proofs.lemmas.Option.{slice_get_read}
 use Rattle.elf_image.specs.declared.section.Section.{Section}
-use Rattle.elf_check.proofs.section_tables.SectionTables.follows.Goals as goal
+use Rattle.elf_check.proofs.section_tables.FileCheck.follows.Goals as goal
 
 pub becomes-requires-clause-contents : goal.becomes-requires-clause-contents
 becomes-requires-clause-contents c =
