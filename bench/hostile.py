@@ -64,6 +64,7 @@ LARGE = {
     "few-flagged-units": 65000,
     "few-indexed-lists": 65000,
     "endless-names": 65000,
+    "short-branches": 65000,
 }
 # The commands, with the words behind the tool's.
 COMMANDS = {

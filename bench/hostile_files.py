@@ -9,6 +9,7 @@ R_RISCV_64, R_RISCV_RELAX = 2, 51
 MOST_SECTIONS = 64_900  # a file may have 65,000 headers, and has a few beside
 RETURN = bytes.fromhex("67800000")  # ret
 NOP = bytes.fromhex("13000000")
+SHORT_BRANCH = bytes.fromhex("09c0")  # c.beqz s0, to the next instruction
 CHOICE = bytes.fromhex("630c0500") + RETURN  # beqz a0, past the ret; ret
 
 
@@ -237,6 +238,19 @@ def uleb(number):
     return bytes(out) + bytes([number])
 
 
+def short_branches(size):
+    """Functions of branches of two bytes, each to the next instruction: as many blocks as the code can have."""
+    length = 1 << 14
+    count = max(size // length, 1)
+    names, entries = b"\0", []
+    for k in range(count):
+        entries.append((len(names), BASE + TEXT + length * k, length))
+        names += b"f%d\0" % k
+    file = File((SHORT_BRANCH * (length // 2 - 2) + RETURN) * count)
+    file.add_symbols(entries, names)
+    return file.bytes(), b""
+
+
 # Headers, names, symbols and relocations.
 FILES = {
     "symbol-names": symbol_names,
@@ -251,6 +265,7 @@ FILES = {
     "symbol-headers": symbol_headers,
     "text-headers": text_headers,
     "few-text-headers": few_text_headers,
+    "short-branches": short_branches,
 }
 # Those in which a few bytes say so much that it has a bound.
 BOUNDED_FILES = {"indirect-jumps": indirect_jumps, "relocation-phases": relocation_phases}

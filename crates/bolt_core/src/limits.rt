@@ -21,14 +21,17 @@ use answer_runs::WEIGHT_LIMIT;
 use elf_image::Elf;
 use elf_write::name_weight;
 use program::{FILE_LIMIT, check_code};
-use rb_bytes::fault::{Fault, FaultKind, Refusal};
+use rb_bytes::fault::{Fault, FaultKind, NoMemory, Refusal};
 use rb_bytes::limit::{FILE_BYTES, HEADERS, PROFILE_BYTES, WEIGHTS};
-use rv_code::Func;
+use rv_code::{Block, Func};
 use std::alloc::Global;
 use table_set::{AllTables, is_too_heavy};
 
 // The most headers of sections, and of segments.
 const HEADER_LIMIT: usize = 65_000;
+
+// The most blocks: as many of two bytes as new code may have. A program with more is refused in any case.
+const MOST_BLOCKS: usize = 1 << 23;
 
 /// Refuses a file that is too long, at 0, and then a profile, at 1.
 pub fn check_lengths(file: &[u8], profile: &[u8]) -> Result<(), Refusal>
@@ -42,6 +45,15 @@ pub fn check_lengths(file: &[u8], profile: &[u8]) -> Result<(), Refusal>
         return Err(Refusal::Fault(Fault::at(FaultKind::TooLarge, PROFILE_BYTES)));
     }
     Ok(())
+}
+
+/// Answers want of memory for more blocks than any written file has: their layout would take much of it.
+pub fn check_blocks(blocks: &[Block]) -> Result<(), NoMemory> {
+    if blocks.len() > MOST_BLOCKS {
+        Err(NoMemory)
+    } else {
+        Ok(())
+    }
 }
 
 /// Refuses a program that passes one of the other limits: on its code, at 2 and 3, on its headers, at 5, or on the

@@ -18,7 +18,7 @@ ghost use Rattle.bolt_core.specs.internal.MovedCode.{IsMovedCode};
 use crate::carrying::new_tables;
 use crate::cold_parts::cold_starts;
 use crate::counting::{count_hot, count_insts};
-use crate::limits::{check_lengths, check_sizes, check_weight};
+use crate::limits::{check_blocks, check_lengths, check_sizes, check_weight};
 use crate::reading::read_tables;
 use addr_map::AddrMap;
 use edge_profile::Profile;
@@ -61,6 +61,7 @@ pub fn rewrite(alloc: Global, file: &[u8], profile: &[u8]) -> Result<Rewritten, 
     let program = program::read_program(alloc, file)?;
     let funcs = program.funcs.as_slice();
     let blocks = program.blocks.as_slice();
+    check_blocks(blocks)?;
     let counts = edge_profile::read(alloc, profile, &program.elf, funcs)?;
     let pairs = counts.pairs();
     let weights = block_weights(alloc, funcs, blocks, &counts)?;
