@@ -13,6 +13,9 @@ use program::Program;
 use rb_bytes::fault::{NoMemory, Refusal};
 use std::alloc::Global;
 
+// How many edges may be beside one for each two bytes of the file. Compilers make ten times less.
+const EDGES_BESIDE: usize = 1 << 21;
+
 /// The text of a repaired profile, and the lines that are printed.
 #[derive(Drop)]
 pub struct Outputs {
@@ -46,6 +49,15 @@ fn edges_of(alloc: Global, program: &Program<'_>) -> Result<Vec<(usize, usize)>,
     cfg_build::edges(alloc, funcs, blocks, &targets)
 }
 
+// Answers want of memory for more edges than code has but for jumps through tables: their flows would take much of it.
+fn check_edges(edges: &[(usize, usize)], file: &[u8]) -> Result<(), NoMemory> {
+    if edges.len() > file.len() / 2 + EDGES_BESIDE {
+        Err(NoMemory)
+    } else {
+        Ok(())
+    }
+}
+
 // Repairs a profile of a program.
 fn repaired_counts(
     alloc: Global,
@@ -61,6 +73,7 @@ fn repaired_counts(
     let blocks = program.blocks.as_slice();
     let found = edges_of(alloc, program)?;
     let edges = found.as_slice();
+    check_edges(edges, program.elf.file)?;
     let counts = edge_profile::read(alloc, profile, &program.elf, funcs)?;
     let pairs = counts.pairs();
     let entry = program.elf.entry;
