@@ -37,9 +37,9 @@ impl Model for AddrMap {
 }
 
 impl AddrMap {
-    /// Takes the spans of a map, in any order: one for each instruction, with no byte in two of them. Takes the time
-    /// of two sorts, less where stretches of them are in order, and about 65 bytes for each span, of which it keeps
-    /// about 40.
+    /// Makes a map of its spans, in any order: one for each instruction, with no byte in two of them. It takes the time
+    /// of two sorts, less where long stretches of `spans` are in order, and about 65 bytes a span, of which the map
+    /// keeps about 40.
     pub fn new(alloc: Global, spans: Vec<Span>) -> Result<AddrMap, NoMemory>
         requires once { AllPairs (λ s t. s.input ≢ t.input) spans.items }
         requires disjoint { AllPairs ShareNoByte spans.items }
@@ -61,7 +61,7 @@ impl AddrMap {
         self.by_old.moved(a)
     }
 
-    /// The new address of the instruction at `a`; an address at which none is stays as it is.
+    /// The new address of the instruction at `a`, or `a` itself where no instruction of the map is.
     pub fn new_address(&self, a: u64) -> u64
         ensures { result ≡ new self.now a }
     {

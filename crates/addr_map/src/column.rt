@@ -47,7 +47,7 @@ impl SortedColumn {
         rank_below(&self.members, &self.levels, x)
     }
 
-    /// The members.
+    /// All members, ascending.
     pub(crate) fn members(&self) -> &[u64]
         ensures { result.now ≡ self.now }
     {
@@ -68,7 +68,7 @@ fn levels_over(alloc: Global, column: &[u64]) -> Result<Vec<Vec<u64>>, NoMemory>
     Ok(levels)
 }
 
-// The first of each group of members.
+// The first member of each group of `GROUP`; the last group may be shorter.
 fn firsts_of(alloc: Global, column: &[u64]) -> Result<Vec<u64>, NoMemory>
     ensures { IfOk result (λ firsts. IsFirsts firsts.items column.now) }
 {
@@ -81,7 +81,8 @@ fn firsts_of(alloc: Global, column: &[u64]) -> Result<Vec<u64>, NoMemory>
     Ok(firsts)
 }
 
-// How many members of a column are at most `x`, by the levels over it. There are few levels, so it doesn't go deep.
+// How many members of `column` are at most `x`, by the levels over it. Each level has a 64th of the members of the one
+// below it, so the recursion doesn't go deep.
 fn rank_below(column: &[u64], levels: &[Vec<u64>], x: u64) -> usize
     requires ascending { IsAscending column.now }
     requires levels { AreLevels column.now levels.now }
@@ -93,7 +94,8 @@ fn rank_below(column: &[u64], levels: &[Vec<u64>], x: u64) -> usize
     }
 }
 
-// How many members are at most `x`: those before the last group that begins with one that is, and some of that group.
+// How many members are at most `x`, where just the first `groups` groups begin with such a member: all of the groups
+// before the last of these, and some of that one.
 fn rank_in_group(column: &[u64], groups: usize, x: u64) -> usize
     requires ascending { IsAscending column.now }
     requires groups { IsGroupCount column.now x groups }
@@ -108,7 +110,7 @@ fn rank_in_group(column: &[u64], groups: usize, x: u64) -> usize
     start + rank_among(group, x)
 }
 
-// How many of a few numbers that ascend are at most `x`.
+// How many of a few ascending `numbers` are at most `x`.
 fn rank_among(numbers: &[u64], x: u64) -> usize
     requires { IsNonDecreasingBy (λ n. n) numbers.now }
     ensures { result ≡ rank numbers.now x }

@@ -17,7 +17,8 @@ pub(crate) struct NewOrder {
     outs: SortedColumn,
     lens: Vec<u8>,
     inputs: Vec<u64>,
-    /// For each span the last one up to it that has bytes, or the first of all.
+    /// For each line the last line up to it whose span has bytes, or 0 where there is none. A byte after a span without
+    /// bytes may belong to a longer one that began before.
     holders: Vec<usize>,
 }
 
@@ -60,7 +61,7 @@ impl NewOrder {
         self.inputs.len()
     }
 
-    /// The span of a line.
+    /// The span of line `i`, counted from 0.
     pub(crate) fn line(&self, i: usize) -> Span
         requires { i < length self.now }
         ensures { slice_get self.now i ≡ Some result }
@@ -72,7 +73,7 @@ impl NewOrder {
         }
     }
 
-    /// The span of a line, if there is such a line.
+    /// The span of line `i`, or None where there is no such line.
     pub(crate) fn span(&self, i: usize) -> Option<Span>
         ensures { result ≡ slice_get self.now i }
     {
@@ -83,7 +84,7 @@ impl NewOrder {
         }
     }
 
-    /// The instruction to which the byte at `p` belongs.
+    /// The address of the instruction to which the new byte at `p` belongs.
     pub(crate) fn owner(&self, p: u64) -> Option<u64>
         ensures { result ≡ owner self.now p }
     {
@@ -100,7 +101,7 @@ impl NewOrder {
     }
 }
 
-// For each span the last one up to it that has bytes, or the first of all.
+// The `holders` of spans whose lengths are `lens`.
 #[tactic(auto, using(crate::proofs::Owners::holder_here, crate::proofs::Owners::holder_none, crate::proofs::Owners::holder_next))]
 fn holders_of(alloc: Global, lens: &[u8]) -> Result<Vec<usize>, NoMemory>
     ensures count { IfOk result (λ holders. length holders.items ≡ length lens.now) }

@@ -35,7 +35,7 @@ impl OldOrder {
         })
     }
 
-    /// Where the instruction at `a` went.
+    /// The new address of the instruction at `a`, or None where no instruction is.
     pub(crate) fn moved(&self, a: u64) -> Option<u64>
         ensures { result ≡ moved_in self.now.inputs.items self.now.outs.items a }
     {

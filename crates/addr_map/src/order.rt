@@ -1,5 +1,5 @@
-// The two orders of spans. Both sorts are stable, since these merge stretches that are in order already: spans come as
-// blocks of code, in the order of lines but for a few.
+// The two orders of spans. Spans come block by block, so they are in the order of lines but for a few; both sorts are
+// stable ones, which merge stretches that are in order already.
 ghost use Rattle.std.specs.Prelude.{AllPairs, OnOk, map};
 ghost use Rattle.std.specs.List.Sorted.{IsPermutation};
 ghost use Rattle.addr_map.specs.MapText.{AreInLineOrder};

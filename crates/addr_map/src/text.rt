@@ -1,4 +1,5 @@
-// The text of a map, in pieces of some lines, each of which is written from its end.
+// The text of a map, in pieces of at most `LINES` lines. Each is written from its last byte to its first, since the
+// digits of a number come lowest first.
 ghost use Rattle.std.specs.Prelude.{◌≡◌, ◌+◌, ◌*◌, ◌++◌, ◌-◌, ◌<◌, ◌≤◌, OnErr, OnOk, ◌∷◌, decimal, drop, length};
 ghost use Rattle.std.specs.Prelude.{slice_range, take};
 ghost use Rattle.rb_io.specs.CallResults.{IfTook};
@@ -13,14 +14,14 @@ use rb_bytes::fault::NoMemory;
 use rb_bytes::text::write_hex;
 use rb_io::{Put, Sink, print_all};
 
-// A line has at most two numbers of 16 digits, one of three, two blanks and its end.
+// The most bytes of a line: two numbers of 16 digits, one of three, two blanks and the line feed.
 const LINE_LENGTH: usize = 38;
-// How many lines are written at once.
+// How many lines a piece has at most.
 const LINES: usize = 64;
-// The room for as many lines.
+// The most bytes of a piece.
 const PIECE_LENGTH: usize = LINES * LINE_LENGTH;
 
-// Writes a byte before the place `end`, and gives its place.
+// Writes `byte` before the place `end`, and gives the place where it stands.
 fn write_byte(byte: u8, buf: &mut [u8], end: usize) -> usize
     requires room { 1 ≤ end }
     requires inside { end ≤ length buf.old }
@@ -32,7 +33,7 @@ fn write_byte(byte: u8, buf: &mut [u8], end: usize) -> usize
     start
 }
 
-// Writes a length in decimal before the place `end`, and gives the place where it begins.
+// Writes `len` in decimal before the place `end`, and gives the place where it begins.
 fn write_length(len: u8, buf: &mut [u8], end: usize) -> usize
     requires room { 3 ≤ end }
     requires inside { end ≤ length buf.old }
@@ -59,7 +60,7 @@ fn write_line(span: &Span, buf: &mut [u8], end: usize) -> usize
     write_hex(span.out, buf, blank)
 }
 
-// Writes some lines to the end of `buf`, and gives the place where they begin.
+// Writes the lines from `first` to before `last` to the end of `buf`, and gives the place where they begin.
 fn write_lines(map: &NewOrder, first: usize, last: usize, buf: &mut [u8]) -> usize
     requires order { first ≤ last }
     requires inside { last ≤ length map.now }
@@ -77,7 +78,7 @@ fn write_lines(map: &NewOrder, first: usize, last: usize, buf: &mut [u8]) -> usi
     start
 }
 
-// The end of the lines that are written at once from `first` on.
+// The line before which the piece ends that begins with line `first`, of `count` lines in all.
 fn piece_end(first: usize, count: usize) -> usize
     requires { first < count }
     ensures rises { first < result }
@@ -87,7 +88,7 @@ fn piece_end(first: usize, count: usize) -> usize
     first + LINES.min(count - first)
 }
 
-// Appends the text of the lines. After an error some of them were appended.
+// Appends the text of all lines. After an error some of it may have been appended.
 fn append_lines(map: &NewOrder, into: &mut Vec<u8>) -> Result<(), NoMemory>
     ensures ok { OnOk result (into.new.items ≡ into.old.items ++ map_text map.now) }
     ensures err { OnErr result (take (length into.old.items) into.new.items ≡ into.old.items) }
@@ -103,7 +104,7 @@ fn append_lines(map: &NewOrder, into: &mut Vec<u8>) -> Result<(), NoMemory>
     Ok(())
 }
 
-/// Appends the text of the map.
+/// Appends the text of the map. After an error `into` is as it was.
 pub(crate) fn append_text(map: &NewOrder, into: &mut Vec<u8>) -> Result<(), NoMemory>
     ensures ok { OnOk result (into.new.items ≡ into.old.items ++ map_text map.now) }
     ensures err { OnErr result (into.new.items ≡ into.old.items) }

@@ -20,7 +20,7 @@ fn number<'a>(cursor: &mut Cursor<'a>) -> Result<u64, Trouble>
     Ok(number)
 }
 
-// The next pair as a range, and none at the two zeros that end a table.
+// The next pair as a range, or none at the two zeros that end a table.
 fn next_pair<'a>(cursor: &mut Cursor<'a>) -> Result<Option<Range>, Trouble>
     ensures read { IfOk result (λ o. pair_at cursor.old.left ≡ Ok (o, cursor.new.left)) }
     ensures trouble { IfErr result (λ e. pair_at cursor.old.left ≡ Err e) }
@@ -37,7 +37,7 @@ fn next_pair<'a>(cursor: &mut Cursor<'a>) -> Result<Option<Range>, Trouble>
     }))
 }
 
-/// The ranges up to the two zeros that end a table.
+/// The ranges of a table, up to the two zeros that end it, which have to be there.
 pub fn read_pairs<'a>(alloc: Global, cursor: &mut Cursor<'a>) -> Result<Vec<Range>, Stop>
     ensures read { IfOk result (λ rs. pairs_within (length cursor.old.left) cursor.old.left ≡ Ok rs.items) }
     ensures trouble { IfTrouble result (λ e. pairs_within (length cursor.old.left) cursor.old.left ≡ Err e) }

@@ -1,4 +1,4 @@
-// The units of addresses, or the first fault.
+// An index of `.debug_aranges`, or its first fault.
 ghost use Rattle.std.specs.Prelude.{◌≡◌, IfOk, OnOk, IfErr};
 ghost use Rattle.rb_bytes.specs.FirstFault.{IsFree, IsRefusalBy};
 ghost use Rattle.dw_unit.specs.Faults.{FaultPlaces as Places, HasDwarfFault};
@@ -13,8 +13,7 @@ use rb_bytes::fault::Refusal;
 use std::alloc::Global;
 use table_core::{ARANGES_VERSION, debug_units};
 
-/// Reads a section of tables, or refuses it for the first of its faults and of those of units, which come before its
-/// own.
+/// Reads `.debug_aranges`, or refuses it for its first fault; `units` has the faults of units, which come first.
 pub fn read_index(alloc: Global, units: FaultPlaces, section: &[u8]) -> Result<UnitIndex, Refusal>
     ensures kept { IfOk result (AreKept section.now) }
     ensures free { OnOk result ((p : Places) →

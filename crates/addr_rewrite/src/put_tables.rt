@@ -8,10 +8,11 @@ use rb_bytes::fault::NoMemory;
 use rb_bytes::little::{put_u16, put_u32, put_u64};
 use table_core::ARANGES_VERSION;
 
-// An address size of 8, and a segment selector size of 0.
+// An address size of 8 and a segment selector size of 0, as one number of 16 bits.
 const SIZES: u16 = 8;
 
-// How many bytes a table has behind its length, but for its pairs: the header, and the two zeros that end the pairs.
+// How many bytes a table has behind its length, without its pairs: eight of the header, four that are passed, and the
+// two zeros that end the pairs.
 const FIXED_SIZE: usize = 28;
 
 // How many bytes a pair has.
@@ -25,7 +26,7 @@ fn put_pair(out: &mut Vec<u8>, address: u64, len: u64) -> Result<(), NoMemory>
     Ok(())
 }
 
-// A pair for each stretch, and the two zeros that end them.
+// Appends a pair for each stretch, and the two zeros that end them.
 fn put_pairs(out: &mut Vec<u8>, stretches: &[Stretch]) -> Result<(), NoMemory>
     ensures { OnOk result (out.new.items ≡ out.old.items ++ spec.pairs_bytes stretches.now) }
 {
@@ -36,7 +37,8 @@ fn put_pairs(out: &mut Vec<u8>, stretches: &[Stretch]) -> Result<(), NoMemory>
     Ok(())
 }
 
-// A table of a unit, behind its length.
+// Appends the table of a unit, with its length before it. The first pair stands at a multiple of 16 from the table's
+// start, behind four more bytes.
 fn put_table(out: &mut Vec<u8>, unit: u32, stretches: &[Stretch]) -> Result<(), NoMemory>
     requires { 28 + 16 * length stretches.now < 2 ^ 32 - 1 }
     ensures { OnOk result (out.new.items ≡ out.old.items ++ spec.spelled_table (spec.table_bytes unit stretches.now)) }
@@ -63,14 +65,14 @@ fn count_of(unit: u32, stretches: &[Stretch]) -> usize
     stretches.len()
 }
 
-/// Appends a table for each unit. The stretches of a unit follow one another.
+/// Appends a table for each unit. Stretches of one unit have to follow one another.
 pub fn put_tables(out: &mut Vec<u8>, stretches: &[Stretch]) -> Result<(), NoMemory>
     requires { 28 + 16 * length stretches.now < 2 ^ 32 - 1 }
     ensures { OnOk result (out.new.items
         ≡ out.old.items ++ spec.spelled_tables (spec.tables_of (length stretches.now) stretches.now)) }
 {
     let mut rest = stretches;
-    // Each has a stretch or more.
+    // Each table has a stretch at least. `count` isn't read: it bounds the loop.
     for count in 0..stretches.len() {
         match rest.split_first() {
             None => return Ok(()),

@@ -7,7 +7,7 @@ use answer_runs::Run;
 use rb_bytes::fault::NoMemory;
 use std::alloc::Global;
 
-/// Bytes of new code that belong to one unit.
+/// A stretch of new code that belongs to one unit.
 #[derive(Clone, Copy)]
 pub struct Stretch {
     /// The offset of the unit in `.debug_info`.
@@ -33,7 +33,7 @@ fn stretches_of(alloc: Global, runs: &[Run<u64>]) -> Result<Vec<Stretch>, NoMemo
     Ok(stretches)
 }
 
-/// The stretches of runs by their units; those of one unit stand in the order of the runs.
+/// The stretches of runs, sorted by their units; those of one unit stay in the order of the runs.
 pub fn sorted(alloc: Global, runs: &[Run<u64>]) -> Result<Vec<Stretch>, NoMemory>
     requires { All (λ r. r.answer < 2 ^ 32) runs.now }
     ensures same { IfOk result (λ ss. IsPermutation (map stretch_of runs.now) ss.items) }

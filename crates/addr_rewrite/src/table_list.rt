@@ -60,7 +60,7 @@ fn add_table(alloc: Global, read: &mut ReadTables, table: &DebugUnit) -> Result<
     }
 }
 
-/// Reads tables that were walked to.
+/// Reads tables that were walked to. One that can't be read is no error, but noted.
 pub fn read_tables(alloc: Global, tables: &[DebugUnit]) -> Result<ReadTables, NoMemory>
     ensures { IfOk result (AreTables tables.now) }
 {

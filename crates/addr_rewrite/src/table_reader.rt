@@ -12,7 +12,7 @@ use dw_unit::trouble::{Stop, Trouble};
 use rb_bytes::cursor::Cursor;
 use std::alloc::Global;
 
-/// A table behind its length.
+/// A table: a unit, and the ranges of addresses that belong to it.
 #[derive(Drop)]
 pub struct Table {
     /// The offset of the unit in `.debug_info`.
@@ -36,7 +36,7 @@ fn word<'a>(cursor: &mut Cursor<'a>) -> Result<u32, Trouble>
     Ok(number)
 }
 
-// Passes the bytes before the first pair.
+// Passes the four bytes behind the header: the first pair stands at a multiple of 16 from the table's start.
 fn padding<'a>(cursor: &mut Cursor<'a>) -> Result<&'a [u8], Trouble>
     ensures read { IfOk result (λ x. whole (bytes_at 4 cursor.old.left) ≡ Ok (x.now, cursor.new.left)) }
     ensures trouble { IfErr result (λ e. whole (bytes_at 4 cursor.old.left) ≡ Err e) }
@@ -45,7 +45,8 @@ fn padding<'a>(cursor: &mut Cursor<'a>) -> Result<&'a [u8], Trouble>
     Ok(bytes)
 }
 
-// The unit's offset, in the header behind the length of a table.
+// Reads a table's header behind its length, and answers the unit's offset. The version isn't tested here: another one
+// is a fault of its own.
 fn header<'a>(cursor: &mut Cursor<'a>) -> Result<u64, Trouble>
     ensures read { IfOk result (λ x. table_header cursor.old.left ≡ Ok (x, cursor.new.left)) }
     ensures trouble { IfErr result (λ e. table_header cursor.old.left ≡ Err e) }

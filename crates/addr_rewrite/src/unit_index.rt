@@ -1,4 +1,4 @@
-// The units of addresses.
+// The unit of an address, by an index.
 ghost use Rattle.std.specs.Prelude.{◌≡◌, ℕ, IfOk, map, option_map};
 ghost use Rattle.std.specs.List.{find};
 ghost use Rattle.answer_runs.specs.AddressRanges.{holds_address};
@@ -8,7 +8,7 @@ use answer_runs::{FirstRange, Range};
 use rb_bytes::fault::NoMemory;
 use std::alloc::Global;
 
-/// Which unit the first of many ranges belongs to that holds an address.
+/// An index of ranges that belong to units: of the first one that holds an address, the unit.
 #[derive(Drop)]
 pub struct UnitIndex {
     /// The unit of each range.
@@ -31,7 +31,7 @@ fn bounds_of(alloc: Global, ranges: &[UnitRange]) -> Result<Vec<Range>, NoMemory
 impl UnitIndex {
     ghost use Rattle.addr_rewrite.specs.ArangesReading.{unit_found};
 
-    /// An index of some ranges, of which the first that holds an address counts.
+    /// An index of some ranges, which may overlap: the first that holds an address counts.
     pub fn new(alloc: Global, ranges: &[UnitRange]) -> Result<UnitIndex, NoMemory>
         ensures { IfOk result (λ index. (a : ℕ) → unit_found index a
             ≡ option_map (λ r. r.unit) (find (λ r. holds_address a r.range) ranges.now)) }
@@ -42,7 +42,7 @@ impl UnitIndex {
         Ok(UnitIndex { units, first })
     }
 
-    /// The unit of an address.
+    /// The offset in `.debug_info` of the unit of an address, if it has one.
     pub fn find(&self, a: u64) -> Option<u64>
         ensures { result ≡ unit_found self.now a }
     {

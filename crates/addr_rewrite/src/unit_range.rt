@@ -1,7 +1,7 @@
 // Ranges of addresses that belong to units.
 use answer_runs::Range;
 
-/// A range of a table of addresses.
+/// A range of a table of `.debug_aranges`.
 #[derive(Clone, Copy)]
 pub struct UnitRange {
     pub range: Range,

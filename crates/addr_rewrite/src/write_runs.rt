@@ -11,14 +11,14 @@ use answer_runs::{RUN_WEIGHT, Run};
 use rb_bytes::fault::NoMemory;
 use std::alloc::Global;
 
-/// The weight of some runs; where it is none of 64 bits, the greatest number.
+/// The weight of some runs, or the greatest number where it is none of 64 bits.
 pub fn weight_of(runs: &[Run<u64>]) -> u64
     ensures { result ≡ min (run_weight * length runs.now) (2 ^ 64 - 1) }
 {
     (runs.len() as u64).saturating_mul(RUN_WEIGHT)
 }
 
-/// Appends a table for each unit of some runs, with a pair for each of its runs.
+/// Appends a table for each unit that runs have for an answer, with a pair for each of its runs.
 pub fn put_runs(alloc: Global, out: &mut Vec<u8>, runs: &[Run<u64>]) -> Result<(), NoMemory>
     requires units { All (λ r. r.answer < 2 ^ 32) runs.now }
     requires few { run_weight * length runs.now ≤ weight_limit }

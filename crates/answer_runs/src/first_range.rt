@@ -8,8 +8,8 @@ use crate::range::Range;
 use rb_bytes::fault::NoMemory;
 use std::alloc::Global;
 
-/// Which of many ranges is the first that holds an address. It is made in the time of a sort, takes 64 bytes a range,
-/// and answers in the time of a binary search.
+/// Which of many ranges is the first that holds an address. It is made in the time of a sort, takes up to 64 bytes a
+/// range, and answers in the time of a binary search.
 #[derive(Drop)]
 pub struct FirstRange {
     pieces: Vec<Piece>,
@@ -19,7 +19,7 @@ pub struct FirstRange {
 impl FirstRange {
     ghost use Rattle.answer_runs.specs.FirstRanges.{first_range};
 
-    /// An index of some ranges, which are numbered from 0.
+    /// An index of some ranges, which are numbered from 0. They may overlap, and may be empty.
     pub fn new(alloc: Global, ranges: &[Range]) -> Result<FirstRange, NoMemory>
         ensures { IfOk result (λ index. (a : ℕ) → first_range index a ≡ position (holds_address a) ranges.now) }
     {
@@ -27,7 +27,7 @@ impl FirstRange {
         Ok(FirstRange { pieces })
     }
 
-    /// The number of the first range that holds an address.
+    /// The number of the first range that holds an address, if one does.
     pub fn find(&self, a: u64) -> Option<usize>
         ensures { result ≡ first_range self.now a }
     {

@@ -5,7 +5,7 @@ ghost use Rattle.answer_runs.specs.LastRuns as last;
 
 use crate::run::Run;
 
-/// Whether the last run ends at an address.
+/// Whether there is a last run, and it ends at an address.
 pub fn ends_at<A>(runs: &[Run<A>], end: u64) -> bool
     requires { IsWithin 0 runs.now end }
     ensures { result ≡ last.ends_at end runs.now }
@@ -16,7 +16,7 @@ pub fn ends_at<A>(runs: &[Run<A>], end: u64) -> bool
     }
 }
 
-/// Lets the last run go on over more bytes.
+/// Makes the last run longer by `len` bytes; does nothing where there is none.
 pub fn lengthen<A>(runs: &mut Vec<Run<A>>, len: u64)
     requires { last.IfLast (λ r. r.len + len < 2 ^ 64) runs.old.items }
     ensures { runs.new.items ≡ last.lengthened len runs.old.items }

@@ -1,4 +1,4 @@
-// The addresses cut into pieces, at all addresses of each of which one range is the first that holds them.
+// The addresses cut into pieces: all addresses of a piece have the same first range that holds them.
 ghost use Rattle.std.specs.Prelude.{◌≡◌, ◌<◌, ◌≤◌, ◌+◌, ◌^◌, ◌⊎◌, ◌∷◌, [], ℕ, None, IfOk, IsTrue, IsFalse, length};
 ghost use Rattle.std.specs.Prelude.{slice_index_or};
 ghost use Rattle.std.specs.List.{position_from};
@@ -12,14 +12,15 @@ use crate::range::Range;
 use rb_bytes::fault::NoMemory;
 use std::alloc::Global;
 
-// The addresses up to the start of the next piece, and the number of the first range that holds them.
+// The addresses from `start` up to the next piece, and the number of the first range that holds them, if one does.
+// Starts are of 128 bits, since a range may end at 2^64 or above.
 #[derive(Clone, Copy)]
 pub(crate) struct Piece {
     pub(crate) start: u128,
     pub(crate) first: Option<usize>,
 }
 
-// The pieces of ranges that are numbered from `number` on.
+// The pieces of ranges that are numbered from `number` on, by merging those of two halves.
 pub(crate) fn pieces_of(
     alloc: Global,
     ranges: &[Range],
@@ -63,7 +64,8 @@ fn pieces_of_one(alloc: Global, range: Range, number: usize) -> Result<Vec<Piece
     Ok(pieces)
 }
 
-// The pieces of ranges, from those of the ones in front and of the ones behind.
+// Merges the pieces of some ranges with those of the ranges behind them; where ranges of both hold an address, one in
+// front is the first. Each piece of either list makes one.
 fn merged(alloc: Global, front: &[Piece], back: &[Piece]) -> Result<Vec<Piece>, NoMemory>
     requires front { IsNonDecreasingBy (λ p. p.start) front.now }
     requires back { IsNonDecreasingBy (λ p. p.start) back.now }
@@ -95,7 +97,7 @@ fn merged(alloc: Global, front: &[Piece], back: &[Piece]) -> Result<Vec<Piece>, 
     Ok(pieces)
 }
 
-// Whether the piece of an index in front is the next one to be taken.
+// Whether `front[i]` is taken next, and not `back[j]`: it starts no later, or nothing is left of `back`.
 fn is_front_next(front: &[Piece], i: usize, back: &[Piece], j: usize) -> bool
     requires { (i < length front.now) ⊎ (j < length back.now) }
     ensures front { IsTrue result → IsNext front.now i back.now j }
@@ -110,7 +112,7 @@ fn is_front_next(front: &[Piece], i: usize, back: &[Piece], j: usize) -> bool
     }
 }
 
-// How many pieces start at an address or before it.
+// How many pieces start at or below an address.
 pub(crate) fn count_up_to(pieces: &[Piece], a: u128) -> usize
     requires { IsNonDecreasingBy (λ p. p.start) pieces.now }
     ensures bound { result ≤ length pieces.now }

@@ -9,8 +9,8 @@ ghost use Rattle.area_room.specs.Need.{AreBlocksOf};
 use crate::bounds::count_below;
 use rv_code::{Block, Func};
 
-/// How many blocks have an instruction that starts in a range: those that start in it, and perhaps the last one that
-/// starts before it. `starts` says where each starts.
+/// How many blocks have an instruction that starts from `low` to before `high`: those that start there, and perhaps the
+/// last one that starts below `low`. `starts` has where each block starts, ascending.
 pub(crate) fn count_blocks_in(
     funcs: &[Func],
     blocks: &[Block],
@@ -35,7 +35,7 @@ pub(crate) fn count_blocks_in(
     }
 }
 
-// Whether a block has an instruction that starts in a range. A binary search.
+// Whether a block has an instruction that starts from `low` to before `high`. A binary search.
 fn has_inst_in(funcs: &[Func], block: &Block, low: u64, high: u64) -> bool
     requires laid { AreLaidOut funcs.now }
     requires block { IsOfFunction funcs.now block.now }

@@ -1,4 +1,4 @@
-// Numbers in ascending lists.
+// Numbers counted in ascending lists.
 ghost use Rattle.std.specs.Prelude.{◌≡◌, nat_le, nat_lt, length, filter, IfOk};
 ghost use Rattle.std.specs.List.Sorted.{IsNonDecreasing, IsPermutation};
 ghost use Rattle.area_room.specs.EntryNeeds.{bounds_of, is_strictly_between};
@@ -21,7 +21,7 @@ pub(crate) fn ascending_bounds(alloc: Global, entries: &[Fde]) -> Result<Vec<u64
     Ok(bounds)
 }
 
-/// How many numbers of an ascending list lie below another.
+/// How many of `numbers`, which ascend, are below `end`.
 pub(crate) fn count_below(numbers: &[u64], end: u64) -> usize
     requires { IsNonDecreasing numbers.now }
     ensures { result ≡ length (filter (λ n. nat_lt n end) numbers.now) }
@@ -29,7 +29,7 @@ pub(crate) fn count_below(numbers: &[u64], end: u64) -> usize
     numbers.partition_point(|n| *n < end)
 }
 
-// How many numbers of an ascending list are at most another.
+// How many of `numbers`, which ascend, are at most `last`.
 fn count_up_to(numbers: &[u64], last: u64) -> usize
     requires { IsNonDecreasing numbers.now }
     ensures { result ≡ length (filter (λ n. nat_le n last) numbers.now) }
@@ -37,7 +37,7 @@ fn count_up_to(numbers: &[u64], last: u64) -> usize
     numbers.partition_point(|n| *n <= last)
 }
 
-/// How many numbers of an ascending list lie strictly between two.
+/// How many of `numbers`, which ascend, lie strictly between `low` and `high`.
 pub(crate) fn count_between(numbers: &[u64], low: u64, high: u64) -> usize
     requires { IsNonDecreasing numbers.now }
     ensures { result ≡ length (filter (is_strictly_between low high) numbers.now) }

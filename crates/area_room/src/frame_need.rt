@@ -23,6 +23,7 @@ use table_core::section::held_by;
 // For the end of a table, the head of its index, and the alignment of both.
 const TABLE_NEED: u64 = 64;
 
+// For an entry that others share (a CIE).
 const CIE_NEED: u64 = 64;
 
 // For the fields of an entry, its pair in the index and its first row, beside the rules and the expressions.
@@ -52,7 +53,7 @@ pub(crate) fn frame_need(
     Ok(cies.saturating_add(TABLE_NEED).saturating_add(entries))
 }
 
-// What the entries that are made of those of a table need.
+// How many bytes all entries take at most that are made of `entries`.
 fn entries_need(
     alloc: Global,
     funcs: &[Func],
@@ -70,7 +71,8 @@ fn entries_need(
     Ok(need)
 }
 
-// The bytes that the frames may need, by the starts of blocks and the bounds of entries, ascending.
+// The sum of what is needed for each of `entries`. `starts` has where each block starts, and `bounds` the starts and
+// ends of all entries; both ascend.
 fn sum_of_needs(
     funcs: &[Func],
     blocks: &[Block],
@@ -91,8 +93,8 @@ fn sum_of_needs(
     sum
 }
 
-// What the entries that are made of one need: one for each block in its range, row of it, and bound of another in its
-// range.
+// How many bytes the entries take at most that are made of `entry`: there are no more of them than blocks in its range,
+// rows, and bounds of other entries strictly inside its range together.
 fn entry_need(funcs: &[Func], blocks: &[Block], starts: &[u64], bounds: &[u64], entry: &Fde) -> u64
     requires laid { AreLaidOut funcs.now }
     requires blocks { AreBlocksOf funcs.now blocks.now }
@@ -108,7 +110,8 @@ fn entry_need(funcs: &[Func], blocks: &[Block], starts: &[u64], bounds: &[u64], 
     pieces.saturating_mul(piece_size(entry))
 }
 
-// The most bytes of an entry that is made of another.
+// The most bytes of one entry that is made of `entry`. Beside the rules of its registers it has that of the frame
+// address.
 fn piece_size(entry: &Fde) -> u64
     ensures { result ≡ capped (size_of entry.now) }
 {

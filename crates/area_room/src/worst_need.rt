@@ -11,7 +11,7 @@ use rb_bytes::fault::NoMemory;
 use rv_code::{Block, Func, worst_size_of_block};
 use std::alloc::Global;
 
-// The worst sizes of all blocks.
+// The sum of the worst sizes of all blocks, or the greatest number of 64 bits.
 fn code_need(funcs: &[Func], blocks: &[Block]) -> u64
     ensures { result ≡ capped (spec.code_need funcs.now blocks.now) }
 {

@@ -1,4 +1,4 @@
--- The links that the first so many edges make, and the ends of the chains that are kept beside them.
+-- The links that the first k edges make, and the ends of the chains that are kept beside them.
 use Rattle.std.specs.Prelude.{ℕ, ◌≡◌, ◌<◌, ◌⊎◌, List, Option, Some, None, length, slice_index_or}
 use Rattle.block_layout.specs.Links.{Links}
 use Rattle.block_layout.specs.declared.edge_counts.Edge.{Edge}

@@ -21,7 +21,7 @@ pub record AreSplit (blocks : List Block) (weight : ℕ → ℕ) (p : Links) (f 
   pub cold_part : ListsNumbers (λ k. IsOf blocks f k × (Contains hot k → ⊥)) cold
   pub all : IsPermutation (blocks_of_function blocks f) (hot ++ cold)
 
--- the parts of the first so many functions
+-- the parts of the first `count` functions
 pub record AreSplitTo (blocks : List Block) (weight : ℕ → ℕ) (p : Links) (count : ℕ) (parts : Chains) : Type 0 where
   pub hot_count : length parts.hot.items ≡ count
   pub cold_count : length parts.cold.items ≡ count

@@ -1,4 +1,4 @@
-// Edges with their counts, in the order in which they are taken.
+// Edges with their counts, in the order in which they may link blocks.
 ghost use Rattle.std.specs.Prelude.{◌≡◌, ◌<◌, ◌≤◌, ℕ, All, AllPairs, IfOk, IsPermutation, IsSomeAnd, OnOk, length};
 ghost use Rattle.std.specs.Prelude.{slice_index_or};
 ghost use Rattle.rv_code.specs.declared.placed.Block.{Block};
@@ -24,7 +24,8 @@ pub struct Edge {
     pub count: u128,
 }
 
-/// The edges of positive count, in the order in which they are taken.
+/// The edges of positive count, in the order in which they may link blocks: by greater count, then by lower source and
+/// target.
 pub fn counted_edges(
     alloc: Global,
     funcs: &[Func],
@@ -58,8 +59,8 @@ pub fn counted_edges(
     Ok(taken)
 }
 
-// How often control went from the end of a block to the start of another. `near` is about where the pairs of a profile
-// stand that are asked for.
+// How often control went from the last instruction of `source` to the first one of `target`. `near` is the guess of
+// `Profile::count_near`.
 fn count_along(
     funcs: &[Func],
     source: &Block,
@@ -77,7 +78,7 @@ fn count_along(
     profile.count_near(near, last, first)
 }
 
-// The address of an instruction of a block's function.
+// The address of instruction `inst` of the function of `block`.
 fn inst_address(funcs: &[Func], block: &Block, inst: usize) -> u64
     requires { IsSomeAnd (func_of funcs.now block.now) (λ func. inst < length func.insts.items) }
     ensures { result ≡ inst_address funcs.now block.now inst }
@@ -88,7 +89,7 @@ fn inst_address(funcs: &[Func], block: &Block, inst: usize) -> u64
     }
 }
 
-// Puts edges in the order in which they are taken: by greater count, then by source and target.
+// Sorts edges by greater count, and then by lower source and target.
 fn sort_edges(edges: &mut Vec<Edge>)
     ensures permutation { IsPermutation edges.old.items edges.new.items }
     ensures sorted { AllPairs IsKeyBefore edges.new.items }

@@ -12,7 +12,7 @@ use rb_bytes::fault::NoMemory;
 use rv_code::{Block, Chains};
 use std::alloc::Global;
 
-/// The hot and the cold part of one function.
+/// The hot and the cold part of one function, as indices of blocks.
 #[derive(Drop)]
 pub struct Split {
     pub hot: Vec<usize>,
@@ -21,7 +21,7 @@ pub struct Split {
     pub end: usize,
 }
 
-/// The hot and cold parts of so many functions.
+/// The hot and cold parts of the functions from 0 to before `count`.
 pub fn function_parts(
     alloc: Global,
     count: usize,
@@ -55,7 +55,7 @@ pub fn function_parts(
     Ok(Chains { hot, cold })
 }
 
-// The parts of a function, whose blocks begin at `start`.
+// The parts of function `func`, whose blocks begin at `start`.
 fn parts_from(
     alloc: Global,
     blocks: &[Block],
@@ -81,7 +81,7 @@ fn parts_from(
     Ok(Split { hot, cold, end })
 }
 
-// The hot part of the blocks from `start` to before `end`, if one of them has some weight.
+// The hot part of the function whose blocks go from `start` to before `end`: empty, unless a block has some weight.
 fn hot_blocks(
     alloc: Global,
     links: &ChainLinks,
@@ -102,7 +102,7 @@ fn hot_blocks(
     hot_part(alloc, links, weights, start, end)
 }
 
-// Where the blocks of a function end, which begin at `start`.
+// Where the blocks of function `func` end, which begin at `start`.
 fn end_of(blocks: &[Block], start: usize, func: usize) -> usize
     requires blocks { AreBlocksApart blocks.now }
     requires start { IsFirstOf blocks.now func start }

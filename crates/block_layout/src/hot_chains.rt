@@ -8,7 +8,7 @@ use rb_bytes::fault::NoMemory;
 use std::alloc::Global;
 use std::cmp::Reverse;
 
-/// A chain with its greatest weight and its first block.
+/// A chain: the greatest weight of its blocks, its first block, and all of its blocks.
 #[derive(Drop)]
 pub struct HotChain {
     pub weight: u128,
@@ -16,7 +16,8 @@ pub struct HotChain {
     pub blocks: Vec<usize>,
 }
 
-/// The chains with a hot block that begin after a block and before another, by greatest weight and then by first block.
+/// The chains with a hot block that begin after block `start` and before `end`, by greatest weight and then by first
+/// block. The chain that `start` itself begins stands before these in any case, so it isn't looked at.
 pub fn hot_chains(
     alloc: Global,
     links: &ChainLinks,

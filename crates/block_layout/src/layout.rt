@@ -19,7 +19,8 @@ use rb_bytes::fault::NoMemory;
 use rv_code::{Block, Chains, Func};
 use std::alloc::Global;
 
-/// The hot and the cold part of each function, by the counts of a profile. Edges are pairs of places of blocks.
+/// The hot and the cold part of each function, by the counts of a profile. `edges` are pairs of a source and a target,
+/// as indices of `blocks`.
 pub fn chains(
     alloc: Global,
     funcs: &[Func],
@@ -40,7 +41,7 @@ pub fn chains(
     chains_by(alloc, funcs, blocks, edges, profile, &weights)
 }
 
-/// The hot and the cold part of each function, by the counts of a profile and the weights that these give to blocks.
+/// As `chains`, for a caller that has `weights`, those that `block_weights` gives.
 pub fn chains_by(
     alloc: Global,
     funcs: &[Func],

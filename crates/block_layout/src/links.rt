@@ -14,13 +14,13 @@ use std::alloc::Global;
 /// Chains so far, of blocks by their places.
 #[derive(Drop)]
 pub struct ChainLinks {
-    /// What follows each block.
+    /// The block that follows each block.
     pub next: Vec<Option<usize>>,
-    /// What precedes it.
+    /// The block that precedes each block.
     pub prev: Vec<Option<usize>>,
-    /// For the last block of a chain, the first one.
+    /// For the last block of a chain, the first one. Not kept for other blocks.
     pub head: Vec<usize>,
-    /// For the first block of a chain, the last one.
+    /// For the first block of a chain, the last one. Not kept for other blocks.
     pub tail: Vec<usize>,
 }
 
@@ -46,7 +46,8 @@ impl ChainLinks {
         })
     }
 
-    // Whether a block may follow another, where it is the first of its function or isn't.
+    // Whether block `to` may follow block `from`. The first block of a function (`is_first`) follows none, and `to` may
+    // not be the head of the chain that `from` ends, since that would become a ring.
     fn may_link(&self, from: usize, to: usize, is_first: bool) -> bool
         requires from_next { from < length self.now.next.items }
         requires to_prev { to < length self.now.prev.items }
@@ -62,7 +63,7 @@ impl ChainLinks {
         self.next[from].is_none() && self.prev[to].is_none() && !is_first && self.head[from] != to
     }
 
-    // Links the chain that a block ends and the one that another begins.
+    // Links the chain that block `from` ends and the one that block `to` begins.
     fn link(&mut self, from: usize, to: usize)
         requires from_next { from < length self.old.next.items }
         requires to_prev { to < length self.old.prev.items }
@@ -86,7 +87,7 @@ impl ChainLinks {
     }
 }
 
-/// The chains that edges make of blocks, taken in their order.
+/// The chains that `edges` make of `blocks`: each in turn links its blocks, where these may still be linked.
 pub fn link_edges(alloc: Global, blocks: &[Block], edges: &[Edge]) -> Result<ChainLinks, NoMemory>
     requires blocks { AreBlocksApart blocks.now }
     requires inside { (i : ℕ) → i < length edges.now →

@@ -10,8 +10,8 @@ use crate::walks::chain;
 use rb_bytes::fault::NoMemory;
 use std::alloc::Global;
 
-/// The hot part of a function whose blocks go from `start` to before `end`: the chain of the first, and then those
-/// with a hot block.
+/// The hot part of a function whose blocks go from `start` to before `end`: the chain of its first block, and then its
+/// other chains with a hot block.
 pub fn hot_part(
     alloc: Global,
     links: &ChainLinks,
@@ -35,7 +35,7 @@ pub fn hot_part(
     Ok(part)
 }
 
-/// The blocks from `start` to before `end` that aren't in the hot part.
+/// The blocks from `start` to before `end` that aren't in `hot`, ascending.
 pub fn cold_part(
     alloc: Global,
     hot: &[usize],
@@ -58,7 +58,7 @@ pub fn cold_part(
     Ok(part)
 }
 
-// Which blocks from `start` to before `end` are in the hot part.
+// For each block from `start` to before `end` whether it is in `hot`.
 fn marks(alloc: Global, hot: &[usize], start: usize, end: usize) -> Result<Vec<bool>, NoMemory>
     requires hot { All (λ k. (start ≤ k) × (k < end)) hot.now }
     ensures length { IfOk result (λ marks. length marks.items ≡ end - start) }

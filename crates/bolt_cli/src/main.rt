@@ -1,4 +1,4 @@
-//! The program: it does what its arguments say, and ends with the number of the answer.
+//! The program: it does what its arguments say, and exits with the number of the answer.
 #![tactic(auto)]
 
 mod permissions;

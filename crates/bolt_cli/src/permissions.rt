@@ -2,8 +2,9 @@
 use cli_args::command_line::{Command, parse};
 use std::{fs, io};
 
-/// Gives the output of a rewrite the permissions of its input, where the system allows it: a program is to be run
-/// by those who ran it before. An output that is a device, as `/dev/null`, keeps its own.
+/// Gives the output of a rewrite the permissions of its input: who could run the one is to run the other. An output
+/// that is a device, as `/dev/null`, keeps its own. `args` are those of the program, without its name. A system that
+/// doesn't allow it is no error, since the rewrite is done.
 pub fn keep_permissions<R: std::rt::Files>(rt: &R, args: &[String]) {
     if let Some(Command::Rewrite(names)) = parse(args) {
         let _ = copy_permissions(rt, names.inputs.file, names.out);

@@ -23,15 +23,15 @@ pub record CarriesTables (spans : List Span) (i f : Elf) : Type 0 where
   pub sound : IsFree (HasTableFault f)
   pub ends : IsTrue (has_frames i) → EndsWithMark (bytes_of f (codes ".eh_frame"))
   pub index : IsTrue (has_index i) → StandsIndex f
-  -- No address is in two entries; in `.eh_frame`, if none is in two of the input's. No entry there is empty, so a search
-  -- in the index then ends at the one that holds an address.
+  -- No address is in two entries; in `.eh_frame`, if none is in two of the input's. No entry there is empty, so a
+  -- search in the index then ends at the one that holds an address.
   pub apart : AreApart (eh_frames i).list → AreApart (eh_frames f).list
   pub filled : AreFilled (eh_frames f).list
   pub debug_apart : AreApart (debug_frames f).list
-  -- none is in two sequences of line units, or in two pairs of `.debug_aranges`
+  -- no address is in two sequences of line units, or in two pairs of `.debug_aranges`
   pub lines_apart : AreSequencesApart (line_sections f)
   pub units_apart : ArePairsApart (aranges_of f)
-  -- units, their entries and line units are kept, changed in place by the offsets of these lists, and so is all other
-  -- debug data
+  -- units, their entries and line units are kept, but for the offsets of the new `lists`, and so is all other debug
+  -- data
   pub lists : List ListAt
   pub kept : IsDebugKept spans lists i f

@@ -43,7 +43,7 @@ ranges_given elf bytes =
     if is_some (section_called elf.sections.items (codes ".debug_rnglists"))
     || not (length bytes == 0) then Some bytes else None
 
--- Debug tables are always among them: without a section of its name one is empty, and isn't written.
+-- Debug tables are always listed. One without a section of its name is empty, and isn't written.
 abbrev pub listed : Option (List ℕ) → Option (List ℕ) → Option (List ℕ) → DebugContents → List (List ℕ × List ℕ)
 listed frames index ranges debug =
     (table_if (codes ".eh_frame") frames ++ table_if (codes ".eh_frame_hdr") index)
@@ -53,7 +53,7 @@ pub record AreGivenFor (elf : Elf) (tables : List ReadTable) : Type 0 where
   pub frames : Option (List ℕ)
   pub index : Option (List ℕ)
   pub ranges : List ℕ
-  -- without a table of them, ranges are written only for entries with a high address
+  -- where the file has no table of ranges, ranges are written only for entries with a high address
   pub no_ranges : bytes_of elf (codes ".debug_rnglists") ≡ [] → AreWithoutHighAddresses (sections_of elf) → ranges ≡ []
   pub debug : DebugContents
   pub are : map table_seen tables ≡ listed frames index (ranges_given elf ranges) debug

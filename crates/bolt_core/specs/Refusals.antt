@@ -36,7 +36,7 @@ pub record CanMove (x : Program) : Type 0 where
   pub placed : IsFree (HasPlacementFault x.code.funcs x.blocks)
   pub carried : IsFree (HasCarryingFault x.elf)
 
--- and it has room
+-- and its new code has room
 pub record CanStand (x : Program) : Type 0 where
   pub moves : CanMove x
   pub room : no_program_room x ≡ None
@@ -65,6 +65,6 @@ pub data IsRefused (file profile : List ℕ) (fault : Fault) : Type 0 where
       (spans : List Span) (code : List ℕ) → IsLaidOutBy x order spans code → IsTooHeavy x.elf spans →
       fault ≡ fault_at TooLarge WEIGHTS → IsRefused file profile fault
 
--- a refusal names such a fault; memory may run out at any time
+-- a refusal names a fault for which the file or the profile is refused; memory may run out at any time
 abbrev pub IsRefusal : List ℕ → List ℕ → Refusal → Type 0
 IsRefusal file profile = IsRefusalFor (IsRefused file profile)

@@ -71,7 +71,7 @@ FollowsSegments x given code written =
     IfSome (executable_segment segments) (λ e. AreNewHeaders shift.from shift.by area e.0 segments
     (segments_of written))
 
--- what is counted of it
+-- what is counted of a rewrite
 abbrev pub counts_of_rewrite : Program → List ℕ → List Counted → List Span → RewriteCounts
 counts_of_rewrite x profile pairs spans = record {
   functions = length x.code.funcs;
@@ -101,14 +101,14 @@ pub record IsRewritten (file profile written : List ℕ) (spans : List Span) (co
   pub ordered : IsProfileOrder program profile pairs parts order
   pub code : List ℕ
   pub laid_out : IsLaidOutBy program order spans code
-  -- these are its bytes, and headers, sections and symbols follow the input's and name it
+  -- these are the bytes of the new code; headers, sections and symbols follow the input's, and name the new code
   pub stretch : IsStretch spans (new_start program) (new_start program + length code)
   pub code_stands : HoldsBytes written (segments_of written) (new_start program) code
   pub given : List ReadTable
   pub are_given : AreGivenFor program.elf given
   pub tables : FollowsTables program parts given code spans written
   pub headers : FollowsSegments program given code written
-  -- the new area takes no more than was asked for
+  -- the new area takes no more bytes than were found to be needed
   pub needed : (area_for program.elf given code (is_tight_program program)).end
       - (area_for program.elf given code (is_tight_program program)).start ≤ needed_bytes program
   -- at each byte of the new code all tables answer as they did at the byte's owner, and other debug data is kept

@@ -6,7 +6,7 @@ use Rattle.elf_image.specs.declared.elf.Elf.{Elf}
 use Rattle.frame_rewrite.specs.Faults.{IsRegisteredFrames}
 use Rattle.table_set.specs.TableFaults as tables
 
--- that a program tells of its unwind table itself, and the faults of tables
+-- That a program registers its unwind table itself is one; the others are the faults of tables.
 abbrev pub HasCarryingFault : Elf → FaultKind → ℕ → Type 0
 HasCarryingFault elf fault.RegisteredFrames place = IsRegisteredFrames elf place
 HasCarryingFault elf kind place = tables.HasTableFault elf kind place

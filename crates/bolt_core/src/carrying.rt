@@ -21,7 +21,8 @@ use std::alloc::Global;
 use table_set::{AllTables, carry_all};
 
 /// The tables of a file, written anew by the map to the new code, and the index of its unwind table, by the names of
-/// their sections. The new code has `code` bytes from `start` on, and behind it there is room for the loaded ones.
+/// their sections. The new code has `code` bytes from `start` on, and behind it there is room for the unwind table and
+/// its index, which are loaded.
 pub fn new_tables(
     alloc: Global,
     elf: &Elf<'_>,

@@ -9,7 +9,7 @@ use rb_bytes::lists::push_some;
 use rv_code::{Block, Chains, Func};
 use std::alloc::Global;
 
-// The address of the first instruction of the block at a place.
+// The address of the first instruction of the block at the index `place`; 0 where there is none.
 fn first_address(funcs: &[Func], blocks: &[Block], place: usize) -> u64
     ensures { result ≡ first_address funcs.now blocks.now place }
 {
@@ -25,7 +25,7 @@ fn first_address(funcs: &[Func], blocks: &[Block], place: usize) -> u64
     inst.addr
 }
 
-// The blocks of the part of the function at a place.
+// The blocks of one part of the function at the index `place`, of the lists of all functions.
 fn list_at(lists: &[Vec<usize>], place: usize) -> &[usize]
     ensures { result.now ≡ list_of lists.now place }
 {
@@ -35,7 +35,8 @@ fn list_at(lists: &[Vec<usize>], place: usize) -> &[usize]
     }
 }
 
-// Where the cold part of a function begins, if it has a hot and a cold one.
+// Where the cold part of a function begins in the input, if it has a hot and a cold one. `hot` and `cold` are the
+// indices of their blocks.
 fn cold_start(funcs: &[Func], blocks: &[Block], hot: &[usize], cold: &[usize]) -> Option<u64>
     ensures { result ≡ cold_start funcs.now blocks.now hot.now cold.now }
 {

@@ -1,11 +1,12 @@
-// What is counted of a rewrite.
+// What the summary of a rewrite counts.
 ghost use Rattle.std.specs.Prelude.{◌≡◌, IfOk, count_by, length, nat_lt};
 ghost use Rattle.rv_code.specs.layout.Flow.{insts_of};
 
 use rb_bytes::fault::NoMemory;
 use rv_code::Func;
 
-/// How many instructions functions have together. More than 2^64 don't fit in memory.
+/// How many instructions functions have together. The sum can't overflow, since they fit in memory; were it to, that
+/// would be answered as want of memory.
 pub fn count_insts(funcs: &[Func]) -> Result<u64, NoMemory>
     ensures { IfOk result (λ count. count ≡ length (insts_of funcs.now)) }
 {
@@ -16,7 +17,7 @@ pub fn count_insts(funcs: &[Func]) -> Result<u64, NoMemory>
     Ok(count)
 }
 
-/// How many of the weights of blocks are those of hot ones.
+/// How many blocks are hot: how many of their weights aren't 0.
 pub fn count_hot(weights: &[u128]) -> u64
     ensures { result ≡ count_by (nat_lt 0) weights.now }
 {

@@ -27,13 +27,15 @@ use rv_code::{Block, Func};
 use std::alloc::Global;
 use table_set::{AllTables, is_too_heavy};
 
-// The most headers of sections, and of segments.
+// The most section headers, and the most program headers. A written file has a few more, whose number has to fit a
+// field of 16 bits, and stay below SHN_LORESERVE (0xff00) for sections.
 const HEADER_LIMIT: usize = 65_000;
 
-// The most blocks: as many of two bytes as new code may have. A program with more is refused in any case.
+// The most blocks: as many as the most code that a file may have, 16 MiB, holds at two bytes each. With more of them a
+// program passes that limit, and `check_sizes` would refuse it.
 const MOST_BLOCKS: usize = 1 << 23;
 
-/// Refuses a file that is too long, at 0, and then a profile, at 1.
+/// Refuses a file that is too long, at 0 (`FILE_BYTES`), or else a profile, at 1 (`PROFILE_BYTES`).
 pub fn check_lengths(file: &[u8], profile: &[u8]) -> Result<(), Refusal>
     ensures fit { OnOk result (Fit file.now profile.now) }
     ensures refused { IfErr result (IsRefusal file.now profile.now) }
@@ -47,7 +49,8 @@ pub fn check_lengths(file: &[u8], profile: &[u8]) -> Result<(), Refusal>
     Ok(())
 }
 
-/// Answers want of memory for more blocks than any written file has: their layout would take much of it.
+/// Answers want of memory for more blocks than a program within the limits has. It comes before they are laid out,
+/// which would take much memory for a program that is refused in the end.
 pub fn check_blocks(blocks: &[Block]) -> Result<(), NoMemory> {
     if blocks.len() > MOST_BLOCKS {
         Err(NoMemory)
@@ -56,8 +59,9 @@ pub fn check_blocks(blocks: &[Block]) -> Result<(), NoMemory> {
     }
 }
 
-/// Refuses a program that passes one of the other limits: on its code, at 2 and 3, on its headers, at 5, or on the
-/// names that are written, at 6. `cold` has the addresses of the cold parts that get a name.
+/// Refuses a program that passes one of the other limits: on its code, at 2 (`CODE_BYTES`) and 3 (`FUNCTIONS`), on its
+/// headers, at 5 (`HEADERS`), or on the names that are written, at 6 (`WEIGHTS`). `cold` has the addresses in the input
+/// of the cold parts that get a name.
 pub fn check_sizes(
     alloc: Global,
     elf: &Elf<'_>,
@@ -83,7 +87,7 @@ pub fn check_sizes(
     Ok(())
 }
 
-/// Refuses a program one of whose tables would weigh too much when it is written for the map, at 6.
+/// Refuses a program one of whose tables would weigh too much when it is written for `map`, at 6 (`WEIGHTS`).
 pub fn check_weight(
     alloc: Global,
     elf: &Elf<'_>,

@@ -31,19 +31,19 @@ use std::alloc::Global;
 /// A rewritten file, and what was counted of it.
 #[derive(Drop)]
 pub struct Rewritten {
-    /// The bytes of the written file.
+    /// The bytes of the written file, which the reader accepts.
     pub file: Vec<u8>,
-    /// Where each instruction of the input went.
+    /// Where each instruction of the input went: a span for each.
     pub map: AddrMap,
-    /// How many functions were moved.
+    /// How many functions were moved: all of the input's.
     pub functions: u64,
-    /// How many instructions were moved.
+    /// How many instructions the input's functions have.
     pub instructions: u64,
     /// How many bytes the new code has.
     pub bytes: u64,
-    /// How many blocks are hot.
+    /// How many blocks are hot: those whose weight by the profile isn't 0.
     pub hot: u64,
-    /// How many lines of the profile say nothing.
+    /// How many lines of the profile say nothing of the file, and are ignored.
     pub ignored: u64,
 }
 
@@ -52,7 +52,10 @@ fn are_bytes(bytes: &[u8])
     ensures { All (λ b. b < 256) bytes.now }
 {}
 
-/// Rewrites a file so that its code lies in the order that a profile asks for, or says why it is refused.
+/// Rewrites a file so that its code lies in the order that a profile asks for, or says why it is refused, or that
+/// memory ran out.
+///
+/// The order of the passes is that of the faults for which a file is refused (`specs/Refusals.antt`).
 pub fn rewrite(alloc: Global, file: &[u8], profile: &[u8]) -> Result<Rewritten, Refusal>
     ensures rewritten { IfOk result (λ r. IsRewritten file.now profile.now r.file.items r.map (counts_seen r)) }
     ensures refused { IfErr result (IsRefusal file.now profile.now) }
@@ -112,8 +115,8 @@ fn parts(
     block_layout::chains_by(alloc, funcs, blocks, &edges, counts, weights)
 }
 
-// The new code of blocks in the order of a plan, from an address on, with the map to it: forms that reach, the map that
-// they give, and the bytes and code cells by that map.
+// The new code of the blocks in the order of `plan`, from the address `start` on, and the map to it. Forms that reach
+// come first, since they give the map, by which the bytes and the code cells are made.
 fn moved_code(
     alloc: Global,
     funcs: &[Func],

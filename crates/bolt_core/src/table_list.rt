@@ -22,7 +22,7 @@ fn has_frames(elf: &Elf) -> bool
     elf.section_called(EH_FRAME).is_some()
 }
 
-// Whether programs find that table by an index.
+// Whether a file has an unwind table that programs find by an index, which a program header names.
 fn has_index(elf: &Elf) -> bool
     ensures { result ≡ has_index elf.now }
 {
@@ -50,7 +50,7 @@ fn new_index(
     Ok(Some(index))
 }
 
-// Adds a table, if there is one, by the name of its section.
+// Adds the table `contents` under `name`, that of its section, if there is one.
 fn add_table(
     alloc: Global,
     tables: &mut Vec<Table>,
@@ -66,14 +66,14 @@ fn add_table(
     Ok(())
 }
 
-// An unwind table, where the file loads one.
+// The unwind table `frames`, where the file loads one.
 fn loaded(elf: &Elf, frames: Vec<u8>) -> Option<Vec<u8>>
     ensures { option_map (λ bytes. bytes.items) result ≡ (if has_frames elf.now then Some frames.items else None) }
 {
     if has_frames(elf) { Some(frames) } else { None }
 }
 
-// A table of ranges, where the file has one or ranges were written.
+// The table of ranges `ranges`, where the file has one or any were written.
 fn ranges_if(elf: &Elf, ranges: Vec<u8>) -> Option<Vec<u8>>
     ensures { option_map (λ bytes. bytes.items) result ≡ ranges_given elf.now ranges.items }
 {

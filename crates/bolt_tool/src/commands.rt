@@ -1,4 +1,4 @@
-// What the program does.
+// The command that the arguments are is done.
 ghost use Rattle.std.specs.Prelude.{map, string_bytes, None, Some};
 ghost use Rattle.rb_io.specs.Views.{SourceSeen};
 ghost use Rattle.bolt_tool.specs.CommandAnswers.{KeepsInput, Serves};
@@ -17,7 +17,7 @@ use cli_run::RunMode;
 use rb_io::{Files, Put, Sink, Source, print_all};
 use std::alloc::Global;
 
-// Says which arguments are a command.
+// Prints the usage, for arguments that are no command.
 fn usage<F: Files, O: Sink>(files: &F, out: &mut O) -> Status
     ensures { (input : SourceSeen) → Serves None result
         (world (F.seen files.now) input (O.seen out.old)) (world (F.seen files.now) input (O.seen out.new)) }
@@ -57,10 +57,10 @@ fn perform<F: Files, I: Source, O: Sink>(
     }
 }
 
-/// Does what the arguments say, which don't hold the program's own name.
+/// Does what `args` say, which don't hold the program's own name.
 ///
-/// `input` is standard input, and `out` standard output. What holds at the end is said by the
-/// answer. Files, input and output that don't tell their bytes have nothing said of them.
+/// `input` is standard input, and `out` standard output. What holds at the end depends on the answer. Of the bytes of
+/// files and streams that don't tell them (`rb_io`) nothing is said.
 pub fn tool<F: Files, I: Source, O: Sink>(
     alloc: Global,
     args: &[String],

@@ -1,4 +1,4 @@
-// The line of the usage.
+// The usage.
 ghost use Rattle.std.specs.Prelude.{◌≡◌};
 ghost use Rattle.bolt_tool.specs.Lines.{usage_line};
 

@@ -1,4 +1,5 @@
-// The commands `run` and `record`, with the program's arguments read from the command line.
+// The commands `run` and `record`: the list of the program's arguments is made of the tokens, which takes memory,
+// before the file is read.
 ghost use Rattle.std.specs.Prelude.{Some};
 ghost use Rattle.rv_memory.specs.Limits.{IsWithinLimits};
 ghost use Rattle.cli_base.specs.World.{world};
@@ -14,7 +15,7 @@ use cli_run::{RunMode, record, run};
 use rb_io::{Files, Sink, Source};
 use std::alloc::Global;
 
-/// Does `run`, whose program's arguments are made of the tokens first.
+/// Does `run`, on the machine that `mode` names.
 pub fn run_tokens<F: Files, I: Source, O: Sink>(
     alloc: Global,
     tokens: &RunTokens<'_>,
@@ -40,7 +41,7 @@ pub fn run_tokens<F: Files, I: Source, O: Sink>(
     run(alloc, &given, mode, files, input, out)
 }
 
-/// Does `record`, whose program's arguments are made of the tokens first.
+/// Does `record`.
 pub fn record_tokens<F: Files, I: Source, O: Sink>(
     alloc: Global,
     tokens: &RecordTokens<'_>,

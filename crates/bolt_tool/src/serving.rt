@@ -1,4 +1,4 @@
-// What the process does with files and streams, whatever they are.
+// What the process does, over any files and streams.
 ghost use Rattle.std.specs.Prelude.{map, string_bytes};
 ghost use Rattle.bolt_tool.specs.CommandAnswers.{Exits};
 ghost use Rattle.cli_args.specs.CommandLine.{command_of};
@@ -9,8 +9,7 @@ use rb_io::{Files, Sink, Source};
 use std::alloc::Global;
 use std::process::ExitCode;
 
-/// Does what the arguments say, which don't hold the program's own name, and gives the code that the process exits
-/// with.
+/// Does what `args` say, which don't hold the program's own name, and gives the code that the process exits with.
 ///
 /// `input` is standard input, and `out` standard output.
 pub fn serve<F: Files, I: Source, O: Sink>(

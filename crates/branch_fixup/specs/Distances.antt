@@ -14,7 +14,7 @@ use Rattle.branch_fixup.specs.Pieces.{Piece, length_of, bytes_of_size}
 abbrev pub reaches : ℕ → ℕ → ℕ → Bool
 reaches reach from to = nat_lt to (from + reach) && nat_le from (to + reach)
 
--- what the sign bit is worth in a branch or jump of the input that has so many bytes
+-- what the sign bit is worth in a branch or jump of the input, for one of two bytes or of four
 abbrev pub reach_of : ℕ → Placed → ℕ
 reach_of bytes p =
     if is_branch (action_at p)

@@ -64,7 +64,7 @@ worst_total funcs blocks places = sum_by (worst_at funcs blocks) places
 abbrev pub worst_between : List Func → List Block → List ℕ → ℕ → ℕ → ℕ
 worst_between funcs blocks order i j = worst_total funcs blocks (take (j + 1 - i) (drop i order))
 
--- Nearness: from each block to one into which it leads, both included, there are at most so many bytes.
+-- Nearness: from each block to one into which it leads, both included, there are at most `near_limit` bytes.
 pub record AreNear (funcs : List Func) (blocks : List Block) (order : List ℕ) : Type 0 where
   pub ahead : (i j a : ℕ) → i ≤ j → IsSomeAnd (block_in blocks order i) (λ b. BlockLeads funcs b a) →
       IsSomeAnd (block_in blocks order j) (λ c. BlockHolds funcs c a) →

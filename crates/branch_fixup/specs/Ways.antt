@@ -17,7 +17,7 @@ pub record AreStarts (ts : List BlockEnd) (places : List ℕ) : Type 0 where
 abbrev pub crosses : List BlockEnd → ℕ → ℕ → Bool
 crosses ts k p = (nat_le k p && nat_lt p (end_at ts k).to) || (nat_le (end_at ts k).to p && nat_lt p k)
 
--- a form of block k would reach where its way is by so many bytes longer than these places say
+-- a form of block k would reach where its way is `more` bytes longer than these places say
 abbrev pub is_enough_by : List BlockEnd → List ℕ → ℕ → ℕ → Form → Bool
 is_enough_by ts places more k f =
     option_map_or (λ reach.
@@ -28,7 +28,7 @@ is_enough_by ts places more k f =
     (slice_index places (end_at ts k).to + (end_at ts k).offset))
     (form_reach f) true
 
--- With these forms the way of block k is by at least so many bytes longer than these places say.
+-- With these forms the way of block k is at least `more` bytes longer than these places say.
 pub record IsLonger (ts : List BlockEnd) (places : List ℕ) (fs : List Form) (k more : ℕ) : Type 0 where
   pub ahead : k ≤ (end_at ts k).to →
       slice_index places (end_at ts k).to + block_offset ts fs k + more
@@ -40,7 +40,7 @@ pub record IsLonger (ts : List BlockEnd) (places : List ℕ) (fs : List Form) (k
 abbrev pub AreLonger : List BlockEnd → List ℕ → List Form → List ℕ → Type 0
 AreLonger ts places fs mores = (k : ℕ) → k < length ts → IsLonger ts places fs k (slice_index mores k)
 
--- From block k on, the ways over block p are even longer by so many bytes.
+-- For the blocks from k on, the ways over block p are even longer, by `bytes` more than `mores` says.
 abbrev pub AreLongerOver : List BlockEnd → List ℕ → List Form → List ℕ → ℕ → ℕ → ℕ → Type 0
 AreLongerOver ts places fs mores p bytes k =
     (j : ℕ) → k ≤ j → j < length ts → crosses ts j p ≡ true → IsLonger ts places fs j (slice_index mores j + bytes)

@@ -41,7 +41,7 @@ pub fn insts_of<'a>(funcs: &'a [Func], block: &Block) -> BlockInsts<'a>
     }
 }
 
-/// The instructions of the block at a place of a plan.
+/// The instructions of the block at place `k` of the plan's order.
 pub fn planned<'a>(funcs: &'a [Func], blocks: &[Block], order: &[usize], k: usize) -> BlockInsts<'a>
     requires laid { AreLaidOut funcs.now }
     requires blocks { AreBlocksOf funcs.now blocks.now }
@@ -52,7 +52,7 @@ pub fn planned<'a>(funcs: &'a [Func], blocks: &[Block], order: &[usize], k: usiz
     insts_of(funcs, &blocks[order[k]])
 }
 
-/// Where the block at a place of a plan begins, if there is one.
+/// The old address at which the block at place `k` of the plan's order begins, or None behind the last place.
 pub fn begins_of(funcs: &[Func], blocks: &[Block], order: &[usize], k: usize) -> Option<u64>
     requires laid { AreLaidOut funcs.now }
     requires blocks { AreBlocksOf funcs.now blocks.now }
@@ -76,8 +76,8 @@ pub fn first_address(block: &BlockInsts) -> u64
     }
 }
 
-// The address into which the instruction at a place of a function falls, if it does and an instruction is there.
-// `index` is the function's.
+// The address into which `inst` falls, if it does and an instruction is there. It stands at `place` in `func`, which is
+// function `index`; the last one falls into the next function, if that begins there.
 fn fall_of(funcs: &[Func], index: usize, func: &Func, place: usize, inst: &Placed) -> Option<u64>
     requires laid { AreLaidOut funcs.now }
     requires func { slice_get funcs.now index ≡ Some func.now }
@@ -91,7 +91,7 @@ fn fall_of(funcs: &[Func], index: usize, func: &Func, place: usize, inst: &Place
     Some(next)
 }
 
-// Whether the function at an index starts at an address.
+// Whether function `index` starts at `address`.
 fn func_starts_at(funcs: &[Func], index: usize, address: u64) -> bool
     ensures { result ≡ func_starts_at funcs.now index address }
 {

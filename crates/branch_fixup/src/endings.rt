@@ -9,7 +9,7 @@ use crate::block_insts::BlockInsts;
 use rv_code::flow::target;
 use rv_code::{Action, Form, Size};
 
-// Whether the next block begins at an address.
+// Whether the next block, which begins at `next`, begins at `address`; it doesn't where either is None.
 fn begins_at(next: Option<u64>, address: Option<u64>) -> bool
     ensures { result ≡ begins_at next address }
 {
@@ -19,7 +19,7 @@ fn begins_at(next: Option<u64>, address: Option<u64>) -> bool
     }
 }
 
-// The last instruction as it is, and a jump after it where the block falls into another one than the next.
+// The last instruction as it is, and a jump after it where the block falls `apart`: into another block than the next.
 fn kept(apart: bool) -> Form
     ensures { result ≡ (if apart then Form.Jump else Form.Plain) }
 {
@@ -38,6 +38,7 @@ pub fn shortest_form(block: &BlockInsts, next: Option<u64>) -> Form
     let half = block.last.len == 2;
     match block.last.inst.action() {
         Action::Branch { .. } => {
+            // Turned, the branch leads to where the block fell, and falls into its target, the next block.
             let inverted = apart && begins_at(next, to);
             let size = if half { Size::Half } else { Size::Full };
             Form::Branch {
@@ -50,6 +51,7 @@ pub fn shortest_form(block: &BlockInsts, next: Option<u64>) -> Form
             if rd != 0 {
                 return kept(apart);
             }
+            // A jump that begins its block may be named by a role or a cell, so it stays.
             if begins_at(next, to) && !block.inner.is_empty() {
                 return Form::Dropped;
             }
@@ -59,7 +61,7 @@ pub fn shortest_form(block: &BlockInsts, next: Option<u64>) -> Form
     }
 }
 
-/// Where the branch or jump of a form goes that can grow.
+/// Where the branch or jump of `form` goes, for a form that can grow; None for all others.
 pub fn lead_of(block: &BlockInsts, form: Form) -> Option<u64>
     ensures { result ≡ lead_of (seen block.now) form }
 {

@@ -13,12 +13,12 @@ use std::alloc::{AllocError, Global};
 // How many passes over all blocks may make forms grow before they grow one at a time.
 const PASSES: u8 = 8;
 
-/// How a block ends.
+/// The last instruction of a block, and where its branch or jump leads.
 #[derive(Clone, Copy)]
 pub struct BlockEnd {
-    /// The bytes before its last instruction.
+    /// How many bytes of the block stand before its last instruction.
     pub before: u64,
-    /// The length of that in the input, 2 or 4.
+    /// The length of the last instruction in the input, 2 or 4.
     pub len: u8,
     /// The block to which its branch or jump leads, by its place in the new order.
     pub to: usize,
@@ -26,7 +26,7 @@ pub struct BlockEnd {
     pub offset: u64,
 }
 
-// Where each block begins, and where the last one ends.
+// Where each block begins in `forms`, and where the last one ends, in bytes from the start of the new code.
 pub(crate) fn places(
     alloc: Global,
     block_ends: &[BlockEnd],
@@ -52,7 +52,7 @@ pub(crate) fn places(
     Ok(places)
 }
 
-// Whether a form of block `k` reaches, where blocks begin at these places.
+// Whether `form` reaches as that of block `k`, where blocks begin at `places`. A form that can't grow always does.
 fn is_enough(block_ends: &[BlockEnd], places: &[u64], k: usize, form: Form) -> bool
     requires inside { k < length block_ends.now }
     requires to_block { (end_at block_ends.now k).to < length block_ends.now }
@@ -71,7 +71,7 @@ fn is_enough(block_ends: &[BlockEnd], places: &[u64], k: usize, form: Form) -> b
     }
 }
 
-// Each form that isn't enough at the places grows by one step. Tells whether one grew.
+// Grows each form by one step that isn't enough where blocks begin at `places`. Tells whether one grew.
 fn grow_once(block_ends: &[BlockEnd], places: &[u64], forms: &mut [Form]) -> bool
     requires block_ends { AreBlockEnds block_ends.now }
     requires len { length places.now ≡ length block_ends.now + 1 }

@@ -6,7 +6,7 @@ ghost use Rattle.branch_fixup.specs.Growth.{form_reach, longer};
 
 use rv_code::{Form, Size};
 
-/// The bytes of a conditional branch.
+/// The bytes of a conditional branch. A long one is a branch of opposite sense over a jump.
 pub fn bytes_of_size(size: Size) -> u8
     ensures { result ≡ bytes_of_size size }
 {
@@ -17,7 +17,8 @@ pub fn bytes_of_size(size: Size) -> u8
     }
 }
 
-/// The bytes of an instruction that has `len` bytes in the input, with those that are added after it.
+/// How many bytes the new code has, in `form`, for an instruction of `len` bytes in the input, with a jump that is
+/// added after it.
 pub fn piece_length(len: u8, form: Form) -> u8
     requires { len < 252 }
     ensures { result ≡ piece_length len form }
@@ -31,7 +32,8 @@ pub fn piece_length(len: u8, form: Form) -> u8
     }
 }
 
-/// Whether a branch or jump reaches from one address to another. The sign bit of its distance is worth `reach`.
+/// Whether a branch or jump at `from` reaches `to`: the distance is from -`reach` to before `reach`, the worth of its
+/// sign bit.
 pub fn reaches(reach: u64, from: u64, to: u64) -> bool
     requires from_low { from + 2 ^ 32 ≤ 2 ^ 64 }
     requires to_low { to + 2 ^ 32 ≤ 2 ^ 64 }
@@ -41,7 +43,8 @@ pub fn reaches(reach: u64, from: u64, to: u64) -> bool
     to < from + reach && from <= to + reach
 }
 
-/// The reach of a form that can grow.
+/// The reach of a form that can grow, for `reaches`: that of C.BEQZ, of BEQ or of C.J. A form that can't grow has None.
+/// RISC-V ISA manual, volume I, sections 2.5 and 26.4.
 pub fn form_reach(form: Form) -> Option<u64>
     ensures value { result ≡ form_reach form }
     ensures short { IfSome result (λ reach. reach < 2 ^ 32) }
@@ -57,7 +60,7 @@ pub fn form_reach(form: Form) -> Option<u64>
     }
 }
 
-/// The next longer form, if there is one.
+/// The next longer form. A form that can't grow stays as it is.
 pub fn longer(form: Form) -> Form
     ensures { result ≡ longer form }
 {

@@ -5,7 +5,7 @@ ghost use Rattle.branch_fixup.specs.Lookup.{ArePlaces, Finds};
 use rb_lanes::count_below;
 use std::alloc::{AllocError, Global};
 
-/// The place in an order of each of the numbers below its length.
+/// For each number below the length of `order` its place in it.
 pub fn places_in(alloc: Global, order: &[usize]) -> Result<Vec<usize>, AllocError>
     requires below { All (λ m. m < length order.now) order.now }
     requires differ { AllPairs (λ m n. m ≢ n) order.now }
@@ -19,8 +19,8 @@ pub fn places_in(alloc: Global, order: &[usize]) -> Result<Vec<usize>, AllocErro
     Ok(places)
 }
 
-/// The block that holds an address, by its place in the plan, and how far into it that is. Blocks are looked at first
-/// from that of the index `near` on.
+/// The block that holds `address`, by its place in the plan, and how many bytes into it that is. `starts` and `places`
+/// are those of each block, in the old order; the search begins at block `near`.
 pub fn find(starts: &[u64], places: &[usize], near: usize, address: u64) -> (usize, u64)
     requires ascending { AllPairs (λ a b. a < b) starts.now }
     requires one_each { length places.now ≡ length starts.now }
@@ -33,7 +33,7 @@ pub fn find(starts: &[u64], places: &[usize], near: usize, address: u64) -> (usi
     (places[above - 1], address - starts[above - 1])
 }
 
-// How many of ascending numbers are at most an address, where about `near` are below it.
+// How many of `starts`, which ascend, are at most `address`; about `near` are expected to be below it.
 fn count_up_to(starts: &[u64], near: usize, address: u64) -> usize
     requires { AllPairs (λ a b. a < b) starts.now }
     ensures bound { result ≤ length starts.now }

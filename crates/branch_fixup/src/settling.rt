@@ -15,8 +15,9 @@ use std::ops::Range;
 // How far a form that can grow reaches at most.
 const REACH: u64 = 1 << 12;
 
-/// Grows forms one at a time until each reaches. A pass over all blocks has to confirm it: ways are followed only
-/// where a form that can grow may reach at the start.
+/// Grows forms one at a time until each reaches. Ways of more than `REACH` bytes aren't followed: a form that can grow
+/// doesn't reach so far, so it grows anyway. That nothing is missed isn't proved, so a pass over all blocks has to
+/// confirm it.
 pub fn settle(alloc: Global, block_ends: &[BlockEnd], forms: &mut [Form]) -> Result<(), AllocError>
     requires block_ends { AreBlockEnds block_ends.now }
     requires sound { AreGrown block_ends.now forms.old }
@@ -36,7 +37,8 @@ pub fn settle(alloc: Global, block_ends: &[BlockEnd], forms: &mut [Form]) -> Res
     settling.grow_from(alloc, forms, &mut more, blocks)
 }
 
-// Blocks whose forms grow, by where they began before. By how many bytes their ways are longer since then stands beside.
+// What stays the same while forms grow: the blocks, and where they began before. Beside it goes `more`: by how many
+// bytes the way of each block's branch or jump is longer since then.
 #[derive(Clone, Copy)]
 struct Settling<'a> {
     block_ends: &'a [BlockEnd],
@@ -49,7 +51,8 @@ struct Settling<'a> {
 }
 
 impl<'a> Settling<'a> {
-    // Whether the branch or jump of block `k` goes past the end of block `p`, so that its way is longer when that grows.
+    // Whether the branch or jump of block `k` goes past the end of block `p`, so that its way becomes longer when `p`
+    // grows.
     fn crosses(&self, k: usize, p: usize) -> bool
         requires { k < length self.now.block_ends.now }
         ensures { result ≡ crosses self.now.block_ends.now k p }
@@ -58,7 +61,7 @@ impl<'a> Settling<'a> {
         (k <= p && p < to) || (to <= p && p < k)
     }
 
-    // Whether a form of block `k` reaches, where its way is longer by `more` bytes.
+    // Whether `form` reaches as that of block `k`, where its way is longer by `more` bytes.
     fn is_enough_by(&self, more: u64, k: usize, form: Form) -> bool
         requires inside { k < length self.now.block_ends.now }
         requires low { more < 2 ^ 62 }
@@ -79,8 +82,8 @@ impl<'a> Settling<'a> {
         }
     }
 
-    // Block `p` has grown by some bytes. Makes the ways over it longer, and adds the blocks whose forms don't reach any
-    // more.
+    // Block `p` has grown by `bytes`: makes the ways over it longer, and adds to `short` the blocks whose forms don't
+    // reach any more.
     fn lengthen(
         &self,
         forms: &[Form],
@@ -111,7 +114,8 @@ impl<'a> Settling<'a> {
         Ok(())
     }
 
-    // Block `k` grows by a step, if it doesn't reach. Tells whether it grew, and adds the blocks that don't reach then.
+    // Grows the form of block `k` by a step, if it doesn't reach, and tells whether it did. Adds to `short` the blocks
+    // whose forms don't reach then, perhaps `k` again.
     fn grow_block(
         &self,
         forms: &mut [Form],
@@ -143,8 +147,8 @@ impl<'a> Settling<'a> {
         Ok(true)
     }
 
-    // Each of some blocks grows by a step, if it doesn't reach. Tells whether one grew, and adds the blocks that don't
-    // reach then.
+    // Grows the form of each of `blocks` by a step, if it doesn't reach, and tells whether one grew. Adds to `short`
+    // the blocks whose forms don't reach then.
     fn grow_blocks(
         &self,
         forms: &mut [Form],
@@ -171,7 +175,7 @@ impl<'a> Settling<'a> {
         Ok(grew)
     }
 
-    // The blocks whose forms don't reach.
+    // The blocks whose forms don't reach before any has grown.
     fn short_blocks(&self, alloc: Global, forms: &[Form]) -> Result<Vec<usize>, AllocError>
         requires { length forms.now ≡ length self.now.block_ends.now }
         ensures { IfOk result (λ short. All (λ k. k < length self.now.block_ends.now) short.items) }
@@ -185,7 +189,7 @@ impl<'a> Settling<'a> {
         Ok(short)
     }
 
-    // Goes on with the blocks that were added, until there are none.
+    // Grows `blocks`, then the blocks whose forms don't reach any more by that, and so on until none grows.
     fn grow_from(
         &self,
         alloc: Global,
@@ -210,7 +214,7 @@ impl<'a> Settling<'a> {
     }
 }
 
-// Which blocks have ways over a block.
+// Which blocks may have ways over a given block. Both lists ascend, so that `range` is found by binary search.
 #[derive(Drop)]
 struct Crossings {
     /// For each block, the last block up to which it or one before it leads.
@@ -230,7 +234,7 @@ impl Crossings {
         Ok(Crossings { ends, starts })
     }
 
-    // The range of blocks in which those are that lead over block `p`.
+    // A range of blocks that has all which lead over block `p`, of ways that `near` follows.
     fn range(&self, p: usize) -> Range<usize>
         ensures { result.end ≤ length self.now.starts.items }
     {
@@ -240,7 +244,7 @@ impl Crossings {
     }
 }
 
-// The block to which a branch or jump goes, if a form that can grow may reach it. Otherwise its own.
+// The block to which the branch or jump of block `k` goes, if that is at most `REACH` away; otherwise `k` itself.
 fn near(block_ends: &[BlockEnd], places: &[u64], k: usize) -> usize
     requires block_ends { AreBlockEnds block_ends.now }
     requires inside { k < length block_ends.now }
@@ -256,6 +260,7 @@ fn near(block_ends: &[BlockEnd], places: &[u64], k: usize) -> usize
     }
 }
 
+// `Crossings::ends`: the greatest of `near` so far, from the first block on.
 fn ends_of(alloc: Global, block_ends: &[BlockEnd], places: &[u64]) -> Result<Vec<usize>, AllocError>
     requires block_ends { AreBlockEnds block_ends.now }
     requires starts { AreStarts block_ends.now places.now }
@@ -269,6 +274,7 @@ fn ends_of(alloc: Global, block_ends: &[BlockEnd], places: &[u64]) -> Result<Vec
     Ok(ends)
 }
 
+// `Crossings::starts`: the least of `near` so far, from the last block back.
 fn starts_of(
     alloc: Global,
     block_ends: &[BlockEnd],

@@ -13,7 +13,8 @@ use addr_map::Span;
 use rv_code::{Block, Form, Func, Placed};
 use std::alloc::{AllocError, Global};
 
-// Appends the spans of instructions that keep their lengths, from an address on. Gives the address at which they end.
+// Appends the spans of `insts`, which keep their lengths, from the address `at` on. Gives the address at which they
+// end.
 fn put_inner(spans: &mut Vec<Span>, mut at: u64, insts: &[Placed]) -> Result<u64, AllocError>
     requires { end_from at (map as_it_is insts.now) < 2 ^ 64 }
     ensures spans { IfOk result (λ end. spans.new.items ≡ spans.old.items ++ laid_from at (map as_it_is insts.now)) }
@@ -30,7 +31,8 @@ fn put_inner(spans: &mut Vec<Span>, mut at: u64, insts: &[Placed]) -> Result<u64
     Ok(at)
 }
 
-// Appends the spans of a whole block, whose last instruction is in a form.
+// Appends the spans of a block from the address `at` on, with its last instruction in `form`. Gives the address at
+// which they end.
 fn put_block(
     spans: &mut Vec<Span>,
     at: u64,
@@ -53,7 +55,7 @@ fn put_block(
     Ok(last_at + len as u64)
 }
 
-/// The spans of blocks in an order, with their forms, from an address on.
+/// The spans of all instructions: of the blocks in `order`, each with its form of `forms`, from the address `base` on.
 pub fn spans(
     alloc: Global,
     funcs: &[Func],

@@ -32,8 +32,8 @@ pub fn blocks(
     Ok(blocks)
 }
 
-// Appends the blocks of a function, which has this place in the list of functions. `near` is as `is_member_from` says:
-// the instructions of functions go up.
+// Appends the blocks of `func`, which is function `place`. `near` is the guess of `is_member_from`: it goes up with the
+// addresses of instructions, from function to function.
 fn push_blocks(
     blocks: &mut Vec<Block>,
     entered: &[u64],
@@ -61,7 +61,8 @@ fn push_blocks(
     Ok(())
 }
 
-// Whether a block ends with the i-th instruction of a function. `near` is as `is_member_from` says.
+// Whether a block ends with instruction `i` of `func`. A function that moves as one piece is one block. `near` is the
+// guess of `is_member_from`.
 fn ends_at(entered: &[u64], near: &mut usize, func: &Func, i: usize) -> bool
     requires inside { i < length func.now.insts.items }
     requires entered { AllPairs (λ a b. a < b) entered.now }

@@ -44,7 +44,7 @@ pub fn edges(
     Ok(edges)
 }
 
-// Appends the addresses to which the i-th instruction of a function leads control, if a block ends with it.
+// Appends the addresses to which instruction `i` of `func` leads control, if a block ends with it.
 fn push_leads(
     leads: &mut Vec<u64>,
     func: &Func,
@@ -64,7 +64,7 @@ fn push_leads(
     Ok(())
 }
 
-// Appends the addresses to which a table leads a jump.
+// Appends the addresses to which a table leads the jump at the address `jump`.
 fn push_table(leads: &mut Vec<u64>, targets: &[(u64, u64)], jump: u64) -> Result<(), NoMemory>
     requires { AllPairs IsPairBefore targets.now }
     ensures { OnOk result (Gains leads.old.items leads.new.items (λ a. Contains targets.now (jump, a))) }
@@ -75,7 +75,7 @@ fn push_table(leads: &mut Vec<u64>, targets: &[(u64, u64)], jump: u64) -> Result
     Ok(())
 }
 
-// The pairs of a jump.
+// The pairs of `targets` whose jump is at the address `jump`.
 fn pairs_of<'a>(targets: &'a [(u64, u64)], jump: u64) -> &'a [(u64, u64)]
     requires { AllPairs IsPairBefore targets.now }
     ensures { (e : ℕ × ℕ) → Contains result.now e ↔ (Contains targets.now e × (e.0 ≡ jump)) }
@@ -85,7 +85,8 @@ fn pairs_of<'a>(targets: &'a [(u64, u64)], jump: u64) -> &'a [(u64, u64)]
     pairs
 }
 
-// Appends the edges from a block of a function to those of its blocks that begin at these addresses.
+// Appends the edges from block `source`, which is of function `func`, to the blocks of that function which begin at
+// addresses of `leads`.
 fn push_edges(
     edges: &mut Vec<(usize, usize)>,
     blocks: &[Block],
@@ -111,7 +112,8 @@ fn push_edges(
     Ok(())
 }
 
-// The block of a function that begins at an address, which is mostly near the block that leads there.
+// The block of function `func` that begins at `address`. It is looked for from the block behind `source` on, since it
+// is mostly near.
 fn block_at(
     blocks: &[Block],
     starts: &[u64],
@@ -130,7 +132,7 @@ fn block_at(
     Some(place)
 }
 
-// The place of a number in a list that goes up, which is about `near`.
+// The place of `number` in `numbers`, which ascend; it is expected to be about `near`.
 fn index_of(numbers: &[u64], near: usize, number: u64) -> Option<usize>
     requires { AllPairs (λ a b. a < b) numbers.now }
     ensures inside { IfSome result (λ k. k < length numbers.now) }

@@ -6,7 +6,7 @@ ghost use Rattle.rv_code.specs.layout.Flow.{target_of};
 use rv_code::Placed;
 use rv_code::flow::{ends_block, target};
 
-/// Where the branch or jump goes that ends a block, unless a register says it.
+/// Where `inst` goes, if it is a branch or jump that ends a block and no register says where.
 pub fn jump_target(inst: &Placed) -> Option<u64>
     ensures { (a : ℕ) → (result ≡ Some a) ↔ (EndsBlock inst.now × (target_of inst.now ≡ Some a)) }
 {

@@ -16,6 +16,6 @@ head_from a end start size left =
 abbrev pub head_sized : Augmentation → ℕ → ℕ → List ℕ → Read FdeHead
 head_sized a end start left = and_then (stored_at (size_encoding a.encoding) left) (head_from a end start)
 
--- of an entry that ends at an address
+-- the fields at the front of bytes that end at an address
 abbrev pub fde_head_at : Augmentation → ℕ → List ℕ → Read FdeHead
 fde_head_at a end left = and_then (pointer_at a.encoding end left) (head_sized a end)

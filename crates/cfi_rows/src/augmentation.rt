@@ -15,7 +15,7 @@ use crate::failed::Failed;
 use crate::operand::{byte, unsigned};
 use rb_bytes::cursor::Cursor;
 
-/// What the augmentation of a CIE says.
+/// What the augmentation of a CIE says of its FDEs and of their frames.
 #[derive(Clone, Copy)]
 pub struct Augmentation {
     /// Whether augmentation data stand in the FDEs.

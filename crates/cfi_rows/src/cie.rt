@@ -20,7 +20,8 @@ use rb_bytes::cursor::Cursor;
 use std::alloc::Global;
 use std::collections::BTreeSet;
 
-/// The fields before the instructions.
+/// The fields of a CIE before its instructions: the factors of advances and of offsets, the register with the return
+/// address, and the augmentation.
 #[derive(Clone, Copy)]
 pub struct Head {
     pub code: u64,
@@ -29,7 +30,8 @@ pub struct Head {
     pub augmentation: Augmentation,
 }
 
-/// A CIE, with what its instructions say of the frame address, and what is counted of them.
+/// A CIE, with what its instructions say of the frame address, the registers that they give a rule, and how many
+/// bytes their expressions have.
 #[derive(Drop)]
 pub struct Cie {
     pub head: Head,
@@ -39,7 +41,8 @@ pub struct Cie {
 }
 
 impl Head {
-    /// What the instructions of an entry that ends at an address are read under.
+    /// What the instructions of the CIE or of one of its FDEs are read under; `end` is the address at which the entry
+    /// ends.
     pub(crate) fn factors(&self, end: u128) -> Factors
         requires { end < 2 ^ 66 }
         ensures { context_of result ≡ spec.head_context end (head_of self.now) }
@@ -53,7 +56,8 @@ impl Head {
     }
 }
 
-// The sizes of addresses and of segment selectors, from version 4 on, have to be 8 and 0.
+// Passes the sizes of addresses and of segment selectors, which a CIE has from version 4 on. They have to be 8 and 0:
+// as a number of 16 bits, 8.
 fn pass_sizes(version: u8, cursor: &mut Cursor<'_>) -> Result<u16, Failed>
     ensures ok { IfOk result (λ n. spec.sizes_at version cursor.old.left ≡ Ok (n, cursor.new.left)) }
     ensures err { IfErr result (λ e. Fails e (spec.sizes_at version cursor.old.left ≡ Err Entry)) }
@@ -71,7 +75,8 @@ fn pass_sizes(version: u8, cursor: &mut Cursor<'_>) -> Result<u16, Failed>
     }
 }
 
-// The return register: a byte in version 1.
+// The register with the return address: a byte in version 1, and later a number in LEB128. One above 255 is refused,
+// since CIEs are written in version 1.
 fn return_register(version: u8, cursor: &mut Cursor<'_>) -> Result<u64, Failed>
     ensures ok { IfOk result (λ r. spec.return_register_at version cursor.old.left ≡ Ok (r, cursor.new.left)) }
     ensures err { IfErr result (λ e. Fails e (spec.return_register_at version cursor.old.left ≡ Err Entry)) }
@@ -86,7 +91,7 @@ fn return_register(version: u8, cursor: &mut Cursor<'_>) -> Result<u64, Failed>
     Ok(register)
 }
 
-/// The fields of a CIE before its instructions; the bytes left end at an address.
+/// The fields of a CIE before its instructions; `end` is the address at which the bytes left end.
 pub(crate) fn read_head(end: u128, cursor: &mut Cursor<'_>) -> Result<Head, Failed>
     requires { end < 2 ^ 66 }
     ensures ok { IfOk result (λ h. spec.head_at end cursor.old.left ≡ Ok (head_of h, cursor.new.left)) }
@@ -107,7 +112,7 @@ pub(crate) fn read_head(end: u128, cursor: &mut Cursor<'_>) -> Result<Head, Fail
     })
 }
 
-/// A CIE by its body, which ends at an address.
+/// A CIE by its body, the bytes behind its id; `end` is the address at which they end.
 pub(crate) fn read_cie(alloc: Global, end: u128, body: &[u8]) -> Result<Cie, Failed>
     requires { end < 2 ^ 66 }
     ensures ok { IfOk result (λ k. IsOkAnd (spec.cie_at end body.now) (IsKeptCie k)) }

@@ -13,7 +13,7 @@ use crate::machine::{Known, Machine};
 use rb_bytes::cursor::Cursor;
 use std::alloc::Global;
 
-/// What is read of a CIE for the rows of its FDEs.
+/// What is kept of a CIE for the rows of its FDEs: its fields, and the rules with which its FDEs begin.
 #[derive(Drop)]
 pub struct CieProgram {
     pub head: Head,
@@ -35,7 +35,7 @@ fn known_after(alloc: Global, instructions: &[Instruction]) -> Result<Known, Fai
     })
 }
 
-/// A CIE by its body, which ends at an address, with its rules.
+/// A CIE by its body, the bytes behind its id, with its rules; `end` is the address at which they end.
 pub(crate) fn read_cie_program(alloc: Global, end: u128, body: &[u8]) -> Result<CieProgram, Failed>
     requires { end < 2 ^ 66 }
     ensures { IfOk result (λ k. IsOkAnd (cie_at end body.now) (IsCieProgram k)) }

@@ -13,7 +13,7 @@ use std::alloc::Global;
 use std::collections::BTreeSet;
 
 impl Registers {
-    // Adds a register, unless it is known.
+    // Adds a register, unless it is there or among those that are known already.
     fn add(&mut self, known: &BTreeSet<u64>, register: u64) -> Result<(), NoMemory>
         requires { self.old.count < 2 ^ 63 }
         ensures added { OnOk result ((xs ys : List ℕ) → AreIn xs known.now → AreCounted xs ys known.now self.old →
@@ -44,7 +44,7 @@ impl Registers {
     }
 }
 
-/// The registers that get a rule, but for those that are known.
+/// The registers that instructions give a rule, but for those in `known`.
 pub(crate) fn new_registers(
     alloc: Global,
     known: &BTreeSet<u64>,
@@ -63,7 +63,7 @@ pub(crate) fn new_registers(
     Ok(registers)
 }
 
-/// How many bytes the expressions of instructions have; none where that is no number of 64 bits.
+/// How many bytes the expressions of instructions have together; none where that passes 64 bits.
 pub(crate) fn expression_bytes(instructions: &[Instruction]) -> Option<u64>
     ensures { IfSome result (λ n. n ≡ sum_by spec.bytes_in instructions.now) }
 {
@@ -75,7 +75,7 @@ pub(crate) fn expression_bytes(instructions: &[Instruction]) -> Option<u64>
 }
 
 impl Instruction {
-    // The register that gets a rule.
+    // The register that the instruction gives a rule, if it gives one.
     fn register_set(&self) -> Option<u64>
         ensures { option_to_list result ≡ spec.registers_set self.now }
     {

@@ -16,11 +16,12 @@ use crate::operand::byte;
 use rb_bytes::cursor::Cursor;
 use std::alloc::Global;
 
-// The most instructions of an entry. Memory is said to be wanting for more, which take some 200 bytes each when they are
-// run, and no entry of a function needs so many.
+// The most instructions of an entry. No function's entry needs so many, and each takes some 200 bytes while the entry
+// is run; so an entry with more is answered with want of memory.
 const MOST_INSTRUCTIONS: usize = 1 << 23;
 
-// The next instruction.
+// The instruction at the front, by the range that its opcode is in. Opcodes above DW_CFA_hi_user have an operand in
+// their low six bits.
 fn instruction(
     alloc: Global,
     cursor: &mut Cursor<'_>,
@@ -49,7 +50,7 @@ pub(crate) fn instructions(
     ensures err { IfErr result (λ e. Fails e (instructions_at (context_of factors.now) cursor.old.left ≡ Err Entry)) }
 {
     let mut list = Vec::new(alloc);
-    // Each has a byte or more.
+    // Each instruction takes a byte at least, so nothing is left behind the loop.
     for count in 0..cursor.left() {
         if cursor.left() == 0 {
             return Ok(list);

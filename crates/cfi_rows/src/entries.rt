@@ -30,7 +30,8 @@ impl<'a> RawEntry<'a> {
         }
     }
 
-    // The offset of the CIE that an FDE names.
+    // The offset of the CIE that an FDE names, if it can be one: in `.eh_frame` an id is the distance back from the id
+    // field, which stands four bytes behind the start of the entry.
     pub(crate) fn cie_place(&self, debug: bool) -> Option<u128>
         ensures { result ≡ spec.cie_place debug self.now }
     {
@@ -44,7 +45,7 @@ impl<'a> RawEntry<'a> {
         Some(field - self.id as u128)
     }
 
-    // The address at which it ends, of a section at an address.
+    // The address at which it ends, where its section is at `address`. In a malformed file the sum may pass 2^64.
     pub(crate) fn end(&self, address: u64) -> u128
         ensures is { result ≡ spec.end_of address self.now }
         ensures small { result < 2 ^ 66 }
@@ -56,7 +57,7 @@ impl<'a> RawEntry<'a> {
 // The id of a CIE in `.debug_frame`.
 const DEBUG_CIE_ID: u32 = 0xffff_ffff;
 
-// A CIE, and none where it is malformed.
+// A CIE, or none where it is malformed.
 fn sound_cie(alloc: Global, end: u128, body: &[u8]) -> Result<Option<Cie>, NoMemory>
     requires { end < 2 ^ 66 }
     ensures { IfOk result (λ cie. KeptAs cie (spec.cie_at end body.now)) }
@@ -80,7 +81,8 @@ fn is_sound_cie(alloc: Global, end: u128, body: &[u8]) -> Result<bool, NoMemory>
     }
 }
 
-// The CIEs of entries by their places, each once. Those of one place are the first's, so the last come first.
+// The CIEs among entries, by their places; none for one that is malformed. Of entries at one place the first counts,
+// so they are gone through from the last one on. (Entries that were walked have a place each.)
 fn read_cies(
     alloc: Global,
     debug: bool,
@@ -102,7 +104,7 @@ fn read_cies(
     Ok(cies)
 }
 
-// Adds the CIE of an entry that stands before those whose CIEs are there, if it is one.
+// Adds an entry, if it is a CIE, to the CIEs of the entries that stand behind it.
 fn add_cie(
     alloc: Global,
     debug: bool,
@@ -121,7 +123,7 @@ fn add_cie(
     Ok(())
 }
 
-// An FDE by its entry, among entries that have these CIEs.
+// An FDE by its entry, and by the CIEs of all entries. One whose CIE isn't there or is malformed is malformed, too.
 fn fde_among(
     alloc: Global,
     debug: bool,
@@ -144,7 +146,7 @@ fn fde_among(
     }
 }
 
-// The entries up to the first malformed one, or up to where bytes stand that are none.
+// The entries up to the first malformed one, or else up to `broken`, where bytes stand that are no entry.
 fn sound_entries(
     alloc: Global,
     debug: bool,
@@ -171,7 +173,7 @@ fn sound_entries(
     Ok(listed)
 }
 
-// Takes an entry, unless it is malformed, which is answered.
+// Takes an entry to those listed, and answers whether it is sound; a malformed one isn't taken.
 fn take_entry(
     alloc: Global,
     debug: bool,
@@ -207,7 +209,7 @@ fn take_entry(
     }
 }
 
-/// The entries of the contents of a section at an address.
+/// The entries of a frame table, `.debug_frame` where `debug` holds, by the contents and the address of its section.
 pub fn read_entries(
     alloc: Global,
     debug: bool,

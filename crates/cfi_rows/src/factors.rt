@@ -3,7 +3,8 @@ ghost use Rattle.std.specs.Prelude.{◌^◌, ◌<◌};
 
 use crate::encoding::Encoding;
 
-/// The factors and the encoding of a CIE, and the address at which the entry ends.
+/// The factors of advances and of offsets of a CIE, the encoding of addresses, and the address at which the entry
+/// ends.
 #[derive(Clone, Copy)]
 pub struct Factors {
     pub code: u64,

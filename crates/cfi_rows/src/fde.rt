@@ -22,8 +22,8 @@ use crate::raw_entry::RawEntry;
 use rb_bytes::cursor::Cursor;
 use std::alloc::Global;
 
-/// The fields before the instructions: where the range starts, its size, and the pointer of its
-/// exception table, or 0.
+/// The fields of an FDE before its instructions: where its range starts, the size of the range, and the address of
+/// its exception table, or 0.
 #[derive(Clone, Copy)]
 pub struct FdeHead {
     pub start: u64,
@@ -32,7 +32,7 @@ pub struct FdeHead {
 }
 
 impl Encoding {
-    // The encoding of the size of a range: that of its start, but for that it is no distance.
+    // The encoding of the size of a range: that of its start, but never relative to where it stands.
     fn of_size(self) -> Encoding
         ensures { result ≡ spec.size_encoding self }
     {
@@ -45,7 +45,7 @@ impl Encoding {
     }
 }
 
-/// The fields of an FDE before its instructions; the bytes left end at an address.
+/// The fields of an FDE before its instructions; `end` is the address at which the bytes left end.
 pub(crate) fn read_fde_head(
     augmentation: &Augmentation,
     end: u128,
@@ -67,7 +67,7 @@ pub(crate) fn read_fde_head(
     Ok(FdeHead { start, size, table })
 }
 
-// A sum of counts. One that passes 64 bits would be of more than memory holds.
+// A sum of counts. What one that passes 64 bits counts couldn't be in memory.
 fn sum(left: u64, right: u64) -> Result<u64, Failed>
     ensures ok { IfOk result (λ n. n ≡ left + right) }
     ensures err { IfErr result (λ e. Fails e ⊥) }
@@ -75,7 +75,7 @@ fn sum(left: u64, right: u64) -> Result<u64, Failed>
     left.checked_add(right).ok_or(Failed::Memory)
 }
 
-/// An FDE by its entry, which ends at an address, and its CIE.
+/// An FDE by its entry and its CIE; `end` is the address at which the entry ends.
 pub(crate) fn read_fde(
     alloc: Global,
     cie: &Cie,

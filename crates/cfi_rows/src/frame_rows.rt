@@ -17,7 +17,7 @@ use std::collections::BTreeMap;
 use std::rc::Rc;
 use table_core::section::Held;
 
-/// The rows of entries of the list of a table, in its order.
+/// The rows of each entry of a table's list, in the order of the list.
 pub(crate) fn rows_of(
     alloc: Global,
     debug: bool,
@@ -34,7 +34,7 @@ pub(crate) fn rows_of(
     for fde in list {
         match rows_standing(alloc, debug, held, fde.place, &mut cies) {
             Ok(rows) => all.push(rows)?,
-            // It was read once, and wasn't malformed.
+            // The list has only entries that were read before and weren't malformed, so memory is what is wanting.
             Err(_) => return Err(NoMemory),
         }
     }

@@ -1,7 +1,8 @@
 // The entries of a table that were read.
 use crate::frame_table::Fde;
 
-/// How many CIEs a table has, its FDEs, and the place of its first malformed entry; both stand before that one.
+/// What was read of a table up to its first malformed entry: how many CIEs and which FDEs stand before that one, and
+/// its offset. Bytes that are no entry count as a malformed one.
 #[derive(Drop)]
 pub struct Listed {
     pub cies: u64,

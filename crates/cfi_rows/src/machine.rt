@@ -28,8 +28,8 @@ pub struct Saved {
     pub changes: Vec<Change>,
 }
 
-/// A program under way. Of the states that it remembered it keeps by what they differ, so that to remember one takes
-/// the same time whatever the number of rules.
+/// A program under way. The states that it remembered are kept as what has changed since, so that remembering one
+/// takes the same time whatever the number of rules.
 #[derive(Drop)]
 pub struct Machine {
     pub location: u64,
@@ -40,7 +40,7 @@ pub struct Machine {
     pub saved: Vec<Saved>,
 }
 
-// A frame address rule once more, if there is one.
+// The same frame address rule, if there is one, shared and not copied.
 fn shared(cfa: &Option<Rc<Cfa>>) -> Result<Option<Rc<Cfa>>, NoMemory>
     ensures { IfOk result (λ copy. option_map rc_value copy ≡ option_map rc_value cfa.now) }
 {
@@ -50,7 +50,7 @@ fn shared(cfa: &Option<Rc<Cfa>>) -> Result<Option<Rc<Cfa>>, NoMemory>
     }
 }
 
-// A frame address rule by a register, with another register.
+// A frame address rule by a register and an offset, with another register; none of other rules.
 fn with_register(cfa: &Option<Rc<Cfa>>, register: u64) -> Option<Cfa>
     ensures { result ≡ spec.with_register register (option_map rc_value cfa.now) }
 {
@@ -64,7 +64,7 @@ fn with_register(cfa: &Option<Rc<Cfa>>, register: u64) -> Option<Cfa>
     }
 }
 
-// A frame address rule by a register, with another offset.
+// A frame address rule by a register and an offset, with another offset; none of other rules.
 fn with_offset(cfa: &Option<Rc<Cfa>>, offset: i64) -> Option<Cfa>
     ensures { result ≡ spec.with_offset offset (option_map rc_value cfa.now) }
 {
@@ -76,7 +76,7 @@ fn with_offset(cfa: &Option<Rc<Cfa>>, offset: i64) -> Option<Cfa>
 }
 
 impl Machine {
-    /// At the start of a program, with no rules of registers.
+    /// The machine at the start of a program, with no rules of registers.
     pub(crate) fn begin(
         alloc: Global,
         location: u64,
@@ -94,7 +94,8 @@ impl Machine {
         })
     }
 
-    /// Does one instruction, where there are no initial rules.
+    /// Does one instruction, as where there are no initial rules: `Restore` takes a register's rule away. The rules of
+    /// a CIE are put below those of its FDE when a row is asked for.
     pub(crate) fn step(&mut self, alloc: Global, instruction: &Instruction) -> Result<(), Failed>
         ensures { OnOk result (spec.step [] instruction.now (state_of self.old) ≡ Some (state_of self.new)) }
     {

@@ -9,7 +9,7 @@ use crate::instruction::Instruction;
 use crate::row::Cfa;
 use std::alloc::Global;
 
-/// How the canonical frame address is found, if it is.
+/// How the canonical frame address is found, if that is said.
 #[derive(Clone, Copy)]
 pub enum FrameKind {
     /// It isn't said.
@@ -91,7 +91,7 @@ impl Outline {
         Ok(())
     }
 
-    // The frame address has to be found by a register.
+    // Malformed, unless the frame address is found by a register. DWARF 5, section 6.4.2.2.
     fn needs_register(&self) -> Result<(), Failed>
         ensures ok { OnOk result (spec.if_register self.now.frame (spec.kept_outline self.now)
             ≡ Some (spec.kept_outline self.now)) }
@@ -147,7 +147,8 @@ pub(crate) fn frame_after(alloc: Global, instructions: &[Instruction]) -> Result
     Ok(outline.frame)
 }
 
-/// How many rows the instructions of an FDE have.
+/// How many rows the instructions of an FDE have, whose range begins at `start` and whose CIE leaves `frame`. Each row
+/// needs a frame address.
 pub(crate) fn row_count(
     alloc: Global,
     instructions: &[Instruction],
@@ -179,7 +180,7 @@ pub(crate) fn row_count(
 }
 
 impl Instruction {
-    // Whether it moves the location.
+    // Whether it moves the location, which ends a row.
     pub(crate) fn ends_row(&self) -> bool
         ensures { result ≡ ends_row self.now }
     {

@@ -17,7 +17,7 @@ use rb_bytes::cursor::Cursor;
 use std::alloc::Global;
 use std::rc::Rc;
 
-/// An FDE to be run: what is known at its start, where its range begins, and its instructions.
+/// An FDE to be run: its CIE, where its range begins, and its instructions.
 #[derive(Drop)]
 pub struct Program {
     pub initial: Rc<CieProgram>,
@@ -25,7 +25,7 @@ pub struct Program {
     pub instructions: Vec<Instruction>,
 }
 
-/// An FDE by its body, which ends at an address, and its CIE.
+/// An FDE by its CIE and by its body, the bytes behind its id; `end` is the address at which they end.
 pub(crate) fn read_program(
     alloc: Global,
     cie: Rc<CieProgram>,
@@ -47,7 +47,7 @@ pub(crate) fn read_program(
 }
 
 impl Program {
-    /// All rows.
+    /// Runs the instructions, and keeps all rows.
     pub(crate) fn run(&self, alloc: Global) -> Result<EntryRows, Failed>
         ensures { IfOk result (λ rows. rows_of self.now ≡ Some rows) }
     {
@@ -58,7 +58,7 @@ impl Program {
             history.run(alloc, &mut machine, instruction)?;
         }
         history.add_row(&machine)?;
-        // Their length tells that the rules of the CIE ascend by register, as those of rows do.
+        // Only for the clause of `len` that the rules of the CIE ascend by register, as those of rows have to.
         let _ = known.rules.len();
         Ok(EntryRows {
             initial: self.initial.clone()?,

@@ -8,7 +8,8 @@ use rb_bytes::fault::NoMemory;
 use std::alloc::Global;
 use std::marker::Model;
 
-/// An entry: the offset of its length field, its id, and the bytes after the id.
+/// An entry of a frame table: the offset of its length field, its id, and the bytes after the id. The id tells a CIE
+/// from an FDE, and the FDE's CIE.
 #[derive(Drop)]
 pub struct RawEntry<'a> {
     pub place: u64,
@@ -27,16 +28,16 @@ impl<'a> Model for RawEntry<'a> {
 /// Why no entry stands at the front of some bytes.
 #[derive(Clone, Copy)]
 pub enum NoEntry {
-    /// The table ends there.
+    /// A length of 0 ends the table, in `.eh_frame`.
     Ends,
-    /// The length isn't there, isn't one of 32 bits, or passes the end of the bytes.
+    /// The length isn't there, isn't one of 32 bits, has no room for an id, or passes the end of the bytes.
     Breaks,
 }
 
 // The length that says that one of 64 bits follows.
 const WIDE_LENGTH: u32 = 0xffff_ffff;
 
-/// The entry at the front of the bytes left, and the bytes after it.
+/// The entry at the front of the bytes left, which stand at offset `place`, and the bytes after it.
 pub(crate) fn entry_at<'a>(
     debug: bool,
     place: u64,
@@ -65,14 +66,14 @@ pub(crate) fn entry_at<'a>(
     Ok((RawEntry { place, id, body }, rest))
 }
 
-/// The entries that stand one after another, and the offset at which bytes stand that are none.
+/// The entries that stand one after another, and the offset behind them at which bytes stand that are no entry.
 #[derive(Drop)]
 pub struct Walked<'a> {
     pub entries: Vec<RawEntry<'a>>,
     pub broken: Option<u64>,
 }
 
-/// Walks the entries of a table.
+/// Walks the entries of a table, up to its end or to what is no entry.
 pub(crate) fn walk<'a>(alloc: Global, debug: bool, table: &'a [u8]) -> Result<Walked<'a>, NoMemory>
     ensures { IfOk result (λ w. walked_entries debug table.now ≡ record
         { entries = w.entries.items; broken = w.broken }) }
@@ -80,7 +81,8 @@ pub(crate) fn walk<'a>(alloc: Global, debug: bool, table: &'a [u8]) -> Result<Wa
     let mut entries = Vec::new(alloc);
     let mut left = table;
     let mut place: u64 = 0;
-    // Each has a byte or more.
+    // Each entry takes a byte at least, so only an empty table isn't done within the loop, which `count` bounds without
+    // being read.
     for count in 0..table.len() {
         if left.is_empty() {
             return Ok(Walked {

@@ -1,7 +1,7 @@
 // Sets of registers.
 use std::collections::BTreeSet;
 
-/// Registers, and how many they are.
+/// A set of registers, and how many they are.
 #[derive(Drop)]
 pub struct Registers {
     pub set: BTreeSet<u64>,

@@ -14,7 +14,7 @@ use crate::rules::{Change, RuleMap};
 use std::alloc::Global;
 use std::rc::Rc;
 
-/// A row: how the canonical frame address is found, and how many changes of rules led to it.
+/// A row: where it begins, how the canonical frame address is found, and how many changes of rules led to it.
 #[derive(Drop)]
 pub struct KeptRow {
     pub start: u64,
@@ -34,8 +34,8 @@ pub struct KeptRules {
 pub struct RowHistory {
     pub rows: Vec<KeptRow>,
     pub changes: Vec<Change>,
-    /// Rules are kept after as many changes as they are themselves, and some more: so all of them take no more room
-    /// than the changes, and to find a row's rules takes no longer than to copy them, and some more.
+    /// Rules are kept once the changes since those kept last are as many as the rules, and some more. So all that is
+    /// kept takes no more room than the changes, and finding a row's rules takes little longer than copying them.
     pub kept: Vec<KeptRules>,
 }
 
@@ -54,7 +54,7 @@ impl RowHistory {
         }
     }
 
-    /// Does one instruction of a machine.
+    /// Does one instruction of a machine, and adds the row that it ends and the changes of rules that it makes.
     pub(crate) fn run(
         &mut self,
         alloc: Global,
@@ -72,7 +72,7 @@ impl RowHistory {
         self.keep_rules(machine)
     }
 
-    // Adds the row that a machine knows, if an instruction ends it.
+    // Adds the row that a machine has reached, if an instruction ends it.
     fn end_row(&mut self, machine: &Machine, instruction: &Instruction) -> Result<(), Failed>
         ensures keeps { OnOk result (Keeps self.old machine.now.rules → Keeps self.new machine.now.rules) }
         ensures rows { OnOk result (Keeps self.old machine.now.rules → (more : Option (List spec.PlacedRow)) →
@@ -85,7 +85,7 @@ impl RowHistory {
         Ok(())
     }
 
-    /// Adds the row that a machine knows.
+    /// Adds the row that a machine has reached; it has to have a frame address.
     pub(crate) fn add_row(&mut self, machine: &Machine) -> Result<(), Failed>
         ensures keeps { OnOk result (Keeps self.old machine.now.rules → Keeps self.new machine.now.rules) }
         ensures rows { OnOk result (Keeps self.old machine.now.rules → (more : Option (List spec.PlacedRow)) →
@@ -152,7 +152,7 @@ impl RowHistory {
         Ok(())
     }
 
-    // Keeps the rules of a machine, if they were kept last so many changes ago.
+    // Keeps the rules of a machine, if enough changes were made since rules were kept last.
     fn keep_rules(&mut self, machine: &Machine) -> Result<(), Failed>
         ensures { OnOk result (Keeps self.old machine.now.rules → Goes self.old self.new machine.now.rules) }
     {

@@ -13,7 +13,7 @@ use crate::rules::RuleMap;
 use rb_bytes::fault::NoMemory;
 use std::alloc::Global;
 
-// How many rows begin at or before an address.
+// How many rows begin at or below an address.
 fn count_up_to(rows: &[KeptRow], address: u64) -> usize
     requires { IsNonDecreasingBy (λ r. r.start) rows.now }
     ensures bound { result ≤ length rows.now }
@@ -40,7 +40,7 @@ impl RowHistory {
         Ok(rules)
     }
 
-    // The rules that were kept last up to so many changes, and after how many; or none, after no change.
+    // The last rules that were kept after at most `count` changes, and after how many; or else none, after no change.
     fn kept_rules(&self, alloc: Global, count: usize) -> Result<(RuleMap, usize), NoMemory>
         requires { All (IsRight self.now.changes.items) self.now.kept.items }
         ensures rules { IfOk result (λ k. k.0 ≡ rules_after self.now.changes.items k.1) }
@@ -49,6 +49,7 @@ impl RowHistory {
         let above = self.kept.partition_point(|kept| kept.changes <= count);
         if above > 0 {
             let kept = &self.kept[above - 1];
+            // True, since they ascend by their changes; but the prover isn't told so.
             if kept.changes <= count {
                 return Ok((kept.rules.shared()?, kept.changes));
             }
@@ -58,7 +59,7 @@ impl RowHistory {
 }
 
 impl EntryRows {
-    // Which row holds at an address, if one does.
+    // The index of the row that holds at an address, if one does.
     fn index_at(&self, address: u64) -> Option<usize>
         ensures row { spec.row_at address self.now None
             ≡ option_map (λ r. r.row) (option_and_then (slice_get self.now) result) }
@@ -82,7 +83,7 @@ impl EntryRows {
         })
     }
 
-    /// The row at an address.
+    /// The row that holds at an address, if one does.
     pub(crate) fn row_at(&self, alloc: Global, address: u64) -> Result<Option<Row>, NoMemory>
         ensures { IfOk result (λ row. spec.row_at address self.now None ≡ row) }
     {

@@ -29,7 +29,7 @@ impl Model for RuleMap {
     ghost view = { λ r. map (valued rc_value) r.by_register.entries };
 }
 
-/// A change of the rule of a register: the rule that it gets.
+/// A change of the rule of a register: the rule that it gets, or that it gets none.
 #[derive(Drop)]
 pub struct Change {
     pub register: u64,
@@ -37,7 +37,7 @@ pub struct Change {
 }
 
 impl Change {
-    /// The rule that it gives back.
+    /// The rule that the register gets, shared and not copied.
     pub(crate) fn shared_rule(&self) -> Result<Option<Rc<Rule>>, NoMemory>
         ensures { IfOk result (λ rule. option_map rc_value rule ≡ option_map rc_value self.now.rule) }
     {
@@ -65,7 +65,7 @@ impl RuleMap {
         Ok(RuleMap { by_register })
     }
 
-    /// How many there are. Their registers ascend.
+    /// How many registers have a rule. A clause tells that they ascend.
     pub(crate) fn len(&self) -> usize
         ensures small { result < 2 ^ 63 }
         ensures ascends { Ascend 0 self.now }
@@ -84,7 +84,7 @@ impl RuleMap {
         Ok(rules)
     }
 
-    /// Gives a register a rule, or none. The change tells what it had before.
+    /// Gives a register a rule, or takes its rule away. Answers the change that undoes this.
     pub(crate) fn replace(
         &mut self,
         register: u64,

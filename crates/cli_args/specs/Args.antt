@@ -65,7 +65,7 @@ pub record SampleArgs : Type 0 where
   pub file : List ℕ
   pub profile : List ℕ
 
--- there are so many samples
+-- samples are numbered from 1 to 1000
 pub record IsSampleNumber (number : ℕ) : Type 0 where
   pub some : 1 ≤ number
   pub few : number ≤ 1000

@@ -35,7 +35,7 @@ pub data Token : Type 0 where
 abbrev pub is_equals : ℕ → Bool
 is_equals character = character == byte "="
 
--- the option that an argument is by itself
+-- the option that `arg` is without the argument behind it
 abbrev pub option_of : List ℕ → Token
 option_of arg =
     if list_any is_equals arg
@@ -138,7 +138,7 @@ is_run_token (Named name (Some value)) = bytes_eq name steps_name
 abbrev pub holds_zero : List ℕ → Bool
 holds_zero arg = list_any (λ character. character == 0) arg
 
--- a program may be given so many arguments and bytes, and no byte of them is zero
+-- `args` are few and short enough to be given to a program, and no byte of them is zero
 abbrev pub are_program_args : List (List ℕ) → Bool
 are_program_args args =
     nat_le (length args) most_args && nat_le (sum_by (λ arg. length arg) args) most_arg_bytes

@@ -1,4 +1,4 @@
--- What the readers of arguments and of files have read.
+-- How tokens and commands that were read are seen in definitions.
 use Rattle.std.specs.Prelude.{◌≢◌, Bool, true, false, List, [], ◌∷◌, map, string_bytes}
 use Rattle.std.specs.Option.{option_map}
 use Rattle.rv_memory.specs.Limits.{IsWithinLimits}

@@ -1,13 +1,13 @@
 // The arguments of the commands.
 
-/// The names of an input and of its profile.
+/// The names of the files of an input and of its profile.
 #[derive(Clone, Copy)]
 pub struct InputArgs<'a> {
     pub file: &'a str,
     pub profile: &'a str,
 }
 
-/// The files of `rewrite`.
+/// The arguments of `rewrite`: an input and its profile, and the names of the output and of the map.
 #[derive(Clone, Copy)]
 pub struct RewriteArgs<'a> {
     pub inputs: InputArgs<'a>,
@@ -15,8 +15,8 @@ pub struct RewriteArgs<'a> {
     pub map: &'a str,
 }
 
-/// The file that is run, the arguments that the program gets, which don't hold the file's name, and the most steps
-/// that it may do.
+/// The file that is run, the arguments that the program gets, without the file's name, and the most steps that it may
+/// do.
 #[derive(Clone, Copy)]
 pub struct RunArgs<'a> {
     pub file: &'a str,
@@ -24,28 +24,28 @@ pub struct RunArgs<'a> {
     pub limit: u64,
 }
 
-/// The run that is recorded, and the name of its profile.
+/// The run that is recorded, and the name of the file for its profile.
 #[derive(Clone, Copy)]
 pub struct RecordArgs<'a> {
     pub run: RunArgs<'a>,
     pub out: &'a str,
 }
 
-/// An input and its profile, and the name of the repaired profile.
+/// The arguments of `repair`: an input and its profile, and the name of the file for the repaired profile.
 #[derive(Clone, Copy)]
 pub struct RepairArgs<'a> {
     pub inputs: InputArgs<'a>,
     pub out: &'a str,
 }
 
-/// The name of a file, and an address.
+/// The arguments of `lookup` and of `frames`: the name of a file, and an address.
 #[derive(Clone, Copy)]
 pub struct LookupArgs<'a> {
     pub file: &'a str,
     pub address: u64,
 }
 
-/// The number of a sample, from 1 to 1000, and the names of its file and of its profile.
+/// The arguments of `sample`: a number from 1 to 1000, and the names of the sample's file and of its profile.
 #[derive(Clone, Copy)]
 pub struct SampleArgs<'a> {
     pub number: u16,
@@ -53,7 +53,7 @@ pub struct SampleArgs<'a> {
     pub profile: &'a str,
 }
 
-/// The names of an input, of an output, and of the map between them.
+/// The arguments of `verify`: the names of an input, of an output, and of the map from one to the other.
 #[derive(Clone, Copy)]
 pub struct VerifyArgs<'a> {
     pub input: &'a str,

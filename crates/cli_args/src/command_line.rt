@@ -26,11 +26,11 @@ const STEPS: &str = "--steps";
 // The option that runs a file on the symbol machine.
 const SYMBOLS: &str = "--symbols";
 
-// The most steps of a run where no option says it.
+// The most steps of a run without `--steps`.
 const DEFAULT_LIMIT: u64 = 100_000_000;
 
-/// The file of `run`, and the most steps that it may do. The program's arguments are read from the tokens by
-/// [`program_args`].
+/// The file of `run`, and the most steps that it may do. `tokens` are those behind the file's name, of which
+/// [`program_args`] makes the program's arguments.
 #[derive(Clone, Copy)]
 pub struct RunTokens<'a> {
     pub file: &'a str,
@@ -38,7 +38,8 @@ pub struct RunTokens<'a> {
     pub tokens: Tokens<'a>,
 }
 
-/// The run that `record` does, and the name of its profile.
+/// The run that `record` does, and the name of the file for its profile. The tokens of the run are those behind both
+/// names.
 #[derive(Clone, Copy)]
 pub struct RecordTokens<'a> {
     pub run: RunTokens<'a>,
@@ -60,7 +61,7 @@ pub enum Command<'a> {
     Frames(LookupArgs<'a>),
 }
 
-/// A token of a command: an argument that is no option, or an option with its value, where it has one.
+/// A token behind the name of a command: an argument that is no option, or an option with its value, where it has one.
 #[derive(Clone, Copy)]
 pub enum Token<'a> {
     Positional(&'a str),
@@ -70,7 +71,8 @@ pub enum Token<'a> {
     },
 }
 
-/// The tokens after a command that weren't read yet: their arguments, and whether options may be among them.
+/// The tokens that weren't read yet: `args` are the arguments in which they stand, and `options` says whether options
+/// may be among them, which none are behind `--`.
 #[derive(Clone, Copy)]
 pub struct Tokens<'a> {
     pub args: &'a [String],
@@ -84,7 +86,7 @@ fn is_option(arg: &str) -> bool
     arg.len() > 1 && arg.as_bytes().starts_with(b"-")
 }
 
-// The option that an argument is by itself.
+// The option that `arg` is without the argument behind it: `NAME=VALUE`, or a name alone.
 fn option(arg: &str) -> Token<'_>
     ensures { token_read result ≡ option_of arg.now }
 {
@@ -146,7 +148,7 @@ impl<'a> Iterator for Tokens<'a> {
     }
 }
 
-// The next token, where it is positional.
+// The next token, if it is positional. It is taken off `tokens`, whatever it is.
 fn next_positional<'a>(tokens: &mut Tokens<'a>) -> Option<&'a str>
     ensures found { IfSome result (λ arg. tokens_of tokens.old ≡ Positional arg.now ∷ tokens_of tokens.new) }
     ensures none { IfNone result (IsNoPositional (tokens_of tokens.old)) }
@@ -157,7 +159,7 @@ fn next_positional<'a>(tokens: &mut Tokens<'a>) -> Option<&'a str>
     }
 }
 
-// The arguments of `rewrite`.
+// The arguments of `rewrite`. The output and the map must differ, since one would overwrite the other.
 fn rewrite_args(mut tokens: Tokens<'_>) -> Option<RewriteArgs<'_>>
     ensures command { option_map names_read result ≡ rewrite_names_of (tokens_of tokens.entry) }
     ensures apart { IfSome result (λ a. a.out.now ≢ a.map.now) }
@@ -188,7 +190,7 @@ fn map_args(mut tokens: Tokens<'_>) -> Option<InputArgs<'_>>
     Some(InputArgs { file, profile })
 }
 
-// The arguments of `repair`.
+// The arguments of `repair`. All three names must differ.
 fn repair_args(mut tokens: Tokens<'_>) -> Option<RepairArgs<'_>>
     ensures { option_map repair_given result ≡ repair_of (tokens_of tokens.entry) }
 {
@@ -217,7 +219,7 @@ fn lookup_args(mut tokens: Tokens<'_>) -> Option<LookupArgs<'_>>
     Some(LookupArgs { file, address })
 }
 
-// The arguments of `sample`.
+// The arguments of `sample`. The names of both files must differ.
 fn sample_args(mut tokens: Tokens<'_>) -> Option<SampleArgs<'_>>
     ensures command { option_map sample_given result ≡ sample_of (tokens_of tokens.entry) }
     ensures number { IfSome result (λ a. IsSampleNumber a.number) }
@@ -250,7 +252,7 @@ fn verify_args(mut tokens: Tokens<'_>) -> Option<VerifyArgs<'_>>
     Some(VerifyArgs { input, output, map })
 }
 
-// Whether no options but those of `run` are among the tokens.
+// Whether no options but those of `run` are among the tokens: `--steps`, and `--symbols` without a value.
 fn has_only_run_options(tokens: Tokens<'_>) -> bool
     ensures { result ≡ list_all is_run_token (tokens_of tokens.entry) }
 {
@@ -270,8 +272,8 @@ fn has_only_run_options(tokens: Tokens<'_>) -> bool
     true
 }
 
-// The most steps of a run: those of `--steps`, or the default without it. None where it is there twice, or its value
-// is no number.
+// The most steps of a run: those of `--steps`, or the default without it. None where `--steps` is there twice, or its
+// value is no number.
 #[tactic(auto, using(crate::proofs::StepLimit::of_none, crate::proofs::StepLimit::of_bad, crate::proofs::StepLimit::of_number))]
 fn limit(tokens: Tokens<'_>) -> Option<u64>
     ensures { result ≡ limit_of (values_of steps_name (tokens_of tokens.entry)) }
@@ -292,7 +294,7 @@ fn limit(tokens: Tokens<'_>) -> Option<u64>
     Some(limit.unwrap_or(DEFAULT_LIMIT))
 }
 
-// Whether a file is run on the symbol machine. None where the option is there twice.
+// Whether a file is run on the symbol machine. None where `--symbols` is there twice.
 #[tactic(auto, using(crate::proofs::RunArguments::symbols_of_more))]
 fn symbols(tokens: Tokens<'_>) -> Option<bool>
     ensures { result ≡ symbols_of (values_of symbols_name (tokens_of tokens.entry)) }
@@ -313,7 +315,8 @@ fn symbols(tokens: Tokens<'_>) -> Option<bool>
     Some(symbols)
 }
 
-// Takes the first positional token, and all before it.
+// The first positional token. It is taken off `tokens` with the options before it, which `limit` and `symbols` read
+// from a copy.
 fn first_positional<'a>(tokens: &mut Tokens<'a>) -> Option<&'a str>
     ensures some { IfSome result (λ arg.
         positionals (tokens_of tokens.old) ≡ arg.now ∷ positionals (tokens_of tokens.new)) }
@@ -333,8 +336,8 @@ fn holds_zero(arg: &str) -> bool
     arg.as_bytes().contains(&0)
 }
 
-// Whether the positional tokens may be given to a program as its arguments: there are few enough of them, they aren't
-// too long together, and each can end with a zero byte, since none has one.
+// Whether the positional tokens may be given to a program as its arguments: there are at most `MOST_ARGS`, they have at
+// most `MOST_ARG_BYTES` together, and none has a zero byte, since each is ended by one in memory.
 fn are_program_args(tokens: Tokens<'_>) -> bool
     ensures { result ≡ are_program_args (positionals (tokens_of tokens.entry)) }
 {
@@ -380,7 +383,7 @@ fn run_args(mut tokens: Tokens<'_>) -> Option<Command<'_>>
     }
 }
 
-// Whether no options but that of `record` are among the tokens.
+// Whether no options but `--steps` are among the tokens.
 fn has_only_record_options(tokens: Tokens<'_>) -> bool
     ensures { result ≡ list_all is_record_token (tokens_of tokens.entry) }
 {
@@ -396,7 +399,7 @@ fn has_only_record_options(tokens: Tokens<'_>) -> bool
     true
 }
 
-// The arguments of `record`.
+// The arguments of `record`. The file and its profile must have names that differ.
 #[tactic(auto, using(crate::proofs::RunArguments::within_limits))]
 fn record_args(mut tokens: Tokens<'_>) -> Option<RecordTokens<'_>>
     ensures command { option_map record_read result ≡ record_of (tokens_of tokens.entry) }
@@ -419,7 +422,7 @@ fn record_args(mut tokens: Tokens<'_>) -> Option<RecordTokens<'_>>
     Some(RecordTokens { run, out })
 }
 
-/// The command that the arguments are, if they are one. Takes no memory.
+/// The command that `args` are, without the program's own name, if they are one. Takes no memory.
 pub fn parse(args: &[String]) -> Option<Command<'_>>
     ensures command { option_map command_read result ≡ command_of (map string_bytes args.now) }
     ensures apart { IfSome result NamesDiffer }
@@ -446,7 +449,7 @@ pub fn parse(args: &[String]) -> Option<Command<'_>>
     }
 }
 
-/// The arguments that the program of a run gets: the positional tokens behind those that name files.
+/// The arguments that the program of a run gets: the positional tokens behind the names of files.
 pub fn program_args(alloc: Global, args: &RunTokens<'_>) -> Result<Vec<String>, NoMemory>
     ensures { IfOk result (λ list. map string_bytes list.items ≡ (run_read args.now).args) }
 {

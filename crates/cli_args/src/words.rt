@@ -8,7 +8,7 @@ ghost use Rattle.cli_args.specs.Words as spec;
 
 use rb_bytes::number::decimal_number;
 
-// The most digits of an address.
+// The most hexadecimal digits of an address: those of 64 bits.
 const MOST_DIGITS: usize = 16;
 
 // How many samples there are.
@@ -31,7 +31,7 @@ pub fn address(word: &[u8]) -> Option<u64>
     value(digits)
 }
 
-/// The number of a sample that decimal digits write.
+/// The number of a sample, from 1 to 1000, that decimal digits write.
 pub fn sample_number(digits: &[u8]) -> Option<u16>
     ensures is { result ≡ spec.sample_number_of digits.now }
     ensures there { IfSome result IsSampleNumber }
@@ -43,7 +43,7 @@ pub fn sample_number(digits: &[u8]) -> Option<u16>
     Some(number as u16)
 }
 
-// What stands behind `0x`, or all of a word without it.
+// What stands behind `0x`, or all of `word` where it doesn't begin so.
 fn unprefixed(word: &[u8]) -> &[u8]
     ensures { result.now ≡ spec.unprefixed word.now }
 {
@@ -60,7 +60,7 @@ fn are_hex(digits: &[u8]) -> bool
     digits.iter().all(|c| c.is_ascii_hexdigit())
 }
 
-// The number that digits write, if it is below 2^64.
+// The number that hexadecimal digits write, if it is below 2^64.
 fn value(digits: &[u8]) -> Option<u64>
     requires digits { IsTrue (list_all char.is_ascii_hexdigit digits.now) }
     ensures { result ≡ (if nat_lt (digits_value 16 digits.now) (2 ^ 64) then Some
@@ -73,7 +73,7 @@ fn value(digits: &[u8]) -> Option<u64>
     Some(value)
 }
 
-// A number with one more digit.
+// `value` with one more hexadecimal digit behind it.
 fn appended(value: u64, digit: u64) -> Option<u64>
     ensures { result ≡ (if nat_lt (value * 16 + digit) (2 ^ 64) then Some (value * 16 + digit) else None) }
 {

@@ -40,7 +40,7 @@ module _ (Refused : List ℕ → List ℕ → Fault → Type 0) where
   abbrev pub HasInputFault : InputNames → World → Fault → Type 0
   HasInputFault names w fault = IsTrue w.files.told → OfInputs w names (λ file profile. Refused file profile fault)
 
-  -- Nothing was made, and no file was written.
+  -- A command stopped before it made anything, and no file was written.
   pub data IsStopped (names : InputNames) (old new : World) (answer : Status) : Type 0 where
     refused : (fault : Fault) → answer ≡ status.Refused fault → HasInputFault names old fault
         → PrintsOnly (refused_line fault) old new → IsStopped names old new answer

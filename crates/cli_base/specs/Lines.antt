@@ -15,7 +15,7 @@ abbrev pub refused_end : FaultKind → ℕ → ℕ → List ℕ
 refused_end NoRoom need room = codes ": need " ++ decimal need ++ codes " room " ++ decimal room ++ codes "\n"
 refused_end _ need room = codes "\n"
 
--- up to the place of the fault
+-- the line of a refusal up to the place of the fault
 abbrev pub refused_front : Fault → List ℕ
 refused_front fault =
     codes "refused " ++ decimal (number_of fault.kind) ++ codes " " ++ name_of fault.kind ++ codes " at "

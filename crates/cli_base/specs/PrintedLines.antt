@@ -15,12 +15,12 @@ pub record IsSilent (old new : World) : Type 0 where
   pub unprinted : new.output.taken ≡ old.output.taken
   pub unwritten : Unchanged old.files.content new.files.content
 
--- a line fails: a proper prefix of it was taken
+-- printing a line fails: a proper prefix of it was taken
 pub record FailsToPrint (line : List ℕ) (old new : World) : Type 0 where
   pub cause : Rose old.output.faults new.output.faults
   pub front : TakesPrefix old.output.taken new.output.taken line
 
--- it fails, and no file was written
+-- printing a line fails, and no file was written
 pub record FailsAtLine (line : List ℕ) (old new : World) : Type 0 where
   pub print : FailsToPrint line old new
   pub unwritten : Unchanged old.files.content new.files.content

@@ -17,7 +17,7 @@ pub data LinePrinted (answer done : Status) (text : List ℕ) (before after : Si
       → LinePrinted answer done text before after
   none_printed : answer ≡ status.NoMemory → after.taken ≡ before.taken → LinePrinted answer done text before after
 
--- the line of a refusal was printed so, or memory ran out and nothing was printed
+-- the line of a refusal was printed, as `LinePrinted` says, or memory ran out and nothing was printed
 abbrev pub Refuses : Refusal → Status → SinkSeen → SinkSeen → Type 0
 Refuses (refusal.Fault fault) answer before after =
     LinePrinted answer (status.Refused fault) (refused_line fault) before after

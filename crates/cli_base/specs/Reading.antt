@@ -11,7 +11,7 @@ use Rattle.cli_base.specs.Printing.{LinePrinted}
 use Rattle.cli_base.specs.declared.status.Status.{Status}
 use Rattle.cli_base.specs.declared.status.Status.TheVariants as status
 
--- The file of a name has more than so many bytes, and is refused; it can't be read; or memory ran out.
+-- The file `name` has more than `limit` bytes, and is refused; or it can't be read; or memory ran out.
 pub data IsUnread (name : List ℕ) (limit : ℕ) (old new : FilesSeen) (before after : SinkSeen)
     (answer : Status) : Type 0 where
   too_long : (fault : Fault) → fault ≡ fault_at TooLarge FILE_BYTES

@@ -6,7 +6,7 @@ use Rattle.rb_io.specs.Views.{FilesSeen}
 use Rattle.cli_base.specs.declared.status.Status.{Status}
 use Rattle.cli_base.specs.declared.status.Status.TheVariants as status
 
--- bytes are those that were given, within a limit, or more than may be
+-- `bytes` are those that were given, and within `limit`; or none were given, since they are more
 abbrev pub AreBytesGiven : ℕ → Option (Vec ℕ Global) → List ℕ → Type 0
 AreBytesGiven limit None bytes = limit < length bytes
 AreBytesGiven limit (Some given) bytes = (bytes ≡ given.items) × (length bytes ≤ limit)
@@ -15,7 +15,7 @@ AreBytesGiven limit (Some given) bytes = (bytes ≡ given.items) × (length byte
 abbrev pub FitsLimit : ℕ → Option (Vec ℕ Global) → Type 0
 FitsLimit limit given = IfSome given (λ bytes. length bytes.items ≤ limit)
 
--- such bytes are the content of a name
+-- `content` is that of a name, and was given so
 abbrev pub IsGiven : ℕ → Option (List ℕ) → Option (Vec ℕ Global) → Type 0
 IsGiven limit content given = IsSomeAnd content (AreBytesGiven limit given)
 

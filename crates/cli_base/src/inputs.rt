@@ -1,4 +1,4 @@
-// What commands share that take an input with its profile: both files are read.
+// An input read with its profile, for the commands that take both.
 ghost use Rattle.std.specs.Prelude.{◌≡◌, ◌⊎◌, ◌≤◌, length, IfErr, IfOk, IsTrue, OnOk};
 ghost use Rattle.rb_io.specs.Names.{Unchanged};
 ghost use Rattle.rb_io.specs.Views.{FilesGoOn, SourceSeen};
@@ -26,7 +26,7 @@ pub struct Inputs {
     pub profile: Vec<u8>,
 }
 
-// Reads both, before either is judged: None is one that is too long.
+// Reads the input and then its profile, before either is judged. None is a file that is too long.
 fn read_both<F: Files>(
     alloc: Global,
     args: &InputArgs<'_>,
@@ -47,8 +47,8 @@ fn read_both<F: Files>(
     Ok((file, profile))
 }
 
-/// Reads an input and its profile. The error is how the command ends; the line that refuses one that is too long was
-/// printed then, or could not be.
+/// Reads an input and its profile. The error is how the command ends. Where a file is too long, the line that refuses
+/// it has been printed, or its printing failed.
 pub fn read_inputs<F: Files, O: Sink>(
     alloc: Global,
     args: &InputArgs<'_>,

@@ -10,7 +10,7 @@ use rv_code::Cause;
 use std::alloc::Global;
 use sym_machine::Reason;
 
-// What is needed and what room there is, where that is the fault, and the end of the line.
+// Appends the end of the line of a refusal: for `NoRoom` how much room is needed and how much there is, in bytes.
 fn put_refused_end(line: &mut Vec<u8>, fault: &Fault) -> Result<(), NoMemory>
     ensures { OnOk result (line.new.items ≡ line.old.items
         ++ refused_end fault.now.kind fault.now.need fault.now.room) }
@@ -25,7 +25,7 @@ fn put_refused_end(line: &mut Vec<u8>, fault: &Fault) -> Result<(), NoMemory>
     Ok(())
 }
 
-/// The line for a file that is refused, up to the place of the fault.
+/// The front of the line for a file that is refused: `refused NUMBER NAME at PLACE`.
 pub fn refused_front(alloc: Global, fault: &Fault) -> Result<Vec<u8>, NoMemory>
     ensures { IfOk result (λ line. line.items ≡ refused_front fault.now) }
 {
@@ -38,7 +38,8 @@ pub fn refused_front(alloc: Global, fault: &Fault) -> Result<Vec<u8>, NoMemory>
     Ok(line)
 }
 
-/// The line for a file that is refused.
+/// The line for a file that is refused: `refused NUMBER NAME at PLACE`, and for `NoRoom` the bytes that are needed and
+/// that there are.
 pub fn refused(alloc: Global, fault: &Fault) -> Result<Vec<u8>, NoMemory>
     ensures { IfOk result (λ line. line.items ≡ refused_line fault.now) }
 {
@@ -56,7 +57,7 @@ fn put_after_steps(line: &mut Vec<u8>, steps: u64) -> Result<(), NoMemory>
     Ok(())
 }
 
-// Why a run stopped, where, and after how many steps.
+// Appends why a run stopped, where, and after how many steps.
 fn put_stop(line: &mut Vec<u8>, why: &[u8], pc: u64, steps: u64) -> Result<(), NoMemory>
     ensures { OnOk result
         (line.new.items ≡ line.old.items ++ why.now ++ codes " at " ++ hexadecimal pc ++ after_steps steps) }
@@ -68,7 +69,7 @@ fn put_stop(line: &mut Vec<u8>, why: &[u8], pc: u64, steps: u64) -> Result<(), N
     Ok(())
 }
 
-/// The line for a run that ended with a status.
+/// The line for a run that ended with `status`.
 pub fn ended(alloc: Global, status: u8, steps: u64) -> Result<Vec<u8>, NoMemory>
     ensures { IfOk result (λ line. line.items ≡ ended_line status steps) }
 {
@@ -78,7 +79,7 @@ pub fn ended(alloc: Global, status: u8, steps: u64) -> Result<Vec<u8>, NoMemory>
     Ok(line)
 }
 
-/// The line for a run that did all the steps that it may.
+/// The line for a run that did all its steps, and goes on.
 pub fn out_of_steps(alloc: Global, steps: u64) -> Result<Vec<u8>, NoMemory>
     ensures { IfOk result (λ line. line.items ≡ out_of_steps_line steps) }
 {
@@ -116,7 +117,7 @@ fn reason_name(reason: Reason) -> &'static [u8]
     }
 }
 
-/// The line for a run that a trap stopped at an address.
+/// The line for a run that a trap stopped at the address `pc`.
 pub fn trapped(alloc: Global, pc: u64, cause: Cause, steps: u64) -> Result<Vec<u8>, NoMemory>
     ensures { IfOk result (λ line. line.items ≡ trapped_line pc cause steps) }
 {
@@ -125,7 +126,7 @@ pub fn trapped(alloc: Global, pc: u64, cause: Cause, steps: u64) -> Result<Vec<u
     Ok(line)
 }
 
-/// The line for a run in which the symbol machine got stuck at an address.
+/// The line for a run in which the symbol machine got stuck at the address `pc`.
 pub fn stuck(alloc: Global, pc: u64, reason: Reason, steps: u64) -> Result<Vec<u8>, NoMemory>
     ensures { IfOk result (λ line. line.items ≡ stuck_line pc reason steps) }
 {

@@ -6,7 +6,8 @@ use crate::status::Status;
 use rb_bytes::fault::NoMemory;
 use rb_io::{Put, Sink, print_all};
 
-/// Prints a line, if there was memory to make it, and answers `done` once it is printed; else how the command ends.
+/// Prints `line`, if there was memory to make it, and answers `done` once all of it is taken; else `NoMemory` or
+/// `WriteFault`.
 pub fn print_line<O: Sink>(line: Result<Vec<u8>, NoMemory>, done: Status, out: &mut O) -> Status
     ensures printed { (text : List ℕ) → IfOk line (λ l. l.items ≡ text) →
         LinePrinted result done text (O.seen out.old) (O.seen out.new) }

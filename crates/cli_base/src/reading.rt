@@ -36,8 +36,8 @@ pub fn read_within<F: Files>(
     }
 }
 
-/// The content of a file of at most `limit` bytes. The error is how the command ends; the line that refuses a longer
-/// file was printed then, or could not be.
+/// The content of a file of at most `limit` bytes. The error is how the command ends. For a longer file the line that
+/// refuses it has been printed, or its printing failed.
 pub fn read_file<F: Files, O: Sink>(
     alloc: Global,
     name: &str,

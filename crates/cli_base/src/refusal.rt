@@ -1,4 +1,4 @@
-// Files that are refused.
+// How a command ends by a refusal.
 ghost use Rattle.std.specs.Prelude.{◌≤◌};
 ghost use Rattle.cli_base.specs.Printing.{Refuses};
 

@@ -7,12 +7,12 @@ use rb_bytes::fault::Fault;
 use rv_code::Cause;
 use sym_machine::Reason;
 
-/// How a command ended. The program ends with its number.
+/// How a command ended. The program exits with its number.
 #[derive(Clone, Copy, Debug)]
 pub enum Status {
     /// The command was done whole.
     Ok,
-    /// The program that was run ended with this status.
+    /// The program that was run ended with this status. It may be any byte, also one of the numbers 220 to 228.
     Ended(u8),
     /// The arguments are no command.
     Usage,
@@ -22,7 +22,7 @@ pub enum Status {
     ReadFault,
     /// A file, a line, or the output of a run could not be written.
     WriteFault,
-    /// Memory could not be had.
+    /// Memory ran out.
     NoMemory,
     /// The program that was run trapped, at this pc.
     Trapped(u64, Cause),
@@ -35,7 +35,7 @@ pub enum Status {
 }
 
 impl Status {
-    /// The number that the program ends with.
+    /// The number that the program exits with.
     pub fn number(self) -> u8
         ensures { result ≡ exit_number self }
     {
@@ -54,7 +54,7 @@ impl Status {
         }
     }
 
-    /// Whether it says how a run came out.
+    /// Whether it says how a run came out, so that a closing line is printed.
     pub fn is_outcome(self) -> bool
         ensures { result ≡ is_outcome self }
     {

@@ -14,7 +14,7 @@ use Rattle.cli_check.specs.declared.given.Given.{Given}
 use Rattle.cli_check.specs.declared.judging.Judged.{Judged}
 use Rattle.cli_check.specs.declared.judging.Judged.TheVariants as judged
 
--- three files are those that were given
+-- `input`, `output` and `map` are the three files that were given
 pub record AreFilesGiven (given : Given) (input output map : List ℕ) : Type 0 where
   pub of_input : AreBytesGiven file_limit given.input input
   pub of_output : AreBytesGiven file_limit given.output output
@@ -25,7 +25,7 @@ IsJudged input output map (judged.Verdict v) = IsVerdictOn input output map v
 IsJudged input output map (judged.Refused fault) = IsRefusedBy input output map fault (refused_line fault)
 IsJudged input output map (judged.RefusedOutput fault) = IsRefusedBy input output map fault (refused_output_line fault)
 
--- Its line was printed, or a prefix of it; or none of it, out of memory.
+-- The line of what judging came to was printed, or a prefix of it; or none of it, out of memory.
 abbrev pub Announces : Judged → Status → SinkSeen → SinkSeen → Type 0
 Announces (judged.Verdict v) answer before after = LinePrinted answer (status_of v) (verdict_line v) before after
 Announces (judged.Refused fault) answer before after =

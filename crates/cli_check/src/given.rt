@@ -1,4 +1,4 @@
-// The three files, all of which are read before any is judged.
+// The three files of `verify`, all of which are read before any is judged.
 ghost use Rattle.std.specs.Prelude.{IfErr, IfOk, IsTrue};
 ghost use Rattle.rb_io.specs.Names.{Unchanged};
 ghost use Rattle.rb_io.specs.Views.{FilesGoOn};
@@ -13,10 +13,11 @@ use program::FILE_LIMIT;
 use rb_io::Files;
 use std::alloc::Global;
 
-/// The most bytes of a map: more than one of 16 MiB of code has, with a line of at most 21 bytes for each instruction.
+/// The most bytes of a map. That of 16 MiB of code, the most that a file may have, is shorter: 2^23 instructions, and
+/// for each a line of at most 21 bytes.
 pub const MAP_LIMIT: usize = 200_000_000;
 
-/// An input, an output and a map, each where it isn't too long.
+/// The bytes of an input, an output and a map. None is a file that is too long.
 #[derive(Drop)]
 pub struct Given {
     pub input: Option<Vec<u8>>,

@@ -1,4 +1,4 @@
-// The three files judged, one after another.
+// The three files of `verify`, judged one after another.
 ghost use Rattle.std.specs.Prelude.{◌≡◌, ℕ, List, IfErr, IfOk};
 ghost use Rattle.program.specs.Limits.{file_limit};
 ghost use Rattle.program.specs.Program.{program_seen};
@@ -24,7 +24,7 @@ use std::alloc::Global;
 /// What judging comes to.
 #[derive(Clone, Copy)]
 pub enum Judged {
-    /// All are there, and this is the verdict on them.
+    /// No file is refused, and this is the verdict on them.
     Verdict(Verdict),
     /// The input is refused, or the map.
     Refused(Fault),
@@ -32,7 +32,7 @@ pub enum Judged {
     RefusedOutput(Fault),
 }
 
-// The verdict on a program, an output that was read, and a map.
+// The verdict on an input's program, an output and the text of a map.
 fn verdict(
     alloc: Global,
     program: &Program<'_>,
@@ -55,7 +55,7 @@ fn verdict(
     )
 }
 
-// A file as an output, or why it is refused.
+// An output, or why it is refused. Nothing but what it loads counts, so it is read as an image.
 fn read_output<'file>(alloc: Global, file: &'file Option<Vec<u8>>) -> Result<Elf<'file>, Refusal>
     requires { FitsLimit file_limit file.now }
     ensures output { IfOk result (λ elf. IsOutputFile elf.file.now elf) }
@@ -70,7 +70,7 @@ fn read_output<'file>(alloc: Global, file: &'file Option<Vec<u8>>) -> Result<Elf
     }
 }
 
-// A file as an input with its code, or why it is refused.
+// An input with its code, or why it is refused.
 fn read_input<'file>(alloc: Global, file: &'file Option<Vec<u8>>) -> Result<Program<'file>, Refusal>
     requires { FitsLimit file_limit file.now }
     ensures input { IfOk result (λ program. IsFileProgram program.elf.file.now (program_seen program)) }
@@ -85,7 +85,7 @@ fn read_input<'file>(alloc: Global, file: &'file Option<Vec<u8>>) -> Result<Prog
     }
 }
 
-// The fault of a refusal, where it has one.
+// The fault of a refusal, or want of memory where that is what it says.
 fn fault_of(answer: Refusal) -> Result<Fault, NoMemory>
     ensures { IfOk result (λ fault. answer ≡ refusal.Fault fault) }
 {

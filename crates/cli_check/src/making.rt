@@ -13,10 +13,11 @@ use program::Program;
 use rb_bytes::fault::{NoMemory, Refusal};
 use std::alloc::Global;
 
-// How many edges may be beside one for each two bytes of the file. Compilers make ten times less.
+// How many edges a program may have beyond one for each two bytes of its file. What compilers make stays below a tenth
+// of that.
 const EDGES_BESIDE: usize = 1 << 21;
 
-/// The text of a repaired profile, and the lines that are printed.
+/// The text of a repaired profile, and the lines that are printed: those that show that no other profile changes less.
 #[derive(Drop)]
 pub struct Outputs {
     pub profile: Vec<u8>,
@@ -24,7 +25,7 @@ pub struct Outputs {
 }
 
 /// Repairs the profile of an input, each of at most 64 MiB, or says which fault keeps it from that: one of 1 to 17, or
-/// `TooLarge` at 2 or 3 for the code.
+/// `TooLarge` at 2 (`CODE_BYTES`) or 3 (`FUNCTIONS`).
 pub fn repaired(alloc: Global, inputs: &Inputs) -> Result<Outputs, Refusal>
     requires file { length inputs.now.file.items ≤ file_limit }
     requires profile { length inputs.now.profile.items ≤ file_limit }
@@ -49,7 +50,8 @@ fn edges_of(alloc: Global, program: &Program<'_>) -> Result<Vec<(usize, usize)>,
     cfg_build::edges(alloc, funcs, blocks, &targets)
 }
 
-// Answers want of memory for more edges than code has but for jumps through tables: their flows would take much of it.
+// Answers want of memory for very many edges, as huge jump tables make them, or branches that are nearly all of the
+// code: flows on them would take much of it.
 fn check_edges(edges: &[(usize, usize)], file: &[u8]) -> Result<(), NoMemory> {
     if edges.len() > file.len() / 2 + EDGES_BESIDE {
         Err(NoMemory)
@@ -58,7 +60,7 @@ fn check_edges(edges: &[(usize, usize)], file: &[u8]) -> Result<(), NoMemory> {
     }
 }
 
-// Repairs a profile of a program.
+// Repairs the text `profile` of a profile of a program.
 fn repaired_counts(
     alloc: Global,
     program: &Program<'_>,

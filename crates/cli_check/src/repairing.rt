@@ -1,4 +1,5 @@
-// The command `repair`: a profile is repaired, and only then is it written, and the lines printed.
+// The command `repair`. All is made before the profile is written, and that before the lines are printed, so that a
+// file that is refused changes nothing.
 ghost use Rattle.std.specs.Prelude.{◌≤◌};
 ghost use Rattle.rb_io.specs.Views.{FilesGoOn, SourceSeen};
 ghost use Rattle.cli_base.specs.World.{world};
@@ -12,7 +13,7 @@ use cli_base::{Status, read_inputs, refuse};
 use rb_io::{Files, Put, Sink, Wrote, print_all};
 use std::alloc::Global;
 
-// Writes the repaired profile, and then prints the lines.
+// Writes the repaired profile to the file `name`, and then prints the lines.
 fn write_repaired<F: Files, O: Sink>(
     name: &str,
     made: &Outputs,

@@ -45,7 +45,7 @@ pub fn verdict_line(alloc: Global, verdict: Verdict) -> Result<Vec<u8>, NoMemory
     }
 }
 
-/// The line for an output that is refused.
+/// The line for an output that is refused: as for any file, with ` in OUT` behind it.
 pub fn refused_output(alloc: Global, fault: &Fault) -> Result<Vec<u8>, NoMemory>
     ensures { IfOk result (λ line. line.items ≡ refused_output_line fault.now) }
 {

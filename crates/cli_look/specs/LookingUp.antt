@@ -13,7 +13,7 @@ use Rattle.cli_look.specs.LookAnswers.{Looking}
 use Rattle.cli_look.specs.Questions.{HasFaultFor, answer_text}
 use Rattle.cli_look.specs.declared.question.Question.{Question}
 
--- a file of at most so many bytes in which its reader finds nothing wrong, as the reader keeps it
+-- a file within the limit in which its reader finds nothing wrong, as the reader keeps it
 pub record IsSoundElf (file : List ℕ) (elf : Elf) : Type 0 where
   pub fits : length file ≤ file_limit
   pub sound : IsSound file
@@ -37,6 +37,6 @@ module _ (question : Question) where
     much_code : (elf : Elf) → IsSoundElf file elf → IsFree (HasFaultFor question elf) → HasTooMuchCode file
         → fault ≡ fault_at TooLarge CODE_BYTES → CannotLookUp file fault
 
--- a command that asks this of an address
+-- what a command prints and refuses that asks `question` of `address`
 abbrev pub looking_up : Question → ℕ → Looking
 looking_up question address = record { Says = IsAnswerAt question address; Refuses = CannotLookUp question }

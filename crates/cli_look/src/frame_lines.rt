@@ -1,4 +1,4 @@
-// The lines that say where control is.
+// The lines that `frames` prints.
 ghost use Rattle.std.specs.Prelude.{◌≡◌, ◌++◌, IfOk, OnOk, codes, flat_map};
 ghost use Rattle.table_core.specs.Texts.{or_none};
 ghost use Rattle.inline_frames.specs.Frames.{frame_line};
@@ -8,7 +8,7 @@ use rb_bytes::fault::NoMemory;
 use rb_bytes::text::put_decimal;
 use std::alloc::Global;
 
-// Appends the name of a function, and the file in which control is in it.
+// Appends the name of a function, and the path of the file in which control is.
 fn put_file(text: &mut Vec<u8>, name: &[u8], path: &[u8]) -> Result<(), NoMemory>
     ensures { OnOk result (text.new.items ≡ text.old.items ++ (name.now ++ codes " " ++ path.now ++ codes ":")) }
 {

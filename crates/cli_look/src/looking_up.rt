@@ -17,7 +17,7 @@ use rb_bytes::limit::CODE_BYTES;
 use rb_io::{Files, Put, Sink, print_all};
 use std::alloc::Global;
 
-// The answer at an address, or the fault for which a file is refused.
+// The answer to `question` at `address`, or the fault for which the file is refused.
 fn answer_in(
     alloc: Global,
     file: &[u8],

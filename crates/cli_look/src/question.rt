@@ -10,16 +10,16 @@ use lookup_core::look;
 use rb_bytes::fault::Refusal;
 use std::alloc::Global;
 
-/// What is asked of an address.
+/// What is asked of a file's tables at an address.
 #[derive(Clone, Copy)]
 pub enum Question {
-    /// All that the tables say of it.
+    /// All that the tables say of the address.
     Report,
-    /// The functions that it belongs to, inlined ones among them, and where control is in each.
+    /// The functions that the address belongs to, inlined ones among them, and where control is in each.
     Frames,
 }
 
-/// The answer in lines, or the fault with the lowest number of the tables that it needs.
+/// The answer as lines, or the fault with the lowest number of the tables that `question` needs.
 pub fn answer(
     alloc: Global,
     elf: &Elf<'_>,

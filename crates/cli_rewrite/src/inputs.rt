@@ -1,4 +1,4 @@
-// What commands share that rewrite an input by its profile: both files are read, and a rewrite is made of them.
+// An input and its profile are read, and a rewrite is made of them, for `rewrite` and `map`.
 ghost use Rattle.std.specs.Prelude.{◌≡◌, ◌≤◌, IfErr, IfOk, OnOk};
 ghost use Rattle.rb_io.specs.Names.{Unchanged};
 ghost use Rattle.rb_io.specs.Views.{FilesGoOn, SourceSeen};
@@ -14,8 +14,8 @@ use cli_base::{Status, read_inputs, refuse};
 use rb_io::{Files, Sink};
 use std::alloc::Global;
 
-/// Rewrites an input by its profile, and writes no file. The error is how the command ends; the line of a refusal was
-/// printed then, or could not be.
+/// Rewrites an input by its profile, and writes no file. The error is how the command ends. For a refusal the line has
+/// been printed, or its printing failed.
 pub fn rewrite_inputs<F: Files, O: Sink>(
     alloc: Global,
     args: &InputArgs<'_>,

@@ -11,8 +11,8 @@ pub mod rewriting;
 pub use mapping::print_map;
 pub use rewriting::rewrite;
 
-/// Where a file was rewritten, the functions at each byte of new code are those of the byte's owner, with the place of
-/// control in each.
+/// Does nothing: its clause is a law. Where a file was rewritten, the functions at each byte of new code are those of
+/// the byte's owner, with the place of control in each.
 pub fn frames_law()
     ensures { FramesLaw }
 {}

@@ -1,4 +1,4 @@
-// The line of a rewrite.
+// The summary of a rewrite.
 ghost use Rattle.std.specs.Prelude.{◌≡◌, ◌++◌, IfOk};
 ghost use Rattle.bolt_core.specs.RewriteCounts.{counts_seen};
 ghost use Rattle.cli_rewrite.specs.Lines.{summary_line};

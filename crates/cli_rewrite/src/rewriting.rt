@@ -20,9 +20,9 @@ use std::alloc::Global;
 /// The texts that say what a rewrite made.
 #[derive(Drop)]
 pub struct Texts {
-    /// Of its map.
+    /// The text of its map.
     pub map: Vec<u8>,
-    /// The line that is printed.
+    /// The line with its counts, which is printed.
     pub summary: Vec<u8>,
 }
 
@@ -35,7 +35,7 @@ fn texts_of(alloc: Global, rewritten: &Rewritten) -> Result<Texts, NoMemory>
     Ok(Texts { map, summary })
 }
 
-// Writes the output, the map and the summary.
+// Writes the output, then the map, and then prints the summary. The first that fails ends the command.
 fn write_outputs<F: Files, O: Sink>(
     args: &RewriteArgs<'_>,
     files: &mut F,

@@ -10,7 +10,7 @@ use rb_io::Sink;
 use rv_machine::Stepped;
 use std::alloc::Global;
 
-/// The answer to what the byte machine came to.
+/// The answer to how a run on the byte machine came out, or why it didn't.
 pub fn status_of(end: Stepped) -> Status
     ensures { result ≡ status_of Status.Trapped (answered end) }
 {
@@ -24,7 +24,8 @@ pub fn status_of(end: Stepped) -> Status
     }
 }
 
-/// The line that says how a run came out, where `came` says that it did.
+/// The line that says how a run came out; no bytes where `came` says that it didn't, for want of memory or by a fault
+/// of input or output.
 pub fn closing_line(alloc: Global, came: Status, steps: u64) -> Result<Vec<u8>, NoMemory>
     ensures { IfOk result (λ line. line.items ≡ closing_line came steps) }
 {
@@ -37,7 +38,7 @@ pub fn closing_line(alloc: Global, came: Status, steps: u64) -> Result<Vec<u8>, 
     }
 }
 
-/// Says how a run came out, where `came` says that it did.
+/// Prints how a run came out, where `came` says that it did, and gives how the command ends.
 pub fn close<O: Sink>(alloc: Global, came: Status, steps: u64, out: &mut O) -> Status
     ensures closed { Closed result steps (O.seen out.old) (O.seen out.new) came }
     ensures never_falls { (O.seen out.old).faults ≤ (O.seen out.new).faults }

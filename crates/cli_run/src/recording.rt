@@ -21,7 +21,8 @@ use program::{FILE_LIMIT, Program};
 use rb_io::{Files, Put, Sink, Source, Wrote, print_all};
 use std::alloc::Global;
 
-// Writes the profile of a run that came out, and then says how it did. All memory is taken before.
+// Writes the profile of a run that came out to the file `name`, and then prints how it did. The line is made first, so
+// that want of memory leaves the file as it was.
 fn write_profile<F: Files, O: Sink>(
     alloc: Global,
     name: &str,
@@ -48,7 +49,7 @@ fn write_profile<F: Files, O: Sink>(
     }
 }
 
-// Does what is left to do after a run.
+// Writes the profile and the closing line after a run, if it came out.
 fn finish<F: Files, O: Sink>(
     alloc: Global,
     name: &str,
@@ -71,7 +72,7 @@ fn finish<F: Files, O: Sink>(
     }
 }
 
-// Runs what was read of a file, and writes a profile of the run.
+// Runs a program, and writes a profile of the run.
 fn record_elf<F: Files, I: Source, O: Sink>(
     alloc: Global,
     args: &RecordArgs<'_>,
@@ -115,7 +116,7 @@ pub fn record<F: Files, I: Source, O: Sink>(
     ensures serves { RecordServes (record_given args.now) result
         (world (F.seen files.old) (I.seen input.old) (O.seen out.old))
         (world (F.seen files.new) (I.seen input.new) (O.seen out.new)) }
-    // It may read its input where it runs.
+    // A run may read standard input; after a refusal it stays as it was.
     ensures input_kept { IsInputKept ⊥ result input.old input.new }
 {
     let file = match read_file(alloc, args.run.file, FILE_LIMIT, files, out) {

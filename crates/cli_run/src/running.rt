@@ -17,7 +17,9 @@ use std::alloc::Global;
 /// The machine that a file runs on.
 #[derive(Clone, Copy)]
 pub enum RunMode {
+    /// The byte machine, `rv_machine`.
     Bytes,
+    /// The symbol machine, `sym_machine`.
     Symbols,
 }
 
@@ -34,7 +36,7 @@ pub fn run<F: Files, I: Source, O: Sink>(
     ensures serves { ServesRun mode (run_given args.now) result
         (world (F.seen files.old) (I.seen input.old) (O.seen out.old))
         (world (F.seen files.new) (I.seen input.new) (O.seen out.new)) }
-    // It may read its input where it runs.
+    // A run may read standard input; after a refusal it stays as it was.
     ensures input_kept { IsInputKept ⊥ result input.old input.new }
 {
     let file = match read_file(alloc, args.file, FILE_LIMIT, files, out) {

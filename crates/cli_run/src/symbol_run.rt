@@ -18,7 +18,7 @@ use rb_io::{Sink, Source};
 use std::alloc::Global;
 use sym_machine::{SymMachine, SymStepped};
 
-// The answer to what the symbol machine came to.
+// The answer to how a run on the symbol machine came out, or why it didn't.
 fn status_of(end: SymStepped) -> Status
     ensures { result ≡ status_of Status.Stuck (answered end) }
 {
@@ -32,7 +32,7 @@ fn status_of(end: SymStepped) -> Status
     }
 }
 
-/// Runs what was read of a file.
+/// Runs a program, with the arguments and for the steps that `args` says, and prints how the run came out.
 pub fn run_program<I: Source, O: Sink>(
     alloc: Global,
     program: &Program<'_>,

@@ -47,7 +47,7 @@ abbrev pub IsEncodable : Width → Inst → Type 0
 IsEncodable want inst =
     (Fits want inst → ⊥) → ((half : ℕ) (next : Option ℕ) → Decodes half next inst (bytes want) → ⊥) → ⊥
 
--- the width of so many bytes
+-- the width of an instruction of n bytes, two or four
 abbrev pub width_of_bytes : ℕ → Width
 width_of_bytes n = if n == 2 then width.Half else width.Full
 

@@ -18,7 +18,7 @@ use Rattle.branch_fixup.specs.Forms.{AreForms, new_code_end}
 use Rattle.branch_fixup.specs.Strips.{Strip, spans_of}
 use Rattle.rv_code.specs.isa.AddressParts.{IsAuipc, IsLui, TakesLower}
 
--- A role fits an instruction of so many bytes: it is of the kind that the role wants, and not compressed.
+-- A role fits an instruction of `bytes` bytes: it is of the kind that the role wants, and not compressed.
 -- The addresses of roles lie at most at the limit of code.
 abbrev pub FitsRole : Role → Inst → ℕ → Type 0
 FitsRole role.Plain inst bytes = Unit {0}

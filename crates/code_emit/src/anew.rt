@@ -20,7 +20,7 @@ pub fn new_of(moved: &AddrMap, a: u64) -> u64
     moved.moved(a).unwrap_or(a)
 }
 
-/// How far one address is from another.
+/// How far `to` is from `from`.
 pub fn distance(to: u64, from: u64) -> i64
     requires to_low { to < 2 ^ 62 }
     requires from_low { from < 2 ^ 62 }
@@ -36,7 +36,7 @@ fn number(n: u64) -> i64
     n as i64
 }
 
-// The upper part of a number, which is rounded.
+// The upper part of a number, rounded so that the lower part fits 12 bits with its sign.
 fn upper(v: i64) -> i64
     requires { v ≤ℤ pos (2 ^ 62) }
     ensures { result ≡ hi20 v }
@@ -44,7 +44,7 @@ fn upper(v: i64) -> i64
     (v + 0x800) >> 12
 }
 
-// The lower part that belongs to it.
+// The lower part of a number: what its upper part lacks.
 fn lower(v: i64) -> i64
     requires low { (pos 0 -ℤ pos (2 ^ 62)) ≤ℤ v }
     requires high { v ≤ℤ pos (2 ^ 62) }
@@ -53,7 +53,7 @@ fn lower(v: i64) -> i64
     v - 4096 * upper(v)
 }
 
-/// A branch or a JAL with another distance.
+/// A branch or a JAL with another distance; any other instruction stays as it is.
 pub fn with_distance(inst: &Inst, imm: i64) -> Inst
     ensures { result ≡ with_distance inst.now imm }
 {
@@ -69,7 +69,7 @@ pub fn with_distance(inst: &Inst, imm: i64) -> Inst
     }
 }
 
-/// The branch of opposite sense, where asked for.
+/// A branch with its sense turned, if `opposite`; any other instruction stays as it is.
 pub fn turned(opposite: bool, inst: &Inst) -> Inst
     ensures { result ≡ turned opposite inst.now }
 {
@@ -87,7 +87,8 @@ pub fn turned(opposite: bool, inst: &Inst) -> Inst
     }
 }
 
-// An instruction that is no branch and no JAL, for its new address `a`: by its role with the parts of new addresses.
+// The instruction `p`, which is no branch and no JAL, for its new address `a`: with the part of a new address that its
+// role asks for.
 fn anew(moved: &AddrMap, a: u64, p: &Placed) -> Inst
     requires here { a ≡ new moved.now p.now.addr }
     requires low { a < 2 ^ 62 }
@@ -111,7 +112,7 @@ fn anew(moved: &AddrMap, a: u64, p: &Placed) -> Inst
     }
 }
 
-/// An instruction that keeps its width, for its new address `a`.
+/// The instruction `p`, which keeps its width, for its new address `a`.
 pub(crate) fn kept(moved: &AddrMap, a: u64, p: &Placed) -> Inst
     requires here { a ≡ new moved.now p.now.addr }
     requires low { a < 2 ^ 62 }
@@ -125,7 +126,7 @@ pub(crate) fn kept(moved: &AddrMap, a: u64, p: &Placed) -> Inst
     }
 }
 
-/// Where its branch or JAL goes.
+/// Where the branch or JAL `p` goes in the new code; 0 for another instruction.
 pub fn new_target(moved: &AddrMap, p: &Placed) -> u64
     requires lows { AreLow moved.now }
     requires targets { HasLowTargets p.now }

@@ -14,7 +14,7 @@ use branch_fixup::block_insts::BlockInsts;
 use rv_code::{Form, Placed};
 use std::alloc::AllocError;
 
-// Instructions that keep their widths, from their new address on. Gives the address at which they end.
+// Appends instructions that keep their widths, from the new address `at` on. Gives the address at which they end.
 fn put_inner(
     code: &mut Vec<u8>,
     moved: &AddrMap,
@@ -37,7 +37,7 @@ fn put_inner(
     Ok(at)
 }
 
-/// A block whose last instruction is in a form, from its new address on.
+/// Appends a block from the new address `at` on, with its last instruction in `form`.
 pub(crate) fn put_block(
     code: &mut Vec<u8>,
     moved: &AddrMap,

@@ -10,6 +10,7 @@ use addr_map::AddrMap;
 use rv_code::{CellKind, CodeCell};
 use std::alloc::{AllocError, Global};
 
+// What a cell holds: a new address, or the distance of two, in two's complement.
 fn number(moved: &AddrMap, kind: &CellKind) -> u64
     requires lows { AreLow moved.now }
     requires labels { IsLowKind kind.now }
@@ -23,7 +24,7 @@ fn number(moved: &AddrMap, kind: &CellKind) -> u64
     }
 }
 
-// A cell's address, width and content.
+// The address of a cell, its width in bytes and its new content, as far as the width holds it.
 fn content(moved: &AddrMap, cell: &CodeCell) -> (u64, u8, u64)
     requires lows { AreLow moved.now }
     requires cell { IsLowCell cell.now }

@@ -1,4 +1,4 @@
-// Instructions are added to the new code.
+// The bytes of single instructions.
 ghost use Rattle.std.specs.Prelude.{◌≡◌, ◌++◌, [], ◌∷◌, OnOk};
 ghost use Rattle.code_emit.specs.Bytes.{half_bytes, full_bytes, Adds, IsEncodable};
 ghost use Rattle.rv_encode.specs.FittingOperands.{Fits};
@@ -20,7 +20,7 @@ fn push_full(code: &mut Vec<u8>, word: u32) -> Result<(), AllocError>
     code.extend_from_slice(&word.to_le_bytes())
 }
 
-/// An instruction that some word of the width is.
+/// Appends an instruction in the width `want`, in which it has an encoding.
 #[tactic(auto, using(crate::proofs::Coded::adds_half, crate::proofs::Coded::adds_full))]
 pub fn push(code: &mut Vec<u8>, inst: &Inst, want: Width) -> Result<(), AllocError>
     requires { IsEncodable want inst.now }

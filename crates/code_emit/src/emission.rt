@@ -38,7 +38,7 @@ fn code_start(funcs: &[Func], blocks: &[Block], order: &[usize], moved: &AddrMap
     }
 }
 
-// The blocks in an order, one after another.
+// The bytes of the blocks in `order`, one block after another.
 fn code(
     alloc: Global,
     funcs: &[Func],
@@ -72,8 +72,8 @@ fn code(
 /// The bytes of the new code, and for each code cell its address, its width in bytes and its new content.
 ///
 /// The blocks are all those of the functions, the plan has each once, and the forms, one for each block in the plan's
-/// order, are those that `branch_fixup::forms` gives. The map has the spans that it gives, and all of them end at most
-/// at 7fff0000 (hexadecimal).
+/// order, are those that `branch_fixup::forms` gives. The map has its spans, and all of them end at most at 7fff0000
+/// (hexadecimal).
 pub fn emit(
     alloc: Global,
     funcs: &[Func],

@@ -20,7 +20,7 @@ fn width_of(bytes: u8) -> Width
     if bytes == 2 { Width::Half } else { Width::Full }
 }
 
-// An instruction of two or four bytes.
+// Appends an instruction in `bytes` bytes, two or four.
 #[tactic(auto, using(crate::proofs::Coded::adds_as_long))]
 fn put(code: &mut Vec<u8>, inst: &Inst, bytes: u8) -> Result<(), AllocError>
     requires { CanBeEncoded (record { inst = inst.now; bytes = bytes }) }
@@ -29,7 +29,7 @@ fn put(code: &mut Vec<u8>, inst: &Inst, bytes: u8) -> Result<(), AllocError>
     push(code, inst, width_of(bytes))
 }
 
-// A `JAL x0` at `a`.
+// Appends a `JAL x0` to `to`, at `a`.
 fn put_jump(code: &mut Vec<u8>, to: u64, a: u64) -> Result<(), AllocError>
     requires can { CanBeEncoded (jump_to to a) }
     requires to_low { to < 2 ^ 62 }
@@ -43,7 +43,7 @@ fn put_jump(code: &mut Vec<u8>, to: u64, a: u64) -> Result<(), AllocError>
     put(code, &jump, 4)
 }
 
-// A branch at `a` that goes to an address.
+// Appends a branch to `to`, at `a`. A long one is the branch of opposite sense over a jump.
 #[tactic(auto, using(crate::proofs::Coded::adds_both))]
 fn put_branch(
     code: &mut Vec<u8>,
@@ -76,7 +76,7 @@ fn put_branch(
     }
 }
 
-// Where its branch leads, as it is or turned.
+// Where the branch `p` is to lead in the new code: to its target, or to what followed it where it is `inverted`.
 fn branch_goal(moved: &AddrMap, p: &Placed, inverted: bool) -> u64
     requires lows { AreLow moved.now }
     requires targets { HasLowTargets p.now }
@@ -91,7 +91,7 @@ fn branch_goal(moved: &AddrMap, p: &Placed, inverted: bool) -> u64
     }
 }
 
-// The added jump, if there is one.
+// Appends a jump to what followed `p`, at `a`, if `jump` says so.
 #[tactic(auto, using(crate::proofs::Coded::adds_none))]
 fn put_added(
     code: &mut Vec<u8>,
@@ -113,6 +113,7 @@ fn put_added(
     }
 }
 
+// Appends the branch `p`, at `a`, with the jump after it if `jump` says so.
 fn put_whole_branch(
     code: &mut Vec<u8>,
     moved: &AddrMap,
@@ -140,7 +141,7 @@ fn put_whole_branch(
     put_added(code, moved, p, jump, a + bytes_of_size(size) as u64)
 }
 
-/// An instruction in its form, for its new address `a`.
+/// Appends the instruction `p` in its form, at its new address `a`.
 #[tactic(auto, using(crate::proofs::Coded::adds_both, crate::proofs::Coded::adds_none))]
 pub(crate) fn put_piece(
     code: &mut Vec<u8>,

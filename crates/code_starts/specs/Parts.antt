@@ -16,7 +16,7 @@ pub record IsCodeStretch (elf : Elf) (start end : ℕ) : Type 0 where
   pub in_code : IsInCode elf start
   pub no_padding : (IsCovered elf start end → ⊥) × AreZeros elf start end → ⊥
 
--- parts go up, and share no address
+-- a part lies below another, and shares no address with it
 abbrev pub Precedes : Part → Part → Type 0
 Precedes p q = p.end ≤ q.start
 
@@ -24,7 +24,7 @@ Precedes p q = p.end ≤ q.start
 abbrev pub AreCodeParts : Elf → List Part → Type 0
 AreCodeParts elf parts = ListsAll (λ p. IsCodePart elf p.start p.end) Precedes parts
 
--- Some of these parts, by address.
+-- Parts that share no address, by address.
 
 pub record ArePartsApart (parts : List Part) : Type 0 where
   pub has_bytes : All (λ p. p.start < p.end) parts

@@ -12,6 +12,6 @@ starts_within elf end a (suc n) = if nat_lt a end then a ∷ starts_within elf e
 abbrev pub starts_from : Elf → ℕ → ℕ → List ℕ
 starts_from elf end a = starts_within elf end a (end - a)
 
--- those of parts, one after another
+-- the starts of the instructions of parts, one part after another
 abbrev pub starts_of : Elf → List Part → List ℕ
 starts_of elf parts = flat_map (λ p. starts_from elf p.end p.start) parts

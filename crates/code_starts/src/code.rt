@@ -13,7 +13,7 @@ use elf_image::Elf;
 use rv_code::Inst;
 use rv_decode::decode;
 
-/// Whether an address is among others, which ascend.
+/// Whether an address is in an ascending list. A binary search.
 pub fn is_start(addresses: &[u64], address: u64) -> bool
     requires { AllPairs (λ a b. a < b) addresses.now }
     ensures { IsTrue result ↔ Contains addresses.now address }
@@ -21,7 +21,7 @@ pub fn is_start(addresses: &[u64], address: u64) -> bool
     addresses.binary_search(&address).is_ok()
 }
 
-/// The halfword at an address. What isn't loaded counts as zero.
+/// The halfword at an address, the lower byte first. A byte that isn't loaded counts as zero.
 pub fn halfword_at(elf: &Elf, address: u64) -> u16
     requires { address + 1 < 2 ^ 64 }
     ensures { result ≡ halfword_at elf.now address }
@@ -35,7 +35,7 @@ pub fn halfword_at(elf: &Elf, address: u64) -> u16
     halfword(bytes[0], bytes[1])
 }
 
-/// The halfword of two bytes.
+/// The halfword of two bytes, the lower one first in memory.
 pub(crate) fn halfword(low: u8, high: u8) -> u16
     ensures { result ≡ low + 256 * high }
 {

@@ -12,7 +12,8 @@ use rb_bytes::fault::NoMemory;
 use rb_lanes::search_below;
 use std::alloc::Global;
 
-/// The starts of the instructions of all parts but the uncovered ones of zeros, ascending.
+/// The addresses at which instructions start, ascending, in all parts that hold code: see [`code_parts`]. The lengths
+/// of instructions alone say where the next one starts, whether or not they are valid.
 pub fn starts(alloc: Global, elf: &Elf) -> Result<Vec<u64>, NoMemory>
     ensures { IfOk result (λ starts. AreStarts elf.now starts.items) }
 {
@@ -35,7 +36,7 @@ fn starts_of(alloc: Global, elf: &Elf, parts: &[Part]) -> Result<Vec<u64>, NoMem
     Ok(starts)
 }
 
-// A marked halfword begins an instruction of four bytes, so the halfword after it begins none.
+// Appends the starts of a part. A marked halfword begins an instruction of four bytes, so the one after it begins none.
 fn push_starts(
     starts: &mut Vec<u64>,
     part: &Part,
@@ -55,7 +56,7 @@ fn push_starts(
     Ok(())
 }
 
-/// The starts of the instructions of a part, of those of the file.
+/// Of the starts of a file's instructions, those in a part.
 pub fn starts_in<'a>(starts: &'a [u64], part: &Part) -> &'a [u64]
     requires ascending { AllPairs (λ a b. a < b) starts.now }
     requires has_bytes { part.now.start < part.now.end }

@@ -9,7 +9,8 @@ ghost use Rattle.code_starts.specs.LoadedMemory.{IsLow, AreBytesFrom};
 use byteorder::{ByteOrder, LittleEndian};
 use elf_image::Elf;
 
-/// The bytes of the file that one segment loads from an address on, as many as it loads.
+/// The bytes that the segment of an address loads from the file from there on: as many as it has, and none where no
+/// segment loads the address.
 pub fn bytes_from<'a>(elf: &Elf<'a>, address: u64) -> &'a [u8]
     ensures { AreBytesFrom elf.now address result.now }
 {
@@ -27,7 +28,7 @@ pub fn bytes_from<'a>(elf: &Elf<'a>, address: u64) -> &'a [u8]
     &elf.file[start as usize..end as usize]
 }
 
-/// The byte at an address, if it is loaded. Then the next address is one too.
+/// The byte at an address, if it is loaded. Loaded addresses lie below `ADDRESS_END`, so the next one has 64 bits too.
 pub fn byte_at(elf: &Elf, address: u64) -> Option<u8>
     requires { IsLow elf.now }
     ensures value { result ≡ byte_at elf.now address }
@@ -36,7 +37,7 @@ pub fn byte_at(elf: &Elf, address: u64) -> Option<u8>
     elf.image_byte(address)
 }
 
-/// The number of so many bytes at an address, at most eight, if all are loaded.
+/// The number of `size` bytes at an address, at most eight, if all are loaded. The lowest byte comes first.
 pub fn loaded_number(elf: &Elf, address: u64, size: u8) -> Option<u64>
     requires low { IsLow elf.now }
     requires size { size ≤ 8 }
@@ -50,7 +51,7 @@ pub fn loaded_number(elf: &Elf, address: u64, size: u8) -> Option<u64>
     Some(first_number(bytes, size as usize))
 }
 
-// The number that the first bytes of these are.
+// The number that the first `size` bytes are, the lowest first.
 fn first_number(bytes: &[u8], size: usize) -> u64
     requires some { 1 ≤ size }
     requires high { size ≤ 8 }
@@ -61,7 +62,7 @@ fn first_number(bytes: &[u8], size: usize) -> u64
     LittleEndian::read_uint(bytes, size)
 }
 
-// The number at an address, of which each byte is looked up for itself.
+// The number at an address, each byte of which is looked up for itself: no one segment has all of them in the file.
 fn number_by_bytes(elf: &Elf, address: u64, size: u8) -> Option<u64>
     requires low { IsLow elf.now }
     requires size { size ≤ 8 }

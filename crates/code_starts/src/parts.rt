@@ -42,6 +42,7 @@ fn is_code_stretch(elf: &Elf, code: &Ranges, functions: &Ranges, start: u64, end
     requires functions { (s e : ℕ) → s < e → IsInOneExtent functions.now.reaches.items s e ↔ IsCovered elf.now s e }
     ensures { IsTrue result ↔ IsCodeStretch elf.now start end }
 {
+    // A section begins and ends at cuts, so the first byte tells for all.
     if !code.hold(start, start as u128 + 1) {
         return false;
     }

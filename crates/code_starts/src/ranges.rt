@@ -1,4 +1,4 @@
-// Ranges of addresses, of which it is asked whether one holds a stretch.
+// Ranges of addresses, with look-ups of whether one of them holds a stretch.
 ghost use Rattle.std.specs.Prelude.{◌≡◌, ◌↔◌, ◌<◌, ◌≤◌, ◌+◌, ℕ, IfOk, IsTrue, map, filter};
 ghost use Rattle.std.specs.List.Sorted.{IsNonDecreasingBy};
 ghost use Rattle.elf_image.specs.file.Cuts.{names_function};

@@ -1,4 +1,4 @@
-// Addresses that ascend, in which addresses are looked up.
+// The starts of instructions, with look-ups.
 ghost use Rattle.std.specs.Prelude.{◌≡◌, ◌↔◌, ◌<◌, ◌^◌, ℕ, IfOk, IsTrue, AllPairs, Contains, slice_index};
 
 use rb_bytes::fault::NoMemory;
@@ -32,7 +32,7 @@ impl<'a> Starts<'a> {
         Ok(Starts { starts, hints })
     }
 
-    /// The list. Its members have 64 bits.
+    /// The list. That its members have 64 bits is a clause for the prover.
     pub fn list(&self) -> &'a [u64]
         ensures is { result.now ≡ self.now }
         ensures low { (k : ℕ) → slice_index self.now k < 2 ^ 64 }

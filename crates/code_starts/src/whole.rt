@@ -1,4 +1,4 @@
-// Parts that stay in one piece: those that a range with an exception table names.
+// Parts that stay in one piece: those with an instruction that starts in a range with an exception table.
 ghost use Rattle.std.specs.Prelude.{◌≡◌, ◌↔◌, ◌⊎◌, ◌+◌, ◌<◌, ◌≤◌, ℕ, ℤ, pos, int_le, ◌≤ℤ◌, ◌<ℤ◌, List, IfOk, IsTrue};
 ghost use Rattle.std.specs.Prelude.{Any, map, length, slice_index_or};
 ghost use Rattle.elf_image.specs.declared.elf.Elf.{Elf};
@@ -89,7 +89,7 @@ fn contains(ranges: &Ranges, address: u64) -> bool
     ranges.hold(address, address as u128 + 1)
 }
 
-/// Whether both labels lie in one of the whole parts, its end included.
+/// Whether two labels both lie in one of the whole parts, its end included.
 pub fn in_one_whole(wholes: &[Part], to: i128, from: i128) -> bool
     requires { ArePartsApart wholes.now }
     ensures { (elf : Elf) (tabled : List (ℕ × ℕ)) → AreWholeParts elf tabled wholes.now →

@@ -93,7 +93,7 @@ fn put_instructions(alloc: Global, text: &mut Vec<u8>, func: &Func) -> Result<()
     Ok(())
 }
 
-// Appends the items of a list of what was found.
+// Appends the items of the list called `name`.
 fn put_list(alloc: Global, text: &mut Vec<u8>, found: &Analysis, name: &str) -> Result<(), Fail> {
     if name == "starts" {
         put_numbers(text, &found.starts)?;
@@ -116,7 +116,7 @@ fn put_list(alloc: Global, text: &mut Vec<u8>, found: &Analysis, name: &str) -> 
     Ok(())
 }
 
-// What comes of a file in the words of what is wanted: the fault and its place, or the list of that name.
+// Appends what comes of a file in the words of what is wanted: the fault and its place, or the list called `name`.
 fn put_answer(
     alloc: Global,
     text: &mut Vec<u8>,

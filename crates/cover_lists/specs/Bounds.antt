@@ -1,4 +1,4 @@
--- Where the ranges that hold addresses change.
+-- Bounds: the addresses at which ranges start or end.
 use Rattle.std.specs.Prelude.{ℕ, List, [], ◌∷◌, flat_map}
 use Rattle.cover_lists.specs.declared.cover_tree.Cover.{Cover}
 

@@ -25,7 +25,7 @@ pub record AreHeld (end : ℕ) (runs : List (Run Bool)) : Type 0 where
   pub longest : AreLongest runs
   pub last : IsAnswer (Some true) runs
 
--- runs with a stretch more, at whose end they end
+-- runs with one more stretch, at whose end they end
 pub record IsStretched (start len : ℕ) (old new : List (Run Bool)) : Type 0 where
   pub held : AreHeld (start + len) new
   pub ends : ends_at (start + len) new ≡ true
@@ -61,7 +61,7 @@ pub record IsGroupRuns (covers : List Cover) (g : ℕ) (stretches : List (Run �
   pub are : AreHeld (runs_end 0 stretches) held
   pub answers : (p : ℕ) → run_at held p ≡ option_and_then (held_by covers g) (run_at stretches p)
 
--- addresses with as many of some numbers before them are held by the same groups
+-- addresses before which as many of some bounds lie are held by the same groups
 abbrev pub AreApart : List ℕ → List Cover → Type 0
 AreApart bounds covers = (a b : ℕ) → All (λ x. nat_le x a ≡ nat_le x b) bounds → (g : ℕ) →
     group_holds covers g a ≡ group_holds covers g b

@@ -10,7 +10,7 @@ use Rattle.cover_lists.specs.declared.groups.RangedEntry as kept
 use Rattle.cover_lists.specs.CoverTree.{holds}
 use Rattle.cover_lists.specs.Located.{Located, hold}
 
--- as ranges of a group
+-- a range, if there is one, as a range of a group
 abbrev pub covers_for : ℕ → Option Range → List Cover
 covers_for group None = []
 covers_for group (Some r) = record { low = r.low; high = r.high; group = group } ∷ []
@@ -25,7 +25,7 @@ is_in_group group a c = c.group == group && holds a c
 abbrev pub group_holds : List Cover → ℕ → ℕ → Bool
 group_holds covers group a = list_any (is_in_group group a) covers
 
--- All groups are below their number.
+-- The numbers of all groups are below the count of groups.
 abbrev pub AreNumbered : code.Groups → Type 0
 AreNumbered g = All (λ (c : Cover). c.group < g.count) g.covers.items
 

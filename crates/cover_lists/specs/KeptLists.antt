@@ -15,7 +15,7 @@ use Rattle.cover_lists.specs.Bounds.{bounds_in}
 abbrev pub items_in : List (Vec ℕ) → List (List ℕ)
 items_in vs = map (λ (v : Vec ℕ). v.items) vs
 
--- The ranges of a list's items, each of the group of its item's number; the first has a given one.
+-- The ranges of a list's items, each with its item's number for a group; items are numbered from a given number on.
 abbrev pub numbered_covers : ℕ → List Located → List Cover
 numbered_covers n [] = []
 numbered_covers n (l ∷ ls) = covers_for n l.range ++ numbered_covers (n + 1) ls
@@ -49,7 +49,7 @@ all_say lists = map list_says lists
 abbrev pub list_bounds : List KeptList → List ℕ
 list_bounds lists = flat_map (λ (l : KeptList). bounds_in l.tree) lists
 
--- of the list of a number
+-- what the list of a number says at an address
 abbrev pub number_says : List KeptList → ℕ → ℕ → List (List ℕ)
 number_says lists n a = option_map_or (λ l. list_says l a) (slice_get lists n) []
 

@@ -9,7 +9,7 @@ use Rattle.cover_lists.specs.CoverTree.{holds, regrouped}
 use Rattle.cover_lists.specs.Groups.{group_holds}
 use Rattle.cover_lists.specs.ListRuns.{is_among}
 
--- what is made of each item and its number; the first has a given one
+-- what is made of each item and its number; items are numbered from a given number on
 abbrev pub numbered : {X Y : Type 0} → (ℕ → X → List Y) → ℕ → List X → List Y
 numbered f n [] = []
 numbered f n (x ∷ xs) = f n x ++ numbered f (n + 1) xs

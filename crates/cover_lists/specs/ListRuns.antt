@@ -14,7 +14,7 @@ use Rattle.cover_lists.specs.KeptLists.{items_in, number_says}
 abbrev pub said : Vec (Vec ℕ) → List (List ℕ)
 said v = items_in v.items
 
--- what the list of a number says, unless nothing
+-- what the list of a number says at an address, if anything
 abbrev pub list_answer : List KeptList → ℕ → ℕ → Option (List (List ℕ))
 list_answer lists n a = unless_empty (number_says lists n a)
 

@@ -31,6 +31,6 @@ total_weight lists = sum_by (λ (v : Vec (Run (Vec (Vec ℕ)))). list_weight v.i
 abbrev pub IsSaidWeight : List Span → (ℕ → List (List ℕ)) → ℕ → Type 0
 IsSaidWeight spans says weight = IsWeightOf expressions_weight (carried (λ a. unless_empty (says a)) spans) weight
 
--- and of all lists
+-- the weight of what all lists say there
 abbrev pub IsListsWeight : List KeptList → List Span → ℕ → Type 0
 IsListsWeight lists spans weight = IsSumOf (IsSaidWeight spans) (all_say lists) weight

@@ -1,4 +1,4 @@
-// Where the ranges that hold addresses change.
+// Bounds: the addresses at which ranges start or end, where other ranges hold from then on.
 ghost use Rattle.std.specs.Prelude.{◌≡◌, ◌<◌, ◌≤◌, ◌++◌, ◌∷◌, [], ℕ, All, IfOk, IfSome, OnOk, IsTrue};
 ghost use Rattle.std.specs.Prelude.{length, nat_le, slice_index_or};
 ghost use Rattle.std.specs.List.Sorted.{IsNonDecreasing, IsPermutation};
@@ -38,7 +38,7 @@ pub fn bounds_of(alloc: Global, covers: &[Cover]) -> Result<Vec<u128>, NoMemory>
     Ok(bounds)
 }
 
-// The bounds of location lists, behind others.
+// Appends the bounds of location lists.
 fn put_list_bounds(bounds: &mut Vec<u128>, lists: &[KeptList]) -> Result<(), NoMemory>
     ensures { OnOk result (bounds.new.items ≡ bounds.old.items ++ list_bounds lists.now) }
 {
@@ -63,7 +63,7 @@ pub fn place_bounds(
     Ok(bounds)
 }
 
-/// How many of some numbers that ascend are at most an address.
+/// How many of ascending bounds are at most `a`.
 pub fn count_up_to(bounds: &[u128], a: u64) -> usize
     requires { IsNonDecreasing bounds.now }
     ensures below { (k d : ℕ) → k < result → slice_index_or bounds.now k d ≤ a }
@@ -72,10 +72,11 @@ pub fn count_up_to(bounds: &[u128], a: u64) -> usize
     bounds.partition_point(|bound| *bound <= a as u128)
 }
 
-// How many numbers from a guess on are looked at before all are searched.
+// How many bounds from a guess on are looked at before all are searched.
 const NEARBY: usize = 8;
 
-/// How many of some numbers that ascend are at most an address, where about `near` are.
+/// How many of ascending bounds are at most `a`, with `near` for a guess. It takes no search where they are as many, or
+/// a few more; any guess gives the right answer.
 pub fn count_near(bounds: &[u128], near: usize, a: u64) -> usize
     requires { IsNonDecreasing bounds.now }
     ensures below { (k d : ℕ) → k < result → slice_index_or bounds.now k d ≤ a }
@@ -87,7 +88,7 @@ pub fn count_near(bounds: &[u128], near: usize, a: u64) -> usize
     }
 }
 
-// How many are at most an address, where that is what was guessed, or a few more.
+// How many bounds are at most `a`, if they are `near`, or a few more.
 fn count_beside(bounds: &[u128], near: usize, a: u64) -> Option<usize>
     requires { IsNonDecreasing bounds.now }
     ensures below { IfSome result (λ n. (k d : ℕ) → k < n → slice_index_or bounds.now k d ≤ a) }
@@ -106,7 +107,7 @@ fn count_beside(bounds: &[u128], near: usize, a: u64) -> Option<usize>
     None
 }
 
-// Whether there are so many numbers, and the first ones, so many, are at most an address.
+// Whether there are `count` bounds at most `a`, or more.
 fn are_up_to(bounds: &[u128], count: usize, a: u64) -> bool
     requires { IsNonDecreasing bounds.now }
     ensures { IsTrue result → (k d : ℕ) → k < count → slice_index_or bounds.now k d ≤ a }
@@ -120,7 +121,7 @@ fn are_up_to(bounds: &[u128], count: usize, a: u64) -> bool
     bounds[count - 1] <= a as u128
 }
 
-/// Whether each of some numbers that ascend is at most both of two addresses, or none of them.
+/// Whether no bound lies between two addresses: each of the ascending bounds is at most both, or neither.
 pub fn are_alike(bounds: &[u128], a: u64, b: u64) -> bool
     requires { IsNonDecreasing bounds.now }
     ensures { IsTrue result → All (λ x. nat_le x a ≡ nat_le x b) bounds.now }

@@ -15,8 +15,8 @@ use rb_bytes::fault::NoMemory;
 use std::alloc::Global;
 
 /// Of each list, by its number, the longest runs of new code at the owners of whose bytes it says the same. A list is
-/// asked once for each stretch of new code in which no list changes, and only where one of its items holds the
-/// stretch's owner.
+/// asked once for each stretch of new code in which no list changes, and only where bounds of it hold the stretch's
+/// owner or it has defaults.
 pub fn carried_lists(
     alloc: Global,
     lists: &[KeptList],

@@ -13,15 +13,16 @@ use crate::groups::{Groups, RangedEntry};
 use rb_bytes::fault::NoMemory;
 use std::alloc::Global;
 
-/// Entries by the addresses that their ranges hold.
+/// Entries, which are numbered from 0, by the addresses that their ranges hold.
 #[derive(Drop)]
 pub struct CoverIndex {
+    /// The ranges of all groups.
     tree: CoverTree,
     /// The numbers of the entries of each group, ascending.
     members: Vec<Vec<usize>>,
 }
 
-/// Ranges by their starts, as a search needs them to be fast.
+/// Ranges sorted by their starts, so that a search in their tree is fast.
 pub fn sorted(alloc: Global, covers: &[Cover]) -> Result<Vec<Cover>, NoMemory>
     ensures { IfOk result (λ cs. IsPermutation covers.now cs.items) }
 {
@@ -76,7 +77,7 @@ fn members_of(
 }
 
 impl CoverIndex {
-    /// The index of some entries by the ranges of their groups.
+    /// An index of entries by the ranges of their groups.
     pub fn new(
         alloc: Global,
         groups: &Groups,
@@ -108,7 +109,7 @@ impl CoverIndex {
         }
     }
 
-    // The members of some groups.
+    // The numbers of the entries of some groups, one group behind another.
     fn all_members(&self, alloc: Global, groups: &[usize]) -> Result<Vec<usize>, NoMemory>
         ensures { IfOk result (λ ks. ks.items ≡ flat_map (members_in self.now.members.items) groups.now) }
     {

@@ -7,7 +7,7 @@ use rb_bytes::fault::NoMemory;
 use std::alloc::Global;
 use std::marker::Model;
 
-/// A range, and the number of the group of ranges that it is one of.
+/// A range, from `low` to before `high`, neither cut to 64 bits; and the number of the group that it belongs to.
 #[derive(Clone, Copy)]
 pub struct Cover {
     pub low: u128,
@@ -15,9 +15,8 @@ pub struct Cover {
     pub group: usize,
 }
 
-/// Ranges as a search tree, which is seen as their list. Where they are sorted by their starts, a search takes the time
-/// of a
-/// descent for each range that it finds.
+/// Ranges as a search tree, which contracts see as their list. Where they are sorted by their starts, a search takes
+/// the time of a descent for each range that it finds.
 #[cycle(cover_tree)]
 #[derive(Drop)]
 pub struct CoverTree {
@@ -28,7 +27,7 @@ pub struct CoverTree {
 #[derive(Drop)]
 enum Node {
     Leaf,
-    // The ranges before one, it, those behind it, and the least start and the greatest end of all of them.
+    // The ranges before one, this one, those behind it, and the least start and the greatest end of all of them.
     Fork(Box<CoverTree>, Cover, Box<CoverTree>, u128, u128),
 }
 
@@ -83,7 +82,7 @@ fn holds(a: u64, cover: &Cover) -> bool
 }
 
 impl CoverTree {
-    /// The tree of some ranges.
+    /// The tree of some ranges, in the order in which they are given.
     pub fn new(alloc: Global, covers: &[Cover]) -> Result<CoverTree, NoMemory>
         ensures { IfOk result (λ tree. tree ≡ covers.now) }
     {
@@ -133,7 +132,7 @@ impl CoverTree {
         }
     }
 
-    /// Appends the ranges, as ranges of a given group.
+    /// Appends the ranges, as ranges of group `group`.
     pub fn put_regrouped(&self, group: usize, covers: &mut Vec<Cover>) -> Result<(), NoMemory>
         ensures { OnOk result (covers.new.items ≡ covers.old.items ++ map (regrouped group) self.now) }
     {

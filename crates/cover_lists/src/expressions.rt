@@ -7,7 +7,7 @@ fn same_bytes(x: &[u8], y: &[u8]) -> bool
     x == y
 }
 
-/// Whether two lists have the same expressions.
+/// Whether two lists have the same expressions, in the same order.
 pub fn same_expressions(x: &[Vec<u8>], y: &[Vec<u8>]) -> bool
     ensures { IsTrue result ↔ (map (λ v. v.items) x.now ≡ map (λ v. v.items) y.now) }
 {

@@ -17,7 +17,7 @@ use answer_runs::{Run, ends_at, lengthen};
 use rb_bytes::fault::NoMemory;
 use std::alloc::Global;
 
-/// Of each group, by its number, the longest runs of new bytes that it holds; the answers are all `true`.
+/// Of each group, by its number, the longest runs of new bytes whose owners it holds; their answers are all `true`.
 pub type GroupRuns = Vec<Vec<Run<bool>>>;
 
 fn no_runs(alloc: Global, count: usize) -> Result<GroupRuns, NoMemory>
@@ -31,7 +31,8 @@ fn no_runs(alloc: Global, count: usize) -> Result<GroupRuns, NoMemory>
     Ok(lists)
 }
 
-// Adds a stretch, unless the runs have it.
+// Adds a stretch of new code to runs, unless the last one ends with it: a group is found once for each of its ranges
+// that holds an address.
 fn stretch(runs: &mut Vec<Run<bool>>, start: u64, len: u64) -> Result<(), NoMemory>
     requires some { 0 < len }
     requires low { start + len < 2 ^ 64 }
@@ -74,7 +75,7 @@ fn stretch_group(lists: &mut GroupRuns, group: usize, start: u64, len: u64) -> R
     stretch(&mut lists[group], start, len)
 }
 
-// Adds a run to the runs of some groups.
+// Adds a stretch to the runs of some groups.
 fn add_run(lists: &mut GroupRuns, groups: &[usize], start: u64, len: u64) -> Result<(), NoMemory>
     requires some { 0 < len }
     requires low { start + len < 2 ^ 64 }
@@ -89,7 +90,7 @@ fn add_run(lists: &mut GroupRuns, groups: &[usize], start: u64, len: u64) -> Res
     Ok(())
 }
 
-// The groups that hold an address.
+// The groups that hold an address, once for each of their ranges that does.
 fn holders(alloc: Global, tree: &CoverTree, a: u64) -> Result<Vec<usize>, NoMemory>
     ensures { IfOk result (λ gs. gs.items ≡ spec.holders tree.now a) }
 {
@@ -98,7 +99,7 @@ fn holders(alloc: Global, tree: &CoverTree, a: u64) -> Result<Vec<usize>, NoMemo
     Ok(groups)
 }
 
-/// The runs of a group.
+/// The runs of a group; none where there is no such group.
 pub fn runs_in(lists: &[Vec<Run<bool>>], group: usize) -> &[Run<bool>]
     ensures { result.now ≡ runs_in lists.now group }
 {
@@ -108,8 +109,8 @@ pub fn runs_in(lists: &[Vec<Run<bool>>], group: usize) -> &[Run<bool>]
     }
 }
 
-// The runs of so many groups, by stretches of new code, each with an old address that stands for it. Memory is wanting
-// where too many groups hold stretches.
+// The runs of `count` groups, by stretches of new code; the answer of a stretch is an old address that stands for it.
+// `NoMemory` is answered, too, where groups hold too many stretches.
 fn group_runs(
     alloc: Global,
     tree: &CoverTree,
@@ -133,8 +134,8 @@ fn group_runs(
     Ok(lists)
 }
 
-/// Of each of so many groups, the longest runs of new code at the owners of whose bytes its ranges hold, by numbers
-/// between which no group holds some addresses and others not.
+/// Of each of `count` groups, by its number, the longest runs of new code whose owners its ranges hold. `bounds` has
+/// all starts and ends of these ranges, ascending, so that between two of them each group holds all addresses or none.
 pub fn carried_groups(
     alloc: Global,
     tree: &CoverTree,

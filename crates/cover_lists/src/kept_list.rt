@@ -4,16 +4,17 @@ ghost use Rattle.cover_lists.specs.declared.cover_tree.Cover as spec;
 
 use crate::cover_tree::CoverTree;
 
-/// A location list, by whose bounds it is found which of its expressions are in force at an address.
+/// A location list, kept so that the expressions in force at an address are found by the bounds of its items.
 #[derive(Drop)]
 pub struct KeptList {
-    /// The bounds of its items, each with the number of its item.
+    /// The bounds of its items, each with its item's number for a group.
     pub tree: CoverTree,
-    /// The expression of each item.
+    /// The expression of each item, by its number; also of items without bounds.
     pub expressions: Vec<Vec<u8>>,
     /// The expressions that are in force where no bounds hold the address.
     pub defaults: Vec<Vec<u8>>,
-    /// How many items this list and those that were kept before it have. Each 64 bytes of an expression count as one more.
+    /// How many items this list and those that were kept before it have together. Each 64 bytes of an expression count
+    /// as one more.
     pub size: usize,
     ghost numbered: { All (λ (c : spec.Cover). c.group < length expressions.items) tree },
 }

@@ -53,7 +53,7 @@ fn put_option(
     }
 }
 
-// Copies of the expressions of some numbers.
+// Copies of the expressions of the items of some numbers.
 fn numbered_copies(
     alloc: Global,
     expressions: &[Vec<u8>],
@@ -85,7 +85,7 @@ fn put_cover(covers: &mut Vec<Cover>, number: usize, place: Place<'_>) -> Result
     }
 }
 
-// The ranges of items, with their numbers.
+// The bounds of items, each with its item's number; of items without bounds none.
 fn covers_of(alloc: Global, places: &[Place<'_>]) -> Result<Vec<Cover>, NoMemory>
     ensures { IfOk result (λ cs. cs.items ≡ numbered_covers 0 (map located_of places.now)) }
 {
@@ -126,10 +126,10 @@ fn defaults_of(alloc: Global, places: &[Place<'_>]) -> Result<Vec<Vec<u8>>, NoMe
     Ok(copies)
 }
 
-// Of how many bytes an expression counts as one item more.
+// How many bytes of an expression count as one more item.
 const BYTES_OF_ITEM: usize = 64;
 
-// The size of what was kept before, with the items of a list.
+// The size of what was kept before, with that of a list's items.
 fn size_with(places: &[Place<'_>], before: usize) -> usize {
     let mut size = before;
     for place in places {
@@ -140,7 +140,7 @@ fn size_with(places: &[Place<'_>], before: usize) -> usize {
     size
 }
 
-/// Keeps a location list. What was kept before has a size, and so has what is kept with it.
+/// Keeps a location list. `before` is the size of the lists that were kept before it, to which its own is added.
 pub fn keep_list(alloc: Global, places: &[Place<'_>], before: usize) -> Result<KeptList, NoMemory>
     ensures { IfOk result (λ l. Says l (map located_of places.now)) }
 {
@@ -168,7 +168,7 @@ fn bounded(alloc: Global, list: &KeptList, a: u64) -> Result<Vec<usize>, NoMemor
     Ok(numbers)
 }
 
-// Some expressions, or copies of the defaults where there are none.
+// The expressions that were found, or copies of the defaults where none were.
 fn or_defaults(
     alloc: Global,
     found: Vec<Vec<u8>>,

@@ -13,7 +13,7 @@ use std::alloc::Global;
 /// Location lists by the addresses that the bounds of their items hold.
 #[derive(Drop)]
 pub struct ListFinder {
-    /// The bounds of the items of all lists, each with the number of its list.
+    /// The bounds of the items of all lists, each with its list's number for a group.
     tree: CoverTree,
     /// The numbers of the lists that have expressions without bounds.
     unbounded: Vec<usize>,
@@ -52,7 +52,7 @@ fn unbounded_of(alloc: Global, lists: &[KeptList]) -> Result<Vec<usize>, NoMemor
 }
 
 impl ListFinder {
-    /// The lists that may be found.
+    /// A finder of some lists, which are numbered from 0.
     pub fn new(alloc: Global, lists: &[KeptList]) -> Result<ListFinder, NoMemory>
         ensures { IfOk result (λ f. IsFinder lists.now f) }
     {

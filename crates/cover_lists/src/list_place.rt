@@ -1,6 +1,6 @@
 // What a list that was read says, expression by expression.
 
-/// The addresses from `low` to before `high`, both of which may pass 2^64.
+/// The addresses from `low` to before `high`. Neither is cut to 64 bits: an offset may lead past the last address.
 #[derive(Clone, Copy)]
 pub struct Bounds {
     pub low: u128,
@@ -10,7 +10,7 @@ pub struct Bounds {
 /// An expression, and where it is in force.
 #[derive(Clone, Copy)]
 pub struct Place<'a> {
-    /// Where it has none, it is in force where no other one is.
+    /// Where it is in force; with none, where no other expression of its list is.
     pub bounds: Option<Bounds>,
     pub expression: &'a [u8],
 }

@@ -21,7 +21,7 @@ use std::alloc::Global;
 /// A stretch of new code at each byte of which a list has the same expressions in force.
 pub type ListRun = Run<Vec<Vec<u8>>>;
 
-// Whether the last run has an answer.
+// Whether there is a last run, and it has the answer.
 fn ends_with(runs: &[ListRun], answer: &[Vec<u8>]) -> bool
     ensures has { IsTrue result → last.IsAnswer (Some (items_in answer.now)) (said_runs spec.said runs.now) }
     ensures lacks { IsFalse result → last.IfLast (λ r. r.answer ≢ items_in answer.now) (said_runs spec.said runs.now) }
@@ -49,7 +49,7 @@ fn add(runs: &mut Vec<ListRun>, start: u64, len: u64, answer: Vec<Vec<u8>>) -> R
     Ok(())
 }
 
-// Adds a stretch of bytes to the runs, if something is said there.
+// Adds a stretch of bytes with an answer to the runs, unless the answer is empty.
 fn put_answer(
     runs: &mut Vec<ListRun>,
     start: u64,
@@ -73,11 +73,11 @@ fn put_answer(
     }
 }
 
-// What each expression of an answer costs beside the first one, as many times as the answer: it is copied, and there is
-// mostly one.
+// How many times as much as an answer each expression beside the first one costs. Each is copied, and mostly there is
+// one.
 const COST_OF_MORE: usize = 16;
 
-// How many bytes of expressions cost as much as the answer.
+// How many bytes of an expression cost as much as an answer.
 const BYTES_OF_COST: usize = 16;
 
 fn cost_of(answer: &[Vec<u8>]) -> usize {
@@ -89,8 +89,8 @@ fn cost_of(answer: &[Vec<u8>]) -> usize {
     cost
 }
 
-// Adds a stretch of bytes to the runs of a list, if it says anything there. Memory is wanting where all answers that
-// were asked for cost too much.
+// Adds a stretch of bytes to the runs of a list, if the list says anything at `a`, the stretch's owner. `asked` is what
+// all answers cost so far; `NoMemory` is answered, too, where that becomes too much.
 fn add_list(
     alloc: Global,
     lists: &[KeptList],
@@ -120,7 +120,7 @@ fn add_list(
     put_answer(&mut runs[number], start, len, answer)
 }
 
-// Adds a stretch of bytes to the runs of some lists.
+// Adds a stretch of bytes to the runs of the lists of some numbers, which ascend.
 fn add_lists(
     alloc: Global,
     lists: &[KeptList],
@@ -156,8 +156,8 @@ fn no_runs(alloc: Global, count: usize) -> Result<Vec<Vec<ListRun>>, NoMemory>
     Ok(runs)
 }
 
-/// Of each list, by its number, the longest runs at whose bytes it says the same, by stretches of new code, each with
-/// an old address that stands for it.
+/// Of each list, by its number, the longest runs at whose bytes it says the same, by stretches of new code; the answer
+/// of a stretch is an old address that stands for it.
 pub fn list_runs(
     alloc: Global,
     lists: &[KeptList],

@@ -15,7 +15,7 @@ fn entry_weight(entry: RangedEntry, lists: &[Vec<Run<bool>>]) -> u64
     (runs.len() as u64).saturating_mul(RUN_WEIGHT)
 }
 
-/// The weight of the runs of some entries, by those of their groups; where it is none of 64 bits, the greatest number.
+/// The weight of the runs of some entries, by those of their groups; the greatest number where it is none of 64 bits.
 pub fn runs_weight(ranged: &[RangedEntry], lists: &[Vec<Run<bool>>]) -> u64
     ensures { result ≡ min (sum_by (λ r. run_weight * length (spec.runs_in lists.now r.group)) ranged.now)
         (2 ^ 64 - 1) }

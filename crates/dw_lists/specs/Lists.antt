@@ -29,7 +29,8 @@ between low high = Some (record { low = low; high = high })
 abbrev pub with_located : List ℕ → Option Range → Option (List Located) → Option (List Located)
 with_located x range more = option_map (λ ls. record { range = range; expression = x } ∷ ls) more
 
--- what an entry says, and `more` what those behind it say, by the base address; `look` finds addresses by their index
+-- what an entry says, and what those behind it say, which `more` gives for a base address; `look` finds the address at
+-- an index
 abbrev pub bound_says : (ℕ → Option ℕ) → (ℕ → Option (List Located)) → ℕ → List ℕ → Bound → Option (List Located)
 bound_says look more base x (Base a) = option_and_then more (resolved look a)
 bound_says look more base x (Between a b) =
@@ -40,7 +41,7 @@ bound_says look more base x (Onward a n) =
 bound_says look more base x (Offsets m n) = with_located x (between (base + m) (base + n)) (more base)
 bound_says look more base x Default = with_located x None (more base)
 
--- None where an index is one of no address
+-- what entries say under a base address; None where an index is one of no address
 abbrev pub items_say : (ℕ → Option ℕ) → List Item → ℕ → Option (List Located)
 items_say look [] base = Some []
 items_say look (i ∷ items) base = bound_says look (items_say look items) base i.expression i.bound

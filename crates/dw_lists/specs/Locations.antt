@@ -30,13 +30,13 @@ content_read (Err e) = []
 abbrev pub block_of : List ℕ → Attr → List ℕ
 block_of info a = content_read (and_so (sound_if (shape_of a.form)) (λ shape. content_at shape (value_bytes info a)))
 
--- of an attribute: an expression that stands in it is in force everywhere
+-- the expressions of an attribute that are in force at an address; one that stands in it is in force everywhere
 abbrev pub expressions_of : ListSections → Unit → Attr → ℕ → List (List ℕ)
 expressions_of s u x a =
     if is_block x.form then block_of s.units.info x ∷ []
     else option_map_or (λ ls. in_force ls a) (list_of locations_kind s.locations s.units.addr u x) []
 
--- of an attribute of an entry, where its nearest ranges hold the address
+-- those of an entry's attribute, where the entry's nearest ranges hold the address
 abbrev pub located : ListSections → Unit → Ranged → ℕ → ℕ → List (List ℕ)
 located s u r x a = if hold r.nearest a then option_map_or (λ v. expressions_of s u v a) (attr x r.entry) [] else []
 
@@ -46,7 +46,7 @@ pub record PlaceSaid : Type 0 where
   pub attr : ℕ
   pub expressions : List (List ℕ)
 
--- where there are some
+-- what is said of an attribute of an entry, where it has expressions in force
 abbrev pub attr_says : ℕ → ℕ → List (List ℕ) → List PlaceSaid
 attr_says d x [] = []
 attr_says d x (b ∷ bs) = record { entry = d; attr = x; expressions = b ∷ bs } ∷ []

@@ -10,7 +10,8 @@ use Rattle.dw_lists.specs.Lists.{Kind, base_address}
 abbrev pub own_place : Unit → ℕ
 own_place u = option_map_or (λ (e : Entry). e.place) (own_entry u) 0
 
--- the section of addresses, where its table and that of lists begin, the base address, and where its own entry stands
+-- what a unit needs: the section of addresses, where its tables of these and of lists begin, its base address, and
+-- where its own entry stands
 pub record ReadsLists (k : Kind) (addr : List ℕ) (u : Unit) (l : code.UnitLists) : Type 0 where
   pub section : l.addresses.section.now ≡ addr
   pub addresses : l.addresses.base ≡ base DW_AT_addr_base u

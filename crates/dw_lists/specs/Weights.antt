@@ -14,7 +14,7 @@ use Rattle.dw_lists.specs.Faults.{ListSections, list_offsets}
 use Rattle.dw_lists.specs.Ranges.{Ranged, ranged}
 use Rattle.cover_lists.specs.ListWeights.{IsSumOf, expressions_weight}
 
--- the indexes that a unit's entries use in a form
+-- the indexes that attributes of a form have
 abbrev pub indexes_in : ℕ → List Attr → List ℕ
 indexes_in form attrs = map (λ (a : Attr). a.value) (filter (λ (a : Attr). a.form == form) attrs)
 

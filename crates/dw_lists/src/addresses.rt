@@ -10,12 +10,12 @@ use byteorder::{ByteOrder, LittleEndian};
 #[derive(Clone, Copy)]
 pub struct Addresses<'a> {
     pub section: &'a [u8],
-    /// Where the unit's table begins.
+    /// The offset of the first address of the unit's table, DW_AT_addr_base.
     pub base: Option<u64>,
 }
 
 impl<'a> Addresses<'a> {
-    /// The address of an index.
+    /// The address at an index, if the unit has a base and a whole address stands there.
     pub fn at(&self, index: u64) -> Option<u64>
         ensures { result ≡ looked_up self.now.section.now self.now.base index }
     {
@@ -27,7 +27,7 @@ impl<'a> Addresses<'a> {
         Some(LittleEndian::read_u64(&self.section[place as usize..]))
     }
 
-    /// The address that is meant.
+    /// The address that is meant, if it can be found.
     pub fn resolve(&self, address: Address) -> Option<u64>
         ensures { result ≡ resolved (looked_up self.now.section.now self.now.base) address }
     {

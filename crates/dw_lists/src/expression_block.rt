@@ -15,7 +15,7 @@ use rb_bytes::cursor::Cursor;
 use rb_bytes::gap::Gap;
 use table_core::shape::{Shape, shape_of};
 
-// A number of so many bytes.
+// A number of `size` bytes.
 fn number<'a>(cursor: &mut Cursor<'a>, size: u8) -> Result<u64, Gap>
     requires { IsTrue (is_size size) }
     ensures read { IfOk result (λ n. number_read size cursor.old.left ≡ Ok (n, cursor.new.left)) }
@@ -25,7 +25,7 @@ fn number<'a>(cursor: &mut Cursor<'a>, size: u8) -> Result<u64, Gap>
     Ok(LittleEndian::read_uint(bytes, size as usize))
 }
 
-// Bytes behind their count, which is a number of so many bytes.
+// Bytes behind their count, which has `size` bytes.
 fn counted<'a>(cursor: &mut Cursor<'a>, size: u8) -> Result<&'a [u8], Trouble>
     requires { IsTrue (is_size size) }
     ensures read { IfOk result (λ x. content_at (shape.Block size) cursor.old.left ≡ Ok (x.now, cursor.new.left)) }
@@ -36,6 +36,7 @@ fn counted<'a>(cursor: &mut Cursor<'a>, size: u8) -> Result<&'a [u8], Trouble>
     Ok(bytes)
 }
 
+// The bytes of a block, behind its count; other shapes have none.
 fn content<'a>(cursor: &mut Cursor<'a>, shape: Shape) -> Result<&'a [u8], Trouble>
     requires { IsTrue (is_readable shape) }
     ensures read { IfOk result (λ x. content_at shape cursor.old.left ≡ Ok (x.now, cursor.new.left)) }
@@ -48,7 +49,7 @@ fn content<'a>(cursor: &mut Cursor<'a>, shape: Shape) -> Result<&'a [u8], Troubl
     }
 }
 
-/// The expression that stands in an attribute; empty where none does.
+/// The expression that stands in an attribute, by `.debug_info`; empty where its form is no block.
 pub fn expression_in<'a>(info: &'a [u8], attr: Attr) -> &'a [u8]
     ensures { result.now ≡ block_of info.now attr }
 {

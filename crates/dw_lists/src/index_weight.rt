@@ -1,17 +1,17 @@
-// How much the tables of offsets weigh that units need for their indexes.
+// How much the tables of offsets weigh that units need for the indexes by which they name lists.
 ghost use Rattle.std.specs.Prelude.{◌≡◌, ◌++◌, ◌∷◌, [], ◌-◌, ◌+◌, ◌*◌, ◌^◌, ℕ, List, min};
 ghost use Rattle.dw_unit.specs.ListedUnits.{plain_unit};
 ghost use Rattle.dw_lists.specs.Weights as spec;
 
 use dw_unit::{Attr, Entry};
 
-// What a table with offsets weighs beside them.
+// What a table weighs beside its offsets and lists.
 const TABLE_WEIGHT: u64 = 32;
 
 // What an offset weighs.
 const OFFSET_WEIGHT: u64 = 4;
 
-// The greatest of some indexes and one more.
+// The greatest of some indexes and of `index`; `greatest` is that of the others.
 fn greater(greatest: Option<u64>, index: u64) -> Option<u64>
     ensures { (before : List ℕ) → greatest ≡ spec.greatest before → result ≡ spec.greatest (before ++ index ∷ []) }
 {
@@ -27,7 +27,7 @@ fn greater(greatest: Option<u64>, index: u64) -> Option<u64>
     }
 }
 
-// The greatest of some indexes, and of that of an attribute if it has the form of one.
+// The greatest of some indexes and that of an attribute, if it has the form.
 fn noted(form: u64, attr: Attr, greatest: Option<u64>) -> Option<u64>
     ensures { (before : List ℕ) → greatest ≡ spec.greatest before →
         result ≡ spec.greatest (before ++ spec.indexes_in form (attr ∷ [])) }
@@ -39,7 +39,7 @@ fn noted(form: u64, attr: Attr, greatest: Option<u64>) -> Option<u64>
     }
 }
 
-// The greatest of some indexes and those of attributes of a form.
+// The greatest of some indexes, `others`, and those of the attributes that have the form.
 fn greatest_in(form: u64, attrs: &[Attr], others: Option<u64>) -> Option<u64>
     ensures { (before : List ℕ) → others ≡ spec.greatest before →
         result ≡ spec.greatest (before ++ spec.indexes_in form attrs.now) }
@@ -51,7 +51,7 @@ fn greatest_in(form: u64, attrs: &[Attr], others: Option<u64>) -> Option<u64>
     greatest
 }
 
-// The greatest of some indexes and those of an entry.
+// The greatest of some indexes, `others`, and those of an entry.
 fn greatest_of(form: u64, entry: &Entry, others: Option<u64>) -> Option<u64>
     ensures { (before : List ℕ) → others ≡ spec.greatest before →
         result ≡ spec.greatest (before ++ spec.indexes_in form entry.now.attrs) }
@@ -59,7 +59,7 @@ fn greatest_of(form: u64, entry: &Entry, others: Option<u64>) -> Option<u64>
     greatest_in(form, &entry.attrs, others)
 }
 
-// What a table with offsets for all indexes up to one weighs.
+// What a table with offsets for all indexes up to `index` weighs, without its lists.
 fn table_weight(index: u64) -> u64
     ensures { result ≡ min (32 + 4 * (index + 1)) (2 ^ 64 - 1) }
 {
@@ -67,8 +67,8 @@ fn table_weight(index: u64) -> u64
     offsets.saturating_add(TABLE_WEIGHT)
 }
 
-/// What the table of offsets weighs that a unit needs for its indexes of a form, if it has some; or the greatest
-/// number, where that is none of 64 bits.
+/// What the table of offsets weighs that a unit needs for its indexes of a form, DW_FORM_rnglistx or DW_FORM_loclistx:
+/// 0 where it has none, and the greatest number where the weight is none of 64 bits.
 pub fn index_weight(form: u64, entries: &[Entry]) -> u64
     ensures { result ≡ min (spec.index_weight form (plain_unit entries.now)) (2 ^ 64 - 1) }
 {

@@ -103,7 +103,7 @@ pub fn block<'a>(cursor: &mut Cursor<'a>) -> Result<&'a [u8], Trouble>
     Ok(bytes)
 }
 
-// The expression of an entry with a bound; a new base has none.
+// The expression of an entry, which stands behind its bound; a new base has none.
 fn expression<'a>(cursor: &mut Cursor<'a>, bound: Bound) -> Result<&'a [u8], Trouble>
     ensures read { IfOk result (λ x. spec.expression_at bound cursor.old.left ≡ Ok (x.now, cursor.new.left)) }
     ensures trouble { IfErr result (λ e. spec.expression_at bound cursor.old.left ≡ Err e) }
@@ -125,7 +125,7 @@ pub struct ListItem<'a> {
     pub expression: &'a [u8],
 }
 
-/// The entry behind its kind.
+/// Reads the entry behind its kind. `Unsound` where no entry is of that kind, or it doesn't stand whole in the bytes.
 pub fn item<'a>(cursor: &mut Cursor<'a>, list: ListKind, kind: u64) -> Result<ListItem<'a>, Trouble>
     ensures read { IfOk result (λ i. item_of list kind cursor.old.left
         ≡ Ok (record { bound = i.bound; expression = i.expression.now }, cursor.new.left)) }

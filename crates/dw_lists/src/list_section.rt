@@ -25,28 +25,30 @@ use std::alloc::Global;
 use table_core::DebugUnit;
 use table_core::form::{DW_FORM_loclistx, DW_FORM_rnglistx};
 
-/// A section of lists, with its tables.
+/// A section of lists, with the tables that it consists of.
 #[derive(Clone, Copy)]
 pub struct ListSection<'a, 't> {
     pub bytes: &'a [u8],
     pub tables: &'t [DebugUnit<'a>],
-    /// How much of the file's lists is kept at most, as `most_kept` says.
+    /// How much of the file's lists is kept at most (`most_kept`).
     pub most: usize,
 }
 
-// Of how many bytes of a file one is kept. Files of compilers have 320 for each, and 78 where relocations are left out.
+// For how many bytes of a file one of these is kept. Files of compilers have 320 bytes for each, and 78 where they have
+// no relocations.
 const BYTES_OF_EACH: usize = 32;
 
-// How many are kept beside these, so that no small file meets the bound.
+// How many are kept beside, so that no small file meets the bound.
 const KEPT_BESIDE: usize = 1 << 17;
 
-/// How many ranges, entries with ranges, items of location lists, and attributes that say where something is, are kept at
-/// most, each of these, of a file of so many bytes. An entry or item of a few bytes takes up to a KiB of memory until
-/// it is written, and lists that overlap are read each, so that few bytes could name any number.
+/// How many ranges are kept at most of a file of so many bytes; and how many entries with ranges, items of location
+/// lists, and attributes that say where something is, of each of these as many. An entry or item of a few bytes takes
+/// up to a KiB of memory until it is written, and lists may overlap, so few bytes could name any number.
 pub fn most_kept(file_size: usize) -> usize {
     (file_size / BYTES_OF_EACH).saturating_add(KEPT_BESIDE)
 }
 
+// Whether a table starts at or below an offset.
 fn starts_by(at: u64, table: &DebugUnit<'_>) -> bool
     ensures { result ≡ nat_le table.now.place at }
 {
@@ -71,7 +73,7 @@ fn table_below<'a, 't>(tables: &'t [DebugUnit<'a>], at: u64) -> Option<&'t Debug
     table_of(tables, started - 1)
 }
 
-// The end of bytes behind a length at a place.
+// The offset of the end of `bytes`, which stand behind a length of four bytes at `place`.
 fn end_at(place: u64, bytes: &[u8]) -> u128
     ensures { result ≡ place + 4 + length bytes.now }
 {
@@ -86,7 +88,7 @@ fn end_of_table(table: &DebugUnit<'_>) -> Option<u128>
     Some(end_at(table.place, bytes))
 }
 
-// Where a list at an offset has to end.
+// Where a list at offset `at` has to end: with its table, or with the section where that isn't whole.
 fn list_end<'a>(section: &'a [u8], tables: &[DebugUnit<'a>], at: u64) -> u128
     requires rising { IsNonDecreasingBy (λ w. w.place) tables.now }
     requires walked { tables.now ≡ walked 5 section.now }
@@ -96,7 +98,7 @@ fn list_end<'a>(section: &'a [u8], tables: &[DebugUnit<'a>], at: u64) -> u128
     end.unwrap_or(section.len() as u128)
 }
 
-/// The bytes from an offset on up to another, as far as there are some.
+/// The bytes of a section from offset `at` to before `end`, or those of them that it has.
 pub fn bytes_between(section: &[u8], at: u64, end: u128) -> &[u8]
     ensures { result.now ≡ take (end - at) (drop at section.now) }
 {
@@ -111,7 +113,8 @@ pub fn bytes_between(section: &[u8], at: u64, end: u128) -> &[u8]
     bytes
 }
 
-// The number of an index in a section of offsets that begin at a place, counted from that place.
+// The offset of the list that an index names: the one that stands at the index among those from `begin` on, the base
+// of the unit, and counts from there. DWARF 5, sections 7.28 and 7.29.
 fn offset_of_index(section: &[u8], begin: Option<u64>, index: u64) -> Option<u64>
     ensures { (k : Kind) (u : Unit) → begin ≡ base k.base_name u → result ≡ spec.offset_of_index k section.now u index }
 {
@@ -123,6 +126,7 @@ fn offset_of_index(section: &[u8], begin: Option<u64>, index: u64) -> Option<u64
     Some(begin + LittleEndian::read_u32(&section[place as usize..]) as u64)
 }
 
+// The form of attributes that name lists by an index.
 fn index_form(kind: ListKind) -> u64
     ensures { result ≡ (kind_of kind).index_form }
 {
@@ -132,7 +136,8 @@ fn index_form(kind: ListKind) -> u64
     }
 }
 
-/// The offset of an attribute's list, where it can be read and lies in the section.
+/// The offset of the list that an attribute names, by its value or by an index, where it can be read and lies in the
+/// section. `lists` is the base of the unit's indexes.
 pub fn list_offset(kind: ListKind, section: &[u8], lists: Option<u64>, attr: Attr) -> Option<u64>
     ensures { (u : Unit) → lists ≡ base (kind_of kind).base_name u →
         result ≡ spec.list_offset (kind_of kind) section.now u attr }
@@ -150,7 +155,7 @@ pub fn list_offset(kind: ListKind, section: &[u8], lists: Option<u64>, attr: Att
     }
 }
 
-/// What the list at an offset says; none where it can't be read.
+/// What the list at offset `at` says, as a unit reads it; none where it can't be read (`read_list`, which has bounds).
 pub fn list_at<'a>(
     alloc: Global,
     kind: ListKind,
@@ -169,7 +174,7 @@ pub fn list_at<'a>(
     read_list(alloc, kind, bytes, unit.base, &unit.addresses)
 }
 
-/// The place of the table that a fault of the list at an offset has.
+/// The place at which a fault of the list at an offset is answered: that of its table, or 0 where it lies in none.
 pub fn table_place(section: &[u8], tables: &[DebugUnit<'_>], at: u64) -> u64
     requires rising { IsNonDecreasingBy (λ w. w.place) tables.now }
     requires walked { tables.now ≡ walked 5 section.now }
@@ -181,7 +186,8 @@ pub fn table_place(section: &[u8], tables: &[DebugUnit<'_>], at: u64) -> u64
     }
 }
 
-// Whether a table has its header, and as many offsets as this says.
+// Whether a table has a header, with an address size of 8 and a segment selector size of 0, and as many offsets of
+// four bytes as this says.
 fn is_list_table(bytes: &[u8]) -> bool
     ensures { result ≡ faults.is_list_table bytes.now }
 {
@@ -203,7 +209,7 @@ fn is_bad(table: &DebugUnit<'_>) -> bool
     }
 }
 
-/// The lowest place of a table that isn't as the format has it.
+/// The lowest place of a table that isn't as the format has it. Versions and lists aren't looked at.
 pub fn bad_table(tables: &[DebugUnit<'_>]) -> Option<u64>
     ensures { result ≡ least (map (λ w. w.place) (filter (λ w. not (option_map_or faults.is_list_table w.bytes false))
         tables.now)) }

@@ -8,8 +8,8 @@ pub struct NamedList {
     pub attr: u64,
     /// The offset of the own entry of its unit.
     pub own: u64,
-    /// The index by which the list is named, where it is named by one.
+    /// The index by which the attribute names the list, where it does so by one, and not by an offset.
     pub index: Option<u64>,
-    /// The number of the list.
+    /// The number of the list among those that were read.
     pub list: usize,
 }

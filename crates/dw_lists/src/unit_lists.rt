@@ -15,15 +15,15 @@ use dw_unit::soundness::bases;
 use dw_unit::{Attr, Entry, attr_named, is_address_index};
 use table_core::form::DW_FORM_addr;
 
-/// What a unit needs to read lists of a kind.
+/// What a unit needs to read lists of a kind, ranges or locations.
 #[derive(Clone, Copy)]
 pub struct UnitLists<'a> {
     pub addresses: Addresses<'a>,
-    /// Where the offsets begin that its indexes count.
+    /// The base of its indexes of lists: the offset at which the offsets of its lists begin, if it has one.
     pub lists: Option<u64>,
-    /// The base address of its lists.
+    /// The base address of its lists: its low address, or 0.
     pub base: u64,
-    /// The offset of its own entry.
+    /// The offset of its own entry in `.debug_info`.
     pub own: u64,
 }
 
@@ -40,7 +40,7 @@ fn address_of(addresses: &Addresses, attr: &Attr) -> Option<u64>
     None
 }
 
-/// The low address of an entry.
+/// The low address of an entry, by its attributes, if it has one that can be found.
 pub fn low_pc(addresses: &Addresses, attrs: &[Attr]) -> Option<u64>
     ensures { (u : Unit) (e : units.Entry) → addresses.now.base ≡ units.base DW_AT_addr_base u → e.attrs ≡ attrs.now →
         result ≡ units.low_pc addresses.now.section.now u e }

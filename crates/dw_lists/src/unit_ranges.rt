@@ -32,18 +32,19 @@ use std::alloc::Global;
 use std::collections::BTreeMap;
 use table_core::form::{DW_FORM_addr, DW_FORM_rnglistx, DW_FORM_sec_offset};
 
-/// Of the lists of a unit that were read, their numbers by their offsets, as of the groups of their ranges; none of one
-/// that can't be read.
+/// The lists of a unit that were read, by their offsets: of each its number (that of the group of its ranges, or of a
+/// location list), and none where it can't be read.
 pub type KnownLists = BTreeMap<u64, Option<usize>>;
 
-/// The number of the list at an offset, if it was read.
+/// What is known of the list at an offset: nothing, that it can't be read, or its number.
 pub fn known_number(known: &KnownLists, at: u64) -> Option<Option<usize>>
     ensures { result ≡ get nat_cmp known.now at }
 {
     known.get(&at).copied()
 }
 
-// Adds a group of the ranges of a list. Memory is wanting where there would be more than so many in all.
+// Adds a group of the ranges of a list, and answers its number; `NoMemory`, too, where more than `most` ranges would be
+// kept in all.
 fn keep_group(groups: &mut Groups, places: &[Place<'_>], most: usize) -> Result<usize, NoMemory>
     ensures number { IfOk result (λ n. n ≡ groups.old.count) }
     ensures count { OnOk result (groups.new.count ≡ groups.old.count + 1) }
@@ -57,7 +58,8 @@ fn keep_group(groups: &mut Groups, places: &[Place<'_>], most: usize) -> Result<
     Ok(group)
 }
 
-// Reads the list at an offset, and adds a group of its ranges; none if it can't be read.
+// Reads the list at an offset, and adds a group of its ranges; answers the group's number, or none if the list can't be
+// read.
 fn read_group(
     alloc: Global,
     section: ListSection<'_, '_>,
@@ -81,7 +83,8 @@ fn read_group(
     }
 }
 
-// The group of the ranges of the list at an offset, which is read if it isn't known; none if it can't be read.
+// The number of the group of the ranges of the list at an offset, which is read unless it is known; none if it can't be
+// read.
 fn group_at(
     alloc: Global,
     section: ListSection<'_, '_>,
@@ -105,7 +108,8 @@ fn group_at(
     Ok(group)
 }
 
-// The range between the low address and the high address of an entry.
+// The range between the low address and the high address of an entry, if it has both. A high address of another form
+// than DW_FORM_addr is a distance from the low one. DWARF 5, section 2.17.2.
 fn bounds(addresses: &Addresses, attrs: &[Attr]) -> Option<Bounds>
     ensures { (u : Unit) (e : units.Entry) → addresses.now.base ≡ units.base DW_AT_addr_base u → e.attrs ≡ attrs.now →
         option_map (λ b. record { low = b.low; high = b.high }) result
@@ -125,7 +129,8 @@ fn bounds(addresses: &Addresses, attrs: &[Attr]) -> Option<Bounds>
     })
 }
 
-/// The group of the ranges that an entry has, by its high address or its list; none if it has none.
+/// The number of the group of an entry's ranges, by its high address or its list; none if it has no ranges, or its list
+/// can't be read.
 pub fn own_group(
     alloc: Global,
     section: ListSection<'_, '_>,
@@ -169,13 +174,13 @@ fn has_list(attr: Attr) -> bool
 /// What is wrong with the lists that a unit names.
 #[derive(Clone, Copy)]
 pub struct ListFaults {
-    /// An offset can't be read, or lies past the section.
+    /// Whether the offset of some list can't be read, or lies past the section.
     pub lacks_offset: bool,
-    /// The lowest place of a table whose list can't be read.
+    /// The lowest place of a table with a list that can't be read.
     pub bad: Option<u64>,
 }
 
-// What is wrong with the list that an attribute names, and with others.
+// Adds to `others` what is wrong with the list that an attribute names, if it names one.
 fn note_list(
     alloc: Global,
     section: ListSection<'_, '_>,
@@ -215,7 +220,7 @@ fn note_list(
     }
 }
 
-/// What is wrong with the lists that some attributes name, and with others.
+/// Adds to `others` what is wrong with the range lists that some attributes name.
 pub fn note_lists(
     alloc: Global,
     section: ListSection<'_, '_>,

@@ -1,4 +1,4 @@
--- Entries as they are listed, of whose declarations the tag is left.
+-- Entries as they are listed: of their declarations only the tag is kept.
 use Rattle.std.specs.Prelude.{ℕ, List, map}
 use Rattle.dw_unit.specs.declared.entry.Attr.{Attr}
 use Rattle.dw_unit.specs.CompUnits.{Entry, Sections, entries}

@@ -18,7 +18,7 @@ pub record IsFrom (t : Table) (s : Start) : Type 0 where
   pub form : s.form ≡ least (places_with has_bad_form (table_from s.index t).list)
   pub high : s.high ≡ least (places_with has_bad_high (table_from s.index t).list)
 
--- A start in a table of a number, of the declaration at a place.
+-- A start at the declaration that stands at `place`, in the table `t`, which has a number.
 pub record IsMark (t : Table) (number place : ℕ) (s : Start) : Type 0 where
   pub number_is : s.number ≡ number
   pub within : s.index < length t.list
@@ -35,7 +35,7 @@ pub record IsStart (section : List ℕ) (read : List IndexedTable) (offset : ℕ
 abbrev pub AreStarts : List ℕ → List IndexedTable → BTreeMap ℕ Start → Type 0
 AreStarts section read starts = (q : ℕ) (s : Start) → get nat_cmp starts q ≡ Some s → IsStart section read q s
 
--- of those that are there afterwards each was there before, or is one of a table
+-- each start that is there afterwards was there before, or is one in the table
 abbrev pub AreMarked : Table → ℕ → BTreeMap ℕ Start → BTreeMap ℕ Start → Type 0
 AreMarked t number old new = (q : ℕ) (s : Start) → get nat_cmp new q ≡ Some s →
     (get nat_cmp old q ≡ Some s) ⊎ IsMark t number q s

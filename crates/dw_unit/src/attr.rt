@@ -17,7 +17,8 @@ pub(crate) fn is_form(form: u64) -> bool
     DW_FORM_addr <= form && form <= DW_FORM_addrx4 && form != 2
 }
 
-// The form of a value whose declaration has a form.
+// The form of the value at the front: `form`, which its declaration at `declaration` gives; or where that is
+// DW_FORM_indirect, the one that stands before the value. DWARF 5, section 7.5.3.
 fn form<'a>(cursor: &mut Cursor<'a>, declaration: u64, form: u64) -> Result<u64, Trouble>
     ensures read { IfOk result (λ x. form_at declaration form cursor.old.left ≡ Ok (x, cursor.new.left)) }
     ensures trouble { IfErr result (λ e. form_at declaration form cursor.old.left ≡ Err e) }
@@ -37,7 +38,8 @@ fn form<'a>(cursor: &mut Cursor<'a>, declaration: u64, form: u64) -> Result<u64,
     }
 }
 
-/// The attribute at the front, in a unit that ends at a place, by a declaration at another.
+/// Reads the attribute at the front of a unit's bytes, which end at offset `end` of `.debug_info`. `spec` is what the
+/// declaration at offset `declaration` of `.debug_abbrev` says of it.
 pub fn attr<'a>(
     cursor: &mut Cursor<'a>,
     end: u64,

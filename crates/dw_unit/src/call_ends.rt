@@ -21,7 +21,7 @@ fn halfword_at(elf: &Elf, address: u64) -> u16
     low as u16 + 256 * high as u16
 }
 
-// How many bytes the call at an address has, if one is there.
+// How many bytes the call at an address has, if a call is there.
 fn call_at(elf: &Elf, address: u64) -> Option<u64>
     requires { address + 3 < 2 ^ 64 }
     ensures there { IfSome result (HasCall elf.now address) }
@@ -38,7 +38,7 @@ fn call_at(elf: &Elf, address: u64) -> Option<u64>
     }
 }
 
-/// The ends of calls, and beside each that of the moved call.
+/// The ends of all calls that a map moves, and beside each the end of the moved call, which has as many bytes.
 pub fn call_ends(alloc: Global, elf: &Elf, map: &AddrMap) -> Result<BTreeMap<u64, u64>, NoMemory>
     ensures ends { IfOk result (AreCallEnds elf.now map.now) }
     ensures below { IfOk result (λ _. All (λ s. s.out < 2 ^ 64) map.now) }
@@ -48,6 +48,7 @@ pub fn call_ends(alloc: Global, elf: &Elf, map: &AddrMap) -> Result<BTreeMap<u64
         let Some(span) = map.span(index) else {
             unreachable!();
         };
+        // No code that is read stands so high. The sums below need it.
         if span.input > u64::MAX - 8 {
             return Err(NoMemory);
         }

@@ -9,6 +9,6 @@ pub struct ChangedEntry {
     pub is_own: bool,
     /// Whether it is its unit's own entry.
     pub is_first: bool,
-    /// Whether its declaration names a high address.
+    /// Whether its declaration names DW_AT_high_pc.
     pub has_high: bool,
 }

@@ -1,4 +1,6 @@
-// `.debug_info` with its entries changed in place.
+// `.debug_info` with its entries changed in place. It is written front to back: each function here copies `info` from
+// the offset `from` on up to where it changes something, writes that anew, and answers the offset from which on the
+// next one copies. What is behind the last change is copied by whoever comes next.
 ghost use Rattle.std.specs.Prelude.{◌≡◌, ◌≤◌, ◌+◌, ◌++◌, List, IfOk, length, drop, flat_map, map};
 ghost use Rattle.dw_unit.specs.Changes as spec;
 ghost use Rattle.dw_unit.specs.Changes.{Patch, patched};
@@ -15,8 +17,8 @@ use crate::new_value::new_value;
 use crate::patch::put_number;
 use rb_bytes::fault::NoMemory;
 
-// Appends the bytes from a place on up to the offset of a range list, which stands where a high address stood; answers
-// the place behind it.
+// Writes the offset of the entry's range list over a high address, `attr`; of one of eight bytes the last four become
+// an attribute that says nothing, and get zeros.
 fn put_ranges(
     out: &mut Vec<u8>,
     info: &[u8],
@@ -44,8 +46,7 @@ fn put_ranges(
     }
 }
 
-// Appends the bytes from a place on up to an attribute's end with its change, or nothing where it gets no new value;
-// answers the place behind them.
+// Writes an attribute with its change, if it gets a new value.
 fn put_attr(
     out: &mut Vec<u8>,
     info: &[u8],
@@ -81,8 +82,8 @@ fn put_attr(
     }
 }
 
-/// Appends the bytes from a place on up to the end of an entry's attributes, or less, with their changes; answers the
-/// place behind them. The attributes stand before `end`.
+/// Writes the attributes of an entry, which stand between `from` and `end`, with their changes. Answers the offset
+/// behind the last one that was changed, or `from`.
 pub fn put_attrs(
     out: &mut Vec<u8>,
     info: &[u8],

@@ -25,7 +25,7 @@ fn may_repeat(name: u64) -> bool
     DW_AT_unused_high <= name && name <= DW_AT_unused_table
 }
 
-/// Whether no attribute is named twice but for this project's own.
+/// Whether no attribute is named twice, except this project's own.
 #[tactic(auto, using(crate::proofs::Named::named_step, crate::proofs::Named::named_end, crate::proofs::Named::names_step))]
 pub fn are_named_once(alloc: Global, specs: &[Spec]) -> Result<bool, NoMemory>
     ensures { IfOk result (λ b. b ≡ are_named_once specs.now) }
@@ -42,7 +42,7 @@ pub fn are_named_once(alloc: Global, specs: &[Spec]) -> Result<bool, NoMemory>
     Ok(true)
 }
 
-/// Whether a form is none.
+/// Whether some attribute has a form that is none.
 pub fn has_bad_form(declaration: &Declaration) -> bool
     ensures { result ≡ has_bad_form (told_declaration declaration.now) }
 {
@@ -55,14 +55,14 @@ pub(crate) fn names(name: u64, specs: &[Spec]) -> bool
     specs.iter().any(|spec| spec.name == name)
 }
 
-/// Whether a form is of an index of the table of addresses.
+/// Whether a form's values are indexes into the table of addresses.
 pub fn is_address_index(form: u64) -> bool
     ensures { result ≡ is_address_index form }
 {
     form == DW_FORM_addrx || DW_FORM_addrx1 <= form && form <= DW_FORM_addrx4
 }
 
-// Whether it is a low address that stands in the entry or in the table of addresses.
+// Whether it is DW_AT_low_pc, with its address in the entry or in the table of addresses.
 fn is_low(spec: &Spec) -> bool
     ensures { result ≡ is_low spec.now }
 {
@@ -81,14 +81,15 @@ fn is_high_form(form: u64) -> bool
     form == DW_FORM_data4 || form == DW_FORM_data8 || form == DW_FORM_addr
 }
 
-// Whether it is a high address in a form that can't be changed in place, or beside ranges, or without a low address.
+// Whether it is DW_AT_high_pc in a form that leaves no room for the offset of a list, or beside DW_AT_ranges, or
+// without a low address.
 fn is_bad_high(spec: &Spec, ranged: bool, low: bool) -> bool
     ensures { result ≡ (spec.now.name == DW_AT_high_pc && (not (is_high_form spec.now.form) || ranged || not low)) }
 {
     spec.name == DW_AT_high_pc && (!is_high_form(spec.form) || ranged || !low)
 }
 
-/// Whether a high address can't be changed in place.
+/// Whether a declaration has a DW_AT_high_pc that can't become the offset of a range list in place.
 pub fn has_bad_high(declaration: &Declaration) -> bool
     ensures { result ≡ has_bad_high (told_declaration declaration.now) }
 {

@@ -19,21 +19,21 @@ impl<'m> EntryMoves<'m> {
     ghost use Rattle.addr_map.specs.Spans.{moved};
     ghost use Rattle.dw_unit.specs.EntryMoves.{new_list_offset};
 
-    /// The new address of code.
+    /// The new address of the instruction at an address, if one is there.
     pub fn address(&self, address: u64) -> Option<u64>
         ensures { result ≡ moved self.now.map.now address }
     {
         self.map.moved(address)
     }
 
-    /// The end of the moved call that ended at an address.
+    /// Where the moved call ends that ended at an address, if one did.
     pub fn call_end(&self, address: u64) -> Option<u64>
         ensures { result ≡ get nat_cmp self.now.call_ends address }
     {
         self.call_ends.get(&address).copied()
     }
 
-    /// Where the list of an entry's attribute stands, if it has one.
+    /// Where the new list of an entry's attribute stands, or its new base or line unit (`ListAt`), if it has one.
     pub fn list(&self, entry: u64, attr: u64) -> Option<u64>
         ensures { result ≡ new_list_offset self.now.lists entry attr }
     {

@@ -5,7 +5,8 @@ ghost use Rattle.dw_unit.specs.Faults.{HasDwarfFault};
 
 use rb_bytes::fault::{Fault, FaultKind};
 
-/// Of each of four faults the place that is answered, where it is present.
+/// Of each of four faults the place that is answered, where it is present: units or tables of another version, forms
+/// that are none, high addresses that can't be changed in place, and anything else.
 #[derive(Clone, Copy)]
 pub struct FaultPlaces {
     pub version: Option<u64>,
@@ -14,7 +15,7 @@ pub struct FaultPlaces {
     pub bad: Option<u64>,
 }
 
-/// Refuses for the first fault that is present.
+/// Refuses for the first fault that is present, in the order of the fields.
 pub fn refused(places: FaultPlaces) -> Result<(), Fault>
     ensures free { OnOk result (IsFree (HasDwarfFault (record
         { version = places.version; form = places.form; high = places.high; bad = places.bad }))) }

@@ -9,7 +9,7 @@ use crate::trouble::Trouble;
 use crate::unit_type::{DW_UT_compile, DW_UT_partial, DW_UT_type};
 use rb_bytes::cursor::Cursor;
 
-// How many bytes an address has.
+// How many bytes an address has in all units that are read.
 const ADDRESS_SIZE: u8 = 8;
 
 fn half<'a>(cursor: &mut Cursor<'a>) -> Result<u16, Trouble>
@@ -30,7 +30,8 @@ fn word<'a>(cursor: &mut Cursor<'a>) -> Result<u32, Trouble>
     Ok(number)
 }
 
-// Passes the fields that only a unit of its type has.
+// Passes the fields that only type units have: a signature of eight bytes, and the offset of the type. DWARF 5,
+// section 7.5.1.3.
 fn pass_fields<'a>(cursor: &mut Cursor<'a>, kind: u8) -> Result<&'a [u8], Trouble>
     ensures read { IfOk result (λ x. whole (bytes_at (type_fields kind) cursor.old.left) ≡ Ok
         (x.now, cursor.new.left)) }
@@ -42,6 +43,7 @@ fn pass_fields<'a>(cursor: &mut Cursor<'a>, kind: u8) -> Result<&'a [u8], Troubl
     Ok(bytes)
 }
 
+// Whether units of a type are read. Skeleton and split units aren't.
 fn is_type(kind: u8) -> bool
     ensures { result ≡ is_type kind }
 {
@@ -49,7 +51,8 @@ fn is_type(kind: u8) -> bool
     kind == DW_UT_compile || kind == DW_UT_type || kind == DW_UT_partial
 }
 
-/// The offset of the unit's abbreviations, in the header behind its length.
+/// Reads a unit's header behind its length, and answers the offset of its abbreviations. The version isn't tested
+/// here: another one is a fault of its own (`other_version`).
 pub fn header<'a>(cursor: &mut Cursor<'a>) -> Result<u64, Trouble>
     ensures read { IfOk result (λ x. header_at cursor.old.left ≡ Ok (x, cursor.new.left)) }
     ensures trouble { IfErr result (λ e. header_at cursor.old.left ≡ Err e) }

@@ -11,13 +11,14 @@ use crate::table::Table;
 use rb_bytes::fault::NoMemory;
 use std::alloc::Global;
 
-/// A table that was read, with what is asked of it at each entry.
+/// A table that was read, with what is asked of it at each entry: the declaration of a code, and whether that names no
+/// attribute twice.
 #[derive(Drop)]
 pub struct IndexedTable {
     pub table: Table,
     // Of each declaration, whether it names no attribute twice.
     pub(crate) once: Vec<bool>,
-    // The declarations by their codes.
+    // The keys of the declarations (`codes`), ascending.
     pub(crate) keys: Vec<u128>,
     ghost once_is: { once.items ≡ told_once table.list.items },
     ghost rising: { IsNonDecreasing keys.items },
@@ -48,14 +49,14 @@ impl IndexedTable {
     ghost use Rattle.std.specs.Prelude.{slice_get};
     ghost use Rattle.std.specs.Option.{option_copied};
 
-    /// The declaration of an index.
+    /// The declaration at an index.
     pub fn item(&self, index: usize) -> Option<&Declaration>
         ensures { option_copied result ≡ slice_get self.now.table.list.items index }
     {
         self.table.list.get(index)
     }
 
-    /// Whether the declaration of an index names no attribute twice.
+    /// Whether the declaration at an index names no attribute twice.
     pub fn is_once(&self, index: usize) -> Option<bool>
         ensures { result ≡ slice_get self.now.once.items index }
     {

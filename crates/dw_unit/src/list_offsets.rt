@@ -9,7 +9,7 @@ use std::collections::BTreeMap;
 use std::marker::Model;
 use table_core::ListAt;
 
-/// Lists of written tables, found by their entries and attributes. Contracts see the lists.
+/// Lists of written tables, found by their entries and attributes. Contracts see the list of them that was given.
 #[derive(Drop)]
 pub struct ListOffsets<'l> {
     lists: &'l [ListAt],
@@ -36,7 +36,8 @@ fn key(entry: u64, attr: u64) -> u128
     entry as u128 * (1 << 64) + attr as u128
 }
 
-// The offsets of lists; of those for one attribute of an entry the first counts.
+// The offsets of lists. Of several for one attribute of an entry the first counts, so they are gone through from the
+// last one on.
 fn first_offsets(alloc: Global, lists: &[ListAt]) -> Result<BTreeMap<u128, u64>, NoMemory>
     ensures { IfOk result (Offsets lists.now) }
 {

@@ -3,7 +3,7 @@ ghost use Rattle.std.specs.Prelude.{◌≡◌};
 ghost use Rattle.answer_runs.specs.Choices.{lower};
 ghost use Rattle.dw_unit.specs.Lowest.{lower_if};
 
-/// The lower of two places that may be there.
+/// The lower of two places, each of which may be missing.
 pub fn lower(x: Option<u64>, y: Option<u64>) -> Option<u64>
     ensures { result ≡ lower x y }
 {
@@ -16,7 +16,7 @@ pub fn lower(x: Option<u64>, y: Option<u64>) -> Option<u64>
     }
 }
 
-/// The lower of a place, if it counts, and another.
+/// The lower of a place, if it counts, and another one, which may be missing.
 pub fn lower_of(counts: bool, place: u64, other: Option<u64>) -> Option<u64>
     ensures { result ≡ lower_if counts place other }
 {

@@ -1,12 +1,12 @@
 // New names of attributes.
 
-/// What the new names of a declaration's attributes go by.
+/// What the new names of a declaration's attributes depend on.
 #[derive(Clone, Copy)]
 pub struct Naming {
-    /// Whether a low address stays one.
+    /// Whether its DW_AT_low_pc stays one.
     pub keeps_low: bool,
-    /// Whether there is a high address.
+    /// Whether it names DW_AT_high_pc.
     pub has_high: bool,
-    /// Whether there is an address at which to enter.
+    /// Whether it names DW_AT_entry_pc.
     pub has_entry: bool,
 }

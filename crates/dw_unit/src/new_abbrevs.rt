@@ -18,7 +18,7 @@ use rb_bytes::fault::NoMemory;
 use rb_bytes::leb::{put_sleb, put_uleb};
 use table_core::form::{DW_FORM_addr, DW_FORM_data4, DW_FORM_implicit_const, DW_FORM_sec_offset};
 
-// Whether it is a low address that stands in the entry.
+// Whether it is DW_AT_low_pc, with its address in the entry.
 fn is_whole_low(spec: &Spec) -> bool
     ensures { result ≡ is_whole_low spec.now }
 {
@@ -31,14 +31,15 @@ fn has_whole_low(specs: &[Spec]) -> bool
     specs.iter().any(|spec| is_whole_low(spec))
 }
 
-// Whether a low address stays one in a declaration, which a unit's own entry has or not.
+// Whether a low address stays one in a declaration. The one of a unit's own entry does, which is the base address of
+// the unit's lists; `is_own` tells whether an own entry has the declaration.
 fn keeps_low(is_own: bool, specs: &[Spec]) -> bool
     ensures { result ≡ (is_own && list_any is_whole_low specs.now) }
 {
     if is_own { has_whole_low(specs) } else { false }
 }
 
-// What the names of a declaration go by.
+// What the new names of a declaration's attributes depend on.
 fn naming(is_own: bool, declaration: &Declaration) -> Naming
     ensures { IsNaming is_own (told_declaration declaration.now) result }
 {
@@ -49,7 +50,8 @@ fn naming(is_own: bool, declaration: &Declaration) -> Naming
     }
 }
 
-// The new name of an attribute other than a high address.
+// The new name of an attribute other than DW_AT_high_pc. Where that becomes ranges, the low address beside it is no
+// bound any more, but the address at which the code is entered; it says nothing where one is named already.
 fn new_name(naming: Naming, name: u64) -> u64
     ensures { (is_own : Bool) (d : declared.Declaration) → IsNaming is_own d naming → result ≡ new_name is_own d name }
 {
@@ -78,7 +80,8 @@ fn put_spec(out: &mut Vec<u8>, spec: Spec) -> Result<(), NoMemory>
     Ok(())
 }
 
-// Appends what stands for a high address.
+// Appends what stands for a high address: the offset of a range list in four bytes, and a name for the other four
+// where it had eight.
 fn put_ranges(out: &mut Vec<u8>, form: u64) -> Result<(), NoMemory>
     ensures { OnOk result (out.new.items ≡ out.old.items ++ flat_map spec_bytes (ranges_specs form)) }
 {

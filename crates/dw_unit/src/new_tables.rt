@@ -39,7 +39,8 @@ fn put_table(out: &mut Vec<u8>, own: &OwnDeclarations, table: TableAt<'_>) -> Re
     Ok(())
 }
 
-/// The tables at some offsets, which ascend, one behind another.
+/// Writes the tables at some old offsets, which ascend, one behind another, each with a closing zero. A table that
+/// lies within another is written for itself.
 pub fn new_tables(
     alloc: Global,
     tables: &Tables<'_>,
@@ -74,7 +75,7 @@ impl NewTables {
     ghost use Rattle.std.specs.Ordering.{nat_cmp};
     ghost use Rattle.dw_unit.specs.MapKeys.{HasKey};
 
-    /// Where the table of an old offset stands.
+    /// The new offset of the table at an old offset.
     pub fn offset(&self, old: u64) -> u64
         requires { HasKey self.now.offsets old }
         ensures { get nat_cmp self.now.offsets old ≡ Some result }

@@ -18,15 +18,16 @@ use crate::soundness::is_located;
 use table_core::form::{DW_FORM_addr, DW_FORM_sec_offset};
 use table_core::written::DW_AT_stmt_list;
 
-// The offset by which an entry names no line unit.
+// The offset that names no line unit, for an entry that names none: no section is so large.
 const NO_LINE_UNIT: u64 = 0xffff_ffff;
 
-// The new value of an address.
+// The new value of an address that stands in the entry.
 fn new_address(moves: &EntryMoves<'_>, entry: ChangedEntry, attr: &Attr) -> Option<u64>
     ensures { (m : Moves) (e : Entry) → AreMovesIn m moves.now → IsOf e entry →
         result ≡ spec.new_address m entry.is_own e attr.now }
 {
     if attr.name == DW_AT_low_pc && entry.is_own && entry.has_high {
+        // The base address of a unit's lists. The new lists have whole addresses.
         return Some(0);
     }
     if attr.name == DW_AT_addr_base || attr.name == DW_AT_str_offsets_base {
@@ -40,7 +41,7 @@ fn new_address(moves: &EntryMoves<'_>, entry: ChangedEntry, attr: &Attr) -> Opti
     }
 }
 
-// The new value of an offset.
+// The new value of an offset of a section.
 fn new_list(moves: &EntryMoves<'_>, entry: ChangedEntry, attr: &Attr) -> Option<u64>
     ensures { (m : Moves) (e : Entry) → AreMovesIn m moves.now → IsOf e entry →
         result ≡ spec.new_list m entry.is_first e attr.now }
@@ -57,7 +58,7 @@ fn new_list(moves: &EntryMoves<'_>, entry: ChangedEntry, attr: &Attr) -> Option<
     }
 }
 
-/// The new value of an attribute other than a high address, if it gets one.
+/// The new value of an attribute other than DW_AT_high_pc, if it gets one.
 pub fn new_value(moves: &EntryMoves<'_>, entry: ChangedEntry, attr: &Attr) -> Option<u64>
     ensures value { (m : Moves) (e : Entry) → AreMovesIn m moves.now → IsOf e entry →
         result ≡ spec.new_value m entry.is_own entry.is_first e attr.now }

@@ -6,8 +6,8 @@ ghost use Rattle.dw_unit.specs.Changes.{Patch, patched};
 use byteorder::{ByteOrder, LittleEndian};
 use rb_bytes::fault::NoMemory;
 
-/// Appends the bytes between a place and another, and behind them a number of so many bytes that stands over the next;
-/// answers the place behind it.
+/// Appends `bytes` from `from` to before `place`, and then, instead of the next `len` bytes, the low `len` bytes of
+/// `value`. Answers the place behind these, from which on `bytes` is still to be copied.
 pub fn put_number(
     out: &mut Vec<u8>,
     bytes: &[u8],

@@ -21,7 +21,7 @@ use rb_bytes::fault::NoMemory;
 use std::alloc::Global;
 use table_core::DebugUnit;
 
-// The place of the declaration of a value that names no form.
+// The place of the declaration whose value names no form, if that is the trouble.
 fn no_form(trouble: Trouble) -> Option<u64>
     ensures { result ≡ least (unformed (Err trouble)) }
 {
@@ -31,7 +31,7 @@ fn no_form(trouble: Trouble) -> Option<u64>
     }
 }
 
-// What is read of a unit of which nothing can be read.
+// A reading without entries, and without faults of the declarations of the unit's table.
 fn unread(trouble: Trouble) -> UnitReading
     ensures { result ≡ record {
       bad_form = None;
@@ -48,7 +48,7 @@ fn unread(trouble: Trouble) -> UnitReading
     }
 }
 
-// What is read of a unit behind its header, by a table that begins at some offset.
+// What is read of a unit behind its header, by its table of abbreviations.
 fn read_behind<'a>(
     alloc: Global,
     addr: &[u8],
@@ -87,7 +87,7 @@ fn read_behind<'a>(
     }
 }
 
-/// Reads a unit whose abbreviations are among the tables.
+/// Reads a unit whose abbreviations are among the tables. One that can't be read is no error, but has no entries.
 pub fn read_unit(
     alloc: Global,
     tables: &Tables<'_>,
@@ -122,7 +122,8 @@ fn appended(entries: Vec<Entry>, more: Vec<Entry>) -> Result<Vec<Entry>, NoMemor
     Ok(all)
 }
 
-// What is read of some units, with what is read of the next one at a place.
+// What is read of some units and of the next one, which stands at `place`. Behind a unit that can't be read no entries
+// are added.
 fn joined(so_far: Readings, place: u64, reading: UnitReading) -> Result<Readings, NoMemory>
     ensures { IfOk result (λ r. (abbrevs addr : List ℕ) (ws : List Walked) (w : Walked) → w.place ≡ place →
         AreReadings abbrevs addr ws so_far → IsReading abbrevs addr w reading →

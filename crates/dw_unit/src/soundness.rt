@@ -25,7 +25,7 @@ fn attr_value(name: u64, attrs: &[Attr]) -> Option<u64>
     Some(attr.value)
 }
 
-// The value of an attribute of the unit's own entry.
+// The value of an attribute of the unit's own entry, if it has the attribute.
 fn base(name: u64, entries: &[Entry]) -> Option<u64>
     ensures { result ≡ spec.base name (plain_unit entries.now) }
 {
@@ -45,13 +45,14 @@ pub fn bases(entries: &[Entry]) -> Bases
     }
 }
 
+/// Whether an attribute says where something is: its value is an expression, or names a list of them.
 pub(crate) fn is_located(name: u64) -> bool
     ensures { result ≡ is_located name }
 {
     name == DW_AT_location || name == DW_AT_frame_base
 }
 
-// Whether a whole address stands at an index.
+// Whether a whole address stands at an index of the table of addresses that begins at `base`.
 fn has_address(addr: &[u8], base: Option<u64>, index: u64) -> bool
     ensures { (u : Unit) → base ≡ spec.base DW_AT_addr_base u → result ≡ is_some (address_at addr.now u index) }
 {
@@ -61,7 +62,7 @@ fn has_address(addr: &[u8], base: Option<u64>, index: u64) -> bool
     }
 }
 
-// Whether an attribute that uses an index has what it needs.
+// Whether an attribute with an index has what it needs: the base of the table, and an address where it means one.
 fn has_table(addr: &[u8], bases: &Bases, attr: &Attr) -> bool
     ensures { (u : Unit) → bases.now ≡ bases_of u → result ≡ has_table addr.now u attr.now }
 {
@@ -111,7 +112,7 @@ fn are_sound_attrs(addr: &[u8], bases: &Bases, attrs: &[Attr]) -> bool
     true
 }
 
-/// Whether the entries of a unit can be read with its bases and a section of addresses.
+/// Whether all attributes of a unit have the forms that are read, and what their indexes need, by `.debug_addr`.
 pub fn is_sound_unit(addr: &[u8], entries: &[Entry]) -> bool
     ensures { result ≡ is_sound_unit addr.now (plain_unit entries.now) }
 {

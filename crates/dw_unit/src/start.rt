@@ -1,6 +1,6 @@
 // Where a table begins among those that were read.
 
-/// A table that begins with a declaration of one that was read.
+/// Where a table begins: with which declaration of which table that was read. It goes on to that one's end.
 #[derive(Clone, Copy)]
 pub struct Start {
     /// The number of the table that was read.

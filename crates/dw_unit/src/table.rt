@@ -10,15 +10,15 @@ use rb_bytes::cursor::Cursor;
 use rb_bytes::fault::NoMemory;
 use std::alloc::Global;
 
-/// The declarations from an offset up to the closing zero or to what is none.
+/// The declarations from an offset up to the closing zero, or to what is no declaration.
 #[derive(Drop)]
 pub struct Table {
     pub list: Vec<Declaration>,
-    /// The offset behind the closing zero.
+    /// The offset behind the closing zero, if it was reached. A unit needs it.
     pub end: Option<u64>,
 }
 
-// The next declaration in the bytes left of a section of a size, and none at the closing zero.
+// The next declaration, or none at the closing zero; the section has `size` bytes and ends with those left.
 fn next_declaration<'a>(
     alloc: Global,
     cursor: &mut Cursor<'a>,

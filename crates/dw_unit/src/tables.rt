@@ -18,7 +18,7 @@ use rb_bytes::fault::NoMemory;
 use std::alloc::Global;
 use std::collections::BTreeMap;
 
-// How many bytes are read again at most, where tables overlap out of step.
+// How many bytes are read again at most, where tables overlap so that none begins with a declaration of another.
 const READ_AGAIN: u64 = 1 << 25;
 
 /// The tables of a section that begin at some offsets.
@@ -38,7 +38,9 @@ pub struct FoundTable<'t> {
     pub bad_high: Option<u64>,
 }
 
-// Marks where tables begin that begin with a declaration of one; answers the least places of faults of all of it.
+// Marks the offsets that are places of declarations of a table: the tables there are the rest of it. Answers the least
+// places of its declarations with a bad form and with a bad high address. It goes back from the last declaration, so
+// that these places are known from each one on.
 fn mark(
     starts: &mut BTreeMap<u64, Start>,
     number: usize,
@@ -69,7 +71,8 @@ fn mark(
     Ok((form, high))
 }
 
-// Reads the table of an offset that has no start, and marks where others begin in it; answers how many bytes were read.
+// Reads the table at an offset, unless its start is known, and marks where others begin in it. Answers how many bytes
+// were read.
 fn read_at(
     alloc: Global,
     section: &[u8],
@@ -106,8 +109,8 @@ fn read_at(
     Ok(end.saturating_sub(offset))
 }
 
-/// Reads the tables that begin at some offsets, which ascend. Memory is wanting too where they overlap out of step so
-/// often that 2^25 bytes more than the section has would be read.
+/// Reads the tables that begin at some offsets, which ascend. `NoMemory` is answered, too, where they overlap so badly
+/// that 2^25 bytes more than the section has were read.
 pub fn read_tables<'s>(
     alloc: Global,
     section: &'s [u8],
@@ -155,7 +158,7 @@ impl<'s> Tables<'s> {
         }
     }
 
-    /// The table at an offset that was read.
+    /// The table at one of the offsets for which tables were read.
     pub fn find(&self, offset: u64) -> FoundTable<'_>
         requires { HasKey self.now.starts offset }
         ensures table { table_at self.now.section.now offset ≡ told_at result.at }

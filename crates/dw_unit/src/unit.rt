@@ -13,8 +13,8 @@ use crate::walk::next_entry;
 use rb_bytes::cursor::Cursor;
 use std::alloc::Global;
 
-// How many bytes of memory the entries of a unit take at most, for each of its bytes and beside: entries can have one byte,
-// and attributes of some forms, as DW_FORM_flag_present, none, so that few bytes could list any number of them.
+// How many bytes of memory the entries of a unit take at most, for each of its bytes and beside these: an entry can
+// have one byte, and an attribute none (DW_FORM_flag_present), so that few bytes could list any number of them.
 const MEMORY_A_BYTE: usize = 56;
 
 const MEMORY_BESIDE: usize = 1 << 14;
@@ -32,7 +32,8 @@ fn size_with(attrs: &[Attr]) -> usize {
         .saturating_add(ENTRY_SIZE)
 }
 
-/// The entries in the bytes left of a unit at a place, which ends at another.
+/// The entries in the bytes left of the unit at offset `unit`, which end at offset `end`. Memory is said to be wanting,
+/// too, where they take much more than the unit.
 pub fn read_entries<'a>(
     alloc: Global,
     cursor: &mut Cursor<'a>,
@@ -75,7 +76,8 @@ pub fn read_entries<'a>(
     }
 }
 
-/// The entries of a unit behind its header, by a table that begins at some offset.
+/// The entries of the unit at offset `unit` behind its header, which end at offset `end`, by its table, which has to
+/// have a closing zero.
 pub fn unit_entries<'a>(
     alloc: Global,
     cursor: &mut Cursor<'a>,

@@ -4,13 +4,14 @@ use crate::new_tables::NewTables;
 use crate::own_declarations::OwnDeclarations;
 use crate::tables::Tables;
 
-/// What the change of units goes by.
+/// What the change of units depends on.
 #[derive(Clone, Copy)]
 pub struct UnitChange<'c> {
-    /// `.debug_info`.
+    /// The old `.debug_info`.
     pub info: &'c [u8],
+    /// The old tables of abbreviations.
     pub tables: &'c Tables<'c>,
-    /// The tables as they are written.
+    /// The new tables of abbreviations.
     pub new_tables: &'c NewTables,
     pub own: &'c OwnDeclarations,
     pub moves: &'c EntryMoves<'c>,

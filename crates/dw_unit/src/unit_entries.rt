@@ -22,15 +22,17 @@ use table_core::DebugUnit;
 pub struct UnitEntries<'a, 't> {
     /// The bytes of its entries.
     pub cursor: Cursor<'a>,
-    /// Its offset in `.debug_info`, and that of its end.
+    /// Its offset in `.debug_info`.
     pub place: u64,
+    /// The offset of its end.
     pub end: u64,
-    /// The offset of its abbreviations, and these.
+    /// The offset of its abbreviations.
     pub abbrev_offset: u64,
+    /// Its abbreviations.
     pub table: TableAt<'t>,
 }
 
-/// A unit behind its header, by tables among which is its own.
+/// A unit behind its header, by tables of abbreviations, among which is its own.
 pub fn unit_entries<'a, 't>(tables: &'t Tables<'_>, unit: &DebugUnit<'a>) -> UnitEntries<'a, 't>
     requires header { IsOk (header_of unit.now) }
     requires named { HasOffset tables.now.starts unit.now }

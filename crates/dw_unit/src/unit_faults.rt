@@ -10,19 +10,20 @@ use crate::fault_places::FaultPlaces;
 use crate::lowest::lower;
 use table_core::DebugUnit;
 
-/// Of each fault of some units, but for their versions, the place that is answered.
+/// Of each fault of some units, except for versions, the place that is answered.
 #[derive(Clone, Copy)]
 pub struct UnitFaults {
-    /// The lowest places of declarations with a bad form, with a high address that can't be changed in place, and with
-    /// a value that names no form.
+    /// The lowest place of a declaration with a bad form.
     pub bad_form: Option<u64>,
+    /// The lowest place of a declaration with a high address that can't be changed in place.
     pub bad_high: Option<u64>,
+    /// The lowest place of a declaration with a value that names no form.
     pub unformed: Option<u64>,
     /// The first unit that can't be read.
     pub bad: Option<u64>,
 }
 
-/// Of each fault the place that is answered, with those of versions and of tables of addresses.
+/// Of each fault the place that is answered, with those of versions and of tables of addresses. Units come first.
 pub fn fault_places(
     faults: UnitFaults,
     units: &[DebugUnit<'_>],

@@ -15,7 +15,7 @@ use rb_bytes::fault::Refusal;
 use std::alloc::Global;
 use table_core::{DWARF_VERSION, debug_units};
 
-/// All entries of the units of `.debug_info`, by their abbreviations and addresses, in order.
+/// All entries of the units of `.debug_info`, by `.debug_abbrev` and `.debug_addr`, in order; or the first fault.
 pub fn listed_units(
     alloc: Global,
     info: &[u8],

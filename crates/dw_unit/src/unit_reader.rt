@@ -12,7 +12,7 @@ use std::alloc::Global;
 use std::marker::Model;
 use table_core::{DWARF_VERSION, DebugUnit, debug_units};
 
-/// Reads the units of a section, by their abbreviations and addresses. Each declaration that they name is read once.
+/// Reads units one at a time. The tables of abbreviations are read before, so that each declaration is read once.
 #[derive(Drop)]
 pub struct UnitReader<'a, 's> {
     units: Vec<DebugUnit<'a>>,

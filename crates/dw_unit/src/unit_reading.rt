@@ -2,7 +2,7 @@
 
 use crate::entry::Entry;
 
-/// A unit's entries, and the places of faults of its declarations and of forms.
+/// A unit's entries, and the places of faults of its declarations and of values' forms.
 #[derive(Drop)]
 pub struct UnitReading {
     /// The least place of a declaration of its table with a bad form.
@@ -15,7 +15,8 @@ pub struct UnitReading {
     pub entries: Option<Vec<Entry>>,
 }
 
-/// The entries of several units, and the places of faults of their declarations and of forms.
+/// The entries of several units, and the places of faults of their declarations and of values' forms: of each the
+/// least.
 #[derive(Drop)]
 pub struct Readings {
     pub bad_form: Option<u64>,

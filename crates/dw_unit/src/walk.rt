@@ -15,7 +15,7 @@ use crate::table_place::TableAt;
 use crate::trouble::{Stop, Trouble};
 use rb_bytes::cursor::Cursor;
 
-// The attributes that a declaration names, in place of those that stand in `attrs`.
+// Reads the attributes that the declaration at offset `declaration` names into `attrs`, in place of those there.
 fn read_attrs<'a>(
     cursor: &mut Cursor<'a>,
     end: u64,
@@ -48,7 +48,8 @@ pub struct Head<'t> {
     pub declaration: &'t Declaration,
 }
 
-/// The next entry of a unit, at a depth that becomes that of what follows; its attributes stand in `attrs` then.
+/// Reads the next entry of the unit at offset `unit`, whose bytes end at offset `end`; none where no entry is left.
+/// `depth` is the depth at the cursor, before and after. The entry's attributes replace those in `attrs`.
 pub fn next_entry<'a, 't>(
     cursor: &mut Cursor<'a>,
     unit: u64,

@@ -13,7 +13,8 @@ use rb_bytes::fault::NoMemory;
 use std::alloc::Global;
 use table_core::{DWARF_VERSION, debug_units};
 
-// Three times the bytes between an offset and the end of its table.
+// What the written table of an offset weighs: three times the bytes that the old one has. No pair of a declaration
+// grows to more: two bytes of DW_AT_high_pc become five, and new names take two bytes where old ones took one.
 fn table_weight(offset: u64, end: Option<u64>) -> u64
     ensures { result ≡ min (3 * (unwrap_or end offset - offset)) (2 ^ 64 - 1) }
 {

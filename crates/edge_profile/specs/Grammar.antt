@@ -22,12 +22,12 @@ fields line = slice_split (λ c. c == 32) line
 abbrev pub short_hex_number : List ℕ → Option ℕ
 short_hex_number digits = if nat_lt 1 (length digits) && slice_index digits 0 == 48 then None else hex_number digits
 
--- a place in code: so many bytes after the start of a function with a name
+-- a place in code: `offset` bytes after what a name stands for
 pub record NamedPlace : Type 0 where
   pub name : List ℕ
   pub offset : ℕ
 
--- what a line says: from one place control went to another, so many times
+-- what a line says: from one place control went to another, `count` times
 pub record BranchLine : Type 0 where
   pub from : NamedPlace
   pub to : NamedPlace

@@ -8,7 +8,7 @@ use Rattle.elf_image.specs.declared.symbol.Symbol.{Symbol}
 use Rattle.edge_profile.specs.Grammar.{lines, fields, branch_line}
 use Rattle.edge_profile.specs.Names.{address_at}
 
--- From one instruction control went to another, so many times: the addresses of both, and the count.
+-- How often control went from one instruction to another: the addresses of both, and the count.
 abbrev pub Counted : Type 0
 Counted = ℕ × ℕ × ℕ
 

@@ -15,7 +15,7 @@ is_before p q = nat_lt p.0 q.0 || (p.0 == q.0 && nat_lt p.1 q.1)
 abbrev pub IsAscending : List Counted → Type 0
 IsAscending pairs = AllPairs (λ p q. is_before p q ≡ true) pairs
 
--- so many pairs come before one
+-- just the first k pairs come before that of `from` and `to`
 pub record IsCountBelow (pairs : List Counted) (from to k : ℕ) : Type 0 where
   pub within : k ≤ length pairs
   pub below : (j : ℕ) (d : Counted) → j < k → is_before (slice_index_or pairs j d) (from, to, 0) ≡ true

@@ -6,14 +6,14 @@ ghost use Rattle.edge_profile.specs.Fields.{line_read, place_read, fields_in, li
 use rb_bytes::number::{decimal_number, hex_number};
 use rb_bytes::split::split_once;
 
-/// So many bytes after the start of a function with a name.
+/// The place `offset` bytes after what `name` stands for.
 #[derive(Clone, Copy)]
 pub struct Place<'a> {
     pub name: &'a [u8],
     pub offset: u64,
 }
 
-/// From one place control went to another, so many times.
+/// From one place control went to another, `count` times.
 #[derive(Clone, Copy)]
 pub struct Line<'a> {
     pub from: Place<'a>,
@@ -74,7 +74,7 @@ fn eight_fields(line: &[u8]) -> Option<EightFields<'_>>
     }
 }
 
-/// What a line says, if it has the form of one.
+/// What a line says, or None where it doesn't have the form of one.
 pub fn branch_line(line: &[u8]) -> Option<Line<'_>>
     ensures { option_map line_read result ≡ branch_line (fields line.now) }
 {
@@ -94,7 +94,7 @@ pub fn branch_line(line: &[u8]) -> Option<Line<'_>>
     Some(Line { from, to, count })
 }
 
-// Whether a field says that a name and an offset follow.
+// Whether a field is the `1` that says that a name and an offset follow.
 fn is_symbol(field: &[u8]) -> bool
     ensures { result ≡ bytes_eq field.now (49 ∷ []) }
 {

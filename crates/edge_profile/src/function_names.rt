@@ -21,12 +21,13 @@ use rb_bytes::number::hex_number;
 use rv_code::Func;
 use std::alloc::Global;
 
-/// The values of functions' symbols by their names. Names may be ends of one text, so many bytes in a small file: those
-/// that aren't asked for aren't read, and the others from their common ends.
+/// The values of functions' symbols by their names. A small file can have many long names, all of them ends of one
+/// text; so only the names that are asked for are looked up, and for all of them that text is passed once.
 #[derive(Drop)]
 pub struct FunctionNames<'list, 'file, 'name> {
     symbols: &'list [Symbol<'file>],
-    // Of the names that are asked for: None at a name of several values, or of none.
+    // For each name that is asked for: the value of its symbols, or None where they have several values or there are
+    // none.
     values: IndexMap<&'name [u8], Option<u64>>,
 }
 
@@ -36,7 +37,7 @@ impl<'list, 'file, 'name> FunctionNames<'list, 'file, 'name> {
     ghost use Rattle.elf_image.specs.file.ParsedFile.{IsElfOf};
     ghost use Rattle.edge_profile.specs.FunctionNames.{AreNamesOf};
 
-    /// The names of a file's functions, of which these are asked for often.
+    /// The names of a file's functions. `asked` are those that will be looked up.
     pub fn new(
         alloc: Global,
         elf: &'list Elf<'file>,
@@ -53,7 +54,8 @@ impl<'list, 'file, 'name> FunctionNames<'list, 'file, 'name> {
         })
     }
 
-    // The value of the symbols of a name.
+    // The value of the symbols of `name`. `read` asks beforehand for all names that it looks up, so the search among
+    // all symbols is there for the contract alone.
     fn named_value(&self, name: &[u8]) -> Option<u64>
         ensures { (symbols : List Symbol) → AreNamesOf symbols self.now → result ≡ named_value symbols name.now }
     {
@@ -64,7 +66,7 @@ impl<'list, 'file, 'name> FunctionNames<'list, 'file, 'name> {
     }
 }
 
-// The values of these names.
+// The values of the names `asked`.
 fn asked_values<'name>(
     alloc: Global,
     elf: &Elf,
@@ -82,7 +84,7 @@ fn asked_values<'name>(
     Ok(values_by_name(alloc, &ends, &known, asked)?)
 }
 
-// The values of these names, by what is known of them.
+// The values of the names `asked`, by what is `known` of those in `ends`.
 fn values_by_name<'name>(
     alloc: Global,
     ends: &NameEnds,
@@ -99,7 +101,7 @@ fn values_by_name<'name>(
     Ok(values)
 }
 
-// The value of a name that is among these.
+// The value of `name`: None where it isn't among `ends`, and `Some(None)` where it has several values or none.
 fn value_of(ends: &NameEnds, known: &[Option<Option<u64>>], name: &[u8]) -> Option<Option<u64>>
     ensures { (symbols : List Symbol) → AreKnown ends.now.backward.items symbols known.now →
         IfSome result (λ value. value ≡ named_value symbols name.now) }
@@ -111,7 +113,7 @@ fn value_of(ends: &NameEnds, known: &[Option<Option<u64>>], name: &[u8]) -> Opti
     Some(known[index].flatten())
 }
 
-// Puts a name with its value, if it has one, to others.
+// Adds `name` with its value, if there is one, to `values`.
 fn insert_value<'name>(
     values: &mut IndexMap<&'name [u8], Option<u64>>,
     name: &'name [u8],
@@ -127,7 +129,7 @@ fn insert_value<'name>(
     Ok(())
 }
 
-// The value of the symbols of a name, looked for among all.
+// The value of the symbols of `name`, looked for among all symbols.
 fn value_among(symbols: &[Symbol], name: &[u8]) -> Option<u64>
     ensures { result ≡ named_value symbols.now name.now }
 {
@@ -143,7 +145,8 @@ fn value_among(symbols: &[Symbol], name: &[u8]) -> Option<u64>
     known.flatten()
 }
 
-/// What is known of a name of which this was known and that has one more value.
+/// What is known of a name after one more symbol of it, with this value. `known` is what was known before: None where
+/// no symbol came yet, and `Some(None)` where several values did.
 pub fn next_known(known: Option<Option<u64>>, value: u64) -> Option<u64>
     ensures { result ≡ next_known known value }
 {
@@ -153,7 +156,7 @@ pub fn next_known(known: Option<Option<u64>>, value: u64) -> Option<u64>
     }
 }
 
-// The address that a name stands for.
+// The address that a name stands for: that of a function which `@` and digits name, or else the value of its symbols.
 fn value_of_name(names: &FunctionNames, funcs: &[Func], name: &[u8]) -> Option<u64>
     requires { AreLaidOut funcs.now }
     ensures { (symbols : List Symbol) → AreNamesOf symbols names.now →
@@ -198,7 +201,7 @@ pub fn address_at(names: &FunctionNames, funcs: &[Func], place: &Place) -> Optio
     code_address(funcs, start, place.offset)
 }
 
-// The address at an offset from another, if an instruction starts there.
+// The address `offset` bytes after `start`, if an instruction starts there.
 fn code_address(funcs: &[Func], start: u64, offset: u64) -> Option<u64>
     requires { AreLaidOut funcs.now }
     ensures { result ≡ code_address funcs.now (start + offset) }
@@ -211,7 +214,7 @@ fn code_address(funcs: &[Func], start: u64, offset: u64) -> Option<u64>
     }
 }
 
-// The one value of a name that has another value too, unless that is the same.
+// The value of a name with one more value: `known`, if `value` is the same, and else None.
 fn same_value(known: Option<u64>, value: u64) -> Option<u64>
     ensures { result ≡ next_known (Some known) value }
 {

@@ -25,7 +25,7 @@ impl NameEnds {
     ghost use Rattle.std.specs.Prelude.{◌≡◌, ◌+◌, ◌^◌, ◌<◌, ◌≤◌, ◌∷◌, [], ℕ, List, length};
     ghost use Rattle.edge_profile.specs.NameEnds.{IsEnding, index_of, text_before};
 
-    /// Puts these names in order.
+    /// Puts `names` in order.
     pub fn new(alloc: Global, names: &[&[u8]]) -> Result<NameEnds, NoMemory> {
         let mut backward = Vec::with_capacity(alloc, names.len())?;
         for name in names {
@@ -53,7 +53,7 @@ impl NameEnds {
         }
     }
 
-    // The range of the names that have one byte more before the end of this range's names.
+    // The names that have `byte` before the end that `ending` stands for.
     fn narrowed(&self, ending: Ending, byte: u8) -> Ending
         requires ordered { ending.start ≤ ending.end }
         requires within { ending.end ≤ length self.now.backward.items }
@@ -71,7 +71,8 @@ impl NameEnds {
         }
     }
 
-    /// The names with the end that begins one byte before another: a zero byte ends the text before it.
+    /// The names whose end is `byte` and then what `ending` stands for. A zero byte ends the text that stands before
+    /// it, so there the end is empty, which all names have.
     pub fn before(&self, ending: Ending, byte: u8) -> Ending
         requires ordered { ending.start ≤ ending.end }
         requires within { ending.end ≤ length self.now.backward.items }
@@ -86,7 +87,7 @@ impl NameEnds {
         }
     }
 
-    /// The index of the first name that is an end as a whole.
+    /// The index of the first name that is just the end for which `ending` stands.
     pub fn named(&self, ending: Ending) -> Option<usize>
         requires within { ending.end ≤ length self.now.backward.items }
         ensures { (end : List ℕ) → IsEnding self.now.backward.items end ending →
@@ -103,7 +104,7 @@ impl NameEnds {
         }
     }
 
-    /// The index of a name.
+    /// The index of `name`, or None where it isn't among the names.
     pub fn index_of(&self, name: &[u8]) -> Option<usize>
         ensures { result ≡ index_of self.now.backward.items name.now }
     {
@@ -122,7 +123,7 @@ fn reversed(alloc: Global, name: &[u8]) -> Result<Vec<u8>, NoMemory> {
     Ok(bytes)
 }
 
-// How many of these names have at most this code at an index, where the codes there ascend.
+// How many of `names` have at most `code` at `index`, where the codes there ascend.
 fn count_up_to(names: &[Vec<u8>], index: usize, code: usize) -> usize
     ensures bound { result ≤ length names.now }
     ensures up_to { IsNonDecreasingBy (λ n. code_at index n.items) names.now →
@@ -134,7 +135,7 @@ fn count_up_to(names: &[Vec<u8>], index: usize, code: usize) -> usize
     names.partition_point(|name| code_at(name, index) <= code)
 }
 
-// 1 more than the byte of a name at an index; 0 past its end, so that a name comes before those that go on.
+// 1 more than the byte of `name` at `index`; 0 past its end, so that a name comes before longer ones that begin alike.
 fn code_at(name: &[u8], index: usize) -> usize
     ensures { result ≡ code_at index name.now }
 {

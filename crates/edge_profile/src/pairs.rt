@@ -6,8 +6,8 @@ ghost use Rattle.edge_profile.specs.Pairs.{IsNotAfter, AreMerged, AddsCount, is_
 use rb_bytes::fault::NoMemory;
 use std::alloc::Global;
 
-/// The pairs of positive count, in order, each with the sum of its counts. What is said is the addresses of a pair, and
-/// a count.
+/// The pairs of positive count, in order, each with the sum of its counts. `said` has the addresses of a pair and a
+/// count, in any order and as often as it was said.
 pub fn merged(
     alloc: Global,
     mut said: Vec<(u64, u64, u64)>,
@@ -41,7 +41,7 @@ fn merged_sorted(alloc: Global, said: &[(u64, u64, u64)]) -> Result<Vec<(u64, u6
     Ok(pairs)
 }
 
-// Adds a count of a pair that comes after none of these.
+// Adds a count of the pair of `from` and `to`, which comes before none of `pairs`: to the last one, or as a new one.
 fn add(pairs: &mut Vec<(u64, u64, u128)>, from: u64, to: u64, count: u128) -> Result<(), NoMemory>
     requires positive { 0 < count }
     requires last { All (λ q. IsNotAfter q (from, to, count)) pairs.old.items }
@@ -58,7 +58,7 @@ fn add(pairs: &mut Vec<(u64, u64, u128)>, from: u64, to: u64, count: u128) -> Re
     Ok(())
 }
 
-// Whether a pair is the last of these.
+// Whether the last of `pairs` is that of `from` and `to`.
 fn is_last(pairs: &[(u64, u64, u128)], from: u64, to: u64) -> bool
     ensures { result ≡ is_last_pair from to pairs.now }
 {

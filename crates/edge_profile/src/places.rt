@@ -21,7 +21,7 @@ pub fn place_of(funcs: &[Func], address: u64) -> Option<InstPlace>
     place_near(funcs, address, 0)
 }
 
-/// The function and the instruction at an address; the function of an index is looked at first.
+/// The place of the instruction that starts at `address`. Function `near` is looked at first.
 pub fn place_near(funcs: &[Func], address: u64, near: usize) -> Option<InstPlace>
     requires { AreLaidOut funcs.now }
     ensures some { IfSome result (λ p. IsInstPlace funcs.now address p.func p.inst) }
@@ -59,7 +59,7 @@ pub fn starts_function(funcs: &[Func], address: u64) -> bool
     funcs[below - 1].start == address
 }
 
-// How many functions start at an address or below it: the function of an index is looked at first.
+// How many functions start at `address` or below it. Function `near` is looked at first.
 fn count_up_to(funcs: &[Func], address: u64, near: usize) -> usize
     requires { AreLaidOut funcs.now }
     ensures bound { result ≤ length funcs.now }
@@ -73,7 +73,7 @@ fn count_up_to(funcs: &[Func], address: u64, near: usize) -> usize
     starts_up_to(funcs, address)
 }
 
-// Whether the function of an index is the last that starts at an address or below it.
+// Whether function `index` is the last that starts at `address` or below it.
 fn is_last_up_to(funcs: &[Func], address: u64, index: usize) -> bool
     requires { AreLaidOut funcs.now }
     ensures within { IsTrue result → index < length funcs.now }

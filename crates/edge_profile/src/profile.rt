@@ -21,15 +21,15 @@ impl Profile {
     ghost use Rattle.edge_profile.specs.PairCounts.{ArePairs, total_count};
     ghost use Rattle.edge_profile.specs.Profile.{profile_counts, pairs_of, ignored_of};
 
-    /// How often control went from one instruction to another.
+    /// How often control went from the instruction at `from` to the one at `to`.
     pub fn count(&self, from: u64, to: u64) -> u128
         ensures { result ≡ profile_counts self.now from to }
     {
         count_in(&self.pairs, from, to)
     }
 
-    /// How often control went from one instruction to another. `near` is about how many pairs are before the one that
-    /// was asked for last: pairs that are asked for in order walk along.
+    /// As `count`. `near` is a guess of how many pairs come before the one that is asked for, and is set to that
+    /// number: pairs that are asked for in order are each found near the one before.
     pub fn count_near(&self, near: &mut usize, from: u64, to: u64) -> u128
         ensures { result ≡ profile_counts self.now from to }
     {
@@ -55,7 +55,7 @@ impl Profile {
     }
 }
 
-// The count of a pair among some in order.
+// The count of the pair of `from` and `to` among `pairs`, which are in order, or 0.
 fn count_in(pairs: &[(u64, u64, u128)], from: u64, to: u64) -> u128
     requires { IsAscending pairs.now }
     ensures { result ≡ count_among from to pairs.now }
@@ -64,7 +64,7 @@ fn count_in(pairs: &[(u64, u64, u128)], from: u64, to: u64) -> u128
     count_at(pairs, below, from, to)
 }
 
-// The count of a pair among some in order, of which so many come before it.
+// The count of the pair of `from` and `to` among `pairs`, of which `below` come before it, or 0.
 fn count_at(pairs: &[(u64, u64, u128)], below: usize, from: u64, to: u64) -> u128
     requires ascending { IsAscending pairs.now }
     requires below { IsCountBelow pairs.now from to below }
@@ -76,7 +76,7 @@ fn count_at(pairs: &[(u64, u64, u128)], below: usize, from: u64, to: u64) -> u12
     count_if_of(&pairs[below], from, to)
 }
 
-// The count of a pair, if it is that of these addresses.
+// The count of `pair`, if it is that of `from` and `to`, or 0.
 fn count_if_of(pair: &(u64, u64, u128), from: u64, to: u64) -> u128
     ensures { result ≡ (if is_pair from to pair.now then pair.now.2 else 0) }
 {
@@ -87,7 +87,7 @@ fn count_if_of(pair: &(u64, u64, u128), from: u64, to: u64) -> u128
     }
 }
 
-// How many pairs come before one.
+// How many of `pairs` come before that of `from` and `to`.
 fn count_below(pairs: &[(u64, u64, u128)], from: u64, to: u64) -> usize
     requires { IsAscending pairs.now }
     ensures { IsCountBelow pairs.now from to result }
@@ -95,7 +95,7 @@ fn count_below(pairs: &[(u64, u64, u128)], from: u64, to: u64) -> usize
     pairs.partition_point(|p| is_before(p, from, to))
 }
 
-// How many pairs come before one: looked for from a guess on first.
+// How many of `pairs` come before that of `from` and `to`, looked for from the guess `near` on first.
 fn count_near(pairs: &[(u64, u64, u128)], near: usize, from: u64, to: u64) -> usize
     requires { IsAscending pairs.now }
     ensures { IsCountBelow pairs.now from to result }
@@ -106,7 +106,7 @@ fn count_near(pairs: &[(u64, u64, u128)], near: usize, from: u64, to: u64) -> us
     }
 }
 
-// Counts the pairs that come before one, where these are as many as a guess, or a few more.
+// How many of `pairs` come before that of `from` and `to`, where that is `near` or a few more; else None.
 fn count_beside(pairs: &[(u64, u64, u128)], near: usize, from: u64, to: u64) -> Option<usize>
     requires { IsAscending pairs.now }
     ensures { IfSome result (IsCountBelow pairs.now from to) }
@@ -123,7 +123,8 @@ fn count_beside(pairs: &[(u64, u64, u128)], near: usize, from: u64, to: u64) -> 
     None
 }
 
-// Whether there are so many pairs, and all of the first ones come before one.
+// Whether there are `count` pairs, and the first `count` all come before that of `from` and `to`. They are in order, so
+// the last of them tells.
 fn are_before(pairs: &[(u64, u64, u128)], count: usize, from: u64, to: u64) -> bool
     requires { IsAscending pairs.now }
     ensures { IsTrue result → (k : ℕ) (d : Counted) → k < count →

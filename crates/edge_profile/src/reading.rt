@@ -30,7 +30,8 @@ pub struct ProfileLines {
     pub ignored: u64,
 }
 
-/// Reads a profile of a file with these functions.
+/// Reads the text of a profile of the file `elf`, whose functions are `funcs`. A line that says nothing is counted, and
+/// is no error.
 pub fn read(alloc: Global, text: &[u8], elf: &Elf, funcs: &[Func]) -> Result<Profile, NoMemory>
     requires text { length text.now ≤ most_text_bytes }
     requires funcs { AreLaidOut funcs.now }

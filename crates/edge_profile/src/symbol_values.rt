@@ -20,8 +20,8 @@ use elf_image::{Elf, Symbol};
 use rb_bytes::fault::NoMemory;
 use std::alloc::Global;
 
-/// For each of these names what is known of it: the value of its functions' symbols, where it has one, and none where
-/// it has several.
+/// For each of `names` what is known of it: None where it is the name of no function's symbol, and else `Some` of the
+/// value of these symbols, or of None where they have several.
 pub fn known_values(
     alloc: Global,
     elf: &Elf,
@@ -72,7 +72,7 @@ fn known_by_table(
     Ok(known)
 }
 
-// One more value of the name of an index, if it is one.
+// Notes one more value of the name of index `name`, if there is one.
 fn note_value(known: &mut Vec<Option<Option<u64>>>, name: Option<usize>, value: u64)
     requires { IfSome name (λ k. k < length known.old.items) }
     ensures { known.new.items ≡ noted_value known.old.items name value }
@@ -82,7 +82,7 @@ fn note_value(known: &mut Vec<Option<Option<u64>>>, name: Option<usize>, value: 
     }
 }
 
-// Where the name of the symbol of an index stands in the table of names.
+// Where the name of symbol `index` begins in the table of names.
 fn name_place(file: &[u8], table: &SectionHeader, index: usize) -> u32
     requires { table.now.offset + SYM_SIZE * (index + 1) ≤ length file.now }
     ensures { result ≡ number_at file.now (symbol_place table.now index) 4 }
@@ -103,7 +103,7 @@ fn indices_in(alloc: Global, names: &NameEnds, texts: &[u8]) -> Result<Vec<Optio
     Ok(indices)
 }
 
-// The index of the name that stands at a place of the table of names.
+// The index of the name that stands at `place` in the table of names. Behind the table stands the empty name.
 fn index_at(names: &NameEnds, indices: &[Option<usize>], place: u32) -> Option<usize>
     ensures { (texts : List ℕ) → indices.now ≡ indices_in names.now.backward.items texts →
         result ≡ index_of names.now.backward.items (text_of texts place) }

@@ -38,8 +38,9 @@ pub fn block_weights(
     Ok(weights)
 }
 
-// Adds the count of a pair to the weights of the blocks that it touches, which may be near a block. Says where the
-// first of them is: pairs ascend, so those of the next are mostly near it.
+// Adds the count of `pair` to the weights of the blocks in which it begins and ends, once if they are one block. Both
+// are looked for beside block `near` first. Gives the block in which it begins, or `near`: pairs ascend, so those of
+// the next are mostly near it.
 fn add(
     weights: &mut [u128],
     funcs: &[Func],
@@ -64,7 +65,7 @@ fn add(
     first
 }
 
-// Raises the number at a place.
+// Raises the number at `place`, if that is one.
 fn raise(numbers: &mut [u128], place: Option<usize>, by: u128)
     requires within { IfSome place (λ k. k < length numbers.old) }
     requires fits { (k : ℕ) → slice_index numbers.old k + by < 2 ^ 128 }
@@ -75,7 +76,7 @@ fn raise(numbers: &mut [u128], place: Option<usize>, by: u128)
     }
 }
 
-// A place, unless it is another one.
+// `place`, unless `other` is the same.
 fn unless_same(place: Option<usize>, other: Option<usize>) -> Option<usize>
     ensures places { (k : ℕ) → is_place k result ≡ (is_place k place && not (is_place k other)) }
     ensures within { (n : ℕ) → IfSome place (λ k. k < n) → IfSome result (λ k. k < n) }
@@ -94,7 +95,7 @@ fn unless_at(place: usize, other: Option<usize>) -> Option<usize>
     }
 }
 
-// The place of the block that has the instruction at an address, which may be near a block.
+// The block that has the instruction at `address`; it may be near block `near`.
 fn block_at(funcs: &[Func], blocks: &[Block], address: u64, near: usize) -> Option<usize>
     requires funcs { AreLaidOut funcs.now }
     requires blocks { AreBlocksApart blocks.now }
@@ -105,7 +106,7 @@ fn block_at(funcs: &[Func], blocks: &[Block], address: u64, near: usize) -> Opti
     block_with(blocks, &place, near)
 }
 
-// The function of a block, or the first where there is no such block.
+// The function of block `near`, or the first where there is no such block.
 fn func_near(blocks: &[Block], near: usize) -> usize {
     match blocks.get(near) {
         Some(block) => block.func,
@@ -113,7 +114,7 @@ fn func_near(blocks: &[Block], near: usize) -> usize {
     }
 }
 
-// The place of the block that has an instruction.
+// The block that has the instruction at `place`; it may be near block `near`.
 fn block_with(blocks: &[Block], place: &InstPlace, near: usize) -> Option<usize>
     requires { AreBlocksApart blocks.now }
     ensures has { (k : ℕ) (d : Block) → k < length blocks.now →
@@ -131,7 +132,7 @@ fn block_with(blocks: &[Block], place: &InstPlace, near: usize) -> Option<usize>
     }
 }
 
-// How many blocks begin with an instruction or before it: looked for beside a block first.
+// How many blocks begin with the instruction at `place` or before it, looked for beside block `near` first.
 fn count_up_to(blocks: &[Block], place: &InstPlace, near: usize) -> usize
     requires { AreBlocksApart blocks.now }
     ensures bound { result ≤ length blocks.now }
@@ -146,7 +147,7 @@ fn count_up_to(blocks: &[Block], place: &InstPlace, near: usize) -> usize
     }
 }
 
-// Counts the blocks up to a place, where that is at most a few blocks from a guess.
+// How many blocks begin with the instruction at `place` or before it, where that is about `near`; else None.
 fn count_beside(blocks: &[Block], place: &InstPlace, near: usize) -> Option<usize>
     requires { AreBlocksApart blocks.now }
     ensures bound { IfSome result (λ n. n ≤ length blocks.now) }
@@ -168,7 +169,8 @@ fn count_beside(blocks: &[Block], place: &InstPlace, near: usize) -> Option<usiz
     None
 }
 
-// Whether there are so many blocks, and all of the first ones begin with an instruction or before it.
+// Whether there are `count` blocks, and the first `count` all begin with the instruction at `place` or before it. They
+// are in order, so the last of them tells.
 fn all_begin(blocks: &[Block], place: &InstPlace, count: usize) -> bool
     requires { AreBlocksApart blocks.now }
     ensures { IsTrue result → (k : ℕ) (d : Block) → k < count →
@@ -183,7 +185,7 @@ fn all_begin(blocks: &[Block], place: &InstPlace, count: usize) -> bool
     begins_by(&blocks[count - 1], place)
 }
 
-// How many do, of all.
+// How many blocks begin with the instruction at `place` or before it, by binary search.
 fn count_of_all(blocks: &[Block], place: &InstPlace) -> usize
     requires { AreBlocksApart blocks.now }
     ensures bound { result ≤ length blocks.now }
@@ -195,14 +197,14 @@ fn count_of_all(blocks: &[Block], place: &InstPlace) -> usize
     blocks.partition_point(|b| begins_by(b, place))
 }
 
-// Whether a block begins with an instruction or before it.
+// Whether `block` begins with the instruction at `place` or before it.
 fn begins_by(block: &Block, place: &InstPlace) -> bool
     ensures { result ≡ begins_by place.now.func place.now.inst block.now }
 {
     block.func < place.func || (block.func == place.func && block.first <= place.inst)
 }
 
-// Whether a block of an instruction's function ends with it or after it.
+// Whether `block` is of the function of the instruction at `place`, and ends with it or after it.
 fn ends_from(block: &Block, place: &InstPlace) -> bool
     ensures { result ≡ ends_from place.now.func place.now.inst block.now }
 {

@@ -15,7 +15,7 @@ impl AddressSet {
     ghost use Rattle.std.specs.Prelude.{◌≡◌, ◌==◌, ◌||◌, ℕ, false, length, IfOk};
     ghost use Rattle.edge_record.specs.AddressSets.{in_set, HasRoomFor, HaveSameRoom};
 
-    /// None of the `size` addresses from `low` on.
+    /// An empty set, of those `size` addresses that go from `low` on.
     pub fn new(alloc: Global, low: u64, size: usize) -> Result<AddressSet, NoMemory>
         ensures none { IfOk result (λ set. (a : ℕ) → in_set set a ≡ false) }
         ensures low { IfOk result (λ set. set.low ≡ low) }
@@ -25,7 +25,7 @@ impl AddressSet {
         Ok(AddressSet { low, marks })
     }
 
-    /// Adds an address.
+    /// Adds `address`, which is one of those for which the set has room.
     pub fn insert(&mut self, address: u64)
         requires { HasRoomFor self.old address }
         ensures added { (a : ℕ) → in_set self.new a ≡ (address == a || in_set self.old a) }
@@ -35,7 +35,7 @@ impl AddressSet {
         self.marks[place] = true;
     }
 
-    /// Whether an address is one of these.
+    /// Whether the set has `address`.
     pub fn has(&self, address: u64) -> bool
         ensures { result ≡ in_set self.now address }
     {

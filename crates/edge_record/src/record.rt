@@ -47,7 +47,7 @@ impl Recorded {
     }
 }
 
-/// Runs a file with these arguments for at most `limit` steps, as `Machine::run` does, and records how often
+/// Runs a file with the arguments `args` for at most `limit` steps, as `Machine::run` does, and records how often
 /// control went from the last instruction of a block, or from one that saves a return address, to which instruction.
 pub fn trace_edges<I: Source, O: Sink>(
     alloc: Global,

@@ -55,7 +55,7 @@ pub fn watch_run<I: Source, O: Sink>(
     }
 }
 
-// Counts a move, if it is one that is watched.
+// Counts the move from `from` to `to`, if it is watched.
 fn note(counts: &mut EdgeCounts, watched: &Watched, from: u64, to: u64) -> Result<(), NoMemory>
     requires { count_among from to (said_of counts.old) < 2 ^ 64 - 1 }
     ensures { OnOk result ((x y : ℕ) → count_among x y (said_of counts.new)

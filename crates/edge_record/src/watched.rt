@@ -29,7 +29,7 @@ impl Watched {
     ghost use Rattle.edge_record.specs.Moves.{Move};
     ghost use Rattle.edge_record.specs.MoveCounts.{is_counted};
 
-    /// The addresses whose moves are counted, of functions with these blocks.
+    /// The moves that are counted in `funcs`, whose blocks are `blocks`.
     pub fn new(alloc: Global, funcs: &[Func], blocks: &[Block]) -> Result<Watched, NoMemory>
         requires { AreLaidOut funcs.now }
         ensures { IfOk result (λ watched. (m : Move) → watches watched m ≡ is_counted funcs.now blocks.now m) }
@@ -42,7 +42,7 @@ impl Watched {
         Ok(Watched { code, sources })
     }
 
-    /// Whether a move from one address to another is counted.
+    /// Whether a move from `from` to `to` is counted.
     pub fn has(&self, from: u64, to: u64) -> bool
         ensures { result ≡ watches self.now (from, to) }
     {
@@ -79,7 +79,7 @@ fn insert_insts(code: &mut AddressSet, sources: &mut AddressSet, funcs: &[Func])
     }
 }
 
-// The same of the instructions of one function.
+// Does the same for the instructions of one function.
 fn insert_insts_of(code: &mut AddressSet, sources: &mut AddressSet, insts: &[Placed])
     requires code_room { All (λ p. HasRoomFor code.old p.addr) insts.now }
     requires source_room { All (λ p. HasRoomFor sources.old p.addr) insts.now }

@@ -5,6 +5,7 @@ ghost use Rattle.edge_text.specs.LineCounts.{line_counts, split_counts};
 use rb_bytes::fault::NoMemory;
 use std::alloc::Global;
 
+// The greatest count of a line, that of 64 bits.
 const MOST_OF_LINE: u128 = 0xffff_ffff_ffff_ffff;
 
 /// The lines of pairs of positive counts: the addresses of a pair and a count for each.

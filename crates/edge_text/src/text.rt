@@ -10,8 +10,8 @@ use rb_bytes::text::{put_count, put_hex};
 use rv_code::Func;
 use std::alloc::Global;
 
-/// The text of a profile with these pairs, each of positive count: the addresses of a pair and its count. A count that
-/// a line can't hold takes several.
+/// The text of a profile with `pairs`: the addresses of each, and its count, which is positive. A count of more than 64
+/// bits takes several lines.
 pub fn edge_text(
     alloc: Global,
     funcs: &[Func],
@@ -52,7 +52,7 @@ fn put_line(text: &mut Vec<u8>, funcs: &[Func], pair: &(u64, u64, u128)) -> Resu
     Ok(())
 }
 
-// Appends the start of the function that has an instruction at an address, and how far from it that is.
+// Appends where the function starts that has the instruction at `address`, and how far behind that it is.
 fn put_place(text: &mut Vec<u8>, funcs: &[Func], address: u64) -> Result<(), NoMemory>
     requires { AreLaidOut funcs.now }
     ensures { OnOk result (text.new.items ≡ text.old.items ++ place_text funcs.now address) }
@@ -64,7 +64,7 @@ fn put_place(text: &mut Vec<u8>, funcs: &[Func], address: u64) -> Result<(), NoM
     Ok(())
 }
 
-// Where the function starts that has an instruction at an address, or 0.
+// Where the function starts that has an instruction at `address`, or 0 where none has.
 fn start_at(funcs: &[Func], address: u64) -> u64
     requires { AreLaidOut funcs.now }
     ensures { result ≡ start_at funcs.now address }

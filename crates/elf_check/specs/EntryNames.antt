@@ -14,11 +14,11 @@ place_of names index = number_at names.file.now (names.start + names.size * inde
 abbrev pub name_of : EntryNames → ℕ → List ℕ
 name_of names index = text_of names.texts.now (place_of names index)
 
--- Elements of a list are the entries from an index on, by their names.
+-- The elements of `xs` have the names of the entries from the index `from` on.
 abbrev pub AreNamed : {A : Type 0} → (A → List ℕ) → EntryNames → ℕ → List A → Type 0
 AreNamed {A} name names from xs = (i : ℕ) (x : A) → slice_get xs i ≡ Some x → name x ≡ name_of names (from + i)
 
--- a zero byte at or behind a place ends the text that begins there
+-- a zero byte at `end`, at or behind `place`, where a text begins
 pub record IsEnd (texts : List ℕ) (place end : ℕ) : Type 0 where
   pub behind : place ≤ end
   pub within : end < length texts

@@ -22,29 +22,29 @@ ended name = name ++ 0 ∷ []
 abbrev pub ended_if : Bool → List ℕ → List ℕ
 ended_if test name = if test then ended name else []
 
--- the new name of a section that gets one
+-- the new name of a section that is renamed
 abbrev pub old_ended : Section → List ℕ
 old_ended s = ended_if (is_renamed s) (old_name s.name.now)
 
--- the names of sections that are added, in the order of these
+-- the names of the sections that are added, in the order of those sections
 abbrev pub added_names : Area → Bool → List ℕ
 added_names area ranges =
     ended (codes ".text")
     ++ (ended_if (is_some area.frames) (codes ".eh_frame")
     ++ (ended_if (is_some area.index) (codes ".eh_frame_hdr") ++ ended_if ranges (codes ".debug_rnglists")))
 
--- the names of the symbols that are added, each by the one that it follows
+-- the name of the symbol that is added for a cold part, by the symbol of its function; and the names of all
 abbrev pub name_behind : Option Symbol → List ℕ
 name_behind symbol = option_map_or (λ s. ended (cold_name s.name.now)) symbol []
 
 abbrev pub cold_names : Elf → List Func → List ℕ → List ℕ
 cold_names elf funcs cold = flat_map (λ a. name_behind (named_around elf.symbols.items funcs a)) cold
 
--- the bytes of the section of an index, if there is one
+-- the bytes of the section at `index`; none where there is no such section
 abbrev pub table_bytes : Elf → ℕ → List ℕ
 table_bytes elf index = option_map_or (section_bytes elf.file.now) (slice_get elf.sections.items index) []
 
--- A table with more names. One that was empty begins with a zero byte then.
+-- A table with the names `names` behind the old ones. If it was empty, it begins with a zero byte then.
 abbrev pub extended : List ℕ → List ℕ → List ℕ
 extended old names = if (length old == 0) && nat_lt 0 (length names) then 0 ∷ names else old ++ names
 

@@ -15,7 +15,7 @@ use Rattle.elf_plan.specs.Fragments.{IsFragmentAt}
 use Rattle.elf_plan.specs.PairedLists.{GoTogether}
 use Rattle.elf_plan.specs.NameTables.{place_of_symbols, symbols_section}
 
--- One whose value isn't the address of an instruction stays.
+-- A symbol whose value isn't the address of an instruction stays.
 pub record IsUnmoved (s n : Symbol) : Type 0 where
   pub value : n.value ≡ s.value
   pub shndx : n.section ≡ s.section
@@ -57,7 +57,7 @@ local_count symbols table = min (length symbols) table.info
 abbrev pub new_info : List Symbol → ℕ → Section → ℕ
 new_info symbols added table = if added == 0 then table.info else local_count symbols table + added
 
--- The added ones stand behind the local ones.
+-- The added symbols stand behind the local ones.
 pub record AreNewSymbols (old new : List Symbol) (funcs : List Func) (spans : List Span) (cold : List ℕ) (text : ℕ)
     (table new_table : Section) : Type 0 where
   pub info : new_table.info ≡ new_info old (length (named_parts old funcs cold)) table
@@ -68,7 +68,7 @@ pub record AreNewSymbols (old new : List Symbol) (funcs : List Func) (spans : Li
   pub behind : GoTogether (IsNewSymbol funcs spans text) (drop (local_count old table) old)
       (drop (length (named_parts old funcs cold)) (drop (local_count old table) new))
 
--- what stands in a table behind its last whole symbol
+-- what stands in a symbol table behind its last whole symbol
 abbrev pub bytes_behind : Elf → Section → List ℕ
 bytes_behind elf table = drop (SYM_SIZE * length elf.symbols.items) (section_bytes elf.file.now table)
 

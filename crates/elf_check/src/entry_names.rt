@@ -19,12 +19,14 @@ use elf_image::number::u32_at;
 use elf_image::section::SHDR_SIZE;
 use elf_image::symbol::SYM_SIZE;
 
-/// The names of the entries of a table, each of which begins with the place of its name in a table of names.
+/// Where the names of a table's entries stand. Each entry begins with the offset of its name in the table of names, as
+/// `sh_name` and `st_name` do.
 #[derive(Clone, Copy)]
 pub struct EntryNames<'a> {
     pub file: &'a [u8],
-    /// Where the entries stand in the file, and how many bytes each has.
+    /// The offset of the first entry in the file.
     pub start: usize,
+    /// How many bytes each entry has.
     pub size: usize,
     /// The table of names.
     pub texts: &'a [u8],
@@ -34,7 +36,7 @@ impl<'a> EntryNames<'a> {
     ghost use Rattle.std.specs.Prelude.{◌≡◌, IfSome};
     ghost use Rattle.elf_check.specs.EntryNames.{place_of};
 
-    // Where the name of the entry of an index begins.
+    // The offset in the table of names at which the name of the entry at `index` begins.
     fn place(&self, index: usize) -> Option<u32>
         ensures { IfSome result (λ place. place ≡ place_of self.now index) }
     {
@@ -63,7 +65,7 @@ fn names_of_sections<'a>(file: &'a [u8]) -> EntryNames<'a>
     }
 }
 
-// The names of the symbols of a file. Without a symbol table there are none.
+// The names of the symbols of a file; no entries where there is no symbol table.
 fn names_of_symbols<'a>(file: &'a [u8]) -> EntryNames<'a>
     requires { IsReadable file.now }
     ensures { (symbols : List Symbol) → AreSymbolsOf file.now (symbol_table file.now) symbols →
@@ -101,7 +103,7 @@ fn symbol_names<'a>(elf: &Elf<'a>) -> EntryNames<'a>
     names_of_symbols(elf.file)
 }
 
-// Whether a zero byte ends a name that begins at a place.
+// Whether a zero byte follows `name`, which begins at the offset `place` of `texts`.
 fn is_ended(texts: &[u8], place: u32, name: &[u8]) -> bool
     ensures { IsTrue result → IsEnd texts.now place (place + length name.now) }
 {
@@ -111,7 +113,8 @@ fn is_ended(texts: &[u8], place: u32, name: &[u8]) -> bool
     }
 }
 
-/// The names of the entries of a table and of those that they become, whose table of names begins with the old one.
+/// The names of a table's entries in the input and in the written file. Where the new table of names begins with the
+/// old one, two entries with one offset have the same name.
 #[derive(Clone, Copy)]
 pub struct KeptNames<'a> {
     pub old: EntryNames<'a>,

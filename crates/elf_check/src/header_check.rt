@@ -14,7 +14,7 @@ use elf_plan::unwritable::Unwritable;
 use rb_bytes::fault::NoMemory;
 use std::alloc::Global;
 
-// The offsets of sections.
+// The offset of each section.
 fn offsets_of(alloc: Global, sections: &[Section]) -> Result<Vec<u64>, NoMemory>
     ensures { IfOk result (λ offsets. offsets.items ≡ map (λ s. s.offset) sections.now) }
 {
@@ -32,8 +32,8 @@ fn are_same(segments: &[Segment], others: &[Segment]) -> bool
     segments == others
 }
 
-// Whether `segments` are the headers that follow from what they name. `code` is the index of the executable segment's
-// header in the input.
+// Whether `segments` are the program headers that follow from `places`: these are made again and compared. `code` is
+// the index of the executable segment's header in the input.
 fn has_made(
     alloc: Global,
     places: &Places,

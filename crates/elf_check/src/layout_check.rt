@@ -16,7 +16,8 @@ use elf_plan::header_table::is_kept_table;
 use elf_plan::round::{checked_rounded_up, sum};
 use elf_plan::unwritable::Unwritable;
 
-// Whether the fields of the header that aren't written are those of the input.
+// Whether the ELF header has the input's bytes in all fields but e_entry, e_phoff, e_shoff, e_phnum and e_shnum, which
+// are written anew, and e_shstrndx, of which `is_accepted` requires that it stayed.
 fn keeps_header_fields(old: Header, new: Header) -> bool
     ensures { IsTrue result → spec.KeepsHeaderFields old.entry.file.now new.entry.file.now }
 {
@@ -26,7 +27,7 @@ fn keeps_header_fields(old: Header, new: Header) -> bool
         && w[E_SHENTSIZE..E_SHNUM] == file[E_SHENTSIZE..E_SHNUM]
 }
 
-// Where the loaded bytes end in the written file.
+// The offset at which the loaded bytes end in the written file.
 fn loaded_end(segments: &[Segment], area: &Area, shift: &Shift) -> Result<u64, Unwritable>
     ensures { IfOk result (λ end. end ≡ spec.loaded_end segments.now area.now shift.now) }
 {
@@ -39,7 +40,7 @@ fn loaded_end(segments: &[Segment], area: &Area, shift: &Shift) -> Result<u64, U
     }
 }
 
-// Where the table of program headers stands.
+// The offset at which the table of program headers has to stand.
 fn table_place(elf: &Elf, area: &Area, shift: &Shift) -> Result<u64, Unwritable>
     ensures { IfOk result (λ at. at ≡ spec.table_place elf.now area.now shift.now) }
 {
@@ -52,7 +53,8 @@ fn table_place(elf: &Elf, area: &Area, shift: &Shift) -> Result<u64, Unwritable>
     checked_rounded_up(8, loaded_end(&elf.segments, area, shift)?)
 }
 
-// Where the contents of sections begin.
+// The offset from which on the contents of sections are written: behind the loaded bytes, and behind the table of
+// program headers where that stands there.
 fn contents_start(elf: &Elf, area: &Area, shift: &Shift) -> Result<u64, Unwritable>
     ensures { IfOk result (λ start. start ≡ spec.contents_start elf.now area.now shift.now) }
 {
@@ -75,7 +77,8 @@ fn end_behind(sections: &[Section], start: u64, index: usize) -> Result<u64, Unw
     }
 }
 
-// The same of a section that is there.
+// Where the contents of `section` end. They have to begin at the first multiple of their alignment at or behind
+// `start`.
 fn end_at(section: &Section, start: u64) -> Result<u64, Unwritable>
     ensures place { IfOk result (λ end. section.now.offset ≡ rounded_up (max 1 section.now.align) start) }
     ensures end { IfOk result (λ end. end ≡ section.now.offset + section.now.size) }
@@ -98,7 +101,8 @@ fn end_of(sections: &[Section], start: u64, order: &[(u64, usize)]) -> Result<u6
     Ok(end)
 }
 
-// Where the contents of these sections end, and behind them those of the last one, if a table of ranges is added.
+// Where the contents of the sections in `order` end, and behind them those of the last section, which is the table of
+// ranges if one is added.
 fn end_of_all(
     sections: &[Section],
     start: u64,
@@ -115,7 +119,7 @@ fn end_of_all(
     end_behind(sections, end, sections.len().saturating_sub(1))
 }
 
-// Whether the headers of sections stand at the least multiple of 8 at or behind an offset, and a file ends with them.
+// Whether the table of section headers stands at the least multiple of 8 at or behind `end`, and the file ends with it.
 fn ends_with_headers(new: Header, sections: &[Section], end: u64) -> Result<bool, Unwritable>
     ensures { IfOk result (λ holds. IsTrue holds → (e_shoff new.entry.file.now ≡ rounded_up 8 end)
         × (length new.entry.file.now ≡ e_shoff new.entry.file.now + SHDR_SIZE * length sections.now)) }

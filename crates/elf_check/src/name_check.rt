@@ -19,7 +19,7 @@ use elf_plan::section_bytes::bytes_of;
 use rv_code::Func;
 use std::collections::BTreeMap;
 
-// What follows a name of two parts, which ends with a zero byte, in bytes that begin with it.
+// What follows in `bytes`, if they begin with the name that is `front` and `back` joined, and its zero byte.
 fn behind_name<'a>(bytes: &'a [u8], front: &[u8], back: &[u8]) -> Option<&'a [u8]>
     ensures { IfSome result (λ rest. bytes.now ≡ spec.ended (front.now ++ back.now) ++ rest.now) }
 {
@@ -27,7 +27,7 @@ fn behind_name<'a>(bytes: &'a [u8], front: &[u8], back: &[u8]) -> Option<&'a [u8
     behind(rest, &[0])
 }
 
-// What follows a name that may be there.
+// What follows `name` and its zero byte in `bytes`, if the name has to be `there`; else all of them.
 fn behind_if<'a>(bytes: &'a [u8], there: bool, name: &[u8]) -> Option<&'a [u8]>
     ensures { IfSome result (λ rest. bytes.now ≡ spec.ended_if there name.now ++ rest.now) }
 {
@@ -38,7 +38,7 @@ fn behind_if<'a>(bytes: &'a [u8], there: bool, name: &[u8]) -> Option<&'a [u8]>
     }
 }
 
-// What follows the new name of a section that gets one.
+// What follows the new name of `section` in `bytes`, if it is renamed; else all of them.
 fn behind_old_name<'a>(bytes: &'a [u8], section: &Section) -> Option<&'a [u8]>
     ensures { IfSome result (λ rest. bytes.now ≡ spec.old_ended section.now ++ rest.now) }
 {
@@ -49,7 +49,7 @@ fn behind_old_name<'a>(bytes: &'a [u8], section: &Section) -> Option<&'a [u8]>
     }
 }
 
-// What follows the new names of all sections that get one.
+// What follows the new names of all sections that are renamed.
 fn behind_old_names<'a>(bytes: &'a [u8], sections: &[Section]) -> Option<&'a [u8]>
     ensures { IfSome result (λ rest. bytes.now ≡ flat_map spec.old_ended sections.now ++ rest.now) }
 {
@@ -60,7 +60,7 @@ fn behind_old_names<'a>(bytes: &'a [u8], sections: &[Section]) -> Option<&'a [u8
     Some(rest)
 }
 
-// What follows the names of sections that are added.
+// What follows the names of the sections that are added. `ranges` says whether a table of ranges is one.
 fn behind_added<'a>(bytes: &'a [u8], area: &Area, ranges: bool) -> Option<&'a [u8]>
     ensures { IfSome result (λ rest. bytes.now ≡ spec.added_names area.now ranges ++ rest.now) }
 {
@@ -70,7 +70,8 @@ fn behind_added<'a>(bytes: &'a [u8], area: &Area, ranges: bool) -> Option<&'a [u
     behind_if(rest, ranges, DEBUG_RNGLISTS)
 }
 
-// What follows the bytes of a table in those of one with more names. One that was empty begins with a zero byte then.
+// What follows the table of names `old` in `table`, which has to begin with it. Where the old one was empty, names that
+// are added stand behind a zero byte; without any the new one is empty too.
 fn behind_old_table<'a>(table: &'a [u8], old: &[u8]) -> Option<&'a [u8]>
     ensures { IfSome result (λ rest. table.now ≡ spec.extended old.now rest.now) }
 {
@@ -84,7 +85,7 @@ fn behind_old_table<'a>(table: &'a [u8], old: &[u8]) -> Option<&'a [u8]>
     if rest.is_empty() { None } else { Some(rest) }
 }
 
-// The bytes of the section of an index, if there is one.
+// The bytes of the section at `index`; no bytes where there is no such section.
 fn table_bytes<'a>(elf: &Elf<'a>, index: usize) -> &'a [u8]
     ensures { result.now ≡ spec.table_bytes elf.now index }
 {
@@ -99,7 +100,7 @@ fn table_bytes<'a>(elf: &Elf<'a>, index: usize) -> &'a [u8]
 pub struct NewNames<'a> {
     pub check: &'a FileCheck<'a>,
     pub funcs: &'a [Func],
-    /// The addresses of cold parts.
+    /// The addresses in the input of the cold parts that get a name.
     pub cold: &'a [u64],
 }
 
@@ -114,7 +115,7 @@ impl<'a> NewNames<'a> {
     ghost use Rattle.elf_check.specs.NewNames.{table_bytes};
     ghost use Rattle.elf_plan.specs.NewSections.{adds_ranges};
 
-    // What follows the name of the symbol of the cold part that begins at an address, if it gets one.
+    // What follows in `bytes` the name of the symbol of the cold part that begins at `address`, if it gets one.
     fn behind_cold_name<'b>(
         &self,
         names: &BTreeMap<u64, Symbol>,
@@ -151,7 +152,7 @@ impl<'a> NewNames<'a> {
         Some(rest)
     }
 
-    // Whether bytes are the names of cold parts.
+    // Whether `bytes` are the names of all cold parts, and nothing else.
     fn are_cold(&self, names: &BTreeMap<u64, Symbol>, bytes: &[u8]) -> bool
         requires laid_out { AreLaidOut self.now.funcs.now }
         requires names { AreFirstNames self.now.check.now.elf.now.symbols.items names.now }
@@ -164,8 +165,8 @@ impl<'a> NewNames<'a> {
         }
     }
 
-    // Whether `bytes` are the names that are added to those of sections, whose table is the section at `index`: where
-    // it has the names of symbols too, those of cold parts are the last.
+    // Whether `bytes` are the names that are added to the table of section names, which is the section at `index`.
+    // Where that is the table of symbol names too, the names of cold parts come last.
     fn are_added(&self, names: &BTreeMap<u64, Symbol>, bytes: &[u8], index: usize) -> bool
         requires laid_out { AreLaidOut self.now.funcs.now }
         requires names { AreFirstNames self.now.check.now.elf.now.symbols.items names.now }
@@ -222,7 +223,7 @@ impl<'a> NewNames<'a> {
         }
     }
 
-    // Whether the table of names of symbols is what it must be, where it is another one.
+    // Whether the table of names of symbols is what it must be, where it isn't that of sections.
     fn has_symbols(&self, names: &BTreeMap<u64, Symbol>) -> bool
         requires laid_out { AreLaidOut self.now.funcs.now }
         requires names { AreFirstNames self.now.check.now.elf.now.symbols.items names.now }
@@ -253,7 +254,8 @@ impl<'a> NewNames<'a> {
     }
 }
 
-/// Whether the tables of names are what they must be.
+/// Whether the tables of names are what they must be. `names` are the symbols by which functions are called, and `cold`
+/// has the addresses in the input of cold parts.
 pub fn has_names(
     names: &BTreeMap<u64, Symbol>,
     check: &FileCheck,

@@ -1,7 +1,7 @@
-// Names that are made of two parts, and what follows others.
+// Bytes that begin with others, and names that are two parts joined.
 ghost use Rattle.std.specs.Prelude.{◌≡◌, ◌++◌, IfSome, IsTrue};
 
-/// What follows others in bytes that begin with them.
+/// What follows `front` in `bytes`, if they begin with it.
 pub fn behind<'a>(bytes: &'a [u8], front: &[u8]) -> Option<&'a [u8]>
     ensures { IfSome result (λ rest. bytes.now ≡ front.now ++ rest.now) }
 {
@@ -12,7 +12,7 @@ pub fn behind<'a>(bytes: &'a [u8], front: &[u8]) -> Option<&'a [u8]>
     if first == front { Some(rest) } else { None }
 }
 
-/// Whether a name is that of two parts.
+/// Whether `name` is `front` and `back` joined.
 pub fn is_joined(name: &[u8], front: &[u8], back: &[u8]) -> bool
     ensures { IsTrue result → name.now ≡ front.now ++ back.now }
 {

@@ -85,7 +85,7 @@ fn has_sections(alloc: Global, check: &FileCheck) -> Result<bool, Unwritable>
     has_places(alloc, check)
 }
 
-// What stands in a table behind its last whole symbol.
+// The bytes of a symbol table behind its last whole symbol.
 fn bytes_behind<'a>(elf: &Elf<'a>, table: &Section) -> &'a [u8]
     ensures { result.now ≡ bytes_behind elf.now table.now }
 {
@@ -109,7 +109,7 @@ fn has_same_place(elf: &Elf, new: &Elf) -> bool
     place_of_symbols(new) == place_of_symbols(elf)
 }
 
-// How many sections the input has: the index of that of the new code.
+// How many sections the input has, which is the index of the new code's section in the written file.
 fn section_count(elf: &Elf) -> Result<u16, Unwritable>
     ensures { IfOk result (λ count. count ≡ length elf.now.sections.items) }
 {
@@ -119,7 +119,7 @@ fn section_count(elf: &Elf) -> Result<u16, Unwritable>
     }
 }
 
-// Whether the symbols of two tables are what they must be.
+// Whether the symbols of `new` are what they must be. `table` and `new_table` are the headers of both symbol tables.
 fn has_symbols_of(
     alloc: Global,
     source: &SectionSource,
@@ -153,7 +153,7 @@ fn has_symbols_of(
     symbols.are_new(alloc, &names, source.names, table, new_table)
 }
 
-// Whether the symbols are those that the file must have.
+// Whether the symbols are those that the file must have; none are where the input has no symbol table.
 fn has_symbols(alloc: Global, source: &SectionSource, new: &Elf) -> Result<bool, Unwritable>
     requires old { WasRead source.now.elf.now }
     requires new { WasRead new.now }
@@ -247,8 +247,8 @@ fn has_new_tables(
     has_names_and_symbols(alloc, source, &check)
 }
 
-/// Whether the reader takes a file, and finds the sections, program headers, names, symbols and layout in it that the
-/// file must have. The bytes of its new area aren't looked at.
+/// Whether the reader takes the bytes `file`, and finds in them the sections, program headers, names, symbols and
+/// layout that follow from the input, its new code `code` and its plan. The bytes of the new area aren't looked at.
 pub fn is_accepted(
     alloc: Global,
     source: &SectionSource,

@@ -1,4 +1,5 @@
 // Whether a file that was written has the sections that it must have, as they are read back. gABI, "Section Header".
+// Here `s` is a section of the input, `n` one of the written file, and `w` the bytes of that file.
 ghost use Rattle.std.specs.Prelude.{◌≡◌, IsTrue, length, take};
 ghost use Rattle.elf_plan.specs.NewSections as spec;
 ghost use Rattle.elf_check.specs.EntryNames.{name_of};
@@ -15,14 +16,14 @@ use elf_plan::old_name::{is_renamed, old_prefix};
 use elf_plan::section_bytes::{SHT_NULL, bytes_of, flags_left, without_code};
 use elf_plan::sections::Contents;
 
-// Whether a name is that of a section of the input which is renamed.
+// Whether `name` is the one that the section `s` gets, which is renamed.
 fn is_old_name(s: &Section, name: &[u8]) -> bool
     ensures { IsTrue result → name.now ≡ old_name s.now.name.now }
 {
     is_joined(name, old_prefix(s.name), s.name)
 }
 
-/// Whether the section of an index has the name that the input's of this index gets.
+/// Whether `n` has the name that `s` gets, where both stand at `index`.
 pub fn has_new_name(names: &KeptNames, index: usize, s: &Section, n: &Section) -> bool
     requires old { s.now.name.now ≡ name_of names.now.old index }
     requires new { n.now.name.now ≡ name_of names.now.new index }
@@ -35,7 +36,7 @@ pub fn has_new_name(names: &KeptNames, index: usize, s: &Section, n: &Section) -
     }
 }
 
-// Whether a section has what stays of a header that isn't dropped.
+// Whether `n` says what `s` does in the fields that only a header that is left out loses.
 fn keeps_fields(s: &Section, n: &Section) -> bool
     ensures { IsTrue result → spec.KeepsFields s.now n.now }
 {
@@ -74,7 +75,7 @@ fn is_dropped(s: &Section, n: &Section) -> bool
         && n.entsize == 0
 }
 
-// Whether a header of no section is as it was, but for an offset past the file's end.
+// Whether a header that stands for no section is as it was. An offset past the file's end is set to that end.
 fn is_inactive(w: &[u8], s: &Section, n: &Section) -> bool
     ensures { IsTrue result → spec.IsInactive w.now s.now n.now }
 {
@@ -84,7 +85,7 @@ fn is_inactive(w: &[u8], s: &Section, n: &Section) -> bool
         && n.size == s.size
 }
 
-// Whether the contents are where the loaded bytes of the input went.
+// Whether the contents are where the loaded bytes of the input went. An offset past the file's end is set to that end.
 fn is_kept(shift: &Shift, w: &[u8], s: &Section, n: &Section) -> bool
     ensures { IsTrue result → spec.IsKept shift.now w.now s.now n.now }
 {
@@ -135,7 +136,7 @@ fn is_name_table(s: &Section, n: &Section) -> bool
     is_own(s, n) && n.info == s.info
 }
 
-// The bytes of a table by its place.
+// The bytes of the table at the index `place`.
 fn given_bytes(tables: &[Table], place: usize) -> &[u8]
     ensures { result.now ≡ spec.given_bytes tables.now place }
 {
@@ -158,7 +159,8 @@ impl<'a> Files<'a> {
     ghost use Rattle.std.specs.Prelude.{IsTrue};
     ghost use Rattle.elf_plan.specs.NewSections.{Follows};
 
-    /// Whether a section of the written file is what one of the input becomes, by where its contents are.
+    /// Whether the section `n` is what `s` becomes, whose contents are at `contents`. The names of
+    /// sections aren't compared here, nor the contents of the symbol table and of tables of names.
     pub fn follows(&self, contents: Contents, s: &Section, n: &Section) -> bool
         ensures { IsTrue result →
             Follows self.now.tables.now self.now.shift self.now.old.now self.now.new.now contents s.now n.now }
@@ -194,7 +196,7 @@ impl<'a> Added<'a> {
     ghost use Rattle.elf_plan.specs.Area.{area_offset};
     ghost use Rattle.elf_plan.specs.NewSections.{IsAdded, IsHeader, IsInArea};
 
-    // Whether a section says of itself what it must.
+    // Whether the header of `n` says what it must, but for its offset and size.
     fn has_header(&self, n: &Section) -> bool
         ensures { IsTrue result → IsHeader self.now.name.now self.now.flags self.now.addr self.now.align n.now }
     {
@@ -208,7 +210,7 @@ impl<'a> Added<'a> {
             && n.entsize == 0
     }
 
-    /// Whether a section of a file is this one.
+    /// Whether the section `n` of the file `w` is this one.
     pub fn is(&self, w: &[u8], n: &Section) -> bool
         ensures { IsTrue result →
             IsAdded w.now self.now.name.now self.now.bytes.now self.now.flags self.now.addr self.now.align n.now }
@@ -216,7 +218,7 @@ impl<'a> Added<'a> {
         self.has_header(n) && bytes_of(w, n) == self.bytes && n.size == self.bytes.len() as u64
     }
 
-    // Whether a section has its place in an area.
+    // Whether `n` has its offset in `area`, and its size.
     fn has_place(&self, area: &Area, n: &Section) -> bool
         ensures offset { IsTrue result → n.now.offset ≡ area_offset area.now self.now.addr }
         ensures size { IsTrue result → n.now.size ≡ length self.now.bytes.now }
@@ -227,7 +229,8 @@ impl<'a> Added<'a> {
         }
     }
 
-    /// Whether a section of the written file is this one, which a file with its bytes in an area has there.
+    /// Whether `n` is this section as one in `area`, by its header. Its bytes aren't compared: what the area holds is
+    /// proved.
     pub fn is_in(&self, area: &Area, n: &Section) -> bool
         ensures { IsTrue result → (w : List ℕ) → Stands w (area_offset area.now self.now.addr) self.now.bytes.now →
             IsInArea w area.now self.now.name.now self.now.bytes.now self.now.flags self.now.addr self.now.align n.now }

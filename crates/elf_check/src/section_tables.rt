@@ -28,8 +28,9 @@ pub struct FileCheck<'a> {
     pub given: &'a [Table],
     pub area: Area,
     pub shift: Shift,
-    /// Where the contents of each of the input's sections are, and the order of those that are written.
+    /// Where the contents of each of the input's sections are.
     pub contents: &'a [Contents],
+    /// The sections whose contents are written behind the loaded bytes: their offsets in the input and their indices.
     pub order: &'a [(u64, usize)],
     /// The bytes of the new code.
     pub code: &'a [u8],
@@ -78,7 +79,7 @@ impl<'a> FileCheck<'a> {
         has_new_name(names, index, s, n) && files.follows(contents, s, n)
     }
 
-    // Whether the section of an index is what that of the input becomes.
+    // Whether the section at `index` is what the input's section there becomes.
     fn follows(&self, names: &KeptNames, index: usize) -> bool
         requires arranged { IsArranged self.now }
         requires old { AreNamed (λ s. s.name.now) names.now.old 0 self.now.elf.now.sections.items }
@@ -120,7 +121,7 @@ impl<'a> FileCheck<'a> {
         true
     }
 
-    // Whether the section of an index is one that is added in the new area, which has its bytes.
+    // Whether the section at `index` is `added`, as a section in the new area. Its bytes aren't compared.
     fn is_in_area(&self, index: usize, added: &Added) -> bool
         ensures { IsTrue result →
             Stands self.now.new.now.file.now (area_offset self.now.area added.now.addr) added.now.bytes.now →
@@ -134,6 +135,7 @@ impl<'a> FileCheck<'a> {
         }
     }
 
+    // Whether the section at `index` is `added`, with its bytes.
     fn is_added(&self, index: usize, added: &Added) -> bool
         ensures { IsTrue result →
             At self.now.new.now.sections.items index
@@ -165,7 +167,7 @@ impl<'a> FileCheck<'a> {
         )
     }
 
-    // Whether the section of an index is that of the table with a name, where the area has a place for it.
+    // Whether the section at `index` is that of the table called `name`, if the area has the address `place` for it.
     fn has_table(&self, index: usize, name: &[u8], place: Option<u64>, align: u64) -> bool
         ensures { IsTrue result → IfSome place (λ a.
             Stands self.now.new.now.file.now (area_offset self.now.area a) (bytes_called self.now.given.now name.now) →
@@ -188,7 +190,7 @@ impl<'a> FileCheck<'a> {
         }
     }
 
-    /// Whether a table of ranges is added.
+    /// Whether a table of ranges is added: one is given, and the input has none.
     pub fn adds_ranges(&self) -> bool
         ensures { result ≡ adds_ranges self.now.elf.now.sections.items self.now.given.now }
     {
@@ -196,6 +198,7 @@ impl<'a> FileCheck<'a> {
             && self.elf.section_called(DEBUG_RNGLISTS).is_none()
     }
 
+    // Whether the section at `index` is the table of ranges, if one is added.
     fn has_ranges(&self, index: usize) -> bool
         ensures { IsTrue result → IsTrue (adds_ranges self.now.elf.now.sections.items self.now.given.now) →
             At self.now.new.now.sections.items index

@@ -1,4 +1,5 @@
 // Whether a file that was written has the symbols that it must have, as they are read back. gABI, "Symbol Table".
+// Here `s` is a symbol of the input, `n` one of the written file, and `to` an address of the new code.
 ghost use Rattle.std.specs.Prelude.{◌≡◌, IfSome, IsTrue};
 ghost use Rattle.elf_plan.specs.ColdSymbols.{cold_name};
 ghost use Rattle.elf_check.specs.NewSymbols as spec;
@@ -22,7 +23,7 @@ fn is_unmoved(s: &Symbol, n: &Symbol) -> bool
     n.value == s.value && n.section == s.section && n.size == s.size
 }
 
-/// Where symbols of code are.
+/// What tells where symbols of code go.
 #[derive(Clone, Copy)]
 pub struct CodeSymbols<'a> {
     pub funcs: &'a [Func],
@@ -46,7 +47,8 @@ impl<'a> CodeSymbols<'a> {
     ghost use Rattle.elf_check.specs.NewSymbols.{IsColdSymbol, IsMoved, IsNewSymbol, IsUnmoved, named_parts};
     ghost use Rattle.elf_plan.specs.PairedLists.{GoTogether};
 
-    // Whether a size is that of the new code of a function from an address on.
+    // Whether `size` is what is left, from `to` on, of the fragment of the function that holds `address` in the input.
+    // Any size will do where no function does.
     fn has_fragment(&self, address: u64, to: u64, size: u64) -> bool
         requires laid_out { AreLaidOut self.now.funcs.now }
         requires fragments { AreFragments self.now.funcs.now self.now.map.now self.now.fragments.now }
@@ -58,7 +60,8 @@ impl<'a> CodeSymbols<'a> {
         }
     }
 
-    // Whether the size of a symbol is right that moved to an address.
+    // Whether `n` has the size that `s` gets, which moved to `to`: what is left of the fragment, for a function's
+    // symbol.
     fn has_size(&self, to: u64, s: &Symbol, n: &Symbol) -> bool
         requires laid_out { AreLaidOut self.now.funcs.now }
         requires fragments { AreFragments self.now.funcs.now self.now.map.now self.now.fragments.now }
@@ -81,7 +84,7 @@ impl<'a> CodeSymbols<'a> {
         n.value == to && n.section == self.text && self.has_size(to, s, n)
     }
 
-    // Whether a symbol names what one of the input names, at its new place.
+    // Whether `n` names what `s` names, at its new place.
     fn is_at_place(&self, s: &Symbol, n: &Symbol) -> bool
         requires laid_out { AreLaidOut self.now.funcs.now }
         requires fragments { AreFragments self.now.funcs.now self.now.map.now self.now.fragments.now }
@@ -139,7 +142,7 @@ impl<'a> CodeSymbols<'a> {
         true
     }
 
-    // Whether a symbol is that of the cold part that begins at an address.
+    // Whether `n` is the symbol of the cold part that begins at `address` in the input.
     fn is_cold(&self, names: &BTreeMap<u64, Symbol>, address: u64, n: &Symbol) -> bool
         requires laid_out { AreLaidOut self.now.funcs.now }
         requires fragments { AreFragments self.now.funcs.now self.now.map.now self.now.fragments.now }
@@ -154,7 +157,7 @@ impl<'a> CodeSymbols<'a> {
             && self.has_fragment(address, n.value, n.size)
     }
 
-    /// Whether symbols are those of the cold parts that begin at some addresses.
+    /// Whether `new` are the symbols of the cold parts that begin at the addresses `cold` of the input, in their order.
     pub fn are_cold(&self, names: &BTreeMap<u64, Symbol>, cold: &[u64], new: &[Symbol]) -> bool
         requires laid_out { AreLaidOut self.now.funcs.now }
         requires fragments { AreFragments self.now.funcs.now self.now.map.now self.now.fragments.now }
@@ -172,7 +175,7 @@ impl<'a> CodeSymbols<'a> {
         true
     }
 
-    /// The cold parts that get a symbol.
+    /// The cold parts that get a symbol: those of functions that have a name.
     pub fn named_parts(
         &self,
         alloc: Global,
@@ -193,7 +196,7 @@ impl<'a> CodeSymbols<'a> {
     }
 }
 
-// Whether a name is that of a cold part which is called by a symbol.
+// Whether `name` is that of a cold part of the function that `symbol` names.
 fn has_cold_name(symbol: Option<Symbol>, name: &[u8]) -> bool
     ensures { IsTrue result → IfSome symbol.entry (λ s. name.now ≡ cold_name s.name.now) }
 {

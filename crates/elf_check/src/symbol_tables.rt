@@ -9,7 +9,7 @@ use elf_plan::unwritable::Unwritable;
 use std::alloc::Global;
 use std::collections::BTreeMap;
 
-// How many symbols are local by the header of their table.
+// How many symbols are local, by the `sh_info` of their table's header.
 fn local_count(symbols: &[Symbol], table: &Section) -> usize
     ensures { result ≡ spec.local_count symbols.now table.now }
 {
@@ -47,7 +47,7 @@ pub struct SymbolTables<'a> {
     pub old: &'a [Symbol<'a>],
     pub new: &'a [Symbol<'a>],
     pub code: CodeSymbols<'a>,
-    /// The addresses of the cold parts.
+    /// The addresses in the input of the cold parts.
     pub cold: &'a [u64],
 }
 
@@ -59,7 +59,9 @@ impl<'a> SymbolTables<'a> {
     ghost use Rattle.elf_plan.specs.FragmentLists.{AreFragments};
     ghost use Rattle.elf_check.specs.NewSymbols.{AreNewSymbols};
 
-    /// Whether the symbols are those that the file must have, whose tables have these headers.
+    /// Whether the symbols are those that the file must have: the local ones, the added ones of cold parts, and all
+    /// others. `table` and `new_table` are the headers of the symbol tables, and `firsts` the symbols by which
+    /// functions are called.
     pub fn are_new(
         &self,
         alloc: Global,

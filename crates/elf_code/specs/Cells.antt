@@ -45,7 +45,7 @@ pub data IsDifference (elf : Elf) (r : Relocation) (width : Width) (to from : �
   of_place : Contains (relocations elf) r → IsTrue (is_pc_difference r.kind) → width ≡ Bits 32 →
       to ≡ label elf r → from ≡ pos r.place → IsDifference elf r width to from
 
--- It can be a cell where it has 32 or 64 bits, but not where SET32 sets it.
+-- The field of a difference can be a cell where it has 32 or 64 bits, but not where SET32 sets it.
 abbrev pub can_be_cell : Relocation → Bool
 can_be_cell r = is_add r.kind || is_pc_difference r.kind
 
@@ -53,7 +53,7 @@ can_be_cell r = is_add r.kind || is_pc_difference r.kind
 abbrev pub IsCodeLabel : Elf → ℤ → Type 0
 IsCodeLabel elf z = (a : ℕ) × (z ≡ pos a) × IsStart elf a
 
--- one of two labels is
+-- one of two labels is a code address
 abbrev pub HasCodeLabel : Elf → ℤ → ℤ → Type 0
 HasCodeLabel elf to from = IsCodeLabel elf to ⊎ IsCodeLabel elf from
 

@@ -49,8 +49,8 @@ entries_for elf table section =
     then entries_from elf.file.now section table.offset (table.size / RELA_SIZE)
     else []
 
--- those of a section, which is a table where its type says so: its sh_info is the index of the section to
--- which they apply
+-- the relocations of a section that count: it is a table where its type says so, and its sh_info is the index of the
+-- section to which they apply
 abbrev pub entries_of : Elf → Section → List Relocation
 entries_of elf table =
     if table.kind == SHT_RELA

@@ -129,7 +129,8 @@ pub data Claims (elf : Elf) (r : Relocation) (a key : ℕ) (role : Role) : Type 
   abs_lo : (target : ℕ) → AbsoluteTo elf r target → IsAbsoluteLow r.kind → (inst : Inst) → IsFullAt elf r.place inst →
       IsSome (lower_immediate r.kind inst) → a ≡ r.place → key ≡ target → role ≡ AbsLo target → Claims elf r a key role
 
--- of several, the role by the type of the lowest number, and of those the one of the lowest key
+-- the role of the instruction at an address: of several the one by the type of the lowest number, and of one type the
+-- one of the lowest key
 pub record HasRole (elf : Elf) (a : ℕ) (role : Role) : Type 0 where
   pub relocation : Relocation
   pub key : ℕ

@@ -56,7 +56,8 @@ pub fn executable_segment(segments: &[Segment]) -> Option<(usize, Segment)>
     None
 }
 
-/// The offset past the bytes of the executable segment, which is given with its index; 0 where there is none.
+/// The offset in the file past the bytes of the executable segment, which is as `executable_segment` gives it; 0 where
+/// there is none.
 pub fn executable_end(executable: Option<(usize, Segment)>) -> u128
     ensures { (segments : List Segment) → executable ≡ executable_segment segments → result ≡ executable_end segments }
 {
@@ -66,7 +67,7 @@ pub fn executable_end(executable: Option<(usize, Segment)>) -> u128
     }
 }
 
-/// Whether an index is that of the executable segment.
+/// Whether an index is that of the executable segment, which is as `executable_segment` gives it.
 pub fn is_executable_segment(executable: Option<(usize, Segment)>, index: usize) -> bool
     ensures { (elf : Elf) → executable ≡ executable_segment elf.segments.items →
         result ≡ is_executable_segment elf index }

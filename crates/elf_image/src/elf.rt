@@ -13,6 +13,7 @@ use crate::symbol::Symbol;
 /// An ELF file: its bytes, and what its headers and its symbol table say.
 #[derive(Drop)]
 pub struct Elf<'a> {
+    /// All bytes of the file.
     pub file: &'a [u8],
     /// `e_flags`.
     pub flags: u32,
@@ -20,8 +21,11 @@ pub struct Elf<'a> {
     pub entry: u64,
     /// `e_phoff`: where the program headers stand in the file.
     pub phoff: u64,
+    /// In the order of their table, so that an index of the file is one of this list.
     pub sections: Vec<Section<'a>>,
+    /// In the order of the table of program headers.
     pub segments: Vec<Segment>,
+    /// The entries of the first symbol table, in its order, the one of index 0 among them.
     pub symbols: Vec<Symbol<'a>>,
     // The segments with memory, by address, in which an address is looked up.
     pub(crate) loads: Vec<Segment>,
@@ -41,7 +45,7 @@ impl<'a> Elf<'a> {
     ghost use Rattle.elf_image.specs.memory.Image.{image_byte, loads_address};
     ghost use Rattle.elf_image.specs.memory.LoadedBytes.{file_offset};
 
-    /// The segment that loads an address, and none where none does.
+    /// The segment that loads an address, if one does. A binary search.
     pub fn segment_at(&self, address: u64) -> Option<&Segment>
         ensures loads { IfSome result (λ p. IsTrue (loads_address address p.now)) }
         ensures first { option_copied result ≡ segment_of self.now.segments.items address }
@@ -57,7 +61,7 @@ impl<'a> Elf<'a> {
         Some(segment_byte(self.file, address, segment))
     }
 
-    /// Where in the file the byte at an address stands, if it comes from there.
+    /// Where in the file the byte at an address stands; none where the address isn't loaded, or filled with zeros.
     pub fn file_offset(&self, address: u64) -> Option<u128>
         ensures value { result ≡ file_offset self.now.segments.items address }
         ensures below { IfSome result (λ offset. offset < 2 ^ 65) }

@@ -9,7 +9,7 @@ use crate::lowest::{lower, place_if};
 use rb_bytes::fault::NoMemory;
 use std::alloc::Global;
 
-/// The numbers from `start` to before `end`, and the place that is answered for them.
+/// The numbers from `start` to before `end`, and the place that is answered where they are at fault.
 #[derive(Clone, Copy)]
 pub struct Extent {
     pub start: u64,
@@ -54,7 +54,8 @@ fn lowest_shared_sorted(extents: &[Extent]) -> Option<u64>
     lowest
 }
 
-// Whether the range of an index meets another, where `reach` is the greatest end of those before.
+// Whether the range of an index meets another, where `reach` is the greatest end of those before. Of those behind it,
+// the next begins first, so it alone is asked.
 fn meets_another(extents: &[Extent], index: usize, reach: u128) -> bool
     requires rising { IsNonDecreasingBy (λ s. s.start) extents.now }
     requires not_empty { All (λ s. s.start < s.end) extents.now }
@@ -73,7 +74,8 @@ fn meets_next(extents: &[Extent], index: usize) -> bool
     index + 1 < extents.len() && (extents[index + 1].start as u128) < extents[index].end
 }
 
-/// Each range grown to the greatest end of those up to it.
+/// Each range, in the order of their starts, grown to the greatest end of those up to it: then the last that begins by
+/// a number tells whether any holds a stretch from there on.
 pub fn reaches_of(alloc: Global, extents: &[Extent]) -> Result<Vec<Extent>, NoMemory>
     requires { IsNonDecreasingBy (λ s. s.start) extents.now }
     ensures rising { IfOk result (λ reaches. IsNonDecreasingBy (λ s. s.start) reaches.items) }
@@ -105,7 +107,7 @@ pub fn count_from(extents: &[Extent], start: u64) -> usize
     extents.partition_point(|s| s.start <= start)
 }
 
-/// Whether a range holds all the numbers from `start` to before `end`.
+/// Whether one of these ranges, as `reaches_of` gives them, holds all the numbers from `start` to before `end`.
 pub fn is_covered(extents: &[Extent], start: u64, end: u128) -> bool
     requires rising { IsNonDecreasingBy (λ s. s.start) extents.now }
     requires growing { IsNonDecreasingBy (λ s. s.end) extents.now }

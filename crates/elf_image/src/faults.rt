@@ -1,4 +1,4 @@
-// The faults of a file, one after another.
+// The faults of a file, looked for in the order of their numbers.
 ghost use Rattle.std.specs.Prelude.{◌≡◌, MatchOption, MatchResult, OnOk, IfErr};
 ghost use Rattle.rb_bytes.specs.Fault.{fault_at};
 ghost use Rattle.rb_bytes.specs.declared.fault.FaultKind.TheVariants as kind;
@@ -60,8 +60,8 @@ pub fn check_structure(file: &[u8]) -> Result<(), Fault>
     )
 }
 
-// The faults of the layout, in a file without the others. `loading` is the lowest place where
-// segments don't lie as they must.
+// The first of the faults of the layout, in a file without those of `check_structure`. `loading` is the lowest place of
+// `ExecSegments`, which alone takes memory to find.
 fn check_places(file: &[u8], sections: &[Section], loading: Option<u64>) -> Result<(), Fault>
     requires readable { IsReadable file.now }
     requires lacks { LacksBelow (HasFault file.now) 5 }
@@ -76,7 +76,7 @@ fn check_places(file: &[u8], sections: &[Section], loading: Option<u64>) -> Resu
     refuse_at(FaultKind::CompressedSection, lowest_compressed(sections))
 }
 
-/// The first of the faults that the layout shows, in a file without the others: `ExecSegments`,
+/// The first of the faults that the layout shows, in a file without those of [`check_structure`]: `ExecSegments`,
 /// `WritableCode`, `HighAddress` and `CompressedSection`.
 pub fn check_layout(alloc: Global, file: &[u8], sections: &[Section]) -> Result<(), Refusal>
     requires readable { IsReadable file.now }

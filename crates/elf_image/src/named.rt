@@ -1,12 +1,12 @@
-// The names of sections that mean more than others do. gABI, "Special Sections"; the names of debug sections
-// stand in DWARF 5, section 7.
+// The names of sections with unwind tables and debug data. LSB, "The .eh_frame section" and "The .eh_frame_hdr
+// section"; DWARF 5, appendix B.
 ghost use Rattle.std.specs.Prelude.{◌≡◌};
 ghost use Rattle.elf_image.specs.file.SectionNames.{names_frames, names_debug};
 
 /// The name of the unwind tables that are loaded.
 pub const EH_FRAME: &[u8] = b".eh_frame";
 
-/// The name of their index.
+/// The name of the index of these unwind tables.
 pub const EH_FRAME_HDR: &[u8] = b".eh_frame_hdr";
 
 /// Whether a name is that of the unwind tables that are loaded, or of their index.

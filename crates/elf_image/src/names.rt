@@ -23,7 +23,7 @@ pub fn section_bytes<'a>(file: &'a [u8], section: &SectionHeader) -> &'a [u8]
     &file[start..start + section.size as usize]
 }
 
-/// The least index from which on no name has a zero byte after it.
+/// The index past the last zero byte, 0 where there is none: a name that begins there or later has no end.
 pub fn last_end(table: &[u8]) -> usize
     ensures { IsLastEnd table.now result }
 {
@@ -51,7 +51,8 @@ pub fn section_names<'a>(headers: SectionTable<'a>) -> Option<&'a [u8]>
     Some(section_bytes(headers.file, &section))
 }
 
-/// The names of the symbols of a table, if both lie whole in the file.
+/// The table of names for a table of symbols, if both lie whole in the file. It is empty where `sh_link` is the index
+/// of no section.
 pub fn symbol_names<'a>(headers: SectionTable<'a>, table: &SectionHeader) -> Option<&'a [u8]>
     ensures found { IfSome result (λ t. HasSymbolNames headers.entry.file.now table.now) }
     ensures names { IfSome result (λ t. t.now ≡ symbol_names headers.entry.file.now table.now) }
@@ -70,7 +71,7 @@ pub fn symbol_names<'a>(headers: SectionTable<'a>, table: &SectionHeader) -> Opt
     Some(section_bytes(headers.file, &section))
 }
 
-/// The names of the symbols of a table in a file that is truncated nowhere.
+/// The table of names for a table of symbols, in a file that is truncated nowhere.
 pub fn symbol_texts<'a>(file: &'a [u8], table: &SectionHeader) -> &'a [u8]
     requires { IsReadable file.now }
     ensures { result.now ≡ symbol_names file.now table.now }

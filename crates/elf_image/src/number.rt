@@ -29,7 +29,7 @@ pub fn u64_at(file: &[u8], offset: usize) -> u64
     LittleEndian::read_u64(&file[offset..])
 }
 
-/// Whether a flag, which is a power of two, is set among others.
+/// Whether the bit `flag`, a power of two, is set in `flags`.
 pub fn is_set(flags: u64, flag: u64) -> bool
     requires { 0 < flag }
     ensures { result ≡ is_set flag flags }

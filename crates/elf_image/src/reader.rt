@@ -15,7 +15,7 @@ use crate::tables::{read_sections, read_segments, read_symbols};
 use rb_bytes::fault::{NoMemory, Refusal};
 use std::alloc::Global;
 
-// A file without a fault, beside its sections.
+// Reads what is left of a file without a fault, whose sections are read.
 fn read_beside<'a>(
     alloc: Global,
     file: &'a [u8],

@@ -25,7 +25,7 @@ pub const SHF_EXECINSTR: u64 = 4;
 /// The flag of a section whose contents are compressed. gABI, "Section Attribute Flags".
 pub const SHF_COMPRESSED: u64 = 0x800;
 
-/// What the names begin with that a rewriting gives to sections whose place new ones take.
+/// How the names begin that a rewriting gives to sections which new ones replace.
 pub const OLD_PREFIX: &[u8] = b".old.";
 
 /// The size of a section header in bytes.
@@ -138,14 +138,15 @@ impl<'a> Section<'a> {
         is_set(self.flags, SHF_COMPRESSED) || self.name.starts_with(b".zdebug")
     }
 
-    /// Whether a name means this section.
+    /// Whether a name means this section: it is the section's own, and means sections of its kind.
     pub fn is_called(&self, name: &[u8]) -> bool
         ensures { result ≡ is_called name.now self.now }
     {
         self.name == name && self.is_meant_by(name)
     }
 
-    /// Whether a name means this section, if it is its own.
+    /// Whether a name means sections of this kind: those of unwind tables mean loaded ones, those of debug tables ones
+    /// that aren't loaded, and neither means code.
     pub fn is_meant_by(&self, name: &[u8]) -> bool
         ensures { result ≡ is_meant_by name.now self.now }
     {

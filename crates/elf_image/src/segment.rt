@@ -15,8 +15,7 @@ pub const PT_DYNAMIC: u32 = 2;
 /// The type of the segment that names a dynamic linker. gABI, "Program Header".
 pub const PT_INTERP: u32 = 3;
 
-/// The type of a program header that says where the header of the unwind table stands. LSB,
-/// "Program Headers".
+/// The type of a program header that says where the index of the unwind tables stands. LSB, "Program Headers".
 pub const PT_GNU_EH_FRAME: u32 = 0x6474_e550;
 
 /// The flag of a segment that may be executed. gABI, "Segment Permissions".
@@ -28,13 +27,14 @@ pub const PF_W: u32 = 2;
 /// The flag of a segment that may be read.
 pub const PF_R: u32 = 4;
 
-/// The address below which all that is loaded lies.
+/// The address below which all that is loaded lies, so that every pair of an upper and a lower part reaches. It is
+/// below 2^31, so an address that is kept in four bytes is the same with and without a sign.
 pub const ADDRESS_END: u64 = 0x7fff_0000;
 
 /// The size of a program header in bytes.
 pub const PHDR_SIZE: usize = 56;
 
-// Where its fields stand behind its type. gABI, "Program Header".
+// Where the fields of a program header stand in it, behind its type. gABI, "Program Header".
 
 /// The flags.
 pub const P_FLAGS: usize = 4;

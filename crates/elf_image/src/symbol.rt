@@ -1,4 +1,4 @@
-// Symbols, and the entries of the symbol table that they are. gABI, "Symbol Table".
+// Symbols, as the entries of a symbol table have them. gABI, "Symbol Table".
 ghost use Rattle.std.specs.Prelude.{◌≡◌, ◌≤◌, ◌+◌, ◌%◌, length};
 ghost use Rattle.elf_image.specs.file.ParsedFile.{IsSymbolAt};
 ghost use Rattle.elf_image.specs.file.Symbols.{symbol_names};

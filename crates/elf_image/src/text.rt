@@ -1,4 +1,4 @@
-// A table of names that is asked often. gABI, "String Table".
+// A table of names in which many are looked up. gABI, "String Table".
 ghost use Rattle.std.specs.Prelude.{◌≡◌, IfOk};
 ghost use Rattle.elf_image.specs.file.Sections.{text_of};
 ghost use Rattle.memchr.specs.Find.{is_byte, places};
@@ -28,7 +28,7 @@ impl<'a> Names<'a> {
         Ok(Names { table, zeros })
     }
 
-    // Where the text ends that begins at an index, by a search of all zero bytes.
+    // Where the text ends that begins at an index, by a binary search among all zero bytes.
     fn far_end(&self, index: usize) -> usize
         ensures { IsTextEnd (name_bytes self.now) index result }
     {

@@ -4,7 +4,8 @@ ghost use Rattle.elf_image.specs.internal.TextEnds.{IsTextEnd};
 
 use memchr::memchr;
 
-// How far behind its start the end of a text is looked for before all zero bytes are searched. Most names are shorter.
+// How far behind its start the end of a text is looked for before the zero bytes are searched. Most names are shorter;
+// and many names that share a long end would else be gone over again for each.
 const NEAR: usize = 64;
 
 /// Where the text ends that begins at an index, if that is near.

@@ -17,12 +17,13 @@ abbrev pub is_whole : List Segment → ℕ × ℕ × ℕ → Bool
 is_whole segments cell =
     option_map_or (λ p. nat_le ((cell.0 - p.vaddr) + cell.1) (min p.filesz p.memsz)) (segment_of segments cell.0) false
 
--- the bytes of a number at an address, each as a cell of its own
+-- the bytes of the number `value` at `address`, the lowest first, each as a cell of its own
 unfoldable pub byte_cells : ℕ → ℕ → ℕ → List (ℕ × ℕ × ℕ)
 byte_cells address zero value = []
 byte_cells address (suc n) value = (address, 1, value % 256) ∷ byte_cells (address + 1) n (value / 256)
 
--- A cell that lies in more than one segment is written byte by byte: these needn't stand together in the file.
+-- A cell that lies in more than one segment is written byte by byte, since its bytes needn't stand together in the
+-- file.
 abbrev pub pieces_of : List Segment → ℕ × ℕ × ℕ → List (ℕ × ℕ × ℕ)
 pieces_of segments cell = if is_whole segments cell then cell ∷ [] else byte_cells cell.0 cell.1 cell.2
 

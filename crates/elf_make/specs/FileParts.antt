@@ -22,7 +22,8 @@ use Rattle.elf_plan.specs.NewSegments.{AreNewHeaders}
 use Rattle.elf_make.specs.PartPlaces.{IsAbove, IsBehind}
 use Rattle.elf_make.specs.Source.{Source}
 
--- Where the loaded bytes of the input and the new area stand, for new code and for tables of these sizes.
+-- Where the loaded bytes of the input and the new area stand, for the new code and for tables of the sizes `frames` and
+-- `index`.
 pub record IsLaidOut (elf : Elf) (tight : Bool) (code : List ℕ) (frames index : Option ℕ)
     (layout : Layout) : Type 0 where
   pub executable : Segment
@@ -35,14 +36,14 @@ pub record IsLaidOut (elf : Elf) (tight : Bool) (code : List ℕ) (frames index 
   pub above : layout.area.tight ≡ true → IsAbove elf.segments.items layout.area layout.parts
   pub behind : layout.area.tight ≡ false → IsBehind elf.segments.items layout.area layout.shift layout.parts
 
--- Where the table of program headers stands in the written file, whose tail begins at a base.
+-- Where the table of program headers stands in the written file, whose tail begins at `base`.
 pub record IsTablePlace (elf : Elf) (area : Area) (shift : Shift) (base at : ℕ) : Type 0 where
   pub header : 64 ≤ at
   pub above : area.tight ≡ true → at ≡ area.offset
   pub kept : area.tight ≡ false → is_kept_table elf shift ≡ true → at ≡ moved_by shift.from shift.by elf.phoff
   pub added : area.tight ≡ false → is_kept_table elf shift ≡ false → base ≤ at
 
--- a number at an offset, of so many bytes
+-- a number of `width` bytes at `offset`
 abbrev pub number : ℕ → ℕ → ℕ → NumberAt
 number offset width value = record { offset = offset; width = width; value = value }
 
@@ -63,7 +64,7 @@ pub record IsPut (layout : Layout) (input tail : List ℕ) (cells : List NumberA
   pub assembled : IsAssembled layout.parts input layout.bytes.items tail cells program_headers_at
       (segment_table segments) fields w
 
--- All of it.
+-- The whole file, made of its input.
 pub record IsMade (s : Source) (tight : Bool) (w : List ℕ) : Type 0 where
   pub layout : Layout
   pub laid_out : IsLaidOut s.elf tight s.code s.frames s.index layout

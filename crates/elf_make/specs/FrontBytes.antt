@@ -18,7 +18,7 @@ use Rattle.elf_plan.specs.FileLayout.{table_of}
 abbrev pub front_end : List Segment → Bool → ℕ
 front_end segments tight = if tight then loads_end segments else code_file_end segments
 
--- what is written there: fields of the file's header, and the table of program headers, if it stays
+-- what is written before that: fields of the ELF header, and the table of program headers, if it stays
 abbrev pub written_ranges : Elf → Bool → List Range
 written_ranges elf tight =
     e_entry_field ∷ e_phoff_field ∷ e_phnum_field ∷ section_fields ++ only (not tight) (table_of elf)
@@ -32,13 +32,13 @@ abbrev pub IsLeft : Elf → Bool → ℕ → Type 0
 IsLeft elf tight k = ((p : Segment) → Contains elf.segments.items p → LoadsByte k p → ⊥)
     ⊎ ((tight ≡ true) × IsTrue (is_in_range k (table_of elf)))
 
--- All of these are as they were, but for what is written there.
+-- All such bytes before `front_end` are as they were, but for what is written there.
 abbrev pub KeepsFront : Elf → Bool → List ℕ → Type 0
 KeepsFront elf tight w = (k : ℕ) → k < front_end elf.segments.items tight → IsLeft elf tight k →
     IsFalse (list_any (is_in_range k) (written_ranges elf tight)) → slice_index w k ≡ slice_index elf.file.now k
 
 -- Where the area has no segment of its own, bytes of the file that a segment behind the executable one names, but
--- doesn't load, move with those that it loads: its p_filesz is above its p_memsz.
+-- doesn't load, since its p_filesz is above its p_memsz, move with those that it loads.
 abbrev pub KeepsBehind : Elf → Area → List ℕ → Type 0
 KeepsBehind elf area w =
     let shift = shift_of elf.segments.items area in

@@ -35,8 +35,7 @@ pub record KeepsPlaces (elf : Elf) (tight : Bool) (w : List ℕ) : Type 0 where
   pub break_start_is : break_start elf.segments.items ≡ break_start (segments_of w)
   pub break_bound_is : break_bound elf.segments.items ≡ break_bound (segments_of w)
 
--- The program headers are those of the input, of which the executable segment's has an index, and one more where a
--- file is tight.
+-- The program headers follow those of the input, with one more where a file is tight.
 abbrev pub FollowsHeaders : Source → Bool → List ℕ → Type 0
 FollowsHeaders s tight w =
     let segments = s.elf.segments.items in

@@ -10,7 +10,7 @@ use elf_plan::given_tables::{Table, bytes_called};
 use elf_plan::unwritable::Unwritable;
 use std::alloc::Global;
 
-// Adds a table at its address, if it has one, behind bytes from a start on.
+// Appends `table` at `address`, if it has one, with zeros before it. `bytes` are those from the address `start` on.
 fn add_table(
     bytes: &mut Vec<u8>,
     start: u64,
@@ -32,7 +32,7 @@ fn add_table(
     Ok(())
 }
 
-/// All bytes of the area.
+/// The bytes of the area from its new code on: the code, and the loaded tables at their addresses.
 pub fn area_bytes(
     alloc: Global,
     area: &Area,

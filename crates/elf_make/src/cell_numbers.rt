@@ -1,4 +1,4 @@
-// Code cells as numbers that are put over a file's bytes.
+// Code cells as numbers that are put over a file's bytes. A cell is its address, its width in bytes and what it holds.
 ghost use Rattle.std.specs.Prelude.{◌≡◌, ◌+◌, ◌<◌, ◌^◌, ◌++◌, All, IfOk, OnOk};
 ghost use Rattle.elf_make.specs.CellNumbers.{AreCellNumbers, IsCellNumber};
 ghost use Rattle.elf_make.specs.CellNumbers as spec;
@@ -11,7 +11,7 @@ use elf_plan::unwritable::Unwritable;
 use rb_bytes::fault::NoMemory;
 use std::alloc::Global;
 
-// Whether one segment loads all bytes of a cell from the file.
+// Whether one segment loads all bytes of `cell` from the file.
 fn is_whole(elf: &Elf, cell: &(u64, u8, u64)) -> bool
     ensures { result ≡ spec.is_whole elf.now.segments.items cell.now }
 {
@@ -21,7 +21,7 @@ fn is_whole(elf: &Elf, cell: &(u64, u8, u64)) -> bool
     }
 }
 
-// Adds the bytes of a cell, each as a cell of its own.
+// Adds the bytes of `cell`, the lowest first, each as a cell of one byte.
 fn add_bytes(pieces: &mut Vec<(u64, u8, u64)>, cell: &(u64, u8, u64)) -> Result<(), NoMemory>
     requires { cell.now.0 + cell.now.1 < 2 ^ 64 }
     ensures { OnOk result (pieces.new.items ≡ pieces.old.items ++ spec.byte_cells cell.now.0 cell.now.1 cell.now.2) }
@@ -34,7 +34,7 @@ fn add_bytes(pieces: &mut Vec<(u64, u8, u64)>, cell: &(u64, u8, u64)) -> Result<
     Ok(())
 }
 
-// Adds a cell, or its bytes where no segment loads it whole.
+// Adds `cell`, or its bytes where no segment loads it whole.
 fn add_pieces(
     pieces: &mut Vec<(u64, u8, u64)>,
     elf: &Elf,
@@ -67,8 +67,7 @@ fn pieces(
     Ok(pieces)
 }
 
-// Where a code cell stands in the written file, and what it holds. One that a segment doesn't load whole has no such
-// place.
+// `cell` as a number at its offset in the written file. `Layout` where no segment loads it whole from the file.
 fn cell_number(elf: &Elf, shift: &Shift, cell: &(u64, u8, u64)) -> Result<NumberAt, Unwritable>
     ensures { IfOk result (IsCellNumber elf.now shift.now cell.now) }
 {
@@ -84,7 +83,7 @@ fn cell_number(elf: &Elf, shift: &Shift, cell: &(u64, u8, u64)) -> Result<Number
     })
 }
 
-// The numbers of cells, in their order.
+// The numbers of `cells`, in their order.
 fn numbers_of(
     alloc: Global,
     elf: &Elf,

@@ -1,4 +1,4 @@
-// The fields of the file's header that are written. gABI, "ELF Header".
+// The fields of the ELF header that are written anew. gABI, "ELF Header".
 ghost use Rattle.std.specs.Prelude.{◌≡◌};
 ghost use Rattle.elf_make.specs.FileParts as spec;
 
@@ -7,17 +7,20 @@ use elf_parts::NumberAt;
 use rb_bytes::fault::NoMemory;
 use std::alloc::Global;
 
-/// What fields of the file's header say.
+/// What the fields of the ELF header say that are written anew.
 #[derive(Clone, Copy)]
 pub struct HeaderFields {
     /// The entry point.
     pub entry: u64,
-    /// Where the table of program headers stands, and how many there are.
+    /// The offset of the table of program headers.
     pub program_headers_at: u64,
+    /// How many program headers there are.
     pub segments: u64,
-    /// Where the table of section headers stands, how many there are, and which one names the sections.
+    /// The offset of the table of section headers.
     pub section_headers_at: u64,
+    /// How many section headers there are.
     pub sections: u64,
+    /// The index of the section with the names of sections.
     pub names: u64,
 }
 
@@ -25,7 +28,7 @@ impl HeaderFields {
     ghost use Rattle.std.specs.Prelude.{◌≡◌, IfOk};
     ghost use Rattle.elf_make.specs.FileParts.{header_numbers};
 
-    /// The fields as numbers at their places.
+    /// The fields as numbers at their offsets.
     pub fn numbers(&self, alloc: Global) -> Result<Vec<NumberAt>, NoMemory>
         ensures { IfOk result (λ numbers. numbers.items ≡ header_numbers self.now) }
     {

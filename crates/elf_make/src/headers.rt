@@ -19,19 +19,20 @@ use elf_plan::sections::Contents;
 use elf_plan::unwritable::Unwritable;
 use std::alloc::Global;
 
-// How many times the bytes of the input an output may have, beside so many zeros.
+// The contents of an output end at most behind `MOST_TIMES` times the bytes of the input and `MOST_ZEROS`. Huge
+// alignments of sections may ask for more.
 const MOST_TIMES: u64 = 32;
 
 const MOST_ZEROS: u64 = 4 << 20;
 
-// The alignments of the sections in the new area: of the code, of the unwind table and of its index.
+// The alignments of the sections in the new area. Those of the tables are the ones by which `elf_plan` places them.
 const CODE_ALIGN: u64 = 16;
 
 const FRAMES_ALIGN: u64 = 8;
 
 const INDEX_ALIGN: u64 = 4;
 
-/// The contents that are written anew.
+/// The contents of sections that are written anew, and of those that are given.
 #[derive(Clone, Copy)]
 pub struct NewContents<'a> {
     pub section_names: &'a [u8],
@@ -40,7 +41,7 @@ pub struct NewContents<'a> {
     pub tables: &'a [Table],
 }
 
-/// The headers of the input's sections, with new names where they are renamed.
+/// The headers of the input's sections, with new names, which are added to `names`, where sections are renamed.
 pub fn old_headers(
     alloc: Global,
     elf: &Elf,
@@ -62,7 +63,7 @@ pub fn old_headers(
     Ok(headers)
 }
 
-// A section in the new area.
+// The header of a section of `size` bytes at the address `addr`, which lies in the new area.
 fn area_section(
     name: u32,
     flags: u64,
@@ -85,7 +86,7 @@ fn area_section(
     })
 }
 
-/// The headers of the sections in the new area: the code, the unwind table and its index.
+/// Adds the headers of the sections in the new area: the code, and the unwind table and its index where there are any.
 pub fn area_headers(
     headers: &mut Vec<SectionHeader>,
     area: &Area,
@@ -110,7 +111,7 @@ pub fn area_headers(
 }
 
 impl<'a> NewContents<'a> {
-    // The bytes that are written for a section, if they stand behind the loaded ones.
+    // The bytes that are written behind the loaded ones for `section`, whose contents are at `contents`, if any are.
     fn written(&self, elf: &Elf<'a>, contents: Contents, section: &Section) -> Option<&'a [u8]> {
         match contents {
             Contents::Dropped | Contents::Inactive | Contents::Kept => None,
@@ -123,7 +124,7 @@ impl<'a> NewContents<'a> {
     }
 }
 
-// A header of no section, which has a name.
+// The header of a section that is left out, of which the name and these flags are left.
 fn no_section(name: u32, flags: u64) -> SectionHeader {
     SectionHeader {
         name,
@@ -139,7 +140,8 @@ fn no_section(name: u32, flags: u64) -> SectionHeader {
     }
 }
 
-/// Sets what a section's header says of its contents, but for the places of those that are written.
+/// Sets what a section's header says of its contents. Offsets and sizes of those that are written behind the loaded
+/// bytes are set where they are written.
 pub fn set_contents(
     header: &mut SectionHeader,
     section: &Section,
@@ -167,7 +169,7 @@ pub fn set_contents(
     }
 }
 
-// Writes the contents of the section of an index.
+// Writes `bytes`, the contents of the section at `index`, and sets its header's offset and size.
 fn place_bytes(
     headers: &mut [SectionHeader],
     index: usize,
@@ -184,8 +186,9 @@ fn place_bytes(
     Ok(())
 }
 
-/// Refuses contents that would end too far behind an offset, written from there in an order of their indices: past the
-/// largest file, or past many times the input, as zeros before a huge alignment make it.
+/// Finds where contents would end that are written from the offset `start` on, in the order `order`, before any is:
+/// past `OUTPUT_LIMIT`, or past the bytes that the input allows, is `TooLarge`. Zeros before huge alignments can make
+/// that of a small file.
 pub fn check_end<'a>(
     elf: &Elf<'a>,
     contents: &[Contents],
@@ -209,8 +212,8 @@ pub fn check_end<'a>(
     Ok(())
 }
 
-/// Writes the contents of sections behind the loaded bytes, in an order of their indices, and sets what their headers
-/// say of them.
+/// Writes the contents of sections behind the loaded bytes, in the order `order`, and sets the offsets and sizes in
+/// their headers.
 pub fn place_contents<'a>(
     elf: &Elf<'a>,
     contents: &[Contents],

@@ -1,4 +1,4 @@
-// How a written file lies before its tail: the input's bytes that are loaded, and the new area.
+// The part of a written file before its tail: the input's bytes that are loaded, and the new area.
 ghost use Rattle.std.specs.Prelude.{◌≡◌, ◌≤◌, IfOk, codes, is_none};
 ghost use Rattle.addr_map.specs.Spans.{owner};
 ghost use Rattle.elf_parts.specs.Parts.{size_of};
@@ -27,8 +27,9 @@ pub struct Layout {
     pub code: usize,
     pub area: Area,
     pub shift: Shift,
+    /// Where the input's bytes stand beside the area.
     pub parts: Parts,
-    /// The bytes of the area.
+    /// The bytes of the area from its new code on.
     pub bytes: Vec<u8>,
 }
 
@@ -40,7 +41,7 @@ impl Layout {
     ghost use Rattle.elf_plan.specs.TableSizes as spec;
     ghost use Rattle.elf_make.specs.FileParts.{IsLaidOut};
 
-    /// The loaded part of a file that is planned with this new code and these tables.
+    /// The loaded part of the file that `plan` was made for, with the same new code and tables.
     pub fn new(
         alloc: Global,
         elf: &Elf,
@@ -67,7 +68,7 @@ impl Layout {
         })
     }
 
-    /// Where the tail begins.
+    /// The offset at which the tail begins.
     pub fn end(&self) -> Result<u64, Unwritable>
         requires { self.now.parts.low ≤ self.now.parts.high }
         ensures { IfOk result (λ end. end ≡ size_of self.now.parts) }
@@ -77,8 +78,8 @@ impl Layout {
     }
 }
 
-/// Whether a map puts the new code into a segment of its own: no byte of it stands where it would start behind the
-/// executable segment.
+/// Whether the new code of a map has a segment of its own. Elsewhere it starts behind the executable segment, so a byte
+/// of it stands at that address.
 pub fn is_above(elf: &Elf, map: &AddrMap) -> Result<bool, Unwritable>
     ensures { IfOk result (λ above. above ≡ is_none (owner map.now (area_start elf.now.segments.items))) }
 {

@@ -33,7 +33,8 @@ use rb_bytes::fault::NoMemory;
 use rv_code::Emitted;
 use std::alloc::Global;
 
-// The parts of a file, with numbers and its table of program headers put over them.
+// The bytes of the file: its parts one behind another, and put over them the code cells, the table of program headers
+// and the fields of the ELF header. `Layout` where one of these doesn't lie in the file.
 fn put_together(
     alloc: Global,
     elf: &Elf,
@@ -73,7 +74,7 @@ fn put_together(
     Ok(file)
 }
 
-// The offsets of sections.
+// The offsets that section headers say.
 fn places_of(alloc: Global, headers: &[SectionHeader]) -> Result<Vec<u64>, NoMemory> {
     let mut places = Vec::new(alloc);
     for header in headers {
@@ -82,7 +83,7 @@ fn places_of(alloc: Global, headers: &[SectionHeader]) -> Result<Vec<u64>, NoMem
     Ok(places)
 }
 
-// The fields of the file's header.
+// What the ELF header says. `Layout` where the entry point is no instruction of the map.
 fn fields_of(
     elf: &Elf,
     map: &AddrMap,
@@ -107,7 +108,7 @@ fn fields_of(
     })
 }
 
-/// The file that is planned, with this new code and these contents of code cells.
+/// The file that is planned, with the new code and the contents of code cells in `emitted`.
 pub fn made(
     alloc: Global,
     source: &SectionSource,

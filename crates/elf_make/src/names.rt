@@ -11,13 +11,14 @@ pub struct NameTable {
 }
 
 impl NameTable {
-    /// A table that has the bytes of another.
+    /// A table that begins with the bytes `old`.
     pub fn new(alloc: Global, old: &[u8]) -> Result<NameTable, NoMemory> {
         let bytes = Vec::from_slice(alloc, old)?;
         Ok(NameTable { bytes })
     }
 
-    /// Adds a name, given in two parts, and says at which index it stands. A table begins with a zero byte.
+    /// Adds the name that is `front` and `back` joined, and gives its offset in the table. An empty table gets a zero
+    /// byte first, since the offset 0 is that of the empty name. `TooLarge` where that passes 32 bits.
     pub fn add(&mut self, front: &[u8], back: &[u8]) -> Result<u32, Unwritable> {
         if self.bytes.is_empty() {
             self.bytes.push(0)?;

@@ -26,22 +26,22 @@ use elf_plan::unwritable::Unwritable;
 use elf_plan::weights::weight_by;
 use std::alloc::Global;
 
-// How many times the bytes of the input the tables of names and the copied contents may take together. Where no bytes
-// are shared they take about once as many.
+// How many times the bytes of the input the tables of names and the copied contents may take together. Where no section
+// or name shares bytes with others they take about as many as the input.
 const MOST_COPIES: u64 = 16;
 
 /// The sections of a written file.
 #[derive(Drop)]
 pub struct NewSections {
-    /// The headers of all sections.
+    /// The headers of all sections: those of the input, and behind them the added ones.
     pub headers: Vec<SectionHeader>,
     /// The index of the section with the names of sections.
     pub names: usize,
-    /// Where the table of headers stands.
+    /// The offset of the table of section headers.
     pub section_headers_at: u64,
 }
 
-// The tables of names: that of sections, and that of symbols, where it is another one.
+// The tables of names: that of sections, and that of symbols, where they aren't one table.
 #[derive(Drop)]
 struct NewNames {
     sections: NameTable,
@@ -58,7 +58,7 @@ impl NewNames {
         Ok(NewNames { sections, symbols })
     }
 
-    // The bytes of the table for symbols.
+    // The bytes of the table with the names of symbols.
     fn of_symbols(&self) -> &[u8] {
         match &self.symbols {
             Some(table) => table.bytes(),
@@ -67,13 +67,14 @@ impl NewNames {
     }
 }
 
-// A table with the bytes of the section of an index.
+// A table of names that begins with the bytes of the section at `index`.
 fn names_at(alloc: Global, elf: &Elf, index: usize) -> Result<NameTable, Unwritable> {
     let section = elf.sections.get(index).ok_or(Unwritable::Layout)?;
     Ok(NameTable::new(alloc, bytes_of(elf.file, section))?)
 }
 
-// The header of the table of ranges, where one is given and the input has none.
+// The header of the table of ranges, where one is given and the input has none. Its place and size are set where the
+// table is written.
 fn added_ranges(
     elf: &Elf,
     tables: &[Table],
@@ -98,7 +99,7 @@ fn added_ranges(
     }))
 }
 
-// The symbols that are added, with their names.
+// The symbols of cold parts, with their names added to the table of symbol names; none where symbols have no names.
 fn added_symbols(
     alloc: Global,
     source: &SectionSource,
@@ -117,7 +118,8 @@ fn added_symbols(
     }
 }
 
-// The bytes of the symbol table. Its header says how many symbols there are up to the last that is added.
+// The bytes of the new symbol table; no bytes where there is none. Where symbols are added its header's `sh_info`
+// counts them too: they are local, and stand behind the local ones. `text` is the index of the new code's section.
 fn new_symbols(
     alloc: Global,
     source: &SectionSource,
@@ -146,8 +148,9 @@ fn new_symbols(
     symbol_table(alloc, source.elf, section, &code, &added)
 }
 
-// Before names are made and contents copied: whether they fit a file. Names may be ends of one text and many headers
-// name the same bytes, so what a small file asks for may grow with its square; such a file isn't written.
+// Finds whether names and copied contents fit a file, before any is made. Names may be ends of one text, and many
+// headers may name the same bytes, so that what a small file asks for grows with the square of its size: that is
+// `TooLarge`.
 fn check_sizes(source: &SectionSource, contents: &[Contents]) -> Result<(), Unwritable>
     requires { AreLaidOut source.now.funcs.now }
 {
@@ -164,7 +167,7 @@ fn check_sizes(source: &SectionSource, contents: &[Contents]) -> Result<(), Unwr
     Ok(())
 }
 
-/// Writes the contents of all sections into a tail, and their headers behind them.
+/// Writes the contents of all sections into `tail`, and the table of their headers behind them.
 pub fn put(
     alloc: Global,
     source: &SectionSource,
@@ -214,7 +217,7 @@ pub fn put(
     })
 }
 
-// Writes the table of ranges behind all other contents, where the input has none, with its header.
+// Writes the table of ranges behind all other contents, if it has a header, and adds that as the last.
 fn put_ranges(
     header: Option<SectionHeader>,
     tables: &[Table],
@@ -233,7 +236,7 @@ fn put_ranges(
     Ok(())
 }
 
-// Sets what headers say of their contents, but for the places of those that are written.
+// Sets what the headers of the input's sections say of their contents, as `set_contents` does for one.
 fn set_all_contents(
     headers: &mut [SectionHeader],
     sections: &[Section],
@@ -245,7 +248,8 @@ fn set_all_contents(
     }
 }
 
-// Writes the table of headers, and says where it stands. No section stands behind the file's end.
+// Writes the table of headers, which ends the file, and gives its offset. Offsets past the file's end, which contents
+// without bytes may have, are set to that end.
 fn put_table(
     alloc: Global,
     headers: &mut Vec<SectionHeader>,

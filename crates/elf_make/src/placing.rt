@@ -15,7 +15,7 @@ use elf_plan::header_table::is_kept_table;
 use elf_plan::round::sum;
 use elf_plan::unwritable::Unwritable;
 
-// The bytes of the input that keep their places, where the area has a segment of its own.
+// The parts of a file whose new area has a segment of its own, behind all loaded bytes: these keep their offsets.
 fn tight_parts(segments: &[Segment], area: &Area) -> Result<Parts, Unwritable>
     ensures { IfOk result (λ parts. spec.IsAbove segments.now area.now parts) }
 {
@@ -29,7 +29,7 @@ fn tight_parts(segments: &[Segment], area: &Area) -> Result<Parts, Unwritable>
     })
 }
 
-// The parts of a file whose new area lies behind the executable segment, where others move.
+// The parts of a file whose new area lies behind the executable segment: the loaded bytes behind that move.
 fn parts_behind(segments: &[Segment], area: &Area, shift: &Shift) -> Result<Parts, Unwritable>
     ensures { IfOk result (λ parts. spec.IsBehind segments.now area.now shift.now parts) }
 {
@@ -53,7 +53,8 @@ fn parts_behind(segments: &[Segment], area: &Area, shift: &Shift) -> Result<Part
     }
 }
 
-// Whether parts lie apart, and come from an input of some size. The area doesn't stand in the file's header.
+// Whether the parts lie apart, and within an input of `input` bytes. `area` is the size of the area, which doesn't
+// stand in the ELF header.
 fn can_stand(parts: &Parts, input: usize, area: usize) -> bool
     ensures { IsTrue result ↔ (PartsFit parts.now input area × (64 ≤ parts.now.keep)) }
 {
@@ -65,8 +66,8 @@ fn can_stand(parts: &Parts, input: usize, area: usize) -> bool
         && parts.high <= input
 }
 
-/// How the loaded bytes of the input lie beside an area of so many bytes. Where they can't, as where the area would
-/// stand on the file's header, no memory has room for the file.
+/// How the loaded bytes of an input of `input` bytes lie beside `area`, which has `bytes` bytes. `Layout` where they
+/// can't, as where the area would stand on the ELF header.
 pub fn parts_of(
     segments: &[Segment],
     area: &Area,
@@ -91,8 +92,8 @@ pub fn parts_of(
     Ok(parts)
 }
 
-/// Where the table of program headers stands: with the new code, where it stood, or behind the loaded bytes, where
-/// zeros are added for it.
+/// The offset of the table of program headers: at the front of the area's own segment; else where it went with the
+/// bytes beside it; else in `tail`, to which zeros are added for it. It isn't in the ELF header.
 pub fn table_place(
     elf: &Elf,
     area: &Area,
@@ -117,7 +118,7 @@ pub fn table_place(
     Ok(place)
 }
 
-// Whether a number has one of the widths of a field, fits it, and lies within so many bytes.
+// Whether a number is 1, 2, 4 or 8 bytes wide, fits these, and lies within the first `size` bytes.
 fn can_put(size: usize, n: &NumberAt) -> bool
     ensures { IsTrue result ↔ CanPut size n.now }
 {
@@ -133,7 +134,7 @@ fn can_put(size: usize, n: &NumberAt) -> bool
     fits && n.offset as u128 + n.width as u128 <= size as u128
 }
 
-/// Whether all numbers can be put over bytes of a file of this size.
+/// Whether all numbers can be put over the bytes of a file of `size` bytes.
 pub fn can_put_all(size: usize, numbers: &[NumberAt]) -> bool
     ensures { IsTrue result ↔ All (CanPut size) numbers.now }
 {

@@ -22,14 +22,15 @@ use std::collections::BTreeMap;
 pub struct NewCode<'a> {
     pub funcs: &'a [Func],
     pub map: &'a AddrMap,
-    /// The fragments of functions in it.
+    /// The fragments of functions in the new code.
     pub fragments: &'a [Fragment],
-    /// The index of its section.
+    /// The index of the section with the new code.
     pub section: u16,
 }
 
 impl<'a> NewCode<'a> {
-    // How many bytes of the function that has an address of the input follow at one of the new code.
+    // How many bytes of the function that holds the address `old` of the input follow from the address `new` of the new
+    // code on, up to the end of the fragment.
     fn size_from(&self, old: u64, new: u64) -> u64
         requires { AreLaidOut self.now.funcs.now }
     {
@@ -39,7 +40,8 @@ impl<'a> NewCode<'a> {
         }
     }
 
-    // A symbol as it stands in the written file.
+    // `symbol` as it stands in the written file: with the new place of the instruction that it names, if it names one.
+    // `name` is the offset of its name, which doesn't change.
     fn entry_of(&self, symbol: &Symbol, name: u32) -> SymbolEntry
         requires { AreLaidOut self.now.funcs.now }
     {
@@ -61,7 +63,8 @@ impl<'a> NewCode<'a> {
         entry
     }
 
-    // The symbol of the cold part that begins with the instruction at an address of the input.
+    // The symbol of the cold part that begins with the instruction at `address` in the input, with its name at the
+    // offset `name`.
     fn cold_entry(&self, address: u64, name: u32) -> Option<SymbolEntry>
         requires { AreLaidOut self.now.funcs.now }
     {
@@ -77,7 +80,8 @@ impl<'a> NewCode<'a> {
     }
 }
 
-/// The symbols of cold parts, with their names added to a table.
+/// The symbols of the cold parts that begin at the addresses `cold` of the input, with their names added to `table`. A
+/// part of a function without a name gets none.
 pub fn cold_symbols(
     alloc: Global,
     names: &BTreeMap<u64, Symbol>,
@@ -99,7 +103,8 @@ pub fn cold_symbols(
     Ok(entries)
 }
 
-/// The bytes of the symbol table: those of the cold parts stand behind the first ones, which are local.
+/// The bytes of the symbol table: the input's symbols, with those of cold parts behind its local ones, and what stands
+/// behind its last whole symbol. gABI, "Symbol Table": local symbols come first, and `sh_info` counts them.
 pub fn symbol_table(
     alloc: Global,
     elf: &Elf,
@@ -129,7 +134,7 @@ pub fn symbol_table(
     Ok(bytes)
 }
 
-/// How many symbols stand before those that are added.
+/// How many symbols stand before those that are added: the local ones, by the `sh_info` of the table's header.
 pub fn local_count(elf: &Elf, section: &Section) -> usize {
     elf.symbols.len().min(section.info as usize)
 }

@@ -6,10 +6,10 @@ use elf_plan::round::{checked_rounded_up, sum};
 use elf_plan::unwritable::Unwritable;
 use std::alloc::Global;
 
-/// No file is written that has more bytes.
+/// The most bytes of a written file: a GiB.
 pub const OUTPUT_LIMIT: u64 = 1 << 30;
 
-/// An end of a file, if one may have so many bytes.
+/// `end`, or `TooLarge` where no file may have as many bytes.
 pub fn limited(end: u64) -> Result<u64, Unwritable>
     ensures { IfOk result (λ e. e ≡ end) }
 {
@@ -20,16 +20,16 @@ pub fn limited(end: u64) -> Result<u64, Unwritable>
     }
 }
 
-/// Where so many bytes end that stand behind others at a multiple of an alignment, of which 0 is none.
+/// Where `size` bytes end that stand at the first multiple of `align` at or behind `end`. An alignment of 0 means none.
 pub fn end_behind(end: u64, align: u64, size: usize) -> Result<u64, Unwritable> {
     let start = checked_rounded_up(align.max(1), end)?;
     limited(sum(start, size as u64)?)
 }
 
-/// Bytes from an offset of the file on, to which more are added.
+/// The end of a file, from the offset `base` on, to which bytes are added.
 #[derive(Drop)]
 pub struct Tail {
-    /// The offset at which they begin.
+    /// The offset at which its bytes begin.
     pub base: u64,
     bytes: Vec<u8>,
 }
@@ -37,7 +37,7 @@ pub struct Tail {
 impl Tail {
     ghost use Rattle.std.specs.Prelude.{◌≡◌, ◌+◌, ◌≤◌, IfOk, length};
 
-    /// No bytes, from an offset of the file on.
+    /// No bytes, from the offset `base` on.
     pub fn new(alloc: Global, base: u64) -> Tail
         ensures { result.base ≡ base }
     {
@@ -54,7 +54,7 @@ impl Tail {
         sum(self.base, self.bytes.len() as u64)
     }
 
-    /// Adds zeros up to a multiple of an alignment, of which 0 is none, and says where the file ends then.
+    /// Adds zeros up to a multiple of `align`, where 0 means none, and gives the offset at which the file ends then.
     pub fn align_to(&mut self, align: u64) -> Result<u64, Unwritable>
         ensures base { self.new.base ≡ self.old.base }
         ensures behind { IfOk result (λ place. self.old.base ≤ place) }
@@ -66,7 +66,7 @@ impl Tail {
         Ok(place)
     }
 
-    /// Adds bytes at a multiple of an alignment, and says where they stand.
+    /// Adds `bytes` at a multiple of `align`, and gives their offset.
     pub fn add(&mut self, align: u64, bytes: &[u8]) -> Result<u64, Unwritable>
         ensures { self.new.base ≡ self.old.base }
     {
@@ -76,7 +76,7 @@ impl Tail {
         Ok(place)
     }
 
-    /// Adds zeros.
+    /// Adds `count` zeros.
     pub fn fill(&mut self, count: usize) -> Result<(), Unwritable>
         ensures { self.new.base ≡ self.old.base }
     {
@@ -86,7 +86,7 @@ impl Tail {
         Ok(())
     }
 
-    /// What was added.
+    /// All bytes that were added.
     pub fn bytes(&self) -> &[u8]
         ensures { result.now ≡ self.now.bytes.items }
     {

@@ -4,7 +4,7 @@ use Rattle.std.specs.Prelude.{◌≡◌, ℕ, ◌+◌, ◌-◌, ◌≤◌, List,
 use Rattle.elf_parts.specs.declared.parts.Parts.{Parts}
 use Rattle.elf_parts.specs.Patches.{Stands}
 
--- they lie apart, and come from the input
+-- the parts lie apart in the written file, and come from the input
 pub record PartsFit (parts : Parts) (input_size area_size : ℕ) : Type 0 where
   pub front : parts.keep ≤ input_size
   pub apart : parts.keep ≤ parts.area_at
@@ -12,7 +12,7 @@ pub record PartsFit (parts : Parts) (input_size area_size : ℕ) : Type 0 where
   pub ordered : parts.low ≤ parts.high
   pub from_input : parts.high ≤ input_size
 
--- how many bytes they are together
+-- how many bytes a file of these parts has
 abbrev pub size_of : Parts → ℕ
 size_of parts = parts.behind_at + (parts.high - parts.low)
 

@@ -13,7 +13,7 @@ pub record Patch : Type 0 where
 abbrev pub put_patch : List ℕ → Patch → List ℕ
 put_patch file p = put p.offset p.bytes file
 
--- one after the other
+-- patches put one after another, so that later ones win
 abbrev pub put_all : List ℕ → List Patch → List ℕ
 put_all file patches = fold put_patch file patches
 

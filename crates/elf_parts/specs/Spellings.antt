@@ -52,7 +52,7 @@ pub record SegmentFits (p : Segment) : Type 0 where
   pub memsz : p.memsz < 256 ^ 8
   pub align : p.align < 256 ^ 8
 
--- tables of them
+-- tables of program headers and of section headers
 unfoldable pub segment_table : List Segment → List ℕ
 segment_table [] = []
 segment_table (p ∷ ps) = segment_bytes p ++ segment_table ps

@@ -30,8 +30,8 @@ fn put_patches(
     put_numbers(file, fields);
 }
 
-/// The parts of the input and the new area, with a tail behind them, and with code cells, the table of program headers
-/// and fields of the file's header put over their bytes, in this order.
+/// A file of the parts of `input` and the new `area`, with `tail` behind them. Over its bytes are put the code `cells`,
+/// then the `table` of program headers at `table_at`, then `fields` of the file's header, so that later ones win.
 pub fn assemble(
     alloc: Global,
     parts: &Parts,

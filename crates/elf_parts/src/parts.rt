@@ -6,12 +6,13 @@ use crate::patch::fill_to;
 use rb_bytes::fault::NoMemory;
 use std::alloc::Global;
 
-/// How the parts lie. All fields are offsets in bytes.
+/// How the parts lie, by offsets in bytes: `keep`, `low` and `high` in the input, `area_at` and `behind_at` in the
+/// written file.
 #[derive(Clone, Copy)]
 pub struct Parts {
     /// The bytes of the input below this keep their offsets.
     pub keep: usize,
-    /// Where the new area stands.
+    /// Where the new area stands, behind these bytes.
     pub area_at: usize,
     /// The bytes of the input from `low` to before `high` stand at `behind_at`.
     pub low: usize,
@@ -19,7 +20,7 @@ pub struct Parts {
     pub behind_at: usize,
 }
 
-/// The parts, with zeros between them.
+/// The parts in their order, with zeros where one doesn't follow the other at once.
 pub fn join_parts(
     alloc: Global,
     parts: &Parts,

@@ -13,7 +13,7 @@ pub fn put_bytes(file: &mut [u8], offset: usize, bytes: &[u8])
     file[offset..offset + bytes.len()].copy_from_slice(bytes);
 }
 
-/// Appends zeros until there are so many bytes.
+/// Appends zeros until there are `size` bytes.
 pub fn fill_to(out: &mut Vec<u8>, size: usize) -> Result<(), NoMemory>
     requires { length out.old.items ≤ size }
     ensures { OnOk result (out.new.items ≡ out.old.items ++ replicate (size - length out.old.items) 0) }

@@ -19,11 +19,11 @@ has_file_bytes p = is_load p && nat_lt 0 p.filesz
 abbrev pub file_end_of : Segment → ℕ
 file_end_of p = p.offset + p.filesz
 
--- where the last of them ends
+-- where the last of those bytes ends in the file
 abbrev pub loads_end : List Segment → ℕ
 loads_end segments = fold max 0 (map file_end_of (filter has_file_bytes segments))
 
--- where the first of those starts that stand at or behind an offset
+-- where the first of those bytes starts, of segments that start at `offset` in the file or behind it
 abbrev pub lower_start : Option ℕ → Segment → Option ℕ
 lower_start None p = Some p.offset
 lower_start (Some low) p = Some (min p.offset low)
@@ -47,7 +47,7 @@ code_file_end segments = file_end_of (code_segment segments)
 abbrev pub segment_address : List Segment → Bool → ℕ
 segment_address segments tight = if tight then new_segment_start segments else (code_segment segments).vaddr
 
--- its offset in the written file: a new one stands behind all bytes that the file loads
+-- the offset of that segment in the written file: a new one stands behind all bytes that the file loads
 abbrev pub segment_offset : List Segment → Bool → ℕ
 segment_offset segments tight =
     if tight
@@ -56,7 +56,7 @@ segment_offset segments tight =
 
 -- The area.
 
--- a table of some size, if there is one, behind an end: where it starts and ends
+-- where a table starts and ends that stands behind `end`; without a size it is none, and nothing is added
 abbrev pub table_start : ℕ → ℕ → Option ℕ → Option ℕ
 table_start align end None = None
 table_start align end (Some size) = Some (rounded_up align end)
@@ -65,7 +65,7 @@ abbrev pub table_end : ℕ → ℕ → Option ℕ → ℕ
 table_end align end None = end
 table_end align end (Some size) = rounded_up align end + size
 
--- by the sizes of the code and of the two tables
+-- the area, by the sizes of its code, of the unwind table and of its index
 abbrev pub area_of : List Segment → Bool → ℕ → Option ℕ → Option ℕ → Area
 area_of segments tight code frames index =
     let code_end = area_start_of segments tight + code in
@@ -81,14 +81,14 @@ area_of segments tight code frames index =
       end = table_end 4 frames_end index;
     }
 
--- where an address of the area is in the written file
+-- the offset in the written file of the address `a` of the area
 abbrev pub area_offset : Area → ℕ → ℕ
 area_offset area a = area.offset + (a - area.address)
 
 -- Where loaded bytes of the input are.
 
 -- The bytes at and behind the executable segment's end move by the least multiple of the greatest alignment
--- that makes room for the area. In a file with a segment of its own none moves.
+-- that makes room for the area. Where the area has a segment of its own none moves.
 abbrev pub step_of : List Segment → Area → ℕ
 step_of segments area =
     if area.tight

@@ -41,16 +41,16 @@ loaded_end segments area shift =
 
 -- The table of program headers.
 
--- The one of the input, and whether it stands among bytes that are kept or move:
--- before the end of the executable segment, or whole in a loaded one.
+-- The table of the input, and whether it stands among bytes that are kept or move: before the end of the executable
+-- segment, or whole in a loaded one.
 abbrev pub table_of : Elf → Range
 table_of elf = record { start = elf.phoff; size = PHDR_SIZE * length elf.segments.items }
 
 abbrev pub is_kept_table : Elf → Shift → Bool
 is_kept_table elf shift = nat_lt elf.phoff shift.from || list_any (loads_range (table_of elf)) elf.segments.items
 
--- Where it stands in the written file: at the front of the area's segment, or with the bytes beside it,
--- or else behind the loaded bytes.
+-- Where the table stands in the written file: at the front of the area's own segment, or with the bytes beside it, or
+-- else behind the loaded bytes.
 abbrev pub table_place : Elf → Area → Shift → ℕ
 table_place elf area shift =
     if area.tight then area.offset
@@ -65,26 +65,26 @@ is_written Inactive = false
 is_written Kept = false
 is_written _ = true
 
--- where they begin: the table of program headers may stand before them
+-- where these contents begin: the table of program headers may stand before them
 abbrev pub contents_start : Elf → Area → Shift → ℕ
 contents_start elf area shift =
     if area.tight || is_kept_table elf shift
     then loaded_end elf.segments.items area shift
     else table_place elf area shift + (table_of elf).size
 
--- A section has this offset and this index, and passes a test.
+-- The section at the index `place.1` has the offset `place.0`, and passes `test`.
 abbrev pub PassesAt : List Section → (ℕ → Section → Bool) → ℕ × ℕ → Type 0
 PassesAt sections test place = IsSomeAnd (slice_get sections place.1)
     (λ s. (s.offset ≡ place.0) × IsTrue (test place.1 s))
 
--- The contents of the section of an index stand at the least multiple of their alignment, of which 0 is none,
--- at or behind an offset, and end before another.
+-- The contents of the section at `index` stand at the least multiple of their alignment, where 0 means none, at or
+-- behind `start`, and end at `end`.
 abbrev pub StandsBehind : List Section → ℕ → ℕ → ℕ → Type 0
 StandsBehind sections start index end =
     IsSomeAnd (slice_get sections index) (λ n. (n.offset ≡ rounded_up (max 1 n.align) start)
     × (end ≡ n.offset + n.size))
 
--- those of the sections of some indices, one behind another
+-- the contents of the sections at `indices` stand so, one behind another
 abbrev pub StandFrom : List Section → ℕ → List ℕ → ℕ → Type 0
 StandFrom sections start [] end = end ≡ start
 StandFrom sections start (index ∷ indices) end =

@@ -9,7 +9,7 @@ use Rattle.elf_plan.specs.declared.area.Shift.{Shift}
 use Rattle.elf_plan.specs.declared.kept_bytes.KeptBytes.{KeptBytes}
 use Rattle.elf_plan.specs.Contents.{stays}
 
--- those before a front, and those in one of some ranges
+-- the bytes from `start` to before `end` stand before `front`, or in one range of `moved`
 abbrev pub IsKeptBy : ℕ → List Extent → ℕ → ℕ → Type 0
 IsKeptBy front moved start end = (end ≤ front) ⊎ IsInOneExtent moved start end
 

@@ -7,7 +7,7 @@ use Rattle.elf_image.specs.declared.segment.Segment.{Segment}
 use Rattle.elf_plan.specs.HeaderPlaces.{loads_one}
 use Rattle.elf_plan.specs.RangeTree.{IsReachOf}
 
--- whether a range has one of these numbers
+-- whether `range` has one of the numbers from `start` to before `end`
 abbrev pub meets : ℕ → ℕ → Extent → Bool
 meets start end range = nat_lt (max start range.start) (min end range.end)
 
@@ -17,7 +17,7 @@ pub record AreInOrder (sorted reaches : List Extent) : Type 0 where
   pub full : All (λ s. s.start < s.end) sorted
   pub reach : IsReachOf reaches sorted
 
--- They have the bytes that segments load.
+-- Ranges have just the bytes that segments load.
 abbrev pub HaveLoaded : List Segment → List Extent → Type 0
 HaveLoaded segments ranges = (start end : ℕ) →
     list_any (meets start end) ranges ≡ list_any (loads_one start end) segments

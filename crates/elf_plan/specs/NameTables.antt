@@ -11,21 +11,21 @@ use Rattle.elf_image.specs.file.Header.{e_shstrndx}
 abbrev pub names_of_sections : Elf → Option Section
 names_of_sections elf = slice_get elf.sections.items (e_shstrndx elf.file.now)
 
--- the one with the symbols, and its index
+-- the section with the symbols, and its index
 abbrev pub symbols_section : Elf → Option Section
 symbols_section elf = find (λ s. s.kind == SHT_SYMTAB) elf.sections.items
 
 abbrev pub place_of_symbols : Elf → Option ℕ
 place_of_symbols elf = position (λ s. s.kind == SHT_SYMTAB) elf.sections.items
 
--- the one with the names of symbols, where there are symbols
+-- the section with the names of symbols, where there are symbols
 abbrev pub names_of_symbols : Elf → Option Section
 names_of_symbols elf =
     if length elf.symbols.items == 0
     then None
     else option_map_or (λ s. slice_get elf.sections.items s.link) (symbols_section elf) None
 
--- its index, if there is a section of that
+-- the index of that, if there is a section at it
 abbrev pub among : List Section → ℕ → Option ℕ
 among sections index = if nat_lt index (length sections) then Some index else None
 

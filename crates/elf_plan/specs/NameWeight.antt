@@ -10,7 +10,7 @@ use Rattle.elf_plan.specs.NameTables.{names_of_sections, names_of_symbols, size_
 use Rattle.file_room.specs.Numbers.{capped}
 use Rattle.elf_plan.specs.OldNames.{is_renamed}
 
--- a name that is written anew, with a mark before or behind it
+-- a bound on the bytes of a name that is written anew, with a mark before or behind it and a zero byte
 abbrev pub weight_of : List ℕ → ℕ
 weight_of name = 8 + length name
 

@@ -24,31 +24,31 @@ use Rattle.elf_plan.specs.OldNames.{new_name}
 
 -- Sections of the input.
 
--- What stays of the header of one that isn't dropped.
+-- What stays of the header of a section that isn't dropped.
 pub record KeepsFields (s n : Section) : Type 0 where
   pub addr : n.addr ≡ s.addr
   pub link : n.link ≡ s.link
   pub align : n.align ≡ s.align
   pub entsize : n.entsize ≡ s.entsize
 
--- all of it, but for the type and what it says of the contents
+-- all of a header stays, but for its type and what it says of the contents
 pub record KeepsHeader (s n : Section) : Type 0 where
   pub fields : KeepsFields s n
   pub flags : n.flags ≡ s.flags
   pub info : n.info ≡ s.info
 
--- the contents stand at the section's alignment, of which 0 is none
+-- the contents stand at the section's alignment, where 0 means none
 abbrev pub IsAligned : Section → Type 0
 IsAligned n = n.offset % max 1 n.align ≡ 0
 
--- the contents are these bytes
+-- the contents of the section are `bytes`
 pub record HoldsContents (w bytes : List ℕ) (n : Section) : Type 0 where
   pub contents : section_bytes w n ≡ bytes
   pub size : n.size ≡ length bytes
   pub aligned : IsAligned n
 
--- A header of no section says nothing but its name. One that was loaded and has the name of a debug table still says
--- that it is loaded, since the name would mean it otherwise.
+-- What is left of a section that is dropped is a header of no section, which says nothing but its name. Where it was
+-- loaded and has the name of a debug table, it still says that it is loaded, since the name would mean it otherwise.
 abbrev pub flags_left : Section → ℕ
 flags_left s = if is_loaded s && names_debug s.name.now then SHF_ALLOC else 0
 
@@ -63,7 +63,7 @@ pub record IsDropped (s n : Section) : Type 0 where
   pub align : n.align ≡ 0
   pub entsize : n.entsize ≡ 0
 
--- One that was there says what it said, but no offset past the end of the file.
+-- A header of no section that the input has says what it said, but no offset past the end of the file.
 pub record IsInactive (w : List ℕ) (s n : Section) : Type 0 where
   pub kind : n.kind ≡ s.kind
   pub same : KeepsHeader s n
@@ -77,7 +77,7 @@ pub record IsKept (shift : Shift) (w : List ℕ) (s n : Section) : Type 0 where
   pub offset : n.offset ≡ min (moved_by shift.from shift.by s.offset) (length w)
   pub size : n.size ≡ s.size
 
--- Others are written anew, or as they were.
+-- Other contents are written anew, or as they were.
 pub record HasNewContents (w bytes : List ℕ) (kind : ℕ) (s n : Section) : Type 0 where
   pub kind_is : n.kind ≡ kind
   pub same : KeepsHeader s n
@@ -103,11 +103,11 @@ pub record IsNameTable (s n : Section) : Type 0 where
 abbrev pub kind_of_given : ℕ → ℕ
 kind_of_given kind = if kind == SHT_NOBITS then SHT_PROGBITS else kind
 
--- the bytes of a table by its place
+-- the bytes of the table at the index `t`
 abbrev pub given_bytes : {Y Z : Type 0} → List (String Y × Vec ℕ Z) → ℕ → List ℕ
 given_bytes tables t = option_map_or (λ table. table.1.items) (slice_get tables t) []
 
--- by where the contents are
+-- The section `n` is what `s` becomes, by where its contents are.
 abbrev pub Follows : {Y Z : Type 0} → List (String Y × Vec ℕ Z) → Shift → List ℕ → List ℕ → Contents → Section →
     Section → Type 0
 Follows tables shift file w Dropped s n = IsDropped s n
@@ -136,12 +136,12 @@ pub record IsAdded (w name bytes : List ℕ) (flags addr align : ℕ) (n : Secti
   pub contents : section_bytes w n ≡ bytes
   pub size : n.size ≡ length bytes
 
--- one in the new area
+-- a section that is added in the new area
 pub record IsInArea (w : List ℕ) (area : Area) (name bytes : List ℕ) (flags addr align : ℕ) (n : Section) : Type 0 where
   pub added : IsAdded w name bytes flags addr align n
   pub offset : n.offset ≡ area_offset area addr
 
--- the bytes of the table with a name, if there is one
+-- the bytes of the first table called `name`; none where there is no such table
 abbrev pub bytes_called : {Y Z : Type 0} → List (String Y × Vec ℕ Z) → List ℕ → List ℕ
 bytes_called tables name = option_map_or (λ t. t.1.items) (find (λ t. bytes_eq (string_bytes t.0) name) tables) []
 
@@ -151,7 +151,7 @@ adds_ranges sections tables =
     is_some (find (λ t. bytes_eq (string_bytes t.0) (codes ".debug_rnglists")) tables)
     && is_none (section_called sections (codes ".debug_rnglists"))
 
--- a property of the section of an index, if there is one
+-- P holds of the section at `index`, if there is one
 abbrev pub At : List Section → ℕ → (Section → Type 0) → Type 0
 At sections index P = IfSome (slice_get sections index) P
 

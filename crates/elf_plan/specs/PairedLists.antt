@@ -6,7 +6,7 @@ pub record GoTogether {A B : Type 0} (R : A → B → Type 0) (xs : List A) (ys 
   pub count : length ys ≡ length xs
   pub each : (i : ℕ) (x : A) (y : B) → slice_get xs i ≡ Some x → slice_get ys i ≡ Some y → R x y
 
--- the elements below a place do
+-- the elements below the index `n` do
 abbrev pub GoTogetherBelow : {A B : Type 0} → (A → B → Type 0) → ℕ → List A → List B → Type 0
 GoTogetherBelow {A} {B} R n xs ys = (i : ℕ) (x : A) (y : B) → i < n → slice_get xs i ≡ Some x →
     slice_get ys i ≡ Some y → R x y

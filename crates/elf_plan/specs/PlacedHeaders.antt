@@ -17,7 +17,7 @@ outline places = record {
   file_size = places.file_size;
 }
 
--- headers of the input, each by its index
+-- what each header of the input is in the written file
 abbrev pub AreNewEach : Places → ℕ → List Segment → Type 0
 AreNewEach places code qs = (contents : ℕ → Section → Contents) →
     AreContents contents places.elf.now.sections.items places.contents.now →
@@ -26,7 +26,7 @@ AreNewEach places code qs = (contents : ℕ → Section → Contents) →
     (outline places)
     (grows_at places.area.tight code i) p q
 
--- all headers, of which the executable segment's has an index
+-- all headers; `code` is the index of the executable segment's
 pub record AreMade (places : Places) (code : ℕ) (qs : List Segment) : Type 0 where
   pub headers : AreNewHeaders places.shift.from places.shift.by places.area code places.elf.now.segments.items qs
   pub each : AreNewEach places code headers.renewed

@@ -22,7 +22,7 @@ pub record Arranges {Y Z : Type 0} (elf : Elf) (tables : List (String Y × Vec �
   pub order_is : ListsPairs (PassesAt elf.sections.items (λ i s. is_written (contents_of elf tables area shift i s)))
       order
 
--- A plan for a file with this new code and these tables, with an area in a segment of its own or not.
+-- The plan for a file with the new code `code` and these tables; `tight` says whether the area has its own segment.
 pub record IsPlanOf {Y Z : Type 0} (elf : Elf) (tables : List (String Y × Vec ℕ Z)) (code : List ℕ) (tight : Bool)
     (plan : Plan) : Type 0 where
   pub executable : Segment

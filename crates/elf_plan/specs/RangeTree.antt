@@ -6,7 +6,7 @@ use Rattle.elf_image.specs.internal.Extents.{IsInOneExtent}
 use Rattle.elf_plan.specs.declared.range_tree.Node.{Node}
 use Rattle.elf_plan.specs.declared.range_tree.Node.TheVariants.{Leaf, Fork}
 
--- whether a range holds the numbers from one to before another
+-- whether `range` holds all numbers from `start` to before `end`
 abbrev pub covers : ℕ → ℕ → Extent → Bool
 covers start end range = nat_le range.start start && nat_le end range.end
 
@@ -15,7 +15,7 @@ abbrev pub ranges_of : Node → List Extent
 ranges_of Leaf = []
 ranges_of (Fork before range behind reaches) = before.value ++ range ∷ behind.value
 
--- Ranges that rise, and hold what others hold.
+-- Ranges that rise, and hold what `ranges` hold.
 pub record IsReachOf (reaches ranges : List Extent) : Type 0 where
   pub rising : IsNonDecreasingBy (λ s. s.start) reaches
   pub growing : IsNonDecreasingBy (λ s. s.end) reaches

@@ -8,13 +8,13 @@ use Rattle.elf_plan.specs.declared.sections.Sections.{Sections}
 use Rattle.elf_plan.specs.Contents.{contents_by, is_at, own_contents}
 use Rattle.elf_plan.specs.FileLayout.{is_written}
 
--- the contents of the section of an index are written
+-- the contents of the section `s` at `index` are written
 abbrev pub is_written_by : Sections → List Segment → Area → Shift → ℕ → Section → Bool
 is_written_by known segments area shift index s =
     is_written (contents_by known.own.section_names known.own.symbols known.own.symbol_names
     (position (is_at index) known.replaced.now) (own_contents segments area shift s) index s)
 
--- the offset of the section of an index, if there is one and it passes a test
+-- the offset of the section at `index`, if there is one and it passes `test`
 abbrev pub offset_if : (ℕ → Section → Bool) → ℕ → Option Section → Option ℕ
 offset_if test index None = None
 offset_if test index (Some s) = if test index s then Some s.offset else None

@@ -11,7 +11,7 @@ use elf_image::segment::PT_LOAD;
 use file_room::{area_start_of, greatest_align, new_segment_start};
 use rb_bytes::fault::NoMemory;
 
-// The alignments of an unwind table, and of its index.
+// The alignments of the unwind table and of its index. `elf_make` and `elf_check` name the same ones.
 const FRAMES_ALIGN: u64 = 8;
 
 const INDEX_ALIGN: u64 = 4;
@@ -19,25 +19,26 @@ const INDEX_ALIGN: u64 = 4;
 /// The new area: the new code, and behind it the tables that are loaded.
 #[derive(Clone, Copy)]
 pub struct Area {
-    /// Whether it stands in a segment of its own.
+    /// Whether it stands in a segment of its own, for want of room behind the executable one.
     pub tight: bool,
     /// The address of its segment.
     pub address: u64,
-    /// That segment's offset in the written file.
+    /// The offset of that segment in the written file.
     pub offset: u64,
-    /// Where the new code starts and ends.
+    /// The addresses at which the new code starts and ends.
     pub start: u64,
     pub code_end: u64,
-    /// Where the unwind table and its index start, if they are there.
+    /// The addresses of the unwind table and of its index, where there are such tables.
     pub frames: Option<u64>,
     pub index: Option<u64>,
+    /// The address at which the area ends.
     pub end: u64,
 }
 
 impl Area {
     ghost use Rattle.elf_plan.specs.Area.{area_offset};
 
-    /// Where an address of the area is in the written file.
+    /// The offset in the written file of the byte at `address`, which lies in the area.
     pub fn offset_of(&self, address: u64) -> Result<u64, Unwritable>
         ensures { IfOk result (λ offset. offset ≡ area_offset self.now address) }
     {
@@ -51,7 +52,7 @@ fn has_file_bytes(p: &Segment) -> bool
     p.kind == PT_LOAD && p.filesz > 0
 }
 
-// Where the bytes of a program header end in the file.
+// The offset at which the bytes of a segment end in the file.
 fn file_end_of(p: &Segment) -> u128
     ensures end { result ≡ spec.file_end_of p.now }
     ensures low { result < 2 ^ 65 }
@@ -59,7 +60,7 @@ fn file_end_of(p: &Segment) -> u128
     p.offset as u128 + p.filesz as u128
 }
 
-/// Where the last loaded byte ends in the file.
+/// The greatest offset at which the bytes of a loaded segment end in the file; 0 where none has bytes there.
 pub fn loads_end(segments: &[Segment]) -> Result<u64, Unwritable>
     ensures { IfOk result (λ end. end ≡ spec.loads_end segments.now) }
 {
@@ -72,7 +73,7 @@ pub fn loads_end(segments: &[Segment]) -> Result<u64, Unwritable>
     in_64_bits(end)
 }
 
-/// Where the first loaded byte at or behind an offset stands in the file.
+/// The lowest offset, from `offset` on, at which a loaded segment's bytes start in the file.
 pub fn lowest_behind(segments: &[Segment], offset: u64) -> Option<u64>
     ensures { result ≡ spec.lowest_behind offset segments.now }
 {
@@ -112,7 +113,7 @@ fn segment_offset(segments: &[Segment], code: &Segment, tight: bool) -> Result<u
     }
 }
 
-// Where a table starts behind an end, if there is one.
+// Where a table starts that stands behind `end`; None without a size, which is no table.
 fn table_start(align: u64, end: u64, size: Option<usize>) -> Result<Option<u64>, Unwritable>
     requires { 0 < align }
     ensures { IfOk result (λ start. start ≡ spec.table_start align end size) }
@@ -123,7 +124,7 @@ fn table_start(align: u64, end: u64, size: Option<usize>) -> Result<Option<u64>,
     }
 }
 
-// Where it ends; without one nothing is added.
+// Where a table ends that stands behind `end`; `end` itself without a size, which is no table.
 fn table_end(align: u64, end: u64, size: Option<usize>) -> Result<u64, Unwritable>
     requires { 0 < align }
     ensures { IfOk result (λ after. after ≡ spec.table_end align end size) }
@@ -134,7 +135,8 @@ fn table_end(align: u64, end: u64, size: Option<usize>) -> Result<u64, Unwritabl
     }
 }
 
-/// The area for so many bytes of code, and for tables of these sizes, in a file with this executable segment.
+/// The area for `code` bytes of new code, and behind it an unwind table of `frames` bytes and its index of `index`
+/// bytes, each where it has a size. `executable` is the executable segment; `tight` says whether the area gets its own.
 pub fn area_of(
     segments: &[Segment],
     executable: &Segment,
@@ -161,8 +163,8 @@ pub fn area_of(
     })
 }
 
-/// The addresses of an unwind table of so many bytes, and of its index, in an area that starts at an address with so
-/// many bytes of code.
+/// The addresses of an unwind table of `frames` bytes and of its index, behind `code` bytes of new code from `start`
+/// on: those that `area_of` gives them. Addresses that don't fit 64 bits are answered as want of memory.
 pub fn table_places(start: u64, code: usize, frames: usize) -> Result<(u64, u64), NoMemory>
     ensures frames { IfOk result (λ places. spec.table_start 8 (start + code) (Some frames) ≡ Some places.0) }
     ensures index { IfOk result (λ places. (index : ℕ) →
@@ -180,18 +182,19 @@ fn places_behind(start: u64, code: usize, frames: usize) -> Result<(u64, u64), U
     Ok((at, index_at))
 }
 
-/// Where bytes of the input are in the written file: those from an offset on move.
+/// Where bytes of the input are in the written file: those from the offset `from` on stand `by` bytes higher.
 #[derive(Clone, Copy)]
 pub struct Shift {
-    /// The end of the executable segment in the input.
+    /// The offset at which the executable segment ends in the input.
     pub from: u64,
+    /// How many bytes they move: a multiple of the greatest alignment of a segment, or 0.
     pub by: u64,
 }
 
 impl Shift {
     ghost use Rattle.elf_plan.specs.Area.{code_segment, moved_by, shift_of};
 
-    /// How the bytes behind the executable segment make room for an area.
+    /// How the bytes behind the executable segment make room for `area`.
     pub fn new(segments: &[Segment], executable: &Segment, area: &Area) -> Result<Shift, Unwritable>
         requires { executable.now ≡ code_segment segments.now }
         ensures { IfOk result (λ shift. shift ≡ shift_of segments.now area.now) }
@@ -203,7 +206,7 @@ impl Shift {
         })
     }
 
-    /// Where the byte at an offset is, if it has a place in the file.
+    /// Where the byte at `offset` went, as a number that may pass 64 bits.
     pub fn reach(&self, offset: u64) -> u128
         ensures is { result ≡ moved_by self.now.from self.now.by offset }
         ensures low { result < 2 ^ 65 }
@@ -215,7 +218,7 @@ impl Shift {
         }
     }
 
-    /// Where the byte at an offset went.
+    /// Where the byte at `offset` went, or `Layout` where that passes 64 bits.
     pub fn moved(&self, offset: u64) -> Result<u64, Unwritable>
         ensures { IfOk result (λ o. o ≡ moved_by self.now.from self.now.by offset) }
     {
@@ -227,7 +230,7 @@ impl Shift {
     }
 }
 
-// How far the bytes from an offset on move to make room for an area.
+// How far the bytes from the offset `from` on move, so that `area` ends before the first of them that is loaded.
 fn step_of(segments: &[Segment], from: u64, area: &Area) -> Result<u64, Unwritable>
     requires { from ≡ spec.code_file_end segments.now }
     ensures { IfOk result (λ step. step ≡ spec.step_of segments.now area.now) }

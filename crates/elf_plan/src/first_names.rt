@@ -12,7 +12,7 @@ use rv_code::Func;
 use std::alloc::Global;
 use std::collections::BTreeMap;
 
-/// Of each function the first symbol that names it, by the address where the function starts.
+/// The first symbol that names each function, by the address at which the function starts.
 pub fn first_names<'a>(
     alloc: Global,
     symbols: &[Symbol<'a>],
@@ -28,7 +28,7 @@ pub fn first_names<'a>(
     Ok(names)
 }
 
-/// The symbol by which a cold part is called, which begins at an address of the input.
+/// The symbol by which the cold part that begins at `address` in the input is called: that of the function around it.
 pub fn named_around<'a>(
     names: &BTreeMap<u64, Symbol<'a>>,
     funcs: &[Func],

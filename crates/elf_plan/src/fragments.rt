@@ -1,4 +1,4 @@
-// Fragments: stretches of new code whose bytes belong to one function.
+// Fragments: stretches of new code, each of one function. A symbol's size is what is left of its fragment.
 ghost use Rattle.std.specs.Prelude.{◌≡◌, ◌≤◌, ◌<◌, ◌++◌, ◌∷◌, [], ℕ, IfOk, List, OnOk, length, option_map, slice_get};
 ghost use Rattle.std.specs.Prelude.{IsTrue, Some, slice_index_or};
 ghost use Rattle.addr_map.specs.declared.span.Span.{Span};
@@ -16,15 +16,16 @@ use rv_code::Func;
 use rv_code::functions::{func_holds, function_at};
 use std::alloc::Global;
 
-/// A stretch of new code that belongs to one function, whose place in the list of functions is given.
+/// A longest stretch of new code, from `start` to before `end`, whose bytes belong to one function.
 #[derive(Clone, Copy)]
 pub struct Fragment {
     pub start: u64,
     pub end: u64,
+    /// The index of the function in the list of functions.
     pub func: usize,
 }
 
-/// Where the function starts that has an address.
+/// Where the function starts that holds `address`.
 pub fn start_around(funcs: &[Func], address: u64) -> Option<u64>
     requires { AreLaidOut funcs.now }
     ensures { result ≡ start_around funcs.now address }
@@ -33,15 +34,15 @@ pub fn start_around(funcs: &[Func], address: u64) -> Option<u64>
     function_start(funcs, func)
 }
 
-// Where the function starts that has a place in the list.
+// Where the function at the index `place` starts.
 fn function_start(funcs: &[Func], place: usize) -> Option<u64>
     ensures { result ≡ option_map (λ f. f.start) (slice_get funcs.now place) }
 {
     funcs.get(place).map(|f| f.start)
 }
 
-/// All fragments, by address. The spans of a map lie in the order of their bytes, share none, and are of functions;
-/// where they weren't, no file would be written.
+/// All fragments, by address. `Layout` is answered where the map isn't one of these functions: where its spans aren't
+/// in the order of their bytes, share some, or are of instructions of no function.
 pub fn fragments(alloc: Global, funcs: &[Func], map: &AddrMap) -> Result<Vec<Fragment>, Unwritable>
     requires { AreLaidOut funcs.now }
     ensures { IfOk result (λ fragments. AreFragments funcs.now map.now fragments.items) }
@@ -54,7 +55,7 @@ pub fn fragments(alloc: Global, funcs: &[Func], map: &AddrMap) -> Result<Vec<Fra
     Ok(fragments)
 }
 
-// Adds the bytes of a span behind those of others.
+// Adds the bytes of `span` behind those of the spans before it.
 fn add_span(fragments: &mut Vec<Fragment>, funcs: &[Func], span: &Span) -> Result<(), Unwritable>
     requires { AreLaidOut funcs.now }
     ensures { OnOk result ((spans : List Span) → AreFragments funcs.now spans fragments.old.items →
@@ -70,7 +71,7 @@ fn add_span(fragments: &mut Vec<Fragment>, funcs: &[Func], span: &Span) -> Resul
     Ok(())
 }
 
-// The function of the last fragment, or the first one.
+// The index of the last fragment's function; 0 without a fragment.
 fn last_func(fragments: &[Fragment]) -> usize {
     match fragments.last() {
         Some(last) => last.func,
@@ -78,7 +79,7 @@ fn last_func(fragments: &[Fragment]) -> usize {
     }
 }
 
-// The function in which an address lies. That of an index is looked at first: mostly the next span is of the same one.
+// The function that holds `address`. `near` is tried first: most spans are of the same function as the one before.
 fn function_near(funcs: &[Func], near: usize, address: u64) -> Option<usize>
     requires { AreLaidOut funcs.now }
     ensures { result ≡ function_at funcs.now address }
@@ -89,7 +90,7 @@ fn function_near(funcs: &[Func], near: usize, address: u64) -> Option<usize>
     function_at(funcs, address)
 }
 
-// Whether an address lies in the function of an index.
+// Whether the function at `index` holds `address`.
 fn is_in(funcs: &[Func], index: usize, address: u64) -> bool
     requires { AreLaidOut funcs.now }
     ensures { IsTrue result → function_at funcs.now address ≡ Some index }
@@ -100,7 +101,7 @@ fn is_in(funcs: &[Func], index: usize, address: u64) -> bool
     func_holds(&funcs[index], address)
 }
 
-// Adds a fragment behind others, or its bytes to the last of them.
+// Adds `fragment` behind the others, or its bytes to the last one where that is of the same function and ends there.
 fn add_fragment(fragments: &mut Vec<Fragment>, fragment: Fragment) -> Result<(), Unwritable>
     requires { fragment.start < fragment.end }
     ensures { OnOk result (Grows fragments.old.items fragment fragments.new.items) }
@@ -135,7 +136,8 @@ fn count_fragments_up_to(fragments: &[Fragment], address: u64) -> usize
     fragments.partition_point(|r| r.start <= address)
 }
 
-/// How many bytes of a function's fragment are left from an address on.
+/// How many bytes of the function `func` follow from `address` of the new code on, up to the end of the fragment; 0
+/// where no fragment of it holds the address.
 pub fn bytes_left(fragments: &[Fragment], func: usize, address: u64) -> u64
     ensures { (funcs : List Func) (spans : List Span) → AreFragments funcs spans fragments.now →
         IsFragment funcs spans func address result }

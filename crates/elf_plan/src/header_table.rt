@@ -17,7 +17,8 @@ fn is_loaded_table(elf: &Elf) -> bool
     segments.iter().any(|p| p.loads_range(elf.phoff, size))
 }
 
-/// Whether the table stands before the end of the executable segment, or whole in a loaded one.
+/// Whether the table of program headers begins before the end of the executable segment, or is loaded whole by one
+/// segment. Any other table is written anew, behind the loaded bytes.
 pub fn is_kept_table(elf: &Elf, shift: &Shift) -> bool
     ensures { result ≡ layout.is_kept_table elf.now shift.now }
 {

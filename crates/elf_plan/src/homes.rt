@@ -1,4 +1,4 @@
-// Which sections hold the bytes of program headers that aren't loaded.
+// The homes of program headers: the sections that hold the bytes of those that aren't loaded, and that they follow.
 ghost use Rattle.std.specs.Prelude.{◌≡◌, IfOk, map, slice_get, unwrap_or};
 ghost use Rattle.elf_plan.specs.declared.sections.Contents.TheVariants.{Dropped};
 ghost use Rattle.elf_plan.specs.HeaderPlaces.{can_hold};
@@ -15,14 +15,14 @@ use elf_image::{Section, Segment};
 use rb_bytes::fault::NoMemory;
 use std::alloc::Global;
 
-// Whether the bytes of a section stand in the file and are written behind the loaded ones.
+// Whether a section can be a header's home: it isn't loaded, and its bytes are written behind the loaded ones.
 fn can_hold(contents: Contents, section: &Section) -> bool
     ensures { result ≡ can_hold contents section.now }
 {
     contents.is_written() && !section.is_loaded() && section.kind != SHT_NOBITS
 }
 
-// The range of the section of an index, which is empty where no header follows it.
+// The range of the section at `index`, empty where that can be no header's home.
 fn extent_of(index: usize, contents: Contents, section: &Section) -> Extent
     ensures { result ≡ spec.extent_of index contents section.now }
 {
@@ -41,7 +41,7 @@ fn extent_of(index: usize, contents: Contents, section: &Section) -> Extent
     }
 }
 
-// Where the contents of the section of an index are, if that is known.
+// Where the contents of the section at `index` are; Dropped, so that it is no home, where `contents` doesn't say.
 fn found_at(contents: &[Contents], index: usize) -> Contents
     ensures { result ≡ unwrap_or (slice_get contents.now index) Dropped }
 {
@@ -64,7 +64,7 @@ fn extents_of(
     Ok(extents)
 }
 
-// The first of some ranges that holds the bytes of a header of which none is loaded.
+// The index of the first section whose range holds the bytes of the header `p`, if `p` has some and none is loaded.
 fn first_for(loaded: &LoadedRanges, extents: &RangeTree, p: &Segment) -> Option<usize>
     requires { AreInOrder loaded.now.sorted.items loaded.now.reaches.items }
     ensures { result ≡ spec.first_for loaded.now.sorted.items extents.now p.now }
@@ -98,8 +98,8 @@ fn all_first(
     Ok(homes)
 }
 
-/// For each program header that isn't loaded, and has bytes of the file of which none is, the first section that
-/// holds them and is written behind the loaded bytes.
+/// The home of each program header: of one that isn't loaded and has bytes, none of which a segment loads, the index of
+/// the first section that holds them all and is written behind the loaded bytes. None for any other header.
 pub fn homes_of(
     alloc: Global,
     segments: &[Segment],

@@ -16,9 +16,10 @@ use std::alloc::Global;
 /// The bytes of the input that a written file has where they were, or where the segments behind the executable one are.
 #[derive(Drop)]
 pub struct KeptBytes {
-    /// All before this keep their places.
+    /// Bytes before this offset keep their places.
     pub front: u64,
-    /// Ranges that move, by their starts, each grown to the greatest end of those up to it.
+    /// The ranges that move with a segment, by their starts, each with its end raised to the greatest up to there, so
+    /// that one look-up tells whether a range of the list holds others.
     pub moved: Vec<Extent>,
     ghost rising: { IsNonDecreasingBy (λ s. s.start) moved.items },
     ghost growing: { IsNonDecreasingBy (λ s. s.end) moved.items },
@@ -28,7 +29,7 @@ impl KeptBytes {
     ghost use Rattle.std.specs.Prelude.{◌+◌, ◌<◌, ◌↔◌, IfOk, IsTrue};
     ghost use Rattle.elf_plan.specs.KeptBytes.{IsKeptBy, Keeps};
 
-    /// The bytes that stay loaded beside an area: those in front of it, and ranges that move.
+    /// The bytes that stay loaded beside `area`: those in front of it, and those that move with a segment.
     pub fn new(
         alloc: Global,
         segments: &[Segment],
@@ -51,7 +52,7 @@ impl KeptBytes {
         })
     }
 
-    /// Whether the bytes of a section are among them.
+    /// Whether all bytes of `section` are among them.
     pub fn has(&self, section: &Section) -> bool
         ensures { IsTrue result ↔ IsKeptBy self.now.front self.now.moved.items section.now.offset
             (section.now.offset + section.now.size) }
@@ -61,7 +62,7 @@ impl KeptBytes {
     }
 }
 
-// The bytes that segments from an offset on load.
+// The bytes in the file of the loaded segments that start at the offset `from` or behind it.
 fn moved_ranges(alloc: Global, segments: &[Segment], from: u64) -> Result<Vec<Extent>, NoMemory>
     ensures { IfOk result (λ ranges. (start end : ℕ) →
         IsTrue (list_any (moves_with from start end) segments.now) ↔ IsInOneExtent ranges.items start end) }

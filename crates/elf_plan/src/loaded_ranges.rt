@@ -12,12 +12,12 @@ use elf_image::segment::PT_LOAD;
 use rb_bytes::fault::NoMemory;
 use std::alloc::Global;
 
-/// The bytes that segments load.
+/// The ranges of a file's bytes that its segments load.
 #[derive(Drop)]
 pub struct LoadedRanges {
-    /// By their starts.
+    /// The ranges by their starts.
     pub sorted: Vec<Extent>,
-    /// Each grown to the greatest end of those up to it.
+    /// The same with each end raised to the greatest up to there.
     pub reaches: Vec<Extent>,
 }
 
@@ -26,7 +26,7 @@ impl LoadedRanges {
     ghost use Rattle.std.specs.List.{list_any};
     ghost use Rattle.elf_plan.specs.LoadedRanges.{AreInOrder, HaveLoaded, meets};
 
-    /// The ranges that some segments load.
+    /// The ranges that `segments` load.
     pub fn new(alloc: Global, segments: &[Segment]) -> Result<LoadedRanges, NoMemory>
         ensures order { IfOk result (λ loaded. AreInOrder loaded.sorted.items loaded.reaches.items) }
         ensures bytes { IfOk result (λ loaded. HaveLoaded segments.now loaded.sorted.items) }
@@ -37,7 +37,7 @@ impl LoadedRanges {
         Ok(LoadedRanges { sorted, reaches })
     }
 
-    /// Whether one of the bytes from `start` to before `end` is among them.
+    /// Whether one of the bytes from `start` to before `end` is loaded.
     pub fn has_one(&self, start: u64, end: u128) -> bool
         requires order { AreInOrder self.now.sorted.items self.now.reaches.items }
         requires some { start < end }
@@ -51,7 +51,7 @@ impl LoadedRanges {
     }
 }
 
-// How many ranges begin below a number.
+// How many ranges begin below `end`.
 fn count_before(ranges: &[Extent], end: u128) -> usize
     requires { IsNonDecreasingBy (λ s. s.start) ranges.now }
     ensures bound { result ≤ length ranges.now }
@@ -62,7 +62,7 @@ fn count_before(ranges: &[Extent], end: u128) -> usize
     ranges.partition_point(|s| (s.start as u128) < end)
 }
 
-// A range for each segment that loads bytes of the file.
+// A range for each segment that loads bytes of the file. Bytes past a segment's memory size aren't loaded.
 fn loaded_ranges(alloc: Global, segments: &[Segment]) -> Result<Vec<Extent>, NoMemory>
     ensures full { IfOk result (λ ranges. All (λ s. s.start < s.end) ranges.items) }
     ensures bytes { IfOk result (λ ranges. spec.HaveLoaded segments.now ranges.items) }

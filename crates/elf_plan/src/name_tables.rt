@@ -42,7 +42,7 @@ pub fn symbols_section<'a>(elf: &'a Elf<'a>) -> Option<&'a Section<'a>>
     elf.sections.iter().find(|s| s.kind == SHT_SYMTAB)
 }
 
-// An index, if there is a section of it.
+// `index`, if there is a section at it.
 fn among(sections: &[Section], index: usize) -> Option<usize>
     ensures { result ≡ spec.among sections.now index }
 {
@@ -53,7 +53,8 @@ fn among(sections: &[Section], index: usize) -> Option<usize>
     }
 }
 
-/// The index of the section with the names of symbols, if there are symbols.
+/// The index of the section with the names of symbols: the one that the symbol table's `sh_link` names. None where
+/// there are no symbols.
 pub fn place_of_names(elf: &Elf) -> Option<usize>
     ensures { result ≡ spec.place_of_names elf.now }
 {
@@ -68,7 +69,7 @@ impl OwnSections {
     ghost use Rattle.std.specs.Prelude.{IfOk};
     ghost use Rattle.elf_plan.specs.KnownSections.{IsOwnOf};
 
-    /// The own sections of a file. A table that is one of names and of symbols can't be written.
+    /// The sections of a file that are written anew. `Layout` where one is a table of names and of symbols at once.
     pub fn new(elf: &Elf) -> Result<OwnSections, Unwritable>
         ensures { IfOk result (IsOwnOf elf.now) }
     {
@@ -83,12 +84,5 @@ impl OwnSections {
             symbols,
             symbol_names,
         })
-    }
-
-    /// Whether the section of an index is one of them.
-    pub fn has(&self, index: usize) -> bool {
-        self.section_names == index
-            || self.symbols == Some(index)
-            || self.symbol_names == Some(index)
     }
 }

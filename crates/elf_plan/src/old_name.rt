@@ -1,4 +1,4 @@
-// Sections whose place new ones take.
+// Sections whose name a section of the new area takes.
 ghost use Rattle.std.specs.Prelude.{◌≡◌, ◌++◌, IfOk};
 ghost use Rattle.elf_plan.specs.OldNames as spec;
 
@@ -6,7 +6,7 @@ use elf_image::Section;
 use elf_image::named::names_frames;
 use elf_image::section::OLD_PREFIX;
 
-/// Whether a section keeps its place and contents under another name.
+/// Whether a section keeps its place and contents under another name, since a section of the new area gets its own.
 pub fn is_renamed(section: &Section) -> bool
     ensures { result ≡ spec.is_renamed section.now }
 {

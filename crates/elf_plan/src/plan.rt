@@ -1,4 +1,4 @@
-// What is planned for a written file before it is made.
+// The plan of a written file.
 ghost use Rattle.std.specs.Prelude.{IfOk};
 ghost use Rattle.elf_plan.specs.KnownSections.{IsOwnOf};
 ghost use Rattle.elf_plan.specs.Plans.{Arranges};
@@ -14,8 +14,8 @@ use elf_image::code_segment::executable_segment;
 use elf_image::named::{EH_FRAME, EH_FRAME_HDR};
 use std::alloc::Global;
 
-/// What is planned for a written file before it is made. By one plan the file is made, and compared when it is read
-/// back.
+/// What is settled of a written file before it is made. The file is made by one plan, and compared with it when it is
+/// read back.
 #[derive(Drop)]
 pub struct Plan {
     /// The index of the executable segment's header in the input.
@@ -30,7 +30,7 @@ pub struct Plan {
     pub order: Vec<(u64, usize)>,
 }
 
-// Where the contents of the input's sections are, and the order of those that are written.
+// The fields `contents` and `order` of a plan.
 fn arranged(
     alloc: Global,
     elf: &Elf,
@@ -59,7 +59,8 @@ impl Plan {
     ghost use Rattle.std.specs.Prelude.{IfOk};
     ghost use Rattle.elf_plan.specs.Plans.{IsPlanOf};
 
-    /// The plan for a file with this new code and these tables, and with an area in a segment of its own or not.
+    /// The plan for the file `elf` with the new code `code` and the tables `tables`. `tight` says whether the area gets
+    /// a segment of its own.
     pub fn new(
         alloc: Global,
         elf: &Elf,

@@ -1,4 +1,4 @@
-// Ranges of numbers in an order, and the first of them that holds others.
+// Ranges of numbers in an order, and a look-up of the first that holds a given range.
 ghost use Rattle.std.specs.Prelude.{◌≡◌, ◌<◌, ◌↔◌, ℕ, IfOk, find};
 ghost use Rattle.std.specs.List.Sorted.{IsNonDecreasingBy};
 ghost use Rattle.elf_image.specs.internal.Extents.{IsInOneExtent};
@@ -9,7 +9,7 @@ use rb_bytes::fault::NoMemory;
 use std::alloc::Global;
 use std::marker::Model;
 
-/// Ranges in an order, as a search tree. It is seen as their list.
+/// Ranges in an order, as a balanced tree over it. Contracts see it as their list.
 #[cycle(range_tree)]
 #[derive(Drop)]
 pub struct RangeTree {
@@ -20,8 +20,8 @@ pub struct RangeTree {
 #[derive(Drop)]
 enum Node {
     Leaf,
-    // The ranges before one, it, those behind it, and what the first ones hold: by their starts, each grown to
-    // the greatest end of those up to it.
+    // The ranges before the middle one, the middle one, those behind it, and what the ones before it hold, as
+    // `sorted_reaches` gives it.
     Fork(Box<RangeTree>, Extent, Box<RangeTree>, Vec<Extent>),
 }
 
@@ -51,7 +51,7 @@ fn covers(range: &Extent, start: u64, end: u128) -> bool
     range.start <= start && end <= range.end
 }
 
-/// What ranges hold: they by their starts, each grown to the greatest end of those up to it.
+/// What ranges hold, for a binary search: the ranges by their starts, with each end raised to the greatest up to there.
 pub fn sorted_reaches(alloc: Global, ranges: &[Extent]) -> Result<Vec<Extent>, NoMemory>
     ensures { IfOk result (λ reaches. spec.IsReachOf reaches.items ranges.now) }
 {
@@ -62,7 +62,7 @@ pub fn sorted_reaches(alloc: Global, ranges: &[Extent]) -> Result<Vec<Extent>, N
 }
 
 impl RangeTree {
-    /// The tree of some ranges.
+    /// The tree of `ranges`, in their order.
     pub fn new(alloc: Global, ranges: &[Extent]) -> Result<RangeTree, NoMemory>
         ensures { IfOk result (λ tree. tree ≡ ranges.now) }
     {

@@ -1,11 +1,11 @@
-// Numbers of 64 bits, or that a file with them has no layout.
+// Arithmetic on addresses and offsets. What doesn't fit 64 bits is answered as `Layout`.
 ghost use Rattle.std.specs.Prelude.{◌≡◌, ◌+◌, ◌<◌, ◌≤◌, IfOk};
 ghost use Rattle.elf_image.specs.memory.Break.{rounded_up};
 
 use crate::unwritable::Unwritable;
 use file_room::rounded_up;
 
-/// Rounds a number of 64 bits up to a multiple of a unit.
+/// `n` rounded up to a multiple of `unit`.
 pub fn checked_rounded_up(unit: u64, n: u64) -> Result<u64, Unwritable>
     requires { 0 < unit }
     ensures up { IfOk result (λ up. up ≡ rounded_up unit n) }
@@ -14,14 +14,14 @@ pub fn checked_rounded_up(unit: u64, n: u64) -> Result<u64, Unwritable>
     in_64_bits(rounded_up(unit, n as u128))
 }
 
-/// A sum, where it fits 64 bits.
+/// The sum of `a` and `b`.
 pub fn sum(a: u64, b: u64) -> Result<u64, Unwritable>
     ensures { IfOk result (λ sum. sum ≡ a + b) }
 {
     a.checked_add(b).ok_or(Unwritable::Layout)
 }
 
-/// An address or offset as a number of 64 bits. One that doesn't fit is a place that no memory has.
+/// An address or offset as a number of 64 bits.
 pub fn in_64_bits(place: u128) -> Result<u64, Unwritable>
     ensures { IfOk result (λ n. n ≡ place) }
 {

@@ -19,19 +19,21 @@ use std::alloc::Global;
 /// Where the contents of a section of the input are in the written file.
 #[derive(Clone, Copy)]
 pub enum Contents {
-    /// Nowhere: of the section only a header is left, of no type.
+    /// Nowhere: they are left out, and the section's header becomes one of type SHT_NULL.
     Dropped,
-    /// There are none: the header is one of no section.
+    /// There are none: the input's header is of type SHT_NULL already.
     Inactive,
-    /// Where the loaded bytes of the input are.
+    /// Where the loaded bytes of the input are, among which they stand; or nowhere in the file (SHT_NOBITS).
     Kept,
-    /// Behind them, as they were.
+    /// Behind the loaded bytes, as they were.
     Copied,
-    /// Behind them, written anew.
+    /// Behind the loaded bytes, the names of sections, written anew.
     SectionNames,
+    /// Behind the loaded bytes, the symbol table, written anew.
     Symbols,
+    /// Behind the loaded bytes, the names of symbols, written anew.
     SymbolNames,
-    /// Behind them, a table that is given, by its place among those.
+    /// Behind the loaded bytes, a table that is given, by its index among those.
     Given(usize),
 }
 
@@ -39,7 +41,7 @@ impl Contents {
     ghost use Rattle.std.specs.Prelude.{◌≡◌};
     ghost use Rattle.elf_plan.specs.FileLayout.{is_written};
 
-    /// Whether they stand behind the loaded bytes.
+    /// Whether they are written behind the loaded bytes.
     pub fn is_written(&self) -> bool
         ensures { result ≡ is_written self.now }
     {
@@ -54,21 +56,22 @@ impl Contents {
     }
 }
 
-// Whether a header is one of no section, without contents.
+// Whether a header stands for no section: it is of type SHT_NULL, and has no contents.
 fn is_inactive(section: &Section) -> bool
     ensures { result ≡ spec.is_inactive section.now }
 {
     section.kind == SHT_NULL && section.size == 0
 }
 
-/// The index of the section that a name means.
+/// The index of the first section that `name` means.
 pub fn index_called(sections: &[Section], name: &[u8]) -> Option<usize>
     ensures { result ≡ position (is_called name.now) sections.now }
 {
     sections.iter().position(|s| s.is_called(name))
 }
 
-/// The index of the section whose place a table with a name takes. Those that stand in the new area take none.
+/// The index of the section whose place the table called `name` takes. The unwind table and its index, which stand in
+/// the new area, take none.
 pub fn place_replaced(sections: &[Section], name: &[u8]) -> Option<usize>
     ensures { result ≡ spec.place_replaced sections.now name.now }
 {
@@ -94,12 +97,12 @@ pub fn replaced_by(
     Ok(replaced)
 }
 
-/// Tables with addresses of code that can't be carried over.
+/// The name of DWARF's table of macros, which is left out.
 pub const DEBUG_MACRO: &[u8] = b".debug_macro";
 
 const GDB_INDEX: &[u8] = b".gdb_index";
 
-/// Relocations are left out, and tables with addresses of code that can't be carried over.
+/// Whether a section is left out: relocations, and tables with addresses of code that aren't carried over.
 pub fn is_left_out(section: &Section) -> bool
     ensures { result ≡ spec.is_left_out section.now }
 {
@@ -107,7 +110,7 @@ pub fn is_left_out(section: &Section) -> bool
         || (!section.is_loaded() && (section.name == DEBUG_MACRO || section.name == GDB_INDEX))
 }
 
-// Whether pairs are in order, each once.
+// Whether pairs rise strictly.
 fn are_ascending(pairs: &[(u64, usize)]) -> bool
     ensures { IsTrue result → AllPairs IsPairBefore pairs.now }
 {
@@ -119,7 +122,7 @@ fn are_ascending(pairs: &[(u64, usize)]) -> bool
     true
 }
 
-// Whether one comes before another, by the first number and then by the second.
+// Whether `p` comes before `q`, by the first number and then by the second.
 fn is_pair_before(p: &(u64, usize), q: &(u64, usize)) -> bool
     ensures { IsTrue result → IsPairBefore p.now q.now }
 {
@@ -150,14 +153,14 @@ impl<'a> Sections<'a> {
     ghost use Rattle.elf_plan.specs.WrittenSections.{is_written_by, offset_if};
     ghost use Rattle.rv_code.specs.layout.Lists.{ListsPairs};
 
-    // The table that takes the place of the section of an index.
+    // The index of the table that takes the place of the section at `index`.
     fn table_for(&self, index: usize) -> Option<usize>
         ensures { result ≡ position (spec.is_at index) self.now.replaced.now }
     {
         self.replaced.iter().position(|r| *r == Some(index))
     }
 
-    // Where the contents are of a section that isn't replaced.
+    // Where the contents are of a section that is neither written anew, left out nor replaced by a table.
     fn own_contents(&self, section: &Section) -> Contents
         ensures { (segments : List Segment) (area : Area) (shift : Shift) →
             Keeps segments area shift self.now.kept.now →
@@ -175,7 +178,7 @@ impl<'a> Sections<'a> {
         Contents::Copied
     }
 
-    // Where the section of an index stands, if its contents are written behind the loaded bytes.
+    // The offset in the input of the section at `index`, if its contents are written behind the loaded bytes.
     fn written_at(&self, index: usize) -> Option<u64>
         ensures { (segments : List Segment) (area : Area) (shift : Shift) →
             Keeps segments area shift self.now.kept.now →
@@ -198,7 +201,8 @@ impl<'a> Sections<'a> {
         }
     }
 
-    /// The sections whose contents are written behind the loaded bytes: their offsets and indices, ascending.
+    /// The sections whose contents are written behind the loaded bytes: their offsets in the input and their indices,
+    /// ascending.
     pub fn order(&self, alloc: Global) -> Result<Vec<(u64, usize)>, Unwritable>
         ensures { (segments : List Segment) (area : Area) (shift : Shift) →
             Keeps segments area shift self.now.kept.now →
@@ -235,7 +239,7 @@ impl<'a> Sections<'a> {
         Ok(contents)
     }
 
-    /// Where the contents of the section of an index are.
+    /// Where the contents of `section` are, which stands at `index`.
     pub fn contents_of(&self, index: usize, section: &Section) -> Contents
         ensures { (segments : List Segment) (area : Area) (shift : Shift) →
             Keeps segments area shift self.now.kept.now →

@@ -16,27 +16,28 @@ use elf_image::{Elf, Segment};
 use file_room::{greatest_align, rounded_up};
 use std::alloc::Global;
 
-/// The type of the program header that names their table. gABI, "Program Header".
+/// The type of the program header that names the table of program headers. gABI, "Program Header".
 pub const PT_PHDR: u32 = 6;
 
-/// What the program headers of a written file follow.
+/// What the program headers of a written file follow from.
 #[derive(Clone, Copy)]
 pub struct Places<'a> {
     pub elf: &'a Elf<'a>,
     pub area: Area,
     pub shift: Shift,
-    /// Where the table of program headers stands in the written file.
+    /// The offset of the table of program headers in the written file.
     pub table_at: u64,
-    /// Where the contents of the input's sections are, and their offsets in the written file.
+    /// Where the contents of each of the input's sections are.
     pub contents: &'a [Contents],
+    /// The offsets of the written file's sections, of which those of the input come first.
     pub sections_at: &'a [u64],
-    /// The size of the index of the unwind table, if there is one.
+    /// The size of the index of the unwind table; 0 where there is none.
     pub index_size: u64,
     /// The size of the written file.
     pub file_size: u64,
 }
 
-// A header that names so many bytes at an address of the area.
+// The header `p` as one that names `size` bytes from `address` on, which lies in the area.
 fn at_area(p: &Segment, area: &Area, address: u64, size: u64) -> Result<Segment, Unwritable>
     ensures kind { IfOk result (λ q. q.kind ≡ p.now.kind) }
     ensures flags { IfOk result (λ q. q.flags ≡ p.now.flags) }
@@ -53,7 +54,7 @@ fn at_area(p: &Segment, area: &Area, address: u64, size: u64) -> Result<Segment,
     })
 }
 
-// The executable segment, with the area behind it.
+// The executable segment `p`, grown up to `end`, where the area ends.
 fn grown(p: &Segment, end: u64) -> Segment
     requires { p.now.vaddr ≤ end }
     ensures { result ≡ spec.grown end p.now }
@@ -66,7 +67,8 @@ fn grown(p: &Segment, end: u64) -> Segment
     }
 }
 
-// Whether a segment can grow to an end, where bytes behind an offset move.
+// Whether the segment `p` can grow up to the address `end`: all its memory is from the file, it doesn't go past `end`,
+// and its bytes aren't among those that move, from the offset `from` on.
 fn can_grow(p: &Segment, from: u64, end: u64) -> bool
     ensures { IsTrue result → spec.CanGrow from end p.now }
 {
@@ -75,7 +77,8 @@ fn can_grow(p: &Segment, from: u64, end: u64) -> bool
         && (p.filesz == 0 || p.offset < from)
 }
 
-// Whether bytes begin in the area and end behind it.
+// Whether `size` bytes from the offset `start` on begin before the area's end, at the offset `end`, and end behind it.
+// In a file with a tight area nothing moves, so none do.
 fn leaves_area(area: &Area, end: u64, start: u128, size: u64) -> bool
     requires end { end ≡ area_offset area.now area.now.end }
     requires low { start < 2 ^ 65 }
@@ -85,7 +88,7 @@ fn leaves_area(area: &Area, end: u64, start: u128, size: u64) -> bool
     !area.tight && start < end as u128 && (end as u128) < start + size as u128
 }
 
-// The index of the unwind table, where a header names it.
+// The address of the unwind table's index, if the header `p` names one and there is a new one.
 fn index_for(area: &Area, p: &Segment) -> Option<u64>
     ensures { result ≡ index_for area.now p.now }
 {
@@ -109,7 +112,7 @@ impl<'a> Places<'a> {
     ghost use Rattle.elf_image.specs.declared.segment.TheConstants.{PT_LOAD};
     ghost use Rattle.elf_plan.specs.Area.{moved_by};
 
-    // The size of a table with one more program header.
+    // The size of a table of program headers with one more than the input has.
     fn table_size(&self) -> Result<u64, Unwritable>
         ensures { IfOk result (λ size. size ≡ 56 * (length self.now.elf.now.segments.items + 1)) }
     {
@@ -120,13 +123,14 @@ impl<'a> Places<'a> {
             .ok_or(Unwritable::Layout)
     }
 
-    // Where a section of an index stands in the written file, and in the input.
+    // The offset in the written file of the section at `index`.
     fn section_at(&self, index: usize) -> u64
         ensures { result ≡ unwrap_or (slice_get self.now.sections_at.now index) 0 }
     {
         self.sections_at.get(index).copied().unwrap_or(0)
     }
 
+    // The offset in the input of the section at `index`.
     fn old_section_at(&self, index: usize) -> u64
         ensures { result ≡ option_map_or (λ s. s.offset) (slice_get self.now.elf.now.sections.items index) 0 }
     {
@@ -136,7 +140,8 @@ impl<'a> Places<'a> {
         }
     }
 
-    // Where the bytes of a header are, which stand in the contents of the section of an index.
+    // Where the bytes of the header `p` are in the written file: in the section at `home`, as far from its start as in
+    // the input.
     fn place_in(&self, p: &Segment, home: usize) -> Result<u64, Unwritable>
         ensures { IfOk result (λ o. o ≡ place_in self.now.elf.now.sections.items self.now.sections_at.now p.now home) }
     {
@@ -144,7 +149,8 @@ impl<'a> Places<'a> {
         sum(self.section_at(home), before)
     }
 
-    // Where bytes go that stay beside the loaded ones: none begin in the new area and end behind it.
+    // Where the bytes of the header `p` go, which no section holds: as far as the loaded ones do, past the area where
+    // they would begin in it and end behind it, and never behind the file's end.
     fn beside(&self, p: &Segment, align: u64) -> Result<u64, Unwritable>
         requires { 0 < align }
         ensures { IfOk result (λ o. o ≡ beside (outline self.now) align p.now) }
@@ -157,7 +163,8 @@ impl<'a> Places<'a> {
         Ok(at.min(self.file_size as u128) as u64)
     }
 
-    // Whether a header names the table of program headers: not where it would begin in the new area and end behind it.
+    // Whether the header `p` is made to name the table of program headers: it is of type PT_PHDR, and the table doesn't
+    // begin in the area and end behind it.
     fn names_table(&self, p: &Segment) -> Result<bool, Unwritable>
         ensures { IfOk result (λ names. names ≡ names_table (outline self.now) p.now) }
     {
@@ -165,7 +172,8 @@ impl<'a> Places<'a> {
         Ok(p.kind == PT_PHDR && !leaves_area(&self.area, end, self.table_at as u128, p.filesz))
     }
 
-    // Where the bytes of a header go that stand behind the executable segment.
+    // Where the bytes of the header `p` go, which stand at or behind the executable segment's end. `home` is the
+    // section that they follow.
     fn place_behind(&self, p: &Segment, home: Option<usize>, align: u64) -> Result<u64, Unwritable>
         requires { 0 < align }
         ensures load { IfOk result (λ o. p.now.kind ≡ PT_LOAD → 0 < p.now.filesz →
@@ -185,7 +193,7 @@ impl<'a> Places<'a> {
         }
     }
 
-    // A header that names nothing new.
+    // The header `p`, which names nothing in the area, with the new offset of its bytes.
     fn moved_header(
         &self,
         p: &Segment,
@@ -208,7 +216,7 @@ impl<'a> Places<'a> {
         Ok(*p)
     }
 
-    // A program header of the input in the written file.
+    // What the program header `p` of the input is in the written file. `is_code` tells that of the executable segment.
     fn renewed(
         &self,
         p: &Segment,
@@ -240,7 +248,7 @@ impl<'a> Places<'a> {
         self.moved_header(p, home, align)
     }
 
-    // The headers of the input's segments, of which the executable one has an index.
+    // What all headers of the input are in the written file. `code` is the index of the executable segment's.
     fn all_renewed(&self, alloc: Global, code: usize) -> Result<Vec<Segment>, Unwritable>
         requires { CanGrowAt self.now.shift.from self.now.area.end self.now.area.tight code
             self.now.elf.now.segments.items }
@@ -258,7 +266,8 @@ impl<'a> Places<'a> {
         Ok(segments)
     }
 
-    /// All program headers. A new one stands behind the last that is loaded.
+    /// All program headers of the written file. That of a segment for the area stands behind the last that is loaded.
+    /// `code` is the index of the executable segment's header in the input.
     pub fn segments(&self, alloc: Global, code: usize) -> Result<Vec<Segment>, Unwritable>
         requires grows { CanGrowAt self.now.shift.from self.now.area.end self.now.area.tight code
             self.now.elf.now.segments.items }
@@ -274,7 +283,7 @@ impl<'a> Places<'a> {
         Ok(segments)
     }
 
-    /// Whether the executable segment, whose header has an index, can grow to the area's end.
+    /// Whether the executable segment, whose header has the index `code`, can grow to the area's end, where it has to.
     pub fn can_grow(&self, code: usize) -> bool
         ensures grows { IsTrue result → CanGrowAt self.now.shift.from self.now.area.end self.now.area.tight code
             self.now.elf.now.segments.items }
@@ -289,7 +298,7 @@ impl<'a> Places<'a> {
         }
     }
 
-    // The new segment, which may be read and executed.
+    // The header of the area's own segment, which may be read and executed.
     fn area_segment(&self) -> Segment
         requires { self.now.area.address ≤ self.now.area.end }
         ensures { result ≡ area_segment self.now.area (greatest_align self.now.elf.now.segments.items) }
@@ -308,7 +317,7 @@ impl<'a> Places<'a> {
     }
 }
 
-// How many headers there are up to the last that is loaded.
+// How many headers there are up to and with the last that is loaded.
 fn loads_count(segments: &[Segment]) -> usize
     ensures within { result ≤ length segments.now }
     ensures behind { (k : ℕ) (d : Segment) → result ≤ k → k < length segments.now →

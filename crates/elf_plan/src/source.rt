@@ -1,4 +1,4 @@
-// What the sections of a written file are made of.
+// The inputs of the sections of a written file.
 use crate::fragments::Fragment;
 use crate::given_tables::Table;
 use addr_map::AddrMap;
@@ -11,12 +11,12 @@ use std::collections::BTreeMap;
 pub struct SectionSource<'a, 'file> {
     pub elf: &'a Elf<'file>,
     pub funcs: &'a [Func],
-    /// The addresses of cold parts in the input.
+    /// For each cold part that gets a name the address in the input of its first instruction.
     pub cold: &'a [u64],
     pub map: &'a AddrMap,
     /// The fragments of functions in the new code.
     pub fragments: &'a [Fragment],
-    /// The symbols by which functions are called, by the addresses where these start.
+    /// The symbols by which functions are called, by the addresses at which the functions start.
     pub names: &'a BTreeMap<u64, Symbol<'file>>,
     pub tables: &'a [Table],
 }

@@ -1,4 +1,4 @@
-// Why no file is written.
+// The error of writing a file.
 ghost use Rattle.std.specs.Prelude.{◌≡◌};
 
 use rb_bytes::fault::NoMemory;
@@ -7,13 +7,13 @@ use std::alloc::{AllocError, AllocFailed};
 /// Why no file is written.
 #[derive(Clone, Copy)]
 pub enum Unwritable {
-    /// Memory could not be had.
+    /// Memory ran out.
     Memory,
     /// There is no such layout: a number doesn't fit its field, parts would share bytes, or a table has no place.
     Layout,
     /// It would have more bytes than are ever written.
     TooLarge,
-    /// What was written isn't what must stand there, as it was read back.
+    /// The file was made, but what is read back of it isn't what it must have.
     ReadBack,
 }
 

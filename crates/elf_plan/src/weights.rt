@@ -17,7 +17,8 @@ use rv_code::Func;
 use std::alloc::Global;
 use std::collections::BTreeMap;
 
-// A name that is written anew, with a mark before or behind it.
+// How many bytes a name takes at most that is written anew: with `.old` or `.old.` before it or `.cold` behind it, and
+// a zero byte.
 fn weight_of(name: &[u8]) -> u64
     ensures { result ≡ spec.weight_of name.now }
 {
@@ -34,7 +35,7 @@ fn section_weight(section: &Section) -> u64
     }
 }
 
-// The new names of sections.
+// How many bytes the new names of sections take at most.
 fn sections_weight(sections: &[Section]) -> u64
     ensures { result ≡ capped (sum_by spec.section_weight sections.now) }
 {
@@ -45,7 +46,7 @@ fn sections_weight(sections: &[Section]) -> u64
     sum
 }
 
-// The name of a cold part that begins at an address of the input.
+// How many bytes the name of the cold part that begins at `address` takes at most.
 fn cold_weight(names: &BTreeMap<u64, Symbol>, funcs: &[Func], address: u64) -> u64
     requires { AreLaidOut funcs.now }
     ensures { (symbols : List Symbol) → AreFirstNames symbols names.now →
@@ -57,7 +58,7 @@ fn cold_weight(names: &BTreeMap<u64, Symbol>, funcs: &[Func], address: u64) -> u
     }
 }
 
-// The names of cold parts.
+// How many bytes the names of cold parts take at most.
 fn cold_weights(names: &BTreeMap<u64, Symbol>, funcs: &[Func], cold: &[u64]) -> u64
     requires { AreLaidOut funcs.now }
     ensures { (symbols : List Symbol) → AreFirstNames symbols names.now →
@@ -97,7 +98,7 @@ fn size_of(section: Option<&Section>) -> u64
     }
 }
 
-/// The bound of `name_weight`, by the symbols by which functions are called.
+/// What `name_weight` gives, where `names` are the symbols by which functions are called.
 pub fn weight_by(names: &BTreeMap<u64, Symbol>, elf: &Elf, funcs: &[Func], cold: &[u64]) -> u64
     requires { AreLaidOut funcs.now }
     ensures { AreFirstNames elf.now.symbols.items names.now → result ≡ spec.name_weight elf.now funcs.now cold.now }

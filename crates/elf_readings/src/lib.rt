@@ -1,10 +1,10 @@
-//! What is said of a file's code doesn't depend on the reading of the file: a law, and its lemmas.
+//! What is said of a file's code doesn't depend on how the file was read: a law, and its lemmas.
 #![tactic(auto)]
 
 ghost use Rattle.elf_readings.specs.Laws.{ReadingLaw};
 
-/// Whatever is found in one reading of a file's code holds of every other reading: its faults, which of them is
-/// answered, its functions, the starts of its instructions, its roles and its code cells.
+/// Does nothing: its clause is the law. What one reading of a file says of its code, every other reading says: the
+/// faults, and which of them is answered; the functions, starts of instructions, roles and code cells.
 pub fn reading_law()
     ensures { ReadingLaw }
 {}

@@ -15,12 +15,12 @@ use Rattle.elf_plan.specs.NewSections.{adds_ranges, bytes_called}
 
 -- Which tables have a place.
 
--- the section of an index has names or symbols, which are written anew
+-- the section at `index` has names or symbols, which are written anew
 abbrev pub is_own_section : Elf → ℕ → Bool
 is_own_section elf index =
     (e_shstrndx elf.file.now == index) || (is_at index (place_of_symbols elf) || is_at index (place_of_names elf))
 
--- a table can take the place of any other that isn't left out
+-- A table can take the place of any other section that isn't left out.
 abbrev pub takes_table : Elf → ℕ → Section → Bool
 takes_table elf index s = not (is_own_section elf index) && not (is_left_out s)
 
@@ -40,7 +40,7 @@ abbrev pub is_debug_table : Section → Bool
 is_debug_table s =
     names_debug s.name.now && (is_meant_by s.name.now s && not (bytes_eq s.name.now (codes ".debug_macro")))
 
--- It stays, or takes a table.
+-- A debug table keeps its contents, or gets those of a given table.
 abbrev pub keeps_table : Elf → ℕ → Section → Bool
 keeps_table elf index s = not (is_debug_table s) || takes_table elf index s
 
@@ -52,11 +52,11 @@ KeepsTables elf = EachIndex elf.sections.items (λ i. IsTrue (keeps_table_at elf
 
 -- What the sections of a file hold.
 
--- the section that a name means has these contents
+-- the section that `name` means has the contents `bytes`
 abbrev pub Holds : Elf → List ℕ → List ℕ → Type 0
 Holds f name bytes = IsSomeAnd (section_called f.sections.items name) (λ s. section_bytes f.file.now s ≡ bytes)
 
--- and is loaded at this address
+-- and it is loaded at `address`
 pub record IsLoadedAt (address : ℕ) (bytes file : List ℕ) (s : Section) : Type 0 where
   pub addr : s.addr ≡ address
   pub contents : section_bytes file s ≡ bytes

@@ -1,4 +1,4 @@
-// Whether tables have a place in a written file.
+// Whether the tables that are given have a place in a written file, and all other debug tables stay.
 ghost use Rattle.std.specs.Prelude.{◌≡◌, ◌==◌, ◌||◌, IsTrue, OnOk};
 ghost use Rattle.elf_plan.specs.Contents.{is_at};
 ghost use Rattle.elf_plan.specs.KnownSections.{IsOwnOf};
@@ -11,14 +11,15 @@ use elf_plan::name_tables::OwnSections;
 use elf_plan::sections::{DEBUG_MACRO, is_left_out, place_replaced};
 use elf_plan::unwritable::Unwritable;
 
-// Whether the section of an index has names or symbols, which are written anew.
+// Whether the section at `index` has names or symbols, which are written anew.
 fn is_own_section(own: OwnSections, index: usize) -> bool
     ensures { result ≡ ((own.section_names == index) || (is_at index own.symbols || is_at index own.symbol_names)) }
 {
     own.section_names == index || own.symbols == Some(index) || own.symbol_names == Some(index)
 }
 
-// Whether a table can take the place of a section, by its index.
+// Whether a given table can take the place of `section`, which stands at `index`: that is neither written anew nor left
+// out.
 fn takes_table(elf: &Elf, own: OwnSections, index: usize, section: &Section) -> bool
     requires { IsOwnOf elf.now own }
     ensures { result ≡ spec.takes_table elf.now index section.now }
@@ -36,7 +37,7 @@ fn takes_table_at(elf: &Elf, own: OwnSections, index: usize) -> bool
     }
 }
 
-// Whether the section that a table's name means takes it, if there is one.
+// Whether the table called `name` has a place: the section that the name means can take it, or there is none.
 fn has_place(elf: &Elf, own: OwnSections, name: &[u8]) -> bool
     requires { IsOwnOf elf.now own }
     ensures { result ≡ spec.has_place elf.now name.now }
@@ -58,14 +59,14 @@ fn are_placed(elf: &Elf, own: OwnSections, tables: &[Table]) -> bool
         .all(|table| has_place(elf, own, table.0.as_bytes()))
 }
 
-// Whether a section is a debug table by its name, but for the one that is always left out.
+// Whether a section is the debug table that its name means; `.debug_macro`, which is always left out, isn't one here.
 fn is_debug_table(section: &Section) -> bool
     ensures { result ≡ spec.is_debug_table section.now }
 {
     names_debug(section.name) && section.is_meant_by(section.name) && section.name != DEBUG_MACRO
 }
 
-// Whether the section of an index stays, or takes a table, if it is a debug table.
+// Whether the section at `index`, if it is a debug table, keeps its contents or gets those of a given table.
 fn keeps_table_at(elf: &Elf, own: OwnSections, index: usize) -> bool
     requires { IsOwnOf elf.now own }
     ensures { result ≡ spec.keeps_table_at elf.now index }
@@ -76,7 +77,7 @@ fn keeps_table_at(elf: &Elf, own: OwnSections, index: usize) -> bool
     }
 }
 
-// Whether each debug table of the input stays, or takes a table.
+// Whether each debug table of the input keeps its contents or gets those of a given table.
 fn keeps_tables(elf: &Elf, own: OwnSections) -> bool
     requires { IsOwnOf elf.now own }
     ensures { IsTrue result → spec.KeepsTables elf.now }
@@ -89,7 +90,8 @@ fn keeps_tables(elf: &Elf, own: OwnSections) -> bool
     true
 }
 
-/// Finds whether all tables have a place: those that are given, and the debug tables of the input for which none is.
+/// Answers `Layout` where a table that is given has no place, or a debug table of the input for which none is given
+/// wouldn't stay.
 pub fn check_places(elf: &Elf, tables: &[Table]) -> Result<(), Unwritable>
     ensures placed { OnOk result (spec.ArePlaced elf.now tables.now) }
     ensures kept { OnOk result (spec.KeepsTables elf.now) }

@@ -1,4 +1,4 @@
-// The written file.
+// The written file is made, and read back.
 ghost use Rattle.std.specs.Prelude.{◌<◌, All, AllPairs, Bool, IfOk, OnOk};
 ghost use Rattle.elf_image.specs.faults.FileFaults.{IsSound};
 ghost use Rattle.elf_image.specs.file.ParsedFile.{IsElfOf};
@@ -24,7 +24,7 @@ use rb_bytes::fault::NoMemory;
 use rv_code::{Emitted, Func};
 use std::alloc::Global;
 
-// The written file, or why there is none.
+// What `write` gives, with the reason where there is no file.
 fn written(
     alloc: Global,
     elf: &Elf,
@@ -65,8 +65,9 @@ fn written(
     Ok(file)
 }
 
-/// The written file, by the functions of the input, the addresses of their cold parts, the new code and the new
-/// contents of code cells, the map, and the tables that are written anew.
+/// The bytes of the written file. `funcs` are the functions of the input, `cold` has the addresses in it of the cold
+/// parts that get a name, `emitted` the new code and the new contents of code cells, and `tables` the contents of
+/// tables that are written anew, by the names of their sections.
 ///
 /// What is written is read back, so no file is ever answered that the reader refuses, or whose sections, program
 /// headers or symbols aren't what they must be. The bytes of the new area alone aren't read again: what they are is

@@ -15,7 +15,7 @@ use rb_bytes::fault::{Fault, FaultKind};
 /// The new area starts at a multiple of this.
 pub const AREA_ALIGN: u64 = 16;
 
-// The address at which the executable segment ends.
+// The address at which the executable segment ends, or 0 where there is none.
 fn code_end(segments: &[Segment]) -> u128
     ensures end { result ≡ spec.code_end segments.now }
     ensures low { result < 2 ^ 65 }
@@ -33,7 +33,7 @@ pub fn area_start(segments: &[Segment]) -> u128
     rounded_up(AREA_ALIGN, code_end(segments))
 }
 
-// The page on which the lowest segment at or above an address starts, below the address that ends all.
+// The start of the page on which the lowest loaded segment at or above `end` starts, and at most `ADDRESS_END`.
 fn limit_above(segments: &[Segment], end: u128) -> u64
     ensures { result ≡ spec.limit_above end segments.now }
 {
@@ -46,7 +46,7 @@ fn limit_above(segments: &[Segment], end: u128) -> u64
     limit
 }
 
-// How many bytes there are from a start to before an end.
+// How many bytes there are from `start` to before `end`.
 fn bytes_between(start: u128, end: u64) -> u64
     ensures { result ≡ end - start }
 {
@@ -57,7 +57,7 @@ fn bytes_between(start: u128, end: u64) -> u64
     }
 }
 
-// Where the executable segment ends in the file.
+// Where the executable segment ends in the file, or 0 where there is none.
 fn file_end(segments: &[Segment]) -> u128
     ensures { result ≡ executable_end segments.now }
 {
@@ -67,7 +67,8 @@ fn file_end(segments: &[Segment]) -> u128
     }
 }
 
-/// How many bytes the new area can have behind the executable segment.
+/// How many bytes the new area can have behind the executable segment. There are none behind one that ends within the
+/// file's header, over which the area would stand.
 pub fn room(elf: &Elf) -> u64
     ensures { result ≡ spec.room elf.now.segments.items }
 {
@@ -105,6 +106,7 @@ fn highest_end(segments: &[Segment]) -> u128
     end
 }
 
+// The address that the break never reaches, or 0 where no segment may be written.
 fn break_end(segments: &[Segment]) -> u128
     ensures end { result ≡ spec.break_end segments.now }
     ensures low { result < 2 ^ 65 + 2 ^ 27 }
@@ -116,7 +118,7 @@ fn break_end(segments: &[Segment]) -> u128
     rounded_up(PAGE_SIZE, end) + BREAK_ROOM as u128
 }
 
-/// Where a segment of the new area's own starts.
+/// Where a segment for the new area alone starts: above all others and the break.
 pub fn new_segment_start(segments: &[Segment]) -> u128
     ensures start { result ≡ spec.new_segment_start segments.now }
     ensures low { result < 2 ^ 65 + 2 ^ 64 + 2 ^ 27 }
@@ -125,7 +127,8 @@ pub fn new_segment_start(segments: &[Segment]) -> u128
     rounded_up(greatest_align(segments), end)
 }
 
-/// Where the new area starts in it, behind the table of program headers.
+/// Where the new area starts in a segment of its own: behind the table of program headers, which moves there with one
+/// more.
 pub fn area_above(segments: &[Segment]) -> u128
     ensures { result ≡ spec.area_above segments.now }
 {
@@ -140,14 +143,14 @@ pub fn room_above(elf: &Elf) -> u64
     bytes_between(area_above(&elf.segments), ADDRESS_END)
 }
 
-/// Whether a file is tight: a new area of so many bytes has no room behind the executable segment.
+/// Whether a file is tight: a new area of `need` bytes has no room behind the executable segment.
 pub fn is_tight(elf: &Elf, need: u64) -> bool
     ensures { result ≡ spec.is_tight elf.now.segments.items need }
 {
     room(elf) < need
 }
 
-/// The fault `NoRoom`, exactly where a new area of so many bytes has room in neither place.
+/// The fault `NoRoom`, exactly where a new area of `need` bytes has room in neither place.
 pub fn no_room(elf: &Elf, need: u64) -> Option<Fault>
     ensures { result ≡ fault.no_room elf.now.segments.items need }
 {
@@ -163,7 +166,8 @@ pub fn no_room(elf: &Elf, need: u64) -> Option<Fault>
     })
 }
 
-/// Where the new code starts. None starts at 0, or at an address that doesn't fit 64 bits.
+/// Where the new area starts: in a segment of its own if the file is `tight`, and else behind the executable segment.
+/// None where that is 0, or an address that doesn't fit 64 bits.
 pub fn area_start_of(segments: &[Segment], tight: bool) -> Option<u64>
     ensures start { IfSome result (λ start. start ≡ spec.area_start_of segments.now tight) }
     ensures some { IfSome result (λ start. 0 < start) }

@@ -3,7 +3,7 @@ ghost use Rattle.std.specs.Prelude.{◌≡◌, ◌+◌, ◌^◌, ◌<◌, ◌≤
 ghost use Rattle.elf_image.specs.memory.Break.{rounded_up};
 ghost use Rattle.file_room.specs.Numbers.{capped};
 
-/// Rounds up to a multiple of a unit.
+/// The first multiple of `unit` at or above `n`.
 pub fn rounded_up(unit: u64, n: u128) -> u128
     requires some { 0 < unit }
     requires low { n < 2 ^ 66 }
@@ -15,7 +15,7 @@ pub fn rounded_up(unit: u64, n: u128) -> u128
     (n + (unit - 1)) / unit * unit
 }
 
-/// A number as far as 64 bits can say it.
+/// `n`, or the greatest number of 64 bits where `n` is greater.
 pub fn capped(n: u128) -> u64
     ensures { result ≡ capped n }
 {

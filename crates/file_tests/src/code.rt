@@ -11,7 +11,8 @@ pub const F_SIZE: u64 = 20;
 /// Of the two ways through `f` the one by its branch is taken.
 pub const PROFILE: &[u8] = b"1 f 0 1 f c 0 5\n1 f c 1 f 10 0 5\n";
 
-/// The call is the pair that a compiler writes, which has a relocation; or a jump of four bytes, which needs none.
+/// The code. The call is the pair that a compiler writes, which has a relocation, if `is_pair` says so, and else a JAL,
+/// which needs none.
 pub fn code(alloc: Global, is_pair: bool) -> Result<Vec<u8>, BuildError> {
     let call = if is_pair {
         "auipc ra,0; jalr ra,16(ra)"

@@ -12,7 +12,7 @@ use std::alloc::Global;
 use std::process::Abort;
 use std::test::Fail;
 
-// The header of no section, which says nothing but these flags.
+// Whether a section's header says nothing but `flags`, as that of a section that was dropped.
 fn is_dropped(section: &Section<'_>, flags: u64) -> bool {
     let numbers = [
         section.addr,
@@ -25,7 +25,7 @@ fn is_dropped(section: &Section<'_>, flags: u64) -> bool {
     numbers == [0; 5] && words == [0; 3] && section.flags == flags
 }
 
-// What is read.
+// The file as it is read, which has to succeed.
 fn accepted<'a>(alloc: Global, file: &'a [u8]) -> Result<Elf<'a>, Fail> {
     match read(alloc, file) {
         Ok(elf) => Ok(elf),
@@ -33,7 +33,7 @@ fn accepted<'a>(alloc: Global, file: &'a [u8]) -> Result<Elf<'a>, Fail> {
     }
 }
 
-// What is left of relocations says that they were loaded, where they bear the name of a debug table.
+// The flags that are left of a section of relocations: that it was loaded, where it bears the name of a debug table.
 fn flags_left(section: &Section<'_>) -> u64 {
     if names_debug(section.name) {
         section.flags & SHF_ALLOC
@@ -42,7 +42,7 @@ fn flags_left(section: &Section<'_>) -> u64 {
     }
 }
 
-// The null section says nothing, and relocations no more than that.
+// Whether the null section says nothing, and those of relocations no more than `flags_left`.
 fn has_dropped(input: &Elf<'_>, output: &Elf<'_>) -> bool {
     let has_null = output
         .sections
@@ -52,7 +52,7 @@ fn has_dropped(input: &Elf<'_>, output: &Elf<'_>) -> bool {
     has_null && pairs.all(|(old, new)| old.kind != SHT_RELA || is_dropped(new, flags_left(old)))
 }
 
-// The part of `f` that isn't run has a symbol.
+// Whether the part of `f` that isn't run has a symbol.
 fn has_cold_symbol(output: &Elf<'_>) -> bool {
     output
         .symbols
@@ -87,7 +87,7 @@ fn check(rt: &impl Abort, alloc: Global, shape: &Shape) -> Result<(), Fail> {
     Ok(())
 }
 
-/// Each layout, with each extra and these tables.
+/// Rewrites a file of each layout, with each extra and with `tables`.
 pub fn check_all(rt: &impl Abort, alloc: Global, tables: Tables) -> Result<(), Fail> {
     for places in LAYOUTS {
         for extra in EXTRAS {

@@ -14,7 +14,7 @@ abbrev pub node_of : ℕ → Option ℕ → ℕ
 node_of first None = 0
 node_of first (Some k) = k - first + 1
 
--- an end of a link is one of so many nodes
+-- an end of a link is one of the first `nodes` nodes
 abbrev pub IsNodeBelow : ℕ → ℕ → Option ℕ → Type 0
 IsNodeBelow first nodes end = IfSome end (λ k. (first ≤ k) × (k - first + 1 < nodes))
 
@@ -43,7 +43,7 @@ HoldsBy heights first l = HoldsBetween (at_node heights first l.from) (at_node h
 abbrev pub AllHoldBy : List ℕ → ℕ → List Link → Type 0
 AllHoldBy heights first links = All (HoldsBy heights first) links
 
--- The end of a link may rise by so much more than its start, and prices go on to hold; or its start more than its end.
+-- The end of a link may rise by `slack` more than its start, and prices go on to hold; or its start more than its end.
 pub record EndMayRise (a b slack : ℕ) (l : Link) : Type 0 where
   pub most : b + slack ≤ a + 1
   pub below : l.flow < l.count → b + slack + 1 ≤ a
@@ -67,12 +67,12 @@ abbrev pub reversed : Direction → Direction
 reversed Along = Against
 reversed Against = Along
 
--- a link with so much more flow over it in a direction
+-- a link with d more flow over it in a direction
 abbrev pub flowing : Direction → ℕ → Link → Link
 flowing Along d l = record l { flow = l.flow + d }
 flowing Against d l = record l { flow = l.flow - d }
 
--- The state of a search for flows: links of so many nodes, and a height for each node, which are prices that hold.
+-- The state of a search for flows: links between the nodes, and a height for each node, which are prices that hold.
 pub record IsSteady (heights : List ℕ) (first nodes : ℕ) (links : List Link) : Type 0 where
   pub some : 0 < nodes
   pub tall : length heights ≡ nodes
@@ -88,14 +88,14 @@ pub record HasMoved (heights : List ℕ) (first nodes : ℕ) (old new : List Lin
 abbrev pub BalancesWithin : ℕ → ℕ → List Link → Type 0
 BalancesWithin first nodes links = (k : ℕ) → k + 1 < nodes → inflow links (first + k) ≡ outflow links (first + k)
 
--- arcs are of so many links, and lead to so many nodes
+-- An arc is of one of the first `links` links, and leads to one of the first `nodes` nodes.
 abbrev pub IsArcOf : ℕ → ℕ → Arc → Type 0
 IsArcOf links nodes a = (a.link < links) × (a.head < nodes)
 
 abbrev pub AreArcs : ℕ → ℕ → List (Vec Arc Global) → Type 0
 AreArcs links nodes around = All (λ arcs. All (IsArcOf links nodes) arcs.items) around
 
--- those queued are of so many nodes
+-- what is queued are nodes, of which there are `nodes`
 abbrev pub AreNodes : ℕ → List (Reverse ℕ × ℕ) → Type 0
 AreNodes nodes queued = All (λ e. e.1 < nodes) queued
 

@@ -18,7 +18,7 @@ pub struct Arc {
     pub head: usize,
 }
 
-/// The arcs of each node.
+/// The arcs of each node, of a function whose blocks begin with `first`. `nodes` is one more than its blocks.
 pub fn arcs(
     alloc: Global,
     links: &[Link],

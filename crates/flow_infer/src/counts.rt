@@ -11,7 +11,7 @@ use rv_code::Func;
 use rv_code::functions::func_holds;
 use std::alloc::Global;
 
-/// Pairs seen from their ends, by their ends.
+/// `pairs` turned round, so that the end of each stands first, and sorted by it.
 pub fn by_end(alloc: Global, pairs: &[(u64, u64, u128)]) -> Result<Vec<(u64, u64, u128)>, NoMemory>
     requires { total_count pairs.now < 2 ^ 100 }
     ensures permutation { IfOk result (λ ends. IsPermutation (map turned pairs.now) ends.items) }
@@ -22,7 +22,7 @@ pub fn by_end(alloc: Global, pairs: &[(u64, u64, u128)]) -> Result<Vec<(u64, u64
     Ok(ends)
 }
 
-// Pairs seen from their ends.
+// `pairs` turned round: the end of each, its start and its count.
 fn turned(alloc: Global, pairs: &[(u64, u64, u128)]) -> Result<Vec<(u64, u64, u128)>, NoMemory>
     ensures { IfOk result (λ ends. ends.items ≡ map turned pairs.now) }
 {
@@ -40,8 +40,8 @@ fn sort_by_first(pairs: &mut Vec<(u64, u64, u128)>)
     pairs.sort_unstable_by_key(|p| p.0);
 }
 
-/// How often control went from an address to addresses outside a function; or, of pairs seen from their ends, to an
-/// address from there. A binary search, and a sum over the pairs that it finds.
+/// How often control went from `address` to addresses outside `func`; or, by the pairs that `by_end` gives, to
+/// `address` from there. A binary search, and a sum over the pairs that it finds.
 pub fn count_outside(pairs: &[(u64, u64, u128)], func: &Func, address: u64) -> u128
     requires { AreLookedUp pairs.now }
     ensures { result ≡
@@ -50,7 +50,7 @@ pub fn count_outside(pairs: &[(u64, u64, u128)], func: &Func, address: u64) -> u
     sum_outside(pairs_from(pairs, address), func)
 }
 
-// The pairs with a first address.
+// The pairs whose first address is `address`.
 fn pairs_from<'a>(pairs: &'a [(u64, u64, u128)], address: u64) -> &'a [(u64, u64, u128)]
     requires { AreLookedUp pairs.now }
     ensures { result.now ≡ filter (λ p. p.0 == address) pairs.now }
@@ -60,7 +60,7 @@ fn pairs_from<'a>(pairs: &'a [(u64, u64, u128)], address: u64) -> &'a [(u64, u64
     found
 }
 
-// The sum of the counts of pairs whose second address doesn't lie in a function.
+// The sum of the counts of pairs whose second address doesn't lie in `func`.
 fn sum_outside(pairs: &[(u64, u64, u128)], func: &Func) -> u128
     requires { total_count pairs.now < 2 ^ 100 }
     ensures { result ≡ sum_by (λ p. if not (functions.func_holds p.1 func.now) then p.2 else 0) pairs.now }

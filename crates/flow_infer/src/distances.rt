@@ -15,10 +15,9 @@ use std::collections::BinaryHeap;
 /// How far each node is from one that needs flow.
 #[derive(Drop)]
 pub struct Distances {
-    /// The distance of each node; of a node that is farther than the nearest one that has flow to spare, no less than
-    /// that one's.
+    /// The distance of each node. Of a node that is farther than `nearest` it is only some number no less than that.
     pub of_nodes: Vec<u64>,
-    /// The distance of the nearest node that has flow to spare.
+    /// The distance of the nearest node that has flow to spare, or `u64::MAX` where none is reached.
     pub nearest: u64,
 }
 
@@ -59,7 +58,7 @@ pub fn find_distances(alloc: Global, network: &Network<'_>) -> Result<Distances,
     })
 }
 
-// Queues the nodes that are nearer than was known by way of a node with these arcs, which is at a distance.
+// Queues the nodes that are nearer than was known by way of a node at `distance`, whose arcs are `arcs`.
 fn queue_sources(
     queue: &mut BinaryHeap<(Reverse<u64>, usize)>,
     of_nodes: &mut [u64],

@@ -17,8 +17,8 @@ use rv_code::{Func, Placed};
 use rv_reloc::Refs;
 use std::alloc::Global;
 
-/// The addresses that a role, a cell or the entry point holds, or to which a branch or jump of another function goes,
-/// ascending.
+/// The addresses that a role, a cell or the entry point holds, or to which a branch or jump goes that leads out of its
+/// function, ascending.
 pub fn entries(alloc: Global, funcs: &[Func], refs: &Refs, entry: u64) -> Result<Vec<u64>, NoMemory>
     ensures ascending { IfOk result (λ entries. AllPairs (λ a b. a < b) entries.items) }
     ensures members { IfOk result (λ entries. AreEntries (code_of funcs.now refs.now entry) entries.items) }
@@ -32,7 +32,7 @@ pub fn entries(alloc: Global, funcs: &[Func], refs: &Refs, entry: u64) -> Result
     Ok(entries)
 }
 
-// Appends the addresses to which branches and jumps of other functions go.
+// Appends the addresses to which branches and jumps go that lead out of their functions.
 fn push_far_targets(addresses: &mut Vec<u64>, funcs: &[Func]) -> Result<(), NoMemory>
     ensures { OnOk result (Gains addresses.old.items addresses.new.items (IsFarTarget funcs.now)) }
 {
@@ -42,7 +42,7 @@ fn push_far_targets(addresses: &mut Vec<u64>, funcs: &[Func]) -> Result<(), NoMe
     Ok(())
 }
 
-// Appends the addresses outside a function to which these instructions go.
+// Appends the addresses outside `func` to which `insts` go.
 fn push_far_targets_of(
     addresses: &mut Vec<u64>,
     func: &Func,
@@ -57,7 +57,7 @@ fn push_far_targets_of(
     Ok(())
 }
 
-/// Where a branch or jump goes that leads out of a function, unless a register says it.
+/// Where `inst` goes, if it is a branch or jump that leads out of `func` and no register says where.
 pub fn far_target(func: &Func, inst: &Placed) -> Option<u64>
     ensures { (a : ℕ) → (result ≡ Some a) ↔ ((target_of inst.now ≡ Some a) × (func_holds a func.now ≡ false)) }
 {

@@ -8,11 +8,11 @@ pub struct Link {
     pub to: Option<usize>,
     /// How often the profile says that it was taken.
     pub count: u128,
-    /// How often it was taken by the repaired profile.
+    /// How often it was taken, as the repaired profile says.
     pub flow: u128,
 }
 
-/// All links, and a price for each block.
+/// All links, function by function, and a price for each block: how much higher it is than what lies outside.
 #[derive(Drop)]
 pub struct Flow {
     pub links: Vec<Link>,

@@ -8,8 +8,8 @@ use crate::settling::settle;
 use rb_bytes::fault::NoMemory;
 use std::alloc::Global;
 
-/// Adds the links of the next function, which has one block less than nodes, with a flow that balances, and the prices
-/// of its blocks.
+/// Adds the links of the next function, with a flow that balances, and the prices of its blocks, of which there is one
+/// less than `nodes`. Before, the links have their counts as flow.
 pub fn add_function(
     alloc: Global,
     flow: &mut Flow,
@@ -46,10 +46,11 @@ fn prices(alloc: Global, heights: &[u64]) -> Result<Vec<i64>, NoMemory>
     Ok(prices)
 }
 
-// What heights have to be below, so that how far they are apart fits a price.
+// Heights have to be below this, so that the difference of two fits a price.
 const HEIGHT_LIMIT: u64 = 1 << 62;
 
-// How much higher a node is than what lies outside.
+// How much higher a node is than what lies outside, by the heights of both. Heights past the limit are answered as want
+// of memory.
 fn price(outside: u64, height: u64) -> Result<i64, NoMemory>
     ensures { IfOk result (λ price. price ≡ pos height -ℤ pos outside) }
 {

@@ -6,8 +6,8 @@ use crate::flow::Link;
 use crate::nodes::at_ends;
 use rb_bytes::fault::NoMemory;
 
-/// Raises nodes in the longest step, up to `most`, in which prices go on to hold. Each rises by what the step is longer
-/// than its distance.
+/// Raises heights by the longest step, up to `most`, with which prices go on to hold. Each node rises by what the step
+/// is longer than its distance.
 pub fn lift(
     heights: &mut [u64],
     first: usize,
@@ -42,7 +42,7 @@ fn longest_step(heights: &[u64], first: usize, links: &[Link], distances: &[u64]
     longest
 }
 
-// Raises the nodes in a step.
+// Raises each node by what `step` is longer than its distance.
 fn raise(heights: &mut [u64], distances: &[u64], step: u64) -> Result<(), NoMemory>
     requires { length distances.now ≡ length heights.old }
     ensures { OnOk result ((n : ℕ) → n < length heights.old →

@@ -10,8 +10,8 @@ use rb_bytes::fault::NoMemory;
 use rb_bytes::lists::push_some;
 use std::alloc::Global;
 
-/// The links of a function whose blocks go from `first` to before `end`, with their counts as flow: in order, what lies
-/// outside before blocks.
+/// The links of a function whose blocks go from `first` to before `end`, with their counts as flow, by start and then
+/// by end. What lies outside comes before all blocks.
 pub fn function_links(
     alloc: Global,
     source: &Source,
@@ -49,7 +49,7 @@ fn ways_in(alloc: Global, source: &Source, first: usize, end: usize) -> Result<V
     Ok(links)
 }
 
-// Appends the ways from a block: out of its function, and its edges.
+// Appends the ways from `block`: out of its function, and its edges.
 fn push_ways_from(links: &mut Vec<Link>, source: &Source, block: usize) -> Result<(), NoMemory>
     requires source { AreSources source.now }
     requires inside { block < length source.now.blocks.now }

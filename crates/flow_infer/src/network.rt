@@ -12,7 +12,8 @@ pub struct Network<'a> {
     pub first: usize,
     /// The arcs around each node.
     pub around: &'a [Vec<Arc>],
-    /// How much flow each node has to spare, and how much it needs.
+    /// How much flow each node has to spare.
     pub spare: &'a [u128],
+    /// How much flow each node needs.
     pub need: &'a [u128],
 }

@@ -9,7 +9,8 @@ use crate::flow::Link;
 use rb_bytes::fault::NoMemory;
 use std::alloc::Global;
 
-/// The number of a node: 0 for what lies outside, and the blocks of a function from 1 on.
+/// The number of the node at an end of a link: 0 for what lies outside, and from 1 on for the blocks of the function,
+/// which begin with `first`.
 pub fn node(end: Option<usize>, first: usize) -> usize
     requires { IfSome end (λ k. (first ≤ k) × (k - first < 2 ^ 63)) }
     ensures { result ≡ node_of first end }
@@ -20,14 +21,14 @@ pub fn node(end: Option<usize>, first: usize) -> usize
     }
 }
 
-/// Numbers of the nodes at a link's ends, as their heights.
+/// A number for the node at each end of a link, as its height.
 #[derive(Clone, Copy)]
 pub struct Ends {
     pub start: u64,
     pub end: u64,
 }
 
-/// The numbers of the nodes at a link's ends among numbers of all nodes.
+/// The numbers of the nodes at the ends of `link`, by `numbers`, which has one for each node.
 pub fn at_ends(numbers: &[u64], first: usize, link: &Link) -> Ends
     requires some { 0 < length numbers.now }
     requires few { length numbers.now < 2 ^ 63 }
@@ -41,7 +42,7 @@ pub fn at_ends(numbers: &[u64], first: usize, link: &Link) -> Ends
     }
 }
 
-// The number of a node among numbers of all nodes.
+// The number of the node at an end of a link, by `numbers`, which has one for each node.
 fn at_node(numbers: &[u64], first: usize, end: Option<usize>) -> u64
     requires some { 0 < length numbers.now }
     requires few { length numbers.now < 2 ^ 63 }
@@ -83,7 +84,8 @@ pub fn sum_flows(
     Ok(FlowSums { into, out_of })
 }
 
-// Adds to the sum of a node. Sums that don't fit would take more than all counts.
+// Adds `flow` to the sum of `node`. Sums past 128 bits, which no profile's counts come near, are answered as want of
+// memory.
 fn add(sums: &mut [u128], node: usize, flow: u128) -> Result<(), NoMemory>
     requires { node < length sums.old }
     ensures { OnOk result ((n : ℕ) →
@@ -93,7 +95,7 @@ fn add(sums: &mut [u128], node: usize, flow: u128) -> Result<(), NoMemory>
     Ok(())
 }
 
-/// Whether as much flows into each block as out of it.
+/// Whether as much flows into each block as out of it. Node 0, what lies outside, needs no balance.
 pub fn is_balanced(inflows: &[u128], outflows: &[u128]) -> bool
     requires { length inflows.now ≡ length outflows.now }
     ensures { IsTrue result → (k : ℕ) → k + 1 < length inflows.now →
@@ -107,7 +109,7 @@ pub fn is_balanced(inflows: &[u128], outflows: &[u128]) -> bool
     true
 }
 
-/// What each node has more of one number than of another.
+/// By how much each node's number in `more` is greater than that in `less`, or 0 where it isn't.
 pub fn surplus(alloc: Global, more: &[u128], less: &[u128]) -> Result<Vec<u128>, NoMemory>
     requires { length more.now ≡ length less.now }
     ensures { IfOk result (λ numbers. length numbers.items ≡ length more.now) }
@@ -119,7 +121,7 @@ pub fn surplus(alloc: Global, more: &[u128], less: &[u128]) -> Result<Vec<u128>,
     Ok(numbers)
 }
 
-/// The sum of numbers, or the greatest number where it is greater.
+/// The sum of `numbers`, or the greatest number of 128 bits where that is less.
 pub fn total(numbers: &[u128]) -> u128 {
     let mut sum = 0u128;
     for number in numbers {

@@ -9,7 +9,7 @@ use crate::nodes::at_ends;
 use crate::rooms::room_at;
 use crate::searching::Found;
 
-// Moves so much more over a link in a direction, as far as there is room.
+// Moves `amount` over the link at `place` in a direction, or as much of it as there is room for.
 fn move_at(
     links: &mut [Link],
     place: usize,
@@ -28,7 +28,8 @@ fn move_at(
     links[place] = link.moved(ends, direction, amount);
 }
 
-/// Moves what nodes have to spare on to nodes that were found before them: the last that was found comes first.
+/// Moves what nodes have to spare on to nodes that were found before them, beginning with the node that was found last.
+/// So what comes to a node moves on in the same wave.
 pub fn wave(
     links: &mut [Link],
     heights: &[u64],
@@ -64,7 +65,7 @@ pub fn wave(
     }
 }
 
-// Moves what a node has to spare on to nodes that were found before it.
+// Moves what node `n` has to spare on to nodes that were found before it.
 fn push_from(
     links: &mut [Link],
     heights: &[u64],

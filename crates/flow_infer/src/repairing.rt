@@ -69,7 +69,7 @@ fn repair_functions(alloc: Global, source: &Source) -> Result<Flow, NoMemory>
     Ok(flow)
 }
 
-// Where the blocks end of the function that has a block, its first one.
+// Where the blocks of the function end whose first block is `first`.
 fn function_end(blocks: &[Block], first: usize) -> usize
     requires { first < length blocks.now }
     ensures { IsFunctionFrom blocks.now first result }

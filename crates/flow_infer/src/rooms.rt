@@ -1,4 +1,6 @@
-// How much flow a link takes at given heights, and how far heights may rise.
+// How much flow a link takes at given heights, and how far heights may rise. A link whose end is higher than its start
+// takes any flow, and gives back what it has above its count. One whose end is lower by 1 takes what it has below its
+// count, and gives back all. Any other takes none and gives none back.
 ghost use Rattle.std.specs.Prelude.{◌≡◌, ◌+◌, ◌-◌, ◌<◌, ◌≤◌, ◌^◌, ℕ, length};
 ghost use Rattle.flow_infer.specs.declared.direction.Direction.TheVariants.{Along, Against};
 ghost use Rattle.flow_infer.specs.Flows.{bare};
@@ -55,7 +57,8 @@ impl Link {
         }
     }
 
-    /// The link with so much more flow over it in a direction, as far as there is room at the heights of its ends.
+    /// The link with `amount` more flow over it in a direction, or as much of it as there is room for at the heights of
+    /// its ends.
     pub fn moved(&self, heights: Ends, direction: Direction, amount: u128) -> Link
         requires { HoldsBetween heights.start heights.end self.now }
         ensures same { bare result ≡ bare self.now }
@@ -69,8 +72,8 @@ impl Link {
         Link { flow, ..*self }
     }
 
-    // How much more the end to which a direction leads may rise than the other one, from these heights: what a way in
-    // this direction lacks for room.
+    // By how much the end to which `direction` leads may rise more than the other one, from these heights: what a way
+    // in this direction lacks for room.
     fn slack(&self, heights: Ends, direction: Direction) -> u64
         requires { HoldsBetween heights.start heights.end self.now }
     {
@@ -106,7 +109,8 @@ impl Link {
         }
     }
 
-    /// How long a step may be in which the link's ends rise from these heights, at these distances.
+    /// The longest step in which the link's ends may rise from these heights, at these distances, so that its prices go
+    /// on to hold.
     pub fn longest_step(&self, heights: Ends, distances: Ends) -> u64
         requires { HoldsBetween heights.start heights.end self.now }
         ensures { (step : ℕ) → step ≤ result → HoldsBetween (raised step distances.start heights.start)
@@ -118,7 +122,7 @@ impl Link {
     }
 }
 
-/// How much more may flow over the link at a place in a direction, at the heights of its ends.
+/// How much more may flow over the link at `place` in a direction, at the heights of its ends.
 pub fn room_at(
     links: &[Link],
     place: usize,
@@ -134,7 +138,7 @@ pub fn room_at(
     link.room(at_ends(heights, first, link), direction)
 }
 
-/// What a way over the link at a place lacks for room in a direction, at the heights of its ends.
+/// What a way over the link at `place` in a direction lacks for room, at the heights of its ends.
 pub fn slack_at(
     links: &[Link],
     place: usize,
@@ -150,7 +154,7 @@ pub fn slack_at(
     link.slack(at_ends(heights, first, link), direction)
 }
 
-// How long a step may be in which a node at a distance rises by no more than this slack over a node at another one.
+// The longest step in which a node at `distance` rises by no more than `slack` over a node at the distance `other`.
 fn step_within(slack: u64, distance: u64, other: u64) -> u64
     ensures { (step : ℕ) → step ≤ result → step - distance ≤ (step - other) + slack }
 {

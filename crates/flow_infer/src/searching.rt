@@ -13,9 +13,9 @@ use std::alloc::Global;
 #[derive(Drop)]
 pub struct Found {
     pub order: Vec<usize>,
-    /// The places of nodes in the order; for nodes that aren't there, how many nodes there are.
+    /// The place of each node in `order`; of a node that isn't there, the number of all nodes.
     pub places: Vec<usize>,
-    /// Whether one of them has some to spare.
+    /// Whether a node of `order` has flow to spare.
     pub meets: bool,
 }
 
@@ -52,7 +52,7 @@ pub fn search(alloc: Global, network: &Network<'_>) -> Result<Found, NoMemory>
     })
 }
 
-// Appends the nodes not found yet from which there is room to go to one with these arcs.
+// Appends the nodes not found yet from which there is room to go to the node whose arcs are `arcs`.
 fn push_sources(
     order: &mut Vec<usize>,
     places: &mut [usize],

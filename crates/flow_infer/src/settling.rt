@@ -20,7 +20,7 @@ use std::alloc::Global;
 pub enum Progress {
     /// The flow balances.
     Balanced,
-    /// Flow was moved. So much was to be moved before.
+    /// Flow was moved. The number is how much there was to be moved before.
     Moved(u128),
     /// Heights were raised.
     Raised,
@@ -29,7 +29,7 @@ pub enum Progress {
 /// Moves flow on the links of a function, whose blocks are those from `first` on, until it balances. The heights of its
 /// nodes are prices that hold.
 ///
-/// Want of memory is answered too where a wave lessened nothing, and at sums past 128 bits and heights past 64.
+/// Want of memory is answered too where a wave lessened nothing, at sums past 128 bits, and at heights past 64 bits.
 pub fn settle(
     alloc: Global,
     links: &mut [Link],
@@ -50,6 +50,7 @@ pub fn settle(
     let around = arcs(alloc, links, first, nodes)?;
     // How often heights rise is bounded for the prover alone; no network comes near it.
     let mut rises = u64::MAX;
+    // How much was to be moved before the last wave.
     let mut left = u128::MAX;
     loop {
         match round(alloc, links, &mut heights, first, &around)? {

@@ -15,6 +15,6 @@ pub struct Source<'a> {
     pub profile: &'a Profile,
     /// The profile's pairs.
     pub pairs: &'a [(u64, u64, u128)],
-    /// The pairs seen from their ends.
+    /// The pairs as `by_end` gives them: the end of each first, sorted by it.
     pub ends: &'a [(u64, u64, u128)],
 }

@@ -15,7 +15,7 @@ use crate::source::Source;
 use rv_code::functions::block_start;
 use rv_code::{Block, Func};
 
-/// How often control came into the block at a place from outside its function, if it can.
+/// How often control came into block `k` from outside its function, or None if it can't.
 pub fn way_in(source: &Source, k: usize) -> Option<u128>
     requires source { AreSources source.now }
     requires inside { k < length source.now.blocks.now }
@@ -31,7 +31,7 @@ pub fn way_in(source: &Source, k: usize) -> Option<u128>
     Some(count_outside(source.ends, func, start))
 }
 
-/// How often control went from the block at a place out of its function, if it can.
+/// How often control went from block `k` out of its function, or None if it can't.
 pub fn way_out(source: &Source, k: usize) -> Option<u128>
     requires source { AreSources source.now }
     requires inside { k < length source.now.blocks.now }
@@ -47,7 +47,7 @@ pub fn way_out(source: &Source, k: usize) -> Option<u128>
     Some(count_outside(source.pairs, func, end))
 }
 
-/// How often control went from the end of one block to the start of another.
+/// How often control went from the end of block `from` to the start of block `to`.
 pub fn count_between(source: &Source, from: usize, to: usize) -> u128
     requires source { AreSources source.now }
     requires from { from < length source.now.blocks.now }
@@ -60,7 +60,7 @@ pub fn count_between(source: &Source, from: usize, to: usize) -> u128
     source.profile.count(end, start)
 }
 
-/// The edges from a block.
+/// The edges from `block`.
 pub fn edges_from<'a>(edges: &'a [(usize, usize)], block: usize) -> &'a [(usize, usize)]
     requires { AllPairs IsPairBefore edges.now }
     ensures { result.now ≡ filter (λ e. e.0 == block) edges.now }

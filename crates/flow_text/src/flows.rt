@@ -29,7 +29,8 @@ pub fn edge_flows(
     Ok(flows)
 }
 
-// The pair of an edge with its flow.
+// The addresses of an edge, from the last instruction of a block to the first of another, and its flow. None for a way
+// in or out.
 fn flow_between(funcs: &[Func], blocks: &[Block], link: &Link) -> Option<(u64, u64, u128)>
     requires blocks { All (IsOfFunction funcs.now) blocks.now }
     requires link { IsBetween blocks.now link.now }
@@ -44,7 +45,7 @@ fn flow_between(funcs: &[Func], blocks: &[Block], link: &Link) -> Option<(u64, u
     ))
 }
 
-// The address of the last instruction of the block at a place.
+// The address of the last instruction of block `place`.
 fn end_at(funcs: &[Func], blocks: &[Block], place: usize) -> u64
     requires blocks { All (IsOfFunction funcs.now) blocks.now }
     requires inside { place < length blocks.now }
@@ -53,7 +54,7 @@ fn end_at(funcs: &[Func], blocks: &[Block], place: usize) -> u64
     block_end(funcs, &blocks[place])
 }
 
-/// The address at which the block at a place starts.
+/// The address at which block `place` starts.
 pub fn start_at(funcs: &[Func], blocks: &[Block], place: usize) -> u64
     requires blocks { All (IsOfFunction funcs.now) blocks.now }
     requires inside { place < length blocks.now }

@@ -12,7 +12,7 @@ use rb_bytes::fault::NoMemory;
 use rb_bytes::text::{put_count, put_hex};
 use rv_code::{Block, Func};
 
-/// Appends the line of the price of the block at a place.
+/// Appends the line of the price of block `place`.
 pub fn put_price(
     text: &mut Vec<u8>,
     funcs: &[Func],
@@ -69,7 +69,7 @@ pub fn put_total(text: &mut Vec<u8>, links: &[Link]) -> Result<(), NoMemory>
     Ok(())
 }
 
-// Appends the name of an end of a link.
+// Appends where the block at an end of a link starts, or `-` for what lies outside.
 fn put_end(
     text: &mut Vec<u8>,
     funcs: &[Func],

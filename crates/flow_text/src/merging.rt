@@ -7,8 +7,8 @@ ghost use Rattle.flow_text.specs.MergedFlows.{some_flow, with_flows};
 use rb_bytes::fault::NoMemory;
 use std::alloc::Global;
 
-/// Pairs of addresses with their counts, where each pair that has a flow has it in place of its count, or isn't there
-/// if that is 0. Both lists are in order, and so is the result.
+/// `pairs`, with the flows in place of the counts of those that are in `flows` too, and without those whose flow is 0.
+/// Both lists are in order, and so is the result.
 pub fn with_flows(
     alloc: Global,
     flows: &[(u64, u64, u128)],
@@ -27,7 +27,7 @@ pub fn with_flows(
     Ok(out)
 }
 
-// Appends the pairs before a flow, and the flow.
+// Appends the pairs before that of `flow`, and then `flow`, unless it is 0.
 fn push_upto(
     out: &mut Vec<(u64, u64, u128)>,
     pairs: &[(u64, u64, u128)],
@@ -44,7 +44,7 @@ fn push_upto(
     Ok(())
 }
 
-// The pairs that come before one.
+// The pairs that come before `pair`.
 fn pairs_before<'a>(
     pairs: &'a [(u64, u64, u128)],
     pair: &(u64, u64, u128),
@@ -56,7 +56,7 @@ fn pairs_before<'a>(
     before
 }
 
-// The pairs that come after one.
+// The pairs that come after `pair`.
 fn pairs_after<'a>(pairs: &'a [(u64, u64, u128)], pair: &(u64, u64, u128)) -> &'a [(u64, u64, u128)]
     requires { AllPairs IsCountedBefore pairs.now }
     ensures { result.now ≡ filter (λ p. is_before pair.now p) pairs.now }

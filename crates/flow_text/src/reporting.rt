@@ -37,7 +37,7 @@ pub fn report(
     Ok(text)
 }
 
-// Appends the lines of the function at a place, if one of its links has a count.
+// Appends the lines of function `func`, if one of its links has a count.
 fn put_function(
     text: &mut Vec<u8>,
     funcs: &[Func],
@@ -70,7 +70,7 @@ fn has_count(links: &[Link]) -> bool
     links.iter().any(|link| link.count > 0)
 }
 
-// The links of a function.
+// The links of function `func`.
 fn links_of<'a>(blocks: &[Block], links: &'a [Link], func: usize) -> &'a [Link]
     requires { AllPairs (IsLinkBefore blocks.now) (map counted_ends links.now) }
     ensures { result.now ≡ spec.links_of blocks.now links.now func }
@@ -80,7 +80,7 @@ fn links_of<'a>(blocks: &[Block], links: &'a [Link], func: usize) -> &'a [Link]
     found
 }
 
-// The place of a link's function.
+// The function of a link. A link between blocks that aren't there counts as one of function 0.
 fn func_of_link(blocks: &[Block], link: &Link) -> usize
     ensures { result ≡ func_of_ends blocks.now (counted_ends link.now) }
 {
@@ -90,7 +90,7 @@ fn func_of_link(blocks: &[Block], link: &Link) -> usize
     }
 }
 
-// A block at an end of a link.
+// A block at an end of a link: the one at its start, if that is a block.
 fn block_of(link: &Link) -> usize
     ensures { result ≡ a_block link.now.from link.now.to }
 {
@@ -100,7 +100,7 @@ fn block_of(link: &Link) -> usize
     }
 }
 
-// Where the blocks of a function begin and end in the list.
+// Where the blocks of function `func` begin and end in the list of blocks.
 fn blocks_of(blocks: &[Block], func: usize) -> (usize, usize)
     requires { AllPairs IsBefore blocks.now }
     ensures order { result.0 ≤ result.1 }

@@ -68,7 +68,7 @@ WritesAll spans keys (ℕ.suc n) place (r ∷ rs) =
     × WritesAll spans keys n (place + 8 + length (fde_body spans r (take (more_count r rs) rs)))
     (drop (more_count r rs) rs)
 
--- The entry of a run holds no byte before it but those of runs.
+-- Before the run the range of its entry holds only bytes of other runs.
 pub record IsReached (spans : List Span) (runs : List (Run FrameAnswer)) (r : Run FrameAnswer) : Type 0 where
   pub before : start_of spans r ≤ r.start
   pub filled : (p : ℕ) → start_of spans r ≤ p → p < r.start + r.len → IsSome (run_at runs p)

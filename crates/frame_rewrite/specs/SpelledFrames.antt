@@ -27,7 +27,7 @@ use Rattle.cfi_rows.specs.Entries.{RawEntry, cie_id, letter_z, letter_R, letter_
 use Rattle.frame_rewrite.specs.declared.cie_key.CieKey.{CieKey}
 use Rattle.frame_rewrite.specs.FrameAnswers.{FrameAnswer}
 
--- Rows. The factors of offsets are 1.
+-- Rows. Both factors are 1.
 
 abbrev pub spelled_block : List ℕ → List ℕ
 spelled_block b = uleb (length b) ++ b
@@ -142,12 +142,12 @@ more_count r rs = position_or_len (λ q. not (continues r q)) rs
 abbrev pub start_of : List Span → Run FrameAnswer → ℕ
 start_of spans r = cond r.answer.marked (new spans r.answer.start) r.start
 
--- where the last of some runs ends, behind an address
+-- where the last of some runs ends, or a given address where there are none
 abbrev pub last_end : ℕ → List (Run FrameAnswer) → ℕ
 last_end end [] = end
 last_end end (r ∷ rs) = last_end (r.start + r.len) rs
 
--- so many zero bytes make n bytes a multiple of 8
+-- how many zero bytes make of n bytes a multiple of 8
 abbrev pub padding : ℕ → ℕ
 padding n = 7 - (n % 8 + 7) % 8
 
@@ -166,7 +166,7 @@ is_key a b = (a.ra == b.ra) && (a.handler == b.handler) && beq a.indirect b.indi
 abbrev pub key_index : List Span → List CieKey → Run FrameAnswer → ℕ
 key_index spans keys r = position_or_len (is_key (key_of spans r.answer)) keys
 
--- the id of an FDE at an offset, whose CIE is the one of an index
+-- the id of an FDE at an offset, by the index of its CIE
 abbrev pub fde_id : (debug : Bool) → ℕ → ℕ → ℕ
 fde_id true place i = cie_size * i
 fde_id false place i = place + 4 - cie_size * i

@@ -1,11 +1,12 @@
-// The kinds of frames, each of which has a CIE.
+// The kinds of frames, for each of which one CIE is written.
 ghost use Rattle.std.specs.Prelude.{◌≡◌, ◌<◌, ◌^◌};
 ghost use Rattle.frame_rewrite.specs.SpelledFrames.{key_of};
 
 use crate::answer::FrameAt;
 use addr_map::AddrMap;
 
-/// What a CIE says. The handler is where it went.
+/// What the CIE of a written entry says: the register with the return address, the new address of the handler and
+/// whether that is indirect, and whether the frame is one of a signal handler.
 #[derive(Clone, Copy, PartialEq, Eq, Hash)]
 pub struct CieKey {
     pub ra: u64,

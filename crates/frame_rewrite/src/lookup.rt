@@ -22,7 +22,7 @@ pub struct Told {
 }
 
 impl Told {
-    /// The answer, of an entry that is marked or isn't.
+    /// The answer; `marked` tells whether the entry is marked.
     pub(crate) fn answer(self, marked: bool) -> FrameAt
         ensures { result ≡ answer_by self.fde self.row marked }
     {
@@ -61,7 +61,8 @@ fn ranges_of(alloc: Global, list: &[Fde]) -> Result<Vec<Range>, NoMemory>
     Ok(ranges)
 }
 
-/// What the first entry that holds an address says there, by an index of the table's entries.
+/// The first entry that holds address `a`, and its row there, by an index of the table's entries; none where no entry
+/// holds it.
 pub(crate) fn tell(
     alloc: Global,
     frames: &Frames,
@@ -83,7 +84,7 @@ pub(crate) fn tell(
     }
 }
 
-/// Whether two addresses certainly have one entry and one row, by an index of the table's entries.
+/// Whether two addresses certainly have the same entry and the same row of it, by an index of the table's entries.
 pub(crate) fn alike(frames: &Frames, index: &FirstRange, a: u64, b: u64) -> bool
     requires { (a : ℕ) → first_range index.now a ≡ position (holds_address a) (map range_of (read_as frames.now).list) }
     ensures { IsTrue result → told_at (read_as frames.now).list a ≡ told_at (read_as frames.now).list b }

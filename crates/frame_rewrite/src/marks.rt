@@ -1,11 +1,11 @@
-// Which entries have an exception table that counts from the start of a whole function.
+// Which entries are marked: those with an exception table that counts from the start of a whole function.
 ghost use Rattle.std.specs.Prelude.{◌≡◌, ◌<◌, ◌≤◌, ℕ, length, slice_index_or};
 ghost use Rattle.std.specs.List.Sorted.{IsStrictlyIncreasing};
 ghost use Rattle.frame_rewrite.specs.FrameLookups.{is_marked_as};
 
 use cfi_rows::frame_table::Fde;
 
-/// Whether an entry is marked by cuts, which ascend.
+/// Whether an entry is marked, by the cuts of the file, which ascend.
 pub(crate) fn is_marked(cuts: &[u64], fde: &Fde) -> bool
     requires { IsStrictlyIncreasing cuts.now }
     ensures { result ≡ is_marked_as cuts.now fde.now }

@@ -1,4 +1,4 @@
-// Entries of a frame table, and CIEs. LSB, "The .eh_frame section".
+// Entries of a frame table as bytes, and CIEs. LSB, "The .eh_frame section".
 ghost use Rattle.std.specs.Prelude.{◌≡◌, ◌<◌, ◌+◌, ◌^◌, ◌++◌, ℕ, OnOk, All, length};
 ghost use Rattle.cfi_rows.specs.Entries as entries;
 ghost use Rattle.frame_rewrite.specs.SpelledFrames as spec;
@@ -13,7 +13,7 @@ use rb_bytes::little::{put_u32, put_u64};
 // The version of CIEs.
 const VERSION: u8 = 1;
 
-// What advances of addresses, and offsets of saved registers, are multiples of.
+// What advances of the location, and offsets of saved registers, are multiples of.
 const CODE_ALIGNMENT_FACTOR: u8 = 1;
 
 const DATA_ALIGNMENT_FACTOR: u8 = 1;
@@ -22,14 +22,15 @@ const DATA_ALIGNMENT_FACTOR: u8 = 1;
 // the handler's address.
 const AUGMENTATION_SIZE: u8 = 11;
 
-// The greatest number of bytes of an entry's contents: with the id before them its length stays below ffffffff, which
-// says that the length has 64 bits.
+// How many bytes an entry may have behind its id: with the id its length stays below 0xffffffff, which says that a
+// length of 64 bits follows.
 const MAX_BODY: usize = 0xffff_fff0;
 
 // The greatest id of an entry.
 const MAX_ID: usize = 0xffff_ffff;
 
-/// Appends an entry, if its id and its length fit their fields.
+/// Appends an entry: its length, its id, and its body. `NoMemory` is answered, too, where the id or the length doesn't
+/// fit its field.
 pub(crate) fn put_entry(out: &mut Vec<u8>, id: usize, body: &[u8]) -> Result<(), NoMemory>
     ensures written { OnOk result (out.new.items ≡ out.old.items
         ++ spec.spelled_entry (record { place = length out.old.items; id = id; body = body.now })) }
@@ -44,7 +45,8 @@ pub(crate) fn put_entry(out: &mut Vec<u8>, id: usize, body: &[u8]) -> Result<(),
     put_bytes(out, body)
 }
 
-// The letters of the augmentation, and the byte that ends them.
+// Appends the letters of the augmentation, and the zero that ends them: data stand behind (z), and have the encodings
+// of addresses (R), of the handler (P) and of exception tables (L); the frame is one of a signal handler (S).
 fn put_text(out: &mut Vec<u8>, signal: bool) -> Result<(), NoMemory>
     ensures { OnOk result (out.new.items ≡ out.old.items ++ spec.cie_text signal) }
 {
@@ -71,7 +73,7 @@ fn cie_nops(signal: bool) -> usize
     if signal { 2 } else { 3 }
 }
 
-// The contents of a CIE, of 24 bytes.
+// Appends the body of a CIE, which has 24 bytes, with DW_CFA_nop for instructions.
 fn put_cie(out: &mut Vec<u8>, key: &CieKey) -> Result<(), NoMemory>
     requires { key.now.ra < 256 }
     ensures { OnOk result (out.new.items ≡ out.old.items ++ spec.cie_body key.now) }
@@ -95,7 +97,7 @@ fn put_cie(out: &mut Vec<u8>, key: &CieKey) -> Result<(), NoMemory>
     Ok(())
 }
 
-// The id of a CIE.
+// The id by which an entry is a CIE.
 fn cie_id(debug: bool) -> usize
     ensures { result ≡ entries.cie_id debug }
 {
@@ -117,7 +119,7 @@ fn put_cie_entry(
     put_entry(out, cie_id(debug), body)
 }
 
-/// Appends all CIEs.
+/// Appends a CIE for each kind of frame. `body` is room for one at a time.
 pub(crate) fn put_cies(
     out: &mut Vec<u8>,
     body: &mut Vec<u8>,

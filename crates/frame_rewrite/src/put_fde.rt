@@ -16,7 +16,7 @@ use indexmap::IndexSet;
 use rb_bytes::fault::NoMemory;
 use rb_bytes::little::put_u64;
 
-/// The size of a CIE.
+/// How many bytes each CIE has that is written, with its length and its id.
 pub(crate) const CIE_SIZE: usize = 32;
 
 // How many bytes an FDE's augmentation has: the address of its exception table.
@@ -25,7 +25,7 @@ const AUGMENTATION_SIZE: u8 = 8;
 // The last place at which an entry may begin, so that distances in the table fit four bytes.
 const MAX_PLACE: usize = 0xffff_0000;
 
-// Whether a run goes on in the entry of another, which is of a whole function.
+// Whether a run goes on in the entry of the run `first`, so that both get one FDE: both are of the same marked entry.
 fn continues(first: &Run<FrameAt>, next: &Run<FrameAt>) -> bool
     ensures { result ≡ spec.continues first.now next.now }
 {
@@ -40,7 +40,7 @@ fn continues(first: &Run<FrameAt>, next: &Run<FrameAt>) -> bool
         && first.signal == next.signal
 }
 
-// How many of the runs behind one go on in its entry.
+// How many of the runs behind `first` go on in its entry.
 fn more_count(first: &Run<FrameAt>, others: &[Run<FrameAt>]) -> usize
     ensures count { result ≡ spec.more_count first.now others.now }
     ensures within { result ≤ length others.now }
@@ -53,7 +53,7 @@ fn more_count(first: &Run<FrameAt>, others: &[Run<FrameAt>]) -> usize
     others.len()
 }
 
-// Where the entry of a run begins.
+// Where the range of a run's FDE begins: for a marked entry where its start went, which may be before the run.
 fn start_of(map: &AddrMap, run: &Run<FrameAt>) -> u64
     ensures { result ≡ spec.start_of map.now run.now }
 {
@@ -64,7 +64,7 @@ fn start_of(map: &AddrMap, run: &Run<FrameAt>) -> u64
     }
 }
 
-// Where the last run of a group ends.
+// Where the last run of a group ends, which is `first` and `more`.
 fn group_end(first: &Run<FrameAt>, more: &[Run<FrameAt>]) -> u64
     requires { All EndFits (first.now ∷ more.now) }
     ensures { result ≡ spec.last_end (first.now.start + first.now.len) more.now }
@@ -76,7 +76,8 @@ fn group_end(first: &Run<FrameAt>, more: &[Run<FrameAt>]) -> u64
     end
 }
 
-// The rows of a group of runs.
+// Appends the rows of a group of runs, each from the start of its run on; the first one holds from the start of the
+// range.
 fn put_rows(out: &mut Vec<u8>, first: &Run<FrameAt>, more: &[Run<FrameAt>]) -> Result<(), NoMemory>
     requires { All RunAscends (first.now ∷ more.now) }
     ensures written { OnOk result (out.new.items ≡ out.old.items ++ spec.spelled_rows first.now.answer.row more.now) }
@@ -90,7 +91,7 @@ fn put_rows(out: &mut Vec<u8>, first: &Run<FrameAt>, more: &[Run<FrameAt>]) -> R
     put_row(out, &last.answer.row)
 }
 
-// The range of an entry, its exception table and its rows.
+// Appends the range of an FDE, its exception table and its rows.
 fn put_fields(
     out: &mut Vec<u8>,
     map: &AddrMap,
@@ -113,14 +114,15 @@ fn put_fields(
     put_rows(out, first, more)
 }
 
-// As many zero bytes as make the length a multiple of 8.
+// Appends as many zero bytes (DW_CFA_nop) as make the length a multiple of 8.
 fn pad(out: &mut Vec<u8>) -> Result<(), NoMemory>
     ensures { OnOk result (out.new.items ≡ out.old.items ++ spec.zeros (spec.padding (length out.old.items))) }
 {
     put_zeros(out, (8 - out.len() % 8) % 8)
 }
 
-// The id of an FDE at a place, whose CIE is the one of an index.
+// The id of an FDE at offset `place`, whose CIE is the one of `index`: the offset of that in `.debug_frame`, and in
+// `.eh_frame` the distance to it from the id, four bytes behind the start of the FDE.
 fn fde_id(debug: bool, place: usize, index: usize) -> usize
     requires within { CIE_SIZE * index ≤ place }
     requires fits { place + 4 < 2 ^ 32 }
@@ -133,7 +135,7 @@ fn fde_id(debug: bool, place: usize, index: usize) -> usize
     }
 }
 
-// The index of a kind of frame.
+// The index of a kind of frame, which is there; that isn't proved, so `NoMemory` is answered where it isn't.
 fn index_of(keys: &IndexSet<CieKey>, key: &CieKey) -> Result<usize, NoMemory>
     ensures index { IfOk result (λ i. i ≡ position_or_len (spec.is_key key.now) keys.now.keys) }
     ensures found { IfOk result (λ i. slice_get keys.now.keys i ≡ Some key.now) }
@@ -145,7 +147,7 @@ fn index_of(keys: &IndexSet<CieKey>, key: &CieKey) -> Result<usize, NoMemory>
     }
 }
 
-// Appends the FDE of a group of runs.
+// Appends the FDE of a group of runs. `body` is room for its contents.
 fn put_fde(
     out: &mut Vec<u8>,
     body: &mut Vec<u8>,
@@ -176,7 +178,7 @@ fn put_fde(
     Ok(())
 }
 
-/// Appends the FDEs of runs.
+/// Appends the FDEs of runs, one for each group of them. `body` is room for one at a time.
 pub(crate) fn put_fdes(
     out: &mut Vec<u8>,
     body: &mut Vec<u8>,
@@ -195,7 +197,7 @@ pub(crate) fn put_fdes(
     ensures writes { OnOk result (WritesAll map.now keys.now.keys (length runs.now) (length out.old.items) runs.now) }
 {
     let mut rest = runs;
-    // Each has a run or more.
+    // Each FDE has a run at least. `count` isn't read: it bounds the loop.
     for count in 0..runs.len() {
         match rest.split_first() {
             None => return Ok(()),

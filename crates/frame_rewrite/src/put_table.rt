@@ -34,14 +34,14 @@ pub(crate) fn keys_of(
     Ok(keys)
 }
 
-// Appends what ends a table.
+// Appends what ends a table: in `.eh_frame` a length of 0.
 fn put_end(out: &mut Vec<u8>, debug: bool) -> Result<(), NoMemory>
     ensures { OnOk result (out.new.items ≡ out.old.items ++ spec.end_mark debug) }
 {
     if debug { Ok(()) } else { put_zeros(out, 4) }
 }
 
-/// A frame table, `.debug_frame` where `debug` holds, made of runs that need some kinds of frames.
+/// A frame table, `.debug_frame` where `debug` holds, made of runs; `keys` are the kinds of frames that they need.
 pub(crate) fn written(
     alloc: Global,
     debug: bool,

@@ -14,7 +14,7 @@ const REGISTER_FRAME: &[u8] = b"__register_frame";
 
 const REGISTER_FRAME_INFO: &[u8] = b"__register_frame_info";
 
-// Whether a symbol is one of them, and is defined.
+// Whether a symbol is one of these functions, and is defined.
 fn registers(symbol: &Symbol) -> bool
     ensures { IsTrue result ↔ IsRegistration symbol.now }
 {
@@ -28,7 +28,7 @@ fn some_registers(symbols: &[Symbol]) -> bool
     symbols.iter().any(|symbol| registers(symbol))
 }
 
-/// Whether a program header names the index of an unwind table.
+/// Whether a program header names the index of an unwind table (PT_GNU_EH_FRAME).
 pub fn has_index_header(segments: &[Segment]) -> bool
     ensures is { result ≡ list_any (λ p. p.kind == index_kind) segments.now }
     ensures any { IsTrue result ↔ Any (λ p. p.kind ≡ index_kind) segments.now }
@@ -38,7 +38,8 @@ pub fn has_index_header(segments: &[Segment]) -> bool
         .any(|segment| segment.kind == PT_GNU_EH_FRAME)
 }
 
-/// The address of the unwind table of a program that registers it itself, and so would go on to use the old one.
+/// The address of the unwind table of a program that registers it itself, and so would go on to use the old one: a file
+/// with such a table is refused.
 pub fn registered_frames(elf: &Elf) -> Option<u64>
     ensures { MatchOption result ((place : ℕ) → IsRegisteredFrames elf.now place → ⊥) (IsRegisteredFrames elf.now) }
 {

@@ -30,14 +30,15 @@ pub(crate) fn put_bytes(out: &mut Vec<u8>, bytes: &[u8]) -> Result<(), NoMemory>
     Ok(())
 }
 
-// A signed number, with the one clause that is needed here: with all of those of `put_sleb`, searches give up.
+// Appends a signed number. It has the one clause that is needed here: with all of those of `put_sleb`, the prover's
+// searches give up.
 fn put_signed(out: &mut Vec<u8>, n: i64) -> Result<(), NoMemory>
     ensures { OnOk result (out.new.items ≡ out.old.items ++ sleb n) }
 {
     put_sleb(out, n)
 }
 
-// An expression behind its length.
+// Appends an expression behind its length.
 fn put_block(out: &mut Vec<u8>, block: &Expression) -> Result<(), NoMemory>
     ensures { OnOk result (out.new.items ≡ out.old.items ++ spec.spelled_block block.now) }
 {
@@ -45,7 +46,7 @@ fn put_block(out: &mut Vec<u8>, block: &Expression) -> Result<(), NoMemory>
     put_bytes(out, &block.bytes)
 }
 
-// An opcode and a register.
+// Appends an opcode and a register.
 fn put_register(out: &mut Vec<u8>, opcode: u8, register: u64) -> Result<(), NoMemory>
     ensures { OnOk result (out.new.items ≡ out.old.items ++ opcode ∷ uleb register) }
 {
@@ -100,7 +101,7 @@ fn put_rule(out: &mut Vec<u8>, register: u64, rule: &Rule) -> Result<(), NoMemor
     }
 }
 
-// The rules of a row, whose registers ascend.
+// Appends the rules of a row.
 fn put_rules(out: &mut Vec<u8>, rules: &[(u64, Rule)]) -> Result<(), NoMemory>
     requires { Ascend 0 rules.now }
     ensures spelled { OnOk result (out.new.items ≡ out.old.items ++ spec.spelled_rules rules.now) }
@@ -112,14 +113,14 @@ fn put_rules(out: &mut Vec<u8>, rules: &[(u64, Rule)]) -> Result<(), NoMemory>
     Ok(())
 }
 
-// Whether all rules are of registers that an opcode has room for.
+// Whether all rules are of registers below 64, which DW_CFA_restore has room for in its opcode.
 fn are_low(rules: &[(u64, Rule)]) -> bool
     ensures { result ≡ spec.are_low rules.now }
 {
     rules.iter().all(|rule| rule.0 < 64)
 }
 
-// The rules of a row are taken back.
+// Takes the rules of a row back, by one byte each.
 fn put_restores(out: &mut Vec<u8>, rules: &[(u64, Rule)]) -> Result<(), NoMemory>
     requires { IsTrue (spec.are_low rules.now) }
     ensures { OnOk result (out.new.items ≡ out.old.items ++ spec.spelled_restores rules.now) }
@@ -137,7 +138,7 @@ fn put_location(out: &mut Vec<u8>, location: u64) -> Result<(), NoMemory>
     put_u64(out, location)
 }
 
-/// A whole row, from a state in which no register has a rule.
+/// Appends a whole row, from a state in which no register has a rule.
 pub(crate) fn put_row(out: &mut Vec<u8>, row: &Row) -> Result<(), NoMemory>
     requires { Ascend 0 row.now.rules }
     ensures spelled { OnOk result (out.new.items ≡ out.old.items ++ spec.spelled_row row.now) }
@@ -147,7 +148,8 @@ pub(crate) fn put_row(out: &mut Vec<u8>, row: &Row) -> Result<(), NoMemory>
     put_rules(out, &row.rules)
 }
 
-/// A whole row, and where the next one begins, again from a state in which no register has a rule.
+/// Appends a whole row, from a state in which no register has a rule; then the location at which the next row begins,
+/// and what leads back to such a state. The location comes first, since a row ends where the location moves.
 pub(crate) fn put_row_before(out: &mut Vec<u8>, row: &Row, location: u64) -> Result<(), NoMemory>
     requires { Ascend 0 row.now.rules }
     ensures spelled { OnOk result (out.new.items ≡ out.old.items ++ spec.spelled_row_before row.now location) }
@@ -164,7 +166,7 @@ pub(crate) fn put_row_before(out: &mut Vec<u8>, row: &Row, location: u64) -> Res
     put_byte(out, DW_CFA_restore_state as u8)
 }
 
-/// Zero bytes, which are instructions that do nothing.
+/// Appends zero bytes, which are instructions that do nothing (DW_CFA_nop).
 pub(crate) fn put_zeros(out: &mut Vec<u8>, count: usize) -> Result<(), NoMemory>
     ensures { OnOk result (out.new.items ≡ out.old.items ++ spec.zeros count) }
 {

@@ -19,12 +19,12 @@ use rb_bytes::fault::NoMemory;
 use std::alloc::Global;
 use table_core::Written;
 
-// Does nothing: its clause tells the proof of its caller that what a slice of bytes holds is below 256.
+// Does nothing. Its clause tells the prover, where it is called, that what a slice of bytes holds is below 256.
 fn are_bytes(bytes: &[u8])
     ensures { All (λ b. b < 256) bytes.now }
 {}
 
-/// `.eh_frame`; where there was no such section, no bytes.
+/// The new `.eh_frame`, made of runs; where the file has no such section, no bytes.
 pub(crate) fn write_eh(
     table: &EhFrames,
     alloc: Global,
@@ -52,7 +52,7 @@ pub(crate) fn write_eh(
     Ok(Written { bytes, lists })
 }
 
-/// `.debug_frame`; where it was empty, no bytes.
+/// The new `.debug_frame`, made of runs; where the old one is empty, no bytes.
 pub(crate) fn write_debug(
     table: &DebugFrames,
     alloc: Global,

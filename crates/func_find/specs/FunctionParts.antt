@@ -15,7 +15,7 @@ use Rattle.func_find.specs.ValidInsts.{IsValidBefore}
 abbrev pub AreFunctionParts : Elf → List (ℕ × ℕ) → List Part → Type 0
 AreFunctionParts elf tabled parts = ListsAll (λ p. IsFunctionPart elf tabled p.start p.end) Precedes parts
 
--- all those that end by an address
+-- all parts that are functions and end by an address
 pub record AreFunctionsBefore (elf : Elf) (tabled : List (ℕ × ℕ)) (bound : ℕ) (parts : List Part) : Type 0 where
   pub only : (p : Part) → Contains parts p → IsFunctionPart elf tabled p.start p.end
   pub each : (p : Part) → IsFunctionPart elf tabled p.start p.end → p.end ≤ bound → Contains parts p
@@ -30,7 +30,7 @@ pub record FallsAt (elf : Elf) (end a : ℕ) : Type 0 where
   pub ends : a + bytes ≡ end
   pub falls_out : falls (action_of inst) true ≡ true
 
--- an instruction of a part does
+-- an instruction of a part ends it and falls out of it
 pub record FallsOut (elf : Elf) (start end : ℕ) : Type 0 where
   pub last : ℕ
   pub starts : StartsIn elf start end last

@@ -27,7 +27,7 @@ pub record IsBareBefore (elf : Elf) (end a : ℕ) : Type 0 where
 abbrev pub IsInvalidBefore : Elf → ℕ → ℕ → Type 0
 IsInvalidBefore elf end a = (inst : Inst) (bytes : ℕ) → IsValidBefore elf end a inst bytes → ⊥
 
--- neither of both
+-- an instruction stands at an address that can be there, and isn't an AUIPC without a role
 pub record IsGoodBefore (elf : Elf) (end a : ℕ) : Type 0 where
   pub inst : Inst
   pub bytes : ℕ

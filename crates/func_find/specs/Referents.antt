@@ -16,7 +16,7 @@ pub record GoesTo (elf : Elf) (end from to : ℕ) : Type 0 where
   pub valid : IsValidBefore elf end from inst bytes
   pub target_is : target from (action_of inst) ≡ Some to
 
--- an instruction of a part does
+-- an instruction of a part goes to an address
 pub record PartGoesTo (elf : Elf) (p : Part) (to : ℕ) : Type 0 where
   pub from : ℕ
   pub starts : StartsIn elf p.start p.end from

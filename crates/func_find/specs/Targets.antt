@@ -12,17 +12,17 @@ use Rattle.rv_reloc.specs.Places.{IsPlaceOf}
 abbrev pub InSomePart : List Part → ℕ → Type 0
 InSomePart parts a = (p : Part) × HoldsAddress parts a p
 
--- a start of one of the parts
+-- an address of one of the parts at which an instruction starts
 pub record IsCodeIn (starts : List ℕ) (parts : List Part) (a : ℕ) : Type 0 where
   pub start : Contains starts a
   pub held : InSomePart parts a
 
--- an address of one of the parts that is no start
+-- an address of one of the parts at which no instruction starts
 pub record IsInsideIn (starts : List ℕ) (parts : List Part) (a : ℕ) : Type 0 where
   pub held : InSomePart parts a
   pub no_start : Contains starts a → ⊥
 
--- a branch or jump goes to no start
+-- a branch or jump goes to where no instruction of the parts starts
 pub record JumpsNowhere (starts : List ℕ) (parts : List Part) (p : Placed) : Type 0 where
   pub to : ℕ
   pub target_is : target_of p ≡ Some to
@@ -37,11 +37,11 @@ pub record CallsInside (starts : List ℕ) (parts : List Part) (p : Placed) : Ty
 abbrev pub IsMisled : List ℕ → List Part → Placed → Type 0
 IsMisled starts parts p = JumpsNowhere starts parts p ⊎ CallsInside starts parts p
 
--- the place of such an instruction of a function
+-- the place of an instruction of a function that goes to no instruction
 abbrev pub HasMisled : List ℕ → List Part → List Func → ℕ → Type 0
 HasMisled starts parts funcs place =
     Any (λ f. IsPlaceOf (λ p. p.addr) (IsMisled starts parts) f.insts.items place) funcs
 
--- the place of an address that is no start of the parts
+-- an address at which no instruction of the parts starts, as a place
 abbrev pub IsBadStart : List ℕ → List Part → ℕ → ℕ → Type 0
 IsBadStart starts parts a place = (IsCodeIn starts parts a → ⊥) × (place ≡ a)

@@ -42,7 +42,7 @@ pub fn functions(
     functions_by(alloc, elf, &index, refs, whole)
 }
 
-// Finds the functions by the starts with hints for look-ups.
+// The same, by the starts with hints for look-ups. The faults are looked for in the order of their numbers.
 fn functions_by(
     alloc: Global,
     elf: &Elf,

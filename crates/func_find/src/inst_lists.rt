@@ -61,7 +61,7 @@ fn is_same(a: &Part, b: &Part) -> bool
     a.start == b.start && a.end == b.end
 }
 
-// A part of more instructions may take memory in steps.
+// For how many instructions of a part memory is taken at once. Most parts have fewer; the rest is given back.
 const LARGE: u64 = 256;
 
 // The instructions of a part, or the fault of the first that can't be there.
@@ -92,7 +92,7 @@ fn insts_of(
     Ok(insts)
 }
 
-// The instruction at an address with its role, if it can be there. `near` is as `role_at` says.
+// The instruction at an address with its role, or the fault that it can't be there. `near` is as in `role_at`.
 fn placed_at(
     elf: &Elf,
     end: u64,
@@ -141,8 +141,8 @@ fn is_auipc(inst: &Inst) -> bool
     matches!(*inst, Inst::Auipc { .. })
 }
 
-// The role of the instruction at an address. `near` is how many roles are of instructions below the address asked for
-// last: addresses that go up walk along the roles.
+// The role of the instruction at an address, if it has one. `near` is where the look-up begins, and becomes how many
+// roles are of instructions below the address: ascending addresses walk along the roles.
 fn role_at(roles: &[(u64, Role)], near: &mut usize, address: u64) -> Option<Role>
     requires { AllPairs (λ r s. r.0 < s.0) roles.now }
     ensures some { IfSome result (λ role. Contains roles.now (address, role)) }
@@ -160,7 +160,7 @@ fn role_at(roles: &[(u64, Role)], near: &mut usize, address: u64) -> Option<Role
     Some(role.1)
 }
 
-// How many roles are of instructions below an address, counted on from `near` where so many are.
+// How many roles are of instructions below an address. If the first `near` are, they aren't gone over again.
 fn count_below(roles: &[(u64, Role)], near: usize, address: u64) -> usize
     requires { AllPairs (λ r s. r.0 < s.0) roles.now }
     ensures bound { result ≤ length roles.now }
@@ -176,7 +176,7 @@ fn count_below(roles: &[(u64, Role)], near: usize, address: u64) -> usize
     roles.len()
 }
 
-// A number of roles that are of instructions below an address: `near`, if so many are, else all that are.
+// Some number of first roles that are of instructions below an address: `near`, if so many are, else all that are.
 fn known_below(roles: &[(u64, Role)], near: usize, address: u64) -> usize
     requires { AllPairs (λ r s. r.0 < s.0) roles.now }
     ensures bound { result ≤ length roles.now }
@@ -188,7 +188,7 @@ fn known_below(roles: &[(u64, Role)], near: usize, address: u64) -> usize
     roles.partition_point(|r| r.0 < address)
 }
 
-// Whether so many roles, and at least one, are of instructions below an address.
+// Whether the first `count` roles, and at least one, are of instructions below an address.
 fn are_below(roles: &[(u64, Role)], count: usize, address: u64) -> bool
     requires { AllPairs (λ r s. r.0 < s.0) roles.now }
     ensures bound { IsTrue result → count ≤ length roles.now }

@@ -20,10 +20,10 @@ use rv_code::{CellKind, CodeCell, Role};
 use rv_reloc::Refs;
 use std::alloc::Global;
 
-/// Addresses that are referred to.
+/// Addresses that are referred to, with look-ups.
 #[derive(Drop)]
 pub struct Referred {
-    // They go up.
+    // Ascending.
     addresses: Vec<u64>,
     ghost rising: { IsNonDecreasingBy (λ a. a) addresses.items },
 }

@@ -38,7 +38,8 @@ fn is_inside(starts: &Starts, parts: &[Part], address: u64) -> bool
     is_held(parts, address) && !starts.has(address)
 }
 
-/// The lowest address of an instruction that goes to no instruction. `parts` are the functions.
+/// The lowest address of an instruction that goes to no instruction: the fault `BadTarget`. `parts` are the parts that
+/// are functions.
 pub fn lowest_misled(starts: &Starts, parts: &[Part], funcs: &[Func]) -> Option<u64>
     requires starts { AllPairs (λ a b. a < b) starts.now }
     requires parts { ArePartsApart parts.now }
@@ -84,7 +85,8 @@ fn jumps_nowhere(starts: &Starts, parts: &[Part], inst: &Placed) -> bool
     }
 }
 
-// Whether a call pair goes into the middle of an instruction.
+// Whether a call pair goes into the middle of an instruction. It may lead out of all functions: its target is a number
+// then.
 fn calls_inside(starts: &Starts, parts: &[Part], inst: &Placed) -> bool
     requires starts { AllPairs (λ a b. a < b) starts.now }
     requires parts { ArePartsApart parts.now }

@@ -34,9 +34,11 @@ pub fn is_nop_before(elf: &Elf, end: u64, address: u64) -> bool
         return false;
     }
     let half = halfword_at(elf, address);
+    // C.NOP.
     if half == 0x0001 {
         return true;
     }
+    // ADDI x0,x0,0 is the word 0x00000013.
     if left < 4 || half != 0x0013 {
         return false;
     }

@@ -8,7 +8,8 @@ ghost use Rattle.func_place.specs.Clusters.{AreWithinLimit};
 use rv_code::worst_sizes::NEAR_LIMIT;
 use std::alloc::{AllocError, Global};
 
-/// The blocks of units, band by band.
+/// The blocks of `units`, band by band. A band has units of at most `NEAR_LIMIT` bytes together, and the hot parts of
+/// all of them before their cold parts. `sizes`, `hot` and `cold` are those of each unit.
 pub fn order_units(
     alloc: Global,
     sizes: &[u128],
@@ -40,7 +41,7 @@ pub fn order_units(
     Ok(order)
 }
 
-// Appends the blocks of a band.
+// Appends the blocks of a band: all hot parts, then all cold parts.
 fn put_band(
     order: &mut Vec<usize>,
     band: &[usize],
@@ -56,7 +57,7 @@ fn put_band(
     put_parts(order, band, cold)
 }
 
-// Appends the blocks of some units.
+// Appends the `parts` of `units`.
 fn put_parts(
     order: &mut Vec<usize>,
     units: &[usize],

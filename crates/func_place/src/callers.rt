@@ -7,7 +7,8 @@ ghost use Rattle.func_place.specs.internal.HeaviestCallers.{AreByCallee, more_of
 use crate::calls::UnitCall;
 use std::alloc::{AllocError, Global};
 
-/// The heaviest caller of each unit.
+/// For each unit the other hot unit that calls it most often, and of several the lowest; None where no other hot unit
+/// calls it.
 pub fn heaviest_callers(
     alloc: Global,
     heats: &[u128],
@@ -23,7 +24,7 @@ pub fn heaviest_callers(
     heaviest_of_sorted(alloc, heats, &sorted)
 }
 
-// The counts by the unit that is called, and then by the caller.
+// The counts sorted by the unit that is called, and then by the caller.
 fn by_callee(alloc: Global, calls: &[UnitCall]) -> Result<Vec<UnitCall>, AllocError>
     ensures each { IfOk result (λ v. IsPermutation calls.now v.items) }
     ensures ordered { IfOk result (λ v. AreByCallee v.items) }
@@ -63,7 +64,8 @@ fn heaviest_of_sorted(
     Ok(heaviest)
 }
 
-// One more count of the pair that was counted, or the first one of the next pair.
+// `run` sums up the counts of a pair. Gives it with `call` added where that is of the same pair, and else what `call`
+// begins.
 fn more_of(run: &UnitCall, call: &UnitCall) -> UnitCall
     requires { run.now.count + call.now.count < 2 ^ 128 }
     ensures { result ≡ more_of run.now call.now }

@@ -1,6 +1,7 @@
 // What is counted from unit to unit.
 
-/// A count from one unit to another. Units are named by numbers.
+/// How often control went from one unit to another, or within one. A unit has the index of its lowest function as its
+/// number.
 #[derive(Clone, Copy)]
 pub struct UnitCall {
     pub from: usize,

@@ -66,7 +66,7 @@ impl Clusters {
         Ok(())
     }
 
-    // Appends a unit's cluster to that of its caller, where that is another one and both are small enough.
+    // Appends the cluster of `unit` to that of its `caller`, where these are two and small enough together.
     fn append(&mut self, alloc: Global, caller: usize, unit: usize) -> Result<(), AllocError>
         requires sound { IsValidState (state_of self.old) }
         requires caller_in { caller < count_of (state_of self.old) }
@@ -111,7 +111,7 @@ impl Clusters {
         }
     }
 
-    /// Appends the clusters of some units to a list.
+    /// Appends to `line` all units of the clusters of `units`, cluster by cluster.
     pub fn put_clusters(&self, units: &[usize], line: &mut Vec<usize>) -> Result<(), AllocError>
         requires sound { IsValidState (state_of self.now) }
         requires units_in { All (λ u. u < count_of (state_of self.now)) units.now }
@@ -128,7 +128,7 @@ impl Clusters {
     }
 }
 
-// The clusters after units were taken in an order, each with its heaviest caller.
+// The clusters after the units of `taken`, in turn, were each appended to the cluster of their heaviest caller.
 fn fold_units(
     alloc: Global,
     sizes: &[u128],
@@ -157,7 +157,8 @@ fn fold_units(
     Ok(clusters)
 }
 
-/// The clusters of units that are taken in an order.
+/// The clusters of hot units: those of `taken` go, in turn, each with its cluster behind the cluster of the unit that
+/// calls it most, where both together are small enough.
 pub fn cluster_units(
     alloc: Global,
     sizes: &[u128],

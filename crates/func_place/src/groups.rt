@@ -17,7 +17,7 @@ pub struct Groups {
 }
 
 impl Groups {
-    /// Each number below `n` in a group of its own, which has this number too.
+    /// Each number below `n` in a group of its own, whose number is the same.
     pub fn new(alloc: Global, n: usize) -> Result<Groups, AllocError>
         ensures len { IfOk result (λ g. length (grouping_of g).lists ≡ n) }
         ensures grouped { IfOk result (λ g. IsGrouped (grouping_of g)) }
@@ -77,7 +77,7 @@ impl Groups {
         }
     }
 
-    /// Appends the members of a member's group to a list.
+    /// Appends the members of the group of `member` to `line`, in their order.
     pub fn put_group(&self, member: usize, line: &mut Vec<usize>) -> Result<(), AllocError>
         requires grouped { IsGrouped (grouping_of self.now) }
         requires member_in { member < length (grouping_of self.now).lists }
@@ -125,7 +125,7 @@ fn lowest_of_groups(alloc: Global, numbers: &[usize]) -> Result<Vec<usize>, Allo
     Ok(firsts)
 }
 
-// Moves the members of one group to the front of another, whose number they get.
+// Moves the members of `few` to the front of `many`, whose group has this `number`.
 fn put_in_front(
     mut few: VecDeque<usize>,
     many: &mut VecDeque<usize>,
@@ -144,7 +144,7 @@ fn put_in_front(
     Ok(())
 }
 
-// Moves the members of one group to the end of another, whose number they get.
+// Moves the members of `few` to the end of `many`, whose group has this `number`.
 fn put_at_end(
     mut few: VecDeque<usize>,
     many: &mut VecDeque<usize>,

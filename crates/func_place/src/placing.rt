@@ -115,8 +115,8 @@ fn sized_units(
     Ok((units, sizes))
 }
 
-// All blocks in their new order. `units` and `sizes` are those of the functions, and `weights` how often each block
-// runs.
+// All blocks in their new order. `units` has the unit of each function, `sizes` the worst size of each unit, and
+// `weights` how often each block runs.
 fn order_blocks(
     alloc: Global,
     funcs: &[Func],

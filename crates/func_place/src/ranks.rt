@@ -10,7 +10,7 @@ use crate::clusters::Clusters;
 use std::alloc::{AllocError, Global};
 use std::cmp::{Ordering, Reverse};
 
-/// The hot units in the order in which they are taken.
+/// The hot units in the order in which they are taken: by greater heat, and then by lower number.
 pub fn hot_order(alloc: Global, heats: &[u128]) -> Result<Vec<usize>, AllocError>
     ensures ordered { IfOk result (λ v. IsInOrder (hotter heats.now) (hot_units heats.now) v.items) }
     ensures inside { IfOk result (λ v. All (λ u. u < length heats.now) v.items) }
@@ -26,7 +26,7 @@ pub fn hot_order(alloc: Global, heats: &[u128]) -> Result<Vec<usize>, AllocError
     Ok(taken)
 }
 
-// A unit's heat.
+// The heat of `unit`, and 0 past all units, since the key of a sort takes any number.
 fn heat_of(heats: &[u128], unit: usize) -> u128
     ensures { result ≡ slice_index heats.now unit }
 {
@@ -44,7 +44,8 @@ pub struct Rank {
     ghost small: { size ≤ near_limit },
 }
 
-// The denser cluster comes first; of two that are as dense, the one that begins with the lower unit.
+// The denser cluster comes first; of two that are as dense, the one that begins with the lower unit. Density is heat
+// divided by size, compared by cross products, which the bounds of `Rank` keep below 2^121.
 fn compare(a: &Rank, b: &Rank) -> Ordering
     ensures { is_lt result ≡ denser_by a.now.heat a.now.size a.now.unit b.now.heat b.now.size b.now.unit }
 {
@@ -61,7 +62,7 @@ fn sort_ranks(ranks: &mut Vec<Rank>) -> Result<(), AllocError>
     Ok(())
 }
 
-/// The first units of clusters, in the order of the clusters.
+/// The first units of clusters, in the order of the clusters. Each unit of `taken` that begins a cluster names it.
 pub fn rank_clusters(
     alloc: Global,
     clusters: &Clusters,

@@ -7,7 +7,8 @@ ghost use Rattle.func_place.specs.internal.Groups.{list_at};
 use rv_code::Block;
 use std::alloc::{AllocError, Global};
 
-/// For each unit the sum of the numbers of its blocks.
+/// For each unit the sum of `numbers` over its blocks; `numbers` has one for each block. `units` has the unit of each
+/// function. An index that is no unit has the sum 0.
 pub fn sums_of(
     alloc: Global,
     units: &[usize],
@@ -30,7 +31,8 @@ pub fn sums_of(
     Ok(sums)
 }
 
-/// For each unit the blocks of its functions, by address, from those of each function.
+/// For each unit the blocks of its functions, one function after another. `parts` has the blocks of each function, and
+/// `units` the unit of each.
 pub fn parts_of(
     alloc: Global,
     units: &[usize],

@@ -10,7 +10,7 @@ use rv_code::flow::{fall_target, target};
 use rv_code::functions::{func_holds, function_at};
 use std::alloc::{AllocError, Global};
 
-/// The pairs of a function and another one into which it leads, by their places.
+/// The pairs of a function and another one into which it leads, as indices. A pair may stand there more than once.
 pub fn ties(alloc: Global, funcs: &[Func]) -> Result<Vec<(usize, usize)>, AllocError>
     requires { AreLaidOut funcs.now }
     ensures { IfOk result (λ v. Gains [] v.items (Ties funcs.now)) }
@@ -22,7 +22,7 @@ pub fn ties(alloc: Global, funcs: &[Func]) -> Result<Vec<(usize, usize)>, AllocE
     Ok(ties)
 }
 
-// Appends the pairs of one function.
+// Appends the pairs of function `place`.
 fn put_ties_of(
     ties: &mut Vec<(usize, usize)>,
     funcs: &[Func],
@@ -39,7 +39,7 @@ fn put_ties_of(
     Ok(())
 }
 
-// Appends those of one instruction of a function.
+// Appends the pairs of instruction `i` of function `place`, which is `func`.
 fn put_ties_from(
     ties: &mut Vec<(usize, usize)>,
     funcs: &[Func],
@@ -59,7 +59,7 @@ fn put_ties_from(
     Ok(())
 }
 
-// Appends the pair of a function and another one in which an address lies, if there is an address.
+// Appends the pair of function `place` and the one in which the address `to` lies, if there is another one there.
 fn put_tie(
     ties: &mut Vec<(usize, usize)>,
     funcs: &[Func],
@@ -93,7 +93,8 @@ fn put_tie_at(
     Ok(())
 }
 
-// The place of the function in which an address lies, unless it is this one.
+// The function in which `address` lies, unless it is function `place`. That one is looked at first, since most branches
+// stay in their function.
 fn other_function_at(funcs: &[Func], place: usize, address: u64) -> Option<usize>
     requires funcs { AreLaidOut funcs.now }
     requires inside { place < length funcs.now }

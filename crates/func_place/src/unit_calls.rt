@@ -8,7 +8,8 @@ use rv_code::Func;
 use rv_code::functions::function_at;
 use std::alloc::{AllocError, Global};
 
-/// The counts of pairs of addresses, as counts between the units in which these lie.
+/// The counts of `pairs` as counts between the units in which their addresses lie, for pairs with both addresses in
+/// functions. `units` has the unit of each function.
 pub fn calls_of(
     alloc: Global,
     funcs: &[Func],

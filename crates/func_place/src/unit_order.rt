@@ -11,7 +11,9 @@ use crate::clusters::cluster_units;
 use crate::ranks::{hot_order, rank_clusters};
 use std::alloc::{AllocError, Global};
 
-/// The blocks of all units in their new order.
+/// The blocks of all units in their new order: clusters of hot units by density, and then the cold units by number. All
+/// arguments but `calls` have a number or a list for each unit; an index that is no unit counts as a cold one without
+/// blocks.
 pub fn place_units(
     alloc: Global,
     sizes: &[u128],
@@ -40,7 +42,7 @@ pub fn place_units(
     order_units(alloc, sizes, &line, hot, cold)
 }
 
-// Appends the cold units.
+// Appends the cold units, by number.
 fn put_cold(heats: &[u128], line: &mut Vec<usize>) -> Result<(), AllocError>
     ensures line { OnOk result (line.new.items ≡ line.old.items ++ cold_units heats.now) }
     ensures inside { OnOk result (All (λ u. u < length heats.now) line.old.items → All

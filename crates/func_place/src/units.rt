@@ -37,7 +37,7 @@ fn group_tied(alloc: Global, n: usize, ties: &[(usize, usize)]) -> Result<Groups
     Ok(groups)
 }
 
-// The groups of two numbers become one.
+// Joins the groups of `a` and `b`, unless they are one already.
 fn tie(alloc: Global, groups: &mut Groups, a: usize, b: usize) -> Result<(), AllocError>
     requires grouped { IsGrouped (grouping_of groups.old) }
     requires a_in { a < length (grouping_of groups.old).lists }

@@ -15,7 +15,7 @@ abbrev pub AreReadable : (abbrevs addr : List ℕ) → List Walked → Type 0
 AreReadable abbrevs addr ws = (n : ℕ) (w : Walked) → slice_get ws n ≡ Some w →
     fails (is_sound_unit addr) (unit_of abbrevs w) ≡ false
 
--- none of some places lies in a unit
+-- none of `places` lies in the unit `w`
 abbrev pub LacksPlaces : BTreeSet ℕ → Walked → Type 0
 LacksPlaces places w = (q : ℕ) → w.place ≤ q → q < end_of w → contains nat_cmp places q ≡ false
 
@@ -30,7 +30,7 @@ abbrev pub or_before : List Link → List Link → List Link
 or_before [] before = before
 or_before (l ∷ ls) before = l ∷ ls
 
--- the last unit that has some
+-- the links of the last unit that has some
 abbrev pub file_links : List ℕ → BTreeSet ℕ → List Link → List (List ListedEntry) → List Link
 file_links str_offsets covering found [] = found
 file_links str_offsets covering found (es ∷ units) =

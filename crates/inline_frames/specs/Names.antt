@@ -70,12 +70,12 @@ own_name_or s e None more = more
 abbrev pub name_or : NameSections → Entry → Option (List ℕ) → Option (List ℕ)
 name_or s e more = own_name_or s e (attr DW_AT_name e) more
 
--- through at most n references
+-- the name of an entry, found through at most n references
 abbrev pub name_within : NameSections → ℕ → Entry → Option (List ℕ)
 name_within s zero e = name_or s e None
 name_within s (suc n) e = name_or s e (option_and_then (name_within s n) (referred s e))
 
--- the longest way of references that is followed
+-- how many references in a row are followed
 abbrev pub reference_limit : ℕ
 reference_limit = 16
 

@@ -32,7 +32,7 @@ text_place str_offsets base a =
     else (if a.form == DW_FORM_line_strp then Some (InLineStr a.value)
     else (if is_text_index a.form then index_place str_offsets base a.value else None)))
 
--- the place that a reference of a unit's entry names
+-- the place of the entry that the attribute `a` refers to, of an entry of the unit at `unit`
 abbrev pub target_by : ℕ → Attr → Option ℕ
 target_by unit a =
     if a.form == DW_FORM_ref_addr then Some a.value
@@ -80,7 +80,7 @@ abbrev pub text_named : NameSections → Naming → Option (List ℕ)
 text_named s (Named t) = option_and_then (text_at_place s) t
 text_named s (Refers place) = None
 
--- references are followed so many times
+-- a naming with as many references followed as the number says
 abbrev pub followed_times : NameSections → ℕ → Naming → Naming
 followed_times s zero n = n
 followed_times s (suc k) n = followed_times s k (followed s n)

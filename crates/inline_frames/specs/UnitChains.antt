@@ -10,7 +10,7 @@ use Rattle.inline_frames.specs.Links.{listed_link, own_says}
 use Rattle.inline_frames.specs.declared.link.Link.{Link}
 use Rattle.inline_frames.specs.declared.tag.TheConstants.{DW_TAG_subprogram, DW_TAG_inlined_subroutine}
 
--- a function, or an inlined instance of one, at one of some places
+-- a function, or an inlined instance of one, at one of the places `covering`
 abbrev pub is_function : BTreeSet ℕ → ListedEntry → Bool
 is_function covering e = (e.tag == DW_TAG_subprogram || e.tag == DW_TAG_inlined_subroutine)
     && contains nat_cmp covering e.place
@@ -26,7 +26,7 @@ abbrev pub with_enclosing : List Entry → List Entry
 with_enclosing [] = []
 with_enclosing (e ∷ before) = e ∷ enclosing e.depth before
 
--- from the entry of a number out
+-- the chain from the entry at the index n out
 abbrev pub chain_from : BTreeSet ℕ → List ListedEntry → Option ℕ → List Entry
 chain_from covering es None = []
 chain_from covering es (Some n) = outward (function_test covering)

@@ -25,12 +25,13 @@ use table_set::{DebugAt, read_debug_at};
 /// A function, and where control is in it.
 #[derive(Drop)]
 pub struct Frame {
-    /// Its name, or `?`.
+    /// The function's name, or `?`.
     pub name: Vec<u8>,
-    /// The path of the file, or `?`.
+    /// The path of the file in which control is, or `?`.
     pub path: Vec<u8>,
-    /// 0 where there is none, as is the column.
+    /// The line, or 0 where none is known.
     pub line: u64,
+    /// The column, or 0 where none is known.
     pub column: u64,
 }
 
@@ -71,11 +72,12 @@ fn frame_of(
     })
 }
 
-// How many bytes names and paths of all frames may have together: each frame has copies of its own, and names of
-// entries may be ends of one long text.
+// How many bytes names and paths of all frames may have together. Each frame has copies of its own, and names may be
+// ends of one long text, so that a small file can ask for very many.
 const MOST_BYTES: usize = 1 << 27;
 
-// How many bytes may be looked through in vain for the end of a name: those of a section that doesn't end in a zero.
+// How many bytes of a section of names may be looked through in vain for the end of one: all, if it doesn't end in a
+// zero byte.
 fn open_size(section: &[u8]) -> usize {
     match section.last() {
         Some(0) | None => 0,
@@ -83,8 +85,9 @@ fn open_size(section: &[u8]) -> usize {
     }
 }
 
-// The frames of some links, the first of them at a position. Memory is wanting where their names and paths are too
-// long.
+// The frames of `links`, from the innermost out. Control is at `first` in the first of them, and in each other one at
+// the call of the one before. `namings` say how their names are found. Want of memory is answered where names and paths
+// are too long.
 fn frames_from(
     alloc: Global,
     lines: &Lines,
@@ -141,7 +144,8 @@ fn frames_in(alloc: Global, elf: &Elf<'_>, debug: &DebugAt, a: u64) -> Result<Ve
     frames_from(alloc, &debug.lines, texts, first, &links, &namings)
 }
 
-/// The functions of an address, from the innermost inlined one out to one that isn't inlined.
+/// The functions that the address `a` belongs to, from the innermost inlined one out to one that isn't inlined, or the
+/// fault of debug data with the lowest number.
 pub fn frames(alloc: Global, elf: &Elf<'_>, a: u64) -> Result<Vec<Frame>, Refusal>
     ensures frames { IfOk result (λ fs. fs.items ≡ spec.frames elf.now a) }
     ensures sound { OnOk result (IsFree (HasDebugFault elf.now)) }

@@ -1,4 +1,4 @@
-// Names found by following references through a file, those of all entries at once.
+// Names found by following references through a file: a walk over its units follows one reference of each naming.
 ghost use Rattle.std.specs.Prelude.{◌≡◌, None, ℕ, IfOk, OnOk, if◌then◌else◌, is_some, map};
 ghost use Rattle.std.specs.List.{list_any};
 ghost use Rattle.std.specs.Option.{option_or};
@@ -16,10 +16,10 @@ use rb_bytes::fault::NoMemory;
 use std::alloc::Global;
 use std::collections::{BTreeMap, BTreeSet};
 
-// The longest way of references that is followed.
+// How many references in a row are followed. A naming that refers on after them, as in a cycle, has no name.
 const REFERENCE_LIMIT: u8 = 16;
 
-// The offset that a naming refers to.
+// The offset of the entry that `naming` refers to, if it does.
 fn target_of(naming: Naming) -> Option<u128>
     ensures { result ≡ spec.target_of naming }
 {
@@ -29,14 +29,14 @@ fn target_of(naming: Naming) -> Option<u128>
     }
 }
 
-// Whether one of some namings refers to an entry.
+// Whether one of `namings` still refers to an entry.
 fn is_any_left(namings: &[Naming]) -> bool
     ensures { result ≡ list_any (λ n. is_some (spec.target_of n)) namings.now }
 {
     namings.iter().any(|naming| target_of(*naming).is_some())
 }
 
-// The offsets that some namings refer to.
+// The offsets of the entries that `namings` refer to.
 fn targets(alloc: Global, namings: &[Naming]) -> Result<BTreeSet<u128>, NoMemory>
     ensures { IfOk result (λ set. (q : ℕ) → contains nat_cmp set q ≡ list_any (spec.refers_to q) namings.now) }
 {
@@ -49,7 +49,7 @@ fn targets(alloc: Global, namings: &[Naming]) -> Result<BTreeSet<u128>, NoMemory
     Ok(set)
 }
 
-// Adds how the names of a unit's entries are found, of those at some offsets that are new.
+// Adds to `found` how the names of a unit's entries at the offsets `wanted` are found, but for those that it has.
 fn add_namings(
     str_offsets: &[u8],
     entries: &[Entry],
@@ -77,7 +77,7 @@ fn add_namings(
     Ok(())
 }
 
-// How the names of the entries at some offsets are found.
+// How the names of the entries at the offsets `wanted` are found. Units that hold none of them aren't read.
 fn namings_at(
     alloc: Global,
     reader: &UnitReader<'_, '_>,
@@ -105,7 +105,7 @@ fn namings_at(
     Ok(found)
 }
 
-// A naming with its reference followed.
+// `naming` with its reference followed, if it has one. An offset at which no entry stands has no name.
 fn followed(naming: Naming, found: &BTreeMap<u128, Naming>) -> Naming
     ensures { result ≡ spec.followed_by (get nat_cmp found.now) naming }
 {
@@ -132,7 +132,7 @@ fn all_followed(
     Ok(next)
 }
 
-/// Some namings with all references followed, as many in a row as may be.
+/// `namings` with their references followed, at most `REFERENCE_LIMIT` in a row.
 pub fn resolved(
     alloc: Global,
     reader: &UnitReader<'_, '_>,

@@ -12,7 +12,7 @@ fn start_of(unit: &DebugUnit<'_>) -> u128
     unit.place as u128
 }
 
-// Where bytes behind a length end.
+// Where `bytes` end that stand behind a unit's length of 4 bytes, which stands at `place`.
 fn end_behind(place: u64, bytes: &[u8]) -> u128
     ensures { result ≡ place + 4 + length bytes.now }
 {
@@ -28,7 +28,7 @@ fn end_of(unit: &DebugUnit<'_>) -> u128
     }
 }
 
-/// Whether one of some places lies in a unit.
+/// Whether one of `places` lies in `unit`.
 pub fn has_place(places: &BTreeSet<u128>, unit: &DebugUnit<'_>) -> bool
     ensures { result ≡ false → LacksPlaces places.now unit.now }
 {

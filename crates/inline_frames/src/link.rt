@@ -11,12 +11,13 @@ use dw_unit::{Attr, Entry, is_address_index};
 use table_core::form::{DW_FORM_addr, DW_FORM_sec_offset};
 use table_core::written::DW_AT_stmt_list;
 
-/// What a unit's own entry says to all of its entries.
+/// What a unit's own entry, the first one, says for all of its entries.
 #[derive(Clone, Copy)]
 pub struct OwnSays {
-    /// Where the offsets of texts begin that its indices count.
+    /// Where in `.debug_str_offsets` the offsets begin by which the unit's indices of texts count
+    /// (DW_AT_str_offsets_base).
     pub text_base: Option<u64>,
-    /// The offset of its line unit.
+    /// The offset of the unit's line program in `.debug_line` (DW_AT_stmt_list).
     pub line_unit: Option<u64>,
 }
 
@@ -24,15 +25,17 @@ pub struct OwnSays {
 #[derive(Clone, Copy)]
 pub struct Link {
     pub naming: Naming,
-    /// Where it is called, if it is inlined: the index of a file of its line unit, a line and a column.
+    /// Where the function is called, if it is inlined: the number of a file in the unit's line program.
     pub file: Option<u64>,
+    /// The line of that call.
     pub line: Option<u64>,
+    /// The column of that call.
     pub column: Option<u64>,
-    /// The offset of the line unit of its unit.
+    /// The offset of the unit's line program in `.debug_line`.
     pub line_unit: Option<u64>,
 }
 
-// The number of an attribute, unless it is an address.
+// The number that the attribute `name` holds, unless it is an address.
 fn unsigned_of(name: u64, attrs: &[Attr]) -> Option<u64>
     ensures { result ≡ spec.unsigned_in name attrs.now }
 {
@@ -62,7 +65,7 @@ fn line_unit_of(attrs: &[Attr]) -> Option<u64>
     }
 }
 
-/// What a unit's own entry says, the first of its entries.
+/// What the first of a unit's entries says for all of them.
 pub fn own_says(entries: &[Entry]) -> OwnSays
     ensures { result ≡ spec.own_says entries.now }
 {

@@ -11,34 +11,35 @@ use table_core::form::{
 };
 use table_core::shape::is_text_index;
 
-/// Where a text stands.
+/// Where a text stands, by offsets in its section.
 #[derive(Clone, Copy)]
 pub enum TextPlace {
-    /// In `.debug_info`, from an offset on so many bytes.
+    /// In `.debug_info`: its offset, and how many bytes it has.
     InInfo(u64, u64),
-    /// At an offset of `.debug_str`.
+    /// In `.debug_str`, up to a zero byte.
     InStr(u64),
-    /// At an offset of `.debug_line_str`.
+    /// In `.debug_line_str`, up to a zero byte.
     InLineStr(u64),
 }
 
 /// How the name of an entry is found.
 #[derive(Clone, Copy)]
 pub enum Naming {
-    /// It is this text, or there is none.
+    /// It is this text; None where the entry has no name.
     Named(Option<TextPlace>),
-    /// It is that of the entry at an offset, which may pass 2^64.
+    /// It is that of the entry at this offset in `.debug_info`. The offset is a sum that may pass 2^64.
     Refers(u128),
 }
 
-/// The attribute of a name.
+/// The first attribute called `name`.
 pub fn attr_named(name: u64, attrs: &[Attr]) -> Option<Attr>
     ensures { result ≡ find (λ a. a.name == name) attrs.now }
 {
     dw_unit::attr_named(name, attrs).copied()
 }
 
-// Where the text of an index stands, by the base of its unit's indices.
+// Where the text with the index `index` stands: `base` is where the unit's offsets begin in `.debug_str_offsets`, of
+// four bytes each. DWARF 5, section 7.26.
 fn index_place(str_offsets: &[u8], base: Option<u64>, index: u64) -> Option<TextPlace>
     ensures { result ≡ spec.index_place str_offsets.now base index }
 {
@@ -69,7 +70,8 @@ fn text_place(str_offsets: &[u8], base: Option<u64>, attr: Attr) -> Option<TextP
     None
 }
 
-// The offset of the entry that an attribute of a unit's entry refers to.
+// The offset of the entry that the attribute `attr` refers to: within the section, or within the unit at `unit`. DWARF
+// 5, section 7.5.5.
 fn target_of(unit: u64, attr: Attr) -> Option<u128>
     ensures { result ≡ spec.target_by unit attr }
 {
@@ -82,7 +84,8 @@ fn target_of(unit: u64, attr: Attr) -> Option<u128>
     None
 }
 
-// The attribute that refers to the entry of which this is an instance, or that it completes.
+// The attribute that refers to the entry of which this one is an instance (DW_AT_abstract_origin), or else to the one
+// that it completes (DW_AT_specification).
 fn reference(attrs: &[Attr]) -> Option<Attr>
     ensures { result ≡ spec.reference_in attrs.now }
 {
@@ -98,7 +101,8 @@ fn referred(unit: u64, attrs: &[Attr]) -> Option<u128>
     target_of(unit, attr)
 }
 
-/// How the name of a unit's entry is found, by the base of its indices of texts.
+/// How the name of an entry of the unit at `unit` is found, which has the attributes `attrs`. `base` is where the
+/// unit's offsets begin in `str_offsets`.
 pub fn naming_of(str_offsets: &[u8], base: Option<u64>, unit: u64, attrs: &[Attr]) -> Naming
     ensures { result ≡ spec.naming_in str_offsets.now base unit attrs.now }
 {

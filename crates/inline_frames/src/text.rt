@@ -9,15 +9,18 @@ use rb_bytes::cursor::Cursor;
 use rb_bytes::fault::NoMemory;
 use std::alloc::Global;
 
-/// The sections of texts.
+/// The sections in which names stand.
 #[derive(Clone, Copy)]
 pub struct Texts<'s> {
+    /// `.debug_info`.
     pub info: &'s [u8],
+    /// `.debug_str`.
     pub str: &'s [u8],
+    /// `.debug_line_str`.
     pub line_str: &'s [u8],
 }
 
-// What stands from an offset on; nothing behind the end.
+// What stands in `section` from `offset` on; no bytes past the end.
 fn from_offset(section: &[u8], offset: u64) -> &[u8]
     ensures { result.now ≡ drop offset section.now }
 {
@@ -61,7 +64,7 @@ fn text_at(alloc: Global, texts: Texts<'_>, place: TextPlace) -> Result<Option<V
     }
 }
 
-/// The text of a naming; none where it refers to another entry.
+/// The text of `naming`; None where there is none, or it refers to another entry.
 pub fn text_named(
     alloc: Global,
     texts: Texts<'_>,

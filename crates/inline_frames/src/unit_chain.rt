@@ -10,7 +10,7 @@ use rb_bytes::fault::NoMemory;
 use std::alloc::Global;
 use std::collections::BTreeSet;
 
-// Whether an entry is a function, or an inlined instance of one, that stands at one of some places.
+// Whether an entry is a function, or an inlined instance of one, and its offset is among `covering`.
 fn is_function(entry: &Entry, covering: &BTreeSet<u128>) -> bool
     ensures { result ≡ spec.is_function covering.now entry.now }
 {
@@ -18,14 +18,14 @@ fn is_function(entry: &Entry, covering: &BTreeSet<u128>) -> bool
         && covering.contains(&(entry.place as u128))
 }
 
-// A number, where it counts; else the one before it.
+// `number`, if it `counts`; else `before`.
 fn later(counts: bool, number: usize, before: Option<usize>) -> Option<usize>
     ensures { result ≡ (if counts then Some number else before) }
 {
     if counts { Some(number) } else { before }
 }
 
-// The number of the last function among some entries.
+// The index of the last function in `entries` with an offset among `covering`.
 fn innermost(entries: &[Entry], covering: &BTreeSet<u128>) -> Option<usize>
     ensures chain { spec.chain_from covering.now entries.now result ≡ spec.unit_chain covering.now entries.now }
     ensures within { IfSome result (λ n. n < length entries.now) }
@@ -47,7 +47,8 @@ fn depth_of(entries: &[Entry], number: usize) -> u64
     entry.depth as u64
 }
 
-/// The functions that stand at some places, from the last one of a unit out to one that isn't inlined.
+/// The functions of a unit that hold the address, from the last one out to one that isn't inlined. `covering` has the
+/// offsets of the entries that cover the address.
 pub fn links_in(
     alloc: Global,
     str_offsets: &[u8],

@@ -13,7 +13,7 @@ use rb_bytes::fault::NoMemory;
 use std::alloc::Global;
 use std::collections::BTreeSet;
 
-/// Some places as a set.
+/// `places` as a set.
 pub fn place_set(alloc: Global, places: &[u64]) -> Result<BTreeSet<u128>, NoMemory>
     ensures { IfOk result (λ set. (q : ℕ) → contains nat_cmp set q ≡ list_any (λ m. m == q) places.now) }
 {
@@ -24,14 +24,15 @@ pub fn place_set(alloc: Global, places: &[u64]) -> Result<BTreeSet<u128>, NoMemo
     Ok(set)
 }
 
-// Some links, unless there are none; then those before them.
+// `links`, or `before` where there are none.
 fn or_before(links: Vec<Link>, before: Vec<Link>) -> Vec<Link>
     ensures { result.items ≡ spec.or_before links.items before.items }
 {
     if links.is_empty() { before } else { links }
 }
 
-/// The functions that stand at some places, from the last one of all units out to one that isn't inlined.
+/// The functions of a file that hold the address, from the innermost out to one that isn't inlined: those of the last
+/// unit that has any. `covering` has the offsets of the entries that cover the address.
 pub fn file_links(
     alloc: Global,
     reader: &UnitReader<'_, '_>,

@@ -21,7 +21,7 @@ pub fn named_addresses(alloc: Global, cells: &[CodeCell]) -> Result<Vec<u64>, No
     Ok(named)
 }
 
-/// The labels among addresses that are named: instructions start there.
+/// The addresses of `named` at which one of `insts` starts.
 pub fn labels(alloc: Global, insts: &[Placed], named: &[u64]) -> Result<Vec<u64>, NoMemory>
     requires { AllPairs (λ a b. a < b) named.now }
     ensures { IfOk result (λ labels. (a : ℕ) → Contains labels.items a ↔ IsLabel insts.now named.now a) }

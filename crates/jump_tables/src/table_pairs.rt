@@ -10,12 +10,14 @@ use rb_bytes::fault::NoMemory;
 use rv_code::{CodeCell, Func, Inst, Placed, RETURN_ADDRESS, Role, ZERO};
 use std::alloc::Global;
 
-// How many pairs may be there before those of a jump: each jump of a function has one with each of its labels, so that
-// few bytes could ask for any number. A function of 4,000 jumps through tables with 4,000 labels has as many.
+// How many pairs there may be before those of one more jump are added. Each jump of a function has a pair with each of
+// its labels, so that few bytes could ask for any number. A function of 4,000 jumps through tables with 4,000 labels is
+// just within.
 const MOST_PAIRS: usize = 1 << 24;
 
 /// The pairs of an indirect jump through a table and an address of its function that a cell names, by jump and by
-/// address. Memory is wanting where there are more than any program has.
+/// address. Out of memory is answered too where more than 2^24 pairs are there before those of a jump, which no usual
+/// program has.
 pub fn tables(
     alloc: Global,
     funcs: &[Func],
@@ -32,7 +34,7 @@ pub fn tables(
     Ok(pairs)
 }
 
-// Appends the pairs of a function with these instructions.
+// Appends the pairs of the function whose instructions are `insts`.
 fn push_pairs(
     alloc: Global,
     pairs: &mut Vec<(u64, u64)>,
@@ -55,7 +57,7 @@ fn push_pairs(
     Ok(())
 }
 
-// Appends the pairs of a jump and each of these addresses, if there aren't too many before.
+// Appends the pairs of the jump at the address `jump` and each of `labels`, if there aren't too many pairs before.
 fn push_row(pairs: &mut Vec<(u64, u64)>, jump: u64, labels: &[u64]) -> Result<(), NoMemory>
     ensures { OnOk result (Gains pairs.old.items pairs.new.items (λ e. (e.0 ≡ jump) × Contains labels.now e.1)) }
 {

@@ -15,6 +15,6 @@ line_unit_at s offset =
 abbrev pub file_path : LineUnit → ℕ → Option (List ℕ)
 file_path u index = option_and_then (path_of u.directories) (slice_get u.files index)
 
--- of the unit at an offset
+-- the path of a file of the unit at an offset
 abbrev pub path_at : LineSections → ℕ → ℕ → Option (List ℕ)
 path_at s offset index = option_and_then (λ u. file_path u index) (line_unit_at s offset)

@@ -4,7 +4,7 @@ use Rattle.line_rewrite.specs.declared.coding.Coding.{Coding}
 use Rattle.line_rewrite.specs.Operations.{operations, is_whole}
 use Rattle.line_rewrite.specs.LineMachine.{sound_from, start}
 
--- those of a unit with so many files
+-- whether a program is sound, of a unit with so many files
 abbrev pub is_sound : Coding → ℕ → List ℕ → List ℕ → Bool
 is_sound coding files lengths program =
     is_whole coding.opcode_base lengths program

@@ -15,7 +15,7 @@ use crate::value::{Value, form_here, read_value};
 use rb_bytes::cursor::Cursor;
 use std::alloc::Global;
 
-// The text at an offset of a section; where none is, an empty one.
+// The text at an offset of a section, or an empty one where none ends there.
 fn text_from(section: &[u8], offset: u64) -> &[u8]
     ensures { result.now ≡ or_empty (text_in section.now offset) }
 {
@@ -27,7 +27,7 @@ fn text_from(section: &[u8], offset: u64) -> &[u8]
     }
 }
 
-/// A text that was read, or where it stands.
+/// A text, or where it stands. Texts of sections aren't copied.
 #[derive(Drop)]
 pub enum Text {
     Own(Vec<u8>),
@@ -38,7 +38,7 @@ pub enum Text {
 }
 
 impl Text {
-    /// Its bytes; where none stand at its offset, none.
+    /// Its bytes, by `.debug_str` and `.debug_line_str`; none where no text stands at its offset.
     pub fn bytes<'t>(&'t self, str: &'t [u8], line_str: &'t [u8]) -> &'t [u8]
         ensures { result.now ≡ told_name (strings_held str.now line_str.now) self.now }
     {
@@ -50,21 +50,21 @@ impl Text {
     }
 }
 
-/// A directory or a file: its text, and the index of its directory.
+/// A directory or a file: its path, and the index of the directory that a file is in (0 where none is given).
 #[derive(Drop)]
 pub struct Entry {
     pub text: Text,
     pub directory: u64,
 }
 
-/// What contents say so far.
+/// What the contents of an entry say that were read so far.
 #[derive(Drop)]
 pub struct Found {
     pub path: Option<Text>,
     pub directory: u64,
 }
 
-// The text that a value is.
+// The text that a value is; numbers, and offsets at which no text stands, are malformed.
 fn text_of<'a>(alloc: Global, texts: &Texts, value: Value<'a>) -> Result<Text, Trouble>
     ensures read { IfOk result (λ t. text_of (texts_strings texts.now) (told_value value.entry)
         ≡ Some (told_name (texts_strings texts.now) t)) }
@@ -89,7 +89,7 @@ fn text_of<'a>(alloc: Global, texts: &Texts, value: Value<'a>) -> Result<Text, T
     }
 }
 
-// Takes one content more.
+// Takes one more content: a path, the index of a directory, or something that is passed.
 fn take_content<'a>(
     alloc: Global,
     texts: &Texts,
@@ -183,7 +183,7 @@ fn read_entries<'a>(
         (entries_at (texts_strings texts.now) (told_format format.now) count cursor.old.left ≡ None) }
 {
     let mut entries = Vec::new(alloc);
-    // Each takes a byte or more.
+    // Each entry needs a path, which takes a byte at least; so a false count is found out by the end of the bytes.
     for _ in 0..count {
         let entry = read_entry(alloc, texts, format, cursor)?;
         entries.push(entry)?;
@@ -191,7 +191,7 @@ fn read_entries<'a>(
     Ok(entries)
 }
 
-/// A table of directories, or of files.
+/// Reads a table of directories, or of files: the format of its entries, their count, and the entries.
 pub fn read_table<'a>(
     alloc: Global,
     texts: &Texts,

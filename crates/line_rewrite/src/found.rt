@@ -59,7 +59,7 @@ pub fn found_rows(
     }))
 }
 
-/// Whether the same rows of one sequence are certainly in force at two addresses, the lower one first.
+/// Whether the same rows of one sequence are certainly in force at `a` and at `b`; `false` says nothing.
 pub fn is_same(units: &[Unit], index: &SequenceIndex, a: u64, b: u64) -> bool
     requires index { IsIndexOf units.now index.now }
     requires ordered { a ≤ b }

@@ -10,9 +10,9 @@ pub struct Header {
     pub coding: Coding,
     /// How many operands each standard opcode has.
     pub lengths: Vec<u8>,
-    /// What stands behind the counts of operands: the two tables, and bytes that are passed.
+    /// What stands behind the counts of operands: the tables of directories and of files, and bytes that are passed.
     pub rest: Vec<u8>,
-    /// How many bytes the tables have.
+    /// How many bytes of `rest` these two tables have.
     pub table_size: usize,
     pub directories: Vec<Entry>,
     pub files: Vec<Entry>,

@@ -34,7 +34,8 @@ fn count_up_to(kept: &[Kept], a: u64) -> usize
     kept.partition_point(|kept| kept.address <= a)
 }
 
-// The last state that stands before all rows in force at an address.
+// The number of the last state that certainly stands before all rows in force at `a`. The last one that is reached may
+// stand between them, and so may those before it of the same address; so it is the last one below that address.
 fn state_for(kept: &[Kept], a: u64) -> usize
     ensures bound { 0 < result → result < length kept.now }
     ensures found { (coding : Coding) (lengths bytes : List ℕ) (rows : List Registers) →
@@ -67,7 +68,7 @@ fn row_at(kept: &[Kept], rows: usize, state: usize) -> usize
     }
 }
 
-// Whether rows that were found stand past the row of a state.
+// Whether rows that were found are of a greater address than the row of a state.
 fn are_past(found: &[Registers], state: &Kept) -> bool
     ensures { result ≡ are_past found.now state.now }
 {
@@ -77,7 +78,7 @@ fn are_past(found: &[Registers], state: &Kept) -> bool
     }
 }
 
-// Whether a state, if there is one, stands before a row past an address.
+// Whether the row of a state is past address `b`; true, too, where there is no such state.
 fn is_past(kept: &[Kept], state: usize, b: u64) -> bool
     ensures { IsTrue result → (k : Kept) → state < length kept.now → b < (slice_index_or kept.now state k).address }
 {
@@ -88,7 +89,7 @@ fn is_past(kept: &[Kept], state: usize, b: u64) -> bool
 }
 
 impl<'a> SequenceView<'a> {
-    // The rows in force at an address among those from a state on.
+    // The rows in force at `a` among those from the state of number `first` on.
     fn in_force_from(
         &self,
         alloc: Global,
@@ -107,7 +108,7 @@ impl<'a> SequenceView<'a> {
             if from.place > self.program.bytes.len() {
                 return Ok(found);
             }
-            // No further than to the row of the next state: what stands before that row may be long.
+            // Walk up to the row of the next state and no further: what stands before that row may be long.
             let count = row_at(self.kept, self.rows, state + 1).saturating_sub(from.index);
             add_rows(&mut found, &self.program, &from, count, a)?;
         }
@@ -120,7 +121,7 @@ impl<'a> SequenceView<'a> {
             Begins (length list) self.now.kept.now → found.items ≡ in_force a list) }
     {
         let reached = count_up_to(self.kept, a);
-        // Mostly they stand past the row of the last state that is reached.
+        // Mostly the rows in force are past the row of the last state that is reached. Else some may stand before it.
         if reached > 0 {
             let near = self.in_force_from(alloc, reached - 1, a)?;
             if are_past(&near, &self.kept[reached - 1]) {
@@ -131,7 +132,7 @@ impl<'a> SequenceView<'a> {
         Ok(found)
     }
 
-    /// Whether the same rows are certainly in force at two addresses, the lower one first.
+    /// Whether the same rows are certainly in force at `a` and at `b`; `false` says nothing.
     pub fn is_same_at(&self, a: u64, b: u64) -> bool
         requires { a ≤ b }
         ensures { IsTrue result → (list : List Registers) → HasRows list self.now → in_force a list ≡ in_force b list }

@@ -26,7 +26,7 @@ pub fn start(coding: &Coding) -> Registers
     }
 }
 
-// The address advanced by n, where it stays in 64 bits.
+// The address advanced by n bytes, where it stays in 64 bits.
 fn advanced(n: u64, registers: Registers) -> Option<Registers>
     ensures { result ≡ advanced n registers }
 {
@@ -63,7 +63,7 @@ fn line_advance(coding: &Coding, adjusted: u8) -> i64
     coding.line_base as i64 + (adjusted % coding.line_range) as i64
 }
 
-// The address advanced by so many instructions.
+// The address advanced by n instructions of the least length, where it stays in 64 bits.
 fn advanced_by(coding: &Coding, n: u64, registers: Registers) -> Option<Registers>
     ensures { result ≡ advanced (n * coding.now.minimum_instruction_length) registers }
 {
@@ -71,7 +71,8 @@ fn advanced_by(coding: &Coding, n: u64, registers: Registers) -> Option<Register
     advanced(by, registers)
 }
 
-/// The registers after an operation; those of a row, where it appends one.
+/// The registers after an operation; where it appends a row, they are that row. None where the address would pass
+/// 64 bits.
 pub fn after_op(coding: &Coding, op: LineOp, registers: Registers) -> Option<Registers>
     requires { 0 < coding.now.line_range }
     ensures { result ≡ after_op coding.now op registers }
@@ -113,7 +114,7 @@ pub fn effect_of(op: LineOp) -> Effect
     }
 }
 
-/// The registers after a row was appended.
+/// The registers after a row was appended: some flags and the discriminator hold for one row alone.
 pub fn after_row(registers: Registers) -> Registers
     ensures { result ≡ after_row registers }
 {

@@ -9,10 +9,11 @@ use byteorder::{ByteOrder, LittleEndian};
 use rb_bytes::fault::NoMemory;
 use rb_bytes::leb::{put_sleb, put_uleb};
 
-/// The opcode base of units that are written: they know the standard opcodes of version 5.
+/// The opcode base of units that are written: one more than the standard opcodes of version 5.
 pub const OPCODE_BASE: u8 = 13;
 
-// The extended opcode that version 5 reserves, for operations that aren't known. None of these is written.
+// The extended opcode that version 5 reserves (DW_LNE_define_file before). It stands for unknown operations, none of
+// which is ever written.
 const RESERVED: u8 = 3;
 
 /// Appends some bytes.
@@ -23,7 +24,7 @@ pub fn put_bytes(out: &mut Vec<u8>, bytes: &[u8]) -> Result<(), NoMemory>
     Ok(())
 }
 
-// An opcode with an unsigned operand.
+// Appends an opcode with an unsigned operand in LEB128.
 fn put_operand(out: &mut Vec<u8>, opcode: u8, operand: u64) -> Result<(), NoMemory>
     ensures { OnOk result (out.new.items ≡ out.old.items ++ opcode ∷ uleb operand) }
 {
@@ -38,7 +39,7 @@ fn put_line(out: &mut Vec<u8>, by: i64) -> Result<(), NoMemory>
     put_sleb(out, by)
 }
 
-// An extended operation: a zero, its length, its opcode and its operand.
+// Appends DW_LNE_set_address: as for any extended opcode a zero, and how many bytes follow; then opcode and operand.
 fn put_address(out: &mut Vec<u8>, address: u64) -> Result<(), NoMemory>
     ensures { OnOk result (out.new.items ≡ out.old.items ++ 0 ∷ 9 ∷ 2 ∷ little_bytes 8 address) }
 {
@@ -48,7 +49,7 @@ fn put_address(out: &mut Vec<u8>, address: u64) -> Result<(), NoMemory>
     put_bytes(out, &field)
 }
 
-// How many bytes an unsigned number takes.
+// How many bytes an unsigned number takes in LEB128.
 #[tactic(auto, using(rb_bytes::proofs::UnsignedLeb::spellings))]
 fn uleb_size(n: u64) -> u8
     ensures size { result ≡ length (uleb n) }

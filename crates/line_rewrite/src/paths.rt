@@ -15,8 +15,8 @@ use std::alloc::{AllocError, Global};
 
 const SLASH: u8 = b'/';
 
-// How many bytes the paths of rows in force at one address have at most: each row has its own copy of a path that may
-// be as long as the file.
+// How many bytes the paths of the rows in force at one address have at most: each row has its own copy of its path, and
+// one path may be as long as the file.
 const MOST_BYTES: usize = 1 << 27;
 
 fn is_absolute(name: &[u8]) -> bool
@@ -28,8 +28,8 @@ fn is_absolute(name: &[u8]) -> bool
     }
 }
 
-// The path of the directory of an index, by its name and that of the directory of the compilation. The text of the
-// latter, which may be long, is looked for only where the path begins with it.
+// The path of the directory of an index, by its name and that of the directory of the compilation, entry 0. The text of
+// the latter, which may be long, is looked up only where the path begins with it.
 fn directory_path(
     alloc: Global,
     str: &[u8],
@@ -51,7 +51,7 @@ fn directory_path(
     Ok(path)
 }
 
-// The path of a file.
+// The path of a file, with its directory's; none where that isn't there.
 fn path_of(
     alloc: Global,
     str: &[u8],
@@ -88,7 +88,7 @@ fn path_of(
     Ok(Some(path))
 }
 
-/// The path of a file of a unit, by its index.
+/// The path of a file of a unit, by its index, if there is one. Indexes count from 0, as in version 5.
 pub fn file_path(
     alloc: Global,
     str: &[u8],
@@ -131,7 +131,7 @@ fn row_said(
     }
 }
 
-// Adds a row, if there is one. The paths of all rows have so many bytes, which may not be too many.
+// Adds a row, if there is one, and the bytes of its path to those of all rows, `bytes`, which are bounded.
 fn push_row(
     said: &mut Vec<LineRow>,
     row: Option<LineRow>,
@@ -150,7 +150,8 @@ fn push_row(
     Ok(())
 }
 
-/// The rows that have paths, with them. Memory is wanting where the paths have too many bytes together.
+/// The rows whose files have paths, with these. Memory is said to be wanting, too, where the paths have more than 2^27
+/// bytes together.
 pub fn rows_said(
     alloc: Global,
     str: &[u8],

@@ -1,4 +1,4 @@
-// The states of a sequence, kept.
+// Programs walked for their sequences, of which some states are kept.
 ghost use Rattle.std.specs.Prelude.{◌≡◌, ◌<◌, ◌≤◌, ◌+◌, ◌∷◌, [], length, IfOk, MatchOption};
 ghost use Rattle.line_rewrite.specs.Keeping.{kept_more, low_of};
 ghost use Rattle.line_rewrite.specs.KeptSequences.{told_sequence, sequences_at, IsKept, AreSequences};
@@ -25,7 +25,7 @@ fn keep(kept: &mut Vec<Kept>, due: Due, state: Kept) -> Result<Due, AllocError>
     Ok(due)
 }
 
-// The address of the first row of a sequence with some states.
+// The address of a sequence's first row, before which the first state stands; its end, where it has no row.
 fn low_of(kept: &[Kept], end: u64) -> u64
     ensures { result ≡ low_of kept.now end }
 {
@@ -35,7 +35,7 @@ fn low_of(kept: &[Kept], end: u64) -> u64
     }
 }
 
-// The sequence that begins at a place of a program, and where the next one begins.
+// The sequence that begins at a place of a program, and where the next one begins; none where it doesn't end.
 fn sequence_at(
     alloc: Global,
     program: &LineProgram<'_>,

@@ -9,19 +9,20 @@ use crate::operation::LineOp;
 use crate::registers::Registers;
 use rb_bytes::fault::NoMemory;
 
-/// By how many lines special opcodes advance, at least: the line base of units that are written.
+/// The least number of lines by which special opcodes advance: the line base of units that are written.
 pub const LINE_BASE: i8 = -5;
 
-/// By how many different numbers of lines special opcodes advance, from the line base on.
+/// By how many different numbers of lines special opcodes advance, from the line base on: the line range.
 pub const LINE_RANGE: u8 = 14;
 
 // How many lines special opcodes go back, at most.
 const MAX_BACK: u64 = -(LINE_BASE as i64) as u64;
 
-// By how much special opcodes advance the address, at most.
+// By how many bytes special opcodes advance the address, at most, so that the opcode fits a byte: 13 + 13 + 14 * 16 is
+// 250.
 const MAX_ADVANCE: u64 = 16;
 
-// Writes an operation, unless it is not needed.
+// Writes an operation, unless it is needless.
 fn put_unless(out: &mut Vec<u8>, needless: bool, op: LineOp) -> Result<(), NoMemory>
     requires { IsSpelled op }
     ensures { OnOk result (out.new.items ≡ out.old.items ++ all_spelled (unless needless op)) }
@@ -32,7 +33,7 @@ fn put_unless(out: &mut Vec<u8>, needless: bool, op: LineOp) -> Result<(), NoMem
     put_op(out, op)
 }
 
-// Writes a change of the flag.
+// Writes a change of the flag is_stmt, if it changes.
 fn put_stmt_change(out: &mut Vec<u8>, from: bool, to: bool) -> Result<(), NoMemory>
     ensures { OnOk result (out.new.items
         ≡ out.old.items ++ all_spelled (unless (beq from to) operation.NegateStmt)) }
@@ -43,11 +44,11 @@ fn put_stmt_change(out: &mut Vec<u8>, from: bool, to: bool) -> Result<(), NoMemo
     }
 }
 
-// Advances the line and the address, and appends the row.
+// Advances the line and the address, and appends the row: by one special opcode where one does both.
 fn put_step(out: &mut Vec<u8>, from: Registers, row: Registers) -> Result<(), NoMemory>
     ensures { OnOk result (out.new.items ≡ out.old.items ++ all_spelled (step_ops from row)) }
 {
-    // Addresses don't fall, so nothing is cut.
+    // Addresses of rows don't fall, so the difference isn't cut off at 0.
     let by = row.address.saturating_sub(from.address);
     let step = row.line.wrapping_sub(from.line);
     let above = step.wrapping_add(MAX_BACK);
@@ -63,7 +64,7 @@ fn put_step(out: &mut Vec<u8>, from: Registers, row: Registers) -> Result<(), No
     put_op(out, LineOp::Copy)
 }
 
-/// Writes what makes the registers a row, and appends it.
+/// Writes the operations that make of the registers `from` those of `row`, and append it.
 pub fn put_row(out: &mut Vec<u8>, from: Registers, row: Registers) -> Result<(), NoMemory>
     ensures written { OnOk result (out.new.items ≡ out.old.items ++ all_spelled (row_ops from row)) }
     ensures fits { IsRow row }

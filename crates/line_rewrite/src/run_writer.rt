@@ -13,22 +13,23 @@ use rb_bytes::fault::NoMemory;
 use std::alloc::Global;
 use std::marker::Model;
 
-/// A sequence that was begun.
+/// A sequence that was begun and hasn't ended yet.
 #[derive(Clone, Copy)]
 pub struct Going {
+    /// The registers behind its last row.
     pub registers: Registers,
     /// Where its last run ends.
     pub end: u64,
 }
 
-// A row at another address.
+// The same row, at another address.
 fn at_address(row: Registers, address: u64) -> Registers
     ensures { result ≡ record row { address = address } }
 {
     Registers { address, ..row }
 }
 
-// Writes rows at an address, one after another, and answers the registers behind them.
+// Writes some rows, all at one address, and answers the registers behind them.
 fn put_rows(
     out: &mut Vec<u8>,
     from: Registers,
@@ -53,7 +54,7 @@ fn put_rows(
 fn close(out: &mut Vec<u8>, going: Going) -> Result<(), NoMemory>
     ensures { OnOk result (out.new.items ≡ out.old.items ++ all_spelled (spec.close_ops going)) }
 {
-    // It doesn't end before its last row, so nothing is cut.
+    // A sequence doesn't end before its last row, so the difference isn't cut off at 0.
     let by = going.end.saturating_sub(going.registers.address);
     put_op(out, LineOp::AdvancePc(by))?;
     put_op(out, LineOp::EndSequence)
@@ -97,8 +98,8 @@ fn open(
     put_rows(out, opened(address, default_is_stmt), address, rows)
 }
 
-// Writes rows at an address, in the sequence that was begun where that ends there, and answers the registers behind
-// them.
+// Writes the rows of a run that starts at `address`, and answers the registers behind them. The sequence under way goes
+// on where it ends there; else it is ended, and another one begun.
 fn put_run(
     out: &mut Vec<u8>,
     going: Option<Going>,
@@ -124,7 +125,7 @@ fn put_run(
     }
 }
 
-/// The program of a unit, as far as it is written.
+/// The program of a unit, as far as it is written. Runs are added by ascending addresses.
 #[derive(Drop)]
 pub struct Program {
     bytes: Vec<u8>,
@@ -150,7 +151,7 @@ impl Program {
         }
     }
 
-    /// Appends the rows of a run, at its start.
+    /// Appends the rows of a run, all at its start.
     pub fn add_run(
         &mut self,
         default_is_stmt: bool,

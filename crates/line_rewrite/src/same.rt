@@ -1,4 +1,4 @@
-// Whether two answers are one.
+// Whether two answers say the same.
 ghost use Rattle.std.specs.Prelude.{◌≡◌, ◌↔◌, IsTrue};
 
 use crate::answer::{LineAt, LineRow};

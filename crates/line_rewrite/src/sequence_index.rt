@@ -15,14 +15,14 @@ pub struct Place {
     pub sequence: usize,
 }
 
-/// The sequences of some units, and which is the first that holds an address.
+/// The sequences of some units in order, and which of them is the first that holds an address.
 #[derive(Drop)]
 pub struct SequenceIndex {
     places: Vec<Place>,
     first: FirstRange,
 }
 
-// Adds the sequences of a unit.
+// Adds the sequences of the unit of a number, and their ranges.
 fn add_unit(
     number: usize,
     unit: &Unit,
@@ -60,7 +60,7 @@ impl SequenceIndex {
         Ok(SequenceIndex { places, first })
     }
 
-    /// The first sequence that holds an address.
+    /// The first sequence that holds an address, if one does.
     pub fn find(&self, a: u64) -> Option<Place>
         ensures { result ≡ option_and_then (slice_get self.now.places.items) (first_range self.now.first a) }
     {

@@ -1,4 +1,5 @@
-// Whether a program is as it should be.
+// Whether a program is sound: read to its end, with addresses that don't fall within a sequence, files that are there,
+// and an end of each sequence.
 ghost use Rattle.std.specs.Prelude.{◌≡◌};
 ghost use Rattle.line_rewrite.specs.LineMachine.{follows};
 ghost use Rattle.line_rewrite.specs.SoundPrograms.{is_sound};
@@ -9,7 +10,7 @@ use crate::machine::{after_op, after_row, effect_of, start};
 use crate::reading::read_op;
 use rb_bytes::cursor::Cursor;
 
-// An address is not below that of the last row, if there is one.
+// Whether an address isn't below that of the last row, if there is one.
 fn follows(last: Option<u64>, address: u64) -> bool
     ensures { result ≡ follows last address }
 {
@@ -19,7 +20,7 @@ fn follows(last: Option<u64>, address: u64) -> bool
     }
 }
 
-/// Whether operations take all bytes of a program, and meet what is asked of them.
+/// Whether a program is sound, of a unit with `files` files.
 pub fn is_sound(program: &LineProgram<'_>, files: u64) -> bool
     ensures { result ≡ is_sound program.now.coding.now files program.now.lengths.now program.now.bytes.now }
 {

@@ -4,7 +4,7 @@ ghost use Rattle.table_core.specs.Texts.{text_in};
 
 use memchr::memrchr;
 
-/// The sections of texts, and where their last texts end.
+/// The sections of texts, and where in each the last text ends: a text stands at each offset below that.
 #[derive(Clone, Copy)]
 pub struct Texts<'s> {
     pub str: &'s [u8],
@@ -46,7 +46,7 @@ impl<'s> Texts<'s> {
     }
 }
 
-// The least offset from which on no text is.
+// The least offset from which on no text stands: a text ends with a zero byte.
 fn last_end(section: &[u8]) -> usize
     ensures { (offset : ℕ) → is_some (text_in section.now offset) ≡ nat_lt offset result }
 {

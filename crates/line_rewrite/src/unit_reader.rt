@@ -15,7 +15,7 @@ use crate::unit::Unit;
 use rb_bytes::cursor::Cursor;
 use std::alloc::Global;
 
-// The bytes of a unit behind its length.
+// The parts of a unit behind its length and version.
 #[derive(Clone, Copy)]
 struct Outer<'a> {
     address_size: u8,
@@ -51,7 +51,7 @@ fn read_outer<'a>(bytes: &'a [u8]) -> Result<Outer<'a>, Trouble>
     })
 }
 
-/// The unit in the bytes behind its length, which begin with the version.
+/// Reads the unit in the bytes behind its length. These begin with the version, which was looked at before.
 pub fn read_unit(alloc: Global, texts: &Texts, bytes: &[u8]) -> Result<Unit, Trouble>
     ensures read { IfOk result (λ u. unit_of (texts_strings texts.now) bytes.now
         ≡ Some (told_unit (texts_strings texts.now) u)) }

@@ -10,24 +10,26 @@ use crate::unit::Unit;
 use rb_bytes::fault::NoMemory;
 use rb_bytes::little::put_u32;
 
-// The version, in two bytes, and the sizes of addresses and of segment selectors.
+// The version (5), in two bytes, and the sizes of addresses (8) and of segment selectors (0).
 const VERSION_AND_SIZES: [u8; 4] = [5, 0, 8, 0];
 
-// The least length of an instruction, and how many operations one has at most.
+// The least length of an instruction, and how many operations one has at most. With 1 for the former any distance can
+// be written.
 const INSTRUCTION_LENGTH: u8 = 1;
 
 const OPERATIONS: u8 = 1;
 
-// The line base in two's complement.
+// The line base, as a byte in two's complement.
 const LINE_BASE_BYTE: u8 = (256 + LINE_BASE as i16) as u8;
 
-// How many operands the standard opcodes have.
+// How many operands the standard opcodes have, from 1 to 12. DWARF 5, section 6.2.5.2.
 const OPERAND_COUNTS: [u8; 12] = [0, 1, 1, 1, 1, 0, 0, 0, 1, 0, 0, 1];
 
-// How many bytes a header has between its length and what stands behind the counts of operands.
+// How many bytes a header has from behind its length to the tables: six numbers, and the counts of operands.
 const FIELDS_SIZE: usize = 18;
 
-// How many bytes a unit has beside its program and what stands behind the counts of operands.
+// How many bytes a unit has behind its length, without the tables and the program: what stands up to the header's
+// length, that length, and these fields.
 const FIXED_SIZE: usize = 8 + FIELDS_SIZE;
 
 fn flag_byte(flag: bool) -> u8
@@ -57,7 +59,7 @@ fn put_fields(out: &mut Vec<u8>, header: &Header) -> Result<(), NoMemory>
     Ok(())
 }
 
-// Appends a unit, behind its length.
+// Appends a unit, with its length before it.
 fn put_unit(out: &mut Vec<u8>, header: &Header, program: &[u8]) -> Result<(), NoMemory>
     requires { length (spec.unit_bytes header.now program.now) < 2 ^ 32 - 1 }
     ensures { OnOk result (out.new.items
@@ -72,7 +74,7 @@ fn put_unit(out: &mut Vec<u8>, header: &Header, program: &[u8]) -> Result<(), No
     Ok(())
 }
 
-/// Appends all units, each with its program, whose last sequence is ended.
+/// Appends all units, each with its program, of which the last sequence is ended before.
 pub fn put_units(
     out: &mut Vec<u8>,
     units: &[Unit],

@@ -13,10 +13,11 @@ use crate::registers::Registers;
 use rb_bytes::cursor::Cursor;
 use std::alloc::AllocError;
 
-// How many rows are held at one address at most: each byte of a program may give one more there.
+// How many rows may be in force at one address: each byte of a program may append one more there.
 const MOST_ROWS: usize = 1 << 22;
 
-// The rows in force after one more row was reached. Memory is wanting where there are too many of them.
+// Adds a row that was reached to the rows in force; rows of another address are in force no more. `AllocError`, too,
+// where there are too many of them.
 fn join(found: &mut Vec<Registers>, row: Registers) -> Result<(), AllocError>
     ensures { IfOk result (λ _. found.new.items ≡ joined found.old.items row) }
 {
@@ -32,7 +33,7 @@ fn join(found: &mut Vec<Registers>, row: Registers) -> Result<(), AllocError>
     Ok(())
 }
 
-// The next row that what is left of a program reaches from a state on, and which it appends before the sequence ends.
+// The next row that a program appends before the sequence ends, from `registers` on, by what is left of its bytes.
 fn next_row(
     program: &LineProgram<'_>,
     cursor: &mut Cursor<'_>,
@@ -57,7 +58,7 @@ fn next_row(
     None
 }
 
-/// Finds the rows in force at an address, of those that were found before and so many rows from a state on.
+/// Goes over `count` rows from a state on, and makes of the rows in force so far, `found`, those in force at `a`.
 pub fn add_rows(
     found: &mut Vec<Registers>,
     program: &LineProgram<'_>,
@@ -85,7 +86,7 @@ pub fn add_rows(
     Ok(())
 }
 
-/// Whether none of so many rows from a state on lies above an address `a` and up to another one, `b`.
+/// Whether none of `count` rows from a state on lies above address `a` and at or below `b`.
 pub fn none_between(program: &LineProgram<'_>, state: &Kept, count: usize, a: u64, b: u64) -> bool
     requires { state.now.place ≤ length program.now.bytes.now }
     ensures { result ≡ none_between a b (take count (rows_behind program.now state.now)) }

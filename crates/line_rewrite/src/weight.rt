@@ -6,7 +6,7 @@ ghost use Rattle.line_rewrite.specs.Tables.{row_weight};
 use crate::answer::LineAt;
 use answer_runs::{RUN_WEIGHT, Run};
 
-// What a row weighs.
+// What a row weighs: more than the bytes of all operations that it may need.
 const ROW_WEIGHT: u64 = 96;
 
 /// The weight of some runs; where it is none of 64 bits, the greatest number.

@@ -18,7 +18,7 @@ use std::alloc::Global;
 use table_core::written::DW_AT_stmt_list;
 use table_core::{DWARF_VERSION, DebugUnit, ListAt, Written, debug_units};
 
-// The places of units, with those of others in the same order.
+// The old places of units with the new ones, pair by pair.
 fn paired(alloc: Global, olds: &[DebugUnit], news: &[DebugUnit]) -> Result<Vec<ListAt>, NoMemory>
     ensures { IfOk result (λ l. l.items ≡ moved_units (map (λ w. w.place) olds.now) (map (λ w. w.place) news.now)) }
 {
@@ -36,7 +36,7 @@ fn paired(alloc: Global, olds: &[DebugUnit], news: &[DebugUnit]) -> Result<Vec<L
     Ok(lists)
 }
 
-// Where the units of a section stood, with where they stand in another.
+// Where the units of the old section stand, each with where it stands in the new one.
 fn moved(alloc: Global, old: &[u8], new: &[u8]) -> Result<Vec<ListAt>, NoMemory>
     ensures { IfOk result (λ l. l.items ≡ moved_units (places_in old.now) (places_in new.now)) }
 {
@@ -45,8 +45,8 @@ fn moved(alloc: Global, old: &[u8], new: &[u8]) -> Result<Vec<ListAt>, NoMemory>
     paired(alloc, &olds, &news)
 }
 
-/// Writes `.debug_line` with the same units, each with sequences for the runs that say it. The lists have the old place
-/// of each unit with its new one.
+/// Writes `.debug_line` anew, with the same units in the same order, each with sequences for the runs whose answers are
+/// its rows. The lists of what is written have the old place of each unit with its new one.
 pub fn write_lines(
     alloc: Global,
     line: &[u8],

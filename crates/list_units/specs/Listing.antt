@@ -62,7 +62,7 @@ pub record IsNameOf (lists : List KeptList) (n : NamedList) (x : ListItem) : Typ
 abbrev pub AreNamesOf : List KeptList → List NamedList → List ListItem → Type 0
 AreNamesOf lists named items = AllZip (IsNameOf lists) named items
 
--- behind those of others, those of some attributes were added
+-- behind the names of other attributes those of some were added
 abbrev pub HasMore : (olds lists : List KeptList) → (before named : List NamedList) → List ListItem → Type 0
 HasMore olds lists before named items =
     (others : List ListItem) → AreNamesOf olds before others → AreNamesOf lists named (others ++ items)

@@ -30,7 +30,7 @@ said_at s u at a = option_map_or (λ ls. in_force ls a) (location_list s u at) [
 abbrev pub can_read : ListSections → Unit → ℕ → Bool
 can_read s u at = is_some (location_list s u at)
 
--- what those lists at some offsets say that can be read
+-- what the lists at some offsets say, of those that can be read
 abbrev pub read_at : ListSections → Unit → List ℕ → List (ℕ → List (List ℕ))
 read_at s u offsets = map (said_at s u) (filter (can_read s u) offsets)
 

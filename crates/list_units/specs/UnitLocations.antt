@@ -37,7 +37,7 @@ abbrev pub number_in : Source → Option ℕ
 number_in (Direct x) = None
 number_in (Listed n) = Some n
 
--- a list has its number among so many
+-- the number of a list, if a source is one, is below the count of lists
 abbrev pub IsListed : ℕ → Source → Type 0
 IsListed count (Direct x) = Prim.Unit {0}
 IsListed count (Listed n) = n < count
@@ -48,13 +48,13 @@ pub record IsSourceOf (s : ListSections) (u : Unit) (lists : List KeptList) (a :
   pub listed : (x : Source) → source ≡ Some x → IsListed (length lists) x
   pub says : (p : ℕ) → option_map_or (source_says lists p) source [] ≡ expressions_of s u a p
 
--- of an attribute that an entry may have
+-- where the expressions are of an attribute that an entry may have
 pub record IsNamedSource (s : ListSections) (u : Unit) (lists : List KeptList) (a : Option Attr)
     (source : Option Source) : Type 0 where
   pub listed : (x : Source) → source ≡ Some x → IsListed (length lists) x
   pub says : (p : ℕ) → option_map_or (source_says lists p) source [] ≡ option_map_or (λ v. expressions_of s u v p) a []
 
--- some lists were read, and none forgotten
+-- more lists were read, and none was forgotten
 pub record AreRead (s : ListSections) (u : Unit) (olds news : List KeptList)
     (known : BTreeMap ℕ (Option ℕ)) : Type 0 where
   pub more : AreMore olds news
@@ -64,7 +64,7 @@ pub record AreRead (s : ListSections) (u : Unit) (olds news : List KeptList)
 abbrev pub located_says : List KeptList → ℕ → LocatedAttr → List PlaceSaid
 located_says lists p l = attr_says l.place l.attr (source_says lists p l.source)
 
--- and of all of them whose ranges hold an address
+-- what is said of all attributes whose ranges hold an address
 abbrev pub all_located : List Cover → List KeptList → List LocatedAttr → ℕ → List PlaceSaid
 all_located covers lists located p =
     flat_map (located_says lists p) (filter (λ (l : LocatedAttr). group_holds covers l.group p) located)
@@ -78,7 +78,7 @@ located_of place name (Some group) (Some x) = record { place = place; attr = nam
 abbrev pub IsHeld : ℕ → ℕ → LocatedAttr → Type 0
 IsHeld groups lists l = (l.group < groups) × IsListed lists l.source
 
--- groups and lists have their numbers among so many
+-- the numbers of groups and of lists are below their counts
 abbrev pub AreHeld : ℕ → Locations → Type 0
 AreHeld groups l = All (IsHeld groups (length l.lists.items)) l.located.items
 
@@ -95,7 +95,7 @@ abbrev pub entry_said : ListSections → Unit → List Cover → Option ℕ → 
 entry_said s u covers nearest e p =
     attr_said s u covers nearest e DW_AT_location p ++ attr_said s u covers nearest e DW_AT_frame_base p
 
--- a group, if there is one, has its number among so many
+-- the number of a group, if there is one, is below the count of groups
 abbrev pub IsNear : ℕ → Option ℕ → Type 0
 IsNear groups nearest = (n : ℕ) → nearest ≡ Some n → n < groups
 

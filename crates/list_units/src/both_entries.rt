@@ -30,7 +30,7 @@ pub struct BothEntries {
     pub places: PlacedEntries,
 }
 
-// Adds what is read of the next unit, which stands at a place.
+// Adds what is read of the next unit, which stands at offset `place`, to both.
 fn add_both(
     alloc: Global,
     sections: &PlaceSections<'_, '_>,
@@ -88,8 +88,8 @@ fn read_all(
     Ok((ranged, placed))
 }
 
-/// What all entries say of ranges and of locations, or the first fault of the sections that they are read from. No more
-/// is kept than `most`, as `most_kept` says.
+/// What all entries say of ranges and of locations, or the first fault of the sections that they are read from.
+/// `NoMemory` is answered, too, where more than `most` would be kept (`most_kept` of `dw_lists`).
 pub fn read_both(
     alloc: Global,
     info: &[u8],

@@ -1,4 +1,4 @@
-// Ranges of the entries of all units.
+// Ranges of the entries of a unit.
 ghost use Rattle.std.specs.Prelude.{◌≡◌, ◌++◌, ◌∷◌, [], ℕ, List, IfOk, OnOk, map, flat_map};
 ghost use Rattle.std.specs.List.Sorted.{IsNonDecreasingBy};
 ghost use Rattle.table_core.specs.DebugUnits.{walked};
@@ -25,7 +25,7 @@ use std::alloc::Global;
 use std::collections::BTreeMap;
 use table_core::form::DW_FORM_rnglistx;
 
-// The index by which the list of ranges of an entry is named, where it is named by one.
+// The index by which an entry names its range list, where it does so by one.
 fn ranges_index(attrs: &[Attr]) -> Option<u64>
     ensures { result ≡ ranges_index attrs.now }
 {
@@ -60,7 +60,7 @@ fn put_ranged(
     }
 }
 
-// Adds the ranges of an entry; answers what is wrong with the lists that it names, and with others.
+// Adds the ranges of an entry, and to `others` what is wrong with the lists that it names.
 fn add_entry(
     alloc: Global,
     section: ListSection<'_, '_>,
@@ -90,7 +90,8 @@ fn add_entry(
     Ok(faults)
 }
 
-/// Adds the ranges of the entries of a unit; answers what is wrong with the lists that it names.
+/// Adds the ranges of the entries of a unit: groups of ranges, and the entries that have them. Answers what is wrong
+/// with the lists that the unit names.
 pub fn add_unit(
     alloc: Global,
     section: ListSection<'_, '_>,

@@ -2,12 +2,12 @@
 
 use cover_lists::kept_list::KeptList;
 
-/// Where the expressions of an attribute are.
+/// Where the expressions of an attribute are found.
 #[derive(Drop)]
 pub enum Source {
     /// An expression that is in force everywhere.
     Direct(Vec<u8>),
-    /// The expressions of a list, by its number.
+    /// The expressions of a list, by its number among those that are kept.
     Listed(usize),
 }
 
@@ -26,8 +26,8 @@ pub struct LocatedAttr {
 /// The attributes with expressions of some units, and the lists that they name.
 #[derive(Drop)]
 pub struct Locations {
-    /// By their numbers from 0; each list stands here once for each unit that names it.
+    /// The lists by their numbers from 0, each once for each unit that names it.
     pub lists: Vec<KeptList>,
-    /// In the order of their entries, DW_AT_location before DW_AT_frame_base.
+    /// The attributes in the order of their entries, DW_AT_location before DW_AT_frame_base.
     pub located: Vec<LocatedAttr>,
 }

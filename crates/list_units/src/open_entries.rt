@@ -1,20 +1,20 @@
-// The entries that the next one may lie in, with their nearest ranges. DWARF 5, section 2.3.
+// The entries that the next one may be nested in, with their nearest ranges. DWARF 5, section 2.3.
 ghost use Rattle.std.specs.Prelude.{◌≡◌, ◌∷◌, IfOk, reverse};
 ghost use Rattle.std.specs.Option.{option_or};
 ghost use Rattle.list_units.specs.OpenEntries as spec;
 
 use rb_bytes::fault::NoMemory;
 
-/// An entry that later ones may lie in.
+/// An entry that later ones may be nested in.
 #[derive(Clone, Copy)]
 pub struct OpenEntry {
-    /// How many entries it lies in.
+    /// How many entries it is nested in.
     pub depth: u32,
-    /// The group of its nearest ranges.
+    /// The group of its nearest ranges: its own, or those of the innermost entry around it that has some.
     pub nearest: Option<usize>,
 }
 
-// Whether an entry of a depth ends the last open one.
+// Whether an entry at `depth` ends the last open one, so that it isn't nested in it.
 fn ends(entries: &[OpenEntry], depth: u32) -> bool
     ensures { result ≡ spec.ends depth (reverse entries.now) }
 {
@@ -31,7 +31,7 @@ fn nearest(entries: &[OpenEntry]) -> Option<usize>
     last.nearest
 }
 
-// Closes the entries in which one of a depth doesn't lie.
+// Closes the entries that one at `depth` isn't nested in.
 fn close(entries: &mut Vec<OpenEntry>, depth: u32)
     ensures { reverse entries.new.items ≡ spec.closed depth (reverse entries.old.items) }
 {
@@ -43,8 +43,8 @@ fn close(entries: &mut Vec<OpenEntry>, depth: u32)
     }
 }
 
-/// Opens an entry of a depth, behind all before it; answers the group of its nearest ranges: its own, or those of the
-/// innermost open entry that it lies in.
+/// Opens the next entry, at `depth`, whose own ranges are the group `own`, and answers the group of its nearest ranges:
+/// its own, or else the nearest ones of the entry that it is nested in.
 pub fn enter(
     entries: &mut Vec<OpenEntry>,
     depth: u32,

@@ -16,18 +16,20 @@ use dw_unit::lowest::lower;
 use std::alloc::Global;
 use table_core::DebugUnit;
 
-/// The attributes with expressions of all entries, and the groups of their nearest ranges.
+/// What the entries of a file say of locations: the attributes with expressions, the lists that these name, and the
+/// groups of ranges.
 #[derive(Drop)]
 pub struct PlacedEntries {
     pub groups: Groups,
     pub kept: Locations,
     /// The attributes that name location lists, in the order of their entries, DW_AT_location before DW_AT_frame_base.
     pub named: Vec<NamedList>,
-    /// What the tables of offsets weigh, or the greatest number where that is none of 64 bits.
+    /// What the tables of offsets weigh that units need for their indexes, or the greatest number where that is none
+    /// of 64 bits.
     pub index_weight: u64,
 }
 
-/// Nothing, of no units.
+/// What was read before the first unit: nothing.
 pub(crate) fn nothing(alloc: Global) -> PlaceProgress
     ensures { (s : ListSections) → IsProgress s [] result }
 {
@@ -51,7 +53,8 @@ pub(crate) fn nothing(alloc: Global) -> PlaceProgress
     }
 }
 
-/// Of each fault the place that is answered.
+/// Of each fault the place that is answered: units first, then tables of addresses, then lists, ranges before
+/// locations.
 pub(crate) fn fault_places(
     progress: &PlaceProgress,
     units: &[DebugUnit<'_>],

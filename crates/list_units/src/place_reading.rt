@@ -20,28 +20,31 @@ use rb_bytes::fault::NoMemory;
 use std::alloc::Global;
 use table_core::form::DW_FORM_loclistx;
 
-/// What was read of some units.
+/// What was read so far: of the locations of some units, and of their faults.
 #[derive(Drop)]
 pub struct PlaceProgress {
     pub groups: Groups,
     pub kept: Locations,
     /// The attributes that name location lists, in the order of their entries, DW_AT_location before DW_AT_frame_base.
     pub named: Vec<NamedList>,
-    /// The lowest places of declarations with a bad form, with a high address that can't be changed, and with a value
-    /// that names no form.
+    /// The lowest place of a declaration with a bad form.
     pub bad_form: Option<u64>,
+    /// The lowest place of a declaration with a high address that can't be changed in place.
     pub bad_high: Option<u64>,
+    /// The lowest place of a declaration with a value that names no form.
     pub unformed: Option<u64>,
     /// The first unit that can't be read, or names a list that isn't there.
     pub bad: Option<u64>,
-    /// If there is none, the lowest tables of each section whose lists can't be read.
+    /// The lowest table with a range list that can't be read; it counts where no unit is bad.
     pub bad_ranges: Option<u64>,
+    /// The lowest table with a location list that can't be read; it counts where no unit is bad.
     pub bad_locations: Option<u64>,
-    /// What the tables of offsets weigh, or the greatest number where that is none of 64 bits.
+    /// What the tables of offsets weigh that units need for their indexes, or the greatest number where that is none
+    /// of 64 bits.
     pub index_weight: u64,
 }
 
-// Whether a unit names a list that isn't there.
+// Whether a unit names a list whose offset can't be read or is past the section.
 fn lacks_offset(faults: &UnitFaults) -> bool
     ensures { result ≡ (faults.now.ranges.lacks_offset || faults.now.locations.lacks_offset) }
 {
@@ -86,7 +89,8 @@ fn add_entries(
     Ok(())
 }
 
-/// Adds what is read of the next unit, which stands at a place.
+/// Adds what is read of the next unit, which stands at offset `place`. Behind a unit that is bad only the faults of
+/// declarations and forms are noted, since these come first.
 pub fn add_reading(
     alloc: Global,
     sections: &PlaceSections<'_, '_>,

@@ -29,10 +29,12 @@ use rb_bytes::fault::NoMemory;
 use std::alloc::Global;
 use std::collections::BTreeMap;
 
-/// The sections that locations are read from.
+/// The sections that ranges and locations are read from.
 #[derive(Clone, Copy)]
 pub struct PlaceSections<'a, 't> {
+    /// `.debug_info`, in which expressions stand.
     pub info: &'a [u8],
+    /// `.debug_addr`.
     pub addr: &'a [u8],
     pub ranges: ListSection<'a, 't>,
     pub locations: ListSection<'a, 't>,
@@ -46,12 +48,14 @@ pub struct UnitContext<'a, 't> {
     locations: UnitLocations<'a, 't>,
 }
 
-/// What is known of a unit while its entries are read.
+/// What is known of a unit while its entries are read, one after another.
 #[derive(Drop)]
 pub struct UnitState {
+    /// The range lists that were read.
     ranges: KnownLists,
+    /// The location lists that were read.
     locations: KnownLists,
-    /// The entries that the next one may lie in.
+    /// The entries that the next one may be nested in.
     entries: Vec<OpenEntry>,
 }
 
@@ -62,7 +66,7 @@ pub struct UnitFaults {
     pub locations: ListFaults,
 }
 
-// Adds the ranges and locations of an entry; answers what is wrong with the lists that it names, and with others.
+// Adds the ranges and locations of an entry, and to `others` what is wrong with the lists that it names.
 fn place_entry(
     alloc: Global,
     context: &UnitContext<'_, '_>,
@@ -125,8 +129,8 @@ fn nothing_known(alloc: Global) -> UnitState
     }
 }
 
-/// Adds the ranges and locations of the entries of a unit, and names the lists of these; answers what is wrong with
-/// the lists that it names.
+/// Adds the ranges and locations of the entries of a unit, and to `named` the attributes that name location lists.
+/// Answers what is wrong with the lists that the unit names.
 pub fn place_unit(
     alloc: Global,
     sections: &PlaceSections<'_, '_>,

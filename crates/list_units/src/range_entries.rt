@@ -18,16 +18,19 @@ use rb_bytes::fault::{NoMemory, Refusal};
 use std::alloc::Global;
 use table_core::{DWARF_VERSION, DebugUnit, debug_units};
 
-/// The entries that have ranges, in order.
+/// The entries of a file that have ranges.
 #[derive(Drop)]
 pub struct RangedEntries {
+    /// The groups of ranges.
     pub groups: Groups,
+    /// The entries in order, each with its group.
     pub ranged: Vec<RangedEntry>,
-    /// What the tables of offsets weigh, or the greatest number where that is none of 64 bits.
+    /// What the tables of offsets weigh that units need for their indexes, or the greatest number where that is none
+    /// of 64 bits.
     pub index_weight: u64,
 }
 
-/// Nothing, of no units.
+/// What was read before the first unit: nothing.
 pub(crate) fn nothing(alloc: Global) -> Progress
     ensures { (s : ListSections) → IsProgress s [] result }
 {
@@ -46,7 +49,7 @@ pub(crate) fn nothing(alloc: Global) -> Progress
     }
 }
 
-/// The place of the unit of a number.
+/// The offset of the unit of a number.
 pub fn place_of(units: &[DebugUnit<'_>], number: usize) -> u64
     requires { number < length units.now }
     ensures { (w : Walked) → slice_get units.now number ≡ Some w → result ≡ w.place }
@@ -77,7 +80,7 @@ fn read_all(
     Ok(progress)
 }
 
-// Of each fault the place that is answered.
+// Of each fault the place that is answered: units first, then tables of addresses, then lists.
 fn fault_places(
     progress: &Progress,
     units: &[DebugUnit<'_>],
@@ -107,8 +110,8 @@ fn fault_places(
     }
 }
 
-/// The entries that have ranges, or the first fault of the sections that they are read from. No more is kept than
-/// `most`, as `most_kept` says.
+/// The entries that have ranges, or the first fault of the sections that they are read from. `NoMemory` is answered,
+/// too, where more than `most` would be kept (`most_kept` of `dw_lists`).
 pub fn read_ranges(
     alloc: Global,
     info: &[u8],

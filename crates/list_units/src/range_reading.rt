@@ -18,21 +18,23 @@ use rb_bytes::fault::NoMemory;
 use std::alloc::Global;
 use table_core::form::DW_FORM_rnglistx;
 
-/// What was read of some units.
+/// What was read so far: of the ranges of some units, and of their faults.
 #[derive(Drop)]
 pub struct Progress {
     pub groups: Groups,
     pub ranged: Vec<RangedEntry>,
-    /// The lowest places of declarations with a bad form, with a high address that can't be changed, and with a value
-    /// that names no form.
+    /// The lowest place of a declaration with a bad form.
     pub bad_form: Option<u64>,
+    /// The lowest place of a declaration with a high address that can't be changed in place.
     pub bad_high: Option<u64>,
+    /// The lowest place of a declaration with a value that names no form.
     pub unformed: Option<u64>,
     /// The first unit that can't be read, or names a list that isn't there.
     pub bad: Option<u64>,
-    /// If there is none, the lowest table whose list can't be read.
+    /// The lowest table with a list that can't be read; it counts where no unit is bad.
     pub bad_table: Option<u64>,
-    /// What the tables of offsets weigh, or the greatest number where that is none of 64 bits.
+    /// What the tables of offsets weigh that units need for their indexes, or the greatest number where that is none
+    /// of 64 bits.
     pub index_weight: u64,
 }
 
@@ -68,7 +70,8 @@ fn add_entries(
     Ok(())
 }
 
-/// Adds what is read of the next unit, which stands at a place.
+/// Adds what is read of the next unit, which stands at offset `place`. Behind a unit that is bad only the faults of
+/// declarations and forms are noted, since these come first.
 pub fn add_reading(
     alloc: Global,
     section: ListSection<'_, '_>,

@@ -40,13 +40,15 @@ use table_core::shape::is_block;
 /// What a unit needs to read its locations.
 #[derive(Clone, Copy)]
 pub struct UnitLocations<'a, 't> {
-    /// The section of the units.
+    /// `.debug_info`, in which expressions stand.
     pub info: &'a [u8],
+    /// `.debug_loclists`.
     pub section: ListSection<'a, 't>,
+    /// How the unit reads its lists.
     pub lists: UnitLists<'a>,
 }
 
-// The size of the lists that are kept.
+// The size of all lists that are kept, which the last one has.
 fn kept_size(lists: &[KeptList]) -> usize {
     match lists.last() {
         Some(list) => list.size,
@@ -54,7 +56,8 @@ fn kept_size(lists: &[KeptList]) -> usize {
     }
 }
 
-// Reads the list at an offset, and answers its number; none if it can't be read.
+// Reads the list at offset `at`, keeps it, and answers its number; none if it can't be read. `NoMemory`, too, where too
+// much would be kept.
 fn read_number(
     alloc: Global,
     unit: &UnitLocations<'_, '_>,
@@ -84,7 +87,7 @@ fn read_number(
     }
 }
 
-/// The number of the list at an offset, which is read if it isn't known; none if it can't be read.
+/// The number of the list at offset `at`, which is read and kept unless it is known; none if it can't be read.
 pub fn number_at(
     alloc: Global,
     unit: &UnitLocations<'_, '_>,
@@ -119,7 +122,7 @@ pub fn has_list(attr: Attr) -> bool
         && (attr.form == DW_FORM_sec_offset || attr.form == DW_FORM_loclistx)
 }
 
-// What is wrong with the list that an attribute names, and with others.
+// Adds to `others` what is wrong with the location list that an attribute names, if it names one.
 fn note_list(
     alloc: Global,
     unit: &UnitLocations<'_, '_>,
@@ -162,7 +165,7 @@ fn note_list(
     }
 }
 
-// What is wrong with the lists that some attributes name, and with others.
+// Adds to `others` what is wrong with the location lists that some attributes name.
 fn note_lists(
     alloc: Global,
     unit: &UnitLocations<'_, '_>,
@@ -190,7 +193,7 @@ fn note_lists(
     Ok(faults)
 }
 
-// Where the expressions of an attribute are; none of a list that can't be read.
+// Where the expressions of an attribute are: in it, or in a list. None where the list can't be read.
 fn source_of(
     alloc: Global,
     unit: &UnitLocations<'_, '_>,
@@ -226,7 +229,7 @@ fn source_of(
     }
 }
 
-// Where the expressions of the attribute of a name are.
+// Where the expressions of the attribute `name` are, if there is one.
 fn named_source(
     alloc: Global,
     unit: &UnitLocations<'_, '_>,
@@ -284,7 +287,8 @@ fn put_located(
     Ok(())
 }
 
-// Adds the attribute of a name of an entry, by the group of its nearest ranges, and names its list.
+// Adds the attribute `name` of an entry, if it has it, to the attributes with expressions where the entry has nearest
+// ranges; and to those that name lists where it names one.
 fn locate(
     alloc: Global,
     unit: &UnitLocations<'_, '_>,
@@ -322,8 +326,8 @@ fn locate(
     Ok(())
 }
 
-/// Adds the attributes of an entry that say where something is, by the group of its nearest ranges, and names their
-/// lists; answers what is wrong with the lists that it names, and with others.
+/// Adds the attributes of an entry that say where something is, with the group of its nearest ranges, and to `named`
+/// those of them that name lists. Adds to `others` what is wrong with these lists.
 pub fn locate_entry(
     alloc: Global,
     unit: &UnitLocations<'_, '_>,

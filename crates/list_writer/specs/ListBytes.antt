@@ -1,6 +1,5 @@
 -- Lists as they are written anew: each entry has its addresses in full, so no base is needed. DWARF 5, sections
--- 7.7.3, 7.25,
--- 7.28 and 7.29.
+-- 7.7.3, 7.25, 7.28 and 7.29.
 use Rattle.std.specs.Prelude.{◌+◌, ◌≡◌, ◌<◌, ◌^◌, ℕ, List, [], ◌∷◌, ◌++◌, length, Some}
 use Rattle.byteorder.specs.Endian.{little_bytes}
 use Rattle.rb_bytes.specs.Leb.{uleb}

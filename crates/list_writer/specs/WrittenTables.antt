@@ -110,7 +110,7 @@ IsPut lists start body indexes names all r (Some i) =
     (o : ℕ) × (like : NamedList) × (get nat_cmp indexes i ≡ Some o) × (like.index ≡ Some i) × Contains all like
     × Begins body o (bytes_in lists like.list)
 
--- behind the keys of some attributes
+-- the least key behind those of some attributes
 abbrev pub keys_end : ℕ → List NamedList → ℕ
 keys_end lo [] = lo
 keys_end lo (r ∷ rs) = keys_end (key r.place r.attr + 1) rs

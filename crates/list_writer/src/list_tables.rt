@@ -20,7 +20,7 @@ use std::alloc::Global;
 use std::collections::BTreeMap;
 use table_core::{ListAt, Written};
 
-// The version of tables, and the sizes of their addresses and segment selectors.
+// The version of tables, and the sizes of addresses and of segment selectors that they give.
 const VERSION: u8 = 5;
 
 const ADDRESS_SIZE: u8 = 8;
@@ -49,7 +49,7 @@ fn known_offset(known: &BTreeMap<usize, u64>, number: usize) -> Option<u64>
     known.get(&number).copied()
 }
 
-// Where the list of a number begins in the body of a table, which gets it where it hasn't it.
+// Where the list of a number begins in the body of a table; one that isn't there yet is appended.
 fn list_offset(
     body: &mut Vec<u8>,
     known: &mut BTreeMap<usize, u64>,
@@ -70,7 +70,7 @@ fn list_offset(
     Ok(offset)
 }
 
-// A sum below 2^32, as an offset is.
+// A sum that fits an offset of 32 bits.
 fn offset_sum(a: u64, b: u64) -> Result<u64, NoMemory>
     ensures { IfOk result (λ n. (n ≡ a + b) × (n < 2 ^ 32)) }
 {
@@ -82,8 +82,8 @@ fn offset_sum(a: u64, b: u64) -> Result<u64, NoMemory>
     }
 }
 
-// Adds the list of an attribute to the body of a table, which begins at a place, and names it by its offset or by its
-// index.
+// Adds the list of an attribute to the body of a table, which begins at offset `start` of the section. Notes the list's
+// place among the indexes, by its offset in the body, or among the names, by its offset in the section.
 fn add_entry(
     body: &mut Vec<u8>,
     known: &mut BTreeMap<usize, u64>,
@@ -116,15 +116,17 @@ fn add_entry(
     }
 }
 
-// The lists of a unit.
+// The lists of a unit, as the body of its table: what stands behind the offsets.
 #[derive(Drop)]
 struct UnitBody {
+    /// The lists, one behind another.
     bytes: Vec<u8>,
-    /// Where the list of each index begins.
+    /// Where in these the list of each index begins that is used.
     indexes: BTreeMap<u64, u64>,
 }
 
-// The lists of a unit, as the body of a table that begins at a place; those that no index names get names.
+// The body of a unit's table, which begins at offset `start` of the section. Attributes that name their list by its
+// offset are added to `names`.
 fn unit_body(
     alloc: Global,
     names: &mut Vec<ListAt>,
@@ -153,7 +155,7 @@ fn unit_body(
     Ok(UnitBody { bytes, indexes })
 }
 
-// The least number that isn't below another and is more than an index, if there is one.
+// The least number that is at least `count` and above the index, if there is one.
 fn above(count: u64, index: Option<u64>) -> Result<u64, NoMemory>
     ensures least { IfOk result (λ n. count ≤ n) }
     ensures more { IfOk result (λ n. (i : ℕ) → index ≡ Some i → i < n) }
@@ -188,7 +190,8 @@ fn index_offset(indexes: &BTreeMap<u64, u64>, index: u64) -> u64
     indexes.get(&index).copied().unwrap_or(0)
 }
 
-// Appends the offset of an index, behind which offsets take so many bytes.
+// Appends the offset of an index. Offsets count from the first of them, and all of them take `size` bytes before the
+// lists.
 fn put_offset(
     out: &mut Vec<u8>,
     indexes: &BTreeMap<u64, u64>,
@@ -219,7 +222,8 @@ fn put_offsets(
     Ok(())
 }
 
-// Version, size of addresses, size of segment selectors, and how many offsets there are.
+// Appends the header behind a table's length: version, size of addresses, size of segment selectors, and how many
+// offsets there are. DWARF 5, section 7.28.
 fn put_header(out: &mut Vec<u8>, count: u32) -> Result<(), NoMemory>
     ensures { OnOk result (out.new.items ≡ out.old.items ++ spec.list_header count) }
 {
@@ -228,7 +232,7 @@ fn put_header(out: &mut Vec<u8>, count: u32) -> Result<(), NoMemory>
     Ok(())
 }
 
-// The bytes of so many offsets.
+// How many bytes so many offsets have.
 fn offsets_size(count: u64) -> Result<u64, NoMemory>
     ensures { IfOk result (λ n. (n ≡ 4 * count) × (n < 2 ^ 32)) }
 {
@@ -239,7 +243,8 @@ fn offsets_size(count: u64) -> Result<u64, NoMemory>
     }
 }
 
-// How many bytes a table has behind its length.
+// How many bytes a table has behind its length, whose offsets have `size`. The greatest number of 32 bits would say
+// that a length of 64 bits follows.
 fn table_len(size: u64, body: &[u8]) -> Result<u32, NoMemory>
     requires { size < 2 ^ 32 }
     ensures { IfOk result (λ n. (n ≡ 8 + size + length body.now) × (n < 2 ^ 32 - 1)) }
@@ -252,7 +257,7 @@ fn table_len(size: u64, body: &[u8]) -> Result<u32, NoMemory>
     }
 }
 
-// Appends a table of the offsets of so many indexes, and lists.
+// Appends a table with `count` offsets, and the lists in `body`.
 fn put_table(
     out: &mut Vec<u8>,
     indexes: &BTreeMap<u64, u64>,
@@ -281,7 +286,7 @@ fn base_name(kind: ListKind) -> u64
     }
 }
 
-// Names the base of a unit whose attributes use indexes.
+// Adds the base of a unit to the names, if its attributes use indexes.
 fn name_base(
     names: &mut Vec<ListAt>,
     kind: ListKind,
@@ -302,7 +307,7 @@ fn name_base(
     Ok(())
 }
 
-// Appends a table with the lists of a unit.
+// Appends a table with the lists of the unit whose own entry stands at `own`.
 fn put_unit(
     alloc: Global,
     out: &mut Vec<u8>,
@@ -327,7 +332,7 @@ fn put_unit(
     Ok(())
 }
 
-// How many attributes at the front are of the unit of an own entry.
+// How many attributes at the front are of the unit whose own entry stands at `own`.
 fn unit_len(entries: &[NamedList], own: u64) -> usize
     ensures within { result ≤ length entries.now }
     ensures same { (k : ℕ) (d : code.NamedList) → k < result → (slice_index_or entries.now k d).own ≡ own }
@@ -344,7 +349,7 @@ fn unit_len(entries: &[NamedList], own: u64) -> usize
     count
 }
 
-// Appends tables with the lists that attributes name, one of each unit.
+// Appends tables with the lists that attributes name, one for each unit.
 fn put_units(
     alloc: Global,
     out: &mut Vec<u8>,
@@ -358,6 +363,7 @@ fn put_units(
     ensures none { length named.now ≡ 0 → OnOk result (out.new.items ≡ out.old.items) }
 {
     let mut rest = named;
+    // Each unit has an attribute at least. `number` isn't read: it bounds the loop.
     for number in 0..named.len() {
         match rest.first() {
             Some(first) => {
@@ -372,7 +378,10 @@ fn put_units(
     Ok(())
 }
 
-/// Writes the lists that attributes name, by the bytes of each list.
+/// Writes tables of the lists that attributes name, one for each unit. `lists` has the bytes of each list, by its
+/// number; `named` the attributes, in the order of their entries. What is written has the offset of each attribute that
+/// names its list by one, and the base of each unit that uses indexes. `NoMemory` is answered, too, where an offset or
+/// a length doesn't fit 32 bits.
 pub fn write_tables(
     alloc: Global,
     kind: ListKind,

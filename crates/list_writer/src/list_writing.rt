@@ -10,7 +10,7 @@ use rb_bytes::fault::NoMemory;
 use rb_bytes::leb::put_uleb;
 use rb_bytes::little::put_u64;
 
-// A stretch of addresses, behind the kind of its entry.
+// Appends the kind of an entry, and a stretch of addresses: the first one, and how many there are.
 fn put_stretch(out: &mut Vec<u8>, kind: u64, start: u64, len: u64) -> Result<(), NoMemory>
     requires { kind < 2 ^ 8 }
     ensures { OnOk result (out.new.items ≡ out.old.items ++ kind ∷ stretch_bytes start len) }
@@ -20,7 +20,7 @@ fn put_stretch(out: &mut Vec<u8>, kind: u64, start: u64, len: u64) -> Result<(),
     put_uleb(out, len)
 }
 
-// Bytes behind their count.
+// Appends bytes behind their count in LEB128.
 fn put_block(out: &mut Vec<u8>, bytes: &[u8]) -> Result<(), NoMemory>
     ensures { OnOk result (out.new.items ≡ out.old.items ++ (uleb (length bytes.now) ++ bytes.now)) }
 {
@@ -29,7 +29,8 @@ fn put_block(out: &mut Vec<u8>, bytes: &[u8]) -> Result<(), NoMemory>
     Ok(())
 }
 
-/// Appends an entry of a list for a stretch of addresses, with an expression in a list of locations.
+/// Appends an entry of a list for the `len` addresses from `start` on, with whole addresses, so that no base is needed.
+/// Only an entry of a location list has an expression.
 pub fn put_entry(
     out: &mut Vec<u8>,
     list: ListKind,

@@ -26,7 +26,7 @@ fn put_expression(
     put_entry(out, ListKind::Locations, start, len, expression)
 }
 
-// Appends an entry for each of some expressions.
+// Appends an entry for each of some expressions, all over one stretch of addresses.
 fn put_expressions(
     out: &mut Vec<u8>,
     start: u64,
@@ -52,7 +52,7 @@ fn put_run(out: &mut Vec<u8>, run: &ListRun) -> Result<(), NoMemory>
     put_expressions(out, run.start, run.len, &run.answer)
 }
 
-// Appends the list of some runs.
+// Appends the list of some runs, and its end.
 fn put_list(out: &mut Vec<u8>, runs: &[ListRun]) -> Result<(), NoMemory>
     ensures written { OnOk result (out.new.items
         ≡ out.old.items ++ list_bytes kind.Locations (spec.bounded (said_runs said runs.now))) }
@@ -75,7 +75,7 @@ fn put_spelled(alloc: Global, all: &mut Vec<Vec<u8>>, runs: &Vec<ListRun>) -> Re
     Ok(())
 }
 
-/// The bytes of lists, by the runs of each.
+/// The bytes of location lists, by the runs of new code at whose owners each says the same.
 pub fn spelled_locations(alloc: Global, lists: &[Vec<ListRun>]) -> Result<Vec<Vec<u8>>, NoMemory>
     ensures written { IfOk result (λ bs. items_in bs.items ≡ map spec.runs_bytes lists.now) }
     ensures fits { OnOk result (All spec.CanBeWritten lists.now) }

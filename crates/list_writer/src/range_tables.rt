@@ -20,7 +20,7 @@ fn put_run(out: &mut Vec<u8>, run: &Run<bool>) -> Result<(), NoMemory>
     put_entry(out, ListKind::Ranges, run.start, run.len, &[])
 }
 
-// Appends the list of some runs.
+// Appends the list of some runs, and its end.
 fn put_list(out: &mut Vec<u8>, runs: &[Run<bool>]) -> Result<(), NoMemory>
     ensures { OnOk result (out.new.items ≡ out.old.items ++ list_bytes kind.Ranges (map spec.bounded runs.now)) }
 {
@@ -40,7 +40,7 @@ fn put_spelled(alloc: Global, all: &mut Vec<Vec<u8>>, runs: &Vec<Run<bool>>) -> 
     Ok(())
 }
 
-/// The bytes of the lists of groups.
+/// The bytes of the range lists of groups, by the runs of new code whose owners each holds.
 pub fn spelled_groups(alloc: Global, lists: &[Vec<Run<bool>>]) -> Result<Vec<Vec<u8>>, NoMemory>
     ensures { IfOk result (λ bs. items_in bs.items ≡ map spec.group_bytes lists.now) }
 {
@@ -51,7 +51,8 @@ pub fn spelled_groups(alloc: Global, lists: &[Vec<Run<bool>>]) -> Result<Vec<Vec
     Ok(all)
 }
 
-/// The attributes that name the lists of entries.
+/// The attributes that name the range lists of entries: DW_AT_ranges, also of entries that had DW_AT_high_pc. A list
+/// has the number of its group.
 pub fn range_names(alloc: Global, ranged: &[RangedEntry]) -> Result<Vec<NamedList>, NoMemory>
     ensures { IfOk result (λ ns. ns.items ≡ map spec.named_of ranged.now) }
 {

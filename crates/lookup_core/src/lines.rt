@@ -1,4 +1,4 @@
-// The lines of the report on the rows of a line table.
+// The lines of the report on the rows of line tables.
 ghost use Rattle.std.specs.Prelude.{◌≡◌, ◌++◌, OnOk, flat_map};
 ghost use Rattle.lookup_core.specs.Report.{flags_text, line_lines, position_text, row_line};
 
@@ -7,7 +7,8 @@ use line_rewrite::{LineAt, LineRow};
 use rb_bytes::fault::NoMemory;
 use rb_bytes::text::put_decimal;
 
-// Appends the flags of a row that are set.
+// Appends the flags of `row` that are set, and its numbers `isa` and `disc` (the discriminator) where they aren't 0.
+// DWARF 5, section 6.2.2.
 fn put_flags(text: &mut Vec<u8>, row: &LineRow) -> Result<(), NoMemory>
     ensures { OnOk result (text.new.items ≡ text.old.items ++ flags_text row.now) }
 {
@@ -20,7 +21,7 @@ fn put_flags(text: &mut Vec<u8>, row: &LineRow) -> Result<(), NoMemory>
     Ok(())
 }
 
-// Appends where a row stands in its source.
+// Appends the place of a row in its source: `line PATH:LINE:COLUMN`.
 fn put_position(text: &mut Vec<u8>, path: &[u8], line: u64, column: u64) -> Result<(), NoMemory>
     ensures { OnOk result (text.new.items ≡ text.old.items ++ position_text path.now line column) }
 {
@@ -33,7 +34,7 @@ fn put_position(text: &mut Vec<u8>, path: &[u8], line: u64, column: u64) -> Resu
     Ok(())
 }
 
-// Appends the line of a row.
+// Appends the line of `row`.
 fn put_row(text: &mut Vec<u8>, row: &LineRow) -> Result<(), NoMemory>
     ensures { OnOk result (text.new.items ≡ text.old.items ++ row_line row.now) }
 {
@@ -53,7 +54,7 @@ fn put_rows(text: &mut Vec<u8>, rows: &[LineRow]) -> Result<(), NoMemory>
     Ok(())
 }
 
-/// Appends the lines of what a line table says, if it says something.
+/// Appends the lines of the rows that a line table says are in force, if it says something.
 pub fn put_line(text: &mut Vec<u8>, said: &Option<LineAt>) -> Result<(), NoMemory>
     ensures { OnOk result (text.new.items ≡ text.old.items ++ line_lines said.now) }
 {

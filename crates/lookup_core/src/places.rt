@@ -1,4 +1,4 @@
-// The lines of the report on expressions in force.
+// The lines of the report on the expressions that are in force at the address.
 ghost use Rattle.std.specs.Prelude.{◌≡◌, ◌++◌, OnOk, flat_map, map};
 ghost use Rattle.lookup_core.specs.Report.{expression_text, place_line, places_lines};
 ghost use Rattle.range_loc_rewrite.specs.Locations.{place_said};
@@ -31,7 +31,8 @@ fn put_place_line(text: &mut Vec<u8>, entry: u64, attr: u64, x: &[u8]) -> Result
     Ok(())
 }
 
-// Appends the lines of the expressions of one attribute.
+// Appends a line for each expression of one attribute: `places`, the offset of the entry, the attribute's number, and
+// the bytes of the expression, or `-` where it has none.
 fn put_place(text: &mut Vec<u8>, place: &PlaceAt) -> Result<(), NoMemory>
     ensures { OnOk result (text.new.items ≡ text.old.items ++ places_lines (place_said place.now)) }
 {
@@ -41,7 +42,7 @@ fn put_place(text: &mut Vec<u8>, place: &PlaceAt) -> Result<(), NoMemory>
     Ok(())
 }
 
-/// Appends the lines of all places.
+/// Appends the lines of all attributes with expressions in force.
 pub fn put_places(text: &mut Vec<u8>, places: &[PlaceAt]) -> Result<(), NoMemory>
     ensures { OnOk result (text.new.items ≡ text.old.items ++ flat_map places_lines (map place_said places.now)) }
 {

@@ -1,4 +1,4 @@
-// The line of the report on how to unwind.
+// The line of the report on how to unwind. DWARF 5, section 6.4.1.
 ghost use Rattle.std.specs.Prelude.{◌≡◌, ◌++◌, OnOk, flat_map, codes, []};
 ghost use Rattle.std.specs.Option.{option_map_or};
 ghost use Rattle.lookup_core.specs.Report.{cfa_text, handler_text, register_rule, rule_text, unwind_line};
@@ -17,7 +17,7 @@ fn put_expression_bytes(text: &mut Vec<u8>, x: &Expression) -> Result<(), NoMemo
     put_bytes(text, &x.bytes)
 }
 
-// Appends how the canonical frame address is found.
+// Appends how the canonical frame address (CFA) is found.
 fn put_cfa(text: &mut Vec<u8>, cfa: &Cfa) -> Result<(), NoMemory>
     ensures { OnOk result (text.new.items ≡ text.old.items ++ cfa_text cfa.now) }
 {
@@ -34,7 +34,7 @@ fn put_cfa(text: &mut Vec<u8>, cfa: &Cfa) -> Result<(), NoMemory>
     Ok(())
 }
 
-// Appends a number with its sign, between two words.
+// Appends `before`, `n` with its sign, and `after`.
 fn put_between(text: &mut Vec<u8>, before: &[u8], n: i64, after: &[u8]) -> Result<(), NoMemory>
     ensures { OnOk result (text.new.items ≡ text.old.items ++ (before.now ++ offset_text n ++ after.now)) }
 {
@@ -44,7 +44,7 @@ fn put_between(text: &mut Vec<u8>, before: &[u8], n: i64, after: &[u8]) -> Resul
     Ok(())
 }
 
-// Appends the bytes of an expression, between two words.
+// Appends `before`, the bytes of `x`, and `after`.
 fn put_within(
     text: &mut Vec<u8>,
     before: &[u8],
@@ -59,7 +59,7 @@ fn put_within(
     Ok(())
 }
 
-// Appends a word.
+// Appends `word`.
 fn put_word(text: &mut Vec<u8>, word: &[u8]) -> Result<(), NoMemory>
     ensures { OnOk result (text.new.items ≡ text.old.items ++ word.now) }
 {
@@ -67,7 +67,7 @@ fn put_word(text: &mut Vec<u8>, word: &[u8]) -> Result<(), NoMemory>
     Ok(())
 }
 
-// Appends how the value that a register had in the caller is found.
+// Appends how the value that a register had in the caller is found, in brackets where that value stands in memory.
 fn put_rule(text: &mut Vec<u8>, rule: &Rule) -> Result<(), NoMemory>
     ensures { OnOk result (text.new.items ≡ text.old.items ++ rule_text rule.now) }
 {
@@ -103,7 +103,7 @@ fn put_rules(text: &mut Vec<u8>, rules: &[(u64, Rule)]) -> Result<(), NoMemory>
     Ok(())
 }
 
-// Appends a row, with the column of the return address.
+// Appends `row`, and the column `ra` of the return address.
 fn put_cfi_row(text: &mut Vec<u8>, row: &Row, ra: u64) -> Result<(), NoMemory>
     ensures { OnOk result (text.new.items ≡ text.old.items
         ++ (cfa_text row.now.cfa ++ codes " ra " ++ register_text ra ++ flat_map register_rule row.now.rules)) }
@@ -115,7 +115,8 @@ fn put_cfi_row(text: &mut Vec<u8>, row: &Row, ra: u64) -> Result<(), NoMemory>
     Ok(())
 }
 
-// Appends the address of a handler, if there is one. A `*` before it says that the handler's address stands there.
+// Appends `handler`, unless it is 0, which is none: the address of the personality routine, or, with a `*` before it,
+// an address at which that address stands.
 fn put_handler(text: &mut Vec<u8>, handler: u64, indirect: bool) -> Result<(), NoMemory>
     ensures { OnOk result (text.new.items ≡ text.old.items ++ handler_text handler indirect) }
 {
@@ -128,7 +129,7 @@ fn put_handler(text: &mut Vec<u8>, handler: u64, indirect: bool) -> Result<(), N
     Ok(())
 }
 
-// Appends the line of what a table says.
+// Appends the line of what an unwind table says.
 fn put_unwind(text: &mut Vec<u8>, x: &FrameAt) -> Result<(), NoMemory>
     ensures { OnOk result (text.new.items ≡ text.old.items ++ unwind_line x.now) }
 {
@@ -141,7 +142,7 @@ fn put_unwind(text: &mut Vec<u8>, x: &FrameAt) -> Result<(), NoMemory>
     Ok(())
 }
 
-/// Appends the line on how to unwind, if a table says something.
+/// Appends the line of what an unwind table says, if it says something.
 pub fn put_frame(text: &mut Vec<u8>, said: &Option<FrameAt>) -> Result<(), NoMemory>
     ensures { OnOk result (text.new.items ≡ text.old.items ++ option_map_or unwind_line said.now []) }
 {

@@ -12,19 +12,19 @@ use Rattle.map_check.specs.Lacking.{LacksAt}
 abbrev pub IsMiscounted : List Func → List Span → ℕ → Type 0
 IsMiscounted funcs spans a = count_by (is_of a) spans ≢ (if is_code_address funcs a then 1 else 0)
 
--- one of its spans has bytes, and an odd address or 0
+-- one of the spans of `a` has bytes, and an odd address or 0
 abbrev pub IsMisplaced : List Span → ℕ → Type 0
 IsMisplaced spans a = LacksAt IsPlaced (λ s. s.input) spans a
 
--- one of two spans is that of an address
+-- one of the two spans is that of `a`
 abbrev pub IsOneOf : ℕ → Span → Span → Type 0
 IsOneOf a s t = (s.input ≡ a) ⊎ (t.input ≡ a)
 
--- one of its spans shares a byte with another span
+-- one of the spans of `a` shares a byte with another span
 abbrev pub IsSharing : List Span → ℕ → Type 0
 IsSharing spans a = AllPairs (λ s t. IsOneOf a s t → ShareNoByte s t) spans → ⊥
 
--- it is named, and one of its spans is empty
+-- `a` is named, and one of its spans is empty
 abbrev pub IsLeftOut : ProgramCode → List Span → ℕ → Type 0
 IsLeftOut code spans a = IsNamed code a × LacksAt (λ s. 0 < s.len) (λ s. s.input) spans a
 

@@ -73,7 +73,7 @@ number_of clause.Byte = 7
 number_of clause.Cell = 8
 number_of clause.Table = 9
 
--- the first false clause, at its lowest place, where a set says at which places each one is false
+-- the first false clause, at its lowest place; `IsFalse` says at which places each clause is false
 pub record IsFirstFalse (IsFalse : Clause → ℕ → Type 0) (which : Clause) (place : ℕ) : Type 0 where
   pub present : IsFalse which place
   pub first : (other : Clause) (p : ℕ) → number_of other < number_of which → IsFalse other p → ⊥

@@ -1,4 +1,4 @@
-// Bytes that the input loads.
+// Clause `Byte`: whether the output keeps the bytes that the input loads.
 ghost use Rattle.std.specs.Prelude.{◌≡◌, ◌↔◌, ◌<◌, ◌≤◌, ◌^◌, ℕ, All, IsTrue, length, slice_index, true};
 ghost use Rattle.elf_image.specs.declared.segment.TheConstants.{PF_R, PF_W, PF_X};
 ghost use Rattle.elf_image.specs.faults.LowestPlace.{IsLowest, SomeBelow};
@@ -26,7 +26,8 @@ fn same_flags(from: &Segment, to: &Segment) -> bool
         && from.has_flag(PF_X) == to.has_flag(PF_X)
 }
 
-// Whether the byte at an address is kept, if the input loads one there.
+// Whether the byte at `a` is kept, if the input loads one there: it has the same rights, and the same value unless it
+// may change.
 fn is_kept(input: &Elf, output: &Elf, changes: Changes, a: u64) -> bool
     requires { AreApart changes.cells.now }
     ensures { (r : Rewrite) → AreBytesOf r input.now output.now → AreChangesOf r changes.entry →
@@ -49,7 +50,7 @@ fn is_kept(input: &Elf, output: &Elf, changes: Changes, a: u64) -> bool
     may_change(input, changes, a)
 }
 
-// Whether both have a zero at an address, past the bytes that come from their files.
+// Whether `a` lies in both segments behind the bytes that come from the file, so that both have a zero there.
 fn are_zeros(from: &Segment, to: &Segment, a: u64) -> bool
     requires one { IsTrue (loads_address a from.now) }
     requires two { IsTrue (loads_address a to.now) }
@@ -58,7 +59,7 @@ fn are_zeros(from: &Segment, to: &Segment, a: u64) -> bool
     a - from.vaddr >= from.filesz && a - to.vaddr >= to.filesz
 }
 
-// The end of the segment that ends first, of two that load an address.
+// Where the first of two segments ends that load `a`.
 fn first_end(from: &Segment, to: &Segment, a: u64) -> u64
     requires one { IsTrue (loads_address a from.now) }
     requires two { IsTrue (loads_address a to.now) }
@@ -72,7 +73,7 @@ fn first_end(from: &Segment, to: &Segment, a: u64) -> u64
     a.saturating_add(left.min(other))
 }
 
-// How many bytes of two lists are the same, from their fronts on.
+// How many bytes at the fronts of both lists are the same.
 fn common_length(left: &[u8], right: &[u8]) -> usize
     ensures within { result ≤ length left.now }
     ensures bound { result ≤ length right.now }
@@ -87,8 +88,9 @@ fn common_length(left: &[u8], right: &[u8]) -> usize
     most
 }
 
-// From an address on at which the byte is kept, an address up to which all are: within both segments, as far as both
-// have zeros past the bytes that come from their files, or as far as these bytes are the same.
+// An address behind `a` up to which all bytes are kept, if that at `a` is: within both segments, as far as they have
+// zeros behind the bytes that come from the file, or as far as those are the same. So huge segments of zeros take one
+// step.
 fn kept_up_to(input: &Elf, output: &Elf, a: u64) -> u64
     requires inside { a < 2 ^ 63 }
     ensures above { a < result }
@@ -126,7 +128,7 @@ fn lowest_in(input: &Elf, output: &Elf, changes: Changes, start: u64, end: u64) 
     None
 }
 
-// The lowest address of a segment at which the byte isn't kept.
+// The lowest address of `segment` at which the byte isn't kept.
 fn lowest_in_segment(input: &Elf, output: &Elf, changes: Changes, segment: &Segment) -> Option<u64>
     requires apart { AreApart changes.cells.now }
     requires inside { has_memory segment.now ≡ true → end_of segment.now ≤ 2 ^ 63 }
@@ -140,7 +142,7 @@ fn lowest_in_segment(input: &Elf, output: &Elf, changes: Changes, segment: &Segm
     lowest_in(input, output, changes, segment.vaddr, end)
 }
 
-// The lowest address of some segments at which the byte isn't kept.
+// The lowest address of `segments` at which the byte isn't kept.
 fn lowest_over(input: &Elf, output: &Elf, changes: Changes, segments: &[Segment]) -> Option<u64>
     requires apart { AreApart changes.cells.now }
     requires inside { All (λ p. has_memory p ≡ true → end_of p ≤ 2 ^ 63) segments.now }

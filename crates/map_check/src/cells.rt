@@ -1,4 +1,4 @@
-// What code cells and the field of the entry point hold.
+// Clause `Cell`: whether code cells and the loaded field of the entry point hold their new values.
 ghost use Rattle.std.specs.Prelude.{◌≡◌, ◌↔◌, ◌%◌, ◌^◌, All, IfNone, IsTrue, Some};
 ghost use Rattle.std.specs.List.Sorted.{IsNonDecreasingBy};
 ghost use Rattle.rv_code.specs.isa.TwosComplement.{unsigned64};
@@ -25,14 +25,14 @@ use elf_image::Elf;
 use elf_image::lowest::{lower, place_if};
 use rv_code::{CellKind, CodeCell};
 
-// How far one address is from another, as a number of 64 bits.
+// How far `to` is from `from`, as a number of 64 bits in two's complement.
 fn difference(to: u64, from: u64) -> u64
     ensures { result ≡ unsigned64 (distance to from) }
 {
     to.wrapping_sub(from)
 }
 
-// The new value of what a cell holds.
+// The new value of what a cell holds: an address, or the distance between two.
 fn number_of(table: &[Span], kind: &CellKind) -> u64
     requires { IsNonDecreasingBy (λ s. s.input) table.now }
     ensures { (r : Rewrite) (output : Elf) → IsChecked r output table.now →
@@ -44,7 +44,7 @@ fn number_of(table: &[Span], kind: &CellKind) -> u64
     }
 }
 
-// What of a number fits a cell's width.
+// The low bytes of `number` that fit the width of `cell`, 4 or 8 bytes.
 fn cut(number: u64, cell: &CodeCell) -> u64
     requires { HasWidth cell.now }
     ensures { result ≡ number % 256 ^ cell.now.width }
@@ -70,7 +70,7 @@ fn keeps_cell(output: &Elf, table: &[Span], cell: &CodeCell) -> bool
     }
 }
 
-// The lowest address of a cell that doesn't hold its new value.
+// The lowest address of one of `cells` that doesn't hold its new value.
 fn lowest_unkept(output: &Elf, table: &[Span], cells: &[CodeCell]) -> Option<u64>
     requires low { IsLow output.now }
     requires sorted { IsNonDecreasingBy (λ s. s.input) table.now }
@@ -87,7 +87,7 @@ fn lowest_unkept(output: &Elf, table: &[Span], cells: &[CodeCell]) -> Option<u64
     lowest
 }
 
-// Whether the eight bytes at an address are the entry point.
+// Whether the eight bytes at `address` are the output's entry point.
 fn holds_entry(output: &Elf, address: u64) -> bool
     requires { IsLow output.now }
     ensures { IsTrue result ↔ (number_in (memory_of (executable_read output.now)) address 8 ≡ Some output.now.entry) }

@@ -23,14 +23,14 @@ pub struct Changes<'a> {
     pub headers: Headers,
 }
 
-// Whether a cell has the byte at an address.
+// Whether the byte at `a` is one of `cell`.
 fn has_byte(cell: &CodeCell, a: u64) -> bool
     ensures { result ≡ is_in_range a (code_cell_range cell.now) }
 {
     cell.addr <= a && a - cell.addr < cell.width as u64
 }
 
-// Whether the field of the entry point, which is loaded at `entry`, has the byte at an address.
+// Whether the byte at `a` is one of the eight of the field of the entry point, which is loaded at `entry`.
 fn in_entry(entry: Option<u64>, a: u64) -> bool
     ensures { result ≡ in_entry entry a }
 {
@@ -40,7 +40,7 @@ fn in_entry(entry: Option<u64>, a: u64) -> bool
     }
 }
 
-// How many cells begin at an address or below it.
+// How many cells begin at `a` or below it.
 fn count_up_to(cells: &[CodeCell], a: u64) -> usize
     requires { IsNonDecreasingBy (λ c. c.addr) cells.now }
     ensures bound { result ≤ length cells.now }
@@ -51,7 +51,7 @@ fn count_up_to(cells: &[CodeCell], a: u64) -> usize
     cells.partition_point(|c| c.addr <= a)
 }
 
-// Whether one of these cells has the byte at an address.
+// Whether the byte at `a` is one of a cell.
 fn in_cells(cells: &[CodeCell], a: u64) -> bool
     requires { AreApart cells.now }
     ensures { result ≡ list_any (λ cell. is_in_range a (code_cell_range cell)) cells.now }
@@ -63,14 +63,14 @@ fn in_cells(cells: &[CodeCell], a: u64) -> bool
     has_byte(&cells[above - 1], a)
 }
 
-// As a function it is one case for the proof of its caller.
+// Whether one of the three holds. It is a function so that the proof of its caller has one case in place of eight.
 fn any_of(a: bool, b: bool, c: bool) -> bool
     ensures { result ≡ (a || b || c) }
 {
     a || b || c
 }
 
-/// Whether the byte at an address may change.
+/// Whether the byte at `a` may change.
 pub fn may_change(input: &Elf, changes: Changes, a: u64) -> bool
     requires { AreApart changes.cells.now }
     ensures { (r : Rewrite) → r.input ≡ input.now → AreChangesOf r changes.entry → result ≡ may_change r a }

@@ -30,8 +30,9 @@ use rv_code::Func;
 use rv_reloc::Refs;
 use std::alloc::Global;
 
-/// Whether an output and the text of a map are a faithful rewrite of an input with this code, and else the first clause
-/// that is false, at its lowest place. `tight` says whether the input has no room behind its executable segment.
+/// Whether `output` and the text `map` are a faithful rewrite of `input`, whose code `funcs` and `refs` are, or else
+/// the first clause that is false, at its lowest place. `tight` says that the input has no room behind its executable
+/// segment.
 pub fn check(
     alloc: Global,
     input: &Elf,
@@ -60,7 +61,7 @@ pub fn check(
     }
 }
 
-// The clauses on a map that was read.
+// Clause `MapSpan`, of the spans of a map that was read, and those after it.
 fn check_spans(
     alloc: Global,
     input: &Elf,
@@ -89,7 +90,7 @@ fn check_spans(
     }
 }
 
-// The clauses on code, and those after them.
+// The clauses from `SpanBytes` to `Entry`, on code, and those after them. `table` are the spans by their inputs.
 fn check_code(
     input: &Elf,
     funcs: &[Func],
@@ -121,7 +122,7 @@ fn check_code(
     check_memory(input, refs, tight, output, table)
 }
 
-// The clauses on memory and on what a program finds of its layout.
+// The clauses from `Byte` to `Table`, on memory and on what a program finds of its layout.
 fn check_memory(input: &Elf, refs: &Refs, tight: bool, output: &Elf, table: &[Span]) -> Verdict
     requires ready { AreReady input.now refs.now.cells.items output.now }
     requires sorted { IsNonDecreasingBy (λ s. s.input) table.now }

@@ -1,4 +1,4 @@
-// Bytes of an output's code.
+// Which bytes of an output are code.
 ghost use Rattle.std.specs.Prelude.{◌↔◌, IsTrue};
 ghost use Rattle.elf_image.specs.memory.Executables.{AreCodeBytes, IsCodeByte, executable_read};
 ghost use Rattle.code_starts.specs.LoadedMemory.{IsLow};
@@ -6,7 +6,7 @@ ghost use Rattle.code_starts.specs.LoadedMemory.{IsLow};
 use elf_image::Elf;
 use elf_image::segment::{PF_W, PF_X};
 
-// Whether the byte at an address is loaded, may be executed and may not be written.
+// Whether the byte at `address` is loaded, may be executed and may not be written.
 fn is_code_byte(elf: &Elf, address: u64) -> bool
     ensures { IsTrue result ↔ IsCodeByte (executable_read elf.now) address }
 {
@@ -16,7 +16,7 @@ fn is_code_byte(elf: &Elf, address: u64) -> bool
     }
 }
 
-/// Whether so many bytes from an address on are loaded, may be executed and may not be written.
+/// Whether the `len` bytes from `start` on are loaded, may be executed and may not be written.
 pub fn are_code_bytes(elf: &Elf, start: u64, len: u8) -> bool
     requires { IsLow elf.now }
     ensures { IsTrue result ↔ AreCodeBytes (executable_read elf.now) start len }

@@ -1,4 +1,4 @@
-// Whether spans lie in the code of the output.
+// Clause `SpanBytes`: whether spans lie in the code of the output.
 ghost use Rattle.std.specs.Prelude.{ℕ, All, IfNone};
 ghost use Rattle.elf_image.specs.faults.LowestPlace.{IsLowest};
 ghost use Rattle.elf_image.specs.memory.Executables.{AreCodeBytes, executable_read};

@@ -1,4 +1,4 @@
-// Single instructions of a rewrite: where they are, and branches.
+// The instruction that stands in a span, and branches.
 ghost use Rattle.std.specs.Prelude.{◌≡◌, ◌↔◌, ℕ, IsTrue};
 ghost use Rattle.std.specs.List.Sorted.{IsNonDecreasingBy};
 ghost use Rattle.rv_code.specs.declared.placed.Placed.{Placed};
@@ -16,11 +16,13 @@ use elf_image::Elf;
 use rv_code::flow::moved_by;
 use rv_code::{Action, Inst, Placed, Test};
 
-/// An instruction of the output, where it stands, and its width.
+/// An instruction of the output.
 #[derive(Clone, Copy)]
 pub struct Found {
+    /// Its address.
     pub out: u64,
     pub inst: Inst,
+    /// How many bytes it has: 2 or 4.
     pub width: u8,
 }
 
@@ -35,7 +37,7 @@ pub fn new_of(table: &[Span], a: u64) -> u64
     }
 }
 
-/// The instruction in the span of one of the input.
+/// The instruction at the start of the span of `p`, if it stands in code and doesn't end behind the span.
 pub fn found_in_span(output: &Elf, table: &[Span], p: &Placed) -> Option<Found>
     requires low { IsLow output.now }
     requires sorted { IsNonDecreasingBy (λ s. s.input) table.now }
@@ -53,7 +55,7 @@ pub fn found_in_span(output: &Elf, table: &[Span], p: &Placed) -> Option<Found>
     })
 }
 
-/// Whether control gets from a place to the next instruction, if there is one.
+/// Whether control gets from `from` to where the instruction at `next` went, if there is one.
 pub fn gets_to(output: &Elf, table: &[Span], from: u64, next: Option<u64>) -> bool
     requires low { IsLow output.now }
     requires sorted { IsNonDecreasingBy (λ s. s.input) table.now }
@@ -78,7 +80,8 @@ fn leads(output: &Elf, table: &[Span], yes: u64, no: u64, target: u64, next: Opt
     there && on
 }
 
-// Whether an instruction branches on this test of these registers or on its opposite, and its distance.
+// If `inst` branches on `test` of the registers `rs1` and `rs2` or on the opposite: whether it branches where the test
+// holds, and how far.
 fn branch_of(inst: &Inst, test: Test, rs1: u8, rs2: u8) -> Option<(bool, i64)>
     ensures { FindsBranch test rs1 rs2 inst.now result }
 {
@@ -100,7 +103,9 @@ fn branch_of(inst: &Inst, test: Test, rs1: u8, rs2: u8) -> Option<(bool, i64)>
     }
 }
 
-/// Whether a branch is kept: it, or one of opposite sense with a jump behind it, leads where it led.
+/// Whether the branch `p` is kept: the one in its span, which may have the opposite sense, leads to where `target` went
+/// on one way and to where the instruction at `next` went on the other. `wanted` says whether `p` branches where `test`
+/// holds.
 pub fn keeps_branch(
     output: &Elf,
     table: &[Span],

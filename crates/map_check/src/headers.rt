@@ -1,4 +1,5 @@
-// Fields of a file's headers that a rewriting changes.
+// Hidden fields: those of a file's headers that a rewrite changes, and a program mustn't depend on. gABI, "ELF Header"
+// and "Program Header".
 ghost use Rattle.std.specs.Prelude.{Bool, ◌≡◌, ◌≤◌, ◌<◌, ◌+◌, ◌*◌, ◌⊎◌, ◌||◌, IfNone, IfSome, length, nat_le};
 ghost use Rattle.std.specs.List.{enumerate_from, flat_map, list_any};
 ghost use Rattle.elf_image.specs.declared.elf.Elf.{Elf};
@@ -16,7 +17,7 @@ use elf_image::segment::{P_ALIGN, P_FILESZ, P_OFFSET, PHDR_SIZE, PT_GNU_EH_FRAME
 use elf_image::{Elf, Segment};
 use sym_machine::entry_address;
 
-/// What tells which fields of a file's headers are hidden.
+/// What tells which fields of the input's headers are hidden.
 #[derive(Clone, Copy)]
 pub struct Headers {
     /// Whether the file has no room behind its executable segment.
@@ -41,14 +42,14 @@ impl Headers {
     }
 }
 
-// Whether the field of `size` bytes from `start` on has an offset.
+// Whether `offset` lies in the field of `size` bytes from the offset `start` on.
 fn has(start: u128, size: u64, offset: u128) -> bool
     ensures { result ≡ is_in_range offset (record { start = start; size = size }) }
 {
     start <= offset && offset - start < size as u128
 }
 
-// Whether other fields have an offset, as `found` says, or this one, if it is hidden.
+// `found`, or whether `offset` lies in the field of `size` bytes from the offset `start` on, if that is hidden.
 fn or_has(found: bool, is_hidden: bool, start: u128, size: u64, offset: u128) -> bool
     ensures { result
         ≡ (found || list_any (is_in_range offset) (only is_hidden (record { start = start; size = size }))) }
@@ -64,7 +65,7 @@ fn table_moves(elf: &Elf, headers: &Headers) -> bool
     headers.tight || executable_end(headers.executable) <= elf.phoff as u128
 }
 
-// Whether an offset is one of the fields of the file's header that say where the section headers are.
+// Whether `offset` lies in a field of the ELF header that says where the section headers are. They are always hidden.
 fn in_section_fields(offset: u128) -> bool
     ensures { result ≡ list_any (is_in_range offset) section_fields }
 {
@@ -73,7 +74,7 @@ fn in_section_fields(offset: u128) -> bool
         || has(E_SHSTRNDX as u128, 2, offset)
 }
 
-// Whether an offset is one of a hidden field of the file's header.
+// Whether `offset` lies in a hidden field of the ELF header.
 fn in_file_header(elf: &Elf, headers: &Headers, offset: u128) -> bool
     ensures { (tight : Bool) → AreHeadersOf elf.now tight headers.now →
         result ≡ list_any (is_in_range offset) (file_fields elf.now tight) }
@@ -91,7 +92,7 @@ fn in_file_header(elf: &Elf, headers: &Headers, offset: u128) -> bool
     )
 }
 
-// Whether the bytes of a segment stand behind those of the executable one.
+// Whether the bytes of the segment `p` stand in the file behind those of the executable one.
 fn is_behind(headers: &Headers, p: &Segment) -> bool
     ensures { (elf : Elf) (tight : Bool) → AreHeadersOf elf tight headers.now →
         result ≡ nat_le (executable_end elf.segments.items) p.now.offset }
@@ -99,7 +100,8 @@ fn is_behind(headers: &Headers, p: &Segment) -> bool
     executable_end(headers.executable) <= p.offset as u128
 }
 
-// Whether an offset is one of a hidden field of the program header of an index.
+// Whether `offset` lies in a hidden field of the program header `p`, at `index`: p_filesz and p_memsz of the executable
+// segment, p_offset of one behind it, and of the unwind table's index all fields from p_offset to p_memsz.
 fn in_program_header(elf: &Elf, headers: &Headers, index: usize, p: &Segment, offset: u128) -> bool
     ensures { (tight : Bool) → AreHeadersOf elf.now tight headers.now →
         result ≡ list_any (is_in_range offset) (hidden_in_segment elf.now (index, p.now)) }
@@ -124,7 +126,7 @@ fn in_program_header(elf: &Elf, headers: &Headers, index: usize, p: &Segment, of
     )
 }
 
-// The index of the program header that has an offset.
+// The index of the program header in which `offset` lies.
 fn index_at(elf: &Elf, offset: u128) -> Option<usize>
     ensures within { IfSome result (λ i. i < length elf.now.segments.items) }
     ensures from { IfSome result (λ i. elf.now.phoff + PHDR_SIZE * i ≤ offset) }
@@ -141,7 +143,7 @@ fn index_at(elf: &Elf, offset: u128) -> Option<usize>
     }
 }
 
-// Whether an offset is one of a hidden field of the program headers.
+// Whether `offset` lies in a hidden field of the program headers.
 fn in_program_headers(elf: &Elf, headers: &Headers, offset: u128) -> bool
     ensures { (tight : Bool) → AreHeadersOf elf.now tight headers.now →
         result ≡ list_any (is_in_range offset)
@@ -153,7 +155,7 @@ fn in_program_headers(elf: &Elf, headers: &Headers, offset: u128) -> bool
     }
 }
 
-// Whether an offset is one of a hidden field.
+// Whether `offset` lies in a hidden field.
 fn is_hidden(elf: &Elf, headers: &Headers, offset: u128) -> bool
     ensures { (tight : Bool) → AreHeadersOf elf.now tight headers.now →
         result ≡ list_any (is_in_range offset) (hidden_fields elf.now tight) }
@@ -161,7 +163,7 @@ fn is_hidden(elf: &Elf, headers: &Headers, offset: u128) -> bool
     in_file_header(elf, headers, offset) || in_program_headers(elf, headers, offset)
 }
 
-/// Whether the byte at an address is one of a hidden field.
+/// Whether the byte at `address` is one of a hidden field.
 pub fn is_hidden_field(elf: &Elf, headers: &Headers, address: u64) -> bool
     ensures { (tight : Bool) → AreHeadersOf elf.now tight headers.now →
         result ≡ is_hidden_field elf.now tight address }

@@ -1,4 +1,4 @@
-// All instructions of the input.
+// Clauses `Instruction` and `Next`, over all instructions of the input.
 ghost use Rattle.std.specs.Prelude.{◌≡◌, ◌+◌, ◌<◌, ◌↔◌, ℕ, Contains, IsTrue, length, slice_index_or};
 ghost use Rattle.std.specs.List.Sorted.{IsNonDecreasingBy};
 ghost use Rattle.rv_code.specs.declared.placed.Placed.{Placed};
@@ -20,7 +20,7 @@ use elf_image::lowest::{lower, place_if};
 use rv_code::flow::is_call;
 use rv_code::{Func, Placed};
 
-// The address of the instruction after the i-th of a function.
+// The address of the instruction behind the one at the index `i` of a function, if there is one.
 fn next_in(func: &Func, i: usize) -> Option<u64>
     requires { i < length func.now.insts.items }
     ensures { result ≡ addr_at func.now.insts.items (i + 1) }
@@ -32,7 +32,8 @@ fn next_in(func: &Func, i: usize) -> Option<u64>
     }
 }
 
-// The address of the instruction to which control goes after the i-th of a function. The map has each instruction.
+// The address of the instruction to which control goes on after the one at the index `i` of a function, if there is
+// one: after a call within the function, else wherever one stands, which the map tells, since it has them all.
 fn next_at(table: &[Span], func: &Func, i: usize) -> Option<u64>
     requires inside { i < length func.now.insts.items }
     requires sorted { IsNonDecreasingBy (λ s. s.input) table.now }
@@ -52,13 +53,13 @@ fn next_at(table: &[Span], func: &Func, i: usize) -> Option<u64>
 /// What is asked of each instruction of the input.
 #[derive(Clone, Copy)]
 pub enum Demand {
-    /// That it is kept.
+    /// That the instruction is kept.
     Kept,
-    /// That control goes on from its end to what followed it.
+    /// That control goes on from the end of its new code to what followed it.
     Followed,
 }
 
-// Whether an instruction is as is asked, where `next` is the address of the one to which control goes after it.
+// Whether `p` meets `demand`. `next` is the address of the instruction to which control goes on after it.
 fn meets(demand: Demand, output: &Elf, table: &[Span], p: &Placed, next: Option<u64>) -> bool
     requires low { IsLow output.now }
     requires sorted { IsNonDecreasingBy (λ s. s.input) table.now }
@@ -86,7 +87,7 @@ fn lowest_unmet_in(demand: Demand, output: &Elf, table: &[Span], func: &Func) ->
     lowest
 }
 
-/// The lowest address of an instruction that isn't as is asked.
+/// The lowest address of an instruction that doesn't meet `demand`.
 pub fn lowest_unmet(demand: Demand, output: &Elf, table: &[Span], funcs: &[Func]) -> Option<u64>
     requires low { IsLow output.now }
     requires sorted { IsNonDecreasingBy (λ s. s.input) table.now }

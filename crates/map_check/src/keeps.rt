@@ -17,7 +17,7 @@ use elf_image::Elf;
 use rv_code::flow::{is_branch, is_plain_jump, moved_by};
 use rv_code::{Action, Inst, Placed, ZERO};
 
-// Whether an instruction at a place is a JAL that writes this register, and leads to another place.
+// Whether `inst`, at `from`, is a JAL that writes the register `rd` and leads to `to`.
 fn calls_to(inst: &Inst, rd: u8, from: u64, to: u64) -> bool
     ensures { result ≡ calls_to inst.now rd from to }
 {
@@ -27,7 +27,8 @@ fn calls_to(inst: &Inst, rd: u8, from: u64, to: u64) -> bool
     }
 }
 
-// Whether a JAL that saves a return address in `rd` is kept.
+// Whether the JAL `p`, which saves a return address in `rd`, is kept: its span has one that saves it in `rd` too, and
+// leads to where `target` went.
 fn keeps_call(output: &Elf, table: &[Span], p: &Placed, rd: u8, target: u64) -> bool
     requires low { IsLow output.now }
     requires sorted { IsNonDecreasingBy (λ s. s.input) table.now }
@@ -39,7 +40,8 @@ fn keeps_call(output: &Elf, table: &[Span], p: &Placed, rd: u8, target: u64) -> 
     }
 }
 
-// Whether a JAL is kept.
+// Whether the JAL `p` is kept. Of one that saves nothing it is asked only that control gets from its span to where its
+// target went, so its span may be empty.
 fn keeps_jump(output: &Elf, table: &[Span], p: &Placed, rd: u8, imm: i64) -> bool
     requires low { IsLow output.now }
     requires sorted { IsNonDecreasingBy (λ s. s.input) table.now }
@@ -56,7 +58,7 @@ fn keeps_jump(output: &Elf, table: &[Span], p: &Placed, rd: u8, imm: i64) -> boo
     }
 }
 
-/// Whether an instruction is kept, where `next` is the address of the one to which control goes after it.
+/// Whether the instruction `p` is kept. `next` is the address of the one to which control goes on after it.
 pub fn keeps_inst(output: &Elf, table: &[Span], p: &Placed, next: Option<u64>) -> bool
     requires low { IsLow output.now }
     requires sorted { IsNonDecreasingBy (λ s. s.input) table.now }
@@ -79,7 +81,8 @@ pub fn keeps_inst(output: &Elf, table: &[Span], p: &Placed, next: Option<u64>) -
     }
 }
 
-/// Whether control goes on from the end of an instruction to the one after it, where that is asked.
+/// Whether control goes on from the end of the new instruction for `p` to where the one at `next` went. Of jumps and
+/// branches that isn't asked: where they lead is asked of their being kept.
 pub fn goes_on(output: &Elf, table: &[Span], p: &Placed, next: Option<u64>) -> bool
     requires low { IsLow output.now }
     requires sorted { IsNonDecreasingBy (λ s. s.input) table.now }

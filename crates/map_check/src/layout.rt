@@ -1,4 +1,4 @@
-// What a program finds of the layout of its file.
+// Clause `Table`: what a program finds of the layout of its file.
 ghost use Rattle.std.specs.Prelude.{◌≡◌, ◌↔◌, IsTrue};
 ghost use Rattle.elf_image.specs.file.ParsedFile.{IsElfOf};
 ghost use Rattle.elf_image.specs.memory.Break.{break_bound, break_start, page_size, rounded_down, table_address};
@@ -10,7 +10,7 @@ use elf_image::segment::{PHDR_SIZE, range_segment};
 use elf_image::start::{BREAK_ROOM, PAGE_SIZE, writable_end};
 use elf_image::{Elf, Segment};
 
-// Where the table of program headers is loaded, 0 where no segment loads it from the file.
+// The address at which the table of program headers is loaded; 0 where no segment loads it whole from the file.
 fn table_address(elf: &Elf) -> u128
     requires { IsElfOf elf.now.file.now elf.now }
     ensures { result ≡ table_address elf.now.file.now }
@@ -29,7 +29,7 @@ fn rounded_down(address: u64) -> u64
     address / PAGE_SIZE * PAGE_SIZE
 }
 
-// Where the break starts: at the end of the highest writable segment, on a whole page.
+// Where the break starts: at the end of the highest writable segment, rounded up to a page.
 fn break_start(segments: &[Segment]) -> u128
     ensures { result ≡ break_start segments.now }
 {
@@ -37,7 +37,8 @@ fn break_start(segments: &[Segment]) -> u128
     (writable_end(segments) + (page - 1)) / page * page
 }
 
-// How far the break may go.
+// The address up to which the break may go: `BREAK_ROOM` behind its start, or less where a segment's page begins
+// before.
 fn break_bound(segments: &[Segment]) -> u128
     ensures { result ≡ break_bound segments.now }
 {

@@ -1,4 +1,5 @@
-// Named instructions that a map leaves out.
+// Instructions that something names, and that a map leaves out. An instruction without bytes has no address of its own,
+// so nothing may name it.
 ghost use Rattle.std.specs.Prelude.{◌≡◌, IsTrue, List};
 ghost use Rattle.std.specs.List.Sorted.{IsNonDecreasingBy};
 ghost use Rattle.rv_code.specs.declared.placed.Func.{Func};
@@ -11,7 +12,7 @@ use addr_map::Span;
 use elf_image::lowest::{lower, place_if};
 use rv_code::{CellKind, CodeCell, Role};
 
-// Whether the first span of an instruction has no bytes.
+// Whether the first span of the instruction at `a` has no bytes.
 fn is_empty_at(sorted: &[Span], a: u64) -> bool
     requires { IsNonDecreasingBy (λ s. s.input) sorted.now }
     ensures { result ≡ is_empty_at sorted.now a }
@@ -22,7 +23,7 @@ fn is_empty_at(sorted: &[Span], a: u64) -> bool
     }
 }
 
-// The address, if it is one of an empty span.
+// `a`, if the span of the instruction there has no bytes.
 fn empty_at(sorted: &[Span], a: u64) -> Option<u64>
     requires { IsNonDecreasingBy (λ s. s.input) sorted.now }
     ensures { IsLowest (λ b. (a ≡ b) × IsTrue (is_empty_at sorted.now b)) result }
@@ -30,7 +31,7 @@ fn empty_at(sorted: &[Span], a: u64) -> Option<u64>
     place_if(is_empty_at(sorted, a), a)
 }
 
-// The lowest address that a role names and that has an empty span.
+// The address that `role` names, if it has an empty span.
 fn lowest_of_role(sorted: &[Span], role: &Role) -> Option<u64>
     requires { IsNonDecreasingBy (λ s. s.input) sorted.now }
     ensures { IsLowest (λ a. RoleNames role.now a × IsTrue (is_empty_at sorted.now a)) result }
@@ -46,7 +47,7 @@ fn lowest_of_role(sorted: &[Span], role: &Role) -> Option<u64>
     }
 }
 
-// The lowest address that a cell names and that has an empty span.
+// The lowest address that a cell of the kind `kind` names and that has an empty span.
 fn lowest_of_cell(sorted: &[Span], kind: &CellKind) -> Option<u64>
     requires { IsNonDecreasingBy (λ s. s.input) sorted.now }
     ensures { IsLowest (λ a. KindNames kind.now a × IsTrue (is_empty_at sorted.now a)) result }
@@ -83,7 +84,7 @@ fn lowest_of_cells(sorted: &[Span], cells: &[CodeCell]) -> Option<u64>
     lowest
 }
 
-/// The lowest address that something holds and that has an empty span.
+/// The lowest address that a role, a cell or the entry point names and that has an empty span.
 pub fn lowest_left_out(
     sorted: &[Span],
     roles: &[(u64, Role)],

@@ -1,4 +1,4 @@
-// Numbers of a map's lines: without a zero before another digit.
+// Numbers in the lines of a map, which have no zeros in front.
 ghost use Rattle.std.specs.Prelude.{◌≡◌, ◌==◌, ◌++◌, ◌∷◌, ◌<◌, ◌^◌, ℕ, List, All, IfSome, IfNone, false, decimal};
 ghost use Rattle.rb_bytes.specs.Text.{hexadecimal, is_lower_hex_digit};
 ghost use Rattle.map_check.specs.internal.LineNumbers.{has_leading_zero};
@@ -6,14 +6,14 @@ ghost use Rattle.map_check.specs.internal.LineNumbers.{has_leading_zero};
 use rb_bytes::number::{decimal_number, hex_number};
 use rb_bytes::split::split_once;
 
-// Whether another digit follows a zero in front.
+// Whether a zero stands in front of other digits.
 fn has_leading_zero(digits: &[u8]) -> bool
     ensures { result ≡ has_leading_zero digits.now }
 {
     digits.len() > 1 && digits[0] == b'0'
 }
 
-// The number whose hexadecimal text this is.
+// The number below 2^64 whose hexadecimal text `digits` is.
 fn hex_of(digits: &[u8]) -> Option<u64>
     ensures some { IfSome result (λ n. digits.now ≡ hexadecimal n) }
     ensures small { IfSome result (λ n. n < 2 ^ 64) }
@@ -25,7 +25,7 @@ fn hex_of(digits: &[u8]) -> Option<u64>
     hex_number(digits)
 }
 
-/// The number below 256 whose decimal text this is.
+/// The number below 256 whose decimal text `digits` is.
 pub fn byte_of(digits: &[u8]) -> Option<u8>
     ensures some { IfSome result (λ n. digits.now ≡ decimal n) }
     ensures small { IfSome result (λ n. n < 256) }
@@ -41,7 +41,7 @@ pub fn byte_of(digits: &[u8]) -> Option<u8>
     Some(number as u8)
 }
 
-/// The number in hexadecimal before the first such byte, and what follows that byte.
+/// The number in hexadecimal before the first byte `end`, and what follows that byte.
 pub fn hex_before(text: &[u8], end: u8) -> Option<(u64, &[u8])>
     requires { is_lower_hex_digit end ≡ false }
     ensures some { IfSome result (λ p. text.now ≡ hexadecimal p.0 ++ end ∷ p.1.now) }
@@ -53,7 +53,7 @@ pub fn hex_before(text: &[u8], end: u8) -> Option<(u64, &[u8])>
     Some((number, rest))
 }
 
-/// The number below 256 in decimal before the first such byte, and what follows that byte.
+/// The number below 256 in decimal before the first byte `end`, and what follows that byte.
 pub fn byte_before(text: &[u8], end: u8) -> Option<(u8, &[u8])>
     requires { is_lower_hex_digit end ≡ false }
     ensures some { IfSome result (λ p. text.now ≡ decimal p.0 ++ end ∷ p.1.now) }

@@ -1,4 +1,5 @@
-// Single instructions of a rewrite that are no jumps and no branches.
+// Instructions that are no jumps and no branches. One with a part of an address is made anew, since addresses moved.
+// ISA manual, volume I, section 2.4; psABI, "Relocations".
 ghost use Rattle.std.specs.Prelude.{◌≡◌, ◌↔◌, ◌≤ℤ◌, ◌-ℤ◌, ◌*ℤ◌, ◌^◌, pos, IsTrue};
 ghost use Rattle.std.specs.List.Sorted.{IsNonDecreasingBy};
 ghost use Rattle.rv_code.specs.isa.HiLo.{hi20, lo12};
@@ -17,7 +18,7 @@ use move_law::with_immediate;
 use rv_code::{Inst, Placed, Role};
 use rv_encode::same::is_same;
 
-// How far one address is from another.
+// How far `to` is from `from`.
 fn distance(to: u64, from: u64) -> i128
     ensures is { result ≡ distance to from }
     ensures low { (pos 0 -ℤ pos (2 ^ 64)) ≤ℤ result }
@@ -26,7 +27,7 @@ fn distance(to: u64, from: u64) -> i128
     to as i128 - from as i128
 }
 
-// The upper part of a number, which is rounded.
+// The upper part of `v`, for a LUI or an AUIPC. It is rounded, since the lower part is signed.
 fn upper(v: i128) -> i64
     requires low { (pos 0 -ℤ pos (2 ^ 64)) ≤ℤ v }
     requires high { v ≤ℤ pos (2 ^ 64) }
@@ -35,14 +36,14 @@ fn upper(v: i128) -> i64
     ((v + 0x800) >> 12) as i64
 }
 
-// An upper part in its place.
+// What an upper part counts for in a number.
 fn shifted(upper: i64) -> i128
     ensures { result ≡ pos 4096 *ℤ upper }
 {
     4096 * upper as i128
 }
 
-// The lower part that belongs to it.
+// The lower part of `v`, of 12 bits with a sign: what `v` is more than its upper part.
 fn lower_part(v: i128) -> i64
     requires low { (pos 0 -ℤ pos (2 ^ 64)) ≤ℤ v }
     requires high { v ≤ℤ pos (2 ^ 64) }
@@ -51,7 +52,7 @@ fn lower_part(v: i128) -> i64
     (v - shifted(upper(v))) as i64
 }
 
-// An instruction by its role with the parts of new addresses.
+// The instruction `p` with the part of the new address, or of the distance to it, that its role asks for.
 fn made_anew(table: &[Span], p: &Placed) -> Inst
     requires { IsNonDecreasingBy (λ s. s.input) table.now }
     ensures { result ≡ made_anew (new table.now) p.now.addr p.now.role p.now.inst }
@@ -74,7 +75,7 @@ fn made_anew(table: &[Span], p: &Placed) -> Inst
     }
 }
 
-/// Whether an instruction that is no JAL and no branch is kept.
+/// Whether the instruction `p`, which is no JAL and no branch, is kept: its span has it, as its role makes it.
 pub fn keeps_other(output: &Elf, table: &[Span], p: &Placed) -> bool
     requires low { IsLow output.now }
     requires sorted { IsNonDecreasingBy (λ s. s.input) table.now }

@@ -17,7 +17,7 @@ use rv_code::flow::moved_by;
 use rv_code::{Inst, ZERO};
 use rv_decode::decode;
 
-// The byte at an address, 0 where none is loaded.
+// The byte at `address`; 0 where none is loaded, or there is no address.
 pub(crate) fn byte_or_zero(elf: &Elf, address: Option<u64>) -> u8
     ensures { result ≡ byte_or_zero elf.now address }
 {
@@ -27,7 +27,7 @@ pub(crate) fn byte_or_zero(elf: &Elf, address: Option<u64>) -> u8
     }
 }
 
-// The halfword at an address. What isn't loaded counts as zero.
+// The halfword at `address`. What isn't loaded counts as zero.
 fn halfword_at(elf: &Elf, address: u64) -> u16
     requires { IsLow elf.now }
     ensures { result ≡ halfword_in (memory_of (executable_read elf.now)) address }
@@ -37,7 +37,8 @@ fn halfword_at(elf: &Elf, address: u64) -> u16
     low as u16 + 256 * high as u16
 }
 
-/// The width of what stands at an address, by its first byte.
+/// How many bytes the instruction at `address` has, by the two lowest bits of its first byte: 4 where both are set,
+/// else 2.
 pub fn width_at(elf: &Elf, address: u64) -> u8
     requires { IsLow elf.now }
     ensures { result ≡ width_at (executable_read elf.now) address }
@@ -46,7 +47,7 @@ pub fn width_at(elf: &Elf, address: u64) -> u8
     if half % 4 == 3 { 4 } else { 2 }
 }
 
-/// The instruction at an address, and its width, if it stands in code.
+/// The instruction at `address` and its width, if there is one and all its bytes are code.
 pub fn inst_at(elf: &Elf, address: u64) -> Option<(Inst, u8)>
     requires { IsLow elf.now }
     ensures { FindsAt (executable_read elf.now) address result }
@@ -63,7 +64,7 @@ pub fn inst_at(elf: &Elf, address: u64) -> Option<(Inst, u8)>
     decode(half, Some(next))
 }
 
-// Whether an instruction at a place is a jump that saves nothing, and leads to another place.
+// Whether `inst`, at `from`, is a JAL that saves nothing and leads to `to`.
 fn leads_to(inst: &Inst, from: u64, to: u64) -> bool
     ensures { result ≡ leads_to inst.now from to }
 {
@@ -73,7 +74,7 @@ fn leads_to(inst: &Inst, from: u64, to: u64) -> bool
     }
 }
 
-// Whether a jump that saves nothing leads from one place to another.
+// Whether a JAL that saves nothing stands at `from` and leads to `to`.
 fn jumps(elf: &Elf, from: u64, to: u64) -> bool
     requires { IsLow elf.now }
     ensures { IsTrue result ↔ Jumps (executable_read elf.now) from to }
@@ -84,7 +85,7 @@ fn jumps(elf: &Elf, from: u64, to: u64) -> bool
     }
 }
 
-/// Whether control goes from one place to another.
+/// Whether control goes from `from` to `to`: they are one place, or a jump leads there.
 pub fn goes(elf: &Elf, from: u64, to: u64) -> bool
     requires { IsLow elf.now }
     ensures { IsTrue result ↔ Goes (executable_read elf.now) from to }

@@ -1,4 +1,4 @@
-// Whether spans are a map of a program's instructions.
+// Clause `MapSpan`: whether spans are a map of a program's instructions.
 ghost use Rattle.std.specs.Prelude.{◌≡◌, ◌↔◌, ◌++◌, IfNone, IfOk, OnOk, IsTrue, List, map, length};
 ghost use Rattle.std.specs.List.Sorted.{IsNonDecreasingBy, IsPermutation};
 ghost use Rattle.rv_code.specs.layout.FunctionLists.{AreLaidOut};
@@ -37,7 +37,7 @@ fn addresses(alloc: Global, funcs: &[Func]) -> Result<Vec<u64>, NoMemory>
     Ok(out)
 }
 
-// The lower of the first two that differ.
+// The lower of the first input and address that differ, where `spans` and `addresses` are walked side by side.
 fn first_difference(spans: &[Span], addresses: &[u64]) -> Option<u64>
     ensures { result ≡ first_difference spans.now addresses.now }
 {
@@ -70,7 +70,7 @@ fn lowest_miscounted(
     Ok(first_difference(sorted, &addresses))
 }
 
-// Whether a span has no bytes, or has them where an instruction can stand.
+// Whether a span has no bytes, or begins where an instruction can stand: at an even address other than 0.
 fn is_placed(span: &Span) -> bool
     ensures { IsTrue result ↔ IsPlaced span.now }
 {
@@ -105,7 +105,8 @@ fn extents_of(alloc: Global, spans: &[Span]) -> Result<Vec<Extent>, NoMemory>
     Ok(extents)
 }
 
-// The lowest input of a span that shares a byte with another.
+// The lowest input of a span that shares a byte with another one. Extents have indices for places, and the order of
+// these is that of the inputs.
 fn lowest_sharing(alloc: Global, sorted: &[Span]) -> Result<Option<u64>, NoMemory>
     requires { IsNonDecreasingBy (λ s. s.input) sorted.now }
     ensures { IfOk result (IsLowest (IsSharing sorted.now)) }
@@ -117,8 +118,8 @@ fn lowest_sharing(alloc: Global, sorted: &[Span]) -> Result<Option<u64>, NoMemor
     }
 }
 
-/// The lowest place at which spans aren't a map of a program's code. They are taken in the order of their inputs; what
-/// is said holds of them in any order.
+/// The lowest place at which spans aren't a map of a program's code. `sorted` has them by their inputs; what the
+/// clauses say holds of them in any order.
 pub fn lowest_bad_span(
     alloc: Global,
     sorted: &[Span],

@@ -9,14 +9,17 @@ use addr_map::Span;
 use rb_bytes::fault::NoMemory;
 use std::alloc::Global;
 
-/// A map that was read, or the number of its first line that isn't one, counted from 1.
+/// What reading the text of a map came to.
 #[derive(Drop)]
 pub enum MapRead {
+    /// The spans, in the order of their lines.
     Spans(Vec<Span>),
+    /// The number of the first line that isn't one of a map, counted from 1.
     BadLine(u64),
 }
 
-/// Reads the text of a map: its lines in any order.
+/// Reads the text of a map: a line `OUT LEN INPUT` for each span, in any order. Addresses are in hexadecimal, lengths
+/// in decimal.
 pub fn read(alloc: Global, text: &[u8]) -> Result<MapRead, NoMemory>
     ensures { IfOk result (IsReadAs text.now) }
 {

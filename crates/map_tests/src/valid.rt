@@ -7,7 +7,7 @@ use std::alloc::Global;
 use std::process::Abort;
 use std::test::Fail;
 
-// Two spans of one instruction, or with a byte in both.
+// Whether two spans are of one instruction, or have a byte in common.
 fn collide(s: &Span, t: &Span) -> bool
     ensures { result ≡ false → AreSeparate s.now t.now }
 {

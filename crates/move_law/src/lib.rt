@@ -19,7 +19,8 @@ pub fn identity_law()
     ensures { IdentityLaw }
 {}
 
-/// An instruction with another immediate, where it can have one of an address.
+/// An instruction with another immediate, if it is one that can have a part of an address: LUI, AUIPC, ADDI, JALR, a
+/// load or a store. Any other stays as it is.
 pub fn with_immediate(inst: &Inst, imm: i64) -> Inst
     ensures { result ≡ with_immediate inst.now imm }
 {

@@ -10,15 +10,15 @@ use Rattle.elf_image.specs.declared.section.SectionHeader.{SectionHeader}
 use Rattle.elf_image.specs.faults.LowestPlace.{IsLowest}
 use Rattle.elf_image.specs.file.Sections.{section_headers, holds_code}
 
--- of the bytes of a file: 64 MiB
+-- the most bytes of a file: 64 MiB
 abbrev pub file_limit : ℕ
 file_limit = 64 * 2 ^ 20
 
--- of the bytes of its code: 16 MiB
+-- the most bytes of its code: 16 MiB
 abbrev pub code_size_limit : ℕ
 code_size_limit = 16 * 2 ^ 20
 
--- of its functions
+-- the most functions that it has
 abbrev pub function_limit : ℕ
 function_limit = 200000
 

@@ -34,13 +34,13 @@ pub record IsPlain (file : List ℕ) : Type 0 where
   pub fits : length file ≤ file_limit
   pub sound : IsSound file
 
--- such a file as its reader keeps it, in whose code no fault is present
+-- a file like that, and `elf`, what its reader keeps of it; no fault is present in its code
 pub record IsFaultless (file : List ℕ) (elf : Elf) : Type 0 where
   pub plain : IsPlain file
   pub read : IsElfOf file elf
   pub no_fault : IsFree (HasCodeFault elf (tabled elf))
 
--- the program of such a file
+-- the program `x` of a file in which no fault is present
 pub record IsProgramOf (file : List ℕ) (x : Program) : Type 0 where
   pub faultless : IsFaultless file x.elf
   pub code_is : IsCodeOf x.elf (tabled x.elf) x.code

@@ -12,7 +12,7 @@ use Rattle.elf_code.specs.CodeFaults.{HasCodeFault}
 use Rattle.cfi_rows.specs.Frames.{tabled}
 use Rattle.program.specs.Program.{IsPlain}
 
--- What is wrong in the file comes first, and then what is wrong in its code. That it isn't too long was judged before.
+-- What is wrong in the file comes first, and then what is wrong in its code. Whether it is too long is judged before.
 pub data IsUnreadable (file : List ℕ) (fault : Fault) : Type 0 where
   unsound : IsFirstFault file fault → IsUnreadable file fault
   bad_code : IsPlain file → (elf : Elf) → IsElfOf file elf → IsAnswered (HasCodeFault elf (tabled elf)) fault →

@@ -7,7 +7,7 @@ use Rattle.area_room.specs.Room.{is_tight}
 use Rattle.area_room.specs.RoomFault.{no_room}
 use Rattle.program.specs.Program.{Program}
 
--- how many bytes it takes at most
+-- how many bytes the new area takes at most
 abbrev pub needed_bytes : Program → ℕ
 needed_bytes x = need x.elf x.code.funcs x.blocks
 

@@ -13,7 +13,7 @@ use rv_code::Func;
 /// The most bytes of a file, and of a profile: 64 MiB.
 pub const FILE_LIMIT: usize = 64 * 1024 * 1024;
 
-// The most bytes that the sections of code may have together.
+// The most bytes that the sections of code may have together: 16 MiB.
 const CODE_LIMIT: u64 = 16 * 1024 * 1024;
 
 // The most functions that a file may have.
@@ -46,7 +46,8 @@ pub fn has_too_much_code(elf: &Elf<'_>) -> bool
     false
 }
 
-/// Refuses a file whose code passes a limit: `TooLarge` at 2 for its size, or at 3 for its functions.
+/// Refuses a file whose code passes a limit: `TooLarge` at 2 (`CODE_BYTES`) for its size, or else at 3 (`FUNCTIONS`)
+/// for the number of its functions.
 pub fn check_code(elf: &Elf<'_>, funcs: &[Func]) -> Result<(), Refusal>
     requires { IsElfOf elf.now.file.now elf.now }
     ensures within { OnOk result ((place : ℕ) → IsCodeTooLarge elf.now.file.now funcs.now place → ⊥) }

@@ -1,4 +1,4 @@
-// A file with its code.
+// What is read of a file with its code.
 use elf_image::Elf;
 use rv_code::{Block, Func};
 use rv_reloc::Refs;
@@ -7,7 +7,10 @@ use rv_reloc::Refs;
 #[derive(Drop)]
 pub struct Program<'file> {
     pub elf: Elf<'file>,
+    /// The functions, by address.
     pub funcs: Vec<Func>,
+    /// The roles of instructions and the code cells.
     pub refs: Refs,
+    /// The basic blocks of all functions, in the order of the functions.
     pub blocks: Vec<Block>,
 }

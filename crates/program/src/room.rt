@@ -21,7 +21,7 @@ pub fn is_tight(alloc: Global, program: &Program<'_>) -> Result<bool, NoMemory>
     Ok(area_room::is_tight(&program.elf, need))
 }
 
-/// Where the new code starts, or the fault `NoRoom`.
+/// The address at which the new code starts, or the fault `NoRoom`.
 pub fn new_start(alloc: Global, program: &Program<'_>) -> Result<u64, Refusal>
     requires laid { AreLaidOut program.now.funcs.items }
     requires blocks { AreBlocksOf program.now.funcs.items program.now.blocks.items }

@@ -1,4 +1,4 @@
-// What units say of one address. Nothing is kept by which other addresses would be found.
+// What units say of one address. No table is kept by which other addresses could be looked up.
 ghost use Rattle.std.specs.Prelude.{◌≡◌, ◌++◌, ◌||◌, ℕ, IfErr, IfOk, OnOk, flat_map};
 ghost use Rattle.std.specs.BTreeSet.{contains};
 ghost use Rattle.std.specs.Ordering.{nat_cmp};
@@ -27,9 +27,9 @@ use std::collections::BTreeSet;
 /// What the entries of a file say of an address.
 #[derive(Drop)]
 pub struct ListsAt {
-    /// The places of the entries whose ranges hold it, in order.
+    /// The places of the entries whose ranges hold the address, ascending.
     pub covers: Vec<u64>,
-    /// The expressions in force at it, by their entries and attributes.
+    /// The expressions in force at the address, by their entries and attributes.
     pub places: Vec<PlaceAt>,
 }
 
@@ -92,11 +92,11 @@ fn covering(
     Ok(places)
 }
 
-// How many bytes of memory what is said of locations at an address may take: each entry has its own copy of what a list
-// says, and any number of entries may name one list.
+// How many bytes of memory may be taken by what is said of locations at an address. Each entry gets its own copy of
+// what a list says, and any number of entries may name one list.
 const MOST_SIZE: usize = 1 << 27;
 
-// How many bytes of memory an expression takes beside its own.
+// How many bytes of memory an expression takes beside its bytes, or a few more.
 const EXPRESSION_SIZE: usize = 64;
 
 // About how many bytes of memory expressions take.
@@ -110,8 +110,8 @@ fn size_of(expressions: &[Vec<u8>]) -> usize {
     size
 }
 
-// Adds what an attribute says at an address, if its group was found. Memory is wanting where all that is said takes too
-// much.
+// Adds what an attribute says at address `a`, if its group was found. `size` is how much memory all that is said takes;
+// `NoMemory` is answered, too, where that becomes too much.
 fn put_said(
     alloc: Global,
     places: &mut Vec<PlaceAt>,
@@ -154,7 +154,7 @@ fn said_at(
 }
 
 /// What the entries of a file say of an address, or the first fault of the sections that they are read from. Units are
-/// walked once.
+/// walked once. `NoMemory` is answered, too, where what is said of locations takes more than 2^27 bytes of memory.
 pub fn lists_at(alloc: Global, elf: &Elf, a: u64) -> Result<ListsAt, Refusal>
     ensures covers { IfOk result (λ t. t.covers.items ≡ spec.covering (list_sections elf.now) a) }
     ensures places { IfOk result (λ t. all_said t.places ≡ places_said (list_sections elf.now) a) }

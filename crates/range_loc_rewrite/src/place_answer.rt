@@ -4,7 +4,8 @@ ghost use Rattle.dw_lists.specs.Locations.{place_said};
 
 use cover_lists::expressions::same_expressions;
 
-/// The place of an entry, an attribute of it, and its expressions that are in force.
+/// The offset of an entry in `.debug_info`, one of its attributes (DW_AT_location or DW_AT_frame_base), and the
+/// expressions of that which are in force, at least one.
 pub type PlaceAt = (u64, u64, Vec<Vec<u8>>);
 
 fn same_place(x: &PlaceAt, y: &PlaceAt) -> bool

@@ -15,7 +15,7 @@ fn place_at(ranged: &[RangedEntry], number: usize) -> Option<u64>
     Some(entry.place)
 }
 
-/// The places of the entries of some numbers.
+/// The places of the entries of some numbers, in their order.
 pub fn places_of(
     alloc: Global,
     ranged: &[RangedEntry],
@@ -30,7 +30,7 @@ pub fn places_of(
     Ok(places)
 }
 
-/// Some places, unless there are none.
+/// Some places, or none where the list is empty.
 pub fn unless_empty(places: Vec<u64>) -> Option<Vec<u64>>
     ensures { option_map (λ ps. ps.items) result ≡ unless_empty places.items }
 {

@@ -35,7 +35,8 @@ pub fn read_entries(alloc: Global, elf: &Elf) -> Result<BothEntries, Refusal>
     Ok(entries)
 }
 
-/// Reads both tables in one walk of the units, or refuses the file for the first fault of the sections.
+/// Reads both tables in one walk of the units, or refuses the file for the first fault of the sections, as
+/// `Places::read` would.
 pub fn read_lists(alloc: Global, elf: &Elf) -> Result<(Ranges, Places), Refusal>
     ensures ranges { IfOk result (λ t. t.0 ≡ list_sections elf.now) }
     ensures places { IfOk result (λ t. t.1 ≡ list_sections elf.now) }

@@ -8,15 +8,15 @@ use Rattle.rb_bytes.specs.declared.fault.Refusal.TheVariants as refusal
 
 -- Has says at which places a kind is present.
 
--- none of a kind is
+-- no fault of a kind is present
 abbrev pub Lacks : (FaultKind → ℕ → Type 0) → FaultKind → Type 0
 Lacks Has kind = (place : ℕ) → Has kind place → ⊥
 
--- none of any lower number is
+-- no fault of a number below this one is present
 abbrev pub LacksBelow : (FaultKind → ℕ → Type 0) → ℕ → Type 0
 LacksBelow Has number = (kind : FaultKind) → number_of kind < number → Lacks Has kind
 
--- none is
+-- no fault is present
 abbrev pub IsFree : (FaultKind → ℕ → Type 0) → Type 0
 IsFree Has = (kind : FaultKind) → Lacks Has kind
 

@@ -15,7 +15,7 @@ hexadecimal n = digits 16 false n
 abbrev pub is_lower_hex_digit : ℕ → Bool
 is_lower_hex_digit c = is_ascii_digit c || is_in_range 97 102 c
 
--- the number below 2^64 that digits write, if they are some, and at most so many
+-- the number below 2^64 that digits write, if there is one digit at least and `most` at most
 abbrev pub number_of_digits : (radix most : ℕ) → (ℕ → Bool) → List ℕ → Option ℕ
 number_of_digits radix most is_digit digits =
     if nat_lt 0 (length digits) && nat_le (length digits) most && list_all is_digit digits

@@ -21,9 +21,11 @@ pub enum FaultKind {
     /// The file is not a static executable. Place: the offset of the file type, 10 in
     /// hexadecimal, or of the program header that asks for a dynamic linker.
     NotStatic,
-    /// The loaded segments are not laid out as one executable segment among apart ones. Place:
-    /// the offset of the program header concerned, or of the header's field that names their
-    /// table, 20 in hexadecimal.
+    /// The loaded segments do not lie as they must: one of them executable (or two, in a file that
+    /// was rewritten), no two sharing an address or a byte of the file, and all sections with code
+    /// in executable ones. Place: the offset of the program header concerned, of their table or of
+    /// the section header; where no segment is executable, that of the header's field that names
+    /// the table, 20 in hexadecimal.
     ExecSegments,
     /// The executable segment may be written. Place: the offset of its program header.
     WritableCode,
@@ -85,8 +87,8 @@ pub enum FaultKind {
 }
 
 impl FaultKind {
-    /// The number that stands in the printed line. Two kinds that are looked for together share
-    /// one.
+    /// The number that stands in the printed line. `BadInstruction` and `BareAuipc`, which are looked
+    /// for together, share 16.
     pub fn number(self) -> u8
         ensures { result ≡ number_of self }
     {
@@ -160,8 +162,8 @@ impl FaultKind {
     }
 }
 
-/// A file is refused: why, and where. `need` and `room` are in bytes, and 0 for every kind but
-/// [`FaultKind::NoRoom`].
+/// A file is refused: why, and where. Each [`FaultKind`] says what its place is. `need` and `room`
+/// are in bytes, and 0 for every kind but [`FaultKind::NoRoom`].
 #[derive(Clone, Copy, PartialEq, Eq, Debug)]
 pub struct Fault {
     pub kind: FaultKind,

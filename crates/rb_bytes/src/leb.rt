@@ -10,7 +10,7 @@ use crate::fault::NoMemory;
 /// Each byte carries one digit in this base, and is below it only if it is the last.
 pub(crate) const BASE: u8 = 128;
 
-// As many bytes as a number of 64 bits takes at most.
+// A number of 64 bits takes at most ten bytes of seven bits each.
 const MAX_LENGTH: usize = 10;
 
 /// The place of the byte that ends the number at the front.
@@ -25,12 +25,14 @@ pub(crate) fn unsigned_value(bytes: &[u8]) -> Option<u64>
     ensures { SomeIff result (uleb_value bytes.now < 2 ^ 64) (uleb_value bytes.now) }
 {
     let mut value: u64 = 0;
+    // The product is a multiple of 128, so adding a digit can't overflow.
     'bytes: for index in (0..bytes.len()).rev() {
         value = value.checked_mul(BASE as u64)? + (bytes[index] % BASE) as u64;
     }
     Some(value)
 }
 
+// The low seven bits of a number's last byte, as a signed number.
 fn sign_extended(byte: u8) -> i64
     ensures { result ≡ signed_bits byte }
 {

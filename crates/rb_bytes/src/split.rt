@@ -3,7 +3,7 @@ ghost use Rattle.std.specs.Prelude.{◌≡◌, ◌==◌, ◌++◌, ◌∷◌, fa
 
 use memchr::memchr;
 
-/// What stands before the first of these bytes, and what after it.
+/// The text before the first byte that equals `byte`, and the text after it; none where no byte does.
 pub fn split_once(text: &[u8], byte: u8) -> Option<(&[u8], &[u8])>
     ensures parts { IfSome result (λ p. text.now ≡ p.0.now ++ byte ∷ p.1.now) }
     ensures first { IfSome result (λ p. All (λ c. (c == byte) ≡ false) p.0.now) }

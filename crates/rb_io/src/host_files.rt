@@ -5,7 +5,8 @@ use crate::files::{Files, ReadAll, Wrote};
 use std::fs;
 use std::io::Read;
 
-/// The files of the system, which tell nothing of their contents. One u64 counts the faults of all names.
+/// The files of the system, which tell nothing of their contents. One count has all faults, of every name, by reads and
+/// by writes.
 #[derive(Drop)]
 pub struct HostFiles<'a, R> {
     rt: &'a R,
@@ -72,6 +73,7 @@ fn read_file<R: std::rt::Files>(rt: &R, name: &str, limit: usize, into: &mut Vec
         return ReadAll::Failed;
     };
     let mut piece = [0u8; PIECE];
+    // The bound, which no file reaches, shows that the loop ends.
     for _ in 0..u64::MAX {
         match file.read(&mut piece) {
             Ok(0) => return ReadAll::Done,

@@ -18,7 +18,8 @@ use std::alloc::Global;
 
 /// Files in memory, where the reads and writes of some numbers fail. They are numbered together, from 1.
 ///
-/// A write needs room that was made before it, and no memory. One u64 counts the faults of all names.
+/// A write needs room that was made before it, and no memory. One count has all faults, of every name, by reads and by
+/// writes.
 #[derive(Drop)]
 pub struct MemFiles {
     slots: Slots,
@@ -56,9 +57,9 @@ impl MemFiles {
         Ok(())
     }
 
-    /// Makes room for at least so many bytes under a name, and leaves each content as it is.
+    /// Makes room for at least `room` bytes under a name, and leaves each content as it is.
     ///
-    /// A name that the map hasn't is not there for reading until it is written. This call has no number.
+    /// A name without a content has none until it is written: reading it fails. This call has no number.
     pub fn prepare(&mut self, name: String, room: usize) -> Result<(), NoMemory>
         ensures contents_kept { Unchanged (content self.old) (content self.new) }
         ensures room { OnOk result

@@ -8,7 +8,7 @@ use crate::sink::{Put, Sink};
 
 /// Writes `text` whole, piece by piece.
 ///
-/// `Took` has the whole length. After `Failed` a part of the text, from its front, was taken, and never all of it.
+/// `Took` has the length of the text. After `Failed` the sink took a proper prefix of it, which may be empty.
 pub fn print_all<O: Sink>(out: &mut O, text: &[u8]) -> Put
     ensures whole { IfTook result (λ n. n ≡ length text.now) }
     ensures all { IfTook result (λ n. TakesAll (O.seen out.old).taken (O.seen out.new).taken text.now) }

@@ -3,7 +3,7 @@ ghost use Rattle.std.specs.Prelude.{◌≡◌, ◌≤◌, length, vec_capacity};
 
 use std::alloc::{AllocError, Global};
 
-/// What a name has: room for so many bytes, and a content unless the file is yet to be written.
+/// What a name has: room for a number of bytes, and a content unless the file is yet to be written.
 #[derive(Drop)]
 pub(crate) struct Slot {
     bytes: Vec<u8>,
@@ -18,7 +18,7 @@ impl Slot {
     ghost use Rattle.std.specs.Option.{option_copied};
     ghost use Rattle.rb_io.specs.Slot.{content_of, room_of};
 
-    /// A file of these bytes, with room for just so many.
+    /// A file of these bytes, with room for no more.
     pub(crate) fn with_content(bytes: Vec<u8>) -> Slot
         ensures content { content_of result ≡ Some bytes.items }
         ensures room { room_of result ≡ length bytes.items }
@@ -43,7 +43,7 @@ impl Slot {
         })
     }
 
-    /// Makes room for at least so many bytes. After an error all is as before.
+    /// Makes room for at least `room` bytes. After an error all is as before.
     pub(crate) fn make_room(&mut self, room: usize) -> Result<(), AllocError>
         ensures content_kept { content_of self.new ≡ content_of self.old }
         ensures ok { OnOk result (room_of self.new ≡ max (room_of self.old) room) }
@@ -67,7 +67,7 @@ impl Slot {
         }
     }
 
-    /// Makes these bytes the content, where there is room for them.
+    /// Makes these bytes the content, where there is room for them; answers whether there is.
     pub(crate) fn write(&mut self, bytes: &[u8]) -> bool
         ensures fits { result ≡ nat_le (length bytes.now) (room_of self.old) }
         ensures content { content_of self.new ≡ (if result then Some bytes.now else content_of self.old) }

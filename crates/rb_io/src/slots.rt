@@ -12,7 +12,7 @@ use std::collections::BTreeMap;
 /// What each name has.
 pub(crate) type Slots = BTreeMap<String, Slot>;
 
-/// Makes bytes the content of a name, where it has room for them.
+/// Makes bytes the content of a name, where it has room for them; answers whether it has.
 pub(crate) fn overwrite(slots: &mut Slots, name: &str, bytes: &[u8]) -> bool
     ensures fits { result ≡ has_room (room_at slots.old name.now) (length bytes.now) }
     ensures written { result ≡ true → content_at slots.new name.now ≡ Some bytes.now }
@@ -26,7 +26,7 @@ pub(crate) fn overwrite(slots: &mut Slots, name: &str, bytes: &[u8]) -> bool
     }
 }
 
-/// Makes room for at least so many bytes under a name. After an error all is as before.
+/// Makes room for at least `room` bytes under a name. After an error all is as before.
 pub(crate) fn make_room(
     slots: &mut Slots,
     alloc: Global,

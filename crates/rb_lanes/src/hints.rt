@@ -1,33 +1,38 @@
-// Where the members of an ascending list stand, about.
+// Look-ups in ascending lists that begin near the place looked for.
 ghost use Rattle.std.specs.Prelude.{◌↔◌, ◌<◌, ◌≤◌, ℕ, IsTrue, AllPairs, Contains, length, slice_index_or};
 
 use std::alloc::{AllocError, Global};
 
-// How many members a step of values has, about.
+// About how many members fall into one step of values.
 const MEMBERS: u64 = 8;
 
-// As many members as a look-up goes over before it searches all.
+// How many members a look-up goes over before it falls back to a binary search.
 const WALK: usize = 32;
 
-/// The places of the first members in steps of values of one size. A matter of speed alone: a look-up begins there,
-/// and looks at the members.
+/// Where look-ups in an ascending list begin: its values are cut into steps of one size, and each step has the place
+/// of the first member in it or above. Only speed depends on that, since a look-up compares the members themselves.
 #[derive(Drop)]
 pub struct Hints {
+    // The least value.
     base: u64,
+    // A step has 2^shift values.
     shift: u32,
     firsts: Vec<usize>,
+    // How many members the list has.
     count: usize,
     ghost shift_is_low: { shift < 64 },
 }
 
 impl Hints {
-    /// The hints for a list, which take an eighth of its memory.
+    /// The hints for an ascending list, in about an eighth of its memory. Those for a list that doesn't ascend are of
+    /// no use, and may take far more.
     pub fn new(alloc: Global, members: &[u64]) -> Result<Hints, AllocError> {
         let base = members.first().copied().unwrap_or(0);
         let shift = shift_for(members, base);
         let mut firsts = Vec::new(alloc);
         for place in 0..members.len() {
             let step = (members[place].saturating_sub(base) >> shift) as usize;
+            // Steps that were passed over have no member, and get this place too.
             if firsts.len() <= step {
                 firsts.resize(step.saturating_add(1), place)?;
             }
@@ -50,7 +55,7 @@ impl Hints {
     }
 }
 
-// By how many bits a number above `base` is shifted to give its step.
+// The least shift by which there are about an eighth as many steps as members.
 fn shift_for(members: &[u64], base: u64) -> u32
     ensures { result < 64 }
 {
@@ -72,8 +77,8 @@ pub fn is_member(members: &[u64], hints: &Hints, x: u64) -> bool
     is_member_from(members, &mut near, x)
 }
 
-/// Whether `x` is a member of an ascending list. `near` is about how many members are below the number that was asked
-/// for last: numbers that go up walk along the list.
+/// Whether `x` is a member of an ascending list. The look-up begins at `near`, and sets it to how many members are
+/// below `x`: numbers that ascend walk along the list with it. A bad `near` costs time alone.
 pub fn is_member_from(members: &[u64], near: &mut usize, x: u64) -> bool
     requires { AllPairs (λ a b. a < b) members.now }
     ensures { IsTrue result ↔ Contains members.now x }
@@ -86,7 +91,7 @@ pub fn is_member_from(members: &[u64], near: &mut usize, x: u64) -> bool
     members[below] == x
 }
 
-/// How many members of an ascending list are below `x`, where about `near` are.
+/// How many members of an ascending list are below `x`. `near` is about as many; a bad guess costs time alone.
 pub fn count_below(members: &[u64], near: usize, x: u64) -> usize
     requires { AllPairs (λ a b. a < b) members.now }
     ensures bound { result ≤ length members.now }
@@ -107,7 +112,7 @@ pub fn count_below(members: &[u64], near: usize, x: u64) -> usize
     search_below(members, x)
 }
 
-/// How many members of an ascending list are below `x`, by a search through all.
+/// How many members of an ascending list are below `x`, by a binary search.
 pub fn search_below(members: &[u64], x: u64) -> usize
     requires { AllPairs (λ a b. a < b) members.now }
     ensures bound { result ≤ length members.now }
@@ -117,7 +122,7 @@ pub fn search_below(members: &[u64], x: u64) -> usize
     members.partition_point(|member| *member < x)
 }
 
-// Whether the first members, so many, are below `x`.
+// Whether the first `count` members are below `x`, which the last of them tells.
 fn are_below(members: &[u64], count: usize, x: u64) -> bool
     requires { AllPairs (λ a b. a < b) members.now }
     ensures bound { IsTrue result → count ≤ length members.now }

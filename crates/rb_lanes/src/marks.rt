@@ -8,8 +8,8 @@ use std::simd::u16x64;
 // How many marks a number of 64 bits holds.
 const MARKS: usize = 64;
 
-/// Marks the halfwords whose two lowest bits are set: bit `i % 64` of `out[i / 64]` is set exactly where `halves[i]` is
-/// such a one. All other bits become 0.
+/// Marks the halfwords whose two lowest bits are set: bit `i % 64` of `out[i / 64]` becomes 1 exactly where both are
+/// set in `halves[i]`. All other bits become 0.
 pub fn length_marks(halves: &[u16], out: &mut [u64])
     requires { length halves.now ≤ 64 * length out.old }
     ensures { (i : ℕ) → is_marked out.new i ≡ ends_in_ones (slice_index halves.now i) }
@@ -49,7 +49,7 @@ fn marks_of_rest(halves: &[u16]) -> u64
     marks
 }
 
-// Tests all halfwords at once.
+// Marks of 64 halfwords, which are tested at once.
 fn marks_of_lanes(halves: &[u16]) -> u64
     requires { length halves.now ≡ MARKS }
     ensures { result ≡ marks_of halves.now }

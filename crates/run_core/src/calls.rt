@@ -24,7 +24,7 @@ const EXIT_GROUP: u64 = 94;
 
 const BRK: u64 = 214;
 
-// The files that are open.
+// The file descriptors that are open.
 const STANDARD_INPUT: u64 = 0;
 
 const STANDARD_OUTPUT: u64 = 1;
@@ -40,7 +40,7 @@ pub const BAD_FILE: u64 = 0xffff_ffff_ffff_fff7;
 /// `ENOSYS` as a result: the negative of 38.
 pub const NO_SUCH_CALL: u64 = 0xffff_ffff_ffff_ffda;
 
-/// The system calls that the machine knows.
+/// The system calls that machines know. `Exit` is exit and exit_group alike.
 #[derive(Clone, Copy)]
 pub enum SystemCall {
     Read,
@@ -72,14 +72,14 @@ impl SystemCall {
     }
 }
 
-/// Whether a file is open for reading.
+/// Whether a file descriptor is open for reading.
 pub fn is_input(file: u64) -> bool
     ensures { result ≡ (file == 0) }
 {
     file == STANDARD_INPUT
 }
 
-/// Whether a file is open for writing.
+/// Whether a file descriptor is open for writing.
 pub fn is_output(file: u64) -> bool
     ensures { result ≡ (file == 1 || file == 2) }
 {

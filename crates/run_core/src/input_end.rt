@@ -7,8 +7,8 @@ ghost use Rattle.run_core.specs.Inputs.{IsRightly};
 
 use rb_io::{Got, Source};
 
-/// Whether a source was found at its end. It isn't asked again after that, as a terminal would have
-/// more bytes: so one list of bytes is all that it gave.
+/// Whether a source was found at its end. After that it isn't asked again: a terminal could still give
+/// bytes, and then no single list of bytes would be the input of the run.
 #[derive(Clone, Copy)]
 pub struct InputEnd {
     pub reached: bool,
@@ -22,7 +22,8 @@ impl InputEnd {
         InputEnd { reached: false }
     }
 
-    /// Fills a buffer from the front, piece by piece, until it is full or the source is at its end.
+    /// Fills a buffer from the front, piece by piece, until it is full or the source is at its end. `Failed` doesn't
+    /// tell how many bytes were read before the read that failed.
     pub fn fill<I: Source>(&mut self, input: &mut I, buffer: &mut [u8]) -> Got
         ensures within { IfBytes result (λ n. n ≤ length buffer.new) }
         ensures moved { IfBytes result (λ n.

@@ -16,7 +16,8 @@ pub enum Operand {
     Immediate(i64),
 }
 
-/// What a conditional branch compares. ISA manual, section 2.5.
+/// What a conditional branch tests. BNE, BGE and BGEU test the same as BEQ, BLT and BLTU, and want the opposite answer.
+/// ISA manual, section 2.5.
 #[derive(Clone, Copy)]
 pub enum Test {
     Equal,

@@ -5,7 +5,7 @@
 pub enum CellKind {
     /// The address `to`.
     Abs { to: u64 },
-    /// The distance `to` - `from`, modulo the field's width.
+    /// The distance `to` - `from`, modulo 2 to the field's width in bits.
     Diff { to: u64, from: u64 },
 }
 

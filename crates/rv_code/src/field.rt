@@ -12,7 +12,7 @@ pub fn bits(word: u32, low: u32, width: u32) -> u32
     (word >> low) % (1 << width)
 }
 
-/// A number with its sign at bit `top`, as a signed one.
+/// A number of `top` + 1 bits, read in two's complement.
 pub fn sign(number: u32, top: u32) -> i64
     requires { top < 32 }
     ensures { result ≡ signed top number }

@@ -10,7 +10,7 @@ use crate::inst::Inst;
 use crate::placed::{Func, Placed};
 use crate::register::ZERO;
 
-/// Where a branch, or a JAL, at an address goes.
+/// Where a JAL at an address goes, or a conditional branch that is taken; none for other instructions.
 pub fn target(address: u64, inst: &Inst) -> Option<u64>
     ensures { result ≡ flow.target address (action_of inst.now) }
 {
@@ -83,7 +83,7 @@ pub fn falls(inst: &Inst, is_last: bool) -> bool
     !(is_plain_jump(inst) || (is_call(inst) && is_last))
 }
 
-/// The address into which the instruction at a place of a function falls, if it does.
+/// The address after the instruction `inst`, which has the index `place` in `func.insts`, if control goes on to it.
 pub fn fall_target(func: &Func, place: usize, inst: &Placed) -> Option<u64>
     requires inside { place < length func.now.insts.items }
     requires room { inst.now.addr + inst.now.len < 2 ^ 64 }

@@ -168,7 +168,7 @@ fn remuw(left: u64, right: u64) -> u64
     }
 }
 
-// The quotient of signed numbers, rounded toward zero. 2 ^ 63 has the bits of -2 ^ 63.
+// The quotient of signed numbers, rounded toward zero. -2^63 / -1 wraps to -2^63. ISA manual, section 13.2.
 fn quotient(dividend: i64, divisor: i64) -> u64
     requires { divisor ≢ pos 0 }
     ensures { result ≡ unsigned64 (int_div dividend divisor) }

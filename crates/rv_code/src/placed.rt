@@ -51,7 +51,7 @@ pub struct Func {
     pub start: u64,
     /// The address after its last byte.
     pub end: u64,
-    /// Whether it moves as one piece, since an exception table names places in it.
+    /// Whether it is whole: it moves as one piece, since an exception table names places in it.
     pub whole: bool,
     /// Its instructions, by address.
     pub insts: Vec<Placed>,
@@ -66,7 +66,8 @@ pub struct InstPlace {
     pub inst: usize,
 }
 
-/// A basic block: a stretch of one function's instructions that is entered only at its first.
+/// A basic block: a stretch of one function's instructions that is entered only at its first. A function that moves as
+/// one piece is one block.
 #[derive(Clone, Copy)]
 pub struct Block {
     /// The function's place in the list of functions.

@@ -6,10 +6,12 @@ use crate::flow::falls;
 use crate::inst::Inst;
 use crate::placed::{Block, Func, Placed};
 
-/// The most bytes of worst size in which every JAL reaches.
+/// Code of at most this worst size may be put in any order: a JAL, which reaches 2^20 bytes either way, leads from
+/// anywhere in it to anywhere.
 pub const NEAR_LIMIT: u128 = 1_000_000;
 
-/// The most bytes that a block takes wherever it is put; none if it is of no function.
+/// The most bytes that a block takes wherever it is put, 0 if its function isn't in the list. A whole function is one
+/// block.
 pub fn worst_size_of_block(funcs: &[Func], block: &Block) -> u128
     ensures is { result ≡ worst.worst_size_of_block funcs.now block.now }
     ensures small { result ≤ 2 ^ 67 }
@@ -26,6 +28,7 @@ pub fn worst_size_of_block(funcs: &[Func], block: &Block) -> u128
     }
 }
 
+// The most bytes that a whole function takes: its instructions stay as they are, and a jump may be added behind them.
 fn worst_whole_size(func: &Func) -> u128
     ensures is { result ≡ worst.worst_whole_size func.now }
     ensures small { result ≤ 2 ^ 67 }
@@ -41,7 +44,7 @@ fn worst_block_size(func: &Func, first: usize, last: usize) -> u128
     worst_lengths(insts_between(func, first, last)) + added_jump(func, last)
 }
 
-// The instructions of a function from one index to another; none past its end.
+// The instructions of a function from index `first` to `last`, as far as there are any.
 fn insts_between(func: &Func, first: usize, last: usize) -> &[Placed]
     ensures { result.now ≡ take (last + 1 - first) (drop first func.now.insts.items) }
 {
@@ -66,7 +69,8 @@ fn worst_lengths(insts: &[Placed]) -> u128
     size
 }
 
-// The most bytes that an instruction takes, if it has so many now.
+// The most bytes that an instruction takes: a branch may become one of opposite sense over a JAL, and C.J a JAL; all
+// others keep their length.
 fn worst_length(inst: &Placed) -> u8
     ensures { result ≡ worst.worst_length inst.now }
 {
@@ -82,7 +86,7 @@ fn worst_length(inst: &Placed) -> u8
     }
 }
 
-// The bytes of a jump that may be added after the instruction of an index of a function.
+// The bytes of the JAL that may be added after the instruction at `index`, where control goes on from it.
 fn added_jump(func: &Func, index: usize) -> u128
     ensures is { result ≡ worst.added_jump func.now index }
     ensures small { result ≤ 4 }

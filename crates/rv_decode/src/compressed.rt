@@ -28,7 +28,7 @@ pub fn lower_register(half: u32) -> u8
     8 + bits(half, 2, 3) as u8
 }
 
-/// The six bits 12 and 6:2: a shift's amount, or an immediate without its sign.
+/// The six bits 12 and 6:2: a shift's amount, or an immediate in two's complement.
 pub fn six_bits(half: u32) -> u32
     ensures value { result ≡ six_bits half }
     ensures below { result < 64 }
@@ -43,7 +43,7 @@ pub fn signed_six(half: u32) -> i64
     sign(six_bits(half), 5)
 }
 
-/// The distance from the stack pointer in C.ADDI4SPN, before it is seen to be positive.
+/// The distance from the stack pointer in C.ADDI4SPN. With 0 the halfword is reserved.
 pub fn addi4spn_imm(half: u32) -> u32
     ensures { result ≡ addi4spn_imm half }
 {
@@ -53,7 +53,8 @@ pub fn addi4spn_imm(half: u32) -> u32
         + (bits(half, 6, 1) << 2)
 }
 
-/// The step of the stack pointer in C.ADDI16SP, without its sign.
+/// The ten bits of the step of the stack pointer in C.ADDI16SP, whose highest is the sign. With 0 the halfword is
+/// reserved.
 pub fn addi16sp_imm(half: u32) -> u32
     ensures value { result ≡ addi16sp_imm half }
     ensures below { result < 1024 }

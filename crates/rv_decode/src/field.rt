@@ -32,14 +32,14 @@ pub fn funct3(word: u32) -> u32
     bits(word, 12, 3)
 }
 
-/// Bits 31:25, which tell them apart further in format R and in shifts of 32 bits.
+/// Bits 31:25, which tell operations with one funct3 apart in format R and among shifts of 32 bits.
 pub fn funct7(word: u32) -> u32
     ensures { result ≡ field word 25 7 }
 {
     bits(word, 25, 7)
 }
 
-/// Bits 31:26, which tell shifts of 64 bits apart.
+/// Bits 31:26, which tell shifts of 64 bits by an immediate apart.
 pub fn funct6(word: u32) -> u32
     ensures { result ≡ field word 26 6 }
 {
@@ -72,7 +72,7 @@ pub fn imm_b(word: u32) -> i64
     sign(number, 12)
 }
 
-/// The immediate of format U: bits 31:12 alone.
+/// The immediate of format U: bits 31:12 alone, as a signed number of 20 bits.
 pub fn imm_u(word: u32) -> i64
     ensures { result ≡ imm_u word }
 {

@@ -12,7 +12,7 @@ use crate::field::rd;
 use rv_code::field::{bits, sign};
 use rv_code::{Inst, STACK_POINTER, ZERO};
 
-/// The rows of quadrant 1.
+/// The instruction of a halfword of quadrant 1, or None where no row has it.
 pub fn quadrant1(half: u32) -> Option<Inst>
     requires { field half 0 2 ≡ 1 }
     ensures { FindsOnly (IsHalf half) result }
@@ -43,7 +43,7 @@ pub fn quadrant1(half: u32) -> Option<Inst>
     }
 }
 
-// C.ADDIW.
+// C.ADDIW, which is reserved for x0.
 fn addiw(half: u32) -> Option<Inst>
     requires quadrant { field half 0 2 ≡ 1 }
     requires funct3 { field half 13 3 ≡ 1 }

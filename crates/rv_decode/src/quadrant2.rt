@@ -12,7 +12,7 @@ use crate::field::rd;
 use rv_code::field::bits;
 use rv_code::{Inst, RETURN_ADDRESS, STACK_POINTER, ZERO};
 
-/// The rows of quadrant 2.
+/// The instruction of a halfword of quadrant 2, or None where no row has it.
 pub fn quadrant2(half: u32) -> Option<Inst>
     requires { field half 0 2 ≡ 2 }
     ensures { FindsOnly (IsHalf half) result }
@@ -41,7 +41,7 @@ pub fn quadrant2(half: u32) -> Option<Inst>
     }
 }
 
-// C.LWSP or C.LDSP.
+// C.LWSP or C.LDSP, which are reserved for x0.
 fn load_from_stack(half: u32) -> Option<Inst>
     requires quadrant { field half 0 2 ≡ 2 }
     requires funct3 { (field half 13 3 ≡ 2) ⊎ (field half 13 3 ≡ 3) }

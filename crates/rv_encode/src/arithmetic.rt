@@ -57,7 +57,7 @@ pub fn c_andi(rd: u8, rs1: u8, imm: i64) -> Option<u16>
     Some(arithmetic(2, rd, number))
 }
 
-/// Arithmetic on two of the registers 8 to 15, told apart by bit 12 and bits 6:5.
+/// C.SUB, C.XOR, C.OR, C.AND, C.SUBW or C.ADDW, by bit 12 and bits 6:5.
 pub fn arithmetic_pair(bit12: u32, funct2: u32, rd: u8, rs1: u8, rs2: u8) -> Option<u16>
     requires bit12 { bit12 < 2 }
     requires funct2 { funct2 < 4 }

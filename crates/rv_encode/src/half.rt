@@ -40,6 +40,7 @@ pub fn encode_half(inst: &Inst) -> Option<u16>
         Inst::Addiw { rd, rs1, imm } => c_addiw(rd, rs1, imm),
         Inst::Addw { rd, rs1, rs2 } => arithmetic_pair(1, 1, rd, rs1, rs2),
         Inst::Subw { rd, rs1, rs2 } => arithmetic_pair(1, 0, rd, rs1, rs2),
+        // C.EBREAK.
         Inst::Ebreak => Some(0x9002),
         _ => None,
     }

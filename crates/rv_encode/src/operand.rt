@@ -4,8 +4,7 @@ ghost use Rattle.rv_code.specs.isa.Reach.{IsWithin};
 ghost use Rattle.std.specs.Int.RustNames.{int_rem};
 ghost use Rattle.rv_code.specs.isa.Bits.{signed_by};
 
-/// The number that is `imm` once its top bit, which is worth `weight`, is read as a sign; None where there
-/// is none.
+/// `imm` in two's complement, for a field whose highest bit is worth `weight`; None where it doesn't fit.
 pub fn unsigned(imm: i64, weight: u32) -> Option<u32>
     requires { weight < 2 ^ 31 }
     ensures below { IfSome result (λ n. n < 2 * weight) }
@@ -21,7 +20,8 @@ pub fn unsigned(imm: i64, weight: u32) -> Option<u32>
     Some(number as u32)
 }
 
-/// An offset from 0 to before `end` that is a multiple of `unit`; None for any other.
+/// `imm` as the number of a field, if it is a multiple of `unit` from 0 to before `end`. No form has an `end` above
+/// 1024, that of C.ADDI4SPN.
 pub fn multiple(imm: i64, unit: i64, end: i64) -> Option<u32>
     requires unit { pos 0 <ℤ unit }
     requires end { end ≤ℤ pos 1024 }

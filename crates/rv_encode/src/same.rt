@@ -1,10 +1,11 @@
-// Equality of instructions.
+// Equality of instructions. A derived `==` has no clause for an enum of so many variants, so they are compared by parts
+// that a struct has.
 ghost use Rattle.std.specs.Prelude.{◌≡◌, ◌↔◌, IsTrue};
 ghost use Rattle.rv_encode.specs.internal.PartsOfInst.{parts_of};
 
 use rv_code::Inst;
 
-/// An instruction as its number among all, its registers and its immediate.
+/// An instruction as its number in the order of [`Inst`], its registers and its immediate. What it doesn't have is 0.
 #[derive(Clone, Copy, PartialEq, Eq)]
 pub struct InstParts {
     pub number: u8,
@@ -104,7 +105,7 @@ fn are_same_parts(a: &InstParts, b: &InstParts) -> bool
     *a == *b
 }
 
-/// Whether two instructions are one.
+/// Whether two instructions are the same, operands included.
 pub fn is_same(a: &Inst, b: &Inst) -> bool
     ensures { IsTrue result ↔ (a.now ≡ b.now) }
 {

@@ -66,7 +66,8 @@ impl<'a> Machine<'a> {
         Stepped::Going
     }
 
-    // The size of the buffer of a call that reads or writes.
+    // How many bytes a call moves at most: the size of the buffer, which is its third argument, and no more than
+    // `MOST_MOVED`.
     fn buffer_size(&self) -> usize
         ensures is { (input : List ℕ) → result ≡ buffer_size (state_of self.now input) }
         ensures few { result ≤ 65536 }

@@ -8,8 +8,8 @@ impl<'a> Machine<'a> {
     ghost use Rattle.rv_code.specs.machine.Step.{halfword, fetched};
     ghost use Rattle.rv_machine.specs.State.{state_of};
 
-    /// The halfword at the pc, and the next one where the first begins a longer form; none where there is no
-    /// right to execute them.
+    /// The halfword at the pc, and the next one where the first begins a longer form; none at an odd pc, or where
+    /// there is no right to execute them.
     pub(crate) fn fetch(&self) -> Option<(u16, Option<u16>)>
         ensures { (input : List ℕ) → result ≡ fetched (state_of self.now input) }
     {

@@ -16,8 +16,8 @@ pub struct KnownAction {
     pub length: u8,
 }
 
-/// What was decoded last of the halfwords that share a place in this table, so that loops decode their instructions
-/// once.
+/// Decoded instructions by their halfwords, so that loops decode theirs once. Halfwords can share a place with others:
+/// then what was decoded last stands there.
 #[derive(Drop)]
 pub struct KnownActions {
     pub entries: Vec<KnownAction>,
@@ -29,7 +29,7 @@ const PLACES: usize = 16384;
 // C.NOP, which fills the table before anything is decoded.
 const NOP: u16 = 1;
 
-// The place of halfwords in the table.
+// The place of halfwords in the table. Any would do: the factor spreads what differs in the second halfword alone.
 fn place(half: u16, next: Option<u16>) -> usize {
     let upper = next.unwrap_or(0) as usize;
     (half as usize / 4 + upper * 5) % PLACES

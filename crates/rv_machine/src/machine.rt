@@ -26,7 +26,7 @@ impl<'a> Machine<'a> {
         self.pc
     }
 
-    /// The value of a register.
+    /// The value of a register, 0 for numbers past 31.
     pub(crate) fn register(&self, register: u8) -> u64
         ensures { result ≡ registers_of self.now register }
     {

@@ -10,7 +10,7 @@ use run_core::InputEnd;
 /// What a run answers.
 #[derive(Clone, Copy)]
 pub struct Ran {
-    /// What the last step came to. `Going` says that the steps are up.
+    /// What the last step came to. `Going` says that the limit of steps was reached.
     pub end: Stepped,
     /// The steps that were done. One that ends is counted, one that traps or fails isn't.
     pub steps: u64,
@@ -21,7 +21,7 @@ impl Ran {
     ghost use Rattle.run_core.specs.Runs.{steps_done};
     ghost use Rattle.rv_machine.specs.StepResults.{answered};
 
-    /// A run that came to its end in the step after so many.
+    /// A run that came to its end in the step after `steps` others.
     pub fn ended(end: Stepped, steps: u64) -> Ran
         requires { steps < 2 ^ 64 - 1 }
         ensures end { result.end ≡ end }

@@ -18,7 +18,8 @@ impl<'a> Machine<'a> {
 
     /// Does the instruction at the pc. Input comes from `input`, and output goes to `out`.
     ///
-    /// After `Memory`, `Trap` and `Ended` the machine is as it was; after the two faults nothing is said of it.
+    /// After `Memory`, `Trap` and `Ended` the machine is as it was; after the two faults nothing is said of it. A call
+    /// asks `input` also where an earlier one found it at its end; [`Machine::run`] doesn't.
     pub fn step<I: Source, O: Sink>(&mut self, input: &mut I, out: &mut O) -> Stepped
         ensures answer { (ends : Bool) × StepAnswers Steps result self.old self.new false ends
             (outside_of (I.seen input.old) (O.seen out.old))

@@ -10,7 +10,8 @@ use Rattle.rv_memory.specs.declared.code_range.CodeRange.{CodeRange}
 abbrev pub is_in_code : CodeRange → ℕ → Bool
 is_in_code range q = nat_le range.from q && nat_lt q range.to
 
--- it is loaded to be written, in the stack, or in what a break can gain that starts and ends there
+-- an address is loaded with the right to write, lies in the stack, or in what a break with this start and this bound
+-- can gain
 abbrev pub is_ever_writable : List Segment → ℕ → ℕ → ℕ → Bool
 is_ever_writable segments from to q = (is_loaded_with PF_W segments q || in_stack q) || (nat_le from q && nat_lt q to)
 
@@ -27,6 +28,6 @@ pub record IsFixedCode (file : List ℕ) (from to : ℕ) (p : Segment) : Type 0 
   pub apart : (p.vaddr + loaded_size p ≤ from) ⊎ (to ≤ p.vaddr)
   pub in_file : p.offset + loaded_size p ≤ length file
 
--- where they are loaded
+-- the addresses to which these bytes are loaded, and where they stand in the file
 abbrev pub loaded_range : Segment → CodeRange
 loaded_range p = record { from = p.vaddr; to = p.vaddr + loaded_size p; offset = p.offset }

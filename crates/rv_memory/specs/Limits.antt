@@ -4,7 +4,7 @@ use Rattle.std.specs.Prelude.{ℕ, ◌≤◌, List, length, sum_by}
 abbrev pub most_args : ℕ
 most_args = 64
 
--- of all arguments together
+-- of all arguments together, without the zero bytes that end them
 abbrev pub most_arg_bytes : ℕ
 most_arg_bytes = 65536
 

@@ -35,7 +35,7 @@ space_in m = record {
   break_bound = m.break_bound;
 }
 
--- the rights of today
+-- what the program may do now, with the break where it is
 
 abbrev pub gained_by_break : Memory → ℕ → Bool
 gained_by_break m a = nat_le m.break_start a && nat_lt a m.program_break

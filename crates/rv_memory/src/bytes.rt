@@ -66,7 +66,7 @@ fn put_u64(bytes: &mut [u8], at: usize, number: u64)
     LittleEndian::write_u64(&mut bytes[at..], number);
 }
 
-// Writes another count of bytes, of which no store has one.
+// Writes a number of bytes that no store has: not 1, 2, 4 or 8.
 fn put_front(bytes: &mut [u8], at: usize, count: u8, number: u64)
     requires few { count ≤ 8 }
     requires within { at + count ≤ length bytes.old }
@@ -77,7 +77,7 @@ fn put_front(bytes: &mut [u8], at: usize, count: u8, number: u64)
     put_bytes(bytes, at, front);
 }
 
-/// The number of `count` bytes at a place, the lowest first.
+/// The number of `count` bytes at a place, the lowest first; none where `count` isn't 1, 2, 4 or 8.
 pub fn number_in(bytes: &[u8], at: usize, count: u8) -> Option<u64>
     requires { at + count ≤ length bytes.now }
     ensures value { IfSome result (λ number. number ≡ number_at bytes.now at count) }

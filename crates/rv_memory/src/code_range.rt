@@ -24,7 +24,7 @@ const EMPTY: CodeRange = CodeRange {
     offset: 0,
 };
 
-// Whether two runs of addresses share none.
+// Whether the ranges from `from` to before `to` and from `start` to before `end` lie apart.
 fn lie_apart(from: u64, to: u64, start: u64, end: u64) -> bool
     ensures { IsTrue result ↔ ((to ≤ start) ⊎ (end ≤ from)) }
 {
@@ -34,8 +34,8 @@ fn lie_apart(from: u64, to: u64, start: u64, end: u64) -> bool
     end <= from
 }
 
-/// What the file has of the segment of the entry point, where that may be executed and never be written. Empty
-/// elsewhere.
+/// The bytes that the file has of the segment of the entry point, if that may be executed and nothing can write there:
+/// it isn't writable, and lies below the stack and apart from the break. Else the empty range.
 pub fn code_range(elf: &Elf, break_start: u64, break_bound: u64) -> CodeRange
     ensures fixed { (q : ℕ) → is_in_code result q ≡ true →
         is_ever_writable elf.now.segments.items break_start break_bound q ≡ false }

@@ -134,7 +134,7 @@ impl<'a> Memory<'a> {
         self.alloc
     }
 
-    // The number of `count` bytes, byte by byte.
+    // The number of `count` bytes, byte by byte, for bytes on two pages or on a page that wasn't written.
     #[tactic(auto, using(crate::proofs::MemoryBytes::little_none, crate::proofs::MemoryBytes::little_step))]
     fn number_of_bytes(&self, address: u64, count: u8) -> u64
         requires { count ≤ 8 }
@@ -203,7 +203,8 @@ impl<'a> Memory<'a> {
         Ok(())
     }
 
-    /// Takes room for `count` bytes from an address on, and gives a buffer of that size.
+    /// Takes room for `count` bytes from an address on, and gives a buffer of that size, which is for what
+    /// [`Memory::overwrite`] writes there.
     pub fn buffer(&mut self, address: u64, count: usize) -> Result<Vec<u8>, NoMemory>
         ensures size { IfOk result (λ buffer. length buffer.items ≡ count) }
         ensures kept { (q : ℕ) → memory_of self.new q ≡ memory_of self.old q }
@@ -214,7 +215,8 @@ impl<'a> Memory<'a> {
         Ok(Vec::from_elem(self.alloc, 0, count)?)
     }
 
-    /// Takes room for `count` bytes from an address on. The bytes stay as they are.
+    /// Makes the pages of `count` bytes from an address on, so that writing them takes no memory. The bytes stay as
+    /// they are.
     pub fn reserve(&mut self, address: u64, count: usize) -> Result<(), NoMemory>
         ensures kept { (q : ℕ) → memory_of self.new q ≡ memory_of self.old q }
         ensures room { IsOk result → HasRoom self.new address count }
@@ -343,7 +345,8 @@ impl<'a> Memory<'a> {
         self.may_each(access, address, count)
     }
 
-    // Whether all of the addresses lie in the stack, in the break or in one segment, and may be used so.
+    // Whether all of the addresses lie in the stack, in the break or in one segment, and may be used so. That settles
+    // most accesses; where it is false, each address is looked up.
     fn may_run(&self, access: Access, address: u64, count: usize) -> bool
         ensures { IsTrue result → all_may (may self.now access) address count ≡ true }
     {
@@ -354,7 +357,7 @@ impl<'a> Memory<'a> {
         }
     }
 
-    // Whether they all lie in the stack, or all in the break.
+    // Whether all of the addresses lie in the stack, or all in the break.
     fn in_data(&self, address: u64, count: usize) -> bool
         ensures { IsTrue result → (all_may (reads self.now) address count ≡ true)
             × (all_may (writes self.now) address count ≡ true) }
@@ -363,7 +366,7 @@ impl<'a> Memory<'a> {
             || lies_in(self.break_start, self.program_break, address, count)
     }
 
-    // Whether one segment loads them all, with this flag.
+    // Whether one segment with this flag loads all of the addresses.
     fn in_segment(&self, flag: u32, address: u64, count: usize) -> bool
         requires { 0 < flag }
         ensures { IsTrue result → all_may (is_loaded_with flag self.now.elf.now.segments.items) address count ≡ true }

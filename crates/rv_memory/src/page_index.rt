@@ -7,8 +7,7 @@ use rb_bytes::fault::NoMemory;
 use std::alloc::Global;
 use std::collections::BTreeMap;
 
-/// The places of pages, by their numbers. The numbers stand in groups of at most 64, and a group's key is the
-/// first number that it can have, divided by 64.
+/// The places of pages, by their numbers. The numbers with one quotient by 64 form a group, whose key is the quotient.
 #[derive(Drop)]
 pub struct PageIndex {
     groups: BTreeMap<u64, PageGroup>,

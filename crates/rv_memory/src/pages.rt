@@ -23,7 +23,8 @@ pub struct Pages {
     pub bytes: Vec<u8>,
     pub numbers: Vec<u64>,
     pub index: PageIndex,
-    // The places of pages that were written, by the lowest bits of their numbers.
+    // By the lowest bits of a page's number, the place of the last page with these bits that was added. It may be that
+    // of another page, so the number there is compared.
     recent: [usize; RECENT],
     pub ghost sized: { length bytes.items ≡ length numbers.items * 4096 },
     pub ghost indexed: { (i : ℕ) → i < length numbers.items → place_of index (slice_index numbers.items i) ≡ Some i },
@@ -35,7 +36,7 @@ impl Pages {
     ghost use Rattle.rv_code.specs.machine.Machine.{plus, memory_bytes, little, low_bytes};
     ghost use Rattle.rv_memory.specs.Pages.{page_byte, byte_put, byte_cleared, cleared_between, IsLike};
 
-    /// No page.
+    /// Without a page.
     pub fn new(alloc: Global) -> Pages
         ensures { (q : ℕ) → page_byte result q ≡ None }
     {
@@ -66,7 +67,8 @@ impl Pages {
         Some(self.bytes[place * PAGE_SIZE + (address % PAGE_SIZE as u64) as usize])
     }
 
-    /// The number of `count` bytes at an address, all in one page: 1, 2, 4 or 8. None where there is no page.
+    /// The number of 1, 2, 4 or 8 bytes at an address, all in one page. None where there is no page, or for another
+    /// count.
     pub fn number(&self, address: u64, count: u8) -> Option<u64>
         requires { address % 4096 + count ≤ 4096 }
         ensures value { IfSome result

@@ -11,7 +11,7 @@ fn rounded_down(address: u64) -> u64
     address / PAGE_SIZE * PAGE_SIZE
 }
 
-/// The least break: the end of the highest writable segment, on a whole page.
+/// The least break: the end of the highest writable segment, rounded up to a whole page; 0 where none is writable.
 pub fn break_start(segments: &[Segment]) -> u64
     requires { writable_end segments.now ≤ 2 ^ 63 }
     ensures { result ≡ break_start segments.now }
@@ -19,7 +19,8 @@ pub fn break_start(segments: &[Segment]) -> u64
     (writable_end(segments) as u64 + (PAGE_SIZE - 1)) / PAGE_SIZE * PAGE_SIZE
 }
 
-/// The greatest break.
+/// The greatest break: `BREAK_ROOM` above the least, but not past the start of a page on which a higher segment begins.
+/// It is 0 where no segment is writable.
 pub fn break_bound(segments: &[Segment]) -> u64
     requires { writable_end segments.now ≤ 2 ^ 63 }
     ensures { result ≡ break_bound segments.now }

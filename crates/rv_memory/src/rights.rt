@@ -13,7 +13,7 @@ pub enum Access {
     Execute,
 }
 
-/// The first address past the stack.
+/// The first address past the stack, which lies above all that a file can load.
 pub const STACK_END: u64 = 0x40_0000_0000;
 
 /// The stack's size in bytes: 8 MiB.
@@ -37,7 +37,7 @@ pub fn is_loaded_with(elf: &Elf, flag: u32, address: u64) -> bool
     }
 }
 
-/// Whether `count` addresses lie from one address on and before another.
+/// Whether the `count` addresses from `address` on lie from `from` to before `to`.
 pub fn lies_in(from: u64, to: u64, address: u64, count: usize) -> bool
     ensures { IsTrue result ↔ ((from ≤ address) × (address + count ≤ to)) }
 {

@@ -18,13 +18,14 @@ use std::alloc::Global;
 /// The most arguments that a program may be started with.
 pub const MOST_ARGS: usize = 64;
 
-/// The most bytes of them together.
+/// The most bytes of all arguments together, without the zero bytes that end them.
 pub const MOST_ARG_BYTES: usize = 65536;
 
-// The name that every program is run by.
+// The first argument, the name by which every program is run.
 const PROGRAM: &[u8] = b"program";
 
-// The address of the 16 bytes at the stack's end.
+// The 16 bytes that AT_RANDOM gives stand at the stack's end. They are the same in all runs, so that runs can be
+// repeated.
 const RANDOM_ADDRESS: u64 = 0x3f_ffff_fff0;
 
 const RANDOM_BYTES: [u8; 16] = [0, 1, 2, 3, 4, 5, 6, 7, 8, 9, 10, 11, 12, 13, 14, 15];
@@ -45,7 +46,7 @@ fn put_text(out: &mut Vec<u8>, text: &[u8]) -> Result<(), NoMemory>
     Ok(())
 }
 
-// The arguments' texts, each with a zero byte.
+// The texts of the program's name and of the arguments, each with a zero byte.
 fn texts(alloc: Global, args: &[String]) -> Result<Vec<u8>, NoMemory>
     ensures { IfOk result (λ out. out.items ≡ texts (map string_bytes args.now)) }
 {
@@ -67,7 +68,7 @@ fn put_numbers(out: &mut Vec<u8>, numbers: &[u64]) -> Result<(), NoMemory>
     Ok(())
 }
 
-// The addresses of the arguments' texts, the first of which stands at `address`.
+// The addresses of the texts of the program's name, which stands at `address`, and of the arguments.
 fn put_addresses(out: &mut Vec<u8>, address: u64, args: &[String]) -> Result<(), NoMemory>
     requires { address + length (texts (map string_bytes args.now)) ≤ 2 ^ 38 }
     ensures { OnOk result
@@ -144,7 +145,9 @@ fn start_bytes(alloc: Global, elf: &Elf, args: &[String], address: u64) -> Resul
     Ok(out)
 }
 
-// The address of the numbers at the start, below the arguments' texts.
+// The address of the numbers at the start, a multiple of 16 below the texts at `address`. Beside the addresses of
+// `count` texts there are 17: the count, the ends of two lists, and the 14 numbers of the auxiliary vector. `room` asks
+// for far more than all these take.
 fn stack_pointer(address: u64, count: u64) -> u64
     requires address { address ≤ random_address }
     requires room { 1000000 ≤ address }

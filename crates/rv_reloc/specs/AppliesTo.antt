@@ -11,7 +11,7 @@ abbrev pub sections_of : AppliesTo → List Section
 sections_of (One s) = s.now ∷ []
 sections_of (Several last first) = last.now ∷ first.now ∷ []
 
--- that which starts last, and that which ends first
+-- the section that starts last, and the one that ends first
 abbrev pub last_start : AppliesTo → Section
 last_start (One s) = s.now
 last_start (Several last first) = last.now
@@ -20,7 +20,7 @@ abbrev pub first_end : AppliesTo → Section
 first_end (One s) = s.now
 first_end (Several last first) = first.now
 
--- of two sections
+-- the section of two that starts later, and the one that ends sooner
 
 abbrev pub later_start : Section → Section → Section
 later_start s t = if nat_lt s.addr t.addr then t else s
@@ -28,6 +28,6 @@ later_start s t = if nat_lt s.addr t.addr then t else s
 abbrev pub sooner_end : Section → Section → Section
 sooner_end s t = if nat_lt (end_of t) (end_of s) then t else s
 
--- of two such
+-- the sections to which relocations apply that apply to those of both
 abbrev pub joined : AppliesTo → AppliesTo → List Section
 joined a b = later_start (last_start a) (last_start b) ∷ sooner_end (first_end a) (first_end b) ∷ []

@@ -18,14 +18,15 @@ pub record MissesLabel (elf : Elf) (hi entry : ℕ) : Type 0 where
   pub place_is : wanted.place ≡ hi
   pub unfit : IsSomeAnd (loaded_number elf entry 8) (λ v. wanted.label ≡ pos v) → ⊥
 
--- a lower part and the AUIPC that it names make the address of such an entry
+-- a lower part and the AUIPC that it names make the address of an entry that doesn't hold a label of a relocation
 pub record NamesBadEntry (elf : Elf) (l : Low) : Type 0 where
   pub entry : ℕ
   pub makes : IsTargetOf elf l (pos entry)
   pub address : IsAddress (pos entry)
   pub misses : MissesLabel elf l.hi entry
 
--- a relocation gives an AUIPC an upper part that does so with a lower part
+-- a relocation gives an AUIPC an upper part that, with a lower part, makes the address of an entry that doesn't hold
+-- the relocation's label
 pub record HasBadEntry (elf : Elf) (r : Relocation) : Type 0 where
   pub is_slot : r.kind ≡ R_RISCV_GOT_HI20
   pub entry : ℕ

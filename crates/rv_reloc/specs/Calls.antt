@@ -33,14 +33,14 @@ IsThrough c = (c.jalr.base ≡ c.auipc.rd) × (c.jalr.base ≢ 0)
 abbrev pub IsWeak : CallInsts → Type 0
 IsWeak c = (c.jalr.base ≡ 0) × (c.auipc.imm ≡ pos 0) × ((c.auipc.rd ≡ 0) ⊎ (c.jalr.imm ≡ pos 0))
 
--- at an address it goes somewhere, or is weak
+-- a call at an address goes to an address, or is one of an undefined weak symbol
 abbrev pub FitsCall : ℕ → CallInsts → Type 0
 FitsCall a c = (IsThrough c × IsAddress (pair_target a c.auipc.imm c.jalr.imm)) ⊎ IsWeak c
 
--- at an address it goes to another one
+-- a call at the address a goes to `target`
 abbrev pub GoesTo : ℕ → CallInsts → ℕ → Type 0
 GoesTo a c target = IsThrough c × (pos target ≡ pair_target a c.auipc.imm c.jalr.imm)
 
--- at an address its AUIPC names another one: the target, or its own where the JALR jumps through x0
+-- the AUIPC of a call at the address a names an address: the target, or a itself where the JALR jumps through x0
 abbrev pub Names : ℕ → CallInsts → ℕ → Type 0
 Names a c target = GoesTo a c target ⊎ ((c.jalr.base ≡ 0) × (target ≡ a))

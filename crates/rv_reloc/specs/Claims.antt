@@ -28,12 +28,12 @@ pub record IsClaimOf (elf : Elf) (r : Relocation) (a : ℕ) (c : Claim) : Type 0
   pub claims : Claims elf r a c.key c.role
   pub sure : IsSure elf r.kind a c.key c.role
 
--- a relocation makes it
+-- a relocation makes the claim
 pub record IsClaim (elf : Elf) (c : Claim) : Type 0 where
   pub source : Relocation
   pub is_claim : IsClaimOf elf source c.at c
 
--- No claim is before all of these.
+-- Claims of relocations in order. For each claim that a relocation makes there is one that comes no later.
 pub record AreClaims (elf : Elf) (claims : List Claim) : Type 0 where
   pub ordered : AllPairs IsClaimUpTo claims
   pub sound : (c : Claim) → Contains claims c → IsClaim elf c

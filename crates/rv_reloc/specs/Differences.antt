@@ -15,7 +15,7 @@ pub record IsDifferenceOf (elf : Elf) (r : Relocation) (d : Difference) : Type 0
   pub to_size : IsLabelSize d.to
   pub from_size : IsLabelSize d.from
 
--- it is the one with a width and labels
+-- a difference is the one of this width and these labels
 pub record IsTheDifference (width : relocations.Width) (to from : ℤ) (d : Difference) : Type 0 where
   pub width_is : width_of d.width ≡ width
   pub to_is : d.to ≡ to

@@ -1,5 +1,4 @@
--- Relocations that stand one behind another, by their numbers: that of number k stands so many bytes behind k times
--- its size.
+-- Relocations that stand one behind another, by their numbers: the one of number k stands at the offset `phase` + 24 k.
 use Rattle.std.specs.Prelude.{◌≡◌, ◌≤◌, ℕ, ◌+◌, ◌-◌, ◌*◌, List, ◌++◌, All, map}
 use Rattle.std.specs.List.{range_with_len, flat_map}
 use Rattle.elf_image.specs.declared.section.Section.{Section}
@@ -11,7 +10,7 @@ use Rattle.rv_reloc.specs.AppliesTo.{sections_of, joined}
 abbrev pub entry : List ℕ → ℕ → Section → ℕ → Relocation
 entry file phase section k = relocation_at file section (phase + RELA_SIZE * k)
 
--- those of a run, for one section
+-- the relocations of a run, as they apply to one section
 abbrev pub numbered : List ℕ → EntryRun → Section → List Relocation
 numbered file run section = map (entry file run.phase section) (range_with_len run.first (run.end - run.first))
 
@@ -25,7 +24,7 @@ entries file runs = flat_map (run_entries file) runs
 abbrev pub IsWholeRun : ℕ → EntryRun → Type 0
 IsWholeRun size run = run.phase + RELA_SIZE * run.end ≤ size
 
--- a run is another from one number to another
+-- a run is the part of another from one number to another
 pub record IsPart (run : EntryRun) (first end : ℕ) (part : EntryRun) : Type 0 where
   pub sections_are : sections_of part.applies_to ≡ sections_of run.applies_to
   pub phase_is : part.phase ≡ run.phase

@@ -15,7 +15,7 @@ pub record IsLowOf (elf : Elf) (r : Relocation) (l : Low) : Type 0 where
   pub there : IsFullAt elf r.place inst
   pub immediate : lower_immediate r.kind inst ≡ Some l.imm
 
--- one that counts does
+-- a relocation that counts gives a lower part
 pub record IsLowPart (elf : Elf) (l : Low) : Type 0 where
   pub source : Relocation
   pub part : PcrelLo elf source l.hi l.imm

@@ -10,10 +10,10 @@ use Rattle.rv_reloc.specs.Pairs.{MakesNoAddress}
 abbrev pub HasBadSymbol : Elf → Relocation → Type 0
 HasBadSymbol elf r = (r.symbol ≢ 0) × (length elf.symbols.items ≤ r.symbol)
 
--- it isn't on the instructions that it is for, or these say something else
+-- a relocation isn't on the instructions that it is for, or these say something else
 abbrev pub IsMisplaced : Elf → Relocation → Type 0
 IsMisplaced elf r = (IsBadCall elf r ⊎ IsBadUpper elf r) ⊎ (IsBadLower elf r ⊎ IsBadAbsolute elf r)
 
--- it doesn't fit, whatever the entries of the global offset table hold
+-- a relocation doesn't fit, whatever the entries of the global offset table hold
 abbrev pub IsUnfit : Elf → Relocation → Type 0
 IsUnfit elf r = (IsBadField elf r ⊎ IsMisplaced elf r) ⊎ (MakesNoAddress elf r ⊎ IsBadDifference elf r)

@@ -9,7 +9,7 @@ pub record NamesUpper (elf : Elf) (r : Relocation) (a : ℕ) : Type 0 where
   pub is_low : IsTrue (is_pcrel_lo r.kind)
   pub names : symbol_value elf r ≡ a
 
--- all of them, ascending
+-- all addresses that relocations for lower parts name, ascending
 pub record AreNamed (elf : Elf) (named : List ℕ) : Type 0 where
   pub all : (a : ℕ) → Contains named a ↔ IsNamedByLow elf a
   pub ascending : AllPairs (λ a b. a < b) named

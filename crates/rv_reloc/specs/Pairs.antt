@@ -8,7 +8,7 @@ use Rattle.elf_code.specs.ReferenceFaults.{IsAddress}
 use Rattle.rv_reloc.specs.declared.lows.Low.{Low}
 use Rattle.rv_reloc.specs.Lows.{IsLowPart}
 
--- the number that it makes with this AUIPC
+-- the number that a lower part makes with the AUIPC that it names
 pub record IsTargetOf (elf : Elf) (l : Low) (z : ℤ) : Type 0 where
   pub rd : ℕ
   pub upper : ℤ

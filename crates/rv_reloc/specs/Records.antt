@@ -11,7 +11,7 @@ use Rattle.rv_reloc.specs.declared.records.Record.{Record}
 use Rattle.rv_reloc.specs.Index.{class}
 use Rattle.rv_reloc.specs.Thinned.{IsThinned}
 
--- what a record is kept for
+-- the relocation that a record is
 abbrev pub seen : Record → Relocation
 seen r = record { place = r.place; kind = r.kind; symbol = r.symbol; addend = r.addend; section = r.section.now }
 
@@ -36,7 +36,7 @@ IsFrom place at r = (place < r.place) ⊎ ((place ≡ r.place) × (at ≤ class_
 abbrev pub AreInOrder : List Record → Type 0
 AreInOrder records = AllPairs (λ q r. IsFrom q.place (class_of q) r) records
 
--- all relocations that count, in this order; of some that occur more than twice not all
+-- All relocations that count, in this order. Of those that differ in their sections alone some may be left out.
 pub record AreRecords (elf : Elf) (records : List Record) : Type 0 where
   pub all : IsThinned (relocations elf) (map seen records)
   pub ordered : AreInOrder records
@@ -46,7 +46,7 @@ pub record AreRecords (elf : Elf) (records : List Record) : Type 0 where
 abbrev pub has_key : ℕ → ℕ → Record → Bool
 has_key place at r = r.place == place && class_of r == at
 
--- those before an index are before a place and a class, and the others aren't
+-- the records before an index come before those of a place and a class, and the others don't
 pub record IsSplit (place at : ℕ) (records : List Record) (index : ℕ) : Type 0 where
   pub bound : index ≤ length records
   pub below : (k : ℕ) (d : Record) → k < index → IsBelow place at (slice_index_or records k d)

@@ -10,7 +10,7 @@ use Rattle.rv_reloc.specs.declared.sweep.Candidate.{Candidate}
 use Rattle.rv_reloc.specs.CountedFields.{as_field, AreCounted}
 use Rattle.code_starts.specs.WholeParts.{AreWholeParts}
 
--- it was read from a file, in which its reader found no fault
+-- a file that was read, in which its reader found no fault
 pub record IsRead (elf : Elf) : Type 0 where
   pub file : List ℕ
   pub fields : IsElfOf file elf

@@ -24,7 +24,7 @@ IsLabelBelow place label s = (s.place < place) ⊎ ((s.place ≡ place) × (s.la
 abbrev pub IsLabelFrom : ℕ → ℤ → SlotLabel → Type 0
 IsLabelFrom place label s = (place < s.place) ⊎ ((place ≡ s.place) × (label ≤ℤ s.label))
 
--- all of a file, in this order
+-- all labels of a file that entries are to hold, in this order
 pub record AreSlotLabels (elf : Elf) (labels : List SlotLabel) : Type 0 where
   pub all : (s : SlotLabel) → Contains labels s ↔ IsSlotLabel elf s
   pub ordered : AllPairs (λ s t. IsLabelFrom s.place s.label t) labels

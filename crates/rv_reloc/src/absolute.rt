@@ -22,28 +22,28 @@ use elf_image::Elf;
 use elf_image::relocation::R_RISCV_HI20;
 use rv_code::Inst;
 
-// The part of an address that a LUI has.
+// The part of an address that a LUI has, `%hi`. psABI, "Absolute Addresses".
 fn hi20(address: u64) -> i64
     ensures { result ≡ hi20 (pos address) }
 {
     ((address as i128 + 0x800) >> 12) as i64
 }
 
-// The part of an address that the instruction after it has.
+// The part of an address that is added to it, `%lo`, as a signed number of 12 bits.
 fn lo12(address: u64) -> i64
     ensures { result ≡ lo12 (pos address) }
 {
     (address as i128 - 4096 * hi20(address) as i128) as i64
 }
 
-/// The code address of which a relocation for a part of an address speaks.
+/// The code address of which a relocation for a part of an absolute address speaks; none where its label is data.
 pub fn absolute_target(elf: &Elf, starts: &Starts, relocation: &Record) -> Option<u64>
     requires starts { AreStarts elf.now starts.now }
     requires counts { Contains (relocations elf.now) (seen relocation.now) }
     ensures there { IfSome result (AbsoluteTo elf.now (seen relocation.now)) }
     ensures only { (target : ℕ) → AbsoluteTo elf.now (seen relocation.now) target → result ≡ Some target }
 {
-    // That starts have 64 bits is a clause of the list, which the proof wants.
+    // Called for a clause alone: the members of the list have 64 bits.
     let _list = starts.list();
     let target = natural(label(elf, relocation))?;
     if starts.has(target) {

@@ -1,11 +1,11 @@
-// The sections to which relocations apply that several tables share.
+// The sections to which relocations apply that stand in several tables.
 ghost use Rattle.std.specs.Prelude.{◌≡◌};
 ghost use Rattle.rv_reloc.specs.AppliesTo.{end_of, later_start, sooner_end};
 
 use elf_image::Section;
 
-/// The sections to which relocations apply, as far as they tell: a field lies in each section to which its relocation
-/// applies where it lies in that which starts last and in that which ends first.
+/// The sections to which relocations apply. Of several, two are kept: a field lies in all of them where it lies in the
+/// one that starts last and in the one that ends first.
 #[derive(Clone, Copy)]
 pub enum AppliesTo<'a> {
     One(&'a Section<'a>),

@@ -19,7 +19,7 @@ use code_starts::start_index::Starts;
 use elf_image::Elf;
 use elf_image::lowest::{lower, place_if};
 
-// Whether the entry at an address, which the AUIPC at `hi` names, is to hold a label that isn't there.
+// Whether the entry at the address `entry`, which the AUIPC at `hi` names, doesn't hold each label that it is to hold.
 fn misses_label(elf: &Elf, labels: &[SlotLabel], hi: u64, entry: u64) -> bool
     requires low { IsLow elf.now }
     requires labels { AreSlotLabels elf.now labels.now }
@@ -31,7 +31,7 @@ fn misses_label(elf: &Elf, labels: &[SlotLabel], hi: u64, entry: u64) -> bool
     }
 }
 
-// Whether a lower part and its AUIPC name such an entry.
+// Whether a lower part and its AUIPC name an entry that doesn't hold each label that it is to hold.
 fn names_bad_entry(
     elf: &Elf,
     starts: &Starts,

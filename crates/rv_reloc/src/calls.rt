@@ -56,7 +56,7 @@ impl CallInsts {
         }
     }
 
-    /// What its AUIPC names: the target, or where it stands itself if the JALR jumps through x0.
+    /// What the AUIPC at `place` names: the target, or itself where the JALR jumps through x0.
     pub fn named(&self, place: u64) -> Option<u64>
         ensures is { IfSome result (Names place self.now) }
         ensures each { FitsCall place self.now → IsSome result }
@@ -68,7 +68,7 @@ impl CallInsts {
         }
     }
 
-    // Whether it goes to an address from `place`, or is weak.
+    // Whether the call goes from `place` to an address, or is one of an undefined weak symbol.
     fn fits(&self, place: u64) -> bool
         ensures { IsTrue result ↔ FitsCall place self.now }
     {

@@ -29,6 +29,7 @@ use rb_bytes::fault::NoMemory;
 use rb_bytes::lists::push_some;
 use std::alloc::Global;
 
+// Whether the byte at an offset is one of the file's header or of the table of program headers.
 fn is_in_headers(elf: &Elf, offset: u128) -> bool
     requires { offset < 2 ^ 65 }
     ensures { IsTrue result ↔ IsInHeaders elf.now offset }
@@ -38,6 +39,7 @@ fn is_in_headers(elf: &Elf, offset: u128) -> bool
         || (table <= offset && offset < table + PHDR_SIZE as u128 * elf.segments.len() as u128)
 }
 
+// Whether the byte at an address comes from the file, and not from its headers, which a rewriting changes.
 fn is_free_byte(elf: &Elf, address: u64) -> bool
     ensures { IsTrue result ↔ IsFreeByte elf.now address }
 {
@@ -47,7 +49,7 @@ fn is_free_byte(elf: &Elf, address: u64) -> bool
     }
 }
 
-// Whether all bytes of a field come from the file, and none is one of its headers.
+// Whether all bytes of a field come from the file, and none from its headers.
 fn are_free(elf: &Elf, place: u64, width: u8) -> bool
     requires low { IsLow elf.now }
     requires width { 0 < width }
@@ -64,7 +66,7 @@ fn are_free(elf: &Elf, place: u64, width: u8) -> bool
     true
 }
 
-/// The field of so many bytes at a place, if it holds a code address and can be a cell.
+/// The field of `width` bytes at a place, if it holds a code address and can be a cell.
 pub fn code_field(elf: &Elf, starts: &Starts, place: u64, width: u8) -> Option<Candidate>
     requires low { IsLow elf.now }
     requires starts { AreStarts elf.now starts.now }
@@ -85,14 +87,14 @@ pub fn code_field(elf: &Elf, starts: &Starts, place: u64, width: u8) -> Option<C
     }
 }
 
-// How many bytes an address has that a relocation of a whole one sets.
+// The width in bytes of the address that a relocation of this type sets.
 fn address_width(kind: u32) -> u8
     ensures { result ≡ address_width kind }
 {
     if kind == R_RISCV_32 { 4 } else { 8 }
 }
 
-// The bytes of a field that can be a cell, by the width of a difference.
+// The width in bytes of a difference that can be a cell.
 fn cell_bytes(width: FieldWidth) -> Option<u8>
     ensures { result ≡ cell_bytes width }
 {
@@ -139,7 +141,7 @@ fn cell_field(
     })
 }
 
-// A relocation's field, if it can be a cell. `near` is about where the relocation stands.
+// A relocation's field, if it can be a cell. `near` is about the index of the relocation in `records`.
 fn field_of(
     elf: &Elf,
     starts: &Starts,

@@ -29,7 +29,7 @@ use rb_bytes::fault::NoMemory;
 use rv_code::cell::{CellKind, CodeCell};
 use std::alloc::Global;
 
-// Whether a label is an address, which the end of those at which a file may be loaded is too.
+// Whether a label is an address: `ADDRESS_END` is one too, as a label can stand behind the last byte.
 fn is_address(label: i128) -> bool
     ensures { IsTrue result ↔ IsAddress label }
 {
@@ -95,7 +95,7 @@ fn cell_of(field: &Candidate) -> CodeCell
     }
 }
 
-/// The code cells, of the fields that count.
+/// The fields that count, as code cells.
 pub fn cells(alloc: Global, counted: &[Candidate]) -> Result<Vec<CodeCell>, NoMemory>
     requires { All HasAddresses counted.now }
     ensures { (elf : file.Elf) (tabled : List (ℕ × ℕ)) → AreCounted elf tabled (map as_field counted.now) →

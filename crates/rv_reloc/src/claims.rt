@@ -99,7 +99,8 @@ pub fn call_claims(
     }
 }
 
-/// The claim of an upper part that is not a call's to its AUIPC. All lower parts for it are the same.
+/// The claim of an upper part that is not a call's to its AUIPC. All lower parts for it are alike, so the first gives
+/// the target.
 pub fn upper_claim(
     elf: &Elf,
     starts: &Starts,

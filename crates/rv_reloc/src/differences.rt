@@ -38,8 +38,8 @@ pub struct Difference {
     pub from: i128,
 }
 
-// The difference of the labels that are added or set, and subtracted. Here and below, `near` is about where the
-// relocation stands.
+// The difference of the label that is added or set and the one that is subtracted, if there is exactly one of each.
+// Here and below, `near` is about the index of the relocation in `records`.
 fn labels_difference(
     elf: &Elf,
     records: &[Record],
@@ -95,7 +95,8 @@ fn label_width(kind: u32) -> Option<FieldWidth>
     plus_width(kind).or(minus_width(kind))
 }
 
-// Whether one relocation at a place adds a label of some width, and one takes one off. The contract alone names `elf`.
+// Whether exactly one relocation at a place adds or sets a label of some width, and exactly one subtracts one. Only the
+// contract speaks of `elf`.
 fn is_paired(elf: &Elf, records: &[Record], near: usize, place: u64, width: FieldWidth) -> bool
     requires { AreRecords elf.now records.now }
     ensures { IsTrue result ↔ IsPaired elf.now place (width_of width) }
@@ -104,7 +105,7 @@ fn is_paired(elf: &Elf, records: &[Record], near: usize, place: u64, width: Fiel
         && only_minus(records, near, place, width).is_some()
 }
 
-// Whether a relocation speaks of a code address, and isn't one of two that make a difference.
+// Whether a relocation adds, sets or subtracts a code address, and isn't one of two that make a difference.
 fn is_unpaired(
     elf: &Elf,
     starts: &Starts,
@@ -127,7 +128,7 @@ fn is_unpaired(
     }
 }
 
-// Whether the field of a difference holds another number.
+// Whether a relocation is for a difference, and its field holds another number.
 fn is_other_number(
     elf: &Elf,
     known: &[Known],
@@ -170,8 +171,7 @@ pub fn is_bad_difference(
         || is_unpaired(elf, starts, records, near, relocation)
 }
 
-// Whether a relocation makes a difference with a code address that no cell can hold, and not of two labels of one whole
-// part.
+// Whether a relocation makes a difference that can change as code moves, in a field that can't be a cell.
 fn is_narrow(
     elf: &Elf,
     starts: &Starts,
@@ -196,7 +196,8 @@ fn is_narrow(
     }
 }
 
-/// Whether a difference has a code address, and isn't of two labels of one whole part.
+/// Whether a difference can change as code moves: one of its labels is a code address, and they don't both lie in one
+/// part that stays whole.
 pub fn crosses(elf: &Elf, starts: &Starts, wholes: &[Part], difference: &Difference) -> bool
     requires starts { AreStarts elf.now starts.now }
     requires wholes { ArePartsApart wholes.now }
@@ -211,7 +212,8 @@ pub fn crosses(elf: &Elf, starts: &Starts, wholes: &[Part], difference: &Differe
     !in_one_whole(wholes, difference.to, difference.from)
 }
 
-/// The lowest place of a difference with a code address that no cell can hold, and not of two labels of one whole part.
+/// The lowest place of a difference that can change as code moves, in a field that can't be a cell: the fault
+/// `NarrowDiff`.
 pub fn lowest_narrow(elf: &Elf, starts: &Starts, wholes: &[Part], records: &[Record]) -> Option<u64>
     requires starts { AreStarts elf.now starts.now }
     requires wholes { ArePartsApart wholes.now }

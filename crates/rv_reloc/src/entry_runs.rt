@@ -19,7 +19,8 @@ pub fn is_named(section: &Section, name: &[u8]) -> bool
     section.name == name
 }
 
-// Whether the relocations of a section count.
+// Whether the relocations that apply to a section count. Those of unwind tables don't: such tables are read and written
+// as a whole.
 fn counts(section: &Section) -> bool
     ensures { result ≡ counts section.now }
 {
@@ -49,7 +50,7 @@ fn run_for<'a>(elf: &Elf<'a>, table: &Section, section: &'a Section<'a>) -> Opti
     })
 }
 
-// The run of a section that is a table with relocations that count.
+// The run of a section, if it is a table of relocations, these count and there are any.
 fn run_of<'a>(elf: &'a Elf<'a>, table: &Section) -> Option<EntryRun<'a>>
     requires contained { IsContained elf.now.file.now table.now }
     ensures is { IfSome result (λ run. run_entries elf.now.file.now run ≡ entries_of elf.now table.now) }

@@ -28,7 +28,7 @@ use elf_image::lowest::lower;
 use elf_image::{Elf, refuse_at};
 use rb_bytes::fault::{Fault, FaultKind};
 
-// `RelocType`, `RelocMismatch` and `LoMismatch`; `mismatch` is the lowest place of the second.
+// The first of `RelocType`, `RelocMismatch` and `LoMismatch`; `mismatch` is the lowest place of `RelocMismatch`.
 fn check_relocations(records: &[Record], lows: &[Low], mismatch: Option<u64>) -> Result<(), Fault>
     requires { IsNonDecreasingBy (λ l. l.hi) lows.now }
     ensures { (elf : Elf) (tabled : List (ℕ × ℕ)) → AreRecords elf records.now → AreLows elf lows.now →
@@ -41,7 +41,7 @@ fn check_relocations(records: &[Record], lows: &[Low], mismatch: Option<u64>) ->
     refuse_at(FaultKind::LoMismatch, lowest_low_mismatch(lows))
 }
 
-// `NarrowDiff`, `IfuncOrPlt` and `AlreadyMoved`, where the three above are absent.
+// The first of `NarrowDiff`, `IfuncOrPlt` and `AlreadyMoved`, where those of `check_relocations` are absent.
 fn check_cells(elf: &Elf, starts: &Starts, wholes: &[Part], records: &[Record]) -> Result<(), Fault>
     requires starts { AreStarts elf.now starts.now }
     requires wholes { ArePartsApart wholes.now }

@@ -23,6 +23,8 @@ use elf_image::{Elf, Section};
 use rb_bytes::fault::NoMemory;
 use std::alloc::Global;
 
+// The size of the field of a relocation that isn't for a label of a difference: two instructions of a call, an address
+// of 64 bits, or four bytes.
 fn fixed_size(kind: u32) -> u64
     ensures { result ≡ fixed_size kind }
 {
@@ -77,7 +79,7 @@ fn field_size(elf: &Elf, known: &[Known], relocation: &Record) -> Option<u64>
     }
 }
 
-// Whether so many bytes from an address on lie in a section.
+// Whether the `size` bytes from an address on lie in a section.
 fn lies_in(section: &Section, place: u64, size: u64) -> bool
     ensures { IsTrue result ↔ ((section.now.addr ≤ place) × (place + size ≤ section.now.addr + section.now.size)) }
 {
@@ -100,6 +102,7 @@ pub fn has_field(elf: &Elf, known: &[Known], relocation: &Record) -> bool
     }
 }
 
+// 2^64 doesn't fit 64 bits.
 fn modulus(bits: u8) -> u128
     requires { bits ≤ 64 }
     ensures { result ≡ 2 ^ bits }
@@ -107,7 +110,7 @@ fn modulus(bits: u8) -> u128
     1 << bits
 }
 
-// Whether two numbers have the same lowest bits.
+// Whether two numbers have the same `bits` lowest bits.
 fn is_congruent(difference: i128, number: u64, bits: u8) -> bool
     requires { bits ≤ 64 }
     ensures { IsTrue result ↔ (int_rem_euclid difference (pos (2 ^ bits)) ≡ pos (number % 2 ^ bits)) }
@@ -116,7 +119,7 @@ fn is_congruent(difference: i128, number: u64, bits: u8) -> bool
     difference.rem_euclid(modulus as i128) == (number as u128 % modulus) as i128
 }
 
-// Whether the field of so many bits holds a number.
+// Whether the field of `bits` bits at a place holds the difference. Six bits stand in a byte.
 fn holds_number(elf: &Elf, place: u64, bits: u8, difference: i128) -> bool
     requires low { IsLow elf.now }
     requires bits { bits ≤ 64 }
@@ -176,8 +179,8 @@ pub fn holds_difference(
     }
 }
 
-/// What is known of the numbers in LEB128 to which relocations apply, and of their bytes after those that a difference
-/// can fill.
+/// The tails of the numbers in LEB128 to which relocations apply, by address: from their first bytes on, which gives
+/// their sizes, and from the first byte on that holds bits of a difference's sign alone.
 pub fn known_tails(alloc: Global, elf: &Elf, records: &[Record]) -> Result<Vec<Known>, NoMemory>
     requires { IsLow elf.now }
     ensures { IfOk result (λ known. All (IsKnown elf.now) known.items) }

@@ -23,8 +23,8 @@ use rb_bytes::fault::NoMemory;
 use rb_bytes::lists::push_some;
 use std::alloc::Global;
 
-// Whether a relocation says that the entry that the AUIPC at an address names has a label. The contract alone names
-// `elf`.
+// Whether a relocation says that the entry which the AUIPC at `hi` names is to hold the label `to`. Only the contract
+// speaks of `elf`.
 fn names_entry(elf: &Elf, labels: &[SlotLabel], hi: u64, to: u64) -> bool
     requires { AreSlotLabels elf.now labels.now }
     ensures { IsTrue result ↔ NamesEntry elf.now hi to }
@@ -32,7 +32,7 @@ fn names_entry(elf: &Elf, labels: &[SlotLabel], hi: u64, to: u64) -> bool
     has_label(labels, hi, to as i128)
 }
 
-// The field at a place, if a relocation for the AUIPC at an address says that it holds what it holds.
+// The field at `slot`, if a relocation for the AUIPC at `hi` says that it is to hold what it does hold.
 fn named_field(
     elf: &Elf,
     starts: &Starts,
@@ -76,7 +76,7 @@ fn slot_of(
     named_field(elf, starts, labels, low.hi, slot)
 }
 
-/// The entries of the table that can be cells.
+/// The entries of the global offset table that can be cells.
 pub fn got_fields(
     alloc: Global,
     elf: &Elf,

@@ -59,7 +59,8 @@ fn lowest_irelative(records: &[Record]) -> Option<u64>
     lowest
 }
 
-/// The lowest place of what selects routines when the program starts.
+/// The lowest place of what selects routines when the program starts: a symbol of type `STT_GNU_IFUNC`, a section of
+/// stubs that isn't empty, or a relocation `R_RISCV_IRELATIVE`.
 pub fn lowest_ifunc_or_plt(elf: &Elf, records: &[Record]) -> Option<u64>
     requires { AreRecords elf.now records.now }
     ensures { IsLowest (IsIfuncOrPlt elf.now) result }

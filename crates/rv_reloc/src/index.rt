@@ -1,4 +1,4 @@
-// Looking up relocations by place and class.
+// Looking up relocations by place and class. In each function here the argument `at` is a class.
 ghost use Rattle.std.specs.Prelude.{◌≡◌, ◌↔◌, ◌<◌, ◌≤◌, ◌-◌, ℕ, IsTrue, IfSome, Some, length, slice_index_or, Any};
 ghost use Rattle.elf_image.specs.declared.elf.Elf.{Elf};
 ghost use Rattle.elf_code.specs.Cells.{IsOnly, is_plus, is_minus};
@@ -13,7 +13,7 @@ use crate::labels::{FieldWidth, minus_width, plus_width};
 use crate::records::Record;
 use crate::types::{is_call_pair, is_pcrel_hi};
 
-// One more than a width's bits, and 0 for ULEB128, so that no two classes are the same.
+// One more than the bits of a width, and 0 for ULEB128, so that no two widths share a number.
 fn width_code(width: FieldWidth) -> u64
     ensures { result ≡ width_code (width_of width) }
 {
@@ -34,6 +34,7 @@ const UPPER_CLASS: u64 = 1;
 
 const OTHER_CLASS: u64 = 2;
 
+// From 4 on, behind the classes above.
 fn plus_class(width: FieldWidth) -> u64
     ensures { result ≡ plus_class (width_of width) }
 {
@@ -59,7 +60,7 @@ pub fn class(kind: u32) -> u64
     }
 }
 
-// The class of a type that is for no label of a difference.
+// The class of a type that is not for a label of a difference.
 fn class_beside(kind: u32) -> u64
     ensures { result ≡ class_beside kind }
 {
@@ -72,7 +73,7 @@ fn class_beside(kind: u32) -> u64
     }
 }
 
-// How many are before a place and a class.
+// How many relocations come before those of a place and a class.
 fn count_below(records: &[Record], place: u64, at: u64) -> usize
     requires { AreInOrder records.now }
     ensures { IsSplit place at records.now result }
@@ -80,7 +81,8 @@ fn count_below(records: &[Record], place: u64, at: u64) -> usize
     records.partition_point(|r| r.place < place || (r.place == place && class(r.kind) < at))
 }
 
-// Counts the records before a place, at an index and beside it first.
+// The same as `count_below`. The index `near` and those beside it are tried before a binary search, since relocations
+// for one field, or for an AUIPC and its lower part, stand beside each other.
 fn count_near(records: &[Record], near: usize, place: u64, at: u64) -> usize
     requires { AreInOrder records.now }
     ensures { IsSplit place at records.now result }
@@ -93,7 +95,7 @@ fn count_near(records: &[Record], near: usize, place: u64, at: u64) -> usize
     count_below(records, place, at)
 }
 
-// Whether just those below an index are before a place and a class.
+// Whether the relocations below an index, and no others, come before those of a place and a class.
 fn splits_at(records: &[Record], index: usize, place: u64, at: u64) -> bool
     requires { AreInOrder records.now }
     ensures { IsTrue result → IsSplit place at records.now index }
@@ -107,7 +109,7 @@ fn splits_at(records: &[Record], index: usize, place: u64, at: u64) -> bool
     begins_from(records, index, place, at)
 }
 
-// Whether the last of those below an index is before a place and a class, if there is one.
+// Whether the relocation before an index, if there is one, comes before those of a place and a class.
 fn ends_before(records: &[Record], index: usize, place: u64, at: u64) -> bool
     requires { index ≤ length records.now }
     ensures { IsTrue result → 0 < index → (d : Record) → IsBelow place at (slice_index_or records.now (index - 1) d) }
@@ -118,7 +120,7 @@ fn ends_before(records: &[Record], index: usize, place: u64, at: u64) -> bool
     is_before(&records[index - 1], place, at)
 }
 
-// Whether the one of an index isn't, if there is one.
+// Whether the relocation at an index, if there is one, doesn't come before those of a place and a class.
 fn begins_from(records: &[Record], index: usize, place: u64, at: u64) -> bool
     ensures { IsTrue result → index < length records.now → (d : Record) →
         IsFrom place at (slice_index_or records.now index d) }
@@ -135,15 +137,15 @@ fn is_before(found: &Record, place: u64, at: u64) -> bool
     found.place < place || (found.place == place && class(found.kind) < at)
 }
 
-// Whether the one of an index has a place and a class.
+// Whether there is a relocation at an index, and it has this place and this class.
 fn has_key_at(records: &[Record], index: usize, place: u64, at: u64) -> bool
     ensures { IsTrue result ↔ HasKeyAt place at records.now index }
 {
     index < records.len() && records[index].place == place && class(records[index].kind) == at
 }
 
-// Whether there is one of a class at a place. Here and below, `near` is an index about which those of the place may
-// stand.
+// Whether there is a relocation of a class at a place. Here and below, `near` is about the index at which relocations
+// of the place stand; a bad guess costs time alone.
 fn has(records: &[Record], near: usize, place: u64, at: u64) -> bool
     requires { AreInOrder records.now }
     ensures { IsTrue result ↔ Any (λ r. IsTrue (has_key place at r)) records.now }
@@ -151,8 +153,7 @@ fn has(records: &[Record], near: usize, place: u64, at: u64) -> bool
     has_key_at(records, count_near(records, near, place, at), place, at)
 }
 
-/// The only one of a class at a place, if there is exactly one. `near` is an index about which those of the place may
-/// stand.
+/// The only relocation of a class at a place, if there is exactly one. `near` is about its index.
 pub fn only<'a>(records: &[Record<'a>], near: usize, place: u64, at: u64) -> Option<Record<'a>>
     requires { AreInOrder records.now }
     ensures is { IfSome result (IsOnly (has_key place at) records.now) }
@@ -168,7 +169,7 @@ pub fn only<'a>(records: &[Record<'a>], near: usize, place: u64, at: u64) -> Opt
     Some(records[from])
 }
 
-/// Whether a relocation for a call applies to a place. `near` is an index about which those of the place may stand.
+/// Whether a relocation for a call applies to a place. `near` is about its index.
 pub fn has_call(records: &[Record], near: usize, place: u64) -> bool
     requires { AreInOrder records.now }
     ensures { (elf : Elf) → AreRecords elf records.now →
@@ -177,8 +178,7 @@ pub fn has_call(records: &[Record], near: usize, place: u64) -> bool
     has(records, near, place, CALL_CLASS)
 }
 
-/// Whether a relocation for an upper part that is not a call's applies to a place. `near` is an index about which
-/// those of the place may stand.
+/// Whether a relocation for an upper part that is not a call's applies to a place. `near` is about its index.
 pub fn has_upper(records: &[Record], near: usize, place: u64) -> bool
     requires { AreInOrder records.now }
     ensures { (elf : Elf) → AreRecords elf records.now →
@@ -187,7 +187,7 @@ pub fn has_upper(records: &[Record], near: usize, place: u64) -> bool
     has(records, near, place, UPPER_CLASS)
 }
 
-/// The only relocation that adds or sets a label of a width at a place.
+/// The relocation that adds or sets a label of a width at a place, if there is exactly one. `near` is about its index.
 pub fn only_plus<'a>(
     records: &[Record<'a>],
     near: usize,
@@ -200,7 +200,7 @@ pub fn only_plus<'a>(
     only(records, near, place, plus_class(width))
 }
 
-/// The only relocation that subtracts a label of a width at a place.
+/// The relocation that subtracts a label of a width at a place, if there is exactly one. `near` is about its index.
 pub fn only_minus<'a>(
     records: &[Record<'a>],
     near: usize,

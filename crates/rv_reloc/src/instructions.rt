@@ -36,7 +36,7 @@ fn auipc_of(inst: &Inst) -> Option<Upper>
     }
 }
 
-/// What an instruction is as a LUI.
+/// The register and the immediate of an instruction, if it is a LUI.
 pub fn lui_of(inst: &Inst) -> Option<Upper>
     ensures { result ≡ lui_of inst.now }
 {
@@ -46,7 +46,7 @@ pub fn lui_of(inst: &Inst) -> Option<Upper>
     }
 }
 
-/// What an instruction is as a JALR.
+/// The base register and the immediate of an instruction, if it is a JALR.
 pub fn jalr_of(inst: &Inst) -> Option<Jump>
     ensures { result ≡ jalr_of inst.now }
 {
@@ -56,7 +56,7 @@ pub fn jalr_of(inst: &Inst) -> Option<Jump>
     }
 }
 
-/// The AUIPC at an address.
+/// The AUIPC at an address, if an instruction starts there and is one.
 pub fn auipc_at(elf: &Elf, starts: &Starts, parts: &[Part], address: u64) -> Option<Upper>
     requires starts { AreStarts elf.now starts.now }
     requires parts { AreCodeParts elf.now parts.now }

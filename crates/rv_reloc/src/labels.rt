@@ -12,7 +12,7 @@ use code_starts::start_index::Starts;
 use elf_image::Elf;
 use elf_image::relocation::*;
 
-/// How wide a field is for a label.
+/// How wide the field of a relocation is that adds, sets or subtracts a label.
 #[derive(Clone, Copy)]
 pub enum FieldWidth {
     Bits6,
@@ -24,7 +24,7 @@ pub enum FieldWidth {
     Uleb128,
 }
 
-/// The width of the field for a label that is added or set by a type.
+/// The width of the field to which a relocation of this type adds a label, or which it sets to one.
 pub fn plus_width(kind: u32) -> Option<FieldWidth>
     ensures { option_map width_of result ≡ plus_width kind }
 {
@@ -45,7 +45,7 @@ pub fn plus_width(kind: u32) -> Option<FieldWidth>
     }
 }
 
-/// The width of the field for a label that is subtracted by a type.
+/// The width of the field from which a relocation of this type subtracts a label.
 pub fn minus_width(kind: u32) -> Option<FieldWidth>
     ensures { option_map width_of result ≡ minus_width kind }
 {
@@ -66,7 +66,7 @@ pub fn minus_width(kind: u32) -> Option<FieldWidth>
     }
 }
 
-/// Whether a difference by this relocation can be a cell.
+/// Whether the field of this relocation can be a cell, where it holds a difference.
 pub fn can_be_cell(relocation: &Record) -> bool
     ensures { result ≡ can_be_cell (seen relocation.now) }
 {
@@ -75,7 +75,7 @@ pub fn can_be_cell(relocation: &Record) -> bool
         || is_pc_difference(relocation.kind)
 }
 
-/// The value of a relocation's symbol.
+/// The value of a relocation's symbol. Without a symbol, index 0, it is 0.
 pub fn symbol_value(elf: &Elf, relocation: &Record) -> u64
     ensures { result ≡ symbol_value elf.now (seen relocation.now) }
 {
@@ -103,12 +103,12 @@ pub fn label(elf: &Elf, relocation: &Record) -> i128
     sum(symbol_value(elf, relocation), relocation.addend)
 }
 
-/// Whether a label is a code address. The contract alone names `elf`.
+/// Whether a label is a code address. Only the contract speaks of `elf`.
 pub fn is_code_label(elf: &Elf, starts: &Starts, label: i128) -> bool
     requires { AreStarts elf.now starts.now }
     ensures { IsTrue result ↔ IsCodeLabel elf.now label }
 {
-    // That starts have 64 bits is a clause of the list, which the proof wants.
+    // Called for a clause alone: the members of the list have 64 bits.
     let _list = starts.list();
     match u64::try_from(label) {
         Ok(address) => starts.has(address),

@@ -25,7 +25,7 @@ use rv_code::action::{Action, Operand};
 use rv_code::op::Op;
 use std::alloc::Global;
 
-/// A lower part for the AUIPC at `hi`.
+/// A lower part, the immediate `imm`, for the AUIPC at the address `hi`.
 #[derive(Clone, Copy)]
 pub struct Low {
     pub hi: u64,
@@ -56,7 +56,8 @@ fn immediate_s(action: &Action) -> Option<i64>
     }
 }
 
-/// The immediate that can hold a lower part by a relocation of a type.
+/// The immediate that can hold a lower part by a relocation of this type: of format I where the type says so, else of
+/// format S.
 pub fn lower_immediate(kind: u32, inst: &Inst) -> Option<i64>
     ensures { result ≡ lower_immediate kind inst.now }
 {
@@ -68,7 +69,8 @@ pub fn lower_immediate(kind: u32, inst: &Inst) -> Option<i64>
     }
 }
 
-/// The lower part that a relocation gives.
+/// The lower part that a relocation gives, if it is for one and on an instruction that can have one. Its symbol names
+/// the AUIPC, not the target. psABI, "PC-Relative Symbol Addresses".
 pub fn low_of(elf: &Elf, starts: &Starts, parts: &[Part], relocation: &Record) -> Option<Low>
     requires starts { AreStarts elf.now starts.now }
     requires parts { AreCodeParts elf.now parts.now }
@@ -140,7 +142,7 @@ fn count_below(lows: &[Low], hi: u64) -> usize
     lows.partition_point(|l| l.hi < hi)
 }
 
-/// The first lower part for an AUIPC.
+/// The first lower part for the AUIPC at `hi`, if there is one.
 pub fn first_low(lows: &[Low], hi: u64) -> Option<Low>
     requires { IsNonDecreasingBy (λ l. l.hi) lows.now }
     ensures is { IfSome result (λ l. Contains lows.now l × (l.hi ≡ hi)) }

@@ -37,8 +37,8 @@ fn push_first<'a>(runs: &mut VecDeque<EntryRun<'a>>, run: &EntryRun<'a>) -> Resu
     Ok(())
 }
 
-// Takes the first runs of two lists, of which the second begins in the first, up to where one ends. What they have in
-// common becomes one run.
+// Takes what comes first of two runs up to where one of them ends, where `next` begins in `run`. What they have in
+// common becomes one run; what is left of the other one goes back to the front of its list.
 fn merge_common<'a>(
     done: &mut VecDeque<EntryRun<'a>>,
     left: &mut VecDeque<EntryRun<'a>>,
@@ -66,7 +66,7 @@ fn merge_common<'a>(
     Ok(())
 }
 
-// Takes the first runs of two lists, of which the first begins no later.
+// Takes the first of two runs, where `run`, taken off `left`, begins no later than `next`, taken off `right`.
 fn merge_first<'a>(
     done: &mut VecDeque<EntryRun<'a>>,
     left: &mut VecDeque<EntryRun<'a>>,
@@ -91,7 +91,7 @@ fn merge_first<'a>(
     Ok(())
 }
 
-// Takes at least one run of two lists, as long as there is one.
+// Takes at least one run off two lists, if one is left.
 fn merge_next<'a>(
     done: &mut VecDeque<EntryRun<'a>>,
     left: &mut VecDeque<EntryRun<'a>>,
@@ -138,14 +138,15 @@ fn merged<'a>(
         All (IsWholeRun size) runs.items) }
 {
     let mut done = VecDeque::new(alloc);
+    // Each step takes at least one run off both lists together, so none is left.
     for step in 0..left.len() + right.len() {
         merge_next(&mut done, &mut left, &mut right)?;
     }
     Ok(done)
 }
 
-/// The relocations of runs as runs of which no two have one in common, by their phases and numbers. To which sections
-/// those apply that several had is kept as far as it tells.
+/// The relocations of runs as runs of which no two have one in common, in the order of their phases and numbers. One
+/// that stands in several tables is kept with two of the sections to which it applies.
 pub fn merged_runs<'a>(
     alloc: Global,
     runs: &[EntryRun<'a>],

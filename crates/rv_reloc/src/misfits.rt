@@ -41,15 +41,15 @@ fn has_bad_symbol(elf: &Elf, relocation: &Record) -> bool
     relocation.symbol != 0 && elf.symbols.len() <= relocation.symbol as usize
 }
 
-// As a function it is one case for the proof of its caller.
+// `||` as a function: the proof of a caller then has one case, not one for each test that is left out.
 fn is_either(one: bool, other: bool) -> bool
     ensures { result ≡ (one || other) }
 {
     one || other
 }
 
-// Whether a relocation is not on the instructions that it is for, or these say something else. `near` is about where
-// it stands.
+// Whether a relocation is not on the instructions that it is for, or these say something else. `near` is about its
+// index in `records`.
 fn is_misplaced(
     elf: &Elf,
     starts: &Starts,
@@ -82,8 +82,8 @@ fn has_bad_field(elf: &Elf, known: &[Known], relocation: &Record) -> bool
     has_bad_symbol(elf, relocation) || !has_field(elf, known, relocation)
 }
 
-// Whether a relocation doesn't fit, whatever the entries of the global offset table hold. `near` is about where it
-// stands.
+// Whether a relocation doesn't fit, whatever the entries of the global offset table hold. `near` is about its index in
+// `records`.
 fn is_unfit(
     elf: &Elf,
     starts: &Starts,

@@ -15,7 +15,7 @@ use rb_bytes::fault::NoMemory;
 use rb_bytes::lists::push_some;
 use std::alloc::Global;
 
-// The address that a relocation for a lower part names.
+// The address that a relocation names, if it is for a lower part: that of the AUIPC.
 fn named_by(elf: &Elf, relocation: &Record) -> Option<u64>
     ensures is { IfSome result (NamesUpper elf.now (seen relocation.now)) }
     ensures only { (a : ℕ) → NamesUpper elf.now (seen relocation.now) a → result ≡ Some a }

@@ -34,7 +34,7 @@ pub fn low_target(elf: &Elf, starts: &Starts, parts: &[Part], low: &Low) -> Opti
     Some(pair_target(low.hi, auipc.imm, low.imm))
 }
 
-/// The address that it makes.
+/// The address that a lower part makes with the AUIPC that it names, if it is one.
 pub fn low_address(elf: &Elf, starts: &Starts, parts: &[Part], low: &Low) -> Option<u64>
     requires starts { AreStarts elf.now starts.now }
     requires parts { AreCodeParts elf.now parts.now }
@@ -46,7 +46,7 @@ pub fn low_address(elf: &Elf, starts: &Starts, parts: &[Part], low: &Low) -> Opt
     address_of(number)
 }
 
-// The AUIPC of a lower part, if both make no address.
+// The address of the AUIPC that a lower part names, if both together make a number that is no address.
 fn far_of(elf: &Elf, starts: &Starts, parts: &[Part], low: &Low) -> Option<u64>
     requires starts { AreStarts elf.now starts.now }
     requires parts { AreCodeParts elf.now parts.now }
@@ -60,7 +60,7 @@ fn far_of(elf: &Elf, starts: &Starts, parts: &[Part], low: &Low) -> Option<u64>
     Some(low.hi)
 }
 
-// The AUIPCs of lower parts that make no address with them, one lower part after another.
+// The addresses of AUIPCs that make no address with a lower part, one lower part after another.
 fn read_far(
     alloc: Global,
     elf: &Elf,
@@ -97,8 +97,8 @@ pub fn far_uppers(
     Ok(far)
 }
 
-/// Whether a relocation gives an AUIPC an upper part that makes no address with a lower part. The contract alone names
-/// `elf`.
+/// Whether a relocation gives an AUIPC an upper part that makes no address with a lower part. Only the contract speaks
+/// of `elf`.
 pub fn is_far(elf: &Elf, far: &[u64], relocation: &Record) -> bool
     requires far { AreFar elf.now far.now }
     requires counts { Contains (relocations elf.now) (seen relocation.now) }

@@ -16,19 +16,22 @@ use elf_image::{Elf, Section};
 use rb_bytes::fault::NoMemory;
 use std::alloc::Global;
 
-// For how many bytes of a file one relocation is read at most. A table has 24 bytes for each, which may apply to two
-// sections; tables that share bytes, of which no linker makes any, could say far more.
+// At most one relocation is kept for this many bytes of the file. A table has 24 bytes for each, which is kept twice at
+// most. Tables that share bytes and not entries, which no linker makes, could have far more: then memory is said to run
+// out.
 const BYTES_A_RECORD: usize = 6;
 
 /// A relocation with a section that it applies to.
 #[derive(Clone, Copy)]
 pub struct Record<'a> {
-    /// The address of its field.
+    /// `r_offset`: the address of its field.
     pub place: u64,
+    /// `r_addend`.
     pub addend: i64,
     pub section: &'a Section<'a>,
+    /// Its type, the low half of `r_info`.
     pub kind: u32,
-    /// The index of its symbol.
+    /// The index of its symbol, the high half of `r_info`; 0 for none.
     pub symbol: u32,
 }
 

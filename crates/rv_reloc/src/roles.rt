@@ -1,4 +1,4 @@
-// The roles of instructions, of all that claim to have one.
+// Claims of relocations that instructions have roles, and the roles that count.
 ghost use Rattle.std.specs.Prelude.{◌≡◌, ◌↔◌, ◌<◌, ℕ, IfOk, IsTrue, AllPairs, length};
 ghost use Rattle.elf_image.specs.declared.elf.Elf.{Elf};
 ghost use Rattle.elf_code.specs.FileCode.{AreRoles};
@@ -8,11 +8,16 @@ use rb_bytes::fault::NoMemory;
 use rv_code::Role;
 use std::alloc::Global;
 
-/// A relocation of a type gives the instruction at an address a role.
+/// A relocation says that an instruction has a role. Of the claims to one instruction the first counts, by types and
+/// then by keys.
 #[derive(Clone, Copy)]
 pub struct Claim {
+    /// The address of the instruction.
     pub at: u64,
+    /// The type of the relocation.
     pub kind: u32,
+    /// The address of the AUIPC, or the target of an absolute address. Claims with one type and one key to an address
+    /// are to one role.
     pub key: u64,
     pub role: Role,
 }
@@ -25,7 +30,7 @@ fn is_first(claims: &[Claim], index: usize) -> bool
     index == 0 || claims[index - 1].at < claims[index].at
 }
 
-/// The role that counts at each address.
+/// The role that counts at each address, of claims in order: that of the first claim there.
 pub fn first_roles(alloc: Global, claims: &[Claim]) -> Result<Vec<(u64, Role)>, NoMemory>
     requires { AllPairs IsClaimUpTo claims.now }
     ensures { (elf : Elf) → AreClaims elf claims.now → IfOk result (λ roles. AreRoles elf roles.items) }

@@ -10,7 +10,7 @@ impl<'a> EntryRun<'a> {
         self.phase < other.phase || (self.phase == other.phase && self.first <= other.first)
     }
 
-    /// Whether another begins in it.
+    /// Whether another run begins in it.
     pub fn has_start_of(&self, other: &EntryRun) -> bool
         ensures phase { IsTrue result → self.now.phase ≡ other.now.phase }
         ensures from { IsTrue result → self.now.first ≤ other.now.first }

@@ -16,7 +16,7 @@ use rb_bytes::fault::NoMemory;
 use rb_bytes::lists::push_some;
 use std::alloc::Global;
 
-/// The entry that the AUIPC at a place names is to hold a label.
+/// The entry of the global offset table that the AUIPC at `place` names is to hold a label.
 #[derive(Clone, Copy)]
 pub struct SlotLabel {
     pub place: u64,
@@ -66,7 +66,7 @@ pub fn slot_labels(alloc: Global, elf: &Elf, records: &[Record]) -> Result<Vec<S
     Ok(labels)
 }
 
-// How many are before a place and a label.
+// How many of these come before a place and a label.
 fn count_below(labels: &[SlotLabel], place: u64, label: i128) -> usize
     requires { AllPairs (λ s t. IsLabelFrom s.place s.label t) labels.now }
     ensures bound { result ≤ length labels.now }
@@ -77,7 +77,7 @@ fn count_below(labels: &[SlotLabel], place: u64, label: i128) -> usize
     labels.partition_point(|s| s.place < place || (s.place == place && s.label < label))
 }
 
-/// Whether an entry that the AUIPC at a place names is to hold a label.
+/// Whether the entry that the AUIPC at a place names is to hold this label.
 pub fn has_label(labels: &[SlotLabel], place: u64, label: i128) -> bool
     requires { AllPairs (λ s t. IsLabelFrom s.place s.label t) labels.now }
     ensures { IsTrue result ↔ Contains labels.now (record { place = place; label = label }) }
@@ -93,7 +93,7 @@ pub fn has_label(labels: &[SlotLabel], place: u64, label: i128) -> bool
     found.label == label
 }
 
-// Whether there is a label of a place below another number.
+// Whether there is a label of a place that is below a number.
 fn has_label_below(labels: &[SlotLabel], place: u64, number: i128) -> bool
     requires { AllPairs (λ s t. IsLabelFrom s.place s.label t) labels.now }
     ensures { IsTrue result ↔ HasLabelBelow labels.now place number }
@@ -119,7 +119,7 @@ fn has_label_from(labels: &[SlotLabel], place: u64, number: i128) -> bool
     first.place == place
 }
 
-/// Whether an entry that the AUIPC at a place names is to hold another label than a number.
+/// Whether the entry that the AUIPC at a place names is to hold a label that isn't this number.
 pub fn has_other_label(labels: &[SlotLabel], place: u64, number: u64) -> bool
     requires { AllPairs (λ s t. IsLabelFrom s.place s.label t) labels.now }
     ensures { IsTrue result ↔ HasOtherLabel labels.now place number }
@@ -128,7 +128,7 @@ pub fn has_other_label(labels: &[SlotLabel], place: u64, number: u64) -> bool
         || has_label_from(labels, place, number as i128 + 1)
 }
 
-/// Whether an entry that the AUIPC at a place names is to hold a label at all.
+/// Whether the entry that the AUIPC at a place names is to hold a label at all.
 pub fn has_label_at(labels: &[SlotLabel], place: u64) -> bool
     requires { AllPairs (λ s t. IsLabelFrom s.place s.label t) labels.now }
     ensures { IsTrue result ↔ HasLabelAt labels.now place }

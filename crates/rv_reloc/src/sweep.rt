@@ -8,7 +8,8 @@ use rb_bytes::fault::NoMemory;
 use std::alloc::Global;
 use std::cmp::Reverse;
 
-/// What a field holds. An address comes before a difference, as variants are ordered.
+/// What a field holds. `Ord` is derived, and is the order of fields of one place and width: an address before a
+/// difference, and then by labels.
 #[derive(Clone, Copy, PartialEq, Eq, PartialOrd, Ord)]
 pub enum Content {
     Address { to: u64 },
@@ -18,7 +19,9 @@ pub enum Content {
 /// A field that can be a cell.
 #[derive(Clone, Copy)]
 pub struct Candidate {
+    /// The address of its first byte.
     pub place: u64,
+    /// Its width in bytes, 4 or 8.
     pub width: u8,
     pub content: Content,
 }
@@ -32,7 +35,8 @@ pub fn sort_fields(fields: &mut Vec<Candidate>) -> Result<(), NoMemory>
     Ok(())
 }
 
-/// The cells among all fields that can be some, in their order.
+/// The fields that count, of all that can be cells in the order of [`sort_fields`]: each that shares no byte with one
+/// that counts and comes before it.
 pub fn sweep(alloc: Global, candidates: &[Candidate]) -> Result<Vec<Candidate>, NoMemory>
     ensures { (elf : Elf) (tabled : List (ℕ × ℕ)) → AreCandidates elf tabled (map as_field candidates.now) →
         IfOk result (λ counted. AreCounted elf tabled (map as_field counted.items)) }

@@ -1,4 +1,4 @@
-// Numbers in LEB128, which may be as long as they like: their ends, found once for all that end together.
+// Numbers in LEB128, which may be of any length: where they end is found once for all that end together.
 ghost use Rattle.std.specs.Prelude.{◌≡◌, ◌<◌, ◌≤◌, ◌+◌, ◌-◌, ◌*◌, ◌^◌, ◌↔◌, ℕ, ℤ, pos, negsuc, ◌∷◌, [], ◌%◌, List};
 ghost use Rattle.std.specs.Prelude.{IsTrue, IfOk, IfSome, OnSome, OnOk, All, length, Option};
 ghost use Rattle.std.specs.List.Sorted.{IsPermutation};
@@ -18,20 +18,20 @@ use std::alloc::Global;
 pub struct LebRest {
     /// The address after its last byte.
     pub end: u64,
-    /// All its bytes have seven zero bits.
+    /// Whether the seven low bits of each byte are 0: they hold the sign of a number that isn't negative.
     pub is_zeros: bool,
-    /// All its bytes have seven bits that are set.
+    /// Whether the seven low bits of each byte are set: they hold the sign of a negative number.
     pub is_ones: bool,
 }
 
-/// What is left from a place on, if a number ends there.
+/// What is left of a number from a place on, its tail; none where the loaded bytes end before the number does.
 #[derive(Clone, Copy)]
 pub struct Known {
     pub place: u64,
     pub tail: Option<LebRest>,
 }
 
-/// As many bytes of a difference of labels as can differ from those of its sign.
+/// How many bytes in LEB128 can hold other bits of a difference of labels than those of its sign: it is below 2^70.
 pub const DIFFERENCE_BYTES: u8 = 10;
 
 // The tail of a single byte, which is the last.
@@ -94,7 +94,7 @@ fn ends_with(byte: Option<u8>) -> bool
     }
 }
 
-// The first address from one to another at which no number goes on, or the other.
+// The first address from `from` on at which a number's last byte stands or no byte is loaded; `to`, if that is lower.
 fn stop_between(elf: &Elf, from: u64, to: u64) -> u64
     requires low { IsLow elf.now }
     requires order { from ≤ to }
@@ -110,7 +110,7 @@ fn stop_between(elf: &Elf, from: u64, to: u64) -> u64
     to
 }
 
-// The tail at an address, where that of a higher one is known.
+// The tail at the address `from`, where that at a higher one, `to`, is known.
 fn tail_below(elf: &Elf, from: u64, to: u64, known: Option<LebRest>) -> Option<LebRest>
     requires low { IsLow elf.now }
     requires order { from ≤ to }
@@ -129,7 +129,8 @@ fn tail_below(elf: &Elf, from: u64, to: u64, known: Option<LebRest>) -> Option<L
     tail
 }
 
-/// The tails at all these places, which ascend.
+/// The tails at all these places, which ascend. They are found from the last one down, so that no byte is gone over
+/// again for another place; that alone wants the order.
 pub fn tails_at(alloc: Global, elf: &Elf, places: &[u64]) -> Result<Vec<Known>, NoMemory>
     requires { IsLow elf.now }
     ensures { IfOk result (λ known. All (IsKnown elf.now) known.items) }
@@ -191,7 +192,7 @@ fn high_bits(value: i128) -> i128
     value >> 7
 }
 
-// Whether all bytes from an address on hold bits of a sign alone: that of a number from -1 to 0.
+// Whether all bytes of a number in LEB128 from an address on hold the bits of a sign alone, which is given as 0 or -1.
 fn holds_sign(elf: &Elf, known: &[Known], address: u64, sign: i128) -> bool
     requires low { IsLow elf.now }
     requires known { All (IsKnown elf.now) known.now }
@@ -210,8 +211,8 @@ fn holds_sign(elf: &Elf, known: &[Known], address: u64, sign: i128) -> bool
     }
 }
 
-// Whether the number in LEB128 at an address holds the lowest bits of a number, of which so many bytes can differ from
-// its sign.
+// Whether the number in LEB128 at an address holds the lowest bits of `number`, of which the first `steps` bytes can
+// differ from those of its sign.
 fn holds_within(elf: &Elf, known: &[Known], address: u64, number: i128, steps: u8) -> bool
     requires low { IsLow elf.now }
     requires known { All (IsKnown elf.now) known.now }

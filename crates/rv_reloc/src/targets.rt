@@ -12,7 +12,7 @@ pub fn pair_target(hi: u64, upper: i64, lower: i64) -> i128
     hi as i128 + (4096 * upper as i128 + lower as i128)
 }
 
-/// The address that a number is, if a label can have it.
+/// The address that a number is, if it is from 0 to `ADDRESS_END`: an address that a label can have.
 pub fn address_of(number: i128) -> Option<u64>
     ensures there { IfSome result (λ a. pos a ≡ number) }
     ensures exact { IsSome result ↔ IsAddress number }
@@ -24,7 +24,7 @@ pub fn address_of(number: i128) -> Option<u64>
     }
 }
 
-/// The natural number of 64 bits that a number is.
+/// The natural number of 64 bits that a number is, if it is one.
 pub fn natural(number: i128) -> Option<u64>
     ensures there { IfSome result (λ n. pos n ≡ number) }
     ensures each { (n : ℕ) → n < 2 ^ 64 → pos n ≡ number → result ≡ Some n }

@@ -1,11 +1,13 @@
-// Types of relocations, by what is made of them. psABI, "Relocations", the table of types.
+// Types of relocations, by what is made of them; each function answers for a relocation of type `kind`. psABI,
+// "Relocations", the table of types.
 ghost use Rattle.std.specs.Prelude.{◌≡◌};
 ghost use Rattle.elf_code.specs.Relocations.{is_ignored, is_address, is_call_pair, is_pcrel_hi, is_pcrel_lo};
 ghost use Rattle.elf_code.specs.Relocations.{is_absolute, is_pc_difference, is_supported};
 
 use elf_image::relocation::*;
 
-/// Whether nothing is made of a relocation.
+/// Whether nothing is made of it: a hint for the linker, a branch or jump, which is read from the instruction, or an
+/// offset of thread-local data.
 pub fn is_ignored(kind: u32) -> bool
     ensures { result ≡ is_ignored kind }
 {
@@ -19,7 +21,7 @@ pub fn is_ignored(kind: u32) -> bool
         || (R_RISCV_TPREL_HI20 <= kind && kind <= R_RISCV_TPREL_ADD)
 }
 
-/// Whether the field is for an address.
+/// Whether its field holds an address.
 pub fn is_address(kind: u32) -> bool
     ensures { result ≡ is_address kind }
 {
@@ -43,7 +45,7 @@ pub fn is_pcrel_hi(kind: u32) -> bool
         || kind == R_RISCV_PCREL_HI20
 }
 
-/// Whether it is for the lower part of such a distance.
+/// Whether it is for the lower part of a distance from an AUIPC.
 pub fn is_pcrel_lo(kind: u32) -> bool
     ensures { result ≡ is_pcrel_lo kind }
 {
@@ -57,14 +59,14 @@ pub fn is_absolute(kind: u32) -> bool
     kind == R_RISCV_HI20 || kind == R_RISCV_LO12_I || kind == R_RISCV_LO12_S
 }
 
-/// Whether the field is for the distance of a label from it.
+/// Whether its field holds the distance of a label from the field.
 pub fn is_pc_difference(kind: u32) -> bool
     ensures { result ≡ is_pc_difference kind }
 {
     kind == R_RISCV_32_PCREL || kind == R_RISCV_PLT32
 }
 
-/// Whether the type is supported.
+/// Whether its type is supported.
 pub fn is_supported(kind: u32) -> bool
     ensures { result ≡ is_supported kind }
 {

@@ -39,8 +39,8 @@ pub fn is_bad_upper(
     }
 }
 
-// Whether an address is that of an AUIPC with an upper part that is not a call's. `near` is an index about which its
-// relocation may stand.
+// Whether an address is that of an AUIPC with an upper part that is not a call's. `near` is about the index of its
+// relocation in `records`.
 fn is_upper(
     elf: &Elf,
     starts: &Starts,
@@ -64,8 +64,8 @@ fn is_upper(
     }
 }
 
-/// Whether a relocation for a lower part is on no instruction that can have one, or names no upper part. `near` is an
-/// index about which the relocation for the upper part may stand.
+/// Whether a relocation for a lower part is on no instruction that can have one, or names no upper part. `near` is
+/// about the index in `records` of the relocation for the upper part.
 pub fn is_bad_lower(
     elf: &Elf,
     starts: &Starts,

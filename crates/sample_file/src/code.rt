@@ -11,6 +11,7 @@ use rv_code::{Inst, Placed, RETURN_ADDRESS, Role, STACK_POINTER, Width, ZERO};
 use rv_encode::{Word, encode};
 use std::alloc::Global;
 
+// Registers by their names in calls. psABI, "Integer Register Convention".
 const T0: u8 = 5;
 
 const A0: u8 = 10;
@@ -37,7 +38,7 @@ fn plain(addr: u64, inst: Inst) -> Placed
     placed(addr, inst, Role::Plain)
 }
 
-// How far one address is from another.
+// How far `to` is from `from`.
 fn distance(to: u64, from: u64) -> i64
     requires to_low { to < 2 ^ 62 }
     requires from_low { from < 2 ^ 62 }
@@ -46,7 +47,7 @@ fn distance(to: u64, from: u64) -> i64
     to as i64 - from as i64
 }
 
-// The upper part of a number, which is rounded so that the lower part is in reach.
+// The upper part of a number, rounded so that the lower part fits 12 bits with its sign.
 fn upper(v: i64) -> i64
     requires { v ≤ℤ pos (2 ^ 62) }
     ensures { result ≡ hi20 v }
@@ -54,7 +55,7 @@ fn upper(v: i64) -> i64
     (v + 0x800) >> 12
 }
 
-// The lower part that belongs to it.
+// The lower part of a number: what its upper part lacks.
 fn lower(v: i64) -> i64
     requires low { (pos 0 -ℤ pos (2 ^ 62)) ≤ℤ v }
     requires high { v ≤ℤ pos (2 ^ 62) }
@@ -63,7 +64,7 @@ fn lower(v: i64) -> i64
     v - 4096 * upper(v)
 }
 
-// The AUIPC of a call.
+// The AUIPC of a call of the function at `to`.
 fn call_high(at: u64, to: u64) -> Placed
     requires at_low { at < 2 ^ 62 }
     requires to_low { to < 2 ^ 62 }
@@ -98,7 +99,8 @@ const NOP: Inst = Inst::Addi {
     imm: 0,
 };
 
-// The two instructions that call the next function, which the last one hasn't. Both are given where the first stands.
+// `next_high` and `next_low` are the two instructions that call the function at `to`, in the last function two nops.
+// Both are given `at`, where the first of them stands.
 fn next_high(is_last: bool, at: u64, to: u64) -> Placed
     requires at_low { at < 2 ^ 62 }
     requires to_low { to < 2 ^ 62 }
@@ -140,7 +142,7 @@ fn is_odd() -> Inst
     }
 }
 
-// Passes over the instructions for odd numbers.
+// Passes over the two instructions for odd numbers, to 12 bytes from itself.
 fn skip_if_even() -> Inst
     ensures { result ≡ Inst.Beq 5 0 (pos 12) }
 {

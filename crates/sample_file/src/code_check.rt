@@ -133,7 +133,7 @@ fn are_symbols(alloc: Global, symbols: &[Symbol<'_>], n: u64) -> Result<bool, No
     Ok(k == n + 1)
 }
 
-/// Whether a file with these functions and data fields has the code of sample `n`.
+/// Whether a file has the code of sample `n`. `funcs` and `cells` are the functions and the data fields found in it.
 pub fn has_sample_code(
     alloc: Global,
     elf: &Elf<'_>,

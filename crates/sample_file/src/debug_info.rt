@@ -26,7 +26,7 @@ const FUNCTION: u8 = 2;
 // The expression for the frame base: its length, and DW_OP_call_frame_cfa.
 const FRAME_BASE: &[u8] = b"\x01\x9c";
 
-/// The unit, with an entry for each function.
+/// The unit of sample `n`, with an entry for each function.
 pub fn info(alloc: Global, n: u64) -> Result<Vec<u8>, NoMemory>
     requires { n ≤ 1000 }
 {
@@ -34,12 +34,14 @@ pub fn info(alloc: Global, n: u64) -> Result<Vec<u8>, NoMemory>
     put_u16(&mut unit, DWARF_VERSION)?;
     unit.extend_from_slice(UNIT_FRONT)?;
     put_text(&mut unit, SOURCE)?;
+    // The offset of its lines in `.debug_line`, and then its bounds.
     put_u32(&mut unit, 0)?;
     put_u64(&mut unit, CODE)?;
     put_u64(&mut unit, FUNCTION_SIZE * n + START_SIZE)?;
     for k in 0..n {
         put_function(&mut unit, alloc, k)?;
     }
+    // No entry follows among the unit's children.
     unit.push(0)?;
     let mut info = Vec::new(alloc);
     put_unit(&mut info, &unit)?;

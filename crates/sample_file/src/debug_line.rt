@@ -10,11 +10,13 @@ use table_core::DWARF_VERSION;
 // The size of addresses, and of segment selectors.
 const SIZES: &[u8] = b"\x08\0";
 
-// The header's fields behind its length: one byte an instruction, rows are statements, lines from -5 on in 14 steps,
-// and 12 standard operations.
+// The header's fields behind its length: `minimum_instruction_length` and `maximum_operations_per_instruction` 1,
+// `default_is_stmt` true, `line_base` -5, `line_range` 14, `opcode_base` 13, and how many operands each of the 12
+// standard operations has. Section 6.2.4.
 const FIELDS: &[u8] = b"\x01\x01\x01\xfb\x0e\x0d\0\x01\x01\x01\x01\0\0\0\x01\0\0\x01";
 
-// The directory `/s`, and two files in it, each by its name and the directory's number.
+// The directory `/s`, and one file in it twice, each time by its name and the directory's number: rows begin with the
+// file of number 1, and that of number 0 is the unit's own.
 const NAMES: &[u8] = b"\x01\x01\x08\x01/s\0\x02\x01\x08\x02\x0b\x02sample.c\0\0sample.c\0\0";
 
 // The operations of a program that append a row, advance the address, and advance the line.
@@ -29,7 +31,7 @@ const SET_ADDRESS: &[u8] = b"\0\x09\x02";
 
 const END_SEQUENCE: &[u8] = b"\0\x01\x01";
 
-// Where the rows of a function stand in it. Each has one line more than the one before it.
+// Where the rows of a function stand in it, by bytes from its start. Each has one line more than the one before it.
 const ROWS: [u64; 4] = [0, 0x10, 0x18, 0x1c];
 
 // How far the first line of a function is behind the last one of the function before it.
@@ -41,7 +43,7 @@ fn put_advance(program: &mut Vec<u8>, by: u64) -> Result<(), NoMemory> {
     Ok(())
 }
 
-// Appends that the line goes up, and a row.
+// Appends an advance of the line by `lines`, and a row.
 fn put_row(program: &mut Vec<u8>, lines: i64) -> Result<(), NoMemory> {
     program.push(DW_LNS_advance_line)?;
     put_sleb(program, lines)?;
@@ -49,7 +51,8 @@ fn put_row(program: &mut Vec<u8>, lines: i64) -> Result<(), NoMemory> {
     Ok(())
 }
 
-// Appends the rows of a function. The program stands at its first byte, or at the last row of the function before it.
+// Appends the rows of a function. Before, the program stands at the first byte of the first function (`is_first`), or
+// at the last row of the function before this one.
 fn put_rows(program: &mut Vec<u8>, is_first: bool) -> Result<(), NoMemory> {
     if is_first {
         program.push(DW_LNS_copy)?;
@@ -79,7 +82,8 @@ fn put_program(unit: &mut Vec<u8>, n: u64) -> Result<(), NoMemory> {
     Ok(())
 }
 
-/// The line unit: one sequence, with four rows for each of at least one function, and one for the entry point.
+/// The line unit of sample `n`, which has at least one function: one sequence, with four rows for each function, and
+/// one for the code at the entry point.
 pub fn lines(alloc: Global, n: u64) -> Result<Vec<u8>, NoMemory> {
     let mut unit = Vec::new(alloc);
     put_u16(&mut unit, DWARF_VERSION)?;

@@ -33,7 +33,7 @@ const SECTION_NAMES: u16 = 12;
 /// How many section headers a sample has.
 pub const SECTION_COUNT: u16 = 13;
 
-/// How many program headers it has.
+/// How many program headers a sample has.
 pub const SEGMENT_COUNT: u16 = 3;
 
 // How many bytes the headers in front have: the file's, and those of the segments.

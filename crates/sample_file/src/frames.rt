@@ -32,7 +32,7 @@ fn entry_place(k: u64) -> u64
     COMMON.len() as u64 + ENTRY_SIZE * k
 }
 
-/// The table, which is loaded at an address `at`.
+/// The table of sample `n`, which is loaded at the address `at`.
 pub fn frames(alloc: Global, n: u64, at: u64) -> Result<Vec<u8>, NoMemory>
     requires { n ≤ 1000 }
 {
@@ -55,7 +55,7 @@ pub fn frames(alloc: Global, n: u64, at: u64) -> Result<Vec<u8>, NoMemory>
     Ok(table)
 }
 
-/// The index, which is loaded at `at`, of the table that is loaded at `frames`.
+/// The index of the table of sample `n`. The table is loaded at `frames`, and the index at `at`.
 pub fn index(alloc: Global, n: u64, frames: u64, at: u64) -> Result<Vec<u8>, NoMemory>
     requires { n ≤ 1000 }
 {

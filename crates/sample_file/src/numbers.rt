@@ -7,7 +7,7 @@ pub fn low(n: u64) -> u32 {
     (n % (1 << 32)) as u32
 }
 
-/// Appends how far one address is from another, in 32 bits.
+/// Appends how far `to` is from `from`, in 32 bits.
 pub fn put_distance(out: &mut Vec<u8>, to: u64, from: u64) -> Result<(), NoMemory> {
     put_u32(out, low(to.wrapping_sub(from)))
 }

@@ -25,7 +25,7 @@ pub fn function_at(k: u64) -> u64
     CODE + FUNCTION_SIZE * k
 }
 
-/// The first multiple of a number at or above `n`, or `n` itself where there is none below 2^64.
+/// The first multiple of `align` at or above `n`, or `n` itself where there is none below 2^64.
 pub fn round_up(n: u64, align: u64) -> u64 {
     n.checked_next_multiple_of(align).unwrap_or(n)
 }

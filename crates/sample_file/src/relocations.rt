@@ -7,7 +7,7 @@ use rb_bytes::fault::NoMemory;
 use rb_bytes::little::put_u64;
 use std::alloc::Global;
 
-// Where a function calls the next one, and the code at the entry point the first.
+// How far behind its start a function calls the next one, and the code at the entry point the first.
 const CALL: u64 = 0x1c;
 
 const START_CALL: u64 = 4;
@@ -21,7 +21,7 @@ fn put_relocation(table: &mut Vec<u8>, place: u64, k: u64, kind: u32) -> Result<
     put_u64(table, 0)
 }
 
-/// The relocations of the calls.
+/// The relocations of the calls of sample `n`.
 pub fn calls(alloc: Global, n: u64) -> Result<Vec<u8>, NoMemory>
     requires { n ≤ 1000 }
 {
@@ -33,7 +33,7 @@ pub fn calls(alloc: Global, n: u64) -> Result<Vec<u8>, NoMemory>
     Ok(table)
 }
 
-/// The relocations of the pointers.
+/// The relocations of the pointers of sample `n`.
 pub fn pointers(alloc: Global, n: u64) -> Result<Vec<u8>, NoMemory>
     requires { n ≤ 1000 }
 {
@@ -44,7 +44,7 @@ pub fn pointers(alloc: Global, n: u64) -> Result<Vec<u8>, NoMemory>
     Ok(table)
 }
 
-/// The pointers themselves, one to each function.
+/// The pointers themselves, one to each of `n` functions.
 pub fn data(alloc: Global, n: u64) -> Result<Vec<u8>, NoMemory>
     requires { n ≤ 1000 }
 {

@@ -42,7 +42,7 @@ pub fn loaded(flags: u64, addr: u64, align: u64) -> SectionHeader {
     }
 }
 
-/// The header of relocations of the section with an index. `symbols` is the index of the symbol table.
+/// The header of relocations that change the section of index `section`. `symbols` is the index of the symbol table.
 pub fn relocations(symbols: u32, section: u32) -> SectionHeader {
     SectionHeader {
         flags: SHF_INFO_LINK,
@@ -54,7 +54,7 @@ pub fn relocations(symbols: u32, section: u32) -> SectionHeader {
     }
 }
 
-/// The header of a symbol table whose names are in the section with an index. All but the null symbol are global.
+/// The header of a symbol table whose names are in the section of index `names`. All but the null symbol are global.
 pub fn symbol_table(names: u32) -> SectionHeader {
     SectionHeader {
         link: names,
@@ -65,11 +65,11 @@ pub fn symbol_table(names: u32) -> SectionHeader {
     }
 }
 
-/// Sections, of a file whose headers in front take `front` bytes.
+/// The sections of a file whose headers in front take `front` bytes.
 #[derive(Drop)]
 pub struct Sections {
     front: u64,
-    /// The bytes behind those.
+    /// The bytes of the file behind the headers in front.
     pub bytes: Vec<u8>,
     names: Vec<u8>,
     headers: Vec<SectionHeader>,
@@ -98,7 +98,7 @@ impl Sections {
         self.front.saturating_add(self.bytes.len() as u64)
     }
 
-    /// Appends zeros until the file has a size, if it hasn't that yet.
+    /// Appends zeros until the file has `size` bytes, if it has fewer.
     pub fn fill(&mut self, size: u64) -> Result<(), NoMemory> {
         let zeros = size.saturating_sub(self.size());
         for _ in 0..zeros {
@@ -107,7 +107,8 @@ impl Sections {
         Ok(())
     }
 
-    // Appends a header. The contents begin at the end of the file.
+    // Appends `header`, with its name and its place and size in the file. The contents, of `size` bytes, begin at the
+    // end of the file.
     fn add_header(
         &mut self,
         name: &[u8],
@@ -124,7 +125,8 @@ impl Sections {
         put_text(&mut self.names, name)
     }
 
-    /// Adds a section with these contents.
+    /// Adds a section with the contents `bytes`, at a multiple of the header's alignment. The header's name, place and
+    /// size are set.
     pub fn add(
         &mut self,
         name: &[u8],
@@ -137,8 +139,8 @@ impl Sections {
         Ok(())
     }
 
-    /// Adds the section of the sections' names, which holds its own one too, and then the headers. Answers where these
-    /// begin.
+    /// Adds the section of the sections' names, with its own `name` among them, and then the headers. Answers where the
+    /// headers begin.
     pub fn close(&mut self, name: &[u8]) -> Result<u64, NoMemory> {
         let size = self
             .names

@@ -33,7 +33,7 @@ fn add_symbol(symbols: &mut Symbols, name: &[u8], value: u64, size: u64) -> Resu
     put_text(&mut symbols.names, name)
 }
 
-/// The null symbol, and one for each function and for the entry point.
+/// The null symbol, and one for each of `n` functions and for the code at the entry point.
 pub fn make_symbols(alloc: Global, n: u64) -> Result<Symbols, NoMemory>
     requires { n ≤ 1000 }
 {

@@ -50,7 +50,8 @@ fn can_be_placed(funcs: &[Func], blocks: &[Block]) -> bool
     none_whole(funcs) && is_near(funcs, blocks)
 }
 
-// Whether a program has as few headers as a sample, and a profile is short enough.
+// Whether a program has as few section and program headers as a sample, and `profile` is within the limit of a
+// profile's size.
 fn is_small(program: &Program<'_>, profile: &[u8]) -> bool
     ensures sections { IsTrue result → length program.now.elf.sections.items ≡ 13 }
     ensures segments { IsTrue result → length program.now.elf.segments.items ≡ 3 }
@@ -61,7 +62,8 @@ fn is_small(program: &Program<'_>, profile: &[u8]) -> bool
         && profile.len() <= FILE_LIMIT
 }
 
-// Whether all tables of a file with these functions can be carried, and don't weigh too much; or a fault of one.
+// Whether all tables of a file, whose functions are `funcs`, can be carried and don't weigh too much; or a fault of
+// one.
 fn have_sound_tables(alloc: Global, elf: &Elf<'_>, funcs: &[Func]) -> Result<bool, Refusal>
     ensures registered { IfOk result (λ b. IsTrue b → (place : ℕ) → IsRegisteredFrames elf.now place → ⊥) }
     ensures tables { OnOk result (IsFree (HasTableFault elf.now)) }
@@ -91,6 +93,7 @@ pub fn is_faultless(alloc: Global, program: &Program<'_>, profile: &[u8]) -> Res
     if !has_light_names(alloc, elf, &program.funcs)? {
         return Ok(false);
     }
+    // Both refuse the program where a fault is present; where the new code starts doesn't matter here.
     new_start(alloc, program)?;
     check_code(elf, &program.funcs)?;
     Ok(true)

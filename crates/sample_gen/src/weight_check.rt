@@ -29,7 +29,8 @@ const MOST_FUNCTIONS: usize = 1001;
 
 const MOST_INSTS: usize = 12;
 
-// How many entries of debugging information it has at most: one of its unit, and one of each function but one.
+// How many entries of debugging information it has at most: one for the unit, and one for each function but the code at
+// the entry point.
 const MOST_ENTRIES: usize = 1001;
 
 // What names may weigh while no cold part gets one, and how many bytes a symbol's name may have.
@@ -44,8 +45,8 @@ fn are_short(symbols: &[Symbol<'_>]) -> bool
     symbols.iter().all(|s| s.name.len() <= LONGEST_NAME)
 }
 
-/// Whether the names of a file with these functions don't weigh too much, whichever functions get a cold part that
-/// stands apart.
+/// Whether the names of a file, whose functions are `funcs`, don't weigh too much, whichever functions get a cold part
+/// that stands apart.
 pub fn has_light_names(alloc: Global, elf: &Elf<'_>, funcs: &[Func]) -> Result<bool, NoMemory>
     requires { AreLaidOut funcs.now }
     ensures { IfOk result (λ b. IsTrue b → (cold : List ℕ) → length cold ≤ length funcs.now →
@@ -135,8 +136,8 @@ fn has_light_units(alloc: Global, elf: &Elf<'_>) -> Result<bool, Refusal>
     Ok(entries.len() <= MOST_ENTRIES && weight <= WEIGHT_LIMIT && has_no_lists(&entries))
 }
 
-/// Whether no table of a file with these functions weighs too much, under whichever map it is carried; or a fault of
-/// units.
+/// Whether no table of a file, whose functions are `funcs`, weighs too much, under whichever map it is carried; or a
+/// fault of units.
 pub fn are_light_tables(
     alloc: Global,
     elf: &Elf<'_>,

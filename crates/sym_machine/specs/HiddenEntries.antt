@@ -4,14 +4,14 @@ use Rattle.std.specs.Prelude.{ℕ, ◌+◌, ◌*◌, ◌&&◌, ◌||◌, Bool, L
 use Rattle.elf_image.specs.memory.LoadedBytes.{Range, is_in_range}
 use Rattle.rv_memory.specs.Start.{program_arguments, stack_pointer}
 
--- the n-th value of the auxiliary vector, on the stack
+-- where the value of entry n of the auxiliary vector stands on the stack, from 0 on
 abbrev pub auxiliary_value : List (List ℕ) → ℕ → Range
 auxiliary_value args n = record {
   start = stack_pointer args + 8 * (length (program_arguments args) + 4 + 2 * n);
   size = 8;
 }
 
--- those of AT_PHDR, AT_PHNUM and AT_ENTRY
+-- the values of AT_PHDR, AT_PHNUM and AT_ENTRY
 abbrev pub at_phdr : List (List ℕ) → Range
 at_phdr args = auxiliary_value args 0
 
@@ -21,6 +21,6 @@ at_phnum args = auxiliary_value args 2
 abbrev pub at_entry : List (List ℕ) → Range
 at_entry args = auxiliary_value args 4
 
--- the byte at an address is one of the two that speak of the table, in a tight file
+-- the byte at an address is one of the values of AT_PHDR and AT_PHNUM, in a tight file
 abbrev pub is_hidden_entry : Bool → List (List ℕ) → ℕ → Bool
 is_hidden_entry tight args a = tight && (is_in_range a (at_phdr args) || is_in_range a (at_phnum args))

@@ -127,7 +127,7 @@ on_constant op.Sltu v n = only_if (n == 1 && is_nonzero v) (Num 0)
 on_constant op.And (Sym (Points p)) n = masked p n
 on_constant o v n = None
 
--- by the operands; the first is always a register
+-- an operation by its operands, of which the first is always a register
 abbrev pub combined : List Func → (ℕ → Value) → Op → Operand → Operand → Option Value
 combined funcs registers o (Register zero) (Register r2) = on_zero funcs o (registers 0) (registers r2)
 combined funcs registers o (Register (suc r1)) (Register r2) = on_registers funcs o (registers (suc r1)) (registers r2)
@@ -138,7 +138,7 @@ abbrev pub base_of : (ℕ → Value) → Operand → Value
 base_of registers (Register r) = registers r
 base_of registers (Immediate imm) = Num (unsigned64 imm)
 
--- what an operation gives; ADDI with a lower part goes by its role alone
+-- what an operation gives; an ADDI with a lower part goes by its role alone
 abbrev pub computed : List Func → Role → (ℕ → Value) → Op → Operand → Operand → Option Value
 computed funcs role registers o left right =
     if is_lower role then joined funcs role (base_of registers left) else combined funcs registers o left right
@@ -168,7 +168,7 @@ tested test v w = None
 abbrev pub goal : List Func → Role → Value → Option Value
 goal funcs role base = if is_lower role then joined funcs role base else Some base
 
--- It has to be a pointer, and without a lower part the offset 0.
+-- The value to which a JALR goes has to be a pointer; without a lower part the offset has to be 0.
 abbrev pub pointer : Role → ℕ → Value → Option Pointer
 pointer role offset (Sym (Points p)) = only_if (is_lower role || offset == 0) p
 pointer role offset _ = None

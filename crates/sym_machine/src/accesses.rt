@@ -19,7 +19,8 @@ pub enum Stored {
     Symbol(SymbolBytes),
 }
 
-/// What a store of `count` bytes of a value writes.
+/// What a store of `count` bytes of a value writes: of a symbol its first bytes, where it counts as kept in eight bytes
+/// unless four are stored. None for a piece of a symbol that has fewer bytes.
 pub fn what_to_store(count: u8, value: Value) -> Option<Stored>
     ensures { option_map (stored_bytes count) result ≡ stored count value }
 {
@@ -50,7 +51,7 @@ pub fn what_to_store(count: u8, value: Value) -> Option<Stored>
     }
 }
 
-// Whether an LWU gives a symbol back whole.
+// Whether an LWU of all four bytes gives a symbol back whole: one whose number is never negative.
 fn is_unsigned(symbol: CodeSymbol) -> bool
     ensures { result ≡ is_unsigned symbol }
 {
@@ -105,7 +106,8 @@ fn unsigned_word(from: SymbolBytes) -> Value
     }
 }
 
-/// What a load of bytes of a symbol gives.
+/// What a load of bytes of a symbol gives: the symbol, where these are all of its bytes, or a piece. None for a load of
+/// eight bytes that aren't all of one symbol.
 pub fn piece(extension: Extension, from: SymbolBytes) -> Option<Value>
     ensures { result ≡ symbol_piece extension from }
 {
@@ -120,7 +122,7 @@ pub fn piece(extension: Extension, from: SymbolBytes) -> Option<Value>
     }
 }
 
-// A base with an offset.
+// The address that a base and an offset give. A symbol stays as it is: nothing can be loaded or stored there.
 fn moved(base: Value, offset: u64) -> Value
     ensures { result ≡ with_offset base offset }
 {

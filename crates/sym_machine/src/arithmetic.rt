@@ -10,7 +10,7 @@ use crate::inst_index::InstIndex;
 use crate::value::{CodeSymbol, Comparing, Pointer, Value};
 use rv_code::Op;
 
-/// Whether a value is surely not 0.
+/// Whether a value is surely not 0: a pointer, or what comparing two different ones gave.
 pub fn is_nonzero(value: Value) -> bool
     ensures { result ≡ is_nonzero value }
 {
@@ -71,7 +71,7 @@ fn compared_by(by: Comparing, left: Pointer, right: Pointer) -> Option<Value>
     }
 }
 
-// ANDI of a pointer.
+// ANDI of a pointer. Code addresses are even, so -2 as the mask leaves one as it is, and 1 gives 0.
 fn masked(pointer: Pointer, mask: u64) -> Option<Value>
     ensures { result ≡ masked pointer mask }
 {
@@ -123,7 +123,7 @@ fn masked_value(value: Value, mask: u64) -> Option<Value>
     masked(pointer, mask)
 }
 
-// SLTIU of a value that is no number: is it 0?
+// SLTIU of a value that is no number. With 1 it asks whether the value is 0, which one that surely isn't answers.
 fn is_zero(value: Value, bound: u64) -> Option<Value>
     ensures { result ≡ only_if (bound == 1 && is_nonzero value) (Value.Num 0) }
 {
@@ -134,6 +134,7 @@ fn is_zero(value: Value, bound: u64) -> Option<Value>
     }
 }
 
+// ADDI of a value that is no number: only 0 can be added.
 fn moved(value: Value, offset: u64) -> Option<Value>
     ensures { result ≡ only_if (offset == 0) value }
 {
@@ -233,7 +234,7 @@ impl<'a> InstIndex<'a> {
         }
     }
 
-    /// An operation on register 0 and another.
+    /// An operation on register 0 and another. SLTU then asks whether the other isn't 0, as SNEZ does.
     pub fn on_zero(&self, op: Op, zero: Value, value: Value) -> Option<Value>
         ensures { result ≡ on_zero self.now.funcs.now op zero value }
     {

@@ -14,7 +14,7 @@ use crate::value::{CodeSymbol, Pointer, Value};
 use rv_code::{Action, Extension, Op, Operand, Role, Test};
 use rv_memory::rights::Access;
 
-// Goes to a pc. Register 0, as any result that goes there, isn't written.
+// Goes to a pc and leaves the registers as they are: what is written to register 0 is dropped.
 fn go_to(next: u64) -> Change
     ensures { result ≡ record { rd = 0; value = Value.Num 0; next = next } }
 {
@@ -37,7 +37,7 @@ impl<'a> SymMachine<'a> {
     ghost use Rattle.sym_machine.specs.internal.Accesses.{ChangesRegistersOnly};
     ghost use Rattle.sym_machine.specs.Rules.{upper_of_distance, upper_of_address, tested};
 
-    // What an instruction with a role changes after which the next one stands at `next`.
+    // What an instruction with a role changes. The instruction after it stands at `next`.
     pub(crate) fn change(&self, role: Role, action: Action, next: u64) -> Result<Change, Reason>
         requires { ChangesRegistersOnly action }
         ensures { (input : List ℕ) →
@@ -93,7 +93,7 @@ impl<'a> SymMachine<'a> {
         }
     }
 
-    // What an operation gives by its operands, of which the first is a register.
+    // What an operation gives on its operands. Of no instruction is the first one an immediate.
     fn combined(&self, op: Op, left: Operand, right: Operand) -> Option<Value>
         ensures { result ≡ combined (funcs_of self.now) (registers_of self.now) op left right }
     {
@@ -174,7 +174,7 @@ impl<'a> SymMachine<'a> {
         }
     }
 
-    // Which way a branch goes.
+    // Where a branch goes, whose test `holds` or doesn't.
     fn way(&self, wanted: bool, holds: bool, offset: u64, next: u64) -> u64
         ensures { (input : List ℕ) → let s = state_of self.now input in
             branches s next (plus s.pc offset) wanted (Some holds) ≡ goes_to s result }

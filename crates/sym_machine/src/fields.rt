@@ -7,14 +7,15 @@ ghost use Rattle.sym_machine.specs.internal.Fields.{range_of_field, AreMarked};
 use rb_bytes::fault::NoMemory;
 use std::alloc::Global;
 
-/// So many bytes of the file from an offset on.
+/// The `size` bytes of a file from the offset `start` on.
 #[derive(Clone, Copy)]
 pub struct Field {
     pub start: u128,
     pub size: u64,
 }
 
-/// Fields of a file, with a mark for each byte of the file that one of them has.
+/// Fields of a file, with a mark for each byte of the file that one of them has: a file can have many program headers,
+/// and each of their bytes is asked for.
 #[derive(Drop)]
 pub struct Fields {
     pub list: Vec<Field>,
@@ -23,7 +24,7 @@ pub struct Fields {
 }
 
 impl Fields {
-    /// Fields of a file of so many bytes.
+    /// Fields of a file of `size` bytes.
     pub fn new(alloc: Global, list: Vec<Field>, size: usize) -> Result<Fields, NoMemory>
         ensures { IfOk result (λ fields. fields.list.items ≡ list.items) }
     {

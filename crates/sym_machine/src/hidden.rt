@@ -18,6 +18,7 @@ use elf_image::{Elf, Segment};
 use rb_bytes::fault::NoMemory;
 use std::alloc::Global;
 
+// Appends a field where `test` holds.
 fn push_if(out: &mut Vec<Field>, test: bool, start: u128, size: u64) -> Result<(), NoMemory>
     ensures { OnOk result (map range_of_field out.new.items ≡ map range_of_field out.old.items
         ++ only test (record { start = start; size = size })) }
@@ -38,7 +39,9 @@ pub fn entry_address(elf: &Elf) -> Option<u64>
     Some(p.vaddr + (E_ENTRY as u64 - p.offset))
 }
 
-// The hidden fields of one program header.
+// The hidden fields of the program header of an index: `p_filesz` and `p_memsz` of the executable segment, which can
+// grow; `p_offset` of one whose bytes lie behind that segment, since they can move in the file; and all that says where
+// the index of the unwind tables stands.
 fn push_fields(
     out: &mut Vec<Field>,
     elf: &Elf,
@@ -69,7 +72,9 @@ fn push_fields(
     Ok(())
 }
 
-/// The hidden fields of a file's headers.
+/// The hidden fields of a file's headers: those that a rewriting can change, among them what says where the tables of
+/// headers stand. In a `tight` file the table of program headers moves and grows. `e_entry` is hidden only where no one
+/// segment loads all of it; else it is a code address.
 pub fn hidden_fields(alloc: Global, elf: &Elf, tight: bool) -> Result<Vec<Field>, NoMemory>
     requires { AreLow elf.now.segments.items }
     ensures { IfOk result (λ fields. map range_of_field fields.items ≡ hidden_fields elf.now tight) }

@@ -23,8 +23,8 @@ pub struct KnownInst {
     pub found: Option<Decoded>,
 }
 
-/// What was found last at the addresses that share a place in this table, so that loops look up their instructions
-/// once.
+/// Instructions by their addresses, so that loops look theirs up once. Addresses can share a place: then what was
+/// looked up last stands there.
 #[derive(Drop)]
 pub struct KnownInsts {
     pub entries: Vec<KnownInst>,

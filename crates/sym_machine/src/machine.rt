@@ -6,7 +6,8 @@ use crate::memory::SymMemory;
 use crate::outcome::{Reason, SymStepped};
 use crate::value::Value;
 
-/// How many registers an instruction can name. Those past 31 have no use, but to keep them needs no look at names.
+/// One for each number of eight bits, so that a look-up needs no check of the number. No instruction names those past
+/// 31.
 pub(crate) const REGISTERS: usize = 256;
 
 /// A machine that runs a file's functions, with code addresses as symbols.

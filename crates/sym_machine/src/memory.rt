@@ -75,7 +75,7 @@ impl<'a> SymMemory<'a> {
         }
     }
 
-    // Whether the addresses share a group that isn't there: then all have numbers.
+    // Whether all of the addresses are of one group, and that isn't there: then all have numbers.
     fn share_no_group(&self, address: u64, count: usize) -> bool
         ensures { IsTrue result → all_may (is_number_at self.now) address count ≡ true }
     {
@@ -168,7 +168,7 @@ impl<'a> SymMemory<'a> {
         Some(bytes)
     }
 
-    // Whether bytes are those of a symbol from byte `index` on.
+    // Whether `count` bytes are those of a symbol from byte `index` on. The bound only keeps `index` from overflowing.
     fn goes_on(&self, symbol: CodeSymbol, width: u8, index: u64, address: u64, count: u8) -> bool
         requires { index + count ≤ 300 }
         ensures { result ≡ are_symbol_bytes symbol width index (memory_bytes (memory_at self.now) address count) }
@@ -182,7 +182,7 @@ impl<'a> SymMemory<'a> {
         self.goes_on(symbol, width, index + 1, address.wrapping_add(1), count - 1)
     }
 
-    // Leaves numbers at `count` addresses: those that the pages have.
+    // Takes away what isn't a number at `count` addresses, so that they have the numbers of the pages.
     fn clear(&mut self, address: u64, count: usize)
         ensures cleared { (q : ℕ) → other_byte self.new.others q
             ≡ put (other_byte self.old.others) address (replicate count None) q }
@@ -235,7 +235,7 @@ impl<'a> SymMemory<'a> {
         }
     }
 
-    // Bytes past the 256th, which no symbol has, find no place.
+    // Stores `count` bytes of a symbol. It has eight at most, so the check, which `store_symbol` wants, never fails.
     fn store_bytes(&mut self, address: u64, count: u8, bytes: SymbolBytes) -> Result<(), NoMemory>
         ensures written { IsOk result → (q : ℕ) → memory_at self.new q
             ≡ put (memory_at self.old) address (symbol_bytes bytes.symbol bytes.width bytes.first count) q }

@@ -52,7 +52,7 @@ pub struct OtherBytes {
 impl OtherBytes {
     ghost use Rattle.sym_machine.specs.internal.OtherBytes.{other_byte, has_group, cleared_between};
 
-    /// No byte.
+    /// No such byte: all addresses have numbers.
     pub fn new(alloc: Global) -> Result<OtherBytes, NoMemory>
         ensures { IfOk result (λ others. (q : ℕ) → other_byte others q ≡ None) }
     {
@@ -138,7 +138,7 @@ impl OtherBytes {
         }
     }
 
-    /// Leaves a number at an address.
+    /// Takes away the byte at an address, which then has a number.
     pub fn clear(&mut self, address: u64)
         ensures { (q : ℕ) → other_byte self.new q ≡ (if q == address then None else other_byte self.old q) }
     {
@@ -147,7 +147,7 @@ impl OtherBytes {
         }
     }
 
-    /// Leaves numbers from one address up to another.
+    /// Takes away the bytes from one address to before another, which then have numbers.
     pub fn clear_run(&mut self, from: u64, to: u64)
         ensures { (q : ℕ) → other_byte self.new q ≡ cleared_between self.old from to q }
     {

@@ -59,7 +59,7 @@ impl SymRan {
     ghost use Rattle.run_core.specs.Runs.{steps_done};
     ghost use Rattle.sym_machine.specs.MachineState.{answered};
 
-    /// A run that came to its end in the step after so many.
+    /// A run that came to its end in the step after `steps` others.
     pub fn ended(end: SymStepped, steps: u64) -> SymRan
         requires { steps < 2 ^ 64 - 1 }
         ensures end { result.end ≡ end }

@@ -6,7 +6,7 @@ use crate::inst_index::InstIndex;
 use crate::value::{CodeSymbol, Pointer, Value};
 use rv_code::Role;
 
-/// What AUIPC gives at an address.
+/// What the AUIPC at an address gives; none where its role isn't an upper part.
 pub fn upper_of_distance(role: Role, address: u64) -> Option<Value>
     ensures { result ≡ upper_of_distance role address }
 {
@@ -16,7 +16,7 @@ pub fn upper_of_distance(role: Role, address: u64) -> Option<Value>
     }
 }
 
-/// What LUI gives with a number as its immediate.
+/// What LUI gives, whose immediate times 4096 is `number`.
 pub fn upper_of_address(role: Role, number: u64) -> Value
     ensures { result ≡ upper_of_address role number }
 {
@@ -46,7 +46,7 @@ fn is_hi(address: u64, value: Value) -> bool
     }
 }
 
-// Whether a value is the upper part of an address.
+// Whether a value is what LUI gave as the upper part of the address `target`.
 fn is_abs(target: u64, value: Value) -> bool
     ensures { result ≡ is_abs target value }
 {
@@ -96,7 +96,7 @@ impl<'a> InstIndex<'a> {
         }
     }
 
-    /// What a lower part and its base give together.
+    /// What a lower part and its base give together; none where the base isn't the upper part that belongs to it.
     pub fn joined(&self, role: Role, base: Value) -> Option<Value>
         ensures { result ≡ joined self.now.funcs.now role base }
     {

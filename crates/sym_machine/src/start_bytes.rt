@@ -77,7 +77,8 @@ impl OtherBytes {
         Ok(())
     }
 
-    // Code cells: of those that share a byte the first counts, so it comes last.
+    // Adds the code cells, from the last to the first: of those that share a byte the first counts, and what is added
+    // later stands.
     fn add_cells(&mut self, cells: &[CodeCell]) -> Result<(), NoMemory>
         requires none { (q : ℕ) → special self.old q ≡ None }
         requires low { All (λ cell. cell.addr + cell.width ≤ 2 ^ 64) cells.now }
@@ -196,7 +197,7 @@ impl OtherBytes {
         Ok(())
     }
 
-    // In a tight file, the numbers on the stack that speak of the table of program headers.
+    // In a tight file, hides the values of AT_PHNUM and AT_PHDR, since the table of program headers moves and grows.
     fn hide_entries(&mut self, pointer: u64, count: usize, tight: bool) -> Result<(), NoMemory>
         requires low { pointer + 8 * (count + 20) ≤ 2 ^ 64 }
         ensures { OnOk result ((args : List (List ℕ)) → pointer ≡ stack_pointer args → count ≡ length args →
@@ -209,7 +210,7 @@ impl OtherBytes {
         self.hide(auxiliary_value(pointer, count, 0), 8)
     }
 
-    // The entry point, on the stack and in the file's header.
+    // Adds the entry point, as the value of AT_ENTRY and, where that is loaded whole, in the field `e_entry`.
     fn add_entry(&mut self, elf: &Elf, pointer: u64, count: usize) -> Result<(), NoMemory>
         requires low { AreLow elf.now.segments.items }
         requires stack { pointer + 8 * (count + 20) ≤ 2 ^ 64 }
@@ -250,7 +251,7 @@ impl OtherBytes {
     }
 }
 
-// How many bytes a segment loads from the file up to an offset.
+// How many bytes of the file below the offset `to` a segment loads.
 fn file_end(p: &Segment, to: u128) -> u64
     ensures { result ≡ min (to - p.now.offset) (min p.now.filesz p.now.memsz) }
 {
@@ -263,7 +264,9 @@ fn file_end(p: &Segment, to: u128) -> u64
     }
 }
 
-// The address of the `n`-th value of the auxiliary vector.
+// The address of the value of entry `n` of the auxiliary vector, from 0 on: AT_PHDR, AT_PHENT, AT_PHNUM, AT_PAGESZ and
+// AT_ENTRY. Before it stand the count of arguments, the addresses of the program's name and of `count` arguments, the
+// ends of two lists, `n` entries of two numbers, and the type of this one.
 fn auxiliary_value(pointer: u64, count: usize, n: u64) -> u64
     requires low { pointer + 8 * (count + 20) ≤ 2 ^ 64 }
     requires few { n ≤ 4 }

@@ -19,7 +19,8 @@ impl<'a> SymMachine<'a> {
 
     /// Does the instruction at the pc. Input comes from `input`, and output goes to `out`.
     ///
-    /// After `Memory`, `Stuck` and `Ended` the machine is as it was; after the two faults nothing is said of it.
+    /// After `Memory`, `Stuck` and `Ended` the machine is as it was; after the two faults nothing is said of it. A call
+    /// asks `input` also where an earlier one found it at its end; [`SymMachine::run`] doesn't.
     pub fn step<I: Source, O: Sink>(&mut self, input: &mut I, out: &mut O) -> SymStepped
         ensures answer { (ends : Bool) × StepAnswers (SymSteps (funcs_of self.old)) result self.old self.new false ends
             (outside_of (I.seen input.old) (O.seen out.old))
@@ -62,7 +63,7 @@ impl<'a> SymMachine<'a> {
         }
     }
 
-    // Does an instruction with a role after which the next one stands at `next`.
+    // Does an instruction with a role. The instruction after it stands at `next`.
     fn execute(&mut self, role: Role, action: Action, next: u64) -> SymStepped
         requires no_call { action ≢ Action.SystemCall }
         requires action { (i : Inst) × (action ≡ action_of i) }

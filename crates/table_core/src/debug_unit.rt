@@ -7,14 +7,16 @@ use rb_bytes::fault::NoMemory;
 use std::alloc::Global;
 use std::marker::Model;
 
-/// A unit, which stands behind its length.
+/// A unit of a debug section, or a table that begins as units do: with a length of 32 bits and a version of 16.
 #[derive(Drop)]
 pub struct DebugUnit<'a> {
-    /// Its offset in the section.
+    /// The offset of its length in the section.
     pub place: u64,
-    /// The bytes behind its length, where they lie whole in the section and hold a version.
+    /// The bytes behind its length, from the version on; none where they don't lie whole in the section, or are too few
+    /// for a version.
     pub bytes: Option<&'a [u8]>,
-    /// Whether it is of another format or version than is read.
+    /// Whether it is of the 64-bit format or of another version than the one that is read. This is told by what stands
+    /// in the section, also where the unit isn't whole.
     pub is_other: bool,
 }
 
@@ -30,6 +32,7 @@ impl<'a> Model for DebugUnit<'a> {
 // The length that says that a unit is of the 64-bit format.
 const DWARF64: u32 = 0xffff_ffff;
 
+// The bytes behind the length of the unit at the front, where they are whole and have room for a version.
 fn unit_bytes(left: &[u8]) -> Option<&[u8]>
     ensures { option_map (λ b. b.now) result ≡ unit_bytes left.now }
 {
@@ -45,6 +48,7 @@ fn unit_bytes(left: &[u8]) -> Option<&[u8]>
     Some(bytes)
 }
 
+// Whether the unit at the front is of the 64-bit format or of another version.
 fn is_other_version(version: u16, left: &[u8]) -> bool
     ensures { result ≡ is_other_version version left.now }
 {
@@ -62,7 +66,7 @@ fn is_other_version(version: u16, left: &[u8]) -> bool
     LittleEndian::read_u16(behind) != version
 }
 
-// What stands behind the unit at the front, where that is whole.
+// What stands behind the unit at the front, where the unit is whole, be it too short for a version.
 fn behind_unit(left: &[u8]) -> Option<&[u8]>
     ensures is { MatchOption result (is_whole_unit left.now ≡ false)
         (λ rest. (is_whole_unit left.now ≡ true) × (rest.now ≡ drop (unit_length left.now + 4) left.now)) }
@@ -93,7 +97,8 @@ fn unit_at<'a>(version: u16, place: u64, left: &'a [u8]) -> DebugUnit<'a>
     }
 }
 
-/// The units of a section of which those of a version are read.
+/// The units of a section, in order, with what tells whether they are of `version`. The walk ends behind the first
+/// one that isn't whole, which is the last of the list.
 pub fn debug_units<'a>(
     alloc: Global,
     version: u16,
@@ -104,7 +109,7 @@ pub fn debug_units<'a>(
     let mut units = Vec::new(alloc);
     let mut left = section;
     let mut place: u64 = 0;
-    // Each has a byte or more.
+    // Each unit takes a byte at least. `count` isn't read: it bounds the loop.
     for count in 0..section.len() {
         if left.is_empty() {
             return Ok(units);

@@ -6,14 +6,14 @@ ghost use Rattle.table_core.specs.Sections.{held, bytes_of};
 use elf_image::Elf;
 use elf_image::section::SHT_NOBITS;
 
-/// The contents of a section, and the address at which it is loaded.
+/// The contents of a section, and the address that its header gives.
 #[derive(Clone, Copy)]
 pub struct Held<'a> {
     pub bytes: &'a [u8],
     pub address: u64,
 }
 
-/// What the section that a name means holds; nothing where there is none.
+/// What the section that a name means holds; where there is none, nothing, at address 0.
 pub fn held_by<'a>(elf: &Elf<'a>, name: &[u8]) -> Held<'a>
     ensures { record { bytes = result.bytes.now; address = result.address } ≡ held elf.now name.now }
 {
@@ -29,7 +29,7 @@ pub fn held_by<'a>(elf: &Elf<'a>, name: &[u8]) -> Held<'a>
     }
 }
 
-// The contents of a section; one of no bits has none.
+// The contents of a section; one of type SHT_NOBITS has none in the file.
 fn contents(file: &[u8], kind: u32, offset: u64, size: u64) -> &[u8]
     ensures { result.now ≡ (if kind == SHT_NOBITS then [] else take size (drop offset file.now)) }
 {
@@ -39,7 +39,7 @@ fn contents(file: &[u8], kind: u32, offset: u64, size: u64) -> &[u8]
     piece(file, offset, size)
 }
 
-// As many bytes from an offset on as there are.
+// The `size` bytes from an offset on, or those of them that the file has.
 fn piece(file: &[u8], offset: u64, size: u64) -> &[u8]
     ensures { result.now ≡ take size (drop offset file.now) }
 {
@@ -48,7 +48,7 @@ fn piece(file: &[u8], offset: u64, size: u64) -> &[u8]
     bytes
 }
 
-/// The contents of the section that a name means; nothing where there is none.
+/// The contents of the section that a name means, or no bytes where there is none.
 pub fn contents_of<'a>(elf: &Elf<'a>, name: &[u8]) -> &'a [u8]
     ensures { result.now ≡ bytes_of elf.now name.now }
 {

@@ -39,7 +39,7 @@ pub trait ByAddress: Drop {
     /// The places of the faults that reading the table looks for, by their kind.
     ghost has: { Elf → FaultKind → ℕ → Type 0 };
 
-    /// The table may have been read from a file: that has the same sections and cuts, as far as they matter.
+    /// The table may have been read from a file: the file has the same sections and, where these matter, the same cuts.
     ghost comes_from: { Self → Elf → Type 0 };
 
     /// The maps under which the table can be written anew.
@@ -73,18 +73,19 @@ pub trait ByAddress: Drop {
     fn at(&self, alloc: Global, a: u64) -> Result<Option<Self::Answer>, NoMemory>
         ensures { IfOk result (λ o. option_map said o ≡ says self.now a) };
 
-    /// About how many bytes of memory an answer takes, behind the place where it stands.
+    /// About how many bytes of memory an answer takes, with its run and all that it owns; 0 where the table sets no
+    /// bound.
     fn size(_answer: &Self::Answer) -> usize {
         0
     }
 
-    /// About how many bytes of memory the answers may take that are held where the table is carried.
+    /// About how many bytes of memory the answers may take together that are asked for where the table is carried.
     fn most_size(&self) -> usize {
         usize::MAX
     }
 
-    /// Whether two addresses certainly have the same answer. `false` says nothing; it is the answer of what can't tell
-    /// without looking both up.
+    /// Whether two addresses certainly have the same answer. `false` says nothing: it is the answer, too, where telling
+    /// would take as long as looking both up.
     fn alike(&self, a: u64, b: u64) -> bool
         ensures { IsTrue result → says self.now a ≡ says self.now b };
 

@@ -1,4 +1,4 @@
-// What the tables of a file say of one address, or its first fault of tables.
+// What the tables of a file say of one address, or the first fault of its tables.
 ghost use Rattle.std.specs.Prelude.{IfOk, IfErr, OnOk};
 ghost use Rattle.rb_bytes.specs.FirstFault.{IsFree, IsRefusalBy};
 ghost use Rattle.table_set.specs.AllTables.{AreReadAt, IsDebugReadAt};
@@ -17,12 +17,13 @@ use table_core::AddrTable;
 /// What debug data says of one address.
 #[derive(Drop)]
 pub struct DebugAt {
-    /// Of all addresses: they tell the paths of files, too.
+    /// The whole table of lines, since it tells the paths of files, too.
     pub lines: Lines,
+    /// What the entries of units say of the address.
     pub lists: ListsAt,
 }
 
-/// The tables of frames, and what debug data says of one address.
+/// Both frame tables, and what debug data says of one address.
 #[derive(Drop)]
 pub struct TablesAt {
     pub eh: EhFrames,

@@ -18,14 +18,14 @@ use rb_bytes::fault::NoMemory;
 use std::alloc::Global;
 use table_core::AddrTable;
 
-// How much lists and the declarations of units may weigh for each byte of the file, and beside: a unit that uses one
-// index of a list gets an offset for each index below it too; and units can begin their declarations at any of one long
-// table, and each gets all that follow.
+// How much lists and the declarations of units may weigh for each byte of the file, and beside. A unit that uses one
+// index of a list gets an offset for each index below it, too; and units can begin their declarations at any one of a
+// long table, and each gets all that follow.
 const MOST_TIMES: u64 = 64;
 
 const MOST_BESIDE: u64 = 1 << 28;
 
-// Whether these weigh so much that memory could be wanting while they are written.
+// Whether lists and declarations weigh so much beside the file that memory could run out while they are written.
 fn is_much(weight: u64, file_size: u64) -> bool {
     weight
         > file_size
@@ -33,8 +33,8 @@ fn is_much(weight: u64, file_size: u64) -> bool {
             .saturating_add(MOST_BESIDE)
 }
 
-/// Whether a table would weigh too much, written for a map; or the declarations of its units. Memory is wanting too
-/// where these weigh much beside the file.
+/// Whether a table written for a map would weigh more than `WEIGHT_LIMIT`, or the declarations of units would.
+/// `NoMemory` is answered, too, where none does, but lists and declarations together weigh much beside the file.
 pub fn is_too_heavy(
     alloc: Global,
     elf: &Elf<'_>,

@@ -61,7 +61,7 @@ fn put_attributes(text: &mut Vec<u8>, attrs: &[Attr]) -> Result<(), Fail> {
     Ok(())
 }
 
-// Appends the list of a name.
+// Appends the entries, if `name` says so, or else their attributes.
 fn put_list(text: &mut Vec<u8>, entries: &[Entry], name: &str) -> Result<(), Fail> {
     for entry in entries {
         if name == "entries" {

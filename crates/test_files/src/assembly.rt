@@ -97,7 +97,7 @@ fn operands(text: &str) -> Option<[u64; 3]> {
     Some([operand(first)?, operand(second)?, operand(third)?])
 }
 
-// Some bits of a number at their place in an instruction.
+// The bits of an instruction's operands at their places in its word.
 fn place_operands(format: &str, [a, b, c]: [u64; 3]) -> u64 {
     match format.as_bytes().first() {
         Some(b'R') => a << 7 | b << 15 | c << 20,

@@ -34,7 +34,7 @@ pub fn push_u64s(file: &mut Vec<u8>, numbers: &[u64]) -> Result<(), AllocError> 
     Ok(())
 }
 
-/// Appends zeros up to a size. A file that has it already stays.
+/// Appends zeros until there are `size` bytes. A longer file stays as it is.
 pub fn grow(file: &mut Vec<u8>, size: usize) -> Result<(), AllocError> {
     if file.len() < size {
         file.resize(size, 0)?;
@@ -42,7 +42,7 @@ pub fn grow(file: &mut Vec<u8>, size: usize) -> Result<(), AllocError> {
     Ok(())
 }
 
-/// Appends zeros up to a multiple of a number of bytes; 0 and 1 ask for none.
+/// Appends zeros until the size is a multiple of `align`; 0 and 1 ask for none.
 pub fn pad(file: &mut Vec<u8>, align: u64) -> Result<(), AllocError> {
     if align > 1 {
         let past = file.len() as u64 % align;
@@ -55,14 +55,14 @@ pub fn pad(file: &mut Vec<u8>, align: u64) -> Result<(), AllocError> {
     Ok(())
 }
 
-/// Writes bytes over those at an offset, as far as the file goes.
+/// Writes `bytes` over those at `offset`, as far as the file goes.
 pub fn patch(file: &mut [u8], offset: usize, bytes: &[u8]) {
     for (place, byte) in file.iter_mut().skip(offset).zip(bytes) {
         *place = *byte;
     }
 }
 
-/// Puts bytes at an offset. A shorter file grows, with zeros before them.
+/// Puts `bytes` at `offset`. A shorter file grows, with zeros before them.
 pub fn place(file: &mut Vec<u8>, offset: u64, bytes: &[u8]) -> Result<(), BuildError> {
     let end = offset
         .checked_add(bytes.len() as u64)

@@ -68,8 +68,8 @@ impl<'a> ElfFile<'a> {
         }
     }
 
-    /// Adds a loaded segment that begins at an offset of the file and at an address, and ends with the last of these
-    /// sections, which it loads.
+    /// Adds a loaded segment that begins at `offset` in the file and at the address `vaddr`, and ends with the last of
+    /// `sections`, which it loads.
     pub fn add_segment(
         &mut self,
         flags: u32,

@@ -146,7 +146,7 @@ code .text 10fe0 lui a0,0; addi a0,a0,7; exit
 segment rw 1000 11000
 loaded .rodata 11000 0000000000000000";
 
-/// The lines of the program of a name.
+/// The lines of the program called `name`.
 pub fn program_called(name: &str) -> Result<&'static str, BuildError> {
     for paragraph in PROGRAMS.split("\n\n") {
         if let Some((found, lines)) = paragraph.split_once('\n') {

@@ -294,6 +294,7 @@ fn change(alloc: Global, file: &mut Vec<u8>, words: &str) -> Result<(), BuildErr
 /// - `reloc ADDR TYPE [@SYMBOL] [ADDEND]`: TYPE is a name, as `HI20`, or `type=NUMBER`
 /// - `entry ADDR`, `flags NUMBER`, `headers behind|last`: the program headers stand behind the segments, or behind all
 /// - `patch OFFSET BYTES`, `size SIZE`: changes the built file, which is cut or gets zeros behind it
+/// - `whole`, `profile`, `input`, `fail`, `room` and `limit` begin lines that other readers of the words take
 pub fn file_in_words(alloc: Global, words: &str) -> Result<Vec<u8>, BuildError> {
     let contents = contents(alloc, words)?;
     let mut bytes = lay_out(alloc, words, &contents)?.build(alloc)?;

@@ -44,7 +44,7 @@ impl Writer {
         })
     }
 
-    // Appends a name in two pieces, and answers where it begins.
+    // Appends the name that `front` and `name` make up, and answers where it begins.
     fn add_name(&mut self, front: &[u8], name: &[u8]) -> Result<u32, BuildError> {
         let begin = to_u32(self.names.len())?;
         self.names.extend_from_slice(front)?;
@@ -53,7 +53,7 @@ impl Writer {
         Ok(begin)
     }
 
-    /// Adds a section's header, and its bytes where it has no place. What stands before its name in the file is given.
+    /// Adds a section's header, and its bytes where it has no place. `front` stands before its name in the file.
     pub(crate) fn add_section(
         &mut self,
         front: &[u8],

@@ -39,7 +39,7 @@ const LONG: &str = "; .rept 99999 nop; jalr zero,0(ra)";
 
 const SHORT: &str = "; .rept 200001 jalr zero,0(ra)";
 
-// Files with code that is repeated so many times, and so many functions of so many bytes each.
+// Files with an input whose code is repeated `times` times, and which has `count` functions of `size` bytes each.
 fn returning(
     alloc: Global,
     times: u32,
@@ -123,8 +123,8 @@ const NAMED: usize = 4_100;
 
 const NAME_LENGTH: usize = 1_000_000;
 
-// So many sections of one instruction, which returns. The first has the name, and the headers of the others, which
-// stand at the end of the file before that of `.shstrtab`, are given its place.
+// A file of `NAMED` sections of one instruction, which returns. The first has the name, and the headers of the others,
+// which stand at the end of the file before that of `.shstrtab`, are given its place.
 fn named_alike(alloc: Global) -> Result<Vec<u8>, Fail> {
     let back = [0x67, 0x80, 0, 0];
     let name = vec![in alloc; b'n'; NAME_LENGTH]?;

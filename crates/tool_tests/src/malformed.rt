@@ -19,7 +19,7 @@ const READERS: [&str; 9] = [
     "verify in in profile",
 ];
 
-// A session in which each of these commands answers this, and writes nothing.
+// A session in which each of `commands` gives `answer`, and writes nothing.
 fn refusals(alloc: Global, commands: &[&str], answer: &str) -> Result<String, Fail> {
     let mut session = String::from_str(alloc, "none out | none map")?;
     for command in commands {
@@ -29,8 +29,8 @@ fn refusals(alloc: Global, commands: &[&str], answer: &str) -> Result<String, Fa
     Ok(session)
 }
 
-// What is wrong with so many bytes of the example: its header is cut, or the program header, the segment, the section
-// headers.
+// For what the first `size` bytes of the example are refused: its header is cut, or the program header, the segment, or
+// the section headers.
 fn refusal_of_prefix(size: usize) -> &'static str {
     if size < 7 {
         "221 NotElf 0 0 0 refused 1 NotElf at 0/"
@@ -87,8 +87,8 @@ $ run in | 7 Ended(7) [ended 7 after 4 steps]/ | $ lookup in 10078 | 0 Ok none/ 
     play(&rt, alloc, &mut files, "entries nested deep", session)
 }
 
-// What rows say of their files: how all these commands refuse one; or what `lookup` prints at 10078, and then also at
-// 10090 of the output, where the code went.
+// Plays the rows of a table, each of which says of its file how all of `commands` refuse it; or what `lookup` prints at
+// 10078, and then also at 10090 of the output, where the code went.
 fn check_tables(
     rt: &impl Abort,
     alloc: Global,

@@ -11,7 +11,7 @@ fn text(alloc: Global, text: &str) -> Result<String, Fail> {
     Ok(String::from_str(alloc, text)?)
 }
 
-// The number that a line says in hexadecimal.
+// The number that the line `name` says, in hexadecimal, or `default` where there is no such line.
 fn number_said(words: &str, name: &str, default: u64) -> Result<u64, Fail> {
     match said(words, name) {
         Some(digits) => Ok(hexadecimal(digits)?),
@@ -31,7 +31,7 @@ fn profile(alloc: Global, words: &str) -> Result<Vec<u8>, Fail> {
     Ok(bytes)
 }
 
-/// Files with an input, the profile of these words (`profile LINE`, as many as there are), and room for outputs and for
+/// Files with an input, the profile of `words` (`profile LINE`, as many as there are), and room for outputs and for
 /// maps: `room files SIZE`. A call of the files may fail: `fail files NUMBER`.
 pub fn files_with(alloc: Global, words: &str, input: Vec<u8>) -> Result<MemFiles, Fail> {
     let fail = number_said(words, "fail files ", 0)?;
@@ -46,7 +46,7 @@ pub fn files_with(alloc: Global, words: &str, input: Vec<u8>) -> Result<MemFiles
     Ok(files)
 }
 
-// Adds an argument, or with `*COUNT*SIZE` so many of so many bytes each.
+// Adds an argument; or, for `*COUNT*SIZE`, COUNT arguments of SIZE bytes each.
 fn add_args(alloc: Global, args: &mut Vec<String>, word: &str) -> Result<(), Fail> {
     let Some((_, sizes)) = word.split_once('*') else {
         args.push(text(alloc, word)?)?;
@@ -172,7 +172,7 @@ fn patch(alloc: Global, files: &mut MemFiles, words: &str) -> Result<(), Fail> {
 
 /// Plays a session with these files. Its parts, with ` | ` between them, are
 ///
-/// - `$ ARGS`: the tool is run; `*COUNT*SIZE` stands for so many arguments of so many bytes
+/// - `$ ARGS`: the tool is run; `*COUNT*SIZE` stands for COUNT arguments of SIZE bytes each
 /// - `NUMBER STATUS PRINTED`: its answer and what it printed, with `/` for the end of a line
 /// - `patch FILE OFFSET BYTES`: these bytes stand in the file from there on
 /// - `none FILE`, `text FILE TEXT`, `starts FILE TEXT`, `ends FILE TEXT`, `bytes FILE OFFSET BYTES`
@@ -220,7 +220,7 @@ pub fn play_rows(rt: &impl Abort, alloc: Global, table: &str) -> Result<(), Fail
     Ok(())
 }
 
-/// In the rows of a table is what each of these commands answers and prints; nothing is written.
+/// Gives each of `commands` the file of each row, which says what it answers and prints; nothing is written.
 pub fn commands_refuse(
     rt: &impl Abort,
     alloc: Global,

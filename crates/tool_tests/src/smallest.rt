@@ -5,10 +5,9 @@ use std::alloc::Global;
 use std::test::Fail;
 use test_files::words::{file_in_words, hexadecimal, push_bytes};
 
-// The example with its code moved, worked out by hand: the segment grows to a0, the names stand there with
-// `.old.text` and
-// `.text` behind them, and four section headers at c8, of which the first stays. A line is the width of its numbers,
-// or bytes.
+// The example with its code moved, worked out by hand: the segment grows to a0, the names stand there with `.old.text`
+// and `.text` behind them, and four section headers at c8, of which the first stays. A line is the width of its numbers
+// and the numbers, or bytes.
 const MOVED: &str = "\
 bytes 7f454c46020101000000000000000000
 2 2 f3
@@ -45,7 +44,7 @@ bytes 00000000000000
 4 0 0
 8 10 0";
 
-// The bytes of numbers of a width, one after the other.
+// Appends the bytes of numbers, each of `width` bytes.
 fn push_numbers(bytes: &mut Vec<u8>, width: &str, numbers: &str) -> Result<(), Fail> {
     let width = width.parse::<usize>()?;
     for number in numbers.split(' ') {

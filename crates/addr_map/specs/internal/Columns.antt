@@ -17,7 +17,7 @@ abbrev pub AreLevels : List ℕ → List (Vec ℕ Global) → Type 0
 AreLevels column [] = length column ≤ 64
 AreLevels column (firsts ∷ levels) = IsFirsts firsts.items column × AreLevels firsts.items levels
 
--- so many of a column's groups of 64 begin with a member that is at most x, if it ascends
+-- just the first `groups` groups of 64 begin with a member that is at most x, in a column that ascends
 pub record IsGroupCount (column : List ℕ) (x groups : ℕ) : Type 0 where
   pub low : 0 < groups → (64 * (groups - 1) < length column) × (slice_index column (64 * (groups - 1)) ≤ x)
   pub high : 64 * groups < length column → x < slice_index column (64 * groups)

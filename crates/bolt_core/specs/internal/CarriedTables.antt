@@ -37,7 +37,7 @@ HasRoomBehind t spans end = IsTrue t.has_section → (runs : List (Run FrameAnsw
     AreRunsOf (carried (eh_says t) spans) runs →
     end + (64 + 64 * (read_as t.frames).cies + sum_by (λ r. run_size r.answer) runs) ≤ address_end
 
--- what was written is given to be written to the file
+-- the tables that are given are those that were written anew
 abbrev pub AreListedOf : Elf → ℕ → ℕ → AllWritten → List ReadTable → Type 0
 AreListedOf elf start code w = AreListed elf start code w.eh.bytes.items w.ranges.bytes.items (debug_contents w)
 

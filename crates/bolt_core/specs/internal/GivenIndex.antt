@@ -8,7 +8,7 @@ use Rattle.cfi_rows.specs.Entries.{frames}
 use Rattle.frame_rewrite.specs.Index.{IsIndexOf, has_frames, has_index}
 use Rattle.bolt_core.specs.GivenTables.{DebugContents, ReadTable, listed, ranges_given, table_seen}
 
--- where the table and its index stand, in an area that starts with so many bytes of code
+-- where the table and its index stand, in an area that starts at `start` with `code` bytes of code
 abbrev pub frames_at : ℕ → ℕ → ℕ
 frames_at start code = rounded_up 8 (start + code)
 

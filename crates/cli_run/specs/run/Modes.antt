@@ -5,10 +5,10 @@ use Rattle.cli_run.specs.run.RunOutcomes.{Loaded}
 
 -- P is what the machine is given of a file.
 pub record Mode (P V X C : Type 0) : Type 1 where
-  -- what it is given of a file that can be run
+  -- what the machine is given of a file that can be run
   pub IsProgram : List ℕ → P → Type 0
-  -- the machine with that in it, and with the program's arguments
+  -- the machine with what it is given, and with the program's arguments
   pub machine : P → List (List ℕ) → Loaded V X C
-  -- no fault is found in a file; and the fault for which one isn't run
+  -- no fault is found in a file; and the fault for which a file isn't run
   pub CanRun : List ℕ → Type 0
   pub CannotRun : List ℕ → Fault → Type 0

@@ -18,7 +18,7 @@ pub record Loaded (V X C : Type 0) : Type 1 where
   pub start : List ℕ → State V X
   pub halted : ℕ → C → Status
 
--- the line that says how a run came out, after so many steps; other answers have none
+-- the line that says how a run came out, after `steps` steps; other answers have none
 abbrev pub closing_line : Status → ℕ → List ℕ
 closing_line (status.Ended value) steps = ended_line value steps
 closing_line (status.Trapped pc cause) steps = trapped_line pc cause steps
@@ -27,14 +27,14 @@ closing_line status.OutOfSteps steps = out_of_steps_line steps
 closing_line _ steps = []
 
 module _ {V X C : Type 0} (machine : Loaded V X C) where
-  -- the answer that says so
+  -- the answer that says how a run came out
   abbrev pub answer_of : Ending C → Status
   answer_of (Ends value) = status.Ended value
   answer_of (HaltsAt pc cause) = machine.halted pc cause
   answer_of RunsOn = status.OutOfSteps
 
-  -- The run with this input comes out so after n steps, made these calls, and leaves this of its input. The step that
-  -- ends is counted and the one that halts isn't, but both are among the first `limit`.
+  -- The run with `input` comes out as said after n steps, made the calls of `trace`, and leaves `rest` of its input.
+  -- The step that ends is counted and the one that halts isn't, but both are among the first `limit`.
   abbrev pub RunsTo : List ℕ → ℕ → Ending C → ℕ → List Event → List ℕ → Type 0
   RunsTo input limit (Ends value) n trace rest =
       (n ≤ limit) × ((run : Run machine.step (machine.start input) n trace value) × (run.state.input ≡ rest))

@@ -53,7 +53,7 @@ IsDynamic file i place =
 abbrev pub is_compressed : ℕ → List ℕ → Bool
 is_compressed flags name = is_set SHF_COMPRESSED flags || starts_with nat_eq name (codes ".zdebug")
 
--- the section of an index is, which is the place
+-- the section of an index is compressed; the place is the index
 abbrev pub HasCompressed : List ℕ → ℕ → Type 0
 HasCompressed file i = IsTrue (is_compressed (section_header file i).flags (section_name file i))
 

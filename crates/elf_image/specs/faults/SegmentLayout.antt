@@ -13,11 +13,11 @@ use Rattle.elf_image.specs.file.Sections.{holds_code, section_header, section_pl
 abbrev pub is_code_segment : Segment → Bool
 is_code_segment p = is_load p && has_flag PF_X p
 
--- an index of one
+-- the index of an executable segment
 abbrev pub IsCode : List ℕ → ℕ → Type 0
 IsCode file i = (i < e_phnum file) × IsTrue (is_code_segment (segment file i))
 
--- a section's name begins as those of moved sections do
+-- a section's name begins as those do that a rewriting gives to sections which new ones replace
 abbrev pub HasOldSection : List ℕ → Type 0
 HasOldSection file = (i : ℕ) × (i < e_shnum file) × IsTrue (starts_with nat_eq (section_name file i) (codes ".old."))
 
@@ -29,7 +29,7 @@ HasNoCode file place = ((i : ℕ) → IsCode file i → ⊥) × (place ≡ 0x20)
 abbrev pub IsSecondCode : List ℕ → ℕ → Type 0
 IsSecondCode file i = IsCode file i × ((j : ℕ) × IsCode file j × (j < i) × ((k : ℕ) → IsCode file k → k < i → k ≡ j))
 
--- a third is there, or no section was moved
+-- there is a third executable segment, or the file wasn't rewritten
 abbrev pub IsTooMany : List ℕ → ℕ → Type 0
 IsTooMany file i = ((k : ℕ) × IsCode file k × (i < k)) ⊎ (HasOldSection file → ⊥)
 
@@ -52,7 +52,7 @@ ShareAddress p q = (a : ℕ) × IsTrue (loads_address a p) × IsTrue (loads_addr
 abbrev pub ShareFileByte : Segment → Segment → Type 0
 ShareFileByte p q = (k : ℕ) × IsFileByte k p × IsFileByte k q
 
--- a segment that shares so with another
+-- a segment that shares an address, or a byte of the file, with another
 abbrev pub SharesAddress : List ℕ → ℕ → ℕ → Type 0
 SharesAddress file i place =
     ((j : ℕ) × (j < e_phnum file) × (j ≢ i) × ShareAddress (segment file i) (segment file j))
@@ -63,7 +63,7 @@ SharesFileByte file i place =
     ((j : ℕ) × (j < e_phnum file) × (j ≢ i) × ShareFileByte (segment file i) (segment file j))
     × (place ≡ segment_place file i)
 
--- The executable segment of the lowest address, of n segments; the first in the table of those.
+-- Of the first n segments the executable one at the lowest address; of several there the first in the table.
 abbrev pub IsLowestCodeBelow : List ℕ → ℕ → ℕ → Type 0
 IsLowestCodeBelow file n i =
     IsCode file i
@@ -73,19 +73,19 @@ IsLowestCodeBelow file n i =
 abbrev pub IsLowestCode : List ℕ → ℕ → Type 0
 IsLowestCode file i = IsLowestCodeBelow file (e_phnum file) i
 
--- a range of the file begins before its end and ends after it
+-- a range of the file begins before the end of the lowest executable segment, and ends after it
 abbrev pub CrossesEnd : List ℕ → ℕ → ℕ → Type 0
 CrossesEnd file offset size =
     (c : ℕ) × IsLowestCode file c
     × (offset < (segment file c).offset + (segment file c).filesz)
     × ((segment file c).offset + (segment file c).filesz < offset + size)
 
--- the bytes that any header takes from the file
+-- the bytes of any segment, loaded or not, cross that end
 abbrev pub IsCrossing : List ℕ → ℕ → ℕ → Type 0
 IsCrossing file i place = CrossesEnd file (segment file i).offset (segment file i).filesz
     × (place ≡ segment_place file i)
 
--- the table of program headers
+-- the table of program headers crosses that end
 abbrev pub IsCrossingTable : List ℕ → ℕ → Type 0
 IsCrossingTable file place = CrossesEnd file (e_phoff file) (PHDR_SIZE * e_phnum file) × (place ≡ e_phoff file)
 

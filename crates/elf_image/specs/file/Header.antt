@@ -10,7 +10,7 @@ use Rattle.elf_image.specs.declared.segment.TheConstants.{PHDR_SIZE}
 abbrev pub number_at : List ℕ → ℕ → ℕ → ℕ
 number_at file offset bytes = little_number bytes (drop offset file)
 
--- a flag, which is a power of two, is set among others
+-- the bit `flag`, a power of two, is set in `flags`
 abbrev pub is_set : ℕ → ℕ → Bool
 is_set flag flags = flags / flag % 2 == 1
 

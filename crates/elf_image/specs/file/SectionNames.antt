@@ -1,5 +1,5 @@
--- The section that is meant by a name: a file may have several of it. gABI, "Special Sections"; the names of the
--- debug sections stand in DWARF 5, section 7.
+-- The section that is meant by a name, which several of a file may have. LSB, "The .eh_frame section" and "The
+-- .eh_frame_hdr section"; DWARF 5, appendix B.
 use Rattle.std.specs.Prelude.{ℕ, ◌&&◌, ◌||◌, not, if◌then◌else◌, Bool, true, nat_eq, List, Option, find, codes}
 use Rattle.std.specs.List.{starts_with}
 use Rattle.std.specs.Str.{bytes_eq}
@@ -28,6 +28,6 @@ is_meant_by name section =
 abbrev pub is_called : List ℕ → Section → Bool
 is_called name section = bytes_eq section.name.now name && is_meant_by name section
 
--- the first of those that the name means
+-- the first section that a name means
 abbrev pub section_called : List Section → List ℕ → Option Section
 section_called sections name = find (is_called name) sections

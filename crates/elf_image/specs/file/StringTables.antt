@@ -2,7 +2,7 @@
 use Rattle.std.specs.Prelude.{◌≢◌, ◌≤◌, ◌<◌, ℕ, List, length, slice_index}
 use Rattle.elf_image.specs.declared.text.Names.{Names}
 
--- what contracts see of a table that is asked often: its bytes
+-- what contracts see of a table in which many names are looked up: its bytes
 abbrev pub name_bytes : Names → List ℕ
 name_bytes names = names.table.now
 

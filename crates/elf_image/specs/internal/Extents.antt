@@ -1,4 +1,4 @@
--- Ranges of numbers, each with the place that is answered for it, and those that share a number.
+-- Ranges of numbers, each with the place that is answered where it is at fault, and those that share a number.
 use Rattle.std.specs.Prelude.{◌≡◌, ◌≢◌, ◌≤◌, ◌<◌, ◌⊎◌, ◌+◌, ℕ, List, length, Contains, AllPairs, slice_index_or}
 use Rattle.elf_image.specs.declared.extent.Extent.{Extent}
 

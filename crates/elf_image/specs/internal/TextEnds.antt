@@ -9,7 +9,7 @@ pub record IsTextEnd (table : List ℕ) (index end : ℕ) : Type 0 where
   pub none : (place : ℕ) → index ≤ place → place < end → slice_index table place ≢ 0
   pub ends : end < length table → slice_index table end ≡ 0
 
--- the least index of a table from which on none has a zero byte after it
+-- the index past the last zero byte of a table, 0 where there is none
 pub record IsLastEnd (table : List ℕ) (end : ℕ) : Type 0 where
   pub unended : (index : ℕ) → end ≤ index → IsUnended table index
   pub ended : (index : ℕ) → IsUnended table index → end ≤ index

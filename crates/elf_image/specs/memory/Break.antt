@@ -19,11 +19,11 @@ rounded_up unit n = (n + (unit - 1)) / unit * unit
 
 -- The break, by the segments that are loaded and have at least one byte of memory.
 
--- the end of the highest writable one, 0 where none is writable
+-- the end of the highest writable segment, 0 where none is writable
 abbrev pub writable_end : List Segment → ℕ
 writable_end segments = fold max 0 (map end_of (filter (λ p. has_memory p && has_flag PF_W p) segments))
 
--- the break starts there, on a whole page
+-- the break starts at the end of the highest writable segment, rounded up to a whole page
 abbrev pub break_start : List Segment → ℕ
 break_start segments = rounded_up page_size (writable_end segments)
 

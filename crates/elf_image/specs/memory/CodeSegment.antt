@@ -13,6 +13,6 @@ is_lowest segments p = not (list_any (λ q. is_code_segment q && nat_lt q.vaddr 
 abbrev pub executable_segment : List Segment → Option (ℕ × Segment)
 executable_segment segments = find (λ e. is_code_segment e.1 && is_lowest segments e.1) (enumerate_from 0 segments)
 
--- where its bytes end in the file
+-- where the bytes of the executable segment end in the file
 abbrev pub executable_end : List Segment → ℕ
 executable_end segments = option_map_or (λ e. e.1.offset + e.1.filesz) (executable_segment segments) 0

@@ -15,7 +15,7 @@ byte_at elf a = image_byte elf.file.now elf.segments.items a
 abbrev pub offset_in : ℕ → Segment → Option ℕ
 offset_in a p = if nat_lt (a - p.vaddr) p.filesz then Some (p.offset + (a - p.vaddr)) else None
 
--- the same of any address
+-- where in the file the byte at an address stands, if it comes from there
 abbrev pub file_offset : List Segment → ℕ → Option ℕ
 file_offset segments a = option_and_then (offset_in a) (segment_of segments a)
 
@@ -39,7 +39,7 @@ abbrev pub loads_range : Range → Segment → Bool
 loads_range range p =
     is_load p && nat_le p.offset range.start && nat_le (range.start + range.size) (p.offset + min p.filesz p.memsz)
 
--- its address
+-- the address to which a segment loads the first byte of a range
 abbrev pub address_in : Range → Segment → ℕ
 address_in range p = p.vaddr + (range.start - p.offset)
 

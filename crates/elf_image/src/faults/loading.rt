@@ -1,4 +1,4 @@
-// Whether the segments of a file lie as those of an executable must.
+// Whether the segments of a file, and its sections with code, lie as those of an executable must.
 ghost use Rattle.std.specs.Prelude.{◌≤◌, ◌<◌, ◌+◌, ◌↔◌, ℕ, IsTrue, IfSome, IfNone, IfOk, Any, nat_eq, codes, ◌^◌};
 ghost use Rattle.std.specs.List.{starts_with};
 ghost use Rattle.rb_bytes.specs.declared.fault.FaultKind.TheVariants as fault;
@@ -21,7 +21,7 @@ use crate::segment::{PHDR_SIZE, Segment};
 use rb_bytes::fault::NoMemory;
 use std::alloc::Global;
 
-/// The lowest place where the segments, or the sections with code, don't lie so.
+/// The lowest place of the fault `ExecSegments`: where the segments, or the sections with code, don't lie so.
 pub fn lowest_bad_loading(
     alloc: Global,
     file: &[u8],
@@ -41,7 +41,7 @@ pub fn lowest_bad_loading(
     Ok(lower(lowest_bad_code(segments, sections), past_code))
 }
 
-// The executable segments by themselves.
+// What is wrong with the executable segments by themselves: none, one too many, or an odd one.
 fn lowest_bad_code(segments: SegmentTable, sections: &[Section]) -> Option<u64>
     requires sections { AreSections segments.file.now (e_shnum segments.file.now) sections.now }
     ensures { IsLowest (IsBadCode segments.entry.file.now) result }
@@ -88,7 +88,7 @@ fn second_code(segments: SegmentTable) -> Option<usize>
     next_code(segments, first + 1)
 }
 
-// Whether a section's name begins as those of moved sections do.
+// Whether a rewriting has renamed a section, which tells that the file is one that was rewritten.
 fn has_old_section(sections: &[Section]) -> bool
     ensures { IsTrue result ↔ Any (λ s. IsTrue (starts_with nat_eq s.name.now (codes ".old."))) sections.now }
 {
@@ -107,7 +107,7 @@ fn has_code_from(segments: SegmentTable, from: usize) -> bool
     next_code(segments, from).is_some()
 }
 
-// Whether a second executable segment is one too many: there are more, or the file wasn't moved.
+// Whether the second executable segment is one too many: there is a third, or the file wasn't rewritten.
 fn is_too_many(segments: SegmentTable, sections: &[Section], second: usize) -> bool
     requires sections { AreSections segments.file.now (e_shnum segments.file.now) sections.now }
     requires second { second + 1 < 2 ^ 64 }
@@ -164,7 +164,7 @@ fn lowest_code_from(segments: SegmentTable, first: usize) -> usize
     lowest
 }
 
-// The lower of two executable segments, if the one of this index is one.
+// The lower of the executable segment `lowest` and the segment of an index, if that is executable.
 fn lower_code(segments: SegmentTable, lowest: usize, index: usize) -> usize
     requires index { index < e_phnum segments.file.now }
     requires order { lowest ≤ index }
@@ -238,7 +238,8 @@ fn crossing_table(segments: SegmentTable, code: usize) -> Option<u64>
     place_if(crosses_end(segments, code, offset, size), offset)
 }
 
-// What crosses the end of the executable segment in the file.
+// The lowest place of a segment, or of the table of program headers, that crosses the end of the executable segment in
+// the file. New code can be put there, so what lies on both sides would be cut in two.
 fn lowest_crossed(segments: SegmentTable) -> Option<u64>
     ensures { IsLowest (IsCrossed segments.entry.file.now) result }
 {

@@ -21,7 +21,7 @@ use crate::section::{SHDR_SIZE, SHT_SYMTAB, SectionHeader};
 use crate::segment::{PHDR_SIZE, PT_LOAD};
 use crate::symbol::SYM_SIZE;
 
-// The fields without which tables can't be read.
+// The lowest place of a field of the header without which tables can't be read.
 fn lowest_bad_field(header: Header) -> Option<u64>
     ensures { IsLowest (IsBadHeaderField header.entry.file.now) result }
 {
@@ -32,7 +32,7 @@ fn lowest_bad_field(header: Header) -> Option<u64>
     lower(lower(segments, sections), names)
 }
 
-// The tables of headers.
+// The lowest offset of a table of headers that doesn't lie whole in the file.
 fn lowest_truncated_table(header: Header) -> Option<u64>
     ensures { IsLowest (IsTruncatedTable header.entry.file.now) result }
 {
@@ -52,7 +52,7 @@ fn truncated_segment(segments: SegmentTable, index: usize) -> Option<u64>
     place_if(is_wrong, segment.offset)
 }
 
-// The bytes of loaded segments.
+// The lowest offset of a loaded segment whose bytes don't lie whole in the file.
 fn lowest_truncated_segment(segments: SegmentTable) -> Option<u64>
     ensures { IsLowest (SomeBelow (e_phnum segments.entry.file.now) (IsTruncatedSegment segments.entry.file.now))
         result }
@@ -68,7 +68,7 @@ fn truncated_section(headers: SectionTable, index: usize) -> Option<u64>
     place_if(!has_contents(headers.file, &section), section.offset)
 }
 
-// The contents of sections.
+// The lowest offset of a section whose contents don't lie whole in the file.
 fn lowest_truncated_section(headers: SectionTable) -> Option<u64>
     ensures { IsLowest (SomeBelow (e_shnum headers.entry.file.now) (IsTruncatedSection headers.entry.file.now)) result }
 {
@@ -84,7 +84,7 @@ fn unnamed_section(headers: SectionTable, index: usize, end: usize) -> Option<u6
     place_if(end <= section.name as usize, headers.place(index))
 }
 
-// The names of sections in a table that is whole.
+// The lowest place of a section header whose name has no end in the table of names.
 fn lowest_unnamed_in(headers: SectionTable, table: &[u8]) -> Option<u64>
     requires names { table.now ≡ section_names headers.file.now }
     ensures { IsLowest (SomeBelow (e_shnum headers.entry.file.now) (IsUnnamedSection headers.entry.file.now)) result }
@@ -96,7 +96,8 @@ fn lowest_unnamed_in(headers: SectionTable, table: &[u8]) -> Option<u64>
     )
 }
 
-// The names of sections.
+// The lowest place of a section header whose name has no end, where the table of names lies whole in the file. Where it
+// doesn't, the table itself is what is truncated.
 fn lowest_unnamed_section(headers: SectionTable) -> Option<u64>
     ensures { IsLowest (AreUnnamedSections headers.entry.file.now) result }
 {
@@ -115,7 +116,7 @@ fn unnamed_symbol(file: &[u8], table: &SectionHeader, index: usize, end: usize) 
     place_if(end <= u32_at(file, place) as usize, place as u64)
 }
 
-// The names of a table's symbols in a table of names that is whole.
+// The lowest place of a symbol in a table whose name has no end in the table of names.
 fn lowest_unnamed_of(file: &[u8], table: &SectionHeader, names: &[u8]) -> Option<u64>
     requires whole { HasContents file.now table.now }
     requires is_table { table.now.kind ≡ SHT_SYMTAB }
@@ -129,7 +130,7 @@ fn lowest_unnamed_of(file: &[u8], table: &SectionHeader, names: &[u8]) -> Option
     )
 }
 
-// The names of symbols.
+// The lowest place of a symbol whose name has no end, where there are symbols and both tables lie whole in the file.
 fn lowest_unnamed_symbol(headers: SectionTable) -> Option<u64>
     ensures { IsLowest (IsUnnamedSymbolOf headers.entry.file.now (symbol_table headers.entry.file.now)) result }
 {
@@ -138,7 +139,7 @@ fn lowest_unnamed_symbol(headers: SectionTable) -> Option<u64>
     lowest_unnamed_of(headers.file, &table, names)
 }
 
-// What the table of program headers names.
+// What the table of program headers names, if that is whole.
 fn lowest_truncated_by_segments(header: Header) -> Option<u64>
     ensures { IsLowest (IsTruncatedBySegments header.entry.file.now) result }
 {
@@ -149,7 +150,7 @@ fn lowest_truncated_by_segments(header: Header) -> Option<u64>
     }
 }
 
-// What the table of section headers names.
+// What the table of section headers names, if that is whole.
 fn lowest_truncated_by_sections(header: Header) -> Option<u64>
     ensures { IsLowest (IsTruncatedBySections header.entry.file.now) result }
 {

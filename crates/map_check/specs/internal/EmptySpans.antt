@@ -7,7 +7,7 @@ use Rattle.rv_code.specs.layout.ProgramCode.{ProgramCode, RoleNames, CellNames, 
 use Rattle.addr_map.specs.Spans.{is_of}
 use Rattle.addr_map.specs.declared.span.Span.{Span}
 
--- the first span of an address has no bytes
+-- the first span of `a` has no bytes
 abbrev pub is_empty_at : List Span → ℕ → Bool
 is_empty_at spans a = option_map_or (λ s. s.len == 0) (find (is_of a) spans) false
 
@@ -17,6 +17,6 @@ NamedByRoles spans roles a = Any (λ r. RoleNames r.1 a) roles × IsTrue (is_emp
 abbrev pub NamedByCells : List Span → List CodeCell → ℕ → Type 0
 NamedByCells spans cells a = Any (λ c. CellNames c a) cells × IsTrue (is_empty_at spans a)
 
--- something holds an address of which the first span has no bytes
+-- something holds `a`, of which the first span has no bytes
 abbrev pub IsHeldEmpty : ProgramCode → List Span → ℕ → Type 0
 IsHeldEmpty code spans a = IsHeld code a × IsTrue (is_empty_at spans a)

@@ -40,27 +40,27 @@ abbrev pub FindsInSpan : Rewrite → Placed → Option Found → Type 0
 FindsInSpan r p None = (inst : Inst) → HasInSpan r p inst → ⊥
 FindsInSpan r p (Some f) = IsInSpan r p f
 
--- a branch on this test and these registers: whether it is wanted, and its distance
+-- a branch on `test` of the registers `rs1` and `rs2`: whether it branches where the test holds, and how far
 abbrev pub FindsBranch : Test → ℕ → ℕ → Inst → Option (Bool × ℤ) → Type 0
 FindsBranch test rs1 rs2 inst None = (wanted : Bool) (imm : ℤ) → action_of inst ≡ Branch test wanted rs1 rs2 imm → ⊥
 FindsBranch test rs1 rs2 inst (Some b) = action_of inst ≡ Branch test b.0 rs1 rs2 b.1
 
--- control gets from one place to what stands for a target, and from the other to the next instruction
+-- control gets from `yes_place` to what stands for `target`, and from `no_place` to the next instruction
 pub record Leads (r : Rewrite) (p : Placed) (yes_place no_place target : ℕ) : Type 0 where
   pub to_target : Goes r.output yes_place (out r target)
   pub to_next : GetsToNext r (Goes r.output) p no_place
 
--- an instruction at a place is a JAL that writes this register, and leads to another place
+-- an instruction at `from` is a JAL that writes the register `rd`, and leads to `to`
 abbrev pub calls_to : Inst → ℕ → ℕ → ℕ → Bool
 calls_to (Jal found imm) rd from to = found == rd && plus from (unsigned64 imm) == to
 calls_to _ rd from to = false
 
--- all instructions have it, or this is the lowest address of one that lacks it
+-- P holds of all instructions, or `o` is the lowest address of one of which it doesn't
 pub record IsJudgedOf (P : Placed → Type 0) (insts : List Placed) (o : Option ℕ) : Type 0 where
   pub all : IfNone o (All P insts)
   pub lowest : IsLowest (LacksAt P (λ p. p.addr) insts) o
 
--- an instruction is as is asked
+-- what is asked of an instruction
 abbrev pub Meets : Demand → Rewrite → Placed → Type 0
 Meets Kept r = KeepsInst r (Goes r.output)
 Meets Followed r = GoesOn r (Goes r.output)

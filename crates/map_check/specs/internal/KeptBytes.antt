@@ -17,7 +17,7 @@ pub record AreBytesOf (r : Rewrite) (input output : Elf) : Type 0 where
   pub input_is : r.input ≡ input
   pub output_is : r.output ≡ executable_read output
 
--- the bytes that may change in it
+-- the bytes that may change in a rewrite
 pub record AreChangesOf (r : Rewrite) (m : Changes) : Type 0 where
   pub cells : r.code.cells ≡ m.cells.now
   pub headers : AreHeadersOf r.input r.tight m.headers
@@ -43,6 +43,6 @@ AreZeros a p q = (p.filesz ≤ a - p.vaddr) × (q.filesz ≤ a - q.vaddr)
 abbrev pub IsChangedIn : Rewrite → Segment → ℕ → Type 0
 IsChangedIn r p a = IsTrue (loads_address a p) × (IsKept r a → ⊥)
 
--- the same of the k-th of some segments
+-- the same of the segment at the index k
 abbrev pub ChangedAt : Rewrite → List Segment → ℕ → ℕ → Type 0
 ChangedAt r segments k a = (d : Segment) → IsChangedIn r (slice_index_or segments k d) a

@@ -11,7 +11,7 @@ use Rattle.addr_map.specs.declared.span.Span.{Span}
 abbrev pub addresses : List Func → List ℕ
 addresses funcs = map (λ p. p.addr) (insts_of funcs)
 
--- the lower of the first two that differ
+-- the lower of the first input and address that differ
 abbrev pub first_difference : List Span → List ℕ → Option ℕ
 first_difference [] [] = None
 first_difference [] (a ∷ bs) = Some a

@@ -10,7 +10,7 @@ field word low width = word / 2 ^ low % 2 ^ width
 abbrev pub signed_by : ℕ → ℕ → ℤ
 signed_by weight n = if nat_lt n weight then pos n else pos n -ℤ pos (2 * weight)
 
--- a number with its sign at bit `top`, as a signed one
+-- a number of `top` + 1 bits, read in two's complement
 abbrev pub signed : ℕ → ℕ → ℤ
 signed top n = signed_by (2 ^ top) n
 

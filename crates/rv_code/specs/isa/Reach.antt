@@ -7,7 +7,7 @@ pub record IsWithin (weight : ℕ) (imm : ℤ) : Type 0 where
   pub low : (pos 0 -ℤ pos weight) ≤ℤ imm
   pub high : imm <ℤ pos weight
 
--- a distance in bytes that is even and within
+-- a distance in bytes that is even, and in reach of an immediate whose sign bit is worth `weight`
 pub record Reaches (weight : ℕ) (imm : ℤ) : Type 0 where
   pub low : (pos 0 -ℤ pos weight) ≤ℤ imm
   pub high : imm <ℤ pos weight

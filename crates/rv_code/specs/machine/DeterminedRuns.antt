@@ -6,7 +6,7 @@ use Rattle.rv_code.specs.machine.Machine.{Event, Outcome, Going, Ended, Halts, S
 abbrev pub HasOneOutcome : {S C : Type 0} → (S → Outcome S C → Type 0) → S → Type 0
 HasOneOutcome {S} {C} step s = (o p : Outcome S C) → step s o → step s p → o ≡ p
 
--- so does the step from each state to which fewer than n steps from s come
+-- the step from each state to which fewer than n steps from s come has one outcome at most
 pub record IsDetermined {S C : Type 0} (step : S → Outcome S C → Type 0) (s : S) (n : ℕ) : Type 0 where
   pub one_outcome : (k : ℕ) → k < n → (trace : List Event) (t : S) → SoFar step s k trace t → HasOneOutcome step t
 

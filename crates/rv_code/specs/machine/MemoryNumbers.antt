@@ -10,6 +10,6 @@ unfoldable pub bytes_in : (ℕ → Option ℕ) → ℕ → ℕ → Option (List 
 bytes_in memory a zero = Some []
 bytes_in memory a (suc n) = and_more (memory a) (bytes_in memory (a + 1) n)
 
--- the number that they are
+-- the number that the n bytes from an address on are, if all are there
 abbrev pub number_in : (ℕ → Option ℕ) → ℕ → ℕ → Option ℕ
 number_in memory a n = option_map little (bytes_in memory a n)

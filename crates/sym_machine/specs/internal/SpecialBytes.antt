@@ -28,12 +28,12 @@ hidden_over range old q = if is_in_range q range then Some Hidden else special o
 abbrev pub covers : ℕ → Segment → Bool
 covers q p = is_load p && (nat_le p.vaddr q && nat_lt q (p.vaddr + min p.filesz p.memsz))
 
--- it stands there from one offset of the file up to another
+-- a segment loads to an address a byte of the file that stands from one offset up to another
 abbrev pub covers_between : ℕ → ℕ → ℕ → Segment → Bool
 covers_between from to q p =
     covers q p && (nat_le from (p.offset + (q - p.vaddr)) && nat_lt (p.offset + (q - p.vaddr)) to)
 
--- it stands there in the file's header, or in the table of program headers
+-- a segment loads to an address a byte of the file's header, or of the table of program headers
 unfoldable pub covers_header : Elf → ℕ → Segment → Bool
 covers_header elf q p =
     covers_between 0 header_size q p || covers_between elf.phoff (elf.phoff + PHDR_SIZE * length elf.segments.items) q p
