@@ -1,6 +1,6 @@
 // Tables of ranges of addresses. DWARF 5, section 6.1.2.
 ghost use Rattle.std.specs.Prelude.{◌≡◌, IfErr, IfOk, Ok, Err};
-ghost use Rattle.rb_bytes.specs.Readers.{bytes_at, number_read};
+ghost use Rattle.rb_bytes.specs.Readers.{bytes_at};
 ghost use Rattle.dw_unit.specs.Trouble.{whole};
 ghost use Rattle.dw_unit.specs.Stops.{IfTrouble};
 ghost use Rattle.addr_rewrite.specs.Aranges.{table_in};
@@ -8,6 +8,7 @@ ghost use Rattle.addr_rewrite.specs.ArangesReading.{table_header};
 
 use crate::address_pairs::read_pairs;
 use answer_runs::Range;
+use dw_unit::numbers::{half, word};
 use dw_unit::trouble::{Stop, Trouble};
 use rb_bytes::cursor::Cursor;
 use std::alloc::Global;
@@ -18,22 +19,6 @@ pub struct Table {
     /// The offset of the unit in `.debug_info`.
     pub unit: u64,
     pub ranges: Vec<Range>,
-}
-
-fn half<'a>(cursor: &mut Cursor<'a>) -> Result<u16, Trouble>
-    ensures read { IfOk result (λ x. whole (number_read 2 cursor.old.left) ≡ Ok (x, cursor.new.left)) }
-    ensures trouble { IfErr result (λ e. whole (number_read 2 cursor.old.left) ≡ Err e) }
-{
-    let number = cursor.u16()?;
-    Ok(number)
-}
-
-fn word<'a>(cursor: &mut Cursor<'a>) -> Result<u32, Trouble>
-    ensures read { IfOk result (λ x. whole (number_read 4 cursor.old.left) ≡ Ok (x, cursor.new.left)) }
-    ensures trouble { IfErr result (λ e. whole (number_read 4 cursor.old.left) ≡ Err e) }
-{
-    let number = cursor.u32()?;
-    Ok(number)
 }
 
 // Passes the four bytes behind the header: the first pair stands at a multiple of 16 from the table's start.

@@ -1,6 +1,5 @@
 // The faults of units.
-ghost use Rattle.std.specs.Prelude.{◌≡◌, ◌<◌, ◌++◌, ◌∷◌, [], ℕ, List, None, Some, IfOk, is_some, if◌then◌else◌, length};
-ghost use Rattle.std.specs.Prelude.{slice_get};
+ghost use Rattle.std.specs.Prelude.{◌≡◌, ◌++◌, ◌∷◌, [], ℕ, List, None, Some, IfOk, is_some, if◌then◌else◌};
 ghost use Rattle.table_core.specs.DebugUnits.{Walked};
 ghost use Rattle.dw_unit.specs.Faults.{unit_fault_places};
 ghost use Rattle.dw_unit.specs.ListedUnits.{sections};
@@ -14,7 +13,7 @@ use dw_unit::unit_faults::{UnitFaults, fault_places};
 use dw_unit::unit_reading::UnitReading;
 use rb_bytes::fault::NoMemory;
 use std::alloc::Global;
-use table_core::{DWARF_VERSION, DebugUnit, debug_units};
+use table_core::{DWARF_VERSION, debug_units, place_of};
 
 // The place of a unit, if it can't be read.
 fn bad_place(place: u64, reading: &UnitReading) -> Option<u64>
@@ -39,14 +38,6 @@ fn with_unit(so_far: UnitFaults, place: u64, reading: &UnitReading) -> UnitFault
         unformed: lower(so_far.unformed, reading.unformed),
         bad: so_far.bad.or(bad_place(place, reading)),
     }
-}
-
-fn place_of(units: &[DebugUnit<'_>], number: usize) -> u64
-    requires { number < length units.now }
-    ensures { (w : Walked) → slice_get units.now number ≡ Some w → result ≡ w.place }
-{
-    let unit = &units[number];
-    unit.place
 }
 
 fn noted(alloc: Global, reader: &UnitReader<'_, '_>) -> Result<UnitFaults, NoMemory>

@@ -75,7 +75,8 @@ fn reach(covers: &[Cover]) -> (u128, u128)
     (low, high)
 }
 
-fn holds(a: u64, cover: &Cover) -> bool
+/// Whether a range holds the address `a`.
+pub fn holds(a: u64, cover: &Cover) -> bool
     ensures { result ≡ holds a cover.now }
 {
     cover.low <= a as u128 && (a as u128) < cover.high

@@ -1,6 +1,5 @@
 // Expressions that stand in attributes. DWARF 5, section 7.5.5.
 ghost use Rattle.std.specs.Prelude.{◌≡◌, Ok, Err, IfOk, IfErr, IsTrue};
-ghost use Rattle.rb_bytes.specs.Readers.{number_read};
 ghost use Rattle.table_core.specs.AttributeForms as forms;
 ghost use Rattle.table_core.specs.AttributeForms.{is_size, is_readable};
 ghost use Rattle.table_core.specs.declared.shape.Shape.TheVariants as shape;
@@ -8,22 +7,11 @@ ghost use Rattle.dw_lists.specs.Locations.{block_of, content_at};
 
 use crate::list_item::block;
 use crate::list_section::bytes_between;
-use byteorder::{ByteOrder, LittleEndian};
 use dw_unit::Attr;
 use dw_unit::trouble::Trouble;
 use rb_bytes::cursor::Cursor;
-use rb_bytes::gap::Gap;
 use table_core::shape::{Shape, shape_of};
-
-// A number of `size` bytes.
-fn number<'a>(cursor: &mut Cursor<'a>, size: u8) -> Result<u64, Gap>
-    requires { IsTrue (is_size size) }
-    ensures read { IfOk result (λ n. number_read size cursor.old.left ≡ Ok (n, cursor.new.left)) }
-    ensures gap { IfErr result (λ gap. number_read size cursor.old.left ≡ Err gap) }
-{
-    let bytes = cursor.take(size as usize)?;
-    Ok(LittleEndian::read_uint(bytes, size as usize))
-}
+use table_core::value::number;
 
 // Bytes behind their count, which has `size` bytes.
 fn counted<'a>(cursor: &mut Cursor<'a>, size: u8) -> Result<&'a [u8], Trouble>

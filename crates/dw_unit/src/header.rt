@@ -1,34 +1,17 @@
 // Headers of units. DWARF 5, section 7.5.1.
 ghost use Rattle.std.specs.Prelude.{◌≡◌, ◌≤◌, IfOk, IfErr, OnOk, Ok, Err, length};
-ghost use Rattle.rb_bytes.specs.Readers.{number_read, bytes_at};
+ghost use Rattle.rb_bytes.specs.Readers.{bytes_at};
 ghost use Rattle.dw_unit.specs.CompUnits.{header_at, is_type, type_fields};
 ghost use Rattle.dw_unit.specs.Trouble.{whole};
 
 use crate::declaration::byte;
+use crate::numbers::{half, word};
 use crate::trouble::Trouble;
 use crate::unit_type::{DW_UT_compile, DW_UT_partial, DW_UT_type};
 use rb_bytes::cursor::Cursor;
 
 // How many bytes an address has in all units that are read.
 const ADDRESS_SIZE: u8 = 8;
-
-fn half<'a>(cursor: &mut Cursor<'a>) -> Result<u16, Trouble>
-    ensures read { IfOk result (λ x. whole (number_read 2 cursor.old.left) ≡ Ok (x, cursor.new.left)) }
-    ensures trouble { IfErr result (λ e. whole (number_read 2 cursor.old.left) ≡ Err e) }
-    ensures on { OnOk result (length cursor.new.left ≤ length cursor.old.left) }
-{
-    let number = cursor.u16()?;
-    Ok(number)
-}
-
-fn word<'a>(cursor: &mut Cursor<'a>) -> Result<u32, Trouble>
-    ensures read { IfOk result (λ x. whole (number_read 4 cursor.old.left) ≡ Ok (x, cursor.new.left)) }
-    ensures trouble { IfErr result (λ e. whole (number_read 4 cursor.old.left) ≡ Err e) }
-    ensures on { OnOk result (length cursor.new.left ≤ length cursor.old.left) }
-{
-    let number = cursor.u32()?;
-    Ok(number)
-}
 
 // Passes the fields that only type units have: a signature of eight bytes, and the offset of the type. DWARF 5,
 // section 7.5.1.3.

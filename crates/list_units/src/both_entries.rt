@@ -12,7 +12,7 @@ ghost use Rattle.list_units.specs.RangeReading as ranges_read;
 use crate::place_entries::{PlacedEntries, fault_places};
 use crate::place_reading::PlaceProgress;
 use crate::placing::PlaceSections;
-use crate::range_entries::{RangedEntries, place_of};
+use crate::range_entries::RangedEntries;
 use crate::range_reading::Progress;
 use crate::{place_entries, place_reading, range_entries, range_reading};
 use dw_lists::list_section::ListSection;
@@ -21,7 +21,7 @@ use dw_unit::fault_places::refused;
 use dw_unit::unit_reading::UnitReading;
 use rb_bytes::fault::{NoMemory, Refusal};
 use std::alloc::Global;
-use table_core::{DWARF_VERSION, debug_units};
+use table_core::{DWARF_VERSION, debug_units, place_of};
 
 /// The entries that have ranges, and what all entries say of locations.
 #[derive(Drop)]

@@ -1,8 +1,8 @@
 // The entries of a file that have ranges, or the first fault of the sections that they are read from.
-ghost use Rattle.std.specs.Prelude.{◌≡◌, ◌<◌, [], ℕ, List, Some, IfOk, IfErr, length, slice_get};
+ghost use Rattle.std.specs.Prelude.{◌≡◌, [], ℕ, List, IfOk, IfErr};
 ghost use Rattle.std.specs.List.Sorted.{IsNonDecreasingBy};
 ghost use Rattle.rb_bytes.specs.FirstFault.{IsRefusalBy};
-ghost use Rattle.table_core.specs.DebugUnits.{Walked, walked};
+ghost use Rattle.table_core.specs.DebugUnits.{walked};
 ghost use Rattle.dw_unit.specs.Faults.{HasDwarfFault};
 ghost use Rattle.dw_lists.specs.Faults.{ListSections, range_places, list_sections_held};
 ghost use Rattle.list_units.specs.RangeReading.{IsProgress, AreRangesOf};
@@ -16,7 +16,7 @@ use dw_unit::lowest::lower;
 use dw_unit::{UnitReader, address_table};
 use rb_bytes::fault::{NoMemory, Refusal};
 use std::alloc::Global;
-use table_core::{DWARF_VERSION, DebugUnit, debug_units};
+use table_core::{DWARF_VERSION, DebugUnit, debug_units, place_of};
 
 /// The entries of a file that have ranges.
 #[derive(Drop)]
@@ -47,15 +47,6 @@ pub(crate) fn nothing(alloc: Global) -> Progress
         bad_table: None,
         index_weight: 0,
     }
-}
-
-/// The offset of the unit of a number.
-pub fn place_of(units: &[DebugUnit<'_>], number: usize) -> u64
-    requires { number < length units.now }
-    ensures { (w : Walked) → slice_get units.now number ≡ Some w → result ≡ w.place }
-{
-    let unit = &units[number];
-    unit.place
 }
 
 fn read_all(

@@ -4,7 +4,6 @@ ghost use Rattle.std.specs.BTreeSet.{contains};
 ghost use Rattle.std.specs.Ordering.{nat_cmp};
 ghost use Rattle.rb_bytes.specs.FirstFault.{IsFree, IsRefusalBy};
 ghost use Rattle.dw_unit.specs.Faults.{HasDwarfFault};
-ghost use Rattle.cover_lists.specs.CoverTree as tree;
 ghost use Rattle.cover_lists.specs.Groups.{group_holds, is_in_group};
 ghost use Rattle.dw_lists.specs.Faults.{location_places};
 ghost use Rattle.dw_lists.specs.Locations.{all_said, places_said};
@@ -15,7 +14,7 @@ ghost use Rattle.range_loc_rewrite.specs.OneAddress.{place_if, said_if};
 use crate::located_places::{expressions_at, put_place};
 use crate::place_answer::PlaceAt;
 use crate::reading::read_entries;
-use cover_lists::cover_tree::Cover;
+use cover_lists::cover_tree::{Cover, holds};
 use cover_lists::groups::RangedEntry;
 use cover_lists::kept_list::KeptList;
 use elf_image::Elf;
@@ -33,18 +32,12 @@ pub struct ListsAt {
     pub places: Vec<PlaceAt>,
 }
 
-fn holds(cover: &Cover, a: u64) -> bool
-    ensures { result ≡ tree.holds a cover.now }
-{
-    cover.low <= a as u128 && (a as u128) < cover.high
-}
-
 // Adds the group of a range, if the range holds an address.
 fn put_group(found: &mut BTreeSet<usize>, cover: &Cover, a: u64) -> Result<(), NoMemory>
     ensures { OnOk result ((g : ℕ) →
         contains nat_cmp found.new g ≡ (contains nat_cmp found.old g || is_in_group g a cover.now)) }
 {
-    if !holds(cover, a) {
+    if !holds(a, cover) {
         return Ok(());
     }
     found.insert(cover.group)?;

@@ -1,6 +1,7 @@
 // The units of a debug section, one after another. DWARF 5, sections 7.2.2 and 7.4.
-ghost use Rattle.std.specs.Prelude.{◌≡◌, ◌+◌, IfOk, IfSome, MatchOption, false, true, length, drop, option_map};
-ghost use Rattle.table_core.specs.DebugUnits.{walked, unit_bytes, unit_length, is_other_version, is_whole_unit};
+ghost use Rattle.std.specs.Prelude.{◌≡◌, ◌+◌, ◌<◌, IfOk, IfSome, MatchOption, Some, false, true, length, drop, option_map};
+ghost use Rattle.std.specs.Prelude.{slice_get};
+ghost use Rattle.table_core.specs.DebugUnits.{Walked, walked, unit_bytes, unit_length, is_other_version, is_whole_unit};
 
 use byteorder::{ByteOrder, LittleEndian};
 use rb_bytes::fault::NoMemory;
@@ -122,4 +123,13 @@ pub fn debug_units<'a>(
         left = rest;
     }
     Ok(units)
+}
+
+/// The offset of the unit of a number, counted from 0.
+pub fn place_of(units: &[DebugUnit<'_>], number: usize) -> u64
+    requires { number < length units.now }
+    ensures { (w : Walked) → slice_get units.now number ≡ Some w → result ≡ w.place }
+{
+    let unit = &units[number];
+    unit.place
 }

@@ -11,8 +11,8 @@ use byteorder::{ByteOrder, LittleEndian};
 use rb_bytes::cursor::Cursor;
 use rb_bytes::gap::Gap;
 
-// A number of `size` bytes.
-fn number<'a>(cursor: &mut Cursor<'a>, size: u8) -> Result<u64, Gap>
+/// A number of `size` bytes.
+pub fn number<'a>(cursor: &mut Cursor<'a>, size: u8) -> Result<u64, Gap>
     requires { IsTrue (is_size size) }
     ensures read { IfOk result (λ x. number_read size cursor.old.left ≡ Ok (x, cursor.new.left)) }
     ensures gap { IfErr result (λ gap. number_read size cursor.old.left ≡ Err gap) }
