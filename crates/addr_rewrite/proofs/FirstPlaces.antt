@@ -1,7 +1,8 @@
 -- The first of some units that passes a test, with one unit more.
-use Rattle.std.proofs.Common.{◌≡◌, ◌∙◌, ◌++◌, ◌∷◌, [], ℕ, Bool, true, false, List, Option, Some, None, refl, sym, ap}
+use Rattle.std.proofs.Common.{◌≡◌, ◌∙◌, ◌++◌, ◌∷◌, [], ℕ, Bool, true, false, List, Option, Some, None, sym, ap}
 use Rattle.std.specs.Prelude.{MatchOption, is_some, if◌then◌else◌}
 use Rattle.std.specs.Option.{option_or}
+use Rattle.answer_runs.proofs.Grown.{or_none}
 use Rattle.table_core.specs.DebugUnits.{Walked, first_place}
 use Rattle.dw_unit.proofs.UnitReadings.{bad_before, bad_now, still_good}
 
@@ -20,7 +21,4 @@ module _ (test : Walked → Bool) (ws : List Walked) (w : Walked) where
       o ≡ first_place test ws → MatchOption entries (test w ≡ true) (λ x. (test w ≡ false) × Q x) →
       option_or o (if is_some entries then None else Some place) ≡ first_place test (ws ++ w ∷ [])
   first_read Q None o place p e t = ap (λ (n : ℕ). option_or o (Some n)) (sym p) ∙ first_found o e t
-  first_read Q (Some x) o place p e t = by o ∙ first_stays o e t.0 where
-    by : (o : Option ℕ) → option_or o None ≡ o
-    by None = refl
-    by (Some n) = refl
+  first_read Q (Some x) o place p e t = or_none o ∙ first_stays o e t.0

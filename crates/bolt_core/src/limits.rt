@@ -1,5 +1,5 @@
 // Limits on what is rewritten.
-ghost use Rattle.std.specs.Prelude.{ℕ, ◌≤◌, AllPairs, IfErr, OnOk, length};
+ghost use Rattle.std.specs.Prelude.{ℕ, ◌<◌, ◌≤◌, ◌^◌, AllPairs, IfErr, OnOk, length};
 ghost use Rattle.rb_bytes.specs.FirstFault.{IsFree};
 ghost use Rattle.rv_code.specs.layout.FunctionLists.{AreLaidOut};
 ghost use Rattle.elf_image.specs.file.ParsedFile.{IsElfOf};
@@ -51,7 +51,10 @@ pub fn check_lengths(file: &[u8], profile: &[u8]) -> Result<(), Refusal>
 
 /// Answers want of memory for more blocks than a program within the limits has. It comes before they are laid out,
 /// which would take much memory for a program that is refused in the end.
-pub fn check_blocks(blocks: &[Block]) -> Result<(), NoMemory> {
+pub fn check_blocks(blocks: &[Block]) -> Result<(), NoMemory>
+    ensures few { OnOk result (length blocks.now ≤ 2 ^ 23) }
+    ensures many { IfErr result (λ _. 2 ^ 23 < length blocks.now) }
+{
     if blocks.len() > MOST_BLOCKS {
         Err(NoMemory)
     } else {

@@ -1,5 +1,5 @@
 // A profile repaired, with the lines that show that no other one changes less.
-ghost use Rattle.std.specs.Prelude.{◌≤◌, length, IfErr, IfOk};
+ghost use Rattle.std.specs.Prelude.{◌+◌, ◌/◌, ◌<◌, ◌≤◌, ◌^◌, length, IfErr, IfOk, OnOk};
 ghost use Rattle.rv_code.specs.layout.Edges.{AreEdges};
 ghost use Rattle.program.specs.Limits.{file_limit};
 ghost use Rattle.program.specs.Program.{program_seen};
@@ -52,7 +52,10 @@ fn edges_of(alloc: Global, program: &Program<'_>) -> Result<Vec<(usize, usize)>,
 
 // Answers want of memory for very many edges, as huge jump tables make them, or branches that are nearly all of the
 // code: flows on them would take much of it.
-fn check_edges(edges: &[(usize, usize)], file: &[u8]) -> Result<(), NoMemory> {
+fn check_edges(edges: &[(usize, usize)], file: &[u8]) -> Result<(), NoMemory>
+    ensures few { OnOk result (length edges.now ≤ length file.now / 2 + 2 ^ 21) }
+    ensures many { IfErr result (λ _. length file.now / 2 + 2 ^ 21 < length edges.now) }
+{
     if edges.len() > file.len() / 2 + EDGES_BESIDE {
         Err(NoMemory)
     } else {

@@ -5,6 +5,7 @@ use Rattle.std.specs.List.{list_all}
 use Rattle.std.proofs.lemmas.Bool.Decides.{nat_tests}
 use Rattle.std.specs.Option.{option_or}
 use Rattle.rb_bytes.specs.Options.{only_if}
+use Rattle.answer_runs.proofs.Grown.{or_none}
 use Rattle.line_rewrite.specs.declared.entry.Text.{Text}
 use Rattle.line_rewrite.specs.declared.content.TheConstants.{DW_LNCT_path, DW_LNCT_directory_index}
 use Rattle.line_rewrite.specs.Entries.{◌>>=◌, Value, Contents, Format, Named, Strings, text_of, index_of, form_here, read_value}
@@ -115,10 +116,6 @@ directory_more : (n m : Option ℕ) (v : Value) (last : Option Value) → index_
 directory_more n m v None e = e
 directory_more n m v (Some w) e = refl
 
-or_nothing : (o : Option Value) → option_or o None ≡ o
-or_nothing None = refl
-or_nothing (Some v) = refl
-
 abbrev Joins : Strings → Contents → Type 0
 Joins strings cs = (f : Found) → over strings f cs ≡ only_if (list_all (is_sound_content strings) cs) (together strings f cs)
 
@@ -135,7 +132,7 @@ path_content strings v f cs (Some name) e j =
     j (record { path = Some name; directory = f.directory })
     ∙ ap (only_if (list_all (is_sound_content strings) cs)) (λ i. record {
       path = sym (path_more strings f.path (Some name) v (last_of DW_LNCT_path cs) e) i;
-      directory = ap (directory_or f.directory) (sym (or_nothing (last_of DW_LNCT_directory_index cs))) i;
+      directory = ap (directory_or f.directory) (sym (or_none (last_of DW_LNCT_directory_index cs))) i;
     })
 
 directory_content : (strings : Strings) (v : Value) (f : Found) (cs : Contents) (n : Option ℕ) → index_of (Some v) ≡ n → Joins strings cs
@@ -144,15 +141,15 @@ directory_content strings v f cs None e j = refl
 directory_content strings v f cs (Some n) e j =
     j (record { path = f.path; directory = Some n })
     ∙ ap (only_if (list_all (is_sound_content strings) cs)) (λ i. record {
-      path = ap (path_or strings f.path) (sym (or_nothing (last_of DW_LNCT_path cs))) i;
+      path = ap (path_or strings f.path) (sym (or_none (last_of DW_LNCT_path cs))) i;
       directory = sym (directory_more f.directory (Some n) v (last_of DW_LNCT_directory_index cs) e) i;
     })
 
 other_content : (strings : Strings) (f : Found) (cs : Contents) → Joins strings cs → over strings f cs ≡ all_say strings cs f None None true
 other_content strings f cs j =
     j f ∙ ap (only_if (list_all (is_sound_content strings) cs)) (λ i. record {
-      path = ap (path_or strings f.path) (sym (or_nothing (last_of DW_LNCT_path cs))) i;
-      directory = ap (directory_or f.directory) (sym (or_nothing (last_of DW_LNCT_directory_index cs))) i;
+      path = ap (path_or strings f.path) (sym (or_none (last_of DW_LNCT_path cs))) i;
+      directory = ap (directory_or f.directory) (sym (or_none (last_of DW_LNCT_directory_index cs))) i;
     })
 
 -- by the two tests of a type

@@ -13,6 +13,7 @@ use Rattle.std.proofs.lemmas.List.{take_more}
 use Rattle.std.proofs.lemmas.List.Elements.{All-append, All-cons, All-nil}
 use Rattle.std.proofs.lemmas.List.Folds.{find-append}
 use Rattle.rb_bytes.proofs.Members.{Contains-nil, Contains-cons_cases, Contains-there}
+use Rattle.answer_runs.proofs.Grown.{or_none}
 use Rattle.table_core.specs.declared.written.ListAt.{ListAt}
 use Rattle.dw_unit.specs.EntryMoves.{is_list_of, new_list_offset}
 use Rattle.dw_lists.specs.declared.list_kind.ListKind.{ListKind}
@@ -119,10 +120,6 @@ pub other_name : (xs : List ListAt) (l : ListAt) (e attr : ℕ) → (l.entry == 
 other_name xs l e attr f =
     offset_more xs l e attr ∙ ap (λ (x : Option ℕ). option_or (new_list_offset xs e attr) x) (named_other l e attr f)
     ∙ or_none (new_list_offset xs e attr)
-  where
-    or_none : (x : Option ℕ) → option_or x None ≡ x
-    or_none None = refl
-    or_none (Some n) = refl
 
 still_none : (xs : List ListAt) (l : ListAt) (e attr : ℕ) → new_list_offset xs e attr ≡ None → (l.entry == e && l.attr == attr) ≡ false →
     new_list_offset (xs ++ l ∷ []) e attr ≡ None

@@ -15,6 +15,7 @@ use Rattle.dw_unit.proofs.SoundEntries.{IsSoundEntry}
 use Rattle.dw_lists.specs.Faults.{ListSections}
 use Rattle.dw_lists.specs.UnitLists.{own_place}
 use Rattle.range_loc_rewrite.proofs.ChangedAttrs.{IsOther, changed, from_other}
+use Rattle.range_loc_rewrite.proofs.KeptLookups.{own_at}
 use Rattle.range_loc_rewrite.proofs.RangesStay.{found_name, SoundTests, tests_of, new_base}
 
 -- the first of entries one by one
@@ -65,7 +66,7 @@ module _ (s t : ListSections) (m : Moves) (u v : Unit) (zip : AllZip (λ x y. Is
       first = ap (λ (o : Option Entry). option_map_or (λ (f : Entry). f.place == w.d.place) o false) w.old ∙ eq-eqb w.d.place w.d.place refl
 
       place : own_place u ≡ w.d.place
-      place = ap (λ (o : Option Entry). option_map_or (λ (e : Entry). e.place) o 0) w.old
+      place = own_at u w.d w.old
 
       based : base k u ≡ option_map (λ (a : Attr). a.value) (attr k w.d)
       based = ap (λ (o : Option Entry). option_map (λ (a : Attr). a.value) (option_and_then (attr k) o)) w.old

@@ -2,11 +2,13 @@
 use Rattle.std.proofs.Common.{◌≡◌, ◌∙◌, ◌+◌, ◌<◌, ◌≤◌, ◌==◌, ◌⊎◌, inl, inr, ◌++◌, ◌∷◌, [], ℕ, Bool, true, false, List, Option, Some, None}
 use Rattle.std.proofs.Common.{refl, sym, ap, subst, arith, map, ⊎_elim}
 use Rattle.std.specs.Prelude.{flat_map, Contains, option_and_then, option_map, if◌then◌else◌}
+use Rattle.std.specs.Option.{option_map_or}
 use Rattle.rb_bytes.proofs.Members.{Contains-nil, Contains-cons_cases, Contains-there}
+use Rattle.rb_bytes.proofs.Options.{same_some}
 use Rattle.answer_runs.specs.Choices.{first_of}
 use Rattle.answer_runs.specs.declared.range.Range.{Range}
 use Rattle.dw_unit.specs.declared.entry.Attr.{Attr}
-use Rattle.dw_unit.specs.CompUnits.{Entry, Unit, attr, low_pc}
+use Rattle.dw_unit.specs.CompUnits.{Entry, Unit, attr, low_pc, own_entry}
 use Rattle.answer_runs.proofs.Ascending.{Ascends}
 use Rattle.dw_unit.proofs.SoundEntries.{IsSoundEntry, AreSoundEntries, AreSoundUnits}
 use Rattle.cover_lists.specs.declared.cover_tree.Cover.{Cover}
@@ -121,10 +123,10 @@ module _ (s : ListSections) (covers : List Cover) where
 
 pub first_there : (es : List Entry) (d : Entry) → first_of es ≡ Some d → Contains es d
 first_there [] d e = absurd (cc)
-first_there (x ∷ es) d e = (0, omega arith, same x d e)
-  where
-    same : (x d : Entry) → Some x ≡ Some d → x ≡ d
-    same x d e = cc
+first_there (x ∷ es) d e = (0, omega arith, same_some (Some x) x d refl e)
+
+pub own_at : (u : Unit) (d : Entry) → own_entry u ≡ Some d → own_place u ≡ d.place
+own_at u d e = ap (λ (o : Option Entry). option_map_or (λ (e : Entry). e.place) o 0) e
 
 abbrev pub entries_end : ℕ → List Entry → ℕ
 entries_end lo [] = lo

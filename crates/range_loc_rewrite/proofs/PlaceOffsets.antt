@@ -1,11 +1,9 @@
 -- Each attribute that names a location list gets an offset in a table that was written, or its unit a base.
-use Rattle.std.proofs.Common.{◌≡◌, ◌+◌, ◌*◌, ◌<◌, ◌==◌, ◌&&◌, ◌||◌, ◌∙◌, [], ℕ, Bool, true, false, List, Option, Some, None, refl, sym, ap, subst}
-use Rattle.std.proofs.Common.{arith, length, map}
+use Rattle.std.proofs.Common.{◌≡◌, ◌<◌, ◌==◌, ◌&&◌, ◌||◌, ◌∙◌, [], ℕ, Bool, true, false, List, Some, None, sym, ap, subst}
+use Rattle.std.proofs.Common.{length, map}
 use Rattle.std.specs.Prelude.{flat_map, Contains, if◌then◌else◌}
-use Rattle.std.specs.Option.{option_map_or}
 use Rattle.std.specs.Global.{Vec}
 use Rattle.std.proofs.lemmas.Bool.{ne_eqb}
-use Rattle.byteorder.specs.Endian.{little_bytes}
 use Rattle.answer_runs.specs.declared.run.Run.{Run}
 use Rattle.answer_runs.proofs.Ascending.{Ascends}
 use Rattle.table_core.specs.declared.written.ListAt.{ListAt}
@@ -17,16 +15,16 @@ use Rattle.cover_lists.specs.declared.kept_list.KeptList.{KeptList}
 use Rattle.dw_lists.specs.declared.list_kind.ListKind.TheVariants.{Locations}
 use Rattle.dw_lists.specs.declared.named_list.NamedList.{NamedList}
 use Rattle.dw_lists.specs.Faults.{ListSections}
-use Rattle.dw_lists.specs.Lists.{locations_kind, has_list}
+use Rattle.dw_lists.specs.Lists.{locations_kind}
 use Rattle.dw_lists.specs.UnitLists.{own_place}
 use Rattle.list_units.specs.Listing.{AreNamesOf, IsNameOf, ListItem, all_items, list_index}
 use Rattle.list_units.proofs.Zips.{zip_left, zip_right}
 use Rattle.list_writer.specs.WrittenLocations.{bounded}
-use Rattle.list_writer.specs.WrittenTables.{AreWritten, IsNamed, StandsAt, bytes_in}
+use Rattle.list_writer.specs.WrittenTables.{AreWritten, IsNamed, StandsAt}
 use Rattle.list_writer.proofs.ListsThere.{list_inside, base_inside}
 use Rattle.range_loc_rewrite.specs.NewOffsets.{GetsOffset, PlacesGetOffsets, UsesIndex}
 use Rattle.range_loc_rewrite.proofs.ItemsThere.{IsPlaceName, HasItem, has_item}
-use Rattle.range_loc_rewrite.proofs.KeptLookups.{all_of, own_unique, place_of, first_there}
+use Rattle.range_loc_rewrite.proofs.KeptLookups.{all_of, own_unique, place_of, first_there, own_at}
 use Rattle.range_loc_rewrite.proofs.PlacesStay.{AreSpelled, is_item}
 use Rattle.range_loc_rewrite.proofs.RangesStay.{found_name}
 use Rattle.range_loc_rewrite.proofs.SoundLists.{AreThere}
@@ -91,9 +89,8 @@ module _ (s : ListSections) (fine : (u : Unit) → Contains (units s.units) u �
   kept_base u uc d is none = w.unbased d.place (λ r there own.
       let x = zip_left (IsNameOf lists) named (all_items s) r items there in
       let y = is_item s x.0 x.1 in
-      let place : own_place u ≡ d.place = ap (λ (o : Option Entry). option_map_or (λ (e : Entry). e.place) o 0) is in
       let same : y.u ≡ u = own_unique 0 (units s.units) y.u u y.e d up y.unit y.entry uc (first_there u.entries d is)
-      (sym y.own ∙ sym x.2.own ∙ own ∙ sym place) in
+      (sym y.own ∙ sym x.2.own ∙ own ∙ sym (own_at u d is)) in
       x.2.index ∙ y.index ∙ plain y.a (λ form. none (record {
         e = y.e;
         entry = subst (λ (v : Unit). Contains v.entries y.e) same y.entry;

@@ -45,7 +45,7 @@ use Rattle.range_loc_rewrite.proofs.ItemsThere.{IsPlaceName, by_name, HasItem, h
 use Rattle.range_loc_rewrite.proofs.KeptLookups.{sound_at, all_of, place_of, own_unique}
 use Rattle.list_writer.proofs.ListsThere.{list_there, list_inside, offset_there}
 use Rattle.list_units.proofs.LocationFacts.{listed_expressions}
-use Rattle.list_writer.proofs.PutEntries.{by_either, contains_split, contains_still, contains_behind, flat_has, flat_from}
+use Rattle.list_writer.proofs.PutEntries.{contains_split, flat_from}
 use Rattle.range_loc_rewrite.proofs.RangesStay.{found_name, found_there, SoundTests, tests_of, plain_offset, index_offset}
 use Rattle.range_loc_rewrite.proofs.SoundLists.{IsThere, AreThere}
 use Rattle.list_units.proofs.Zips.{zip_left, zip_right}

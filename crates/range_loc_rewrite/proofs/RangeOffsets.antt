@@ -1,9 +1,8 @@
 -- Each entry that has ranges gets the offset of its list in a table that was written, or its unit a base.
 use Rattle.std.proofs.Common.{◌≡◌, ◌∙◌, ◌<◌, ◌==◌, ◌&&◌, ◌||◌, ◌∷◌, [], ℕ, Bool, true, false, List, Option, Some, None, refl, sym, ap, subst}
-use Rattle.std.proofs.Common.{arith, length, map, ⊎_elim}
+use Rattle.std.proofs.Common.{length, map, ⊎_elim}
 use Rattle.std.specs.Prelude.{Contains, if◌then◌else◌, is_some, option_and_then, option_map}
 use Rattle.std.specs.Global.{Vec}
-use Rattle.std.specs.Option.{option_map_or}
 use Rattle.std.proofs.lemmas.Bool.{eqb-true, ne_eqb}
 use Rattle.rb_bytes.specs.FirstFault.{IsFree}
 use Rattle.answer_runs.specs.declared.range.Range.{Range}
@@ -21,8 +20,7 @@ use Rattle.cover_lists.specs.GroupRuns.{runs_in}
 use Rattle.cover_lists.specs.Located.{Located, ranges_in}
 use Rattle.dw_lists.specs.declared.list_kind.ListKind.TheVariants as kind
 use Rattle.dw_lists.specs.Faults.{ListSections, range_places}
-use Rattle.dw_lists.specs.KnownLists.{range_list}
-use Rattle.dw_lists.specs.Lists.{ranges_kind, has_list, list_at}
+use Rattle.dw_lists.specs.Lists.{ranges_kind, list_at}
 use Rattle.dw_lists.specs.Ranges.{ranges_of, up_to}
 use Rattle.dw_lists.specs.UnitLists.{own_place}
 use Rattle.dw_lists.proofs.OwnRanges.{listed_ranges, of_offset, own_bounds}
@@ -32,7 +30,7 @@ use Rattle.list_writer.specs.WrittenRanges.{bounded}
 use Rattle.list_writer.proofs.ListsThere.{list_inside, base_inside}
 use Rattle.list_writer.proofs.PutEntries.{flat_has}
 use Rattle.range_loc_rewrite.specs.NewOffsets.{GetsOffset, RangesGetOffsets, UsesIndex}
-use Rattle.range_loc_rewrite.proofs.KeptLookups.{IsFound, all_of, first_there, kept_entry, kept_from, no_bounds}
+use Rattle.range_loc_rewrite.proofs.KeptLookups.{IsFound, all_of, first_there, own_at, kept_entry, kept_from, no_bounds}
 use Rattle.range_loc_rewrite.proofs.KeptLookups.{own_unique, place_of, sound_at}
 use Rattle.range_loc_rewrite.proofs.KeptPairs.{all_paired}
 use Rattle.range_loc_rewrite.proofs.NamedRanges.{AreNamed, IsNamed}
@@ -120,9 +118,8 @@ module _ (s : ListSections) (free : IsFree (HasDwarfFault (range_places s))) (co
       new_list_offset names d.place 0x74 ≡ None
   kept_base u uc d is none = w.unbased d.place (λ r there own.
       let y = kept_from s covers (units s.units) kept r (all_paired s covers (units s.units) kept seen) there in
-      let place : own_place u ≡ d.place = ap (λ (o : Option Entry). option_map_or (λ (e : Entry). e.place) o 0) is in
       let same : y.u ≡ u = own_unique 0 (units s.units) y.u u y.e d up y.unit y.there uc (first_there u.entries d is)
-      (sym y.kept_as.own ∙ own ∙ sym place) in
+      (sym y.kept_as.own ∙ own ∙ sym (own_at u d is)) in
       y.kept_as.index ∙ plain (attr 0x55 y.e) (λ a named form. none (record {
         e = y.e;
         entry = subst (λ (v : Unit). Contains v.entries y.e) same y.there;
