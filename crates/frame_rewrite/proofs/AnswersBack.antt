@@ -1,14 +1,13 @@
 -- A table that is written answers at each address what its runs do.
 use Rattle.std.proofs.Common.{ℕ, zero, suc, ◌+◌, ◌≤◌, ◌<◌, ◌≡◌, ◌==◌, ◌&&◌, List, [], ◌∷◌, Option, Some, None, cond, leb, ltb, Bool, true}
-use Rattle.std.proofs.Common.{false, refl, sym, ◌∙◌, ap, subst, arith, length, take, drop, option_map}
-use Rattle.std.specs.Prelude.{All, IsTrue, IsSome, not}
+use Rattle.std.proofs.Common.{false, refl, sym, ◌∙◌, ap, subst, arith, length, take, drop, option_map, ⊎_elim}
+use Rattle.std.specs.Prelude.{All, IsTrue, IsSome}
 use Rattle.std.specs.Bool.{beq}
-use Rattle.std.specs.List.{position_or_len}
 use Rattle.std.specs.Option.{option_or}
 use Rattle.std.proofs.lemmas.Bool.Decides.{nat_tests}
 use Rattle.std.proofs.lemmas.Grind.{common_steps}
 use Rattle.std.proofs.lemmas.List.Elements.{All-nil, All-cons, All-head, All-tail, All-take, All-drop}
-use Rattle.std.proofs.lemmas.Bool.{ltb-true, ltb-false}
+use Rattle.std.proofs.lemmas.Bool.{and_parts, cases_lt, ltb-true, ltb-false}
 use Rattle.rb_bytes.proofs.Tests.{bool_is}
 use Rattle.addr_map.specs.declared.span.Span.{Span}
 use Rattle.addr_map.specs.Spans.{new}
@@ -20,7 +19,7 @@ use Rattle.cfi_rows.specs.Entries.{Fde, is_in_range}
 use Rattle.frame_rewrite.specs.FrameAnswers.{FrameAnswer, answer_of, answer_at}
 use Rattle.frame_rewrite.specs.CarriedFrames.{IsCarriedFrame}
 use Rattle.frame_rewrite.specs.SpelledFits.{IsReached}
-use Rattle.frame_rewrite.specs.SpelledFrames.{key_of, continues, more_count, start_of, last_end, fde_body}
+use Rattle.frame_rewrite.specs.SpelledFrames.{key_of, is_alike, count_on, more_count, start_of, last_end, fde_body}
 use Rattle.frame_rewrite.proofs.FdeBack.{fde_of}
 use Rattle.frame_rewrite.proofs.RowsBack.{placed}
 use Rattle.frame_rewrite.proofs.RunGroups.{within-take, within-drop, at-before, at-behind, at-among, rows-at}
@@ -41,8 +40,7 @@ pub record IsLike (spans : List Span) (r : Run FrameAnswer) (x : FrameAnswer) : 
   pub start : IsTrue x.marked → start_of spans r ≡ new spans x.start
 
 pub record Continues (r q : Run FrameAnswer) : Type 0 where
-  pub first_marked : r.answer.marked ≡ true
-  pub marked : q.answer.marked ≡ true
+  pub marked : r.answer.marked ≡ q.answer.marked
   pub start : r.answer.start ≡ q.answer.start
   pub table : r.answer.table ≡ q.answer.table
   pub ra : r.answer.ra ≡ q.answer.ra
@@ -50,54 +48,58 @@ pub record Continues (r q : Run FrameAnswer) : Type 0 where
   pub indirect : r.answer.indirect ≡ q.answer.indirect
   pub signal : r.answer.signal ≡ q.answer.signal
 
-parts : (a b c d e f g h : Bool) → (a && b && c && d && e && f && g && h) ≡ true
-    → (a ≡ true) × (b ≡ true) × (c ≡ true) × (d ≡ true) × (e ≡ true) × (f ≡ true) × (g ≡ true) × (h ≡ true)
-parts true true true true true true true true t = (refl, refl, refl, refl, refl, refl, refl, refl)
-parts true true true true true true true false t = absurd (cc)
-parts true true true true true true false h t = absurd (cc)
-parts true true true true true false g h t = absurd (cc)
-parts true true true true false f g h t = absurd (cc)
-parts true true true false e f g h t = absurd (cc)
-parts true true false d e f g h t = absurd (cc)
-parts true false c d e f g h t = absurd (cc)
-parts false b c d e f g h t = absurd (cc)
+parts : (a b c d e f g : Bool) → (a && b && c && d && e && f && g) ≡ true
+    → (a ≡ true) × (b ≡ true) × (c ≡ true) × (d ≡ true) × (e ≡ true) × (f ≡ true) × (g ≡ true)
+parts true true true true true true true t = (refl, refl, refl, refl, refl, refl, refl)
+parts true true true true true true false t = absurd (cc)
+parts true true true true true false g t = absurd (cc)
+parts true true true true false f g t = absurd (cc)
+parts true true true false e f g t = absurd (cc)
+parts true true false d e f g t = absurd (cc)
+parts true false c d e f g t = absurd (cc)
+parts false b c d e f g t = absurd (cc)
 
 same-numbers : (a b : ℕ) → (a == b) ≡ true → a ≡ b
 same-numbers a b e = grind (arith, nat_tests)
 
-continues-so : (r q : Run FrameAnswer) → continues r q ≡ true → Continues r q
+continues-so : (r q : Run FrameAnswer) → is_alike r q ≡ true → Continues r q
 continues-so r q t =
-    let p = parts r.answer.marked q.answer.marked (r.answer.start == q.answer.start) (r.answer.table == q.answer.table)
+    let p = parts (beq r.answer.marked q.answer.marked) (r.answer.start == q.answer.start) (r.answer.table == q.answer.table)
     (r.answer.ra == q.answer.ra) (r.answer.handler == q.answer.handler)
     (beq r.answer.indirect q.answer.indirect) (beq r.answer.signal q.answer.signal) t in
     record {
-      first_marked = p.0;
-      marked = p.1;
-      start = same-numbers r.answer.start q.answer.start p.2;
-      table = same-numbers r.answer.table q.answer.table p.3;
-      ra = same-numbers r.answer.ra q.answer.ra p.4;
-      handler = same-numbers r.answer.handler q.answer.handler p.5;
-      indirect = bool_is r.answer.indirect q.answer.indirect p.6;
-      signal = bool_is r.answer.signal q.answer.signal p.7;
+      marked = bool_is r.answer.marked q.answer.marked p.0;
+      start = same-numbers r.answer.start q.answer.start p.1;
+      table = same-numbers r.answer.table q.answer.table p.2;
+      ra = same-numbers r.answer.ra q.answer.ra p.3;
+      handler = same-numbers r.answer.handler q.answer.handler p.4;
+      indirect = bool_is r.answer.indirect q.answer.indirect p.5;
+      signal = bool_is r.answer.signal q.answer.signal p.6;
     }
 
-pub group-continues : (r : Run FrameAnswer) (rs : Runs) → All (Continues r) (take (more_count r rs) rs)
-group-continues r [] = All-nil (Continues r)
-group-continues r (q ∷ qs) = one (continues r q) refl (group-continues r qs) where
-  plus : (n : ℕ) → suc n ≡ 1 + n
-  plus n = omega arith
+-- runs that touch one another, from an address on
+abbrev pub Touch : ℕ → Runs → Type 0
+Touch end [] = Unit {0}
+Touch end (q ∷ qs) = (q.start ≡ end) × Touch (q.start + q.len) qs
 
-  one : (b : Bool) → continues r q ≡ b → All (Continues r) (take (more_count r qs) qs)
-      → All (Continues r) (take (position_or_len (λ x. not (continues r x)) (q ∷ qs)) (q ∷ qs))
+group-so : (end : ℕ) (r : Run FrameAnswer) (rs : Runs)
+    → All (Continues r) (take (count_on end r rs) rs) × Touch end (take (count_on end r rs) rs)
+group-so end r [] = (All-nil (Continues r), tt)
+group-so end r (q ∷ qs) = one ((q.start == end) && is_alike r q) refl (group-so (q.start + q.len) r qs) where
+  one : (b : Bool) → ((q.start == end) && is_alike r q) ≡ b
+      → All (Continues r) (take (count_on (q.start + q.len) r qs) qs)
+      × Touch (q.start + q.len) (take (count_on (q.start + q.len) r qs) qs)
+      → All (Continues r) (take (count_on end r (q ∷ qs)) (q ∷ qs)) × Touch end (take (count_on end r (q ∷ qs)) (q ∷ qs))
   one true e more =
-      rw e (subst (λ (n : ℕ). All (Continues r) (take n (q ∷ qs))) (plus (more_count r qs))
-      (All-cons (Continues r) q (take (more_count r qs) qs) (continues-so r q e) more))
-  one false e more = rw e (All-nil (Continues r))
+      let both = and_parts (q.start == end) (is_alike r q) e in
+      rw e (
+        All-cons (Continues r) q (take (count_on (q.start + q.len) r qs) qs) (continues-so r q both.1) more.0,
+        (same-numbers q.start end both.0, more.1),
+      )
+  one false e more = rw e (All-nil (Continues r), tt)
 
-start-same : (spans : List Span) (r q : Run FrameAnswer) → Continues r q → start_of spans q ≡ start_of spans r
-start-same spans r q c = marked-start q c.marked ∙ ap (new spans) (sym c.start) ∙ sym (marked-start r c.first_marked) where
-  marked-start : (x : Run FrameAnswer) → x.answer.marked ≡ true → start_of spans x ≡ new spans x.answer.start
-  marked-start x e = rw e refl
+pub group-continues : (r : Run FrameAnswer) (rs : Runs) → All (Continues r) (take (more_count r rs) rs)
+group-continues r rs = (group-so (r.start + r.len) r rs).0
 
 start-marked : (spans : List Span) (x : Run FrameAnswer) → IsTrue x.answer.marked
     → start_of spans x ≡ new spans x.answer.start
@@ -121,7 +123,7 @@ like-next spans r q c =
       indirect = c.indirect;
       table = c.table;
       signal = c.signal;
-      start = λ m. sym (start-same spans r q c) ∙ start-marked spans q m;
+      start = λ m. start-marked spans r (c.marked ∙ m) ∙ ap (new spans) c.start;
     }
 
 -- what holds of the answers of all runs holds of that at a byte
@@ -140,15 +142,18 @@ at-all P (r ∷ rs) p a f e = one (leb r.start p && ltb p (r.start + r.len)) ref
       one false t later = later (sym (ap (λ (b : Bool). option_or (cond b (Some r.answer) None) (run_at rs p)) t) ∙ e)
 
 -- the range of an entry has no bytes but those of runs
-group-filled : (spans : List Span) (all : Runs) (r : Run FrameAnswer) (end : ℕ) (more : Runs) → All (Continues r) more
+group-filled : (spans : List Span) (all : Runs) (r : Run FrameAnswer) (end : ℕ) (more : Runs) → Touch end more
     → All (IsReached spans all) more
     → ((p : ℕ) → start_of spans r ≤ p → p < end → IsSome (run_at all p)) → (p : ℕ) → start_of spans r ≤ p
     → p < last_end end more → IsSome (run_at all p)
 group-filled spans all r end [] c f h p a b = h p a b
 group-filled spans all r end (q ∷ qs) c f h p a b =
-    let s = start-same spans r q (All-head (Continues r) q qs c) in
-    group-filled spans all r (q.start + q.len) qs (All-tail (Continues r) q qs c) (All-tail (IsReached spans all) q qs f)
-    (λ x l m. (All-head (IsReached spans all) q qs f).filled x (subst (λ (n : ℕ). n ≤ x) (sym s) l) m) p a b
+    group-filled spans all r (q.start + q.len) qs c.1 (All-tail (IsReached spans all) q qs f)
+    (λ x l m. ⊎_elim (λ (less : x < end). h x l less)
+    (λ (le : end ≤ x). (All-head (IsReached spans all) q qs f).filled x
+    (least (start_of spans q) q.start end x (All-head (IsReached spans all) q qs f).before c.0 le) m) (cases_lt x end)) p a b where
+      least : (s a e x : ℕ) → s ≤ a → a ≡ e → e ≤ x → s ≤ x
+      least s a e x h i j = omega arith
 
 -- Where no run has a byte
 
@@ -184,7 +189,7 @@ none-made is_marked spans all (suc n) place (r ∷ rs) p f e =
       out true t =
           let h = ranged (start_of spans r) p (last_end (r.start + r.len) (take (more_count r rs) rs)) t in
           absurd (no-some (run_at all p) e (group-filled spans all r (r.start + r.len) (take (more_count r rs) rs)
-          (group-continues r rs)
+          (group-so (r.start + r.len) r rs).1
           (All-take (IsReached spans all) (more_count r rs) rs (All-tail (IsReached spans all) r rs f))
           (All-head (IsReached spans all) r rs f).filled p h.0 h.1))
       out false t = refl

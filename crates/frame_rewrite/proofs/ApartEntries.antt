@@ -1,8 +1,8 @@
 -- The entries of a table that is written share no address.
-use Rattle.std.proofs.Common.{ℕ, zero, suc, ◌+◌, ◌-◌, ◌*◌, ◌^◌, ◌≤◌, ◌<◌, ◌≡◌, ◌==◌, ◌&&◌, List, [], ◌∷◌, leb, ltb, Bool, true, false}
+use Rattle.std.proofs.Common.{ℕ, zero, suc, ◌+◌, ◌-◌, ◌*◌, ◌^◌, ◌≤◌, ◌<◌, ◌≡◌, ◌==◌, ◌&&◌, List, [], ◌∷◌, leb, ltb, cond, Option, Some, None, Bool, true, false}
 use Rattle.std.proofs.Common.{refl, sym, ◌∙◌, ap, subst, arith, length, take, drop, ⊎_elim}
 use Rattle.std.specs.Bool.{beq}
-use Rattle.std.specs.Prelude.{All, Contains}
+use Rattle.std.specs.Prelude.{All, Contains, IsSome}
 use Rattle.std.proofs.lemmas.Bool.{cases_lt}
 use Rattle.std.proofs.lemmas.Bool.Decides.{nat_tests}
 use Rattle.std.proofs.lemmas.List.Elements.{All-nil, All-cons, All-contains, All-head, All-tail, All-take, All-drop}
@@ -19,12 +19,12 @@ use Rattle.frame_rewrite.specs.declared.cie_key.CieKey.{CieKey}
 use Rattle.frame_rewrite.specs.FrameAnswers.{FrameAnswer, answer_at}
 use Rattle.frame_rewrite.specs.Index.{AreApart, AreFilled, ShareNoAddress}
 use Rattle.frame_rewrite.specs.SpelledFits.{KeyFits, IsReached, IsSpelled}
-use Rattle.frame_rewrite.specs.SpelledFrames.{continues, more_count, start_of, last_end, fde_body, cie_size}
+use Rattle.frame_rewrite.specs.SpelledFrames.{is_alike, count_on, more_count, start_of, last_end, fde_body, cie_size}
 use Rattle.frame_rewrite.specs.Tables.{MovesWhole}
 use Rattle.frame_rewrite.proofs.AnswersBack.{Continues, group-continues, ranged, reached-before}
 use Rattle.frame_rewrite.proofs.Law.{reads-as}
 use Rattle.frame_rewrite.proofs.Reached.{AreWhole, answered, answered-first}
-use Rattle.frame_rewrite.proofs.RunGroups.{within-take, within-drop, le-last}
+use Rattle.frame_rewrite.proofs.RunGroups.{within-take, within-drop, le-last, at-before, at-behind}
 use Rattle.frame_rewrite.proofs.TableBack.{Before, made}
 
 abbrev Runs : Type 0
@@ -56,8 +56,7 @@ module _ (marks : Fde → Bool) (list : List Fde) (spans : List Span) (runs : Ru
       let one : y.fde ≡ x.fde = sym (only x.fde y.fde y.span.input x.in_list y.in_list (sym x.marked ∙ m)
       (subst (λ (n : ℕ). is_in_range x.fde n ≡ true) owners z.2) y.in_range) in
       record {
-        first_marked = y.marked ∙ ap marks one ∙ sym x.marked ∙ m;
-        marked = m;
+        marked = y.marked ∙ ap marks one ∙ sym x.marked;
         start = y.start ∙ ap (λ (f : Fde). f.start) one ∙ sym x.start;
         table = y.table ∙ ap (λ (f : Fde). f.table) one ∙ sym x.table;
         ra = y.ra ∙ ap (λ (f : Fde). f.cie.ra) one ∙ sym x.ra;
@@ -82,9 +81,9 @@ module _ (marks : Fde → Bool) (list : List Fde) (spans : List Span) (runs : Ru
 
 -- Groups
 
-every : (a b c d e f g h : Bool) → a ≡ true → b ≡ true → c ≡ true → d ≡ true → e ≡ true → f ≡ true → g ≡ true → h ≡ true
-    → (a && b && c && d && e && f && g && h) ≡ true
-every a b c d e f g h ta tb tc td te tf tg th = rw (ta, tb, tc, td, te, tf, tg, th) refl
+every : (a b c d e f g : Bool) → a ≡ true → b ≡ true → c ≡ true → d ≡ true → e ≡ true → f ≡ true → g ≡ true
+    → (a && b && c && d && e && f && g) ≡ true
+every a b c d e f g ta tb tc td te tf tg = rw (ta, tb, tc, td, te, tf, tg) refl
 
 numbers : (a b : ℕ) → a ≡ b → (a == b) ≡ true
 numbers a b e = grind (arith, nat_tests)
@@ -95,20 +94,19 @@ bools true false e = absurd (cc)
 bools false true e = absurd (cc)
 bools false false e = refl
 
-so-continues : (h r : Run FrameAnswer) → Continues h r → continues h r ≡ true
+so-continues : (h r : Run FrameAnswer) → Continues h r → is_alike h r ≡ true
 so-continues h r c =
-    every h.answer.marked r.answer.marked (h.answer.start == r.answer.start) (h.answer.table == r.answer.table)
+    every (beq h.answer.marked r.answer.marked) (h.answer.start == r.answer.start) (h.answer.table == r.answer.table)
     (h.answer.ra == r.answer.ra) (h.answer.handler == r.answer.handler) (beq h.answer.indirect r.answer.indirect)
-    (beq h.answer.signal r.answer.signal) c.first_marked c.marked (numbers h.answer.start r.answer.start c.start)
-    (numbers h.answer.table r.answer.table c.table) (numbers h.answer.ra r.answer.ra c.ra)
-    (numbers h.answer.handler r.answer.handler c.handler) (bools h.answer.indirect r.answer.indirect c.indirect)
-    (bools h.answer.signal r.answer.signal c.signal)
+    (beq h.answer.signal r.answer.signal) (bools h.answer.marked r.answer.marked c.marked)
+    (numbers h.answer.start r.answer.start c.start) (numbers h.answer.table r.answer.table c.table)
+    (numbers h.answer.ra r.answer.ra c.ra) (numbers h.answer.handler r.answer.handler c.handler)
+    (bools h.answer.indirect r.answer.indirect c.indirect) (bools h.answer.signal r.answer.signal c.signal)
 
 joined : (h q r : Run FrameAnswer) → Continues h q → Continues q r → Continues h r
 joined h q r c d =
     record {
-      first_marked = c.first_marked;
-      marked = d.marked;
+      marked = c.marked ∙ d.marked;
       start = c.start ∙ d.start;
       table = c.table ∙ d.table;
       ra = c.ra ∙ d.ra;
@@ -117,26 +115,24 @@ joined h q r c d =
       signal = c.signal ∙ d.signal;
     }
 
-count-on : (h q : Run FrameAnswer) (qs : Runs) → continues h q ≡ true → more_count h (q ∷ qs) ≡ suc (more_count h qs)
-count-on h q qs t = rw t (plus (more_count h qs)) where
-  plus : (n : ℕ) → 1 + n ≡ suc n
-  plus n = omega arith
-
-count-off : (h q : Run FrameAnswer) (qs : Runs) → continues h q ≡ false → more_count h (q ∷ qs) ≡ 0
-count-off h q qs t = rw t refl
+both : (a b : Bool) → a ≡ true → b ≡ true → (a && b) ≡ true
+both a b e f = rw (e, f) refl
 
 same-head : (q r : Run FrameAnswer) (qs rs : Runs) → q ∷ qs ≡ r ∷ rs → q ≡ r
 same-head q r qs rs e = cc
 
--- a group ends before a run that doesn't go on in it
-stops : (h : Run FrameAnswer) (rs : Runs) (r : Run FrameAnswer) (ds : Runs) → drop (more_count h rs) rs ≡ r ∷ ds
-    → continues h r ≡ false
-stops h [] r ds e = absurd (cc)
-stops h (q ∷ qs) r ds e = one (continues h q) refl (stops h qs r ds) where
-  one : (b : Bool) → continues h q ≡ b → (drop (more_count h qs) qs ≡ r ∷ ds → continues h r ≡ false) → continues h r ≡ false
-  one true t more = more (ap (λ (n : ℕ). drop n (q ∷ qs)) (sym (count-on h q qs t)) ∙ e)
-  one false t more = subst (λ (x : Run FrameAnswer). continues h x ≡ false)
-      (same-head q r qs ds (ap (λ (n : ℕ). drop n (q ∷ qs)) (sym (count-off h q qs t)) ∙ e)) t
+-- a group ends before a run that doesn't touch it or doesn't go on in it
+stops : (end : ℕ) (h : Run FrameAnswer) (rs : Runs) (r : Run FrameAnswer) (ds : Runs) → drop (count_on end h rs) rs ≡ r ∷ ds
+    → ((r.start == last_end end (take (count_on end h rs) rs)) && is_alike h r) ≡ false
+stops end h [] r ds e = absurd (cc)
+stops end h (q ∷ qs) r ds e = one ((q.start == end) && is_alike h q) refl (stops (q.start + q.len) h qs r ds) e where
+  one : (b : Bool) → ((q.start == end) && is_alike h q) ≡ b
+      → (drop (count_on (q.start + q.len) h qs) qs ≡ r ∷ ds
+      → ((r.start == last_end (q.start + q.len) (take (count_on (q.start + q.len) h qs) qs)) && is_alike h r) ≡ false)
+      → drop (cond b (suc (count_on (q.start + q.len) h qs)) 0) (q ∷ qs) ≡ r ∷ ds
+      → ((r.start == last_end end (take (cond b (suc (count_on (q.start + q.len) h qs)) 0) (q ∷ qs))) && is_alike h r) ≡ false
+  one true t more e = more e
+  one false t more e = subst (λ (x : Run FrameAnswer). ((x.start == end) && is_alike h x) ≡ false) (same-head q r qs ds e) t
 
 -- the last run of a group, which ends at an address
 record Last (h : Run FrameAnswer) (all : Runs) (end : ℕ) : Type 0 where
@@ -167,17 +163,29 @@ abbrev FirstFrom : List Span → ℕ → Runs → Type 0
 FirstFrom spans end [] = Unit {0}
 FirstFrom spans end (r ∷ rs) = end ≤ start_of spans r
 
--- the entry of the next group begins behind that of a group
+-- behind an address, the bytes of all runs are those of some of them
+abbrev Behind : Runs → ℕ → Runs → Type 0
+Behind all lo rs = (p : ℕ) → lo ≤ p → run_at all p ≡ run_at rs p
+
+none-some : (o : Option FrameAnswer) → o ≡ None → IsSome o → ⊥
+none-some None e s = cc
+none-some (Some x) e s = cc
+
+-- the entry of the next group begins behind that of a group: else the byte behind the group would be of a run, which
+-- can only be the next one, and that would have gone on in it
 next : (spans : List Span) (all : Runs) (lo hi : ℕ) (h : Run FrameAnswer) (rs : Runs) → IsWithin lo (h ∷ rs) hi
+    → Behind all lo (h ∷ rs) → All (IsReached spans all) rs
     → All (Alike spans all) rs → All (Contains all) (h ∷ rs) → (ds : Runs) → drop (more_count h rs) rs ≡ ds
     → FirstFrom spans (last_end (h.start + h.len) (take (more_count h rs) rs)) ds
-next spans all lo hi h rs w alike m [] e = tt
-next spans all lo hi h rs w alike m (r ∷ ds) e =
+next spans all lo hi h rs w same reach alike m [] e = tt
+next spans all lo hi h rs w same reach alike m (r ∷ ds) e =
     let behind : IsWithin (last_end (h.start + h.len) (take (more_count h rs) rs)) (r ∷ ds) hi =
     subst (λ (l : Runs). IsWithin (last_end (h.start + h.len) (take (more_count h rs) rs)) l hi) e
     (within-drop (more_count h rs) (h.start + h.len) rs hi w.2) in
     let alike_r : Alike spans all r = All-head (Alike spans all) r ds
     (subst (All (Alike spans all)) e (All-drop (Alike spans all) (more_count h rs) rs alike)) in
+    let reach_r : IsReached spans all r = All-head (IsReached spans all) r ds
+    (subst (All (IsReached spans all)) e (All-drop (IsReached spans all) (more_count h rs) rs reach)) in
     let last : Last h all (last_end (h.start + h.len) (take (more_count h rs) rs)) =
     last-of h all (h.start + h.len) hi (take (more_count h rs) rs) (record {
       run = h;
@@ -188,14 +196,36 @@ next spans all lo hi h rs w alike m (r ∷ ds) e =
     })
     (group-continues h rs) (All-take (Contains all) (more_count h rs) rs (All-tail (Contains all) h rs m))
     (within-take (more_count h rs) (h.start + h.len) rs hi w.2) in
+    let long : h.start + h.len ≤ last_end (h.start + h.len) (take (more_count h rs) rs) =
+    le-last (h.start + h.len) (take (more_count h rs) rs) hi (within-take (more_count h rs) (h.start + h.len) rs hi w.2) in
+    let empty : (p : ℕ) → last_end (h.start + h.len) (take (more_count h rs) rs) ≤ p → p < r.start → run_at all p ≡ None =
+    λ p le less. same p (low lo h.start h.len _ p w.0 long le)
+    ∙ at-behind (suc (more_count h rs)) lo (h ∷ rs) hi p w le
+    ∙ ap (λ (l : Runs). run_at l p) e
+    ∙ at-before r.start (r ∷ ds) hi p (itself r.start, behind.1, behind.2) less in
     not-before (last_end (h.start + h.len) (take (more_count h rs) rs)) (start_of spans r) last.run.start last.run.len r.start
-    behind.0 last.some last.ends
-    (λ p a b c d. clash (continues h r) (so-continues h r (last.goes r (alike_r last.run p last.in_all a b c d)))
-    (stops h rs r ds e)) where
-      not-before : (end s a n q : ℕ) → end ≤ q → a < end → a + n ≡ end → ((p : ℕ) → a ≤ p → p < a + n → s ≤ p → p < q → ⊥)
-          → end ≤ s
-      not-before end s a n q le less is never = ⊎_elim
-          (λ (x : s < end). absurd (never (end - 1) (omega arith) (omega arith) (omega arith) (omega arith)))
+    r.len behind.0 last.some last.ends
+    (λ p a b c d. none-some (run_at all p) (empty p a b) (reach_r.filled p c d))
+    (λ touch p a b c d. clash ((r.start == last_end (h.start + h.len) (take (more_count h rs) rs)) && is_alike h r)
+    (both (r.start == last_end (h.start + h.len) (take (more_count h rs) rs)) (is_alike h r)
+    (numbers r.start (last_end (h.start + h.len) (take (more_count h rs) rs)) touch)
+    (so-continues h r (last.goes r (alike_r last.run p last.in_all a b c d))))
+    (stops (h.start + h.len) h rs r ds e)) where
+      itself : (n : ℕ) → n ≤ n
+      itself n = omega arith
+
+      low : (lo a n e p : ℕ) → lo ≤ a → a + n ≤ e → e ≤ p → lo ≤ p
+      low lo a n e p x y z = omega arith
+
+      -- a start before the end of the group: the byte at the end would be filled, or the run touches
+      not-before : (end s a n q m : ℕ) → end ≤ q → a < end → a + n ≡ end
+          → ((p : ℕ) → end ≤ p → p < q → s ≤ p → p < q + m → ⊥)
+          → (q ≡ end → (p : ℕ) → a ≤ p → p < a + n → s ≤ p → p < q → ⊥) → end ≤ s
+      not-before end s a n q m le less is gap never = ⊎_elim
+          (λ (x : s < end). ⊎_elim
+          (λ (y : end < q). absurd (gap end (omega arith) y (omega arith) (omega arith)))
+          (λ (y : q ≤ end). absurd (never (omega arith) (end - 1) (omega arith) (omega arith) (omega arith) (omega arith)))
+          (cases_lt end q))
           (λ (x : end ≤ s). x)
           (cases_lt s end)
 
@@ -225,23 +255,29 @@ made-filled spans (suc n) place lo hi (h ∷ rs) w before =
     (All-drop (Before spans) (more_count h rs) rs (All-tail (Before spans) h rs before)))
 
 made-follow : (spans : List Span) (all : Runs) (n place lo hi end : ℕ) (rs : Runs) → IsWithin lo rs hi
-    → All (Before spans) rs → All (Alike spans all) rs → All (Contains all) rs → FirstFrom spans end rs
-    → Follows end (made spans n place rs)
+    → Behind all lo rs → All (IsReached spans all) rs → All (Alike spans all) rs → All (Contains all) rs
+    → FirstFrom spans end rs → Follows end (made spans n place rs)
 unfolding made
-made-follow spans all n place lo hi end [] w before alike m first = tt
-made-follow spans all zero place lo hi end (h ∷ rs) w before alike m first = tt
-made-follow spans all (suc n) place lo hi end (h ∷ rs) w before alike m first = (
-  first,
-  is-filled spans lo hi h rs w (All-head (Before spans) h rs before),
-  made-follow spans all n (place + 8 + length (fde_body spans h (take (more_count h rs) rs)))
-      (last_end (h.start + h.len) (take (more_count h rs) rs)) hi
-      (last_end (h.start + h.len) (take (more_count h rs) rs)) (drop (more_count h rs) rs)
-      (within-drop (more_count h rs) (h.start + h.len) rs hi w.2)
-      (All-drop (Before spans) (more_count h rs) rs (All-tail (Before spans) h rs before))
-      (All-drop (Alike spans all) (more_count h rs) rs (All-tail (Alike spans all) h rs alike))
-      (All-drop (Contains all) (more_count h rs) rs (All-tail (Contains all) h rs m))
-      (next spans all lo hi h rs w (All-tail (Alike spans all) h rs alike) m (drop (more_count h rs) rs) refl),
-)
+made-follow spans all n place lo hi end [] w same reach alike m first = tt
+made-follow spans all zero place lo hi end (h ∷ rs) w same reach alike m first = tt
+made-follow spans all (suc n) place lo hi end (h ∷ rs) w same reach alike m first =
+    let long : h.start + h.len ≤ last_end (h.start + h.len) (take (more_count h rs) rs) =
+    le-last (h.start + h.len) (take (more_count h rs) rs) hi (within-take (more_count h rs) (h.start + h.len) rs hi w.2) in (
+      first,
+      is-filled spans lo hi h rs w (All-head (IsReached spans all) h rs reach).before,
+      made-follow spans all n (place + 8 + length (fde_body spans h (take (more_count h rs) rs)))
+          (last_end (h.start + h.len) (take (more_count h rs) rs)) hi
+          (last_end (h.start + h.len) (take (more_count h rs) rs)) (drop (more_count h rs) rs)
+          (within-drop (more_count h rs) (h.start + h.len) rs hi w.2)
+          (λ p le. same p (low lo h.start h.len _ p w.0 long le) ∙ at-behind (suc (more_count h rs)) lo (h ∷ rs) hi p w le)
+          (All-drop (IsReached spans all) (more_count h rs) rs (All-tail (IsReached spans all) h rs reach))
+          (All-drop (Alike spans all) (more_count h rs) rs (All-tail (Alike spans all) h rs alike))
+          (All-drop (Contains all) (more_count h rs) rs (All-tail (Contains all) h rs m))
+          (next spans all lo hi h rs w same (All-tail (IsReached spans all) h rs reach) (All-tail (Alike spans all) h rs alike) m
+          (drop (more_count h rs) rs) refl),
+    ) where
+      low : (lo a n e p : ℕ) → lo ≤ a → a + n ≤ e → e ≤ p → lo ≤ p
+      low lo a n e p x y z = omega arith
 
 -- such entries share no address
 
@@ -282,7 +318,7 @@ pub written-apart : (debug : Bool) (spans : List Span) (keys : List CieKey) (run
 written-apart debug spans keys runs bytes address f w r alike s =
     let read = ap (λ (t : Frames). t.list) (reads-as debug spans keys runs bytes address f w r s) in
     subst AreApart (sym read) (apart-of 0 (made spans (length runs) (cie_size * length keys) runs)
-    (made-follow spans runs (length runs) (cie_size * length keys) 0 (2 ^ 64 - 1) 0 runs w (reached-before spans runs runs r)
+    (made-follow spans runs (length runs) (cie_size * length keys) 0 (2 ^ 64 - 1) 0 runs w (λ p l. refl) r
     alike (all_of (Contains runs) runs (λ q c. c)) (from-none runs))) where
       from-none : (rs : Runs) → FirstFrom spans 0 rs
       from-none [] = tt

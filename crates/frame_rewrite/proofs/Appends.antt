@@ -5,10 +5,13 @@ use Rattle.std.proofs.lemmas.Grind.{common_steps}
 use Rattle.std.proofs.lemmas.List.{append-nil, drop_more}
 use Rattle.std.specs.Prelude.{All}
 use Rattle.std.specs.List.{position_or_len}
+use Rattle.cfi_rows.specs.declared.row.Rule.{Rule}
+use Rattle.cfi_rows.specs.FrameRows.{RowValue, Rules, Known, rule_of}
 use Rattle.answer_runs.specs.declared.run.Run.{Run}
-use Rattle.cfi_rows.specs.Entries.{RawEntry}
 use Rattle.frame_rewrite.specs.FrameAnswers.{FrameAnswer}
-use Rattle.frame_rewrite.specs.SpelledFrames.{zeros, padding, spelled_entry, spelled_row_before, spelled_rows}
+use Rattle.cfi_rows.specs.Entries.{RawEntry}
+use Rattle.frame_rewrite.specs.SpelledFrames.{zeros, padding, spelled_entry, spelled_rules, spelled_other, other_rules, other_by}
+use Rattle.frame_rewrite.specs.SpelledFrames.{spelled_row_before, spelled_rows, known_behind}
 use Rattle.frame_rewrite.proofs.EntriesBack.{spelled-length}
 
 pub past-end : {A : Type 0} (xs : List A) (i : ℕ) → length xs ≤ i → drop i xs ≡ []
@@ -32,24 +35,55 @@ spelled-more spelled xs i x d o new want h is e w =
     ∙ ap (λ y. o ++ (spelled y ++ flat_map spelled (drop (i + 1) xs))) is
     ∙ ap (λ l. o ++ flat_map spelled l) (sym n) ∙ w
 
+-- rules of which only the new ones, and others, are spelled
+pub other-more : (old xs : Rules) (i : ℕ) (x d : ℕ × Rule) (o new want : List ℕ)
+    → i < length xs → x ≡ get_or xs i d → new ≡ o ++ spelled_other old x.0 x.1
+    → o ++ spelled_rules (other_rules old (drop i xs)) ≡ want → new ++ spelled_rules (other_rules old (drop (i + 1) xs)) ≡ want
+other-more old xs i x d o new want h is e w =
+    let n = drop_more xs i d h in
+    ap (λ (l : List ℕ). l ++ spelled_rules (other_rules old (drop (i + 1) xs))) e
+    ∙ append_assoc o (spelled_other old x.0 x.1) (spelled_rules (other_rules old (drop (i + 1) xs)))
+    ∙ ap (λ (l : List ℕ). o ++ l) (first x (drop (i + 1) xs))
+    ∙ ap (λ (y : ℕ × Rule). o ++ spelled_rules (other_rules old (y ∷ drop (i + 1) xs))) is
+    ∙ ap (λ l. o ++ spelled_rules (other_rules old l)) (sym n) ∙ w where
+      first : (x : ℕ × Rule) (ys : Rules) → spelled_other old x.0 x.1 ++ spelled_rules (other_rules old ys)
+          ≡ spelled_rules (other_rules old (x ∷ ys))
+      first x ys = by (other_by (rule_of x.0 old) x.1) refl where
+        by : (b : Bool) → other_by (rule_of x.0 old) x.1 ≡ b → spelled_other old x.0 x.1 ++ spelled_rules (other_rules old ys)
+            ≡ spelled_rules (other_rules old (x ∷ ys))
+        by true e = rw e refl
+        by false e = rw e refl
+
 -- an item behind the first
 pub item-behind : {A : Type 0} (x : A) (xs : List A) (i : ℕ) (d : A) → get_or (x ∷ xs) (i + 1) d ≡ get_or xs i d
 item-behind x xs i d = rw add-one refl
 
--- the row of a run, and those of the runs behind it
-pub rows-more : (o new want : List ℕ) (last r : Run FrameAnswer) (more : List (Run FrameAnswer)) (i : ℕ) → i < length more
-    → r ≡ get_or more i r → new ≡ o ++ spelled_row_before last.answer.row r.start
-    → o ++ spelled_rows last.answer.row (drop i more) ≡ want → new ++ spelled_rows r.answer.row (drop (i + 1) more) ≡ want
-rows-more o new want last r more i h is e w =
+-- the row before that of a run, and the rows of the run and of those behind it
+pub rows-more : (o new want : List ℕ) (known : Known) (at : ℕ) (row : RowValue) (r d : Run FrameAnswer)
+    (more : List (Run FrameAnswer)) (i : ℕ) → i < length more → r ≡ get_or more i d
+    → new ≡ o ++ spelled_row_before known row (r.start - at) → o ++ spelled_rows known at row (drop i more) ≡ want
+    → new ++ spelled_rows (known_behind known row) r.start r.answer.row (drop (i + 1) more) ≡ want
+rows-more o new want known at row r d more i h is e w =
     let rest = drop (i + 1) more in
-    ap (λ (l : List ℕ). l ++ spelled_rows r.answer.row rest) e
-    ∙ append_assoc o (spelled_row_before last.answer.row r.start) (spelled_rows r.answer.row rest)
-    ∙ ap (λ (q : Run FrameAnswer). o ++ spelled_rows last.answer.row (q ∷ rest)) is
-    ∙ ap (λ (l : List (Run FrameAnswer)). o ++ spelled_rows last.answer.row l) (sym (drop_more more i r h)) ∙ w
+    ap (λ (l : List ℕ). l ++ spelled_rows (known_behind known row) r.start r.answer.row rest) e
+    ∙ append_assoc o (spelled_row_before known row (r.start - at))
+    (spelled_rows (known_behind known row) r.start r.answer.row rest)
+    ∙ ap (λ (q : Run FrameAnswer). o ++ spelled_rows known at row (q ∷ rest)) is
+    ∙ ap (λ (l : List (Run FrameAnswer)). o ++ spelled_rows known at row l) (sym (drop_more more i d h)) ∙ w
 
-pub five-puts : (o a b c d e x y z t r : List ℕ) → a ≡ o ++ x → b ≡ a ++ y → c ≡ b ++ z → d ≡ c ++ t → e ≡ d ++ r
-    → e ≡ o ++ (x ++ (y ++ (z ++ (t ++ r))))
-five-puts o a b c d e x y z t r p q u v w = rw (w, v, u, q, p) (simp append_assoc)
+-- the first of the runs from an index on
+pub from-run : (P : List (Run FrameAnswer) → Type 0) (r d : Run FrameAnswer) (more : List (Run FrameAnswer)) (i : ℕ)
+    → i < length more → r ≡ get_or more i d → P (drop i more) → P (r ∷ drop (i + 1) more)
+from-run P r d more i h is p = subst (λ (q : Run FrameAnswer). P (q ∷ drop (i + 1) more)) (sym is)
+    (subst P (drop_more more i d h) p)
+
+pub to-run : (P : List (Run FrameAnswer) → Type 0) (r d : Run FrameAnswer) (more : List (Run FrameAnswer)) (i : ℕ)
+    → i < length more → r ≡ get_or more i d → P (r ∷ drop (i + 1) more) → P (drop i more)
+to-run P r d more i h is p = subst P (sym (drop_more more i d h)) (subst (λ (q : Run FrameAnswer). P (q ∷ drop (i + 1) more)) is p)
+
+pub four-fields : (o a b c d x y z t : List ℕ) → a ≡ o ++ x → b ≡ a ++ y → c ≡ b ++ z → d ≡ c ++ t
+    → d ≡ o ++ (x ++ (y ++ (z ++ t)))
+four-fields o a b c d x y z t p q u v = rw (v, u, q, p) (simp append_assoc)
 
 pub six-puts : (o a b c d e f x y z t r s : List ℕ) → a ≡ o ++ x → b ≡ a ++ y → c ≡ b ++ z → d ≡ c ++ t → e ≡ d ++ r
     → f ≡ e ++ s → f ≡ o ++ (x ++ (y ++ (z ++ (t ++ (r ++ s)))))

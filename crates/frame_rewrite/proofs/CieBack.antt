@@ -1,5 +1,5 @@
 -- A CIE that is written is read back.
-use Rattle.std.proofs.Common.{ℕ, pos, ◌-◌, ◌^◌, ◌≤◌, ◌<◌, ◌≡◌, List, [], ◌∷◌, ◌++◌, Some, Result, Ok, ltb, rules, Bool, true, false, refl}
+use Rattle.std.proofs.Common.{ℕ, pos, negsuc, subst, ◌-◌, ◌^◌, ◌<◌, ◌≡◌, List, [], ◌∷◌, ◌++◌, Some, Result, Ok, ltb, rules, Bool, true, false, refl}
 use Rattle.std.proofs.Common.{sym, ◌∙◌, ap, arith, length, append_assoc}
 use Rattle.std.proofs.lemmas.Bool.Decides.{nat_tests}
 use Rattle.byteorder.specs.Endian.{little_bytes}
@@ -9,20 +9,39 @@ use Rattle.rb_bytes.proofs.UnsignedLeb.{IsShortestUleb-uleb, uleb-last}
 use Rattle.rb_bytes.proofs.SignedLeb.{IsShortestSleb-sleb, sleb-last}
 use Rattle.table_core.specs.ReadSteps.{and_so}
 use Rattle.cfi_rows.specs.declared.instruction.Malformed.{Malformed}
+use Rattle.cfi_rows.specs.declared.encoding.Encoding.{Encoding}
 use Rattle.cfi_rows.specs.declared.encoding.Encoding.TheVariants.{Absptr}
-use Rattle.cfi_rows.specs.FrameRows.{nothing_known}
+use Rattle.cfi_rows.specs.declared.row.Cfa.TheVariants.{Reg}
+use Rattle.cfi_rows.specs.declared.instruction.Instruction.{Instruction}
+use Rattle.cfi_rows.specs.declared.instruction.Instruction.TheVariants.{DefCfa}
+use Rattle.cfi_rows.specs.FrameRows.{Known, nothing_known, known_after, begins}
 use Rattle.cfi_rows.specs.FrameInstructions.{whole, Read, block_at, instructions_at}
-use Rattle.cfi_rows.specs.Entries.{Augmentation, with_data, with_handler, letter_at, handler_at, letters_at, augmentation_at, Head}
-use Rattle.cfi_rows.specs.Entries.{head_at, Cie, cie_at}
+use Rattle.std.specs.Prelude.{not, None, Option, ◌==◌, ◌&&◌, if◌then◌else◌}
+use Rattle.cfi_rows.specs.Entries.{no_augmentation, Augmentation, with_data, with_handler, letter_at, handler_at, letters_at, augmentation_at, Head}
+use Rattle.cfi_rows.specs.Entries.{head_at, head_context, Cie, cie_at}
 use Rattle.frame_rewrite.specs.declared.cie_key.CieKey.{CieKey}
 use Rattle.frame_rewrite.specs.SpelledFits.{KeyFits}
-use Rattle.frame_rewrite.specs.SpelledFrames.{handler_encoding, cie_text, cie_nops, cie_body, zeros}
-use Rattle.frame_rewrite.proofs.NumbersBack.{byte-back, number-back, bytes-back, length-zeros}
-use Rattle.frame_rewrite.proofs.InstructionsBack.{plain, nops, nops-in}
-use Rattle.frame_rewrite.proofs.RowsBack.{known-nops}
+use Rattle.frame_rewrite.specs.SpelledFrames.{handler_encoding, cie_text, cie_code, cie_body, first_known, spelled_cfa}
+use Rattle.frame_rewrite.specs.SpelledFrames.{is_plain, plain_body, full_body, zeros}
+use Rattle.frame_rewrite.proofs.NumbersBack.{byte-back, number-back, bytes-back}
+use Rattle.frame_rewrite.proofs.InstructionsBack.{plain, nops, nops-in, cfa-alone, cfa-nops}
+
+abbrev pub table_of : (plain : Bool) → Option Encoding
+table_of true = None
+table_of false = Some Absptr
 
 abbrev pub augmentation_of : CieKey → Augmentation
 augmentation_of k = record {
+  has_data = not (is_plain k);
+  encoding = Absptr;
+  table = table_of (is_plain k);
+  handler = k.handler;
+  indirect = k.indirect;
+  signal = k.signal;
+}
+
+abbrev full_augmentation : CieKey → Augmentation
+full_augmentation k = record {
   has_data = true;
   encoding = Absptr;
   table = Some Absptr;
@@ -31,15 +50,35 @@ augmentation_of k = record {
   signal = k.signal;
 }
 
+-- the instructions of a CIE
+abbrev pub first_list : (signal : Bool) → List Instruction
+first_list false = DefCfa (Reg 2 (pos 0)) ∷ []
+first_list true = nops 2
+
+first-back : (end : ℕ) (signal : Bool) → instructions_at (plain end) (cie_code signal) ≡ Ok (first_list signal)
+first-back end true = nops-in end 2 2 (omega arith)
+first-back end false = subst (λ (l : List ℕ). instructions_at (plain end) l ≡ Ok (DefCfa (Reg 2 (pos 0)) ∷ []))
+    spelled (cfa-alone end (Reg 2 (pos 0)) (omega arith, search rules)) where
+      spelled : spelled_cfa (Reg 2 (pos 0)) ≡ 0x0c ∷ 2 ∷ 0 ∷ []
+      spelled = rw (uleb-last 2 (omega arith), uleb-last 0 (omega arith)) refl
+
+first-known : (signal : Bool) → known_after (first_list signal) (Some (begins 0 nothing_known)) ≡ Some (first_known signal)
+first-known true = refl
+first-known false = refl
+
+abbrev pub cie_list : (plain signal : Bool) → List Instruction
+cie_list true signal = DefCfa (Reg 2 (pos 0)) ∷ nops 16
+cie_list false signal = first_list signal
+
 abbrev pub cie_of : CieKey → Cie
 cie_of k =
     record {
       code = 1;
-      «data» = pos 1;
+      «data» = negsuc 0;
       ra = k.ra;
       augmentation = augmentation_of k;
-      instructions = nops (cie_nops k.signal);
-      known = nothing_known;
+      instructions = cie_list (is_plain k) k.signal;
+      known = first_known k.signal;
     }
 
 pub small-uleb : (n : ℕ) (rest : List ℕ) → n < 128 → whole (uleb_at (n ∷ rest)) ≡ Ok (n, rest)
@@ -48,9 +87,9 @@ small-uleb n rest h =
     ap (λ (l : List ℕ). whole (uleb_at (l ++ rest))) (sym (uleb-last n h))
     ∙ ap whole ((IsShortestUleb-uleb n f).reads_back rest)
 
-one-sleb : (rest : List ℕ) → whole (sleb_at (1 ∷ rest)) ≡ Ok (pos 1, rest)
-one-sleb rest = ap (λ (l : List ℕ). whole (sleb_at (l ++ rest))) (sym (sleb-last (pos 1) refl))
-    ∙ ap whole ((IsShortestSleb-sleb (pos 1) (search rules)).reads_back rest)
+one-sleb : (rest : List ℕ) → whole (sleb_at (0x7f ∷ rest)) ≡ Ok (negsuc 0, rest)
+one-sleb rest = ap (λ (l : List ℕ). whole (sleb_at (l ++ rest))) (sym (sleb-last (negsuc 0) refl))
+    ∙ ap whole ((IsShortestSleb-sleb (negsuc 0) (search rules)).reads_back rest)
 
 -- the letters after `z`
 abbrev letters_of : Bool → List ℕ
@@ -118,40 +157,147 @@ augmentation-back end h indirect signal rest f =
 
 -- the fields before the instructions, and the instructions, which are nops
 abbrev head_of : CieKey → Head
-head_of k = record { code = 1; «data» = pos 1; ra = k.ra; augmentation = augmentation_of k }
+head_of k = record { code = 1; «data» = negsuc 0; ra = k.ra; augmentation = full_augmentation k }
 
 head-back : (end : ℕ) (k : CieKey) (left rest : List ℕ)
-    → whole (text_at left) ≡ Ok (0x7a ∷ letters_of k.signal, 1 ∷ 1 ∷ k.ra ∷ 11 ∷ (data_of k.handler k.indirect ++ rest))
+    → whole (text_at left) ≡ Ok (0x7a ∷ letters_of k.signal, 1 ∷ 0x7f ∷ k.ra ∷ 11 ∷ (data_of k.handler k.indirect ++ rest))
     → k.handler < 2 ^ 64
     → head_at end (1 ∷ left) ≡ Ok (head_of k, rest)
 head-back end k left rest t f =
     rw (
       byte-back 1 left,
       t,
-      small-uleb 1 (1 ∷ k.ra ∷ 11 ∷ (data_of k.handler k.indirect ++ rest)) (omega arith),
+      small-uleb 1 (0x7f ∷ k.ra ∷ 11 ∷ (data_of k.handler k.indirect ++ rest)) (omega arith),
       one-sleb (k.ra ∷ 11 ∷ (data_of k.handler k.indirect ++ rest)),
       byte-back k.ra (11 ∷ (data_of k.handler k.indirect ++ rest)),
       augmentation-back end k.handler k.indirect k.signal rest f,
     ) refl
 
-data-assoc : (h : ℕ) (indirect : Bool) (n : ℕ) → 0 ∷ handler_encoding indirect ∷ (little_bytes 8 h ++ (0 ∷ zeros n))
-    ≡ data_of h indirect ++ zeros n
-data-assoc h indirect n = ap (λ (l : List ℕ). 0 ∷ handler_encoding indirect ∷ l)
-    (sym (append_assoc (little_bytes 8 h) (0 ∷ []) (zeros n)))
+data-assoc : (h : ℕ) (indirect : Bool) (code : List ℕ) → 0 ∷ handler_encoding indirect ∷ (little_bytes 8 h ++ (0 ∷ code))
+    ≡ data_of h indirect ++ code
+data-assoc h indirect code = ap (λ (l : List ℕ). 0 ∷ handler_encoding indirect ∷ l)
+    (sym (append_assoc (little_bytes 8 h) (0 ∷ []) code))
+
+full-back : (end : ℕ) (k : CieKey) → KeyFits k → cie_at end (full_body k) ≡ Ok (record {
+  code = 1;
+  «data» = negsuc 0;
+  ra = k.ra;
+  augmentation = full_augmentation k;
+  instructions = first_list k.signal;
+  known = first_known k.signal;
+})
+full-back end k f =
+    let text = text-back k.signal (1 ∷ 0x7f ∷ k.ra ∷ 11 ∷ 0 ∷ handler_encoding k.indirect
+    ∷ (little_bytes 8 k.handler ++ (0 ∷ cie_code k.signal))) in
+    let fields : head_at end (full_body k) ≡ Ok (head_of k, cie_code k.signal) =
+    head-back end k (cie_text k.signal ++ (1 ∷ 0x7f ∷ k.ra ∷ 11 ∷ 0 ∷ handler_encoding k.indirect
+    ∷ (little_bytes 8 k.handler ++ (0 ∷ cie_code k.signal)))) (cie_code k.signal)
+    (text ∙ ap (λ (l : List ℕ). ok_text k l) (data-assoc k.handler k.indirect (cie_code k.signal))) f.handler in
+    rw (fields, first-back end k.signal, first-known k.signal) refl where
+      ok_text : CieKey → List ℕ → Read (List ℕ)
+      ok_text k l = Ok (0x7a ∷ letters_of k.signal, 1 ∷ 0x7f ∷ k.ra ∷ 11 ∷ l)
+
+-- a CIE without an augmentation
+
+plain-list : (end : ℕ) → instructions_at (plain end) (0x0c ∷ 2 ∷ 0 ∷ zeros 16) ≡ Ok (DefCfa (Reg 2 (pos 0)) ∷ nops 16)
+plain-list end = subst (λ (l : List ℕ). instructions_at (plain end) (l ++ zeros 16) ≡ Ok (DefCfa (Reg 2 (pos 0)) ∷ nops 16))
+    spelled (cfa-nops end 16 (Reg 2 (pos 0)) (omega arith, search rules)) where
+      spelled : spelled_cfa (Reg 2 (pos 0)) ≡ 0x0c ∷ 2 ∷ 0 ∷ []
+      spelled = rw (uleb-last 2 (omega arith), uleb-last 0 (omega arith)) refl
+
+plain-known : known_after (DefCfa (Reg 2 (pos 0)) ∷ nops 16) (Some (begins 0 nothing_known)) ≡ Some (first_known false)
+plain-known = refl
+
+no-text : (rest : List ℕ) → whole (text_at (0 ∷ rest)) ≡ Ok ([], rest)
+no-text rest = let t : ltb 0 (length (0 ∷ rest)) ≡ true = grind (arith, nat_tests) in rw t refl
+
+plain-head : (end ra : ℕ) (rest : List ℕ) → head_at end (1 ∷ 0 ∷ 1 ∷ 0x7f ∷ ra ∷ rest)
+    ≡ Ok (record { code = 1; «data» = negsuc 0; ra = ra; augmentation = no_augmentation }, rest)
+plain-head end ra rest =
+    rw (
+      byte-back 1 (0 ∷ 1 ∷ 0x7f ∷ ra ∷ rest),
+      no-text (1 ∷ 0x7f ∷ ra ∷ rest),
+      small-uleb 1 (0x7f ∷ ra ∷ rest) (omega arith),
+      one-sleb (ra ∷ rest),
+      byte-back ra rest,
+    ) refl
+
+-- a CIE by its parts
+cie-from : (end : ℕ) (body rest : List ℕ) (h : Head) (is : List Instruction) (known : Known)
+    → head_at end body ≡ Ok (h, rest) → instructions_at (head_context end h) rest ≡ Ok is
+    → known_after is (Some (begins 0 nothing_known)) ≡ Some known → cie_at end body ≡ Ok (record {
+      code = h.code;
+      «data» = h.«data»;
+      ra = h.ra;
+      augmentation = h.augmentation;
+      instructions = is;
+      known = known;
+    })
+cie-from end body rest h is known a b c = rw (a, b, c) refl
+
+plain-back : (end ra : ℕ) → cie_at end (plain_body ra) ≡ Ok (record {
+  code = 1;
+  «data» = negsuc 0;
+  ra = ra;
+  augmentation = no_augmentation;
+  instructions = DefCfa (Reg 2 (pos 0)) ∷ nops 16;
+  known = first_known false;
+})
+plain-back end ra = cie-from end (plain_body ra) (0x0c ∷ 2 ∷ 0 ∷ zeros 16)
+    (record { code = 1; «data» = negsuc 0; ra = ra; augmentation = no_augmentation }) (DefCfa (Reg 2 (pos 0)) ∷ nops 16)
+    (first_known false) (plain-head end ra (0x0c ∷ 2 ∷ 0 ∷ zeros 16)) (plain-list end) refl
+
+-- what a kind is that needs none
+pub record IsPlain (k : CieKey) : Type 0 where
+  pub handler : 0 ≡ k.handler
+  pub indirect : false ≡ k.indirect
+  pub signal : false ≡ k.signal
+  pub tabled : k.tabled ≡ false
+
+pub plain-so : (k : CieKey) → is_plain k ≡ true → IsPlain k
+plain-so k e =
+    let p = four (k.handler == 0) k.indirect k.signal k.tabled e in
+    let h : 0 ≡ k.handler = grind (arith, nat_tests, p.0) in
+    record { handler = h; indirect = sym p.1; signal = sym p.2; tabled = p.3 } where
+      four : (a b c d : Bool) → (a && not b && not c && not d) ≡ true → (a ≡ true) × (b ≡ false) × (c ≡ false) × (d ≡ false)
+      four true false false false e = (refl, refl, refl, refl)
+      four true false false true e = absurd (cc)
+      four true false true d e = absurd (cc)
+      four true true c d e = absurd (cc)
+      four false b c d e = absurd (cc)
 
 pub cie-back : (end : ℕ) (k : CieKey) → KeyFits k → cie_at end (cie_body k) ≡ Ok (cie_of k)
-cie-back end k f =
-    let text = text-back k.signal (1 ∷ 1 ∷ k.ra ∷ 11 ∷ 0 ∷ handler_encoding k.indirect
-    ∷ (little_bytes 8 k.handler ++ (0 ∷ zeros (cie_nops k.signal)))) in
-    let fields : head_at end (cie_body k) ≡ Ok (head_of k, zeros (cie_nops k.signal)) =
-    head-back end k (cie_text k.signal ++ (1 ∷ 1 ∷ k.ra ∷ 11 ∷ 0 ∷ handler_encoding k.indirect
-    ∷ (little_bytes 8 k.handler ++ (0 ∷ zeros (cie_nops k.signal))))) (zeros (cie_nops k.signal))
-    (text ∙ ap (λ (l : List ℕ). ok_text k l) (data-assoc k.handler k.indirect (cie_nops k.signal))) f.handler in
-    let is : instructions_at (plain end) (zeros (cie_nops k.signal))
-    ≡ Ok (nops (cie_nops k.signal)) = nops-in end (cie_nops k.signal) _ (enough (cie_nops k.signal)) in
-    rw (fields, is, known-nops (cie_nops k.signal) 0) refl where
-      enough : (n : ℕ) → n ≤ length (zeros n)
-      enough n = let e : length (zeros n) ≡ n = length-zeros n in omega arith
-
-      ok_text : CieKey → List ℕ → Read (List ℕ)
-      ok_text k l = Ok (0x7a ∷ letters_of k.signal, 1 ∷ 1 ∷ k.ra ∷ 11 ∷ l)
+cie-back end k f = by (is_plain k) refl where
+  by : (b : Bool) → is_plain k ≡ b → cie_at end (if b then plain_body k.ra else full_body k) ≡ Ok (record {
+    code = 1;
+    «data» = negsuc 0;
+    ra = k.ra;
+    augmentation = record {
+      has_data = not b;
+      encoding = Absptr;
+      table = table_of b;
+      handler = k.handler;
+      indirect = k.indirect;
+      signal = k.signal;
+    };
+    instructions = cie_list b k.signal;
+    known = first_known k.signal;
+  })
+  by true e =
+      let p = plain-so k e in
+      plain-back end k.ra ∙ (λ i. Ok (record {
+        code = 1;
+        «data» = negsuc 0;
+        ra = k.ra;
+        augmentation = record {
+          has_data = false;
+          encoding = Absptr;
+          table = None;
+          handler = p.handler i;
+          indirect = p.indirect i;
+          signal = p.signal i;
+        };
+        instructions = DefCfa (Reg 2 (pos 0)) ∷ nops 16;
+        known = first_known (p.signal i);
+      }))
+  by false e = full-back end k f

@@ -14,7 +14,7 @@ use Rattle.cfi_rows.specs.FrameRows.{Rules}
 use Rattle.cfi_rows.specs.RuleEntries.{Ascend}
 use Rattle.frame_rewrite.specs.declared.cie_key.CieKey.{CieKey}
 use Rattle.frame_rewrite.specs.FrameAnswers.{FrameAnswer}
-use Rattle.frame_rewrite.specs.SpelledFits.{RuleFits, RulesFit, RunAscends, Writes, WritesAll, EndFits, IsSpelled}
+use Rattle.frame_rewrite.specs.SpelledFits.{RuleFits, RulesFit, RunAscends, Writes, WritesAll, EndFits, IsAbove, IsSpelled}
 use Rattle.frame_rewrite.specs.SpelledFrames.{spelled_entry, spelled_entries, cie_entry, cie_entries, fde_entry, fde_entries, fde_body}
 use Rattle.frame_rewrite.specs.SpelledFrames.{more_count, start_of, last_end, cie_size, cie_body, end_mark}
 use Rattle.frame_rewrite.proofs.Appends.{past-end, new-length}
@@ -225,3 +225,27 @@ spelled-table debug spans keys runs a b c e f g w =
           ∙ sym (flat_map-append spelled_entry (cie_entries debug 0 keys)
           (fde_entries debug spans keys (length runs) (cie_size * length keys) runs)));
     }
+
+-- runs are in order, from an address on
+above-of : (at lo : ℕ) (rs : Runs) (hi : ℕ) → at ≤ lo → IsWithin lo rs hi → IsAbove at rs
+above-of at lo [] hi l w = tt
+above-of at lo (r ∷ rs) hi l w = (far at lo r.start l w.0, above-of r.start (r.start + r.len) rs hi (near r.start r.len) w.2) where
+  far : (a b c : ℕ) → a ≤ b → b ≤ c → a ≤ c
+  far a b c h k = omega arith
+
+  near : (a b : ℕ) → a ≤ a + b
+  near a b = omega arith
+
+pub group-above : (spans : List Span) (k : ℕ) (r : Run FrameAnswer) (rs rest : Runs) (hi : ℕ) → rest ≡ r ∷ rs
+    → IsWithin 0 rest hi → All (Before spans) rest → IsAbove (start_of spans r) (take k rs)
+group-above spans k r rs rest hi is w before =
+    let both : IsWithin 0 (r ∷ rs) hi = subst (λ (l : Runs). IsWithin 0 l hi) is w in
+    above-of (start_of spans r) (r.start + r.len) (take k rs) hi
+    (least (start_of spans r) r.start r.len (All-head (Before spans) r rs (subst (All (Before spans)) is before)))
+    (within-take k (r.start + r.len) rs hi both.2) where
+      least : (s a n : ℕ) → s ≤ a → s ≤ a + n
+      least s a n h = omega arith
+
+pub all-end : (r : Run FrameAnswer) (rs rest : Runs) (hi : ℕ) → rest ≡ r ∷ rs → hi < 2 ^ 64 → IsWithin 0 rest hi
+    → All EndFits (r ∷ rs)
+all-end r rs rest hi is h w = ends-fit 0 (r ∷ rs) hi h (subst (λ (l : Runs). IsWithin 0 l hi) is w)

@@ -12,25 +12,30 @@ use Rattle.frame_rewrite.specs.SpelledFrames.{is_key}
 use Rattle.frame_rewrite.proofs.Appends.{pos-true, pos-false}
 
 -- a key that passes the test is the key
-parts : (a b c d : Bool) → (a && b && c && d) ≡ true → (a ≡ true) × (b ≡ true) × (c ≡ true) × (d ≡ true)
-parts true true true true e = (refl, refl, refl, refl)
-parts true true true false e = absurd (cc)
-parts true true false d e = absurd (cc)
-parts true false c d e = absurd (cc)
-parts false b c d e = absurd (cc)
+parts : (a b c d f : Bool) → (a && b && c && d && f) ≡ true
+    → (a ≡ true) × (b ≡ true) × (c ≡ true) × (d ≡ true) × (f ≡ true)
+parts true true true true true e = (refl, refl, refl, refl, refl)
+parts true true true true false e = absurd (cc)
+parts true true true false f e = absurd (cc)
+parts true true false d f e = absurd (cc)
+parts true false c d f e = absurd (cc)
+parts false b c d f e = absurd (cc)
 
 same-key : (a b : CieKey) → is_key a b ≡ true → b ≡ a
 same-key a b e =
-    let p = parts (a.ra == b.ra) (a.handler == b.handler) (beq a.indirect b.indirect) (beq a.signal b.signal) e in
+    let p = parts (a.ra == b.ra) (a.handler == b.handler) (beq a.indirect b.indirect) (beq a.signal b.signal)
+    (beq a.tabled b.tabled) e in
     let r : b.ra ≡ a.ra = grind (arith, nat_tests, p.0) in
     let h : b.handler ≡ a.handler = grind (arith, nat_tests, p.1) in
     let d : b.indirect ≡ a.indirect = sym (bool_is a.indirect b.indirect p.2) in
     let s : b.signal ≡ a.signal = sym (bool_is a.signal b.signal p.3) in
+    let t : b.tabled ≡ a.tabled = sym (bool_is a.tabled b.tabled p.4) in
     λ i. record {
       ra = r i;
       handler = h i;
       indirect = d i;
       signal = s i;
+      tabled = t i;
     }
 
 key-first : (b : Bool) (k x : CieKey) (xs : List CieKey) → is_key k x ≡ b

@@ -131,7 +131,7 @@ pub key-itself : (k : CieKey) → is_key k k ≡ true
 key-itself k =
     let r : (k.ra == k.ra) ≡ true = grind (arith, nat_tests) in
     let h : (k.handler == k.handler) ≡ true = grind (arith, nat_tests) in
-    rw (r, h, one-itself k.indirect, one-itself k.signal) refl
+    rw (r, h, one-itself k.indirect, one-itself k.signal, one-itself k.tabled) refl
 
 module _ (ys : List CieKey) where
   abbrev at : CieKey → ℕ

@@ -11,7 +11,7 @@ use Rattle.answer_runs.specs.AnswerRuns.{IsWithin, run_at, carried}
 use Rattle.cfi_rows.specs.Entries.{Fde, Frames, WalkedEntries, frames}
 use Rattle.frame_rewrite.specs.declared.cie_key.CieKey.{CieKey}
 use Rattle.frame_rewrite.specs.FrameAnswers.{FrameAnswer}
-use Rattle.frame_rewrite.specs.SpelledFits.{KeyFits, IsReached, IsSpelled}
+use Rattle.frame_rewrite.specs.SpelledFits.{KeyFits, IsReached, IsSpelled, RunAscends}
 use Rattle.frame_rewrite.specs.SpelledFrames.{start_of, fde_body, fde_entries, more_count, cie_size, cie_entries, table_entries}
 use Rattle.frame_rewrite.specs.SpelledFrames.{spelled_entry, spelled_entries}
 use Rattle.frame_rewrite.specs.Tables.{EndsWithMark, run_size}
@@ -93,10 +93,10 @@ count-of spans keys runs bytes address f w r s =
     subst (λ (n : ℕ). n ≤ length runs) (sym read) (made-count spans (length runs) (cie_size * length keys) runs)
 
 -- the whole table, and its index
-pub size-of : (spans : List Span) (keys : List CieKey) (runs : Runs) (bytes : List ℕ) (cies : ℕ) → length keys ≤ cies
-    → IsSpelled false spans keys runs bytes
+pub size-of : (spans : List Span) (keys : List CieKey) (runs : Runs) (bytes : List ℕ) (cies : ℕ) → length keys ≤ 2 * cies
+    → All RunAscends runs → IsSpelled false spans keys runs bytes
     → length bytes + 8 * length runs ≤ 16 + 64 * cies + sum_by (λ (r : Run FrameAnswer). run_size r.answer) runs
-size-of spans keys runs bytes cies few s =
+size-of spans keys runs bytes cies few ascend s =
     let whole = s.bytes_are ∙ ap (λ (l : List ℕ). l ++ (0 ∷ 0 ∷ 0 ∷ 0 ∷ []))
     (flat_map-append spelled_entry (cie_entries false 0 keys)
     (fde_entries false spans keys (length runs) (cie_size * length keys) runs)) in
@@ -105,8 +105,8 @@ size-of spans keys runs bytes cies few s =
     (fde_entries false spans keys (length runs) (cie_size * length keys) runs)) (0 ∷ 0 ∷ 0 ∷ 0 ∷ []))
     (length-append (spelled_entries (cie_entries false 0 keys))
     (spelled_entries (fde_entries false spans keys (length runs) (cie_size * length keys) runs)))
-    (cies-long false 0 keys) refl few (fdes-size false spans keys (length runs) (cie_size * length keys) runs) where
-      sums : (t u c f four k cies n total : ℕ) → t ≡ u + four → u ≡ c + f → c ≡ 32 * k → four ≡ 4 → k ≤ cies
+    (cies-long false 0 keys) refl few (fdes-size false spans keys (length runs) (cie_size * length keys) runs ascend) where
+      sums : (t u c f four k cies n total : ℕ) → t ≡ u + four → u ≡ c + f → c ≡ 32 * k → four ≡ 4 → k ≤ 2 * cies
           → f + 8 * n ≤ total → t + 8 * n ≤ 16 + 64 * cies + total
       sums t u c f four k cies n total a b d e h g = omega arith
 

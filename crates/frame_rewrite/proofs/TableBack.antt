@@ -1,7 +1,7 @@
 -- The entries of a table that is written are read back.
 use Rattle.std.proofs.Common.{ℕ, zero, suc, zero-add, ◌+◌, ◌-◌, ◌*◌, ◌^◌, ◌≤◌, ◌<◌, ◌≡◌, ◌==◌, List, [], ◌∷◌, ◌++◌, Option, Some, None}
 use Rattle.std.proofs.Common.{Result, Ok, leb, Bool, true, false, refl, sym, ◌∙◌, ap, subst, arith, length, take, drop}
-use Rattle.std.specs.Prelude.{All, slice_get}
+use Rattle.std.specs.Prelude.{All, slice_get, if◌then◌else◌}
 use Rattle.std.specs.List.{find}
 use Rattle.std.proofs.lemmas.Bool.Decides.{nat_tests}
 use Rattle.std.proofs.lemmas.List.Elements.{All-head, All-tail, All-drop}
@@ -16,13 +16,13 @@ use Rattle.cfi_rows.specs.Entries.{frames_from, frames, WalkedEntries}
 use Rattle.frame_rewrite.specs.declared.cie_key.CieKey.{CieKey}
 use Rattle.frame_rewrite.specs.FrameAnswers.{FrameAnswer}
 use Rattle.frame_rewrite.specs.SpelledFits.{KeyFits, Writes, WritesAll}
-use Rattle.frame_rewrite.specs.SpelledFrames.{key_of, zeros, cie_body, cie_text, cie_nops, cie_size, cie_entry, cie_entries, fde_body}
+use Rattle.frame_rewrite.specs.SpelledFrames.{key_of, is_plain, plain_body, full_body, cie_body, cie_text, cie_code, cie_size, cie_entry, cie_entries, fde_body}
 use Rattle.frame_rewrite.specs.SpelledFrames.{fde_id, fde_entry, fde_entries, table_entries}
 use Rattle.frame_rewrite.specs.SpelledFrames.{spelled_entries, end_mark, start_of, last_end, more_count, key_index, handler_encoding}
 use Rattle.frame_rewrite.proofs.EntriesBack.{EntryFits, AreFrom, walked-back}
 use Rattle.frame_rewrite.proofs.CieBack.{cie_of, cie-back}
 use Rattle.frame_rewrite.proofs.FdeBack.{fde_of, fde-back}
-use Rattle.frame_rewrite.proofs.RunGroups.{within-take, within-drop, last-le, le-last, starts-fit, follow}
+use Rattle.frame_rewrite.proofs.RunGroups.{within-take, within-drop, last-le, le-last, follow}
 use Rattle.byteorder.specs.Endian.{little_bytes}
 
 abbrev Runs : Type 0
@@ -31,11 +31,15 @@ Runs = List (Run FrameAnswer)
 -- The entries follow one another.
 
 pub cie-length : (k : CieKey) → length (cie_body k) ≡ 24
-cie-length k = sized k.signal where
-  sized : (signal : Bool) → length (1 ∷ (cie_text signal ++ (1 ∷ 1 ∷ k.ra ∷ 11 ∷ 0 ∷ handler_encoding k.indirect
-      ∷ (little_bytes 8 k.handler ++ (0 ∷ zeros (cie_nops signal)))))) ≡ 24
+cie-length k = by (is_plain k) where
+  sized : (signal : Bool) → length (1 ∷ (cie_text signal ++ (1 ∷ 0x7f ∷ k.ra ∷ 11 ∷ 0 ∷ handler_encoding k.indirect
+      ∷ (little_bytes 8 k.handler ++ (0 ∷ cie_code signal))))) ≡ 24
   sized true = refl
   sized false = refl
+
+  by : (b : Bool) → length (if b then plain_body k.ra else full_body k) ≡ 24
+  by true = refl
+  by false = sized k.signal
 
 cie-id-fits : (debug : Bool) → cie_id debug < 2 ^ 32
 cie-id-fits true = omega arith
@@ -188,11 +192,10 @@ fde-found debug address all keys spans place lo hi r more h f l w low within bef
     let ended : last_end (r.start + r.len) more ≤ hi = last-le (r.start + r.len) more hi within.2 in
     ap (λ (x : Result Cie Malformed). and_so x (λ cie. fde_at cie
     (end_of address (fde_entry debug spans keys place r more)) (fde_entry debug spans keys place r more))) c
-    ∙ fde-back spans (key_of spans r.answer) (end_of address (fde_entry debug spans keys place r more)) place
+    ∙ fde-back spans (end_of address (fde_entry debug spans keys place r more)) place
     (fde_id debug place (key_index spans keys r)) r more
     (least _ _ _ _ before later) (lower _ _ ended low) w.table w.row
-    (follow (start_of spans r) (r.start + r.len) more hi (near _ _ _ before) low within.2 w.rows)
-    (starts-fit (r.start + r.len) more hi low within.2) w.rows where
+    (follow (start_of spans r) (r.start + r.len) more hi (near _ _ _ before) low within.2 w.rows) w.near w.rows where
       least : (s a n e : ℕ) → s ≤ a → a + n ≤ e → s ≤ e
       least s a n e h l = omega arith
 

@@ -1,9 +1,9 @@
 -- The answers of runs are those of entries that were read.
-use Rattle.std.proofs.Common.{ℕ, ◌-◌, ◌^◌, ◌≤◌, ◌<◌, ◌≡◌, List, map, length, Bool, None, sym, subst, arith}
-use Rattle.std.specs.Prelude.{All, Contains}
-use Rattle.std.proofs.lemmas.List.{length-map}
+use Rattle.std.proofs.Common.{ℕ, suc, ◌-◌, ◌*◌, ◌^◌, ◌≤◌, ◌<◌, ◌≡◌, ◌==◌, ◌⊎◌, inl, inr, List, [], ◌∷◌, length, Bool, true, false, None, refl, sym, subst, arith}
+use Rattle.std.specs.Prelude.{All, Contains, not}
 use Rattle.std.proofs.lemmas.List.Elements.{All-contains}
-use Rattle.rb_bytes.proofs.ListLemmas.{all_of, in_map}
+use Rattle.rb_bytes.proofs.ListLemmas.{all_of}
+use Rattle.rb_bytes.proofs.Members.{Contains-nil, Contains-cons_cases, Contains-there}
 use Rattle.addr_map.specs.declared.span.Span.{Span}
 use Rattle.addr_map.specs.Spans.{new}
 use Rattle.answer_runs.specs.declared.run.Run.{Run}
@@ -24,9 +24,39 @@ abbrev Runs : Type 0
 Runs = List (Run FrameAnswer)
 
 -- the kind of frame of a CIE's entries
-abbrev kind_of : List Span → Cie → CieKey
-kind_of spans c =
-    record { ra = c.ra; handler = new spans c.augmentation.handler; indirect = c.augmentation.indirect; signal = c.augmentation.signal }
+abbrev kind_of : List Span → Bool → Cie → CieKey
+kind_of spans tabled c =
+    record {
+      ra = c.ra;
+      handler = new spans c.augmentation.handler;
+      indirect = c.augmentation.indirect;
+      signal = c.augmentation.signal;
+      tabled = tabled;
+    }
+
+-- kinds with an exception table, and without
+abbrev both_kinds : List Span → List Cie → List CieKey
+both_kinds spans [] = []
+both_kinds spans (c ∷ cs) = kind_of spans true c ∷ kind_of spans false c ∷ both_kinds spans cs
+
+in-kinds : (spans : List Span) (b : Bool) (cs : List Cie) (c : Cie) → Contains cs c → Contains (both_kinds spans cs) (kind_of spans b c)
+in-kinds spans b [] c h = absurd (Contains-nil c h)
+in-kinds spans b (x ∷ xs) c h = either (Contains-cons_cases x xs c h) (λ g. in-kinds spans b xs c g) where
+  here : (b : Bool) → Contains (both_kinds spans (x ∷ xs)) (kind_of spans b x)
+  here true = (0, omega arith, refl)
+  here false = (1, omega arith, refl)
+
+  either : (x ≡ c) ⊎ Contains xs c → (Contains xs c → Contains (both_kinds spans xs) (kind_of spans b c))
+      → Contains (both_kinds spans (x ∷ xs)) (kind_of spans b c)
+  either (inl same) later = subst (λ (y : Cie). Contains (both_kinds spans (x ∷ xs)) (kind_of spans b y)) same (here b)
+  either (inr there) later = Contains-there (kind_of spans true x) (kind_of spans false x ∷ both_kinds spans xs) (kind_of spans b c)
+      (Contains-there (kind_of spans false x) (both_kinds spans xs) (kind_of spans b c) (later there))
+
+length-kinds : (spans : List Span) (cs : List Cie) → length (both_kinds spans cs) ≡ 2 * length cs
+length-kinds spans [] = refl
+length-kinds spans (c ∷ cs) = more _ _ (length-kinds spans cs) where
+  more : (n m : ℕ) → n ≡ 2 * m → suc (suc n) ≡ 2 * suc m
+  more n m e = omega arith
 
 module _ (debug : Bool) (is_marked : Fde → Bool) (section : Held) (spans : List Span) (runs : Runs)
     (within : IsWithin 0 runs (2 ^ 64 - 1))
@@ -46,26 +76,32 @@ module _ (debug : Bool) (is_marked : Fde → Bool) (section : Held) (spans : Lis
       (All-contains FdeReturns (frames_of debug section).list t.fde (frames-return debug section.address section.bytes h) t.in_list))
 
   abbrev kinds : List CieKey
-  kinds = map (kind_of spans) (cies_of debug section.address (walked_entries debug section.bytes).entries)
+  kinds = both_kinds spans (cies_of debug section.address (walked_entries debug section.bytes).entries)
 
   same-kind : (p : ℕ) (a : FrameAnswer) → (t : Answered is_marked (frames_of debug section).list spans p a) →
-      key_of spans a ≡ kind_of spans t.fde.cie
+      key_of spans a ≡ kind_of spans (not (a.table == 0)) t.fde.cie
   same-kind p a t =
-      λ i. record { ra = t.ra i; handler = new spans (t.handler i); indirect = t.indirect i; signal = t.signal i }
+      λ i. record {
+        ra = t.ra i;
+        handler = new spans (t.handler i);
+        indirect = t.indirect i;
+        signal = t.signal i;
+        tabled = not (a.table == 0);
+      }
 
   all-kinds : All (λ (r : Run FrameAnswer). Contains kinds (key_of spans r.answer)) runs
   all-kinds = all_of (λ (r : Run FrameAnswer). Contains kinds (key_of spans r.answer)) runs (λ r c. let t = told r c in
       subst (Contains kinds) (sym (same-kind r.start r.answer t))
-      (in_map (kind_of spans) (cies_of debug section.address (walked_entries debug section.bytes).entries) t.fde.cie
+      (in-kinds spans (not (r.answer.table == 0)) (cies_of debug section.address (walked_entries debug section.bytes).entries) t.fde.cie
       (All-contains (HasCie debug section.address (walked_entries debug section.bytes).entries) (frames_of debug section).list t.fde
       (read-cies debug section.address section.bytes) t.in_list)))
 
-  -- as many kinds as there are CIEs serve
+  -- two kinds for each CIE serve
   pub few-kinds : (frames_of debug section).bad ≡ None → (keys : List CieKey)
       → ((ks : List CieKey) → All (λ (r : Run FrameAnswer). Contains ks (key_of spans r.answer)) runs → length keys ≤ length ks)
-      → length keys ≤ (frames_of debug section).cies
+      → length keys ≤ 2 * (frames_of debug section).cies
   few-kinds sound keys few =
       let n = few kinds all-kinds in
-      let l = length-map (cies_of debug section.address (walked_entries debug section.bytes).entries) (kind_of spans) in
+      let l = length-kinds spans (cies_of debug section.address (walked_entries debug section.bytes).entries) in
       let m = count-cies debug section.address section.bytes sound in
       omega (arith, n, l, m)

@@ -23,7 +23,7 @@ use Rattle.frame_rewrite.specs.Faults.{IsFrameFault}
 use Rattle.frame_rewrite.specs.declared.debug.DebugFrames.{DebugFrames}
 use Rattle.frame_rewrite.specs.FrameAnswers.{FrameAnswer, answer_at, is_marked_by, is_never_marked}
 use Rattle.frame_rewrite.specs.Index.{AreApart, AreFilled, ShareNoAddress}
-use Rattle.frame_rewrite.specs.SpelledFits.{KeyFits, IsReached, IsSpelled}
+use Rattle.frame_rewrite.specs.SpelledFits.{KeyFits, IsReached, IsSpelled, RunAscends}
 use Rattle.frame_rewrite.specs.Tables.{answers, DebugMakes, EhMakes, MovesWhole, run_size, eh_says, debug_says, EhAllows}
 use Rattle.frame_rewrite.proofs.ApartEntries.{Alike, all-alike, written-apart, written-filled}
 use Rattle.frame_rewrite.proofs.EntrySizes.{least-total}
@@ -95,18 +95,18 @@ nothing-apart debug at bytes e = subst (λ (x : Frames). AreApart x.list) (sym (
     (λ i j d less inside. absurd (omega arith))
 
 pub makes : (t : EhFrames) (spans : List Span) (keys : List CieKey) (runs : Runs) (w : Written) → All KeyFits keys
-    → IsWithin 0 runs (2 ^ 64 - 1)
+    → IsWithin 0 runs (2 ^ 64 - 1) → All RunAscends runs
     → ((p : ℕ) → run_at runs p ≡ carried (eh_says t) spans p) → All (IsReached spans runs) runs
-    → (AreApart (read_as t.frames).list → All (Alike spans runs) runs) → length keys ≤ (read_as t.frames).cies
+    → (AreApart (read_as t.frames).list → All (Alike spans runs) runs) → length keys ≤ 2 * (read_as t.frames).cies
     → t.has_section ≡ true → IsSpelled false spans keys runs w.bytes.items → w.lists.items ≡ [] → EhMakes t spans runs w
-makes t spans keys runs w f within a r alike few there s lists =
+makes t spans keys runs w f within ascend a r alike few there s lists =
     record {
       sound = λ at. ap (λ (x : Frames). x.bad) (reads-as false spans keys runs w.bytes.items at f within r s);
       starts = λ at. starts-in (eh_says t) spans keys runs w.bytes.items at f within a r s;
       filled = λ at. written-filled false spans keys runs w.bytes.items at f within r s;
       apart = λ apart at. written-apart false spans keys runs w.bytes.items at f within r (alike apart) s;
       count = λ at. count-of spans keys runs w.bytes.items at f within r s;
-      size = size-of spans keys runs w.bytes.items (read_as t.frames).cies few s;
+      size = size-of spans keys runs w.bytes.items (read_as t.frames).cies few ascend s;
       ends = λ _. ends-with spans keys runs w.bytes.items s;
       nothing = λ none. absurd (clash t.has_section there none);
       lists = lists;

@@ -1,5 +1,5 @@
 -- What fits the fields of a written frame table.
-use Rattle.std.specs.Prelude.{◌≡◌, ℕ, ◌+◌, ◌*◌, ◌++◌, ◌^◌, ◌<◌, ◌≤◌, Bool, List, [], ◌∷◌, All, length, take, drop}
+use Rattle.std.specs.Prelude.{◌≡◌, ℕ, ◌+◌, ◌-◌, ◌*◌, ◌++◌, ◌^◌, ◌<◌, ◌≤◌, Bool, List, [], ◌∷◌, All, length, take, drop}
 use Rattle.std.specs.Prelude.{FitsSigned, Some, slice_get, IsSome}
 use Rattle.std.specs.Int.{w64}
 use Rattle.addr_map.specs.declared.span.Span.{Span}
@@ -50,6 +50,16 @@ RunAscends r = Ascend 0 r.answer.row.rules
 abbrev pub RunReturns : Run FrameAnswer → Type 0
 RunReturns r = r.answer.ra < 256
 
+-- each run begins where the one before does, or behind that, from an address on
+abbrev pub IsAbove : ℕ → List (Run FrameAnswer) → Type 0
+IsAbove at [] = Unit {0}
+IsAbove at (r ∷ rs) = (at ≤ r.start) × IsAbove r.start rs
+
+-- each run begins less than 2 ^ 32 behind the one before
+abbrev pub Near : ℕ → List (Run FrameAnswer) → Type 0
+Near at [] = Unit {0}
+Near at (r ∷ rs) = (r.start - at < 2 ^ 32) × Near r.start rs
+
 -- an entry at an offset: its fields fit, and its CIE is the one that its answers need
 pub record Writes (spans : List Span) (keys : List CieKey) (place : ℕ) (r : Run FrameAnswer)
     (more : List (Run FrameAnswer)) : Type 0 where
@@ -59,6 +69,7 @@ pub record Writes (spans : List Span) (keys : List CieKey) (place : ℕ) (r : Ru
   pub table : r.answer.table < 2 ^ 64
   pub row : RowFits r.answer.row
   pub rows : All (λ (q : Run FrameAnswer). RowFits q.answer.row) more
+  pub near : Near (start_of spans r) more
 
 unfoldable pub WritesAll : List Span → List CieKey → ℕ → ℕ → List (Run FrameAnswer) → Type 0
 WritesAll spans keys n place [] = Unit {0}

@@ -1,13 +1,16 @@
 -- How a frame table is written: one CIE for each kind of frame, and then the FDEs. All pointers are absolute, so the
 -- bytes don't depend on the address of the section. LSB, "The .eh_frame section"; DWARF 5, sections 6.4.1, 6.4.2 and
 -- 7.24.
-use Rattle.std.specs.Prelude.{ℕ, zero, suc, ◌+◌, ◌-◌, ◌*◌, ◌%◌, ◌==◌, ◌&&◌, ◌++◌, Bool, true, false, not, cond, List}
-use Rattle.std.specs.Prelude.{[], ◌∷◌}
+use Rattle.std.specs.Prelude.{ℕ, zero, suc, ℤ, pos, ◌+◌, ◌-◌, ◌*◌, ◌%◌, ◌==◌, ◌&&◌, ◌++◌, Bool, true, false, not, cond, List}
+use Rattle.std.specs.Prelude.{[], ◌∷◌, Option, Some, None, is_some}
 use Rattle.std.specs.Bool.{beq}
-use Rattle.std.specs.Prelude.{length, take, drop, flat_map, map, nat_lt, if◌then◌else◌}
+use Rattle.std.specs.Int.{w64, cast_unsigned, int_wrapping_neg}
+use Rattle.std.specs.Ordering.{int_eq}
+use Rattle.std.specs.Str.{bytes_eq}
+use Rattle.std.specs.Prelude.{length, take, drop, filter, flat_map, map, nat_lt, if◌then◌else◌}
 use Rattle.std.specs.List.{position_or_len, list_all}
 use Rattle.byteorder.specs.Endian.{little_bytes}
-use Rattle.rb_bytes.specs.Leb.{uleb, sleb}
+use Rattle.rb_bytes.specs.Leb.{uleb}
 use Rattle.addr_map.specs.declared.span.Span.{Span}
 use Rattle.addr_map.specs.Spans.{new}
 use Rattle.answer_runs.specs.declared.run.Run.{Run}
@@ -16,31 +19,51 @@ use Rattle.cfi_rows.specs.declared.row.Cfa.{Cfa}
 use Rattle.cfi_rows.specs.declared.row.Cfa.TheVariants.{Reg, Expr}
 use Rattle.cfi_rows.specs.declared.row.Rule.{Rule}
 use Rattle.cfi_rows.specs.declared.row.Rule.TheVariants as rule
-use Rattle.cfi_rows.specs.declared.instruction.TheConstants.{DW_CFA_set_loc, DW_CFA_undefined, DW_CFA_same_value}
+use Rattle.cfi_rows.specs.declared.instruction.TheConstants.{DW_CFA_nop, DW_CFA_advance_loc, DW_CFA_advance_loc1, DW_CFA_advance_loc2}
+use Rattle.cfi_rows.specs.declared.instruction.TheConstants.{DW_CFA_advance_loc4, DW_CFA_undefined, DW_CFA_same_value}
 use Rattle.cfi_rows.specs.declared.instruction.TheConstants.{DW_CFA_register, DW_CFA_remember_state, DW_CFA_restore}
-use Rattle.cfi_rows.specs.declared.instruction.TheConstants.{DW_CFA_restore_state}
-use Rattle.cfi_rows.specs.declared.instruction.TheConstants.{DW_CFA_def_cfa_expression, DW_CFA_expression}
-use Rattle.cfi_rows.specs.declared.instruction.TheConstants.{DW_CFA_offset_extended_sf, DW_CFA_def_cfa_sf}
-use Rattle.cfi_rows.specs.declared.instruction.TheConstants.{DW_CFA_val_offset_sf, DW_CFA_val_expression}
-use Rattle.cfi_rows.specs.FrameRows.{RowValue, Rules}
+use Rattle.cfi_rows.specs.declared.instruction.TheConstants.{DW_CFA_restore_state, DW_CFA_def_cfa, DW_CFA_def_cfa_offset}
+use Rattle.cfi_rows.specs.declared.instruction.TheConstants.{DW_CFA_def_cfa_expression, DW_CFA_expression, DW_CFA_offset}
+use Rattle.cfi_rows.specs.declared.instruction.TheConstants.{DW_CFA_offset_extended, DW_CFA_val_offset, DW_CFA_val_expression}
+use Rattle.cfi_rows.specs.FrameRows.{RowValue, Rules, Known, rule_of}
 use Rattle.cfi_rows.specs.Entries.{RawEntry, cie_id, letter_z, letter_R, letter_P, letter_L, letter_S}
 use Rattle.frame_rewrite.specs.declared.cie_key.CieKey.{CieKey}
 use Rattle.frame_rewrite.specs.FrameAnswers.{FrameAnswer}
 
--- Rows. Both factors are 1.
+-- Rows. The code factor is 1, and the data factor -1: registers are saved below the frame address.
 
 abbrev pub spelled_block : List ℕ → List ℕ
 spelled_block b = uleb (length b) ++ b
 
+-- an offset as an operand, of 64 bits, and one that is counted down from the frame address
+abbrev pub up : ℤ → ℕ
+up n = cast_unsigned w64 n
+
+abbrev pub down : ℤ → ℕ
+down n = cast_unsigned w64 (int_wrapping_neg w64 n)
+
 abbrev pub spelled_cfa : Cfa → List ℕ
-spelled_cfa (Reg r offset) = DW_CFA_def_cfa_sf ∷ (uleb r ++ sleb offset)
+spelled_cfa (Reg r n) = DW_CFA_def_cfa ∷ (uleb r ++ uleb (up n))
 spelled_cfa (Expr b) = DW_CFA_def_cfa_expression ∷ spelled_block b
+
+-- the frame address behind another one, if that is known: where the register stays, only the offset is said
+abbrev pub spelled_cfa_from : Option Cfa → Cfa → List ℕ
+spelled_cfa_from None cfa = spelled_cfa cfa
+spelled_cfa_from (Some (Expr c)) cfa = spelled_cfa cfa
+spelled_cfa_from (Some (Reg q m)) (Expr b) = spelled_cfa (Expr b)
+spelled_cfa_from (Some (Reg q m)) (Reg r n) =
+    if q == r then (if int_eq m n then [] else DW_CFA_def_cfa_offset ∷ uleb (up n)) else spelled_cfa (Reg r n)
+
+-- a register is saved at an offset; one of the first 64 stands in the opcode
+abbrev pub spelled_saved : ℕ → ℕ → List ℕ
+spelled_saved r n =
+    if nat_lt r 64 then (DW_CFA_offset * 64 + r) ∷ uleb n else DW_CFA_offset_extended ∷ (uleb r ++ uleb n)
 
 abbrev pub spelled_rule : ℕ → Rule → List ℕ
 spelled_rule r rule.Undefined = DW_CFA_undefined ∷ uleb r
 spelled_rule r rule.Same = DW_CFA_same_value ∷ uleb r
-spelled_rule r (rule.Offset n) = DW_CFA_offset_extended_sf ∷ (uleb r ++ sleb n)
-spelled_rule r (rule.ValOffset n) = DW_CFA_val_offset_sf ∷ (uleb r ++ sleb n)
+spelled_rule r (rule.Offset n) = spelled_saved r (down n)
+spelled_rule r (rule.ValOffset n) = DW_CFA_val_offset ∷ (uleb r ++ uleb (down n))
 spelled_rule r (rule.Reg q) = DW_CFA_register ∷ (uleb r ++ uleb q)
 spelled_rule r (rule.Expr b) = DW_CFA_expression ∷ (uleb r ++ spelled_block b)
 spelled_rule r (rule.ValExpr b) = DW_CFA_val_expression ∷ (uleb r ++ spelled_block b)
@@ -48,34 +71,74 @@ spelled_rule r (rule.ValExpr b) = DW_CFA_val_expression ∷ (uleb r ++ spelled_b
 abbrev pub spelled_rules : Rules → List ℕ
 spelled_rules rules = flat_map (λ x. spelled_rule x.0 x.1) rules
 
--- a whole row, from a state in which no register has a rule
-abbrev pub spelled_row : RowValue → List ℕ
-spelled_row row = spelled_cfa row.cfa ++ spelled_rules row.rules
-
--- all rules are of the first 64 registers, which an opcode has room for
+-- all rules are of the integer registers
 abbrev pub are_low : Rules → Bool
-are_low rules = list_all (λ x. nat_lt x.0 64) rules
+are_low rules = list_all (λ x. nat_lt x.0 32) rules
 
 -- each register gets back the rule that it had first, which is none
 abbrev pub spelled_restores : Rules → List ℕ
 spelled_restores rules = map (λ x. DW_CFA_restore * 64 + x.0) rules
 
-abbrev pub spelled_location : ℕ → List ℕ
-spelled_location location = DW_CFA_set_loc ∷ little_bytes 8 location
+abbrev pub same_rule : Rule → Rule → Bool
+same_rule rule.Undefined rule.Undefined = true
+same_rule rule.Same rule.Same = true
+same_rule (rule.Offset a) (rule.Offset b) = int_eq a b
+same_rule (rule.ValOffset a) (rule.ValOffset b) = int_eq a b
+same_rule (rule.Reg a) (rule.Reg b) = a == b
+same_rule (rule.Expr a) (rule.Expr b) = bytes_eq a b
+same_rule (rule.ValExpr a) (rule.ValExpr b) = bytes_eq a b
+same_rule _ _ = false
 
--- A row behind which another begins at a location, from a state in which no register has a rule. Where registers are
--- low their rules are taken back, and where one isn't the state before the row is remembered: that takes an unwinder
--- longer.
-abbrev pub spelled_row_before : RowValue → ℕ → List ℕ
-spelled_row_before row location =
-    if are_low row.rules
-    then spelled_row row ++ (spelled_location location ++ spelled_restores row.rules)
-    else DW_CFA_remember_state ∷ (spelled_row row ++ (spelled_location location ++ DW_CFA_restore_state ∷ []))
+-- a rule that a register has is gone where it has none any more, and it is another than the one before, if there was one
 
--- the rows of an entry: the first one, and those of the runs behind its first
-abbrev pub spelled_rows : RowValue → List (Run FrameAnswer) → List ℕ
-spelled_rows row [] = spelled_row row
-spelled_rows row (r ∷ rs) = spelled_row_before row r.start ++ spelled_rows r.answer.row rs
+abbrev pub gone_by : Option Rule → Bool
+gone_by new = not (is_some new)
+
+abbrev pub other_by : Option Rule → Rule → Bool
+other_by None v = true
+other_by (Some old) v = not (same_rule old v)
+
+abbrev pub gone_rules : (old new : Rules) → Rules
+gone_rules old new = filter (λ x. gone_by (rule_of x.0 new)) old
+
+abbrev pub other_rules : (old new : Rules) → Rules
+other_rules old new = filter (λ x. other_by (rule_of x.0 old) x.1) new
+
+abbrev pub spelled_other : (old : Rules) → ℕ → Rule → List ℕ
+spelled_other old r v = if other_by (rule_of r old) v then spelled_rule r v else []
+
+-- what leads from what is known to a row
+abbrev pub spelled_change : Known → RowValue → List ℕ
+spelled_change known row =
+    spelled_cfa_from known.cfa row.cfa
+    ++ (spelled_restores (gone_rules known.rules row.rules) ++ spelled_rules (other_rules known.rules row.rules))
+
+-- the location moves on, by the shortest instruction
+abbrev pub spelled_advance : ℕ → List ℕ
+spelled_advance n =
+    if nat_lt n 64 then (DW_CFA_advance_loc * 64 + n) ∷ []
+    else (if nat_lt n 256 then DW_CFA_advance_loc1 ∷ n ∷ []
+    else (if nat_lt n 65536 then DW_CFA_advance_loc2 ∷ little_bytes 2 n else DW_CFA_advance_loc4 ∷ little_bytes 4 n))
+
+abbrev pub known_by : RowValue → Known
+known_by row = record { cfa = Some row.cfa; rules = row.rules }
+
+-- a row behind which the location moves on, and what is known then: what was known before, where the row has a rule of
+-- a register that isn't low, so that what is known always takes a byte a rule to take back
+
+abbrev pub spelled_row_before : Known → RowValue → ℕ → List ℕ
+spelled_row_before known row n =
+    if are_low row.rules then spelled_change known row ++ spelled_advance n
+    else DW_CFA_remember_state ∷ (spelled_change known row ++ (spelled_advance n ++ DW_CFA_restore_state ∷ []))
+
+abbrev pub known_behind : Known → RowValue → Known
+known_behind known row = if are_low row.rules then known_by row else known
+
+-- the rows of an entry, from what is known at a location on: the first one, and those of the runs behind its first
+abbrev pub spelled_rows : Known → ℕ → RowValue → List (Run FrameAnswer) → List ℕ
+spelled_rows known at row [] = spelled_change known row
+spelled_rows known at row (r ∷ rs) =
+    spelled_row_before known row (r.start - at) ++ spelled_rows (known_behind known row) r.start r.answer.row rs
 
 -- Entries, each behind its length and its id
 
@@ -94,7 +157,13 @@ zeros (suc n) = 0 ∷ zeros n
 
 -- the kind of frame that an answer needs: what its CIE says
 abbrev pub key_of : List Span → FrameAnswer → CieKey
-key_of spans x = record { ra = x.ra; handler = new spans x.handler; indirect = x.indirect; signal = x.signal }
+key_of spans x = record {
+  ra = x.ra;
+  handler = new spans x.handler;
+  indirect = x.indirect;
+  signal = x.signal;
+  tabled = not (x.table == 0);
+}
 
 abbrev pub handler_encoding : Bool → ℕ
 handler_encoding true = DW_EH_PE_indirect_absptr
@@ -105,16 +174,41 @@ abbrev pub cie_text : (signal : Bool) → List ℕ
 cie_text false = letter_z ∷ letter_R ∷ letter_P ∷ letter_L ∷ 0 ∷ []
 cie_text true = letter_z ∷ letter_R ∷ letter_P ∷ letter_L ∷ letter_S ∷ 0 ∷ []
 
-abbrev pub cie_nops : (signal : Bool) → ℕ
-cie_nops false = 3
-cie_nops true = 2
+-- Where a function begins the frame address is the stack pointer. The frame of a signal handler isn't found so.
+abbrev pub first_cfa : (signal : Bool) → Option Cfa
+first_cfa false = Some (Reg 2 (pos 0))
+first_cfa true = None
 
--- version 1, the text, both factors 1, the register, and 11 bytes of augmentation data
-abbrev pub cie_body : CieKey → List ℕ
-cie_body k =
+abbrev pub first_known : (signal : Bool) → Known
+first_known signal = record { cfa = first_cfa signal; rules = [] }
+
+-- what is known behind a row, if there was one
+abbrev pub known_of : (signal : Bool) → Option RowValue → Known
+known_of signal None = first_known signal
+known_of signal (Some row) = known_by row
+
+-- the instructions that say so, or DW_CFA_nop
+abbrev pub cie_code : (signal : Bool) → List ℕ
+cie_code false = DW_CFA_def_cfa ∷ 2 ∷ 0 ∷ []
+cie_code true = DW_CFA_nop ∷ DW_CFA_nop ∷ []
+
+-- a kind of frame without a handler, a signal mark and a table needs no augmentation
+abbrev pub is_plain : CieKey → Bool
+is_plain k = (k.handler == 0) && not k.indirect && not k.signal && not k.tabled
+
+-- version 1, an empty text, the factors 1 and -1, the register, and the instructions
+abbrev pub plain_body : ℕ → List ℕ
+plain_body ra = 1 ∷ 0 ∷ 1 ∷ 0x7f ∷ ra ∷ DW_CFA_def_cfa ∷ 2 ∷ 0 ∷ zeros 16
+
+-- version 1, the text, the factors 1 and -1, the register, 11 bytes of augmentation data, and the instructions
+abbrev pub full_body : CieKey → List ℕ
+full_body k =
     1 ∷ (cie_text k.signal
-    ++ (1 ∷ 1 ∷ k.ra ∷ 11 ∷ DW_EH_PE_absptr ∷ handler_encoding k.indirect
-    ∷ (little_bytes 8 k.handler ++ (DW_EH_PE_absptr ∷ zeros (cie_nops k.signal)))))
+    ++ (1 ∷ 0x7f ∷ k.ra ∷ 11 ∷ DW_EH_PE_absptr ∷ handler_encoding k.indirect
+    ∷ (little_bytes 8 k.handler ++ (DW_EH_PE_absptr ∷ cie_code k.signal))))
+
+abbrev pub cie_body : CieKey → List ℕ
+cie_body k = if is_plain k then plain_body k.ra else full_body k
 
 abbrev pub cie_size : ℕ
 cie_size = 32
@@ -126,18 +220,22 @@ abbrev pub cie_entries : (debug : Bool) → ℕ → List CieKey → List RawEntr
 cie_entries debug i [] = []
 cie_entries debug i (k ∷ ks) = cie_entry debug i k ∷ cie_entries debug (i + 1) ks
 
--- FDEs, each of a group of runs. The range of an entry that is marked begins where its start went, and the runs of
--- one such entry that follow one another are a group; every other run is one of its own.
+-- FDEs, each of a group of runs: of one that begins, and those behind it that touch one another and are answered by the
+-- same entry. The range of an entry that is marked begins where its start went.
 
-abbrev pub continues : Run FrameAnswer → Run FrameAnswer → Bool
-continues r q =
-    r.answer.marked && q.answer.marked && (r.answer.start == q.answer.start) && (r.answer.table == q.answer.table)
+abbrev pub is_alike : Run FrameAnswer → Run FrameAnswer → Bool
+is_alike r q =
+    beq r.answer.marked q.answer.marked && (r.answer.start == q.answer.start) && (r.answer.table == q.answer.table)
     && (r.answer.ra == q.answer.ra) && (r.answer.handler == q.answer.handler)
     && beq r.answer.indirect q.answer.indirect && beq r.answer.signal q.answer.signal
 
--- how many of the runs behind one are of its group
+-- how many of the runs behind one are of its group, of which the runs so far end at an address
+abbrev pub count_on : ℕ → Run FrameAnswer → List (Run FrameAnswer) → ℕ
+count_on end r [] = 0
+count_on end r (q ∷ qs) = cond ((q.start == end) && is_alike r q) (suc (count_on (q.start + q.len) r qs)) 0
+
 abbrev pub more_count : Run FrameAnswer → List (Run FrameAnswer) → ℕ
-more_count r rs = position_or_len (λ q. not (continues r q)) rs
+more_count r rs = count_on (r.start + r.len) r rs
 
 abbrev pub start_of : List Span → Run FrameAnswer → ℕ
 start_of spans r = cond r.answer.marked (new spans r.answer.start) r.start
@@ -151,17 +249,24 @@ last_end end (r ∷ rs) = last_end (r.start + r.len) rs
 abbrev pub padding : ℕ → ℕ
 padding n = 7 - (n % 8 + 7) % 8
 
+-- what an entry has of its exception table
+abbrev pub spelled_table : (plain : Bool) → ℕ → List ℕ
+spelled_table true table = []
+spelled_table false table = 8 ∷ little_bytes 8 table
+
 abbrev pub fde_fields : List Span → Run FrameAnswer → List (Run FrameAnswer) → List ℕ
 fde_fields spans r more =
     little_bytes 8 (start_of spans r)
     ++ (little_bytes 8 (last_end (r.start + r.len) more - start_of spans r)
-    ++ (8 ∷ (little_bytes 8 r.answer.table ++ spelled_rows r.answer.row more)))
+    ++ (spelled_table (is_plain (key_of spans r.answer)) r.answer.table
+    ++ spelled_rows (first_known r.answer.signal) (start_of spans r) r.answer.row more))
 
 abbrev pub fde_body : List Span → Run FrameAnswer → List (Run FrameAnswer) → List ℕ
 fde_body spans r more = let fields = fde_fields spans r more in fields ++ zeros (padding (length fields))
 
 abbrev pub is_key : CieKey → CieKey → Bool
 is_key a b = (a.ra == b.ra) && (a.handler == b.handler) && beq a.indirect b.indirect && beq a.signal b.signal
+    && beq a.tabled b.tabled
 
 abbrev pub key_index : List Span → List CieKey → Run FrameAnswer → ℕ
 key_index spans keys r = position_or_len (is_key (key_of spans r.answer)) keys

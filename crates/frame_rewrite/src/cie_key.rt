@@ -1,6 +1,6 @@
 // The kinds of frames, for each of which one CIE is written.
 ghost use Rattle.std.specs.Prelude.{◌≡◌, ◌<◌, ◌^◌};
-ghost use Rattle.frame_rewrite.specs.SpelledFrames.{key_of};
+ghost use Rattle.frame_rewrite.specs.SpelledFrames.{key_of, is_plain};
 
 use crate::answer::FrameAt;
 use addr_map::AddrMap;
@@ -13,6 +13,8 @@ pub struct CieKey {
     pub handler: u64,
     pub indirect: bool,
     pub signal: bool,
+    /// Whether the entry has an exception table.
+    pub tabled: bool,
 }
 
 /// The kind of frame that an answer needs.
@@ -25,5 +27,13 @@ pub(crate) fn key_of(map: &AddrMap, answer: &FrameAt) -> CieKey
         handler: map.new_address(answer.handler),
         indirect: answer.indirect,
         signal: answer.signal,
+        tabled: answer.table != 0,
     }
+}
+
+/// Whether a kind of frame needs no augmentation: it has no handler, no signal mark and no table.
+pub(crate) fn is_plain(key: &CieKey) -> bool
+    ensures { result ≡ is_plain key.now }
+{
+    key.handler == 0 && !key.indirect && !key.signal && !key.tabled
 }

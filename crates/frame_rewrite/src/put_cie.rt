@@ -4,9 +4,10 @@ ghost use Rattle.cfi_rows.specs.Entries as entries;
 ghost use Rattle.frame_rewrite.specs.SpelledFrames as spec;
 ghost use Rattle.frame_rewrite.specs.SpelledFits.{KeyFits};
 
-use crate::cie_key::CieKey;
+use crate::cie_key::{CieKey, is_plain};
 use crate::spelling::{put_byte, put_bytes, put_zeros};
 use cfi_rows::encoding::{DW_EH_PE_absptr, DW_EH_PE_indirect_absptr};
+use cfi_rows::instruction::{DW_CFA_def_cfa, DW_CFA_nop};
 use rb_bytes::fault::NoMemory;
 use rb_bytes::little::{put_u32, put_u64};
 
@@ -16,7 +17,10 @@ const VERSION: u8 = 1;
 // What advances of the location, and offsets of saved registers, are multiples of.
 const CODE_ALIGNMENT_FACTOR: u8 = 1;
 
-const DATA_ALIGNMENT_FACTOR: u8 = 1;
+// (-1 as a signed number)
+const DATA_ALIGNMENT_FACTOR: u8 = 0x7f;
+
+const STACK_POINTER: u8 = 2;
 
 // How many bytes a CIE's augmentation has: how addresses, the handler's and those of exception tables are encoded, and
 // the handler's address.
@@ -67,16 +71,21 @@ fn handler_encoding(indirect: bool) -> u8
     }
 }
 
-fn cie_nops(signal: bool) -> usize
-    ensures { result ≡ spec.cie_nops signal }
+// Appends the instructions of a CIE: that the frame address is the stack pointer, or ones that do nothing.
+fn put_code(out: &mut Vec<u8>, signal: bool) -> Result<(), NoMemory>
+    ensures { OnOk result (out.new.items ≡ out.old.items ++ spec.cie_code signal) }
 {
-    if signal { 2 } else { 3 }
+    if signal {
+        put_bytes(out, &[DW_CFA_nop as u8, DW_CFA_nop as u8])
+    } else {
+        put_bytes(out, &[DW_CFA_def_cfa as u8, STACK_POINTER, 0])
+    }
 }
 
-// Appends the body of a CIE, which has 24 bytes, with DW_CFA_nop for instructions.
-fn put_cie(out: &mut Vec<u8>, key: &CieKey) -> Result<(), NoMemory>
+// Appends the body of a CIE with an augmentation.
+fn put_full(out: &mut Vec<u8>, key: &CieKey) -> Result<(), NoMemory>
     requires { key.now.ra < 256 }
-    ensures { OnOk result (out.new.items ≡ out.old.items ++ spec.cie_body key.now) }
+    ensures { OnOk result (out.new.items ≡ out.old.items ++ spec.full_body key.now) }
 {
     put_byte(out, VERSION)?;
     put_text(out, key.signal)?;
@@ -93,8 +102,39 @@ fn put_cie(out: &mut Vec<u8>, key: &CieKey) -> Result<(), NoMemory>
     )?;
     put_u64(out, key.handler)?;
     put_byte(out, DW_EH_PE_absptr as u8)?;
-    put_zeros(out, cie_nops(key.signal))?;
-    Ok(())
+    put_code(out, key.signal)
+}
+
+// Appends the body of a CIE without one.
+fn put_plain(out: &mut Vec<u8>, ra: u64) -> Result<(), NoMemory>
+    requires { ra < 256 }
+    ensures { OnOk result (out.new.items ≡ out.old.items ++ spec.plain_body ra) }
+{
+    put_bytes(
+        out,
+        &[
+            VERSION,
+            0,
+            CODE_ALIGNMENT_FACTOR,
+            DATA_ALIGNMENT_FACTOR,
+            ra as u8,
+            DW_CFA_def_cfa as u8,
+            STACK_POINTER,
+            0,
+        ],
+    )?;
+    put_zeros(out, 16)
+}
+
+// Appends the body of a CIE, which has 24 bytes.
+fn put_cie(out: &mut Vec<u8>, key: &CieKey) -> Result<(), NoMemory>
+    requires { key.now.ra < 256 }
+    ensures { OnOk result (out.new.items ≡ out.old.items ++ spec.cie_body key.now) }
+{
+    if is_plain(key) {
+        return put_plain(out, key.ra);
+    }
+    put_full(out, key)
 }
 
 // The id by which an entry is a CIE.

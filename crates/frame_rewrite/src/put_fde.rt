@@ -4,14 +4,15 @@ ghost use Rattle.std.specs.Prelude.{length, slice_get};
 ghost use Rattle.std.specs.List.{position_or_len};
 ghost use Rattle.answer_runs.specs.AnswerRuns.{IsWithin};
 ghost use Rattle.frame_rewrite.specs.SpelledFrames as spec;
-ghost use Rattle.frame_rewrite.specs.SpelledFits.{RowFits, RunAscends, Writes, WritesAll, EndFits};
+ghost use Rattle.frame_rewrite.specs.SpelledFits.{RowFits, RunAscends, Writes, WritesAll, EndFits, Near, IsAbove};
 
 use crate::answer::FrameAt;
-use crate::cie_key::{CieKey, key_of};
+use crate::cie_key::{CieKey, is_plain, key_of};
 use crate::put_cie::put_entry;
-use crate::spelling::{put_byte, put_row, put_row_before, put_zeros};
+use crate::spelling::{known_behind, put_byte, put_change, put_row_before, put_zeros};
 use addr_map::AddrMap;
 use answer_runs::Run;
+use cfi_rows::Row;
 use indexmap::IndexSet;
 use rb_bytes::fault::NoMemory;
 use rb_bytes::little::put_u64;
@@ -25,13 +26,12 @@ const AUGMENTATION_SIZE: u8 = 8;
 // The last place at which an entry may begin, so that distances in the table fit four bytes.
 const MAX_PLACE: usize = 0xffff_0000;
 
-// Whether a run goes on in the entry of the run `first`, so that both get one FDE: both are of the same marked entry.
-fn continues(first: &Run<FrameAt>, next: &Run<FrameAt>) -> bool
-    ensures { result ≡ spec.continues first.now next.now }
+// Whether two runs are answered by the same entry, so that both can be in one FDE.
+fn is_alike(first: &Run<FrameAt>, next: &Run<FrameAt>) -> bool
+    ensures { result ≡ spec.is_alike first.now next.now }
 {
     let (first, next) = (&first.answer, &next.answer);
-    first.marked
-        && next.marked
+    first.marked == next.marked
         && first.start == next.start
         && first.table == next.table
         && first.ra == next.ra
@@ -40,15 +40,18 @@ fn continues(first: &Run<FrameAt>, next: &Run<FrameAt>) -> bool
         && first.signal == next.signal
 }
 
-// How many of the runs behind `first` go on in its entry.
+// How many of the runs behind `first` touch it, or one another, and go on in its entry.
 fn more_count(first: &Run<FrameAt>, others: &[Run<FrameAt>]) -> usize
+    requires { All EndFits (first.now ∷ others.now) }
     ensures count { result ≡ spec.more_count first.now others.now }
     ensures within { result ≤ length others.now }
 {
+    let mut end = first.start + first.len;
     for (i, next) in others.iter().enumerate() {
-        if !continues(first, next) {
+        if next.start != end || !is_alike(first, next) {
             return i;
         }
+        end = next.start + next.len;
     }
     others.len()
 }
@@ -76,19 +79,64 @@ fn group_end(first: &Run<FrameAt>, more: &[Run<FrameAt>]) -> u64
     end
 }
 
+// The row that a run answers.
+fn row_of<'x>(run: &'x Run<FrameAt>) -> &'x Row
+    ensures { result.now ≡ run.now.answer.row }
+{
+    &run.answer.row
+}
+
+fn run_start(run: &Run<FrameAt>) -> u64
+    ensures { result ≡ run.now.start }
+{
+    run.start
+}
+
+fn is_signal(run: &Run<FrameAt>) -> bool
+    ensures { result ≡ run.now.answer.signal }
+{
+    run.answer.signal
+}
+
 // Appends the rows of a group of runs, each from the start of its run on; the first one holds from the start of the
 // range.
-fn put_rows(out: &mut Vec<u8>, first: &Run<FrameAt>, more: &[Run<FrameAt>]) -> Result<(), NoMemory>
-    requires { All RunAscends (first.now ∷ more.now) }
-    ensures written { OnOk result (out.new.items ≡ out.old.items ++ spec.spelled_rows first.now.answer.row more.now) }
+fn put_rows<'x>(
+    out: &mut Vec<u8>,
+    start: u64,
+    first: &'x Run<FrameAt>,
+    more: &'x [Run<FrameAt>],
+) -> Result<(), NoMemory>
+    requires ascend { All RunAscends (first.now ∷ more.now) }
+    requires follow { IsAbove start more.now }
+    ensures written { OnOk result (out.new.items ≡ out.old.items
+        ++ spec.spelled_rows (spec.first_known first.now.answer.signal) start first.now.answer.row more.now) }
     ensures fits { OnOk result (All (λ r. RowFits r.answer.row) (first.now ∷ more.now)) }
+    ensures near { OnOk result (Near start more.now) }
 {
-    let mut last = first;
+    let signal = is_signal(first);
+    let mut known = None;
+    let mut last = row_of(first);
+    let mut at = start;
     for run in more {
-        put_row_before(out, &last.answer.row, run.start)?;
-        last = run;
+        let next = run_start(run);
+        put_row_before(out, signal, known, last, next - at)?;
+        known = known_behind(signal, known, last);
+        last = row_of(run);
+        at = next;
     }
-    put_row(out, &last.answer.row)
+    put_change(out, signal, known, last)
+}
+
+// Appends what an entry has of its exception table.
+fn put_table(out: &mut Vec<u8>, plain: bool, table: u64) -> Result<(), NoMemory>
+    ensures written { OnOk result (out.new.items ≡ out.old.items ++ spec.spelled_table plain table) }
+    ensures table { table < 2 ^ 64 }
+{
+    if plain {
+        return Ok(());
+    }
+    put_byte(out, AUGMENTATION_SIZE)?;
+    put_u64(out, table)
 }
 
 // Appends the range of an FDE, its exception table and its rows.
@@ -101,17 +149,22 @@ fn put_fields(
     requires ends { All EndFits (first.now ∷ more.now) }
     requires ascend { All RunAscends (first.now ∷ more.now) }
     requires start { spec.start_of map.now first.now ≤ spec.last_end (first.now.start + first.now.len) more.now }
+    requires follow { IsAbove (spec.start_of map.now first.now) more.now }
     ensures written { OnOk result (out.new.items ≡ out.old.items ++ spec.fde_fields map.now first.now more.now) }
     ensures table { OnOk result (first.now.answer.table < 2 ^ 64) }
     ensures row { OnOk result (RowFits first.now.answer.row) }
     ensures rows { OnOk result (All (λ r. RowFits r.answer.row) more.now) }
+    ensures near { OnOk result (Near (spec.start_of map.now first.now) more.now) }
 {
     let start = start_of(map, first);
     put_u64(out, start)?;
     put_u64(out, group_end(first, more) - start)?;
-    put_byte(out, AUGMENTATION_SIZE)?;
-    put_u64(out, first.answer.table)?;
-    put_rows(out, first, more)
+    put_table(
+        out,
+        is_plain(&key_of(map, &first.answer)),
+        first.answer.table,
+    )?;
+    put_rows(out, start, first, more)
 }
 
 // Appends as many zero bytes (DW_CFA_nop) as make the length a multiple of 8.
@@ -161,6 +214,7 @@ fn put_fde(
     requires ends { All EndFits (first.now ∷ more.now) }
     requires ascend { All RunAscends (first.now ∷ more.now) }
     requires start { spec.start_of map.now first.now ≤ spec.last_end (first.now.start + first.now.len) more.now }
+    requires follow { IsAbove (spec.start_of map.now first.now) more.now }
     ensures written { OnOk result (out.new.items ≡ out.old.items
         ++ spec.spelled_entry (spec.fde_entry debug map.now keys.now.keys (length out.old.items) first.now more.now)) }
     ensures writes { OnOk result (Writes map.now keys.now.keys (length out.old.items) first.now more.now) }

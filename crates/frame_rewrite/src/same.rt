@@ -1,12 +1,15 @@
 // Whether two answers say the same.
 ghost use Rattle.std.specs.Prelude.{◌≡◌, ◌↔◌, IsTrue};
+ghost use Rattle.std.specs.Str.{bytes_eq};
+ghost use Rattle.frame_rewrite.specs.SpelledFrames.{same_rule};
 
 use crate::answer::FrameAt;
 use cfi_rows::row::Expression;
 use cfi_rows::{Cfa, Row, Rule};
 
 fn same_expression(x: &Expression, y: &Expression) -> bool
-    ensures { IsTrue result ↔ (x.now ≡ y.now) }
+    ensures is { result ≡ bytes_eq x.now y.now }
+    ensures same { IsTrue result ↔ (x.now ≡ y.now) }
 {
     x.bytes == y.bytes
 }
@@ -28,8 +31,10 @@ fn same_cfa(x: &Cfa, y: &Cfa) -> bool
     }
 }
 
-fn same_rule(x: &Rule, y: &Rule) -> bool
-    ensures { IsTrue result ↔ (x.now ≡ y.now) }
+/// Whether two rules say the same.
+pub(crate) fn same_rule(x: &Rule, y: &Rule) -> bool
+    ensures is { result ≡ same_rule x.now y.now }
+    ensures same { IsTrue result ↔ (x.now ≡ y.now) }
 {
     match (x, y) {
         (Rule::Undefined, Rule::Undefined) => true,

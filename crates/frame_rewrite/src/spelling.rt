@@ -1,20 +1,24 @@
 // How rows are spelled as call frame instructions. DWARF 5, section 6.4.2.
-ghost use Rattle.std.specs.Prelude.{◌≡◌, ◌<◌, ◌^◌, ◌++◌, ◌∷◌, [], IsTrue, OnOk};
-ghost use Rattle.rb_bytes.specs.Leb.{uleb, sleb};
+ghost use Rattle.std.specs.Prelude.{◌≡◌, ◌<◌, ◌^◌, ◌++◌, ◌∷◌, [], Some, FitsSigned, IsTrue, OnOk, option_map};
+ghost use Rattle.std.specs.Int.{w64};
+ghost use Rattle.rb_bytes.specs.Leb.{uleb};
+ghost use Rattle.cfi_rows.specs.FrameRows.{rule_of};
 ghost use Rattle.cfi_rows.specs.RuleEntries.{Ascend};
 ghost use Rattle.frame_rewrite.specs.SpelledFrames as spec;
 ghost use Rattle.frame_rewrite.specs.SpelledFits.{CfaFits, RuleFits, RulesFit, RowFits};
 
+use crate::same::same_rule;
 use cfi_rows::instruction::{
-    DW_CFA_def_cfa_expression, DW_CFA_def_cfa_sf, DW_CFA_expression, DW_CFA_offset_extended_sf,
-    DW_CFA_register, DW_CFA_remember_state, DW_CFA_restore, DW_CFA_restore_state,
-    DW_CFA_same_value, DW_CFA_set_loc, DW_CFA_undefined, DW_CFA_val_expression,
-    DW_CFA_val_offset_sf,
+    DW_CFA_advance_loc, DW_CFA_advance_loc1, DW_CFA_advance_loc2, DW_CFA_advance_loc4,
+    DW_CFA_def_cfa, DW_CFA_def_cfa_expression, DW_CFA_def_cfa_offset, DW_CFA_expression,
+    DW_CFA_offset, DW_CFA_offset_extended, DW_CFA_register, DW_CFA_remember_state, DW_CFA_restore,
+    DW_CFA_restore_state, DW_CFA_same_value, DW_CFA_undefined, DW_CFA_val_expression,
+    DW_CFA_val_offset,
 };
 use cfi_rows::row::{Cfa, Expression, Row, Rule};
 use rb_bytes::fault::NoMemory;
-use rb_bytes::leb::{put_sleb, put_uleb};
-use rb_bytes::little::put_u64;
+use rb_bytes::leb::put_uleb;
+use rb_bytes::little::{put_u16, put_u32};
 
 pub(crate) fn put_byte(out: &mut Vec<u8>, b: u8) -> Result<(), NoMemory>
     ensures { OnOk result (out.new.items ≡ out.old.items ++ b ∷ []) }
@@ -28,14 +32,6 @@ pub(crate) fn put_bytes(out: &mut Vec<u8>, bytes: &[u8]) -> Result<(), NoMemory>
 {
     out.extend_from_slice(bytes)?;
     Ok(())
-}
-
-// Appends a signed number. It has the one clause that is needed here: with all of those of `put_sleb`, the prover's
-// searches give up.
-fn put_signed(out: &mut Vec<u8>, n: i64) -> Result<(), NoMemory>
-    ensures { OnOk result (out.new.items ≡ out.old.items ++ sleb n) }
-{
-    put_sleb(out, n)
 }
 
 // Appends an expression behind its length.
@@ -54,20 +50,79 @@ fn put_register(out: &mut Vec<u8>, opcode: u8, register: u64) -> Result<(), NoMe
     put_uleb(out, register)
 }
 
+// The operand of an offset that is counted down from the frame address.
+fn down(offset: i64) -> u64
+    ensures { result ≡ spec.down offset }
+{
+    offset.wrapping_neg().cast_unsigned()
+}
+
+// Appends an offset as an operand.
+fn put_up(out: &mut Vec<u8>, offset: i64) -> Result<(), NoMemory>
+    ensures { OnOk result (out.new.items ≡ out.old.items ++ uleb (spec.up offset)) }
+{
+    put_uleb(out, offset.cast_unsigned())
+}
+
+// Appends an offset that is counted down.
+fn put_down(out: &mut Vec<u8>, offset: i64) -> Result<(), NoMemory>
+    ensures { OnOk result (out.new.items ≡ out.old.items ++ uleb (spec.down offset)) }
+{
+    put_uleb(out, down(offset))
+}
+
 fn put_cfa(out: &mut Vec<u8>, cfa: &Cfa) -> Result<(), NoMemory>
     ensures spelled { OnOk result (out.new.items ≡ out.old.items ++ spec.spelled_cfa cfa.now) }
     ensures fits { OnOk result (CfaFits cfa.now) }
 {
     match cfa {
         Cfa::Reg { reg, offset } => {
-            put_register(out, DW_CFA_def_cfa_sf as u8, *reg)?;
-            put_signed(out, *offset)
+            put_register(out, DW_CFA_def_cfa as u8, *reg)?;
+            put_up(out, *offset)
         }
         Cfa::Expr(block) => {
             put_byte(out, DW_CFA_def_cfa_expression as u8)?;
             put_block(out, block)
         }
     }
+}
+
+// Appends what leads from a frame address to the next.
+fn put_cfa_from(out: &mut Vec<u8>, known: &Cfa, cfa: &Cfa) -> Result<(), NoMemory>
+    ensures spelled { OnOk result (out.new.items ≡ out.old.items ++ spec.spelled_cfa_from (Some known.now) cfa.now) }
+    ensures fits { OnOk result (CfaFits cfa.now) }
+{
+    match (known, cfa) {
+        (
+            Cfa::Reg {
+                reg: from,
+                offset: before,
+            },
+            Cfa::Reg { reg, offset },
+        ) => {
+            if *from != *reg {
+                return put_cfa(out, cfa);
+            }
+            if *before == *offset {
+                return Ok(());
+            }
+            put_byte(out, DW_CFA_def_cfa_offset as u8)?;
+            put_up(out, *offset)
+        }
+        (Cfa::Expr(_), _) => put_cfa(out, cfa),
+        (Cfa::Reg { reg: _, offset: _ }, Cfa::Expr(_)) => put_cfa(out, cfa),
+    }
+}
+
+fn put_saved(out: &mut Vec<u8>, register: u64, operand: u64) -> Result<(), NoMemory>
+    ensures { OnOk result (out.new.items ≡ out.old.items ++ spec.spelled_saved register operand) }
+{
+    if register < 64 {
+        put_byte(out, (DW_CFA_offset * 64 + register) as u8)?;
+    } else {
+        put_register(out, DW_CFA_offset_extended as u8, register)?;
+    }
+    put_uleb(out, operand)
 }
 
 fn put_rule(out: &mut Vec<u8>, register: u64, rule: &Rule) -> Result<(), NoMemory>
@@ -78,13 +133,10 @@ fn put_rule(out: &mut Vec<u8>, register: u64, rule: &Rule) -> Result<(), NoMemor
     match rule {
         Rule::Undefined => put_register(out, DW_CFA_undefined as u8, register),
         Rule::Same => put_register(out, DW_CFA_same_value as u8, register),
-        Rule::Offset(offset) => {
-            put_register(out, DW_CFA_offset_extended_sf as u8, register)?;
-            put_signed(out, *offset)
-        }
+        Rule::Offset(offset) => put_saved(out, register, down(*offset)),
         Rule::ValOffset(offset) => {
-            put_register(out, DW_CFA_val_offset_sf as u8, register)?;
-            put_signed(out, *offset)
+            put_register(out, DW_CFA_val_offset as u8, register)?;
+            put_down(out, *offset)
         }
         Rule::Reg(other) => {
             put_register(out, DW_CFA_register as u8, register)?;
@@ -101,69 +153,215 @@ fn put_rule(out: &mut Vec<u8>, register: u64, rule: &Rule) -> Result<(), NoMemor
     }
 }
 
-// Appends the rules of a row.
-fn put_rules(out: &mut Vec<u8>, rules: &[(u64, Rule)]) -> Result<(), NoMemory>
-    requires { Ascend 0 rules.now }
-    ensures spelled { OnOk result (out.new.items ≡ out.old.items ++ spec.spelled_rules rules.now) }
-    ensures fits { OnOk result (RulesFit 0 rules.now) }
+// The rule of a register among rules, if it has one.
+fn rule_in(rules: &[(u64, Rule)], register: u64) -> Option<&Rule>
+    ensures { option_map (λ r. r.now) result ≡ rule_of register rules.now }
 {
-    for (register, rule) in rules {
-        put_rule(out, *register, rule)?;
+    for (other, rule) in rules {
+        if *other == register {
+            return Some(rule);
+        }
     }
-    Ok(())
+    None
 }
 
-// Whether all rules are of registers below 64, which DW_CFA_restore has room for in its opcode.
-fn are_low(rules: &[(u64, Rule)]) -> bool
+fn fits_number(n: u64)
+    ensures { n < 2 ^ 64 }
+{}
+
+fn fits_signed(n: i64)
+    ensures { FitsSigned w64 n }
+{}
+
+// Does nothing. Its clauses tell the prover, where it is called, that a rule fits its fields.
+fn fits(register: u64, rule: &Rule)
+    ensures fits { RuleFits rule.now }
+    ensures register { register < 2 ^ 64 }
+{
+    match rule {
+        Rule::Undefined => (),
+        Rule::Same => (),
+        Rule::Offset(offset) => fits_signed(*offset),
+        Rule::ValOffset(offset) => fits_signed(*offset),
+        Rule::Reg(other) => fits_number(*other),
+        Rule::Expr(block) => {
+            block.bytes.len();
+        }
+        Rule::ValExpr(block) => {
+            block.bytes.len();
+        }
+    }
+}
+
+// Whether a register has another rule than before, or one at all.
+fn is_other(old: &[(u64, Rule)], register: u64, rule: &Rule) -> bool
+    ensures { result ≡ spec.other_by (rule_of register old.now) rule.now }
+{
+    match rule_in(old, register) {
+        Some(before) => !same_rule(before, rule),
+        None => true,
+    }
+}
+
+// Whether all rules are of the integer registers.
+pub(crate) fn are_low(rules: &[(u64, Rule)]) -> bool
     ensures { result ≡ spec.are_low rules.now }
 {
-    rules.iter().all(|rule| rule.0 < 64)
+    rules.iter().all(|rule| rule.0 < 32)
 }
 
-// Takes the rules of a row back, by one byte each.
-fn put_restores(out: &mut Vec<u8>, rules: &[(u64, Rule)]) -> Result<(), NoMemory>
-    requires { IsTrue (spec.are_low rules.now) }
-    ensures { OnOk result (out.new.items ≡ out.old.items ++ spec.spelled_restores rules.now) }
+// Takes back, by one byte each, the rules that are gone.
+fn put_restores(out: &mut Vec<u8>, old: &[(u64, Rule)], new: &[(u64, Rule)]) -> Result<(), NoMemory>
+    requires { IsTrue (spec.are_low old.now) }
+    ensures { OnOk result (out.new.items ≡ out.old.items ++ spec.spelled_restores (spec.gone_rules old.now new.now)) }
 {
-    for (register, _) in rules {
-        put_byte(out, (DW_CFA_restore * 64 + *register) as u8)?;
+    for (register, _) in old {
+        if rule_in(new, *register).is_none() {
+            put_byte(out, (DW_CFA_restore * 64 + *register) as u8)?;
+        }
     }
     Ok(())
 }
 
-fn put_location(out: &mut Vec<u8>, location: u64) -> Result<(), NoMemory>
-    ensures { OnOk result (out.new.items ≡ out.old.items ++ spec.spelled_location location) }
+// Appends a rule, if it is new or another.
+fn put_other(
+    out: &mut Vec<u8>,
+    old: &[(u64, Rule)],
+    register: u64,
+    rule: &Rule,
+) -> Result<(), NoMemory>
+    ensures spelled { OnOk result (out.new.items ≡ out.old.items ++ spec.spelled_other old.now register rule.now) }
+    ensures fits { RuleFits rule.now }
+    ensures register { register < 2 ^ 64 }
 {
-    put_byte(out, DW_CFA_set_loc as u8)?;
-    put_u64(out, location)
+    fits(register, rule);
+    if is_other(old, register, rule) {
+        return put_rule(out, register, rule);
+    }
+    Ok(())
 }
 
-/// Appends a whole row, from a state in which no register has a rule.
-pub(crate) fn put_row(out: &mut Vec<u8>, row: &Row) -> Result<(), NoMemory>
-    requires { Ascend 0 row.now.rules }
-    ensures spelled { OnOk result (out.new.items ≡ out.old.items ++ spec.spelled_row row.now) }
-    ensures fits { OnOk result (RowFits row.now) }
+// Appends the rules that are new or others.
+fn put_rules(out: &mut Vec<u8>, old: &[(u64, Rule)], new: &[(u64, Rule)]) -> Result<(), NoMemory>
+    requires { Ascend 0 new.now }
+    ensures spelled { OnOk result (out.new.items ≡ out.old.items ++ spec.spelled_rules (spec.other_rules old.now new.now)) }
+    ensures fits { OnOk result (RulesFit 0 new.now) }
 {
-    put_cfa(out, &row.cfa)?;
-    put_rules(out, &row.rules)
+    for (register, rule) in new {
+        put_other(out, old, *register, rule)?;
+    }
+    Ok(())
 }
 
-/// Appends a whole row, from a state in which no register has a rule; then the location at which the next row begins,
-/// and what leads back to such a state. The location comes first, since a row ends where the location moves.
-pub(crate) fn put_row_before(out: &mut Vec<u8>, row: &Row, location: u64) -> Result<(), NoMemory>
-    requires { Ascend 0 row.now.rules }
-    ensures spelled { OnOk result (out.new.items ≡ out.old.items ++ spec.spelled_row_before row.now location) }
+// Appends what leads from one row to the next.
+fn put_next(out: &mut Vec<u8>, known: &Row, row: &Row) -> Result<(), NoMemory>
+    requires low { IsTrue (spec.are_low known.now.rules) }
+    requires ascend { Ascend 0 row.now.rules }
+    ensures spelled { OnOk result (out.new.items ≡ out.old.items ++ spec.spelled_change (spec.known_by known.now) row.now) }
     ensures fits { OnOk result (RowFits row.now) }
+{
+    put_cfa_from(out, &known.cfa, &row.cfa)?;
+    put_restores(out, &known.rules, &row.rules)?;
+    put_rules(out, &known.rules, &row.rules)
+}
+
+// Appends what leads to a row from what is known behind its CIE.
+fn put_first(out: &mut Vec<u8>, signal: bool, row: &Row) -> Result<(), NoMemory>
+    requires { Ascend 0 row.now.rules }
+    ensures spelled { OnOk result (out.new.items ≡ out.old.items ++ spec.spelled_change (spec.first_known signal) row.now) }
+    ensures fits { OnOk result (RowFits row.now) }
+{
+    if signal {
+        put_cfa(out, &row.cfa)?;
+    } else {
+        put_cfa_from(out, &Cfa::Reg { reg: 2, offset: 0 }, &row.cfa)?;
+    }
+    put_rules(out, &[], &row.rules)
+}
+
+/// Appends what leads to a row from the one that is known, or from the CIE where none is.
+pub(crate) fn put_change(
+    out: &mut Vec<u8>,
+    signal: bool,
+    known: Option<&Row>,
+    row: &Row,
+) -> Result<(), NoMemory>
+    requires low { IsTrue (spec.are_low (spec.known_of signal (option_map (λ r. r.now) known)).rules) }
+    requires ascend { Ascend 0 row.now.rules }
+    ensures spelled { OnOk result (out.new.items ≡ out.old.items
+        ++ spec.spelled_change (spec.known_of signal (option_map (λ r. r.now) known.entry)) row.now) }
+    ensures fits { OnOk result (RowFits row.now) }
+{
+    match known {
+        Some(before) => put_next(out, before, row),
+        None => put_first(out, signal, row),
+    }
+}
+
+/// Appends that the location moves on. `NoMemory` is answered, too, where the distance doesn't fit four bytes.
+pub(crate) fn put_advance(out: &mut Vec<u8>, distance: u64) -> Result<(), NoMemory>
+    ensures spelled { OnOk result (out.new.items ≡ out.old.items ++ spec.spelled_advance distance) }
+    ensures near { OnOk result (distance < 2 ^ 32) }
+{
+    if distance < 64 {
+        return put_byte(out, (DW_CFA_advance_loc * 64 + distance) as u8);
+    }
+    if distance < 256 {
+        put_byte(out, DW_CFA_advance_loc1 as u8)?;
+        return put_byte(out, distance as u8);
+    }
+    if distance < 65536 {
+        put_byte(out, DW_CFA_advance_loc2 as u8)?;
+        return put_u16(out, distance as u16);
+    }
+    if distance >= 1 << 32 {
+        return Err(NoMemory);
+    }
+    put_byte(out, DW_CFA_advance_loc4 as u8)?;
+    put_u32(out, distance as u32)
+}
+
+/// Appends a row behind which the location moves on by a distance.
+pub(crate) fn put_row_before(
+    out: &mut Vec<u8>,
+    signal: bool,
+    known: Option<&Row>,
+    row: &Row,
+    distance: u64,
+) -> Result<(), NoMemory>
+    requires low { IsTrue (spec.are_low (spec.known_of signal (option_map (λ r. r.now) known)).rules) }
+    requires ascend { Ascend 0 row.now.rules }
+    ensures spelled { OnOk result (out.new.items ≡ out.old.items
+        ++ spec.spelled_row_before (spec.known_of signal (option_map (λ r. r.now) known.entry)) row.now distance) }
+    ensures fits { OnOk result (RowFits row.now) }
+    ensures near { OnOk result (distance < 2 ^ 32) }
 {
     if are_low(&row.rules) {
-        put_row(out, row)?;
-        put_location(out, location)?;
-        return put_restores(out, &row.rules);
+        put_change(out, signal, known, row)?;
+        return put_advance(out, distance);
     }
     put_byte(out, DW_CFA_remember_state as u8)?;
-    put_row(out, row)?;
-    put_location(out, location)?;
+    put_change(out, signal, known, row)?;
+    put_advance(out, distance)?;
     put_byte(out, DW_CFA_restore_state as u8)
+}
+
+/// The row that is known behind one: what was known before, where that has a rule of a register that isn't low.
+pub(crate) fn known_behind<'x>(
+    signal: bool,
+    known: Option<&'x Row>,
+    row: &'x Row,
+) -> Option<&'x Row>
+    requires { IsTrue (spec.are_low (spec.known_of signal (option_map (λ r. r.now) known)).rules) }
+    ensures is { spec.known_of signal (option_map (λ r. r.now) result)
+        ≡ spec.known_behind (spec.known_of signal (option_map (λ r. r.now) known.entry)) row.now }
+    ensures low { IsTrue (spec.are_low (spec.known_of signal (option_map (λ r. r.now) result)).rules) }
+{
+    if are_low(&row.rules) {
+        Some(row)
+    } else {
+        known
+    }
 }
 
 /// Appends zero bytes, which are instructions that do nothing (DW_CFA_nop).

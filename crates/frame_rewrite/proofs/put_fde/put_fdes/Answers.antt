@@ -4,10 +4,10 @@ use Rattle.std.specs.Prelude.{All}
 use Rattle.answer_runs.specs.declared.run.Run.{Run}
 use Rattle.answer_runs.specs.AnswerRuns.{IsWithin}
 use Rattle.frame_rewrite.specs.FrameAnswers.{FrameAnswer}
-use Rattle.frame_rewrite.specs.SpelledFits.{EndFits, RunAscends, Writes, WritesAll}
+use Rattle.frame_rewrite.specs.SpelledFits.{EndFits, IsAbove, RunAscends, Writes, WritesAll}
 use Rattle.frame_rewrite.specs.SpelledFrames.{more_count, start_of, last_end, spelled_entry, spelled_entries, fde_entry, fde_entries}
 use Rattle.frame_rewrite.proofs.EntrySteps.{no-entries, no-writes, out-of-fuel, out-of-writes, group-ends, group-start, group-more}
-use Rattle.frame_rewrite.proofs.EntrySteps.{writes-more, within-behind, before-behind, ascend-behind, group-ascends, longer}
+use Rattle.frame_rewrite.proofs.EntrySteps.{writes-more, within-behind, before-behind, ascend-behind, group-ascends, longer, group-above, all-end}
 use Rattle.frame_rewrite.proofs.TableBack.{Before}
 use Rattle.frame_rewrite.proofs.put_fde.put_fdes.Goals as goal
 
@@ -43,6 +43,16 @@ put_fde-requires-clause-start c =
     (group-start c.args.map.now c.more_count.result c.in-Some.first.now c.in-Some.others.now c.loop-count.rest.now
     (2 ^ 64 - 1) c.in-Some.ensures.cases.0
     c.loop-count.invariant.within c.loop-count.invariant.before)
+
+pub more_count-requires : goal.more_count-requires
+more_count-requires c = all-end c.in-Some.first.now c.in-Some.others.now c.loop-count.rest.now (2 ^ 64 - 1)
+    c.in-Some.ensures.cases.0 (omega arith) c.loop-count.invariant.within
+
+pub put_fde-requires-clause-follow : goal.put_fde-requires-clause-follow
+put_fde-requires-clause-follow c =
+    subst (IsAbove (start_of c.args.map.now c.in-Some.first.now)) (sym c.split_at.ensures.front)
+    (group-above c.args.map.now c.more_count.result c.in-Some.first.now c.in-Some.others.now c.loop-count.rest.now
+    (2 ^ 64 - 1) c.in-Some.ensures.cases.0 c.loop-count.invariant.within c.loop-count.invariant.before)
 
 pub put_fde-requires-clause-ascend : goal.put_fde-requires-clause-ascend
 put_fde-requires-clause-ascend c =

@@ -1,31 +1,16 @@
-use Rattle.std.proofs.Common.{◌∙◌, ◌+◌, ◌++◌, ◌∷◌, List, sym, subst, ap, arith}
+use Rattle.std.proofs.Common.{ℕ, ◌<◌, ◌^◌, ◌∙◌, ◌+◌, ◌-◌, ◌++◌, ◌∷◌, sym, subst, ap, arith, drop, option_map}
 use Rattle.std.proofs.lemmas.List.{get_or_default}
-use Rattle.std.proofs.lemmas.List.Elements.{All-get_or, All-more}
+use Rattle.std.proofs.lemmas.List.Elements.{All-more}
 use Rattle.std.proofs.lemmas.Result.{on_ok_weaker}
 use Rattle.answer_runs.specs.declared.run.Run.{Run}
 use Rattle.frame_rewrite.specs.FrameAnswers.{FrameAnswer}
-use Rattle.frame_rewrite.specs.SpelledFrames.{spelled_row, spelled_row_before, spelled_rows}
-use Rattle.frame_rewrite.specs.SpelledFits.{RowFits, RunAscends}
-use Rattle.frame_rewrite.proofs.Appends.{all-taken, past-end, item-behind, rows-more}
+use Rattle.frame_rewrite.specs.SpelledFrames.{known_of, spelled_row_before}
+use Rattle.frame_rewrite.specs.SpelledFits.{RowFits, IsAbove, Near}
+use Rattle.frame_rewrite.proofs.Appends.{all-taken, item-behind, rows-more, from-run, to-run}
 use Rattle.frame_rewrite.proofs.put_fde.put_rows.Goals as goal
 
 abbrev Fits : Run FrameAnswer → Type 0
 Fits r = RowFits r.answer.row
-
-pub put_row_before-requires : goal.put_row_before-requires
-put_row_before-requires c =
-    let first = c.args.first.now in
-    let more = c.args.more.now in
-    subst RunAscends (sym (c.last.view_is ∙ c.loop-run.invariant.last))
-    (All-get_or RunAscends (first ∷ more) c.loop-run.run-index first (let l = c.loop-run-test.true in omega arith) c.requires)
-
-pub put_row-requires : goal.put_row-requires
-put_row-requires c =
-    let first = c.args.first.now in
-    let more = c.args.more.now in
-    subst RunAscends (sym (c.last-2.view_is ∙ c.loop-run.invariant.last))
-    (All-get_or RunAscends (first ∷ more) c.loop-run.run-index first (let l = c.loop-run.auto.run-index-end in omega arith)
-    c.requires)
 
 pub loop-run-preserved : goal.loop-run-preserved
 loop-run-preserved c =
@@ -34,34 +19,36 @@ loop-run-preserved c =
     let out = c.loop-run.out.items in
     let i = c.loop-run.run-index in
     let run = c.run-item.result in
-    record {
-      written = rows-more out c.put_row_before.new.out.items _ c.loop-run.last.now run more i c.loop-run-test.true c.run-item.is
-          (c.in_ok-put_row_before.ensures.spelled
-          ∙ ap (λ (r : Run FrameAnswer). out ++ spelled_row_before r.answer.row run.start) c.last.view_is)
-          c.loop-run.invariant.written;
-      last = c.run-item.is ∙ get_or_default more i run first c.loop-run-test.true ∙ sym (item-behind first more i first);
-      fits = All-more Fits (first ∷ more) i first (let l = c.loop-run-test.true in omega arith) c.loop-run.invariant.fits
-          (subst Fits (c.last.view_is ∙ c.loop-run.invariant.last) c.in_ok-put_row_before.ensures.fits);
-    }
-
-pub returns-clause-written : goal.returns-clause-written
-returns-clause-written c =
-    let out = c.loop-run.out.items in
+    let at = c.run_start-next.ensures in
+    let row = c.row_of-last-in-loop-run.ensures in
     let last = c.loop-run.last.now in
-    on_ok_weaker c.put_row.result
-    (λ e. e ∙ ap (λ (r : Run FrameAnswer). out ++ spelled_row r.answer.row) c.last-2.view_is
-    ∙ ap (λ (l : List (Run FrameAnswer)). out ++ spelled_rows last.answer.row l)
-    (sym (past-end c.args.more.now c.loop-run.run-index c.loop-run-test.false))
-    ∙ c.loop-run.invariant.written)
-    c.put_row.ensures.spelled
+    let above = from-run (IsAbove c.loop-run.at) run run more i c.loop-run-test.true c.run-item.is c.loop-run.invariant.above in
+    record {
+      written = rw (c.known_behind-known.ensures.is, at, row)
+          (rows-more out c.put_row_before.new.out.items _ (known_of c.is_signal-signal.result (option_map (λ r. r.now) c.loop-run.known))
+          c.loop-run.at last run run more i c.loop-run-test.true c.run-item.is
+          (c.in_ok-put_row_before.ensures.spelled ∙ ap (λ (n : ℕ). out ++ spelled_row_before
+          (known_of c.is_signal-signal.result (option_map (λ r. r.now) c.loop-run.known)) last (n - c.loop-run.at)) at)
+          c.loop-run.invariant.written);
+      last = row ∙ ap (λ (r : Run FrameAnswer). r.answer.row)
+          (c.run-item.is ∙ get_or_default more i run first c.loop-run-test.true ∙ sym (item-behind first more i first));
+      low = c.known_behind-known.ensures.low;
+      above = rw at above.1;
+      near = λ near. c.loop-run.invariant.near (to-run (Near c.loop-run.at) run run more i c.loop-run-test.true c.run-item.is (
+        subst (λ (n : ℕ). n - c.loop-run.at < 2 ^ 32) at c.in_ok-put_row_before.ensures.near,
+        subst (λ (n : ℕ). Near n (drop (i + 1) more)) at near,
+      ));
+      fits = All-more Fits (first ∷ more) i first (let l = c.loop-run-test.true in omega arith) c.loop-run.invariant.fits
+          (subst RowFits c.loop-run.invariant.last c.in_ok-put_row_before.ensures.fits);
+    }
 
 pub returns-clause-fits : goal.returns-clause-fits
 returns-clause-fits c =
     let first = c.args.first.now in
     let more = c.args.more.now in
     let i = c.loop-run.run-index in
-    on_ok_weaker c.put_row.result
+    on_ok_weaker c.put_change.result
     (λ f. all-taken Fits (first ∷ more) (i + 1) (let l = c.loop-run-test.false in omega arith)
     (All-more Fits (first ∷ more) i first (let l = c.loop-run.auto.run-index-end in omega arith) c.loop-run.invariant.fits
-    (subst Fits (c.last-2.view_is ∙ c.loop-run.invariant.last) f)))
-    c.put_row.ensures.fits
+    (subst RowFits c.loop-run.invariant.last f)))
+    c.put_change.ensures.fits

@@ -37,7 +37,7 @@ itself : (k : CieKey) → ghosts.eq k k ≡ true
 itself k =
     let r : (k.ra == k.ra) ≡ true = grind (arith, nat_tests) in
     let h : (k.handler == k.handler) ≡ true = grind (arith, nat_tests) in
-    rw (r, h, bool_eq_equiv.refl k.indirect, bool_eq_equiv.refl k.signal) refl
+    rw (r, h, bool_eq_equiv.refl k.indirect, bool_eq_equiv.refl k.signal, bool_eq_equiv.refl k.tabled) refl
 
 pub returns-clause-few : goal.returns-clause-few
 returns-clause-few c = λ kinds all. few-keys ghosts.eq itself kinds _ (c.loop-run.invariant.among kinds all) c.loop-run.invariant.distinct

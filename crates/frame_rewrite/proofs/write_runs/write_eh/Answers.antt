@@ -52,7 +52,9 @@ returns-clause-made c =
     c.args.map.now c.args.runs.now c.requires.within c.requires.answers
     (ap (λ (s : SaidFrames). s.bad) c.args.table.now.frames.read ∙ c.args.table.now.sound) c.in_ok-keys.keys.keys c.in_ok-keys.ensures.few
     in
-    makes c.args.table.now c.args.map.now _ c.args.runs.now _ c.in_ok-keys.ensures.fits c.requires.within c.requires.answers
+    let ascend = all-ascend c.args.table.now.frames.debug (is_marked_by c.args.table.now.cuts.items)
+    (section_held c.args.table.now.frames) c.args.map.now c.args.runs.now c.requires.within c.requires.answers in
+    makes c.args.table.now c.args.map.now _ c.args.runs.now _ c.in_ok-keys.ensures.fits c.requires.within ascend c.requires.answers
     (eh-reached c.args.table.now c.args.map.now c.args.runs.now c.requires.allowed c.requires.within c.requires.answers)
     (eh-alike c.args.table.now c.args.map.now c.args.runs.now c.requires.allowed c.requires.within c.requires.answers)
     few c.if-not-table.false c.in_ok-bytes.ensures c.new-lists.ensures.items
