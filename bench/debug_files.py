@@ -7,10 +7,11 @@ import subprocess
 import sys
 import tempfile
 
-from frames import mend_tables
 from profiles import CROSS, output, spent
-from real_programs import (COMPILE, LAYOUTS, LINK, MACHINE, OF_LINKER, OWN_TABLES, PICOLIBC, PROGRAMS, TABLES,
+from real_programs import (COMPILE, EXAMPLES, LAYOUTS, LINK, MACHINE, OF_LINKER, OWN_TABLES, PICOLIBC, TABLES,
                            UNWINDING, call, linker_of)
+
+from frame_tables import mend_tables  # of tools/
 
 # GNU as writes frame tables that aren't as DWARF has them, so GCC writes its own.
 KINDS = {"gcc": [*OWN_TABLES, "-g"], "clang": [*TABLES, "-g"]}
@@ -35,7 +36,7 @@ def bare_libraries(folder, libraries):
 
 
 def build_with_tables(path, program, compiler, parts, level):
-    """Builds a program of `programs` with all debug tables of its own code."""
+    """Builds a program of `examples` with all debug tables of its own code."""
     front, libraries = parts
     folder = os.path.dirname(path)
     objects = []
@@ -45,7 +46,7 @@ def build_with_tables(path, program, compiler, parts, level):
         compiled = [word for word in COMPILE if word != "-g0"]
         include = ["-isystem", os.path.join(PICOLIBC, "include")]
         call([*front, *MACHINE, *compiled, *KINDS[compiler], *kind, level, *include, "-c",
-              os.path.join(PROGRAMS, source), "-o", objects[-1]])
+              os.path.join(EXAMPLES, source), "-o", objects[-1]])
     own_layout = OF_LINKER.get((compiler, "tables"), []) if program not in UNWINDING else []
     layout = [*LAYOUTS["tables"], *own_layout]
     call([*front, *MACHINE, "-nostdlib", *LINK, *layout, *linker_of(folder, program, compiler), *objects,

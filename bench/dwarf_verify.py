@@ -8,7 +8,9 @@ import re
 import subprocess
 import tempfile
 
-from frames import table_at
+import profiles  # noqa: F401, finds what follows
+
+from frame_tables import table_at  # of tools/
 from mend import CALL_SITE, declarations
 
 CALL_SITE_PARAMETER = 0x49

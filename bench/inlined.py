@@ -3,7 +3,7 @@
 
     python3 bench/inlined.py [--tool COMMAND] [--keep FOLDER] [--inputs] [PROGRAM..]
 
-Each program of `bench/programs` is compiled by GCC with GNU ld and by Clang with lld, at -O2 and -O3, with all
+Each program of `examples` is compiled by GCC with GNU ld and by Clang with lld, at -O2 and -O3, with all
 debug tables of its own code, and linked with libraries that have none. COMMAND (`./sudrepka` where it isn't given)
 records a short run of it and rewrites it by that profile; with --inputs it doesn't. `frames` is asked for each
 instruction of the input, and for the first and the last byte of what each became in the output. Then

@@ -4,7 +4,7 @@
     python3 bench/lookups.py [--tool COMMAND] [--keep FOLDER] [--inputs] [--every N] [PROGRAM..]
     python3 bench/lookups.py --large [--tool COMMAND] [--keep FOLDER] [MIB..]
 
-Each program of `bench/programs` is compiled by GCC with GNU ld and by Clang with lld, at -O2, with all debug tables
+Each program of `examples` is compiled by GCC with GNU ld and by Clang with lld, at -O2, with all debug tables
 and unwind tables of its own code, and linked with libraries that have no debug data. COMMAND (`./sudrepka` where it
 isn't given) records a short run of it and rewrites it by that profile; with --inputs it doesn't. `lookup` is asked
 for each instruction of the input, or for each Nth one, and for the first and the last byte of what each became in

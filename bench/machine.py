@@ -5,7 +5,7 @@
 
 Three executables are made in a temporary folder: a loop of ten million steps of arithmetic alone, one of which one step
 in four stores or loads eight bytes, all over 256 KiB, and one that stores 64 MiB once, eight bytes at a time. Where
-`riscv64-unknown-elf-gcc` and picolibc are there, a fourth is the C program `sorting` of `bench/programs`, of some 100
+`riscv64-unknown-elf-gcc` and picolibc are there, a fourth is the C program `sorting` of `examples`, of some 100
 million steps. Any other static executables for RV64IMC may be named; one that the symbol machine refuses, or is stuck
 in, has no line for it, and of one that doesn't end there is one line that says so. COMMAND stands for `./sudrepka`.
 
@@ -22,7 +22,7 @@ import subprocess
 import tempfile
 
 from profiles import built, spent
-from real_programs import PROGRAMS, ROOT, build, compilers
+from real_programs import EXAMPLES, ROOT, build, compilers
 
 CODE_ADDRESS, DATA_ADDRESS, DATA_SIZE = 0x100B0, 0x50000, 0x400_0000
 STEPS = ["--steps", "100000000000"]
@@ -151,7 +151,7 @@ def main():
         gcc = compilers().get("gcc")
         if gcc:
             path = os.path.join(folder, "sorting")
-            build(path, os.path.join(PROGRAMS, "sorting"), "gcc", gcc, "roomy", "-O2")
+            build(path, os.path.join(EXAMPLES, "sorting"), "gcc", gcc, "roomy", "-O2")
             compare(command, "sorting", path, ["6000"], given.runs)
     for path in given.files:
         compare(command, os.path.basename(path), path, [], given.runs)

@@ -1,5 +1,8 @@
 """What other scripts share: what commands take, runs on `qemu-riscv64`, by the addresses of instructions or under
-`gdb`, and profiles by `record`."""
+`gdb`, and profiles by `record`.
+
+A script that imports this module finds those of `tools/` too, so it comes before them.
+"""
 import os
 import shutil
 import subprocess
@@ -9,7 +12,10 @@ import threading
 import time
 import typing
 
-CROSS = "riscv64-unknown-elf-"
+sys.path.insert(0, os.path.join(os.path.dirname(os.path.dirname(os.path.abspath(__file__))), "tools"))
+
+from programs import CROSS, follow, output  # noqa: E402, F401, of tools/
+
 MOST_SECONDS = 600  # for a run that may not end
 GDB = ["gdb-multiarch", "-batch", "-nx", "-ex", "set confirm off", "-ex", "set width 0"]
 # Runs a command, and writes what it took into the descriptor that stands before it.
@@ -30,10 +36,6 @@ def want(*tools):
     for tool in tools:
         if not shutil.which(tool):
             sys.exit(f"there is no {tool}")
-
-
-def output(command):
-    return subprocess.run(command, capture_output=True, text=True, errors="replace", check=False).stdout
 
 
 class Spent(typing.NamedTuple):
@@ -76,26 +78,6 @@ def built(tool):
         sys.exit(f"{tool}: status {status}")
     program = os.path.join(os.path.dirname(os.path.realpath(found)), "crates", "bolt_cli", "out", "bolt_cli")
     return [program] if os.path.basename(found) == "sudrepka" and os.path.isfile(program) else command
-
-
-def follow(path, words, go, given=b""):
-    """Runs a file, with its standard input, and calls `go` with the address of each instruction. Gives the status and
-    what was printed."""
-    with tempfile.TemporaryFile() as printed, tempfile.TemporaryFile() as file:
-        file.write(given)
-        file.seek(0)
-        read, write = os.pipe()
-        command = ["qemu-riscv64", "-singlestep", "-d", "exec,nochain", "-D", f"/dev/fd/{write}", path, *words]
-        process = subprocess.Popen(command, stdin=file, stdout=printed, stderr=subprocess.DEVNULL, pass_fds=[write])
-        os.close(write)
-        with os.fdopen(read, "rb") as log:
-            for line in log:
-                parts = line.split(b"/", 2)
-                if len(parts) == 3 and line.startswith(b"Trace"):
-                    go(int(parts[1], 16))
-        process.wait()
-        printed.seek(0)
-        return process.returncode, printed.read()
 
 
 def is_open(door):

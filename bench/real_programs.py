@@ -3,7 +3,7 @@
 
     python3 bench/real_programs.py [--tool COMMAND] [--keep FOLDER] [PROGRAM..]
 
-Each program of `bench/programs` is compiled by GCC with GNU ld and by Clang with lld, with picolibc for RV64IMC, and
+Each program of `examples` is compiled by GCC with GNU ld and by Clang with lld, with picolibc for RV64IMC, and
 linked with a script that leaves room behind the code, with the linker's own script with and without room, and with that
 script and unwind tables, which GCC makes itself and by its assembler; and with a line table and no other table of `-g`.
 Programs that throw or clean up while frames are unwound need the index of their table, which only lld makes, so lld
@@ -36,12 +36,14 @@ import sys
 import tempfile
 
 from dwarf_verify import verify_problems
-from frames import backtrace_problems, mend_tables, table_problems
+from frames import backtrace_problems, table_problems
 from line_rows import leave_lines, line_problems, table_size
 from profiles import CROSS, MOST_SECONDS, built, output, record
 
+from frame_tables import mend_tables  # of tools/
+
 ROOT = os.path.dirname(os.path.dirname(os.path.abspath(__file__)))
-PROGRAMS = os.path.join(ROOT, "bench", "programs")
+EXAMPLES = os.path.join(ROOT, "examples")
 PICOLIBC = "/usr/lib/picolibc/riscv64-unknown-elf"
 NO_COMPILER = f"there is no {CROSS}gcc, or no picolibc in {PICOLIBC}"
 LONGER = {"sorting": "150", "interpreter": "400", "shapes": "500", "packing": "5000",
@@ -64,12 +66,12 @@ STRIP = ["-Wl,--strip-debug"]
 LABELS = ["-X", "--wildcard", "--strip-symbol=$d*"]
 NO_DATA = ["-Wl,--defsym=__tdata_start=0,--defsym=__tdata_end=0"]  # no thread-local data with a first value
 LAYOUTS = {
-    "roomy": ["-T", os.path.join(PROGRAMS, "roomy.ld")],
-    "default": ["-T", os.path.join(PROGRAMS, "no_tables.ld"), *NO_DATA],
-    "pages": ["-T", os.path.join(PROGRAMS, "no_tables.ld"), *NO_DATA, "-Wl,-z,max-page-size=0x100000"],
+    "roomy": ["-T", os.path.join(EXAMPLES, "roomy.ld")],
+    "default": ["-T", os.path.join(EXAMPLES, "no_tables.ld"), *NO_DATA],
+    "pages": ["-T", os.path.join(EXAMPLES, "no_tables.ld"), *NO_DATA, "-Wl,-z,max-page-size=0x100000"],
     "tables": [*NO_DATA, "-Wl,-z,max-page-size=0x100000"],
     "own-tables": [*NO_DATA, "-Wl,-z,max-page-size=0x100000"],
-    "lines": ["-T", os.path.join(PROGRAMS, "roomy.ld")],
+    "lines": ["-T", os.path.join(EXAMPLES, "roomy.ld")],
 }
 UNWOUND = {"tables": TABLES, "own-tables": OWN_TABLES}
 KINDS = {**UNWOUND, "lines": LINES}
@@ -141,7 +143,7 @@ def build(path, program, compiler, parts, layout, level):
         objects.append(f"{path}.{os.path.basename(source)}.o")
         kind = ["-fno-rtti"] if source.endswith(".cc") else []
         call([*front, *MACHINE, *COMPILE, *KINDS.get(layout, NO_TABLES), *kind, level, *include, "-c",
-              os.path.join(PROGRAMS, source), "-o", objects[-1]])
+              os.path.join(EXAMPLES, source), "-o", objects[-1]])
     linker = linker_of(os.path.dirname(path), program, compiler)
     kept = [] if layout == "lines" else STRIP
     call([*front, *MACHINE, "-nostdlib", *LINK, *kept, *layouts, *linker, *objects, *libraries, "-o", path])

@@ -9,7 +9,7 @@ count off by up to a tenth, a stale one lacks three lines of ten, and a sampled 
 Each line has the seconds of the processor, the peak of memory, the total change, and how far the counts of edges are from
 the true ones in sum, before and after, as parts of the sum of true counts. Last come functions that are one path of
 20,000 blocks, of which the last half of the counts is halved, or the ways in or out lack; and the programs of
-`bench/programs` that `real_programs.py` can build here, with the profile that `record` writes of a short run. The true
+`examples` that `real_programs.py` can build here, with the profile that `record` writes of a short run. The true
 profiles are checked to be repaired with no change, and to come back as they were; those of recorded runs change a little,
 by as much as is printed. COMMAND stands for `./sudrepka`.
 

@@ -5,7 +5,7 @@
         [--levels LEVELS] [PROGRAM..]
 
 The programs are those of Debian's source packages Lua, zlib, bzip2 and pugixml (`packages.py`; fetched into FOLDER,
-or into the cache of the user) and those of `programs/`. Each is built by GCC with GNU ld and by Clang with lld, with
+or into the cache of the user) and those of `examples/`. Each is built by GCC with GNU ld and by Clang with lld, with
 picolibc for RV64IMC: `debug` with all that `-g` makes, at each of LEVELS, as `O0,Os` (-O0 to -O3 and -Os where none are
 given); at -O2 and -Os `bare` without debug data and unwind tables, and `tables` with unwind tables besides. Programs
 that unwind themselves are built in one way, `index`: with debug data, unwind tables and their index. N files are tried
@@ -23,7 +23,7 @@ Of each file the table says, step by step, `yes` or `no`; what failed stands bel
 - `breaks`: breakpoints of `gdb` by file and line lead to the same lines of the same functions.
 
 A second table counts the files of each program that passed a step, and a third has the way of a run through the code
-before and after, and that of `llvm-bolt-19`'s output, as `layout.py` counts it. It wants what `real_programs.py` wants.
+before and after, and that of `llvm-bolt-19`'s output, as `tools/layout.py` counts it. It wants what `real_programs.py` wants.
 """
 import argparse
 import concurrent.futures
@@ -36,13 +36,15 @@ import tempfile
 
 from debug_files import bare_libraries, build_with_tables
 from debugged import Debugged, with_lines
-from heatmap import counts_of, edges_of, entry_of, functions_of
-from layout import bolt_profile, shown, way_of
-from mend import mend
+from layouts import bolt_profile
 from packages import OWN, PACKAGES, fetch
 from profiles import built, output
-from real_programs import (COMPILE, LINES, LINK, LONGER, MACHINE, NO_COMPILER, NO_TABLES, OWN_TABLES, PICOLIBC,
-                           PROGRAMS, ROOT, UNWINDING, Checks, buildable, call, compilers, linker_of, newest)
+from real_programs import (COMPILE, EXAMPLES, LINES, LINK, LONGER, MACHINE, NO_COMPILER, NO_TABLES, OWN_TABLES,
+                           PICOLIBC, ROOT, UNWINDING, Checks, buildable, call, compilers, linker_of, newest)
+
+from heatmap import counts_of, edges_of, entry_of, functions_of  # of tools/
+from layout import shown, way_of
+from mend import mend
 
 KINDS = {"bare": NO_TABLES, "debug": [*LINES, "-fno-dwarf2-cfi-asm"], "tables": ["-g", *OWN_TABLES]}
 SCRIPTS = {"tables": "roomy_tables.ld"}
@@ -87,11 +89,11 @@ class Builder:
 
     def files(self, program):
         """The files of a program, the folders of its headers, and its own flags."""
-        start = os.path.join(PROGRAMS, "start.c")
+        start = os.path.join(EXAMPLES, "start.c")
         if program not in PACKAGES:
-            return [os.path.join(PROGRAMS, program + ".c"), start], [], []
+            return [os.path.join(EXAMPLES, program + ".c"), start], [], []
         package = PACKAGES[program]
-        own = [os.path.join(OWN, name) for name in (*package.own, "standard_input.c")]
+        own = [*(os.path.join(OWN, name) for name in package.own), os.path.join(EXAMPLES, "standard_input.c")]
         return [*package.files(self.sources), *own, start], package.include(self.sources), package.flags
 
     def objects(self, path, program, compiler, kind, level):
@@ -118,7 +120,7 @@ class Builder:
         if kind == "index":
             build_with_tables(path, program, compiler, (front, libraries), level)
         else:
-            script = os.path.join(PROGRAMS, SCRIPTS.get(kind, "roomy.ld"))
+            script = os.path.join(EXAMPLES, SCRIPTS.get(kind, "roomy.ld"))
             made = self.objects(path, program, compiler, kind, level)
             call([*front, *MACHINE, "-nostdlib", *LINK, "-T", script, *made, *libraries, "-o", path])
             for name in made:

@@ -20,7 +20,7 @@ import shutil
 import tempfile
 
 from debug_files import build_large
-from layout import bolt_profile
+from layouts import bolt_profile
 from profiles import CROSS, built, record
 from real_programs import ROOT, call
 from rewrite import MIB, measure

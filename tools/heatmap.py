@@ -1,7 +1,7 @@
 #!/usr/bin/env python3
 """Draws where a program's code ran, before and after a rewrite.
 
-    python3 bench/heatmap.py [--svg FILE] [--cell BYTES] IN OUT MAP PROFILE
+    python3 tools/heatmap.py [--svg FILE] [--cell BYTES] IN OUT MAP PROFILE
 
 IN, OUT and MAP are those of `rewrite`, and PROFILE the profile that it took, or any other of IN. The text that is
 printed has a sign for each 64 bytes of code, a cache line (for more where the code has over a MiB, so that there are
@@ -23,7 +23,7 @@ import re
 import shutil
 import sys
 
-from profiles import CROSS, output
+from programs import CROSS, output
 
 LINE, PAGE, COLUMNS, STEP = 64, 4096, 64, 8
 SIGNS = " .:-=+*#%@"

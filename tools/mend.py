@@ -1,10 +1,10 @@
 #!/usr/bin/env python3
 """Mends tables of a linked program in place, before it is rewritten. Each is read as it was, but where it was wrong.
 
-    python3 bench/mend.py FILE..
+    python3 tools/mend.py FILE..
 
 - Frame tables that GNU as made are refused: each entry begins by changing a register that isn't given yet. In as many
-  bytes it is given (`frames.py`).
+  bytes it is given (`frame_tables.py`).
 - GCC ends the location of a variable that lies in a register which a call may change one byte before the end of the
   call. A debugger looks at that byte in a frame that waits for the call, and so doesn't read the register, which holds
   something else by then. A rewritten file says of all bytes of an instruction what its input says of the first, so
@@ -26,8 +26,8 @@ import re
 import shutil
 import sys
 
-from frames import after_leb, mend_tables, table_at
-from profiles import CROSS, output
+from frame_tables import after_leb, mend_tables, table_at
+from programs import CROSS, output
 
 START_END, ADDRESS = 0x07, 8  # DWARF 5, section 7.7.3; bytes of an address
 PAIR = 2 * ADDRESS
