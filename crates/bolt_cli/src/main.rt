@@ -3,11 +3,11 @@
 
 mod permissions;
 
-use crate::permissions::keep_permissions;
+use crate::permissions::files_for;
 use bolt_tool::serve;
 pub use bolt_tool::tool;
 use cli_base::Status;
-use rb_io::{HostFiles, HostSink, HostSource};
+use rb_io::{HostSink, HostSource};
 use std::env;
 use std::process::ExitCode;
 
@@ -29,12 +29,8 @@ fn main(rt: HostRuntime) -> ExitCode {
     let Some(args) = read_args(&rt) else {
         return ExitCode::from(Status::NoMemory.number());
     };
-    let mut files = HostFiles::new(&rt);
+    let mut files = files_for(&rt, &args);
     let mut input = HostSource::new(rt.stdin());
     let mut out = HostSink::new(rt.stdout());
-    let code = serve(rt.alloc(), &args, &mut files, &mut input, &mut out);
-    if code == ExitCode::SUCCESS {
-        keep_permissions(&rt, &args);
-    }
-    code
+    serve(rt.alloc(), &args, &mut files, &mut input, &mut out)
 }

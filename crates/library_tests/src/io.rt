@@ -5,6 +5,7 @@ use rb_io::{
 };
 use std::alloc::Global;
 use std::fs;
+use std::os::unix::fs::{PermissionsExt, symlink};
 use std::process::Abort;
 use std::test::Fail;
 
@@ -110,6 +111,39 @@ fn files_of_the_system(rt: HostRuntime) -> Result<(), Fail> {
     ask_lines(&rt, alloc, &mut files, OF_THE_SYSTEM)?;
     fs::remove_file(&rt, name)?;
     ask_lines(&rt, alloc, &mut files, REMOVED)
+}
+
+// What a file of the system holds, with its rights and what names it.
+fn shown(rt: &HostRuntime, name: &str) -> Result<String, Fail> {
+    let text = fs::read_to_string(rt, name)?;
+    let rights = fs::metadata(rt, name)?.permissions().mode() & 0o7777;
+    let is_link = fs::symlink_metadata(rt, name)?.is_symlink();
+    Ok(format!(in rt.alloc(); "{text} {rights:o} {is_link}")?)
+}
+
+#[test]
+fn files_that_take_the_place_of_others(rt: HostRuntime) -> Result<(), Fail> {
+    let (old, link, like) = (
+        "library_tests_old.tmp",
+        "library_tests_link.tmp",
+        "library_tests_like.tmp",
+    );
+    fs::write(&rt, old, "before")?;
+    fs::set_permissions(&rt, old, fs::Permissions::from_mode(0o4640))?;
+    fs::write(&rt, like, "like")?;
+    fs::set_permissions(&rt, like, fs::Permissions::from_mode(0o4710))?;
+    symlink(&rt, old, link)?;
+    let mut files = HostFiles::new(&rt).with_permissions_of(like, like);
+    assert!(rt; files.write_all(link, b"after") == Wrote::Done);
+    assert_eq!(rt; shown(&rt, link)?.as_str(), "after 640 true");
+    assert_eq!(rt; shown(&rt, old)?.as_str(), "after 640 false");
+    assert!(rt; files.write_all(like, b"itself") == Wrote::Done);
+    assert_eq!(rt; shown(&rt, like)?.as_str(), "itself 710 false");
+    for name in [old, link, like] {
+        fs::remove_file(&rt, name)?;
+    }
+    assert!(rt; files.write_all("/dev/null", b"gone") == Wrote::Done);
+    Ok(())
 }
 
 // Reads a source to its end by buffers of three bytes.

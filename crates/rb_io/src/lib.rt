@@ -15,6 +15,7 @@ mod sink;
 mod slot;
 mod slots;
 mod source;
+mod whole_files;
 
 pub use files::{Files, ReadAll, Wrote};
 pub use host_files::HostFiles;
