@@ -57,7 +57,8 @@ class ElfFile:
 
     def segments(self):
         """The offset, the address and the bytes in the file of each segment that is loaded."""
-        rows = [struct.unpack_from("<IIQQQQ", self.data, self._segments_at + i * 56) for i in range(self._segment_count)]
+        places = (self._segments_at + i * 56 for i in range(self._segment_count))
+        rows = [struct.unpack_from("<IIQQQQ", self.data, place) for place in places]
         return [(offset, address, size) for kind, _, offset, address, _, size in rows if kind == PT_LOAD]
 
     def functions(self):

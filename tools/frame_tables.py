@@ -40,7 +40,8 @@ def defined(instructions):
 
 
 def mend_frames(elf):
-    """Gives register and offset of the frame address in all common entries that GNU as made otherwise, and their number."""
+    """Gives register and offset of the frame address in all common entries that GNU as made otherwise. Answers how many
+    entries changed."""
     changed = 0
     for name, mark in ((".eh_frame", bytes(4)), (".debug_frame", b"\xff" * 4)):
         section = elf.section(name)

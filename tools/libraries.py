@@ -3,8 +3,8 @@
 
     python3 tools/libraries.py [--picolibc FOLDER] [FOLDER]
 
-Writes `libc.a`, of picolibc for RV64IM without floating-point instructions, and `libgcc.a` to FOLDER, which is made if it
-isn't there (the current folder if none is given). It wants Debian's `picolibc-riscv64-unknown-elf` and
+Writes `libc.a`, of picolibc for RV64IM without floating-point instructions, and `libgcc.a` to FOLDER, which is made if
+it isn't there (the current folder if none is given). It needs Debian's `picolibc-riscv64-unknown-elf` and
 `gcc-riscv64-unknown-elf`.
 """
 import argparse
