@@ -8,10 +8,9 @@ import re
 import subprocess
 import tempfile
 
-import profiles  # noqa: F401, finds what follows
+from frames import table_at
 
-from frame_tables import table_at  # of tools/
-from mend import CALL_SITE, declarations
+from mend import CALL_SITE, declarations  # of tools/
 
 CALL_SITE_PARAMETER = 0x49
 NO_END, CRASH = ["it doesn't come to an end"], ["it crashes"]

@@ -9,7 +9,13 @@ import shutil
 
 from profiles import CROSS, debug, output
 
-from frame_tables import table_at  # of tools/
+from elf_file import ElfFile  # of tools/
+
+
+def table_at(path, name):
+    """The address, the offset and the size of a section; three times 0 if there is none that can be read as it is."""
+    section = ElfFile(path).section(name)
+    return (section.address, section.offset, section.size) if section else (0, 0, 0)
 
 
 def unwind_table(path):

@@ -47,7 +47,7 @@ EXAMPLES = os.path.join(ROOT, "examples")
 PICOLIBC = "/usr/lib/picolibc/riscv64-unknown-elf"
 NO_COMPILER = f"there is no {CROSS}gcc, or no picolibc in {PICOLIBC}"
 LONGER = {"sorting": "150", "interpreter": "400", "shapes": "500", "packing": "5000",
-          "exceptions": "50", "cleanups": "50"}
+          "lifetimes": "10", "exceptions": "50", "cleanups": "50"}
 # Programs that unwind themselves: their files, and a function at which they stop deep in calls.
 UNWINDING = {"exceptions": (["exceptions.cc", "cxx_runtime.cc", "frame_index.c"], "__cxa_throw"),
              "cleanups": (["cleanups.c", "frame_index.c"], "stop")}

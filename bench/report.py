@@ -42,7 +42,8 @@ from profiles import built, output
 from real_programs import (COMPILE, EXAMPLES, LINES, LINK, LONGER, MACHINE, NO_COMPILER, NO_TABLES, OWN_TABLES,
                            PICOLIBC, ROOT, UNWINDING, Checks, buildable, call, compilers, linker_of, newest)
 
-from heatmap import counts_of, edges_of, entry_of, functions_of  # of tools/
+from elf_file import ElfFile  # of tools/
+from heatmap import counts_of, edges_of, functions_of
 from layout import shown, way_of
 from mend import mend
 
@@ -196,7 +197,7 @@ class Try:
         """Some of these instructions: such as ran, from those that ran often to those that ran once, and others."""
         starts, _ = functions_of(self.path)
         kept = sorted(instructions)
-        counts = counts_of(edges_of(self.at("profile"), self.path), entry_of(self.path), kept, starts)
+        counts = counts_of(edges_of(self.at("profile"), self.path), ElfFile(self.path).entry, kept, starts)
         ran = sorted((old for old in kept if counts[old]), key=lambda old: (-counts[old], old))
         never = [old for old in kept if not counts[old]]
         some = lambda places, count: places[::max(1, len(places) // count)][:count]

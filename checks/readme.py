@@ -1,13 +1,13 @@
 #!/usr/bin/env python3
-"""Types the command lines of README.md as they stand, one after another, and says which of them fail.
+"""Types the command lines of README.md and docs/USING.md as they are written, and says which of them fail.
 
     python3 checks/readme.py [--tool PROGRAM]
 
-They are typed into one shell, in a fresh clone of this repository, whose README.md is read. PROGRAM takes the place of
-`sudrepka` there, so that nothing has to be proved; where it isn't given, the clone is built. Lines that install
-packages, and the first look, are left out. ADDRESS is that of the moved function `main`. A line fails where it ends
-with 1, 2, 126, 127, 129 to 159 as by a signal, or 220 and more, or doesn't print what stands below it. All of them are
-typed once for each compiler. The status is 0 where no line fails.
+The lines of a page are typed into one shell, one after another, in a fresh clone of this repository, whose pages are
+read. PROGRAM takes the place of `sudrepka` there, so that nothing has to be proved; otherwise the clone is built. Lines
+that install packages are left out. ADDRESS is that of the moved function `main`. A line fails if it ends with 1, 2, 126,
+127, 129 to 159 as by a signal, or 220 and more, or doesn't print what the page has below it. The lines of USING.md are
+typed once for each compiler. Nothing may be left in the clone that `git status` shows. The status is 0 if no line fails.
 """
 import argparse
 import os
@@ -18,8 +18,9 @@ import sys
 import tempfile
 
 ROOT = os.path.dirname(os.path.dirname(os.path.abspath(__file__)))
-LEFT_OUT = ("apt-get ", "(cd ")
-COMPILERS = ("riscv64-unknown-elf-gcc ", "clang ")
+PAGES = ("README.md", "docs/USING.md")
+LEFT_OUT = ("apt-get ",)
+COMPILERS = ("riscv64-unknown-elf-gcc ", "clang-19 ")
 ADDRESS = r"$(riscv64-unknown-elf-nm moved | sed -n 's/^0*\(.*\) T main$/\1/p')"
 MARK = "=== end of line"
 
@@ -33,15 +34,15 @@ def command_lines(text):
                 found.append((line[6:], []))
             elif found and "$ " in block:
                 found[-1][1].append(line[4:])
-    return found
+    return [(line, said) for line, said in found if not line.startswith(LEFT_OUT)]
 
 
 def sessions(lines):
-    """The lines that are typed, once for each compiler."""
-    typed = [(line, said) for line, said in lines if not line.startswith(LEFT_OUT)]
-    for own in COMPILERS:
+    """The lines that are typed, once for each compiler that is among them."""
+    there = [own for own in COMPILERS if any(line.startswith(own) for line, _ in lines)]
+    for own in there:
         others = tuple(name for name in COMPILERS if name != own)
-        yield own.strip(), [(line, said) for line, said in typed if not line.startswith(others)]
+        yield own.strip(), [(line, said) for line, said in lines if not line.startswith(others)]
 
 
 def typed(lines, folder):
@@ -64,27 +65,44 @@ def is_well(status, printed, said):
     return ended and all(" ".join(part.split()) in seen for part in said)
 
 
-def main():
-    words = argparse.ArgumentParser(description="types the command lines of README.md, and says which fail")
-    words.add_argument("--tool", help="the program that takes `rewrite ..`")
-    given = words.parse_args()
+def read_page(folder, page, tool):
+    """The command lines of a page, without the build if a tool takes its place."""
+    with open(os.path.join(folder, page), encoding="utf-8") as file:
+        lines = command_lines(file.read())
+    return [(line, said) for line, said in lines if not tool or line != "./build"]
+
+
+def try_page(folder, page, tool):
+    """Types the lines of a page. Gives how many fail."""
     failed = 0
+    for compiler, session in sessions(read_page(folder, page, tool)):
+        for (line, said), (printed, status) in zip(session, typed(session, folder), strict=True):
+            well = is_well(status, printed, said)
+            failed += not well
+            print(f"{page}, {compiler}: {'' if well else f'FAILS ({status}): '}{line}", flush=True)
+            if not well:
+                print(printed)
+        subprocess.run(["git", "clean", "-fdxq", "out"], cwd=folder, check=True)
+    return failed
+
+
+def main():
+    words = argparse.ArgumentParser(description="types the lines of README.md and USING.md, and says which fail")
+    words.add_argument("--tool", help="the program that takes `rewrite ..`")
+    tool, failed = words.parse_args().tool, 0
     with tempfile.TemporaryDirectory() as room:
         folder = os.path.join(room, "clone")
         subprocess.run(["git", "clone", "-q", ROOT, folder], check=True)
-        with open(os.path.join(folder, "README.md"), encoding="utf-8") as file:
-            lines = command_lines(file.read())
-        if given.tool:
-            lines = [(line, said) for line, said in lines if line != "./build"]
+        if tool:
             with open(os.path.join(folder, "sudrepka"), "w", encoding="ascii") as file:
-                file.write(f'#!/bin/sh\nexec {shlex.quote(os.path.abspath(given.tool))} "$@"\n')
-        for compiler, session in sessions(lines):
-            for (line, said), (printed, status) in zip(session, typed(session, folder), strict=True):
-                well = is_well(status, printed, said)
-                failed += not well
-                print(f"{compiler}: {'' if well else f'FAILS ({status}): '}{line}", flush=True)
-                if not well:
-                    print(printed)
+                file.write(f'#!/bin/sh\nexec {shlex.quote(os.path.abspath(tool))} "$@"\n')
+            subprocess.run(["git", "update-index", "--assume-unchanged", "sudrepka"], cwd=folder, check=True)
+        for page in PAGES:
+            failed += try_page(folder, page, tool)
+        left = subprocess.run(["git", "status", "--short"], cwd=folder, stdout=subprocess.PIPE, text=True, check=True)
+        if left.stdout:
+            failed += 1
+            print(f"left behind:\n{left.stdout}")
     print(f"{failed} lines fail")
     sys.exit(1 if failed else 0)
 

@@ -12,7 +12,18 @@ SECTIONS {
   . = 0x1100000;
   .rodata : { *(.rodata .rodata.* .srodata .srodata.*) *(.data.rel.ro .data.rel.ro.*) } :constants
   . = ALIGN(0x1000);
-  .data : { *(.data .data.*) *(.sdata .sdata.*) *(.got .got.*) } :data
+  .data : {
+    *(.data .data.*) *(.sdata .sdata.*) *(.got .got.*)
+    . = ALIGN(8);
+    __init_array_start = .;
+    KEEP(*(SORT_BY_INIT_PRIORITY(.init_array.*)))
+    KEEP(*(.init_array))
+    __init_array_end = .;
+    __fini_array_start = .;
+    KEEP(*(SORT_BY_INIT_PRIORITY(.fini_array.*)))
+    KEEP(*(.fini_array))
+    __fini_array_end = .;
+  } :data
   .tdata : { __tdata_start = .; *(.tdata .tdata.*) __tdata_end = .; } :data :tls
   .tbss : { *(.tbss .tbss.*) } :data :tls
   .bss : { *(.sbss .sbss.*) *(.bss .bss.*) *(COMMON) } :data

@@ -1,4 +1,6 @@
-/* What runs before main: thread-local data, arguments, and the system calls write, exit and brk of Linux. */
+/* What runs before main and after it: thread-local data, static constructors, arguments, and what picolibc wants of a
+   system, by the calls write, exit and brk of Linux. picolibc's exit calls what atexit was given, and destructors.
+   What other files name is marked as used: with -flto the compiler doesn't see that libraries name it. */
 #include <stddef.h>
 #include <stdio.h>
 #include <stdlib.h>
@@ -13,27 +15,7 @@ static long call(long number, long a, long b, long c) {
     return a0;
 }
 
-ssize_t write(int file, const void *bytes, size_t count) { return call(64, file, (long)bytes, (long)count); }
-
-__attribute__((noreturn)) void _exit(int status) {
-    for (;;)
-        call(93, status, 0, 0);
-}
-
-__attribute__((noreturn)) void exit(int status) { _exit(status); }
-
-__attribute__((noreturn)) void abort(void) { _exit(134); }
-
-void *sbrk(ptrdiff_t more) {
-    static char *end;
-    if (end == NULL)
-        end = (char *)call(214, 0, 0, 0);
-    char *old = end;
-    if (call(214, (long)(end + more), 0, 0) != (long)(end + more))
-        return (void *)-1;
-    end += more;
-    return old;
-}
+__attribute__((used)) ssize_t write(int file, const void *bytes, size_t count) { return call(64, file, (long)bytes, (long)count); }
 
 /* Characters are kept, so that a line is one call. */
 static char kept[4096];
@@ -42,6 +24,25 @@ static size_t count;
 static void flush(void) {
     write(1, kept, count);
     count = 0;
+}
+
+__attribute__((used, noreturn)) void _exit(int status) {
+    flush();
+    for (;;)
+        call(93, status, 0, 0);
+}
+
+__attribute__((used, noreturn)) void abort(void) { _exit(134); }
+
+__attribute__((used)) void *sbrk(ptrdiff_t more) {
+    static char *end;
+    if (end == NULL)
+        end = (char *)call(214, 0, 0, 0);
+    char *old = end;
+    if (call(214, (long)(end + more), 0, 0) != (long)(end + more))
+        return (void *)-1;
+    end += more;
+    return old;
 }
 
 static int put(char c, FILE *file) {
@@ -53,18 +54,25 @@ static int put(char c, FILE *file) {
 }
 
 static FILE out = FDEV_SETUP_STREAM(put, NULL, NULL, _FDEV_SETUP_WRITE);
-FILE *const stdout = &out;
+__attribute__((used)) FILE *const stdout = &out;
 __strong_reference(stdout, stderr);
 
 extern char __tdata_start[], __tdata_end[];
 static char thread_data[4096] __attribute__((aligned(64)));
+
+typedef void (*Function)(void);
+extern const Function __init_array_start[], __init_array_end[];
+
+/* C++ gives destructors the program that they belong to; and picolibc calls this one last. */
+__attribute__((used)) void *__dso_handle;
+__attribute__((used)) void _fini(void) {}
 
 int main(int argc, char **argv);
 
 __attribute__((used, noreturn)) void start(long *stack) {
     memcpy(thread_data, __tdata_start, (size_t)(__tdata_end - __tdata_start));
     __asm__ volatile("mv tp, %0" : : "r"(thread_data));
-    int status = main((int)stack[0], (char **)(stack + 1));
-    flush();
-    _exit(status);
+    for (const Function *it = __init_array_start; it != __init_array_end; it++)
+        (*it)();
+    exit(main((int)stack[0], (char **)(stack + 1)));
 }

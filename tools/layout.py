@@ -1,7 +1,7 @@
 #!/usr/bin/env python3
 """Counts what a rewrite does to the way of a run through a program's code.
 
-    python3 tools/layout.py IN OUT [WORDS..] [< INPUT]
+    python3 tools/layout.py [--json] IN OUT [WORDS..] [< INPUT]
 
 Follows a run of IN and one of OUT, both with WORDS as arguments and with this standard input, if it is no terminal.
 `qemu-riscv64` runs both files and says each instruction's address, from which this counts
@@ -12,15 +12,16 @@ Follows a run of IN and one of OUT, both with WORDS as arguments and with this s
   the longest time goes;
 - misses of 8 entries for pages of 4096 bytes, of which the same goes.
 
-It follows some hundred thousand steps a second, and wants Debian's `qemu-user` and `binutils-riscv64-unknown-elf`.
+`--json` prints these counts as JSON. It follows some hundred thousand steps a second, and needs Debian's `qemu-user`.
 """
 import argparse
+import json
 import os
-import re
 import shutil
 import sys
 
-from programs import CROSS, follow, output
+from elf_file import ElfFile
+from programs import follow
 
 LINE, PAGE, SETS, WAYS, ENTRIES = 64, 4096, 64, 8, 8
 
@@ -45,11 +46,8 @@ class Code:
     """The bytes of a file by their addresses, as its program headers have them."""
 
     def __init__(self, path):
-        with open(path, "rb") as file:
-            self.data = file.read()
-        said = output([CROSS + "readelf", "-lW", path])
-        rows = re.findall(r"^ +LOAD +0x(\w+) 0x(\w+) 0x\w+ 0x(\w+) ", said, re.M)
-        self.segments = [[int(number, 16) for number in row] for row in rows]  # offset, address, and bytes in the file
+        elf = ElfFile(path)
+        self.data, self.segments = elf.data, elf.segments()
 
     def is_short(self, address):
         """Whether an instruction has two bytes: the lowest two bits of one of four bytes are both set."""
@@ -83,11 +81,16 @@ class Way:
             self.pages.add(self.page)
             self.entries.use(self.page)
 
-    def __str__(self):
+    def counts(self):
         misses = sum(ways.misses for ways in self.cache)
+        return {"instructions": self.instructions, "taken": self.taken, "pages": len(self.pages),
+                "cache_misses": misses, "itlb_misses": self.entries.misses}
+
+    def __str__(self):
+        found = self.counts()
         return (
-            f"{self.instructions:9} instructions {self.taken:8} taken {len(self.pages):4} pages "
-            f"{misses:7} cache misses {self.entries.misses:7} iTLB misses"
+            f"{found['instructions']:9} instructions {found['taken']:8} taken {found['pages']:4} pages "
+            f"{found['cache_misses']:7} cache misses {found['itlb_misses']:7} iTLB misses"
         )
 
 
@@ -105,7 +108,7 @@ def shown(result, first):
     return str(result[0]) if first and result[1:] == first[1:] else "runs otherwise"
 
 
-def follow_files(paths, words):
+def follow_files(paths, words, as_json):
     for path in paths:
         if not os.path.isfile(path):
             sys.exit(f"there is no file {path}")
@@ -113,18 +116,24 @@ def follow_files(paths, words):
     found = [way_of(path, words, given) for path in paths]
     if not found[0]:
         sys.exit(f"{paths[0]} doesn't run on qemu-riscv64, or that has no -singlestep and -d exec: run it by itself")
-    for when, result in zip(("before", "after"), found):
-        print(f"{when:10} {shown(result, found[0])}")
+    if as_json:
+        alike = found[1] is not None and found[1][1:] == found[0][1:]
+        runs = [result[0].counts() if result else None for result in found]
+        print(json.dumps({"before": runs[0], "after": runs[1], "alike": alike}, indent=1))
+    else:
+        for when, result in zip(("before", "after"), found):
+            print(f"{when:10} {shown(result, found[0])}")
 
 
 def main():
     words = argparse.ArgumentParser(description="the way of a run through its code before and after a rewrite")
+    words.add_argument("--json", action="store_true", help="prints the counts as JSON")
     words.add_argument("files", nargs=2, metavar="FILE", help="IN and OUT: the program before and after")
     words.add_argument("arguments", nargs=argparse.REMAINDER, metavar="WORDS", help="the arguments of both runs")
     given = words.parse_args()
     if not shutil.which("qemu-riscv64"):
         sys.exit("there is no qemu-riscv64, which Debian's qemu-user has")
-    follow_files(given.files, given.arguments)
+    follow_files(given.files, given.arguments, given.json)
 
 
 if __name__ == "__main__":
