@@ -21,7 +21,7 @@ use Rattle.line_rewrite.specs.declared.run_writer.Going.{Going}
 use Rattle.line_rewrite.specs.Operations.{is_whole, whole_within}
 use Rattle.line_rewrite.specs.LineMachine.{after_row}
 use Rattle.line_rewrite.specs.Written.{IsRow, unless, line_distance, above_base, step_ops, row_ops, rows_ops, spelled, all_spelled}
-use Rattle.line_rewrite.specs.WrittenPrograms.{Piece, piece_end, opened, close_ops, open_ops, run_ops, piece_ops, going_after, closing_ops}
+use Rattle.line_rewrite.specs.WrittenPrograms.{Piece, piece_end, first_file, opened, close_ops, open_ops, run_ops, piece_ops, going_after, closing_ops}
 use Rattle.line_rewrite.proofs.PieceSequences.{program_ops}
 use Rattle.line_rewrite.proofs.RowOps.{spelled_append, first2, first3, first4, first5, first6, first7, first8}
 use Rattle.line_rewrite.proofs.Soundness.{whole_step}
@@ -113,9 +113,13 @@ closing_written : (o : Option Going) → EndsLow o → AreWritten (closing_ops o
 closing_written None low = tt
 closing_written (Some g) low = close_written g low
 
+file_written : (files a : ℕ) (rows : List Registers) → ArePieceRows files a rows → first_file rows < 2 ^ 64
+file_written files a [] are = omega arith
+file_written files a (row ∷ rows) are = are.0.file
+
 open_written : (coding : Coding) (files a : ℕ) (rows : List Registers) → a < 2 ^ 64 → ArePieceRows files a rows
     → AreWritten (open_ops coding a rows)
-open_written coding files a rows h are = (h, rows_written files a (opened coding a) rows are)
+open_written coding files a rows h are = (h, (file_written files a rows are, rows_written files a (opened coding a rows) rows are))
 
 run_written : (coding : Coding) (files : ℕ) (o : Option Going) (a : ℕ) (rows : List Registers) → EndsLow o → a < 2 ^ 64
     → ArePieceRows files a rows
@@ -217,12 +221,15 @@ close_size g =
     let a : size (close_ops g) ≡ length (spelled (AdvancePc by)) + 3 = length-append (spelled (AdvancePc by)) (spelled EndSequence ++ []) in
     omega (arith, a, length-uleb-le by)
 
-open_size : (coding : Coding) (a : ℕ) (rows : List Registers) → size (open_ops coding a rows) ≤ 11 + 73 * length rows
+open_size : (coding : Coding) (a : ℕ) (rows : List Registers) → size (open_ops coding a rows) ≤ 22 + 73 * length rows
 open_size coding a rows =
-    let e : size (open_ops coding a rows) ≡ length (spelled (SetAddress a)) + size (rows_ops (opened coding a) rows) =
-    length-append (spelled (SetAddress a)) (all_spelled (rows_ops (opened coding a) rows)) in
+    let file : LineOp = SetFile (first_file rows) in
+    let more : List LineOp = rows_ops (opened coding a rows) rows in
+    let e : size (open_ops coding a rows) ≡ length (spelled (SetAddress a)) + size (file ∷ more) =
+    length-append (spelled (SetAddress a)) (all_spelled (file ∷ more)) in
+    let f : size (file ∷ more) ≡ length (spelled file) + size more = length-append (spelled file) (all_spelled more) in
     let l : length (little_bytes 8 a) ≡ 8 = length-bytes_low_first 0 8 a in
-    omega (arith, e, l, rows_size (opened coding a) rows)
+    omega (arith, e, f, l, length-uleb-le (first_file rows), rows_size (opened coding a rows) rows)
 
 -- what closing an open sequence takes
 abbrev closing_size : Option Going → ℕ
@@ -230,17 +237,17 @@ closing_size None = 0
 closing_size (Some g) = 14
 
 run_size : (coding : Coding) (o : Option Going) (a : ℕ) (rows : List Registers)
-    → size (run_ops coding o a rows) ≤ closing_size o + (11 + 73 * length rows)
+    → size (run_ops coding o a rows) ≤ closing_size o + (22 + 73 * length rows)
 run_size coding None a rows = omega (arith, open_size coding a rows)
 run_size coding (Some g) a rows = by (g.end == a)
   where
-    by : (b : Bool) → size (cond b (rows_ops g.registers rows) (close_ops g ++ open_ops coding a rows)) ≤ 14 + (11 + 73 * length rows)
+    by : (b : Bool) → size (cond b (rows_ops g.registers rows) (close_ops g ++ open_ops coding a rows)) ≤ 14 + (22 + 73 * length rows)
     by true = omega (arith, rows_size g.registers rows)
-    by false = both_sizes (close_ops g) (open_ops coding a rows) 14 (11 + 73 * length rows) (close_size g) (open_size coding a rows)
+    by false = both_sizes (close_ops g) (open_ops coding a rows) 14 (22 + 73 * length rows) (close_size g) (open_size coding a rows)
 
 -- the most bytes that a piece takes
 abbrev pub piece_size : Piece → ℕ
-piece_size u = 25 + 73 * length u.rows
+piece_size u = 36 + 73 * length u.rows
 
 closing_bound : (o : Option Going) → size (closing_ops o) ≤ closing_size o
 closing_bound None = omega arith
@@ -252,11 +259,11 @@ unfolding program_ops
 program_bound coding o [] = omega (arith, closing_bound o)
 program_bound coding o (u ∷ us) =
     let more : size (piece_ops coding o u ++ program_ops coding (Some (going_after coding o u)) us)
-    ≤ (closing_size o + (11 + 73 * length u.rows)) + (14 + sum_by piece_size us) =
-    both_sizes (piece_ops coding o u) (program_ops coding (Some (going_after coding o u)) us) (closing_size o + (11 + 73 * length u.rows))
+    ≤ (closing_size o + (22 + 73 * length u.rows)) + (14 + sum_by piece_size us) =
+    both_sizes (piece_ops coding o u) (program_ops coding (Some (going_after coding o u)) us) (closing_size o + (22 + 73 * length u.rows))
     (14 + sum_by piece_size us)
     (run_size coding o u.start u.rows) (program_bound coding (Some (going_after coding o u)) us) in
-    let all : size (program_ops coding o (u ∷ us)) ≤ (closing_size o + (11 + 73 * length u.rows)) + (14 + sum_by piece_size us) = more in
+    let all : size (program_ops coding o (u ∷ us)) ≤ (closing_size o + (22 + 73 * length u.rows)) + (14 + sum_by piece_size us) = more in
     omega (arith, all, sum_by-cons piece_size u us)
 
 pub program_size : (coding : Coding) (us : List Piece) → length (all_spelled (program_ops coding None us)) ≤ sum_by piece_size us
