@@ -1,6 +1,6 @@
 -- Links of functions one behind another: that all balance and hold where those of each function do.
 use Rattle.std.proofs.Common.{◌≡◌, ◌+◌, ◌-◌, ◌<◌, ◌≤◌, ◌==◌, ℕ, ℤ, pos, negsuc, false, List, [], ◌∷◌, ◌++◌, Option, Some, None, refl}
-use Rattle.std.proofs.Common.{All, map, sym, ap, ◌∙◌, subst, arith, length, get_or, ⊎_elim, ◌⊎◌, inl, inr, if◌then◌else◌}
+use Rattle.std.proofs.Common.{All, add-one, map, sym, ap, ◌∙◌, subst, arith, length, get_or, ⊎_elim, ◌⊎◌, inl, inr, if◌then◌else◌}
 use Rattle.std.specs.Prelude.{◌-ℤ◌, ◌≤ℤ◌}
 use Rattle.std.proofs.lemmas.Int.{ints}
 use Rattle.std.proofs.lemmas.Bool.{ne_eqb, cases_lt}
@@ -81,13 +81,13 @@ most_of n a b o h = omega (arith, ints)
 above_of : (n a b o : ℕ) → b ≡ a + n → lifted_gain a b o ≡ pos n
 above_of n a b o h = omega (arith, ints)
 
-below_of : (n a b o : ℕ) → b + n ≡ a → lifted_gain a b o ≡ pos 0 -ℤ pos n
+below_of : (n a b o : ℕ) → b + n ≡ a → lifted_gain a b o ≡ (pos 0 -ℤ pos n)
 below_of n a b o h = omega (arith, ints)
 
-unused_of : (n a b o : ℕ) → b + n ≤ a → lifted_gain a b o ≤ℤ pos 0 -ℤ pos n
+unused_of : (n a b o : ℕ) → b + n ≤ a → lifted_gain a b o ≤ℤ (pos 0 -ℤ pos n)
 unused_of n a b o h = omega (arith, ints)
 
-kept_of : (n a b o : ℕ) → a ≤ b + n → pos 0 -ℤ pos n ≤ℤ lifted_gain a b o
+kept_of : (n a b o : ℕ) → a ≤ b + n → (pos 0 -ℤ pos n) ≤ℤ lifted_gain a b o
 kept_of n a b o h = omega (arith, ints)
 
 -- Prices hold at a link where the numbers of its ends do.
@@ -107,8 +107,8 @@ holds_at raise lower f prices more heights by l among holds =
       most = subst (λ (z : ℤ). z ≤ℤ pos raise) (sym g) (most_of raise a b o holds.most);
       above = λ p. g ∙ above_of raise a b o (holds.above p);
       below = λ p q. g ∙ below_of lower a b o (holds.below p q);
-      unused = λ p q. subst (λ (z : ℤ). z ≤ℤ pos 0 -ℤ pos lower) (sym g) (unused_of lower a b o (holds.unused p q));
-      kept = λ p q. subst (λ (z : ℤ). pos 0 -ℤ pos lower ≤ℤ z) (sym g) (kept_of lower a b o (holds.kept p q));
+      unused = λ p q. subst (λ (z : ℤ). z ≤ℤ (pos 0 -ℤ pos lower)) (sym g) (unused_of lower a b o (holds.unused p q));
+      kept = λ p q. subst (λ (z : ℤ). (pos 0 -ℤ pos lower) ≤ℤ z) (sym g) (kept_of lower a b o (holds.kept p q));
     }
 
 -- Those that hold at a cost of 1 are prices of a repaired profile.
@@ -141,13 +141,14 @@ weights_of (o ∷ hs) = map (λ h. pos h -ℤ pos o) hs
 
 weights_long : (heights : List ℕ) → 0 < length heights → length (weights_of heights) + 1 ≡ length heights
 weights_long [] some = absurd (omega arith)
-weights_long (o ∷ hs) some = ap (λ (n : ℕ). n + 1) (length-map (λ h. pos h -ℤ pos o) hs) ∙ omega arith
+weights_long (o ∷ hs) some = ap (λ (n : ℕ). n + 1) (length-map hs (λ h. pos h -ℤ pos o)) ∙ omega arith
 
 weights_are : (heights : List ℕ) → ArePricesOf (λ h. h) heights (weights_of heights)
 weights_are [] k within = absurd (omega arith)
 weights_are (o ∷ hs) k within =
     let lt : k < length hs = omega arith in
     get_or-map (λ (h : ℕ). pos h -ℤ pos o) hs k 0 (pos 0) lt
+    ∙ sym (ap (λ (j : ℕ). pos (get_or (o ∷ hs) j 0) -ℤ pos o) (add-one k))
 
 -- Prices of further blocks change nothing for links of those before.
 price_kept : (prices more : List ℤ) (end : Option ℕ) → IsNodeBelow 0 (length prices + 1) end →
@@ -180,8 +181,8 @@ weights_kept prices more l among holds =
       most = subst (λ (z : ℤ). z ≤ℤ pos raise_cost) (sym e) holds.most;
       above = λ p. e ∙ holds.above p;
       below = λ p q. e ∙ holds.below p q;
-      unused = λ p q. subst (λ (z : ℤ). z ≤ℤ pos 0 -ℤ pos lower_cost) (sym e) (holds.unused p q);
-      kept = λ p q. subst (λ (z : ℤ). pos 0 -ℤ pos lower_cost ≤ℤ z) (sym e) (holds.kept p q);
+      unused = λ p q. subst (λ (z : ℤ). z ≤ℤ (pos 0 -ℤ pos lower_cost)) (sym e) (holds.unused p q);
+      kept = λ p q. subst (λ (z : ℤ). (pos 0 -ℤ pos lower_cost) ≤ℤ z) (sym e) (holds.kept p q);
     }
 
 node_wider : (m n : ℕ) (end : Option ℕ) → m ≤ n → IsNodeBelow 0 (m + 1) end → IsNodeBelow 0 (n + 1) end
@@ -212,13 +213,17 @@ settled_joined links chunk prices more heights settled tall are by among balance
       hold = All-append (Holds (prices ++ more)) links chunk
           (λ k d within. holds_kept prices more (get_or links k d) (settled.among k d within) (settled.hold k d within))
           (λ k d within. holds_joined prices more heights some are by (get_or chunk k d) (among k d within) (hold k d within));
-      costs = (both, both_long, All-append (HoldsAt raise_cost lower_cost both) links chunk
-          (λ k d within. weights_kept weights (weights_of heights) (get_or links k d)
-          (subst (λ (m : ℕ). IsAmong 0 (m + 1) (get_or links k d)) (sym as_long) (settled.among k d within)) (weighed k d within))
-          (λ k d within. holds_at raise_cost lower_cost (λ h. h) weights (weights_of heights) heights (weights_are heights)
-          (get_or chunk k d)
-          (subst (λ (m : ℕ). IsAmong m (length heights) (get_or chunk k d)) (sym as_long) (among k d within))
-          (subst (λ (m : ℕ). HoldsBy heights m (get_or chunk k d)) (sym as_long) (hold k d within))));
+      costs = (
+        both,
+        both_long,
+        All-append (HoldsAt raise_cost lower_cost both) links chunk
+            (λ k d within. weights_kept weights (weights_of heights) (get_or links k d)
+            (subst (λ (m : ℕ). IsAmong 0 (m + 1) (get_or links k d)) (sym as_long) (settled.among k d within)) (weighed k d within))
+            (λ k d within. holds_at raise_cost lower_cost (λ h. h) weights (weights_of heights) heights (weights_are heights)
+            (get_or chunk k d)
+            (subst (λ (m : ℕ). IsAmong m (length heights) (get_or chunk k d)) (sym as_long) (among k d within))
+            (subst (λ (m : ℕ). HoldsBy heights m (get_or chunk k d)) (sym as_long) (hold k d within))),
+      );
       among = All-append (IsAmong 0 (n + 1)) links chunk
           (λ k d within. let was : IsAmong 0 (length prices + 1) (get_or links k d) = settled.among k d within in
           let le : length prices ≤ n = omega arith in

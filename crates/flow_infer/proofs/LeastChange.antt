@@ -161,9 +161,9 @@ priced_by_costs : (prices : List ℤ) (l : Link) → HoldsAt raise_cost lower_co
 priced_by_costs prices l holds = record {
   most = let h : gain prices l ≤ℤ pos raise_cost = holds.most in omega (arith, ints);
   above = λ p. let h : gain prices l ≡ pos raise_cost = holds.above p in omega (arith, ints);
-  below = λ p q. let h : gain prices l ≡ pos 0 -ℤ pos lower_cost = holds.below p q in omega (arith, ints);
-  unused = λ p q. let h : gain prices l ≤ℤ pos 0 -ℤ pos lower_cost = holds.unused p q in omega (arith, ints);
-  kept = λ p q. let h : pos 0 -ℤ pos lower_cost ≤ℤ gain prices l = holds.kept p q in omega (arith, ints);
+  below = λ p q. let h : gain prices l ≡ (pos 0 -ℤ pos lower_cost) = holds.below p q in omega (arith, ints);
+  unused = λ p q. let h : gain prices l ≤ℤ (pos 0 -ℤ pos lower_cost) = holds.unused p q in omega (arith, ints);
+  kept = λ p q. let h : (pos 0 -ℤ pos lower_cost) ≤ℤ gain prices l = holds.kept p q in omega (arith, ints);
 }
 
 -- A flow of the least cost lowers least, of those that change as little.

@@ -132,9 +132,9 @@ ArePricesBy heights prices =
 pub record HoldsAt (raise lower : ℕ) (prices : List ℤ) (l : Link) : Type 0 where
   pub most : gain prices l ≤ℤ pos raise
   pub above : l.count < l.flow → gain prices l ≡ pos raise
-  pub below : l.flow < l.count → 0 < l.flow → gain prices l ≡ pos 0 -ℤ pos lower
-  pub unused : l.flow ≡ 0 → 0 < l.count → gain prices l ≤ℤ pos 0 -ℤ pos lower
-  pub kept : l.flow ≡ l.count → 0 < l.flow → pos 0 -ℤ pos lower ≤ℤ gain prices l
+  pub below : l.flow < l.count → 0 < l.flow → gain prices l ≡ (pos 0 -ℤ pos lower)
+  pub unused : l.flow ≡ 0 → 0 < l.count → gain prices l ≤ℤ (pos 0 -ℤ pos lower)
+  pub kept : l.flow ≡ l.count → 0 < l.flow → (pos 0 -ℤ pos lower) ≤ℤ gain prices l
 
 -- Links of the first functions, whose blocks have these prices: they balance, and the prices hold; and there are prices
 -- at the costs of raising and lowering.

@@ -14,6 +14,7 @@ use crate::nodes::{Ends, at_ends};
 // What it costs to raise a count by one, and to lower it by one. Changes weigh far more than what tells the two apart, so
 // the least cost is that of a least change; and of such changes it is one that lowers counts least.
 const RAISE_COST: u64 = 1 << 32;
+
 const LOWER_COST: u64 = RAISE_COST + 1;
 
 impl Link {

@@ -80,7 +80,10 @@ fn opened(address: u64, default_is_stmt: bool, rows: &[Registers]) -> Registers
     let coding = written_coding(default_is_stmt);
     let begun = at_address(start(&coding), address);
     match rows.first() {
-        Some(row) => Registers { file: row.file, ..begun },
+        Some(row) => Registers {
+            file: row.file,
+            ..begun
+        },
         None => begun,
     }
 }
@@ -97,7 +100,7 @@ fn open(
         ++ all_spelled (spec.open_ops (written_coding default_is_stmt) address (moved address rows.now))) }
     ensures after { IfOk result (λ r. r
         ≡ spec.after_rows (spec.opened (written_coding default_is_stmt) address (moved address rows.now))
-            (moved address rows.now)) }
+        (moved address rows.now)) }
     ensures fits { OnOk result (All IsRow (moved address rows.now)) }
 {
     let begun = opened(address, default_is_stmt, rows);
