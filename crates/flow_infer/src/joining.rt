@@ -1,5 +1,5 @@
 // The flows of functions, one function after another.
-ghost use Rattle.std.specs.Prelude.{◌≡◌, ◌+◌, ◌++◌, ◌<◌, ◌^◌, ℕ, All, IfOk, OnOk, length, map, pos, ◌≤ℤ◌};
+ghost use Rattle.std.specs.Prelude.{◌≡◌, ◌+◌, ◌++◌, ◌<◌, ◌^◌, ℕ, All, IfOk, OnOk, length, map, pos, ◌-ℤ◌};
 ghost use Rattle.flow_infer.specs.Flows.{bare};
 ghost use Rattle.flow_infer.specs.Heights.{AreAmong, AreLevel, ArePricesBy, IsLevel, IsSettled, level as level_of};
 
@@ -43,7 +43,7 @@ fn prices(alloc: Global, heights: &[u64]) -> Result<Vec<i64>, NoMemory>
     let outside = level(heights[0])?;
     let mut prices = Vec::new(alloc);
     for n in 1..heights.len() {
-        prices.push(level(heights[n])? - outside)?;
+        prices.push(price(outside, level(heights[n])?))?;
     }
     Ok(prices)
 }
@@ -51,9 +51,9 @@ fn prices(alloc: Global, heights: &[u64]) -> Result<Vec<i64>, NoMemory>
 // How many changes of a count by one a height is worth: what it costs, rounded to a multiple of 2^32. Each count on the
 // way that is lowered costs 1 beside that. Want of memory is answered if these are more than 2^30, which takes as many
 // links, or if the height doesn't fit.
-fn level(height: u64) -> Result<i64, NoMemory>
-    ensures level { IfOk result (λ l. l ≡ pos (level_of height)) }
-    ensures bound { IfOk result (λ l. l ≤ℤ pos (2 ^ 32)) }
+fn level(height: u64) -> Result<u64, NoMemory>
+    ensures level { IfOk result (λ l. l ≡ level_of height) }
+    ensures bound { IfOk result (λ l. l < 2 ^ 32) }
     ensures near { OnOk result (IsLevel height) }
 {
     let half = height.checked_add(1 << 31).ok_or(NoMemory)?;
@@ -61,5 +61,14 @@ fn level(height: u64) -> Result<i64, NoMemory>
     if rest <= 1 << 30 || rest >= 3 << 30 {
         return Err(NoMemory);
     }
-    Ok((half / (1 << 32)) as i64)
+    Ok(half / (1 << 32))
+}
+
+// How much higher a block is than what lies outside, by the levels of both.
+fn price(outside: u64, level: u64) -> i64
+    requires outside { outside < 2 ^ 32 }
+    requires level { level < 2 ^ 32 }
+    ensures { result ≡ pos level -ℤ pos outside }
+{
+    level as i64 - outside as i64
 }
