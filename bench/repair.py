@@ -6,8 +6,9 @@
 The programs have branches, loops and jumps, nested at random, and counts that balance: those are the true ones. They are
 one function of so many blocks each, and, of numbers above 20,000, functions of up to 2,000 blocks. A noisy profile has each
 count off by up to a tenth, a stale one lacks three lines of ten, and a sampled one has each tenth occurrence, ten times.
-Each line has the seconds of the processor, the peak of memory, the total change, and how far the counts of edges are from
-the true ones in sum, before and after, as parts of the sum of true counts. Last come functions that are one path of
+Each line has the seconds of the processor, the peak of memory, the total change, how far the counts of edges are from the
+true ones in sum, before and after, as parts of the sum of true counts, and how many edges that ran, by the profile, don't
+run by the repaired one. Last come functions that are one path of
 20,000 blocks, of which the last half of the counts is halved, or the ways in or out lack; and the programs of
 `examples` that `real_programs.py` can build here, with the profile that `record` writes of a short run. The true
 profiles are checked to be repaired with no change, and to come back as they were; those of recorded runs change a little,
@@ -196,6 +197,11 @@ def read_profile(path):
     return found
 
 
+def lost(counts, repaired):
+    """How many pairs that a profile counts have no count in the repaired one."""
+    return sum(1 for pair, count in counts.items() if count > 0 and repaired.get(pair, 0) == 0)
+
+
 def far(program, counts):
     """How far counts of edges are from the true ones, as a part of these."""
     total = sum(program.counts[pair] for pair in program.edges)
@@ -219,11 +225,13 @@ def measure(command, folder, program, name, change, seed):
     write_file(os.path.join(folder, "in"), program.functions)
     program.write_profile(os.path.join(folder, "profile"), counts)
     seconds, mib, last = run(command, folder)
-    before = far(program, counts)
-    after = far(program, read_profile(os.path.join(folder, "out"))) if "change" in last else float("nan")
+    before, after, gone = far(program, counts), float("nan"), "?"
+    if "change" in last:
+        repaired = read_profile(os.path.join(folder, "out"))
+        after, gone = far(program, repaired), lost({p: c for p, c in counts.items() if p in program.edges}, repaired)
     print(
         f"{program.blocks():8} blocks {name:10} {seconds:7.2f} s {mib:7.0f} MiB  off by {before:6.4f}, repaired {after:6.4f}"
-        f"  {last}",
+        f"  lost {gone}  {last}",
         flush=True,
     )
     if name == "true":
@@ -255,7 +263,8 @@ def recorded(command, folder):
             build(path, program, compiler, parts, layout, "-O2")
             ended = record(command, path, [], os.path.join(folder, "profile"))
             _, _, last = run(command, folder)
-            print(f"{program:12} {compiler:6} {ended}  {last}", flush=True)
+            counts, repaired = read_profile(os.path.join(folder, "profile")), read_profile(os.path.join(folder, "out"))
+            print(f"{program:12} {compiler:6} {ended}  lost {lost(counts, repaired)}  {last}", flush=True)
 
 
 def main():

@@ -1,16 +1,18 @@
 -- Links of functions one behind another: that all balance and hold where those of each function do.
-use Rattle.std.proofs.Common.{◌≡◌, ◌+◌, ◌-◌, ◌<◌, ◌≤◌, ◌==◌, ℕ, ℤ, pos, negsuc, false, List, ◌++◌, Option, Some, None, refl}
-use Rattle.std.proofs.Common.{sym, ap, ◌∙◌, subst, arith, length, get_or, ⊎_elim, ◌⊎◌, inl, inr, if◌then◌else◌}
+use Rattle.std.proofs.Common.{◌≡◌, ◌+◌, ◌-◌, ◌<◌, ◌≤◌, ◌==◌, ℕ, ℤ, pos, negsuc, false, List, [], ◌∷◌, ◌++◌, Option, Some, None, refl}
+use Rattle.std.proofs.Common.{All, add-one, map, sym, ap, ◌∙◌, subst, arith, length, get_or, ⊎_elim, ◌⊎◌, inl, inr, if◌then◌else◌}
 use Rattle.std.specs.Prelude.{◌-ℤ◌, ◌≤ℤ◌}
 use Rattle.std.proofs.lemmas.Int.{ints}
 use Rattle.std.proofs.lemmas.Bool.{ne_eqb, cases_lt}
-use Rattle.std.proofs.lemmas.List.{get_or_append_left, get_or-append_right, length-append}
+use Rattle.std.proofs.lemmas.List.{get_or_append_left, get_or-append_right, get_or-map, length-append, length-map}
 use Rattle.std.proofs.lemmas.List.Sums.{sum_by-append}
 use Rattle.std.proofs.lemmas.List.Elements.{All-append}
 use Rattle.edge_profile.proofs.AscendingPairs.{sum_none}
 use Rattle.flow_infer.specs.declared.flow.Link.{Link}
 use Rattle.flow_infer.specs.Flows.{Balances, Holds, gain, inflow, is_block, outflow, price_of}
-use Rattle.flow_infer.specs.Heights.{AreAmong, ArePricesBy, BalancesWithin, HoldsBy, IsAmong, IsNodeBelow, IsSettled, AllHoldBy, at_node}
+use Rattle.flow_infer.specs.Heights.{AreAmong, AreLevel, ArePricesBy, BalancesWithin, HoldsAt, HoldsBy, HoldsFor, IsAmong, IsLevel}
+use Rattle.flow_infer.specs.Heights.{IsNodeBelow, IsSettled, AllHoldBy, at_node, level, lower_cost, raise_cost}
+use Rattle.flow_infer.proofs.Levels.{levelled}
 
 -- Balance.
 
@@ -58,52 +60,95 @@ balances_joined out links first nodes before among balanced k =
 no_gain : (n : ℕ) → pos 0 ≡ pos n -ℤ pos n
 no_gain n = omega (arith, ints)
 
-price_at : (prices more : List ℤ) (heights : List ℕ) → ArePricesBy heights more → (end : Option ℕ) →
+-- a number of each node, which is that of its height, over that of what lies outside
+abbrev ArePricesOf : (ℕ → ℕ) → List ℕ → List ℤ → Type 0
+ArePricesOf f heights prices = (k : ℕ) → k + 1 < length heights
+    → get_or prices k (pos 0) ≡ pos (f (get_or heights (k + 1) 0)) -ℤ pos (f (get_or heights 0 0))
+
+price_at : (f : ℕ → ℕ) (prices more : List ℤ) (heights : List ℕ) → ArePricesOf f heights more → (end : Option ℕ) →
     IsNodeBelow (length prices) (length heights) end →
-    price_of (prices ++ more) end ≡ pos (at_node heights (length prices) end) -ℤ pos (get_or heights 0 0)
-price_at prices more heights by None within = no_gain (get_or heights 0 0)
-price_at prices more heights by (Some k) within =
+    price_of (prices ++ more) end ≡ pos (f (at_node heights (length prices) end)) -ℤ pos (f (get_or heights 0 0))
+price_at f prices more heights by None within = no_gain (f (get_or heights 0 0))
+price_at f prices more heights by (Some k) within =
     get_or-append_right prices more (length prices) k (pos 0) refl within.0 ∙ by (k - length prices) within.1
 
 abbrev lifted_gain : ℕ → ℕ → ℕ → ℤ
 lifted_gain a b o = (pos b -ℤ pos o) -ℤ (pos a -ℤ pos o)
 
-most_of : (a b o : ℕ) → b ≤ a + 1 → lifted_gain a b o ≤ℤ pos 1
-most_of a b o h = omega (arith, ints)
+most_of : (n a b o : ℕ) → b ≤ a + n → lifted_gain a b o ≤ℤ pos n
+most_of n a b o h = omega (arith, ints)
 
-above_of : (a b o : ℕ) → b ≡ a + 1 → lifted_gain a b o ≡ pos 1
-above_of a b o h = omega (arith, ints)
+above_of : (n a b o : ℕ) → b ≡ a + n → lifted_gain a b o ≡ pos n
+above_of n a b o h = omega (arith, ints)
 
-below_of : (a b o : ℕ) → b + 1 ≡ a → lifted_gain a b o ≡ negsuc 0
-below_of a b o h = omega (arith, ints)
+below_of : (n a b o : ℕ) → b + n ≡ a → lifted_gain a b o ≡ (pos 0 -ℤ pos n)
+below_of n a b o h = omega (arith, ints)
 
-unused_of : (a b o : ℕ) → b + 1 ≤ a → lifted_gain a b o ≤ℤ negsuc 0
-unused_of a b o h = omega (arith, ints)
+unused_of : (n a b o : ℕ) → b + n ≤ a → lifted_gain a b o ≤ℤ (pos 0 -ℤ pos n)
+unused_of n a b o h = omega (arith, ints)
 
-kept_of : (a b o : ℕ) → a ≤ b + 1 → negsuc 0 ≤ℤ lifted_gain a b o
-kept_of a b o h = omega (arith, ints)
+kept_of : (n a b o : ℕ) → a ≤ b + n → (pos 0 -ℤ pos n) ≤ℤ lifted_gain a b o
+kept_of n a b o h = omega (arith, ints)
 
-pub holds_joined : (prices more : List ℤ) (heights : List ℕ) → ArePricesBy heights more → (l : Link) →
-    IsAmong (length prices) (length heights) l → HoldsBy heights (length prices) l → Holds (prices ++ more) l
-holds_joined prices more heights by l among holds =
-    let f : price_of (prices ++ more) l.from ≡ pos (at_node heights (length prices) l.from) -ℤ pos (get_or heights 0 0) =
-    price_at prices more heights by l.from among.from in
-    let t : price_of (prices ++ more) l.to ≡ pos (at_node heights (length prices) l.to) -ℤ pos (get_or heights 0 0) =
-    price_at prices more heights by l.to among.to in
-    let g : gain (prices ++ more) l ≡ (pos (at_node heights (length prices) l.to) -ℤ pos (get_or heights 0 0))
-    -ℤ (pos (at_node heights (length prices) l.from) -ℤ pos (get_or heights 0 0)) =
-    ap (λ (z : ℤ). z -ℤ price_of (prices ++ more) l.from) t
-    ∙ ap (λ (z : ℤ). (pos (at_node heights (length prices) l.to) -ℤ pos (get_or heights 0 0)) -ℤ z) f in
-    let a : ℕ = at_node heights (length prices) l.from in
-    let b : ℕ = at_node heights (length prices) l.to in
-    let o : ℕ = get_or heights 0 0 in
+-- Prices hold at a link where the numbers of its ends do.
+holds_at : (raise lower : ℕ) (f : ℕ → ℕ) (prices more : List ℤ) (heights : List ℕ) → ArePricesOf f heights more → (l : Link) →
+    IsAmong (length prices) (length heights) l →
+    HoldsFor raise lower (f (at_node heights (length prices) l.from)) (f (at_node heights (length prices) l.to)) l →
+    HoldsAt raise lower (prices ++ more) l
+holds_at raise lower f prices more heights by l among holds =
+    let o : ℕ = f (get_or heights 0 0) in
+    let a : ℕ = f (at_node heights (length prices) l.from) in
+    let b : ℕ = f (at_node heights (length prices) l.to) in
+    let s : price_of (prices ++ more) l.from ≡ pos a -ℤ pos o = price_at f prices more heights by l.from among.from in
+    let t : price_of (prices ++ more) l.to ≡ pos b -ℤ pos o = price_at f prices more heights by l.to among.to in
+    let g : gain (prices ++ more) l ≡ lifted_gain a b o =
+    ap (λ (z : ℤ). z -ℤ price_of (prices ++ more) l.from) t ∙ ap (λ (z : ℤ). (pos b -ℤ pos o) -ℤ z) s in
     record {
-      most = subst (λ (z : ℤ). z ≤ℤ pos 1) (sym g) (most_of a b o holds.most);
-      above = λ p. g ∙ above_of a b o (holds.above p);
-      below = λ p q. g ∙ below_of a b o (holds.below p q);
-      unused = λ p q. subst (λ (z : ℤ). z ≤ℤ negsuc 0) (sym g) (unused_of a b o (holds.unused p q));
-      kept = λ p q. subst (λ (z : ℤ). negsuc 0 ≤ℤ z) (sym g) (kept_of a b o (holds.kept p q));
+      most = subst (λ (z : ℤ). z ≤ℤ pos raise) (sym g) (most_of raise a b o holds.most);
+      above = λ p. g ∙ above_of raise a b o (holds.above p);
+      below = λ p q. g ∙ below_of lower a b o (holds.below p q);
+      unused = λ p q. subst (λ (z : ℤ). z ≤ℤ (pos 0 -ℤ pos lower)) (sym g) (unused_of lower a b o (holds.unused p q));
+      kept = λ p q. subst (λ (z : ℤ). (pos 0 -ℤ pos lower) ≤ℤ z) (sym g) (kept_of lower a b o (holds.kept p q));
     }
+
+-- Those that hold at a cost of 1 are prices of a repaired profile.
+plain : (prices : List ℤ) (l : Link) → HoldsAt 1 1 prices l → Holds prices l
+plain prices l holds = record {
+  most = holds.most;
+  above = holds.above;
+  below = holds.below;
+  unused = holds.unused;
+  kept = holds.kept;
+}
+
+level_at : (heights : List ℕ) (first : ℕ) (end : Option ℕ) → 0 < length heights → AreLevel heights → IsNodeBelow first (length heights) end
+    → IsLevel (at_node heights first end)
+level_at heights first None some are within = are 0 some
+level_at heights first (Some k) some are within = are (k - first + 1) within.1
+
+pub holds_joined : (prices more : List ℤ) (heights : List ℕ) → 0 < length heights → AreLevel heights → ArePricesBy heights more →
+    (l : Link) →
+    IsAmong (length prices) (length heights) l → HoldsBy heights (length prices) l → Holds (prices ++ more) l
+holds_joined prices more heights some are by l among holds =
+    plain (prices ++ more) l (holds_at 1 1 level prices more heights by l among
+    (levelled (at_node heights (length prices) l.from) (at_node heights (length prices) l.to) l
+    (level_at heights (length prices) l.from some are among.from) (level_at heights (length prices) l.to some are among.to) holds))
+
+-- The heights themselves, over that of what lies outside.
+abbrev weights_of : List ℕ → List ℤ
+weights_of [] = []
+weights_of (o ∷ hs) = map (λ h. pos h -ℤ pos o) hs
+
+weights_long : (heights : List ℕ) → 0 < length heights → length (weights_of heights) + 1 ≡ length heights
+weights_long [] some = absurd (omega arith)
+weights_long (o ∷ hs) some = ap (λ (n : ℕ). n + 1) (length-map hs (λ h. pos h -ℤ pos o)) ∙ omega arith
+
+weights_are : (heights : List ℕ) → ArePricesOf (λ h. h) heights (weights_of heights)
+weights_are [] k within = absurd (omega arith)
+weights_are (o ∷ hs) k within =
+    let lt : k < length hs = omega arith in
+    get_or-map (λ (h : ℕ). pos h -ℤ pos o) hs k 0 (pos 0) lt
+    ∙ sym (ap (λ (j : ℕ). pos (get_or (o ∷ hs) j 0) -ℤ pos o) (add-one k))
 
 -- Prices of further blocks change nothing for links of those before.
 price_kept : (prices more : List ℤ) (end : Option ℕ) → IsNodeBelow 0 (length prices + 1) end →
@@ -112,17 +157,32 @@ price_kept prices more None within = refl
 price_kept prices more (Some k) within = let lt : k < length prices = let w : k - 0 + 1 < length prices + 1 = within.1 in omega arith in
     get_or_append_left prices more (pos 0) k lt
 
+gain_kept : (prices more : List ℤ) (l : Link) → IsAmong 0 (length prices + 1) l → gain (prices ++ more) l ≡ gain prices l
+gain_kept prices more l among =
+    ap (λ (z : ℤ). z -ℤ price_of (prices ++ more) l.from) (price_kept prices more l.to among.to)
+    ∙ ap (λ (z : ℤ). price_of prices l.to -ℤ z) (price_kept prices more l.from among.from)
+
 holds_kept : (prices more : List ℤ) (l : Link) → IsAmong 0 (length prices + 1) l → Holds prices l → Holds (prices ++ more) l
 holds_kept prices more l among holds =
-    let e : gain (prices ++ more) l ≡ gain prices l =
-    ap (λ (z : ℤ). z -ℤ price_of (prices ++ more) l.from) (price_kept prices more l.to among.to)
-    ∙ ap (λ (z : ℤ). price_of prices l.to -ℤ z) (price_kept prices more l.from among.from) in
+    let e : gain (prices ++ more) l ≡ gain prices l = gain_kept prices more l among in
     record {
       most = subst (λ (z : ℤ). z ≤ℤ pos 1) (sym e) holds.most;
       above = λ p. e ∙ holds.above p;
       below = λ p q. e ∙ holds.below p q;
       unused = λ p q. subst (λ (z : ℤ). z ≤ℤ negsuc 0) (sym e) (holds.unused p q);
       kept = λ p q. subst (λ (z : ℤ). negsuc 0 ≤ℤ z) (sym e) (holds.kept p q);
+    }
+
+weights_kept : (prices more : List ℤ) (l : Link) → IsAmong 0 (length prices + 1) l → HoldsAt raise_cost lower_cost prices l →
+    HoldsAt raise_cost lower_cost (prices ++ more) l
+weights_kept prices more l among holds =
+    let e : gain (prices ++ more) l ≡ gain prices l = gain_kept prices more l among in
+    record {
+      most = subst (λ (z : ℤ). z ≤ℤ pos raise_cost) (sym e) holds.most;
+      above = λ p. e ∙ holds.above p;
+      below = λ p q. e ∙ holds.below p q;
+      unused = λ p q. subst (λ (z : ℤ). z ≤ℤ (pos 0 -ℤ pos lower_cost)) (sym e) (holds.unused p q);
+      kept = λ p q. subst (λ (z : ℤ). (pos 0 -ℤ pos lower_cost) ≤ℤ z) (sym e) (holds.kept p q);
     }
 
 node_wider : (m n : ℕ) (end : Option ℕ) → m ≤ n → IsNodeBelow 0 (m + 1) end → IsNodeBelow 0 (n + 1) end
@@ -135,17 +195,35 @@ node_of_all first nodes n (Some k) e within =
     let w : k - first + 1 < nodes = within.1 in let v : first ≤ k = within.0 in (omega arith, omega arith)
 
 pub settled_joined : (links chunk : List Link) (prices more : List ℤ) (heights : List ℕ) → IsSettled links prices →
-    length more + 1 ≡ length heights → ArePricesBy heights more → AreAmong (length prices) (length heights) chunk →
+    length more + 1 ≡ length heights → AreLevel heights → ArePricesBy heights more → AreAmong (length prices) (length heights) chunk →
     BalancesWithin (length prices) (length heights) chunk → AllHoldBy heights (length prices) chunk →
     IsSettled (links ++ chunk) (prices ++ more)
-settled_joined links chunk prices more heights settled tall by among balanced hold =
+settled_joined links chunk prices more heights settled tall are by among balanced hold =
     let n : ℕ = length (prices ++ more) in
     let long : n ≡ length prices + length more = length-append prices more in
+    let some : 0 < length heights = omega arith in
+    let weights : List ℤ = settled.costs.0 in
+    let as_long : length weights ≡ length prices = settled.costs.1 in
+    let weighed : All (HoldsAt raise_cost lower_cost weights) links = settled.costs.2 in
+    let both : List ℤ = weights ++ weights_of heights in
+    let both_long : length both ≡ length (prices ++ more) =
+    let w = length-append weights (weights_of heights) in let v = weights_long heights some in omega arith in
     record {
       balances = balances_joined links chunk (length prices) (length heights) settled.balances among balanced;
       hold = All-append (Holds (prices ++ more)) links chunk
           (λ k d within. holds_kept prices more (get_or links k d) (settled.among k d within) (settled.hold k d within))
-          (λ k d within. holds_joined prices more heights by (get_or chunk k d) (among k d within) (hold k d within));
+          (λ k d within. holds_joined prices more heights some are by (get_or chunk k d) (among k d within) (hold k d within));
+      costs = (
+        both,
+        both_long,
+        All-append (HoldsAt raise_cost lower_cost both) links chunk
+            (λ k d within. weights_kept weights (weights_of heights) (get_or links k d)
+            (subst (λ (m : ℕ). IsAmong 0 (m + 1) (get_or links k d)) (sym as_long) (settled.among k d within)) (weighed k d within))
+            (λ k d within. holds_at raise_cost lower_cost (λ h. h) weights (weights_of heights) heights (weights_are heights)
+            (get_or chunk k d)
+            (subst (λ (m : ℕ). IsAmong m (length heights) (get_or chunk k d)) (sym as_long) (among k d within))
+            (subst (λ (m : ℕ). HoldsBy heights m (get_or chunk k d)) (sym as_long) (hold k d within))),
+      );
       among = All-append (IsAmong 0 (n + 1)) links chunk
           (λ k d within. let was : IsAmong 0 (length prices + 1) (get_or links k d) = settled.among k d within in
           let le : length prices ≤ n = omega arith in
@@ -160,9 +238,9 @@ settled_joined links chunk prices more heights settled tall by among balanced ho
 
 pub settled_added : (links chunk out : List Link) (prices more out_prices : List ℤ) (heights : List ℕ) (first nodes : ℕ) →
     first ≡ length prices → length heights ≡ nodes → out ≡ links ++ chunk → out_prices ≡ prices ++ more →
-    length more + 1 ≡ length heights → ArePricesBy heights more → AreAmong first nodes chunk →
+    length more + 1 ≡ length heights → AreLevel heights → ArePricesBy heights more → AreAmong first nodes chunk →
     BalancesWithin first nodes chunk → AllHoldBy heights first chunk → IsSettled links prices → IsSettled out out_prices
-settled_added links chunk out prices more out_prices heights first nodes first_is tall out_is prices_are long by among balanced hold
+settled_added links chunk out prices more out_prices heights first nodes first_is tall out_is prices_are long are by among balanced hold
     settled =
     let among' : AreAmong (length prices) (length heights) chunk =
     subst (λ (n : ℕ). AreAmong (length prices) n chunk) (sym tall) (subst (λ (f : ℕ). AreAmong f nodes chunk) first_is among) in
@@ -171,6 +249,6 @@ settled_added links chunk out prices more out_prices heights first nodes first_i
     (subst (λ (f : ℕ). BalancesWithin f nodes chunk) first_is balanced) in
     let hold' : AllHoldBy heights (length prices) chunk = subst (λ (f : ℕ). AllHoldBy heights f chunk) first_is hold in
     let joined : IsSettled (links ++ chunk) (prices ++ more) =
-    settled_joined links chunk prices more heights settled long by among' balanced' hold' in
+    settled_joined links chunk prices more heights settled long are by among' balanced' hold' in
     subst (λ (xs : List Link). IsSettled xs out_prices) (sym out_is)
     (subst (λ (ps : List ℤ). IsSettled (links ++ chunk) ps) (sym prices_are) joined)

@@ -7,7 +7,7 @@ use Rattle.std.proofs.lemmas.List.Elements.{All-set}
 use Rattle.flow_infer.specs.declared.flow.Link.{Link}
 use Rattle.flow_infer.specs.Flows.{AreSameLinks, bare}
 use Rattle.flow_infer.specs.Heights.{HasMoved, HoldsBetween, HoldsRaised, HoldsBy, IsAmong, IsNodeBelow, IsSteady, EndMayRise}
-use Rattle.flow_infer.specs.Heights.{StartMayRise, at_node, node_of, raised}
+use Rattle.flow_infer.specs.Heights.{StartMayRise, at_node, lower_cost, node_of, raise_cost, raised}
 
 pub node_below : (first nodes : ℕ) (end : Option ℕ) → 0 < nodes → IsNodeBelow first nodes end → node_of first end < nodes
 node_below first nodes None some within = some
@@ -90,11 +90,20 @@ raised_more heights distances first links i step x a b p q within a_is b_is p_is
 pub step_holds : (a b p q s t step : ℕ) (l : Link) → EndMayRise a b s l → StartMayRise a b t l →
     step - q ≤ (step - p) + s → step - p ≤ (step - q) + t → HoldsBetween a b l → HoldsBetween (raised step p a) (raised step q b) l
 step_holds a b p q s t step l end start no_more no_less holds =
-    let most : b + s ≤ a + 1 = end.most in
+    let most : b + s ≤ a + raise_cost = end.most in
     record {
       most = omega arith;
-      above = λ over. let low : a + t + 1 ≤ b = start.above over in omega arith;
-      below = λ under some. let high : b + s + 1 ≤ a = end.below under in let low : a + t ≤ b + 1 = start.kept some in omega arith;
-      unused = λ none some. let under : l.flow < l.count = omega arith in let high : b + s + 1 ≤ a = end.below under in omega arith;
-      kept = λ same some. let low : a + t ≤ b + 1 = start.kept some in omega arith;
+      above = λ over.
+          let low : a + t + raise_cost ≤ b = start.above over in
+          let tight : b ≡ a + raise_cost = holds.above over in
+          omega arith;
+      below = λ under some.
+          let high : b + s + lower_cost ≤ a = end.below under in
+          let low : a + t ≤ b + lower_cost = start.kept some in
+          omega arith;
+      unused = λ none some.
+          let under : l.flow < l.count = omega arith in
+          let high : b + s + lower_cost ≤ a = end.below under in
+          omega arith;
+      kept = λ same some. let low : a + t ≤ b + lower_cost = start.kept some in omega arith;
     }

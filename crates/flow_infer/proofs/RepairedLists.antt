@@ -20,6 +20,7 @@ use Rattle.flow_infer.specs.Heights.{IsSettled}
 use Rattle.flow_infer.specs.Links.{AreEnds, CountedEnds, IsLinkBefore, a_block, counted_ends}
 use Rattle.flow_infer.specs.Repairing.{AreRepaired}
 use Rattle.flow_infer.specs.Repairs.{IsRepaired}
+use Rattle.flow_infer.proofs.LeastChange.{lowers_least}
 use Rattle.flow_infer.specs.Sources.{AreLinksWithin, AreSources, IsCodeOf, IsFunctionFrom, IsFunctionRange, IsLinkWithin, PartsFunctions}
 
 -- Functions of blocks in order.
@@ -188,4 +189,5 @@ module _ (s : Source) (sources : AreSources s) where
     balances = was.settled.balances;
     priced = all;
     hold = was.settled.hold;
+    lowers = lowers_least flow.links.items was.settled.costs.0 was.settled.balances was.settled.costs.2;
   }

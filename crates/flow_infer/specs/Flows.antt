@@ -1,5 +1,6 @@
--- Flows over links: that they balance, how much they change the counts, and prices that show that no change is less.
-use Rattle.std.specs.Prelude.{◌≡◌, ◌+◌, ◌-◌, ◌<◌, ◌==◌, ℕ, ℤ, pos, negsuc, ◌-ℤ◌, ◌≤ℤ◌, Bool, false, List, Option, Some}
+-- Flows over links: that they balance, how much they change the counts and lower them, and prices that show that no
+-- change is less.
+use Rattle.std.specs.Prelude.{◌≡◌, ◌+◌, ◌-◌, ◌<◌, ◌≤◌, ◌==◌, ℕ, ℤ, pos, negsuc, ◌-ℤ◌, ◌≤ℤ◌, Bool, false, List, Option, Some}
 use Rattle.std.specs.Prelude.{None, All, map, sum_by, slice_index_or, if◌then◌else◌}
 use Rattle.flow_infer.specs.declared.flow.Link.{Link}
 
@@ -25,6 +26,10 @@ distance m n = (m - n) + (n - m)
 
 abbrev pub change : List Link → ℕ
 change links = sum_by (λ l. distance l.flow l.count) links
+
+-- how far counts are lowered
+abbrev pub lowering : List Link → ℕ
+lowering links = sum_by (λ l. l.count - l.flow) links
 
 -- the price of a block; what lies outside has the price 0
 abbrev pub price_of : List ℤ → Option ℕ → ℤ
@@ -52,3 +57,8 @@ bare l = record l { flow = 0 }
 
 abbrev pub AreSameLinks : List Link → List Link → Type 0
 AreSameLinks links others = map bare links ≡ map bare others
+
+-- No flow on these links that balances, and changes the counts as little, lowers them less.
+abbrev pub LowersLeast : List Link → Type 0
+LowersLeast links = (others : List Link) → AreSameLinks links others → Balances others → change others ≡ change links →
+    lowering links ≤ lowering others

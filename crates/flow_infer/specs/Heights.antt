@@ -1,13 +1,13 @@
 -- Heights of the nodes of one function, by which its flows are found: prices from 0 up, with one for what lies outside.
-use Rattle.std.specs.Prelude.{◌≡◌, ◌+◌, ◌-◌, ◌<◌, ◌≤◌, ℕ, List, Option, Some, None, All, IfSome, length}
-use Rattle.std.specs.Prelude.{slice_index, slice_index_or, ℤ, pos, ◌-ℤ◌, Vec}
+use Rattle.std.specs.Prelude.{◌≡◌, ◌+◌, ◌-◌, ◌*◌, ◌/◌, ◌%◌, ◌^◌, ◌<◌, ◌≤◌, ℕ, List, Option, Some, None, All, IfSome, length}
+use Rattle.std.specs.Prelude.{slice_index, slice_index_or, ℤ, pos, ◌-ℤ◌, ◌≤ℤ◌, Vec}
 use Rattle.std.specs.declared.alloc.Global.{Global}
 use Rattle.std.specs.declared.cmp.Reverse.{Reverse}
 use Rattle.flow_infer.specs.declared.flow.Link.{Link}
 use Rattle.flow_infer.specs.declared.direction.Direction.{Direction}
 use Rattle.flow_infer.specs.declared.direction.Direction.TheVariants.{Along, Against}
 use Rattle.flow_infer.specs.declared.arcs.Arc.{Arc}
-use Rattle.flow_infer.specs.Flows.{AllHold, AreSameLinks, Balances, inflow, outflow}
+use Rattle.flow_infer.specs.Flows.{AllHold, AreSameLinks, Balances, gain, inflow, outflow}
 
 -- The nodes are numbered from 0, which lies outside, on: the block at `first` is 1.
 abbrev pub node_of : ℕ → Option ℕ → ℕ
@@ -25,13 +25,24 @@ pub record IsAmong (first nodes : ℕ) (l : Link) : Type 0 where
 abbrev pub AreAmong : ℕ → ℕ → List Link → Type 0
 AreAmong first nodes links = All (IsAmong first nodes) links
 
--- Heights a of a link's start and b of its end are prices that hold.
-pub record HoldsBetween (a b : ℕ) (l : Link) : Type 0 where
-  pub most : b ≤ a + 1
-  pub above : l.count < l.flow → b ≡ a + 1
-  pub below : l.flow < l.count → 0 < l.flow → b + 1 ≡ a
-  pub unused : l.flow ≡ 0 → 0 < l.count → b + 1 ≤ a
-  pub kept : l.flow ≡ l.count → 0 < l.flow → a ≤ b + 1
+-- What it costs to raise a count by one, and to lower it by one. A flow of the least cost is one of the least change; and
+-- of these it lowers counts least.
+abbrev pub raise_cost : ℕ
+raise_cost = 2 ^ 32
+
+abbrev pub lower_cost : ℕ
+lower_cost = 2 ^ 32 + 1
+
+-- Heights a of a link's start and b of its end are prices that hold, where raising and lowering a count cost this much.
+pub record HoldsFor (raise lower a b : ℕ) (l : Link) : Type 0 where
+  pub most : b ≤ a + raise
+  pub above : l.count < l.flow → b ≡ a + raise
+  pub below : l.flow < l.count → 0 < l.flow → b + lower ≡ a
+  pub unused : l.flow ≡ 0 → 0 < l.count → b + lower ≤ a
+  pub kept : l.flow ≡ l.count → 0 < l.flow → a ≤ b + lower
+
+abbrev pub HoldsBetween : ℕ → ℕ → Link → Type 0
+HoldsBetween a b l = HoldsFor raise_cost lower_cost a b l
 
 -- the number of a node, as its height
 abbrev pub at_node : List ℕ → ℕ → Option ℕ → ℕ
@@ -45,12 +56,12 @@ AllHoldBy heights first links = All (HoldsBy heights first) links
 
 -- The end of a link may rise by `slack` more than its start, and prices go on to hold; or its start more than its end.
 pub record EndMayRise (a b slack : ℕ) (l : Link) : Type 0 where
-  pub most : b + slack ≤ a + 1
-  pub below : l.flow < l.count → b + slack + 1 ≤ a
+  pub most : b + slack ≤ a + raise_cost
+  pub below : l.flow < l.count → b + slack + lower_cost ≤ a
 
 pub record StartMayRise (a b slack : ℕ) (l : Link) : Type 0 where
-  pub above : l.count < l.flow → a + slack + 1 ≤ b
-  pub kept : 0 < l.flow → a + slack ≤ b + 1
+  pub above : l.count < l.flow → a + slack + raise_cost ≤ b
+  pub kept : 0 < l.flow → a + slack ≤ b + lower_cost
 
 -- the height of a node at a distance after a step, in which it rises by what the step is longer than the distance
 abbrev pub raised : ℕ → ℕ → ℕ → ℕ
@@ -99,14 +110,36 @@ AreArcs links nodes around = All (λ arcs. All (IsArcOf links nodes) arcs.items)
 abbrev pub AreNodes : ℕ → List (Reverse ℕ × ℕ) → Type 0
 AreNodes nodes queued = All (λ e. e.1 < nodes) queued
 
--- The prices of a function's blocks are their heights over that of what lies outside.
+-- Heights are sums of costs along ways: whole multiples of 2 ^ 32, and a rest for each count on the way that is lowered.
+-- That multiple, rounded, and that the rest is small, as it is on all ways of fewer than 2 ^ 30 links.
+abbrev pub level : ℕ → ℕ
+level h = (h + 2 ^ 31) / 2 ^ 32
+
+abbrev pub IsLevel : ℕ → Type 0
+IsLevel h = (2 ^ 30 < (h + 2 ^ 31) % 2 ^ 32) × ((h + 2 ^ 31) % 2 ^ 32 < 3 * 2 ^ 30)
+
+abbrev pub AreLevel : List ℕ → Type 0
+AreLevel heights = (n : ℕ) → n < length heights → IsLevel (slice_index heights n)
+
+-- The prices of a function's blocks are their levels over that of what lies outside.
 abbrev pub ArePricesBy : List ℕ → List ℤ → Type 0
 ArePricesBy heights prices =
     (k : ℕ) → k + 1 < length heights →
-    slice_index_or prices k (pos 0) ≡ pos (slice_index heights (k + 1)) -ℤ pos (slice_index heights 0)
+    slice_index_or prices k (pos 0) ≡ pos (level (slice_index heights (k + 1))) -ℤ pos (level (slice_index heights 0))
 
--- Links of the first functions, whose blocks have these prices: they balance, and the prices hold.
+-- Prices of blocks that hold, where raising and lowering a count by one cost this much. Where both cost 1 they are those
+-- of a repaired profile.
+pub record HoldsAt (raise lower : ℕ) (prices : List ℤ) (l : Link) : Type 0 where
+  pub most : gain prices l ≤ℤ pos raise
+  pub above : l.count < l.flow → gain prices l ≡ pos raise
+  pub below : l.flow < l.count → 0 < l.flow → gain prices l ≡ (pos 0 -ℤ pos lower)
+  pub unused : l.flow ≡ 0 → 0 < l.count → gain prices l ≤ℤ (pos 0 -ℤ pos lower)
+  pub kept : l.flow ≡ l.count → 0 < l.flow → (pos 0 -ℤ pos lower) ≤ℤ gain prices l
+
+-- Links of the first functions, whose blocks have these prices: they balance, and the prices hold; and there are prices
+-- at the costs of raising and lowering.
 pub record IsSettled (links : List Link) (prices : List ℤ) : Type 0 where
   pub balances : Balances links
   pub hold : AllHold prices links
+  pub costs : (weights : List ℤ) × (length weights ≡ length prices) × All (HoldsAt raise_cost lower_cost weights) links
   pub among : AreAmong 0 (length prices + 1) links

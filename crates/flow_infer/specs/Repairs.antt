@@ -1,10 +1,11 @@
--- A repaired profile: flows over all links that balance, and prices that show that they change the counts least.
+-- A repaired profile: flows over all links that balance, with prices that show that they change the counts least; and of
+-- all such flows one that lowers them least, so that what ran goes on to run.
 use Rattle.std.specs.Prelude.{◌≡◌, ℕ, List, length}
 use Rattle.rv_code.specs.declared.placed.Block.{Block}
 use Rattle.rv_code.specs.layout.ProgramCode.{ProgramCode}
 use Rattle.edge_profile.specs.PairCounts.{Counted}
 use Rattle.flow_infer.specs.declared.flow.Flow.{Flow}
-use Rattle.flow_infer.specs.Flows.{AllHold, Balances}
+use Rattle.flow_infer.specs.Flows.{AllHold, Balances, LowersLeast}
 use Rattle.flow_infer.specs.Links.{AreLinks}
 
 pub record IsRepaired (code : ProgramCode) (blocks : List Block) (edges : List (ℕ × ℕ)) (pairs : List Counted)
@@ -13,3 +14,4 @@ pub record IsRepaired (code : ProgramCode) (blocks : List Block) (edges : List (
   pub balances : Balances flow.links.items
   pub priced : length flow.prices.items ≡ length blocks
   pub hold : AllHold flow.prices.items flow.links.items
+  pub lowers : LowersLeast flow.links.items

@@ -1,7 +1,7 @@
 // The flows of functions, one function after another.
 ghost use Rattle.std.specs.Prelude.{◌≡◌, ◌+◌, ◌++◌, ◌<◌, ◌^◌, ℕ, All, IfOk, OnOk, length, map, pos, ◌-ℤ◌};
 ghost use Rattle.flow_infer.specs.Flows.{bare};
-ghost use Rattle.flow_infer.specs.Heights.{AreAmong, ArePricesBy, IsSettled};
+ghost use Rattle.flow_infer.specs.Heights.{AreAmong, AreLevel, ArePricesBy, IsLevel, IsSettled, level as level_of};
 
 use crate::flow::{Flow, Link};
 use crate::settling::settle;
@@ -33,29 +33,42 @@ pub fn add_function(
     Ok(())
 }
 
-// The prices of blocks by the heights of nodes.
+// The prices of blocks by the heights of nodes: how many more changes they are worth than what lies outside.
 fn prices(alloc: Global, heights: &[u64]) -> Result<Vec<i64>, NoMemory>
     requires { 0 < length heights.now }
     ensures length { IfOk result (λ prices. length prices.items + 1 ≡ length heights.now) }
     ensures prices { IfOk result (λ prices. ArePricesBy heights.now prices.items) }
+    ensures level { OnOk result (AreLevel heights.now) }
 {
+    let outside = level(heights[0])?;
     let mut prices = Vec::new(alloc);
     for n in 1..heights.len() {
-        prices.push(price(heights[0], heights[n])?)?;
+        prices.push(price(outside, level(heights[n])?))?;
     }
     Ok(prices)
 }
 
-// Heights have to be below this, so that the difference of two fits a price.
-const HEIGHT_LIMIT: u64 = 1 << 62;
-
-// How much higher a node is than what lies outside, by the heights of both. Heights past the limit are answered as want
-// of memory.
-fn price(outside: u64, height: u64) -> Result<i64, NoMemory>
-    ensures { IfOk result (λ price. price ≡ pos height -ℤ pos outside) }
+// How many changes of a count by one a height is worth: what it costs, rounded to a multiple of 2^32. Each count on the
+// way that is lowered costs 1 beside that. Want of memory is answered if these are more than 2^30, which takes as many
+// links, or if the height doesn't fit.
+fn level(height: u64) -> Result<u64, NoMemory>
+    ensures level { IfOk result (λ l. l ≡ level_of height) }
+    ensures bound { IfOk result (λ l. l < 2 ^ 32) }
+    ensures near { OnOk result (IsLevel height) }
 {
-    if outside >= HEIGHT_LIMIT || height >= HEIGHT_LIMIT {
+    let half = height.checked_add(1 << 31).ok_or(NoMemory)?;
+    let rest = half % (1 << 32);
+    if rest <= 1 << 30 || rest >= 3 << 30 {
         return Err(NoMemory);
     }
-    Ok(height as i64 - outside as i64)
+    Ok(half / (1 << 32))
+}
+
+// How much higher a block is than what lies outside, by the levels of both.
+fn price(outside: u64, level: u64) -> i64
+    requires outside { outside < 2 ^ 32 }
+    requires level { level < 2 ^ 32 }
+    ensures { result ≡ pos level -ℤ pos outside }
+{
+    level as i64 - outside as i64
 }

@@ -1,6 +1,7 @@
-// How much flow a link takes at given heights, and how far heights may rise. A link whose end is higher than its start
-// takes any flow, and gives back what it has above its count. One whose end is lower by 1 takes what it has below its
-// count, and gives back all. Any other takes none and gives none back.
+// How much flow a link takes at given heights, and how far heights may rise. A link whose end is higher than its start by
+// what raising its count costs takes any flow, and gives back what it has above its count. One whose end is lower by what
+// lowering its count costs takes what it has below its count, and gives back all. Any other takes none and gives none
+// back.
 ghost use Rattle.std.specs.Prelude.{◌≡◌, ◌+◌, ◌-◌, ◌<◌, ◌≤◌, ◌^◌, ℕ, length};
 ghost use Rattle.flow_infer.specs.declared.direction.Direction.TheVariants.{Along, Against};
 ghost use Rattle.flow_infer.specs.Flows.{bare};
@@ -9,6 +10,12 @@ ghost use Rattle.flow_infer.specs.Heights.{EndMayRise, HoldsBetween, IsSteady, S
 use crate::direction::Direction;
 use crate::flow::Link;
 use crate::nodes::{Ends, at_ends};
+
+// What it costs to raise a count by one, and to lower it by one. Changes weigh far more than what tells the two apart, so
+// the least cost is that of a least change; and of such changes it is one that lowers counts least.
+const RAISE_COST: u64 = 1 << 32;
+
+const LOWER_COST: u64 = RAISE_COST + 1;
 
 impl Link {
     // How much more may flow over the link in a direction, at the heights of its ends.
@@ -32,9 +39,9 @@ impl Link {
     {
         let Ends { start, end } = heights;
         let flow = self.flow;
-        if start < end {
+        if end > start && end - start == RAISE_COST {
             u128::MAX - flow
-        } else if start > end && start - end == 1 {
+        } else if start > end && start - end == LOWER_COST {
             self.count.saturating_sub(flow)
         } else {
             0
@@ -48,9 +55,9 @@ impl Link {
             HoldsBetween heights.start heights.end (record self.now { flow = self.now.flow - d }) }
     {
         let Ends { start, end } = heights;
-        if start < end {
+        if end > start && end - start == RAISE_COST {
             self.flow.saturating_sub(self.count)
-        } else if start > end && start - end == 1 {
+        } else if start > end && start - end == LOWER_COST {
             self.flow
         } else {
             0
@@ -89,9 +96,9 @@ impl Link {
     {
         let Ends { start, end } = heights;
         if self.flow < self.count {
-            start.saturating_sub(end).saturating_sub(1)
+            start.saturating_sub(end).saturating_sub(LOWER_COST)
         } else {
-            start.saturating_add(1).saturating_sub(end)
+            start.saturating_add(RAISE_COST).saturating_sub(end)
         }
     }
 
@@ -105,7 +112,7 @@ impl Link {
         } else if self.flow > self.count {
             0
         } else {
-            end.saturating_add(1).saturating_sub(start)
+            end.saturating_add(LOWER_COST).saturating_sub(start)
         }
     }
 

@@ -2,6 +2,7 @@
 use Rattle.std.proofs.Common.{◌≡◌, ◌<◌, ◌≤◌, ◌-◌, ◌+◌, ◌*◌, ◌^◌, ◌==◌, ◌++◌, ◌&&◌, ℕ, List, [], ◌∷◌, refl, arith, ◌∙◌, ap}
 use Rattle.std.specs.Bool.{beq}
 use Rattle.std.proofs.Common.{Bool, true, false, cond, not, nat_le, nat_lt, length, length-append, Option, Some, None, FitsSigned}
+use Rattle.std.proofs.lemmas.Bool.{eq-eqb}
 use Rattle.std.proofs.lemmas.Bool.Decides.{nat_tests}
 use Rattle.std.proofs.lemmas.Int.{ints}
 use Rattle.std.proofs.lemmas.List.Sums.{sum_by-cons}
@@ -9,7 +10,8 @@ use Rattle.std.specs.Int.{w64}
 use Rattle.std.specs.Prelude.{sum_by}
 use Rattle.byteorder.specs.Numbers.{length-bytes_low_first}
 use Rattle.byteorder.specs.Endian.{little_bytes}
-use Rattle.rb_bytes.proofs.UnsignedLeb.{length-uleb-le}
+use Rattle.rb_bytes.specs.Leb.{uleb}
+use Rattle.rb_bytes.proofs.UnsignedLeb.{length-uleb-le, uleb-last}
 use Rattle.rb_bytes.proofs.SignedLeb.{length-sleb-le}
 use Rattle.line_rewrite.specs.declared.coding.Coding.{Coding}
 use Rattle.line_rewrite.specs.declared.registers.Registers.{Registers}
@@ -21,7 +23,7 @@ use Rattle.line_rewrite.specs.declared.run_writer.Going.{Going}
 use Rattle.line_rewrite.specs.Operations.{is_whole, whole_within}
 use Rattle.line_rewrite.specs.LineMachine.{after_row}
 use Rattle.line_rewrite.specs.Written.{IsRow, unless, line_distance, above_base, step_ops, row_ops, rows_ops, spelled, all_spelled}
-use Rattle.line_rewrite.specs.WrittenPrograms.{Piece, piece_end, opened, close_ops, open_ops, run_ops, piece_ops, going_after, closing_ops}
+use Rattle.line_rewrite.specs.WrittenPrograms.{Piece, piece_end, first_file, opened, close_ops, open_ops, run_ops, piece_ops, going_after, closing_ops}
 use Rattle.line_rewrite.proofs.PieceSequences.{program_ops}
 use Rattle.line_rewrite.proofs.RowOps.{spelled_append, first2, first3, first4, first5, first6, first7, first8}
 use Rattle.line_rewrite.proofs.Soundness.{whole_step}
@@ -113,9 +115,13 @@ closing_written : (o : Option Going) → EndsLow o → AreWritten (closing_ops o
 closing_written None low = tt
 closing_written (Some g) low = close_written g low
 
+file_written : (files a : ℕ) (rows : List Registers) → ArePieceRows files a rows → first_file rows < 2 ^ 64
+file_written files a [] are = omega arith
+file_written files a (row ∷ rows) are = are.0.file
+
 open_written : (coding : Coding) (files a : ℕ) (rows : List Registers) → a < 2 ^ 64 → ArePieceRows files a rows
     → AreWritten (open_ops coding a rows)
-open_written coding files a rows h are = (h, rows_written files a (opened coding a) rows are)
+open_written coding files a rows h are = (h, (file_written files a rows are, rows_written files a (opened coding a rows) rows are))
 
 run_written : (coding : Coding) (files : ℕ) (o : Option Going) (a : ℕ) (rows : List Registers) → EndsLow o → a < 2 ^ 64
     → ArePieceRows files a rows
@@ -184,18 +190,21 @@ step_size r row = one (nat_lt (above_base r.line row.line) 14 && nat_le (row.add
 both_sizes : (xs ys : List LineOp) (m n : ℕ) → size xs ≤ m → size ys ≤ n → size (xs ++ ys) ≤ m + n
 both_sizes xs ys m n h k = omega (arith, size_append xs ys, h, k)
 
-row_size : (r row : Registers) → size (row_ops r row) ≤ 73
-row_size r row =
-    both_sizes (first8 r row) (step_ops r row) 50 23
-    (both_sizes (first7 r row) (unless (row.discriminator == 0) (SetDiscriminator row.discriminator)) 37 13
-    (both_sizes (first6 r row) (unless (r.isa == row.isa) (SetIsa row.isa)) 26 11
-    (both_sizes (first5 r row) (unless (not row.epilogue_begin) SetEpilogueBegin) 25 1
-    (both_sizes (first4 r row) (unless (not row.prologue_end) SetPrologueEnd) 24 1
-    (both_sizes (first3 r row) (unless (not row.basic_block) SetBasicBlock) 23 1
-    (both_sizes (first2 r row) (unless (beq r.is_stmt row.is_stmt) NegateStmt) 22 1
-    (both_sizes (unless (r.file == row.file) (SetFile row.file)) (unless (r.column == row.column) (SetColumn row.column)) 11 11
-    (unless_size (r.file == row.file) (SetFile row.file) 11 (omega (arith, length-uleb-le row.file)))
-    (unless_size (r.column == row.column) (SetColumn row.column) 11 (omega (arith, length-uleb-le row.column))))
+both_within : (xs ys : List LineOp) (m n k : ℕ) → m + n ≤ k → size xs ≤ m → size ys ≤ n → size (xs ++ ys) ≤ k
+both_within xs ys m n k e h l = omega (arith, size_append xs ys, e, h, l)
+
+-- of which naming the file takes n
+row_size_by : (r row : Registers) (n : ℕ) → size (unless (r.file == row.file) (SetFile row.file)) ≤ n → size (row_ops r row) ≤ n + 62
+row_size_by r row n h =
+    both_within (first8 r row) (step_ops r row) (n + 39) 23 (n + 62) (omega arith)
+    (both_within (first7 r row) (unless (row.discriminator == 0) (SetDiscriminator row.discriminator)) (n + 26) 13 (n + 39) (omega arith)
+    (both_within (first6 r row) (unless (r.isa == row.isa) (SetIsa row.isa)) (n + 15) 11 (n + 26) (omega arith)
+    (both_within (first5 r row) (unless (not row.epilogue_begin) SetEpilogueBegin) (n + 14) 1 (n + 15) (omega arith)
+    (both_within (first4 r row) (unless (not row.prologue_end) SetPrologueEnd) (n + 13) 1 (n + 14) (omega arith)
+    (both_within (first3 r row) (unless (not row.basic_block) SetBasicBlock) (n + 12) 1 (n + 13) (omega arith)
+    (both_within (first2 r row) (unless (beq r.is_stmt row.is_stmt) NegateStmt) (n + 11) 1 (n + 12) (omega arith)
+    (both_within (unless (r.file == row.file) (SetFile row.file)) (unless (r.column == row.column) (SetColumn row.column)) n 11 (n + 11)
+    (omega arith) h (unless_size (r.column == row.column) (SetColumn row.column) 11 (omega (arith, length-uleb-le row.column))))
     (unless_size (beq r.is_stmt row.is_stmt) NegateStmt 1 (omega arith)))
     (unless_size (not row.basic_block) SetBasicBlock 1 (omega arith)))
     (unless_size (not row.prologue_end) SetPrologueEnd 1 (omega arith)))
@@ -203,6 +212,19 @@ row_size r row =
     (unless_size (r.isa == row.isa) (SetIsa row.isa) 11 (omega (arith, length-uleb-le row.isa))))
     (unless_size (row.discriminator == 0) (SetDiscriminator row.discriminator) 13 (omega (arith, length-uleb-le row.discriminator))))
     (step_size r row)
+
+file_size : (row : Registers) → length (spelled (SetFile row.file)) ≤ 11
+file_size row = omega (arith, length-uleb-le row.file)
+
+row_size : (r row : Registers) → size (row_ops r row) ≤ 73
+row_size r row = row_size_by r row 11 (unless_size (r.file == row.file) (SetFile row.file) 11 (file_size row))
+
+-- a row of the file that is named already
+filed_size : (r row : Registers) → r.file ≡ row.file → size (row_ops r row) ≤ 62
+filed_size r row same =
+    let t : (r.file == row.file) ≡ true = eq-eqb r.file row.file same in
+    let none : size (unless (r.file == row.file) (SetFile row.file)) ≤ 0 = rw t (omega arith) in
+    row_size_by r row 0 none
 
 rows_size : (r : Registers) (rows : List Registers) → size (rows_ops r rows) ≤ 73 * length rows
 rows_size r [] = omega arith
@@ -217,12 +239,26 @@ close_size g =
     let a : size (close_ops g) ≡ length (spelled (AdvancePc by)) + 3 = length-append (spelled (AdvancePc by)) (spelled EndSequence ++ []) in
     omega (arith, a, length-uleb-le by)
 
-open_size : (coding : Coding) (a : ℕ) (rows : List Registers) → size (open_ops coding a rows) ≤ 11 + 73 * length rows
+-- Where a sequence is opened, its first row names no file.
+open_size : (coding : Coding) (a : ℕ) (rows : List Registers) → size (open_ops coding a rows) ≤ 13 + 73 * length rows
 open_size coding a rows =
-    let e : size (open_ops coding a rows) ≡ length (spelled (SetAddress a)) + size (rows_ops (opened coding a) rows) =
-    length-append (spelled (SetAddress a)) (all_spelled (rows_ops (opened coding a) rows)) in
+    let file : LineOp = SetFile (first_file rows) in
+    let more : List LineOp = rows_ops (opened coding a rows) rows in
+    let e : size (open_ops coding a rows) ≡ length (spelled (SetAddress a)) + size (file ∷ more) =
+    length-append (spelled (SetAddress a)) (all_spelled (file ∷ more)) in
+    let f : size (file ∷ more) ≡ length (spelled file) + size more = length-append (spelled file) (all_spelled more) in
     let l : length (little_bytes 8 a) ≡ 8 = length-bytes_low_first 0 8 a in
-    omega (arith, e, l, rows_size (opened coding a) rows)
+    omega (arith, e, f, l, named rows)
+  where
+    named : (rows : List Registers)
+        → length (spelled (SetFile (first_file rows))) + size (rows_ops (opened coding a rows) rows) ≤ 2 + 73 * length rows
+    named [] = let one : length (uleb 1) ≡ 1 = ap length (uleb-last 1 (omega arith)) in omega (arith, one)
+    named (row ∷ rows) =
+        let r : Registers = opened coding a (row ∷ rows) in
+        let both : size (row_ops r row ++ rows_ops (after_row row) rows) ≤ 62 + 73 * length rows =
+        both_sizes (row_ops r row) (rows_ops (after_row row) rows) 62 (73 * length rows) (filed_size r row refl)
+        (rows_size (after_row row) rows) in
+        omega (arith, both, file_size row)
 
 -- what closing an open sequence takes
 abbrev closing_size : Option Going → ℕ
@@ -230,17 +266,17 @@ closing_size None = 0
 closing_size (Some g) = 14
 
 run_size : (coding : Coding) (o : Option Going) (a : ℕ) (rows : List Registers)
-    → size (run_ops coding o a rows) ≤ closing_size o + (11 + 73 * length rows)
+    → size (run_ops coding o a rows) ≤ closing_size o + (13 + 73 * length rows)
 run_size coding None a rows = omega (arith, open_size coding a rows)
 run_size coding (Some g) a rows = by (g.end == a)
   where
-    by : (b : Bool) → size (cond b (rows_ops g.registers rows) (close_ops g ++ open_ops coding a rows)) ≤ 14 + (11 + 73 * length rows)
+    by : (b : Bool) → size (cond b (rows_ops g.registers rows) (close_ops g ++ open_ops coding a rows)) ≤ 14 + (13 + 73 * length rows)
     by true = omega (arith, rows_size g.registers rows)
-    by false = both_sizes (close_ops g) (open_ops coding a rows) 14 (11 + 73 * length rows) (close_size g) (open_size coding a rows)
+    by false = both_sizes (close_ops g) (open_ops coding a rows) 14 (13 + 73 * length rows) (close_size g) (open_size coding a rows)
 
 -- the most bytes that a piece takes
 abbrev pub piece_size : Piece → ℕ
-piece_size u = 25 + 73 * length u.rows
+piece_size u = 27 + 73 * length u.rows
 
 closing_bound : (o : Option Going) → size (closing_ops o) ≤ closing_size o
 closing_bound None = omega arith
@@ -252,11 +288,11 @@ unfolding program_ops
 program_bound coding o [] = omega (arith, closing_bound o)
 program_bound coding o (u ∷ us) =
     let more : size (piece_ops coding o u ++ program_ops coding (Some (going_after coding o u)) us)
-    ≤ (closing_size o + (11 + 73 * length u.rows)) + (14 + sum_by piece_size us) =
-    both_sizes (piece_ops coding o u) (program_ops coding (Some (going_after coding o u)) us) (closing_size o + (11 + 73 * length u.rows))
+    ≤ (closing_size o + (13 + 73 * length u.rows)) + (14 + sum_by piece_size us) =
+    both_sizes (piece_ops coding o u) (program_ops coding (Some (going_after coding o u)) us) (closing_size o + (13 + 73 * length u.rows))
     (14 + sum_by piece_size us)
     (run_size coding o u.start u.rows) (program_bound coding (Some (going_after coding o u)) us) in
-    let all : size (program_ops coding o (u ∷ us)) ≤ (closing_size o + (11 + 73 * length u.rows)) + (14 + sum_by piece_size us) = more in
+    let all : size (program_ops coding o (u ∷ us)) ≤ (closing_size o + (13 + 73 * length u.rows)) + (14 + sum_by piece_size us) = more in
     omega (arith, all, sum_by-cons piece_size u us)
 
 pub program_size : (coding : Coding) (us : List Piece) → length (all_spelled (program_ops coding None us)) ≤ sum_by piece_size us

@@ -49,8 +49,8 @@ rows_low : (files a : ℕ) (r : Registers) (rows : List Registers) → r.address
 rows_low files a r [] h are = h
 rows_low files a r (row ∷ rows) h are = let at : row.address ≡ a = are.1 in rows_low files a (after_row row) rows (omega arith) are.3
 
-opened_fresh : (stmt : Bool) (a : ℕ) → IsFresh (opened (written_coding stmt) a)
-opened_fresh stmt a = record { block = refl; prologue = refl; epilogue = refl; discriminator = refl; line = omega arith }
+opened_fresh : (stmt : Bool) (a : ℕ) (rows : List Registers) → IsFresh (opened (written_coding stmt) a rows)
+opened_fresh stmt a rows = record { block = refl; prologue = refl; epilogue = refl; discriminator = refl; line = omega arith }
 
 going_on : (stmt : Bool) (files : ℕ) (r : Registers) (u : Piece) → IsFresh r → r.address ≤ u.start → IsPiece files u
     → IsGoing (record { registers = after_rows r u.rows; end = piece_end u })
@@ -121,7 +121,7 @@ module _ (stmt : Bool) (files : ℕ) where
           ((cond b (rows_ops g.registers u.rows) (close_ops g ++ open_ops (written_coding stmt) u.start u.rows)
           ++ program_ops (written_coding stmt)
           (Some (record {
-            registers = after_rows (cond b g.registers (opened (written_coding stmt) u.start)) u.rows;
+            registers = after_rows (cond b g.registers (opened (written_coding stmt) u.start u.rows)) u.rows;
             end = piece_end u;
           })) us) ++ more)
           ≡ cond b (u.rows ++ rows_on (piece_end u) us) []
@@ -139,7 +139,7 @@ module _ (stmt : Bool) (files : ℕ) where
       by false e rest =
           let tail : List LineOp =
           program_ops (written_coding stmt)
-          (Some (record { registers = after_rows (opened (written_coding stmt) u.start) u.rows; end = piece_end u })) us in
+          (Some (record { registers = after_rows (opened (written_coding stmt) u.start u.rows) u.rows; end = piece_end u })) us in
           ap (rows_from (written_coding stmt) g.registers)
           (ap (λ (l : List LineOp). l ++ more) (append_assoc (close_ops g) (open_ops (written_coding stmt) u.start u.rows) tail)
           ∙ append_assoc (close_ops g) (open_ops (written_coding stmt) u.start u.rows ++ tail) more)
@@ -147,20 +147,20 @@ module _ (stmt : Bool) (files : ℕ) where
 
   -- the rows of a sequence that a piece opens
   opened_rows : (u : Piece) (us : List Piece) → IsPiece files u → ArePieces files (piece_end u) us
-      → rows_from (written_coding stmt) (opened (written_coding stmt) u.start)
-      (rows_ops (opened (written_coding stmt) u.start) u.rows
+      → rows_from (written_coding stmt) (opened (written_coding stmt) u.start u.rows)
+      (rows_ops (opened (written_coding stmt) u.start u.rows) u.rows
       ++ program_ops (written_coding stmt)
-      (Some (record { registers = after_rows (opened (written_coding stmt) u.start) u.rows; end = piece_end u })) us)
+      (Some (record { registers = after_rows (opened (written_coding stmt) u.start u.rows) u.rows; end = piece_end u })) us)
       ≡ u.rows ++ rows_on (piece_end u) us
   opened_rows u us piece are =
-      let r : Registers = opened (written_coding stmt) u.start in
+      let r : Registers = opened (written_coding stmt) u.start u.rows in
       let g : Going = record { registers = after_rows r u.rows; end = piece_end u } in
       let tail : List LineOp = program_ops (written_coding stmt) (Some g) us in
       let low : r.address ≤ u.start = omega arith in
       does_rows (written_coding stmt) r (rows_ops r u.rows) u.rows (after_rows r u.rows) tail
-      (piece_does stmt files r u (opened_fresh stmt u.start) low piece)
+      (piece_does stmt files r u (opened_fresh stmt u.start u.rows) low piece)
       ∙ ap (λ (l : List LineOp). u.rows ++ rows_from (written_coding stmt) (after_rows r u.rows) l) (sym (append-nil tail))
-      ∙ ap (λ (l : List Registers). u.rows ++ l) (going_rows g us [] (going_on stmt files r u (opened_fresh stmt u.start) low piece) are)
+      ∙ ap (λ (l : List Registers). u.rows ++ l) (going_rows g us [] (going_on stmt files r u (opened_fresh stmt u.start u.rows) low piece) are)
 
   abbrev after_piece : Registers → Piece → Going
   after_piece r u = record { registers = after_rows r u.rows; end = piece_end u }
@@ -173,18 +173,18 @@ module _ (stmt : Bool) (files : ℕ) where
 
   opened_sequences : (u : Piece) (us : List Piece) → IsPiece files u → ArePieces files (piece_end u) us → Others u us
       → sequences (written_coding stmt) (open_ops (written_coding stmt) u.start u.rows
-      ++ program_ops (written_coding stmt) (Some (after_piece (opened (written_coding stmt) u.start) u)) us)
+      ++ program_ops (written_coding stmt) (Some (after_piece (opened (written_coding stmt) u.start u.rows) u)) us)
       ≡ strand u us
   unfolding rows_from sequences_from
   opened_sequences u us piece are others =
-      let r : Registers = opened (written_coding stmt) u.start in
+      let r : Registers = opened (written_coding stmt) u.start u.rows in
       let tail : List LineOp = program_ops (written_coding stmt) (Some (after_piece r u)) us in
       let whole : List Registers = u.rows ++ rows_on (piece_end u) us in
       let low : r.address ≤ u.start = omega arith in
       ap (λ (l : List Registers). sequences_from (written_coding stmt) l r (rows_ops r u.rows ++ tail)) (opened_rows u us piece are)
       ∙ does_sequences (written_coding stmt) whole r (rows_ops r u.rows) u.rows (after_rows r u.rows) tail
-      (piece_does stmt files r u (opened_fresh stmt u.start) low piece)
-      ∙ others whole r (going_on stmt files r u (opened_fresh stmt u.start) low piece) are
+      (piece_does stmt files r u (opened_fresh stmt u.start u.rows) low piece)
+      ∙ others whole r (going_on stmt files r u (opened_fresh stmt u.start u.rows) low piece) are
 
   -- the sequences of an open one, whose rows are known, and of those behind it
   pub going_sequences : (whole : List Registers) (g : Going) (us : List Piece) → IsGoing g → ArePieces files g.end us
@@ -200,7 +200,7 @@ module _ (stmt : Bool) (files : ℕ) where
           (cond b (rows_ops g.registers u.rows) (close_ops g ++ open_ops (written_coding stmt) u.start u.rows)
           ++ program_ops (written_coding stmt)
           (Some (record {
-            registers = after_rows (cond b g.registers (opened (written_coding stmt) u.start)) u.rows;
+            registers = after_rows (cond b g.registers (opened (written_coding stmt) u.start u.rows)) u.rows;
             end = piece_end u;
           })) us)
           ≡ record { rows = whole; end = cond b (end_on (piece_end u) us) g.end } ∷ cond b (others_on (piece_end u) us) (strand u us)
@@ -212,7 +212,7 @@ module _ (stmt : Bool) (files : ℕ) where
           (piece_does stmt files g.registers u is.fresh (omega arith) are.0)
           ∙ others whole g.registers (going_on stmt files g.registers u is.fresh (omega arith) are.0) are.2
       by false e others =
-          let tail : List LineOp = program_ops (written_coding stmt) (Some (after_piece (opened (written_coding stmt) u.start) u)) us in
+          let tail : List LineOp = program_ops (written_coding stmt) (Some (after_piece (opened (written_coding stmt) u.start u.rows) u)) us in
           ap (sequences_from (written_coding stmt) whole g.registers)
           (append_assoc (close_ops g) (open_ops (written_coding stmt) u.start u.rows) tail)
           ∙ close_sequences stmt whole g (open_ops (written_coding stmt) u.start u.rows ++ tail) is
@@ -293,7 +293,7 @@ module _ (stmt : Bool) (files : ℕ) where
           (cond b (rows_ops g.registers u.rows) (close_ops g ++ open_ops (written_coding stmt) u.start u.rows)
           ++ program_ops (written_coding stmt)
           (Some (record {
-            registers = after_rows (cond b g.registers (opened (written_coding stmt) u.start)) u.rows;
+            registers = after_rows (cond b g.registers (opened (written_coding stmt) u.start u.rows)) u.rows;
             end = piece_end u;
           })) us)
           ≡ true
@@ -302,26 +302,26 @@ module _ (stmt : Bool) (files : ℕ) where
           let before : g.registers.address ≤ g.end = is.before in
           one last g.registers g.end is.fresh (omega arith) low h others
       by false others =
-          let r : Registers = opened (written_coding stmt) u.start in
+          let r : Registers = opened (written_coding stmt) u.start u.rows in
           let tail : List LineOp =
           program_ops (written_coding stmt) (Some (record { registers = after_rows r u.rows; end = piece_end u })) us in
           ap (sound_from (written_coding stmt) files last g.registers)
           (append_assoc (close_ops g) (open_ops (written_coding stmt) u.start u.rows) tail)
           ∙ close_sound stmt files last g (open_ops (written_coding stmt) u.start u.rows ++ tail) is
           (low_follows last g.end g.end low (omega arith))
-          ∙ one None r u.start (opened_fresh stmt u.start) (omega arith) tt (omega arith) others
+          ∙ one None r u.start (opened_fresh stmt u.start u.rows) (omega arith) tt (omega arith) others
 
   pub program_sound : (us : List Piece) (lo : ℕ) → ArePieces files lo us
       → sound_from (written_coding stmt) files None (start (written_coding stmt)) (program_ops (written_coding stmt) None us) ≡ true
   unfolding program_ops sound_from
   program_sound [] lo are = refl
   program_sound (u ∷ us) lo are =
-      let r : Registers = opened (written_coding stmt) u.start in
+      let r : Registers = opened (written_coding stmt) u.start u.rows in
       let g : Going = record { registers = after_rows r u.rows; end = piece_end u } in
       does_sound (written_coding stmt) files None r (rows_ops r u.rows) u.rows (after_rows r u.rows)
       (program_ops (written_coding stmt) (Some g) us)
-      (piece_does stmt files r u (opened_fresh stmt u.start) (omega arith) are.0)
+      (piece_does stmt files r u (opened_fresh stmt u.start u.rows) (omega arith) are.0)
       (rows_follow files u.start u.start None u.rows tt (omega arith) are.0.rows)
-      ∙ going_sound (last_after None u.rows) g us (going_on stmt files r u (opened_fresh stmt u.start) (omega arith) are.0) are.2
+      ∙ going_sound (last_after None u.rows) g us (going_on stmt files r u (opened_fresh stmt u.start u.rows) (omega arith) are.0) are.2
       (low_more (last_after None u.rows) u.start (piece_end u) (rows_last files u.start u.start None u.rows tt (omega arith) are.0.rows)
       (omega arith))

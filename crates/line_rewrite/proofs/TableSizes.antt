@@ -139,7 +139,7 @@ module _ (s : LineSections) (us : List kept.Unit) (index : SequenceIndex) (offse
       by_owner None f g = absurd (cc)
       by_owner (Some a) f g = by_number a f (numbered_at us a) refl (sym (says s us index offsets are a) ∙ g)
 
-  one_bound : (r : Run LineSaid) → IsAnswered s us spans r → placed_size (placed us spans r) ≤ 25 + 73 * length r.answer.rows
+  one_bound : (r : Run LineSaid) → IsAnswered s us spans r → placed_size (placed us spans r) ≤ 27 + 73 * length r.answer.rows
   one_bound r is =
       let has : HasTables s.strings is.x.unit.header =
       all_at (λ (u : kept.Unit). HasTables s.strings u.header) us is.x.number is.x.unit are.units.tables
@@ -148,7 +148,7 @@ module _ (s : LineSections) (us : List kept.Unit) (index : SequenceIndex) (offse
       let said : length (filter_map (row_said (told_unit s.strings is.x.unit)) rows) ≡ length rows =
       rows_said_count s.strings is.x.unit rows has (rows_filed us is.a is.x is.found) in
       let count : length r.answer.rows ≡ length rows = ap (λ (x : LineSaid). length x.rows) is.answer ∙ said in
-      let size : placed_size (placed us spans r) ≡ 25 + 73 * length (moved r.start rows) = ap placed_size is.at in
+      let size : placed_size (placed us spans r) ≡ 27 + 73 * length (moved r.start rows) = ap placed_size is.at in
       omega (arith, size, count, moved_count r.start rows)
 
   abbrev weight : Run LineSaid → ℕ
@@ -157,11 +157,11 @@ module _ (s : LineSections) (us : List kept.Unit) (index : SequenceIndex) (offse
   abbrev bytes : Run LineSaid → ℕ
   bytes r = placed_size (placed us spans r)
 
-  runs_bound : (rs : List (Run LineSaid)) → AllStart (carried (line_at s) spans) rs → 96 * sum_by bytes rs ≤ 75 * sum_by weight rs
+  runs_bound : (rs : List (Run LineSaid)) → AllStart (carried (line_at s) spans) rs → 96 * sum_by bytes rs ≤ 81 * sum_by weight rs
   runs_bound [] all = omega arith
   runs_bound (r ∷ rs) all =
-      let one : bytes r ≤ 25 + 73 * length r.answer.rows = one_bound r (answered r all.0) in
-      let more : 96 * sum_by bytes rs ≤ 75 * sum_by weight rs = runs_bound rs all.1 in
+      let one : bytes r ≤ 27 + 73 * length r.answer.rows = one_bound r (answered r all.0) in
+      let more : 96 * sum_by bytes rs ≤ 81 * sum_by weight rs = runs_bound rs all.1 in
       omega (arith, one, more, sum_by-cons bytes r rs, sum_by-cons weight r rs)
 
   units_bound : (rs : List (Run LineSaid)) (k : ℕ) (more : List kept.Unit)

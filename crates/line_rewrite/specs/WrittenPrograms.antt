@@ -4,7 +4,7 @@ use Rattle.line_rewrite.specs.declared.coding.Coding.{Coding}
 use Rattle.line_rewrite.specs.declared.registers.Registers.{Registers}
 use Rattle.line_rewrite.specs.declared.run_writer.Going.{Going}
 use Rattle.line_rewrite.specs.declared.operation.LineOp.{LineOp}
-use Rattle.line_rewrite.specs.declared.operation.LineOp.TheVariants.{AdvancePc, EndSequence, SetAddress}
+use Rattle.line_rewrite.specs.declared.operation.LineOp.TheVariants.{AdvancePc, EndSequence, SetAddress, SetFile}
 use Rattle.line_rewrite.specs.LineMachine.{after_row, start}
 use Rattle.line_rewrite.specs.Written.{rows_ops, all_spelled}
 
@@ -21,15 +21,21 @@ abbrev pub after_rows : Registers → List Registers → Registers
 after_rows r [] = r
 after_rows r (row ∷ rows) = after_rows (after_row row) rows
 
--- the registers where a sequence is opened
-abbrev pub opened : Coding → ℕ → Registers
-opened coding address = record (start coding) { address = address }
+-- the file of the first row, and the one that DWARF begins with if there is no row
+abbrev pub first_file : List Registers → ℕ
+first_file [] = 1
+first_file (row ∷ rows) = row.file
+
+-- the registers before the first row of a sequence
+abbrev pub opened : Coding → ℕ → List Registers → Registers
+opened coding address rows = record (start coding) { address = address; file = first_file rows }
 
 abbrev pub close_ops : Going → List LineOp
 close_ops g = AdvancePc (g.end - g.registers.address) ∷ EndSequence ∷ []
 
+-- A sequence names its first file, also if that is file 1: some readers begin with file 0.
 abbrev pub open_ops : Coding → ℕ → List Registers → List LineOp
-open_ops coding a rows = SetAddress a ∷ rows_ops (opened coding a) rows
+open_ops coding a rows = SetAddress a ∷ SetFile (first_file rows) ∷ rows_ops (opened coding a rows) rows
 
 -- rows at an address, in the sequence that goes on, where it ends there
 abbrev pub run_ops : Coding → Option Going → ℕ → List Registers → List LineOp
@@ -38,8 +44,8 @@ run_ops coding (Some g) a rows = if g.end == a then rows_ops g.registers rows el
 
 -- the registers behind them
 abbrev pub registers_after : Coding → Option Going → ℕ → List Registers → Registers
-registers_after coding None a rows = after_rows (opened coding a) rows
-registers_after coding (Some g) a rows = after_rows (if g.end == a then g.registers else opened coding a) rows
+registers_after coding None a rows = after_rows (opened coding a rows) rows
+registers_after coding (Some g) a rows = after_rows (if g.end == a then g.registers else opened coding a rows) rows
 
 abbrev pub piece_ops : Coding → Option Going → Piece → List LineOp
 piece_ops coding o u = run_ops coding o u.start u.rows

@@ -73,15 +73,23 @@ fn written_coding(default_is_stmt: bool) -> Coding
     }
 }
 
-// The registers where a sequence begins at an address.
-fn opened(address: u64, default_is_stmt: bool) -> Registers
-    ensures { result ≡ spec.opened (written_coding default_is_stmt) address }
+// The registers before the first row of a sequence with rows at an address: those of its start, but for the file.
+fn opened(address: u64, default_is_stmt: bool, rows: &[Registers]) -> Registers
+    ensures { result ≡ spec.opened (written_coding default_is_stmt) address (moved address rows.now) }
 {
     let coding = written_coding(default_is_stmt);
-    at_address(start(&coding), address)
+    let begun = at_address(start(&coding), address);
+    match rows.first() {
+        Some(row) => Registers {
+            file: row.file,
+            ..begun
+        },
+        None => begun,
+    }
 }
 
-// Begins a sequence with rows at an address.
+// Begins a sequence with rows at an address. Its file is always named: binutils 2.40 begins with file 0, where DWARF 5
+// (section 6.2.2) begins with 1.
 fn open(
     out: &mut Vec<u8>,
     default_is_stmt: bool,
@@ -91,11 +99,14 @@ fn open(
     ensures written { OnOk result (out.new.items ≡ out.old.items
         ++ all_spelled (spec.open_ops (written_coding default_is_stmt) address (moved address rows.now))) }
     ensures after { IfOk result (λ r. r
-        ≡ spec.after_rows (spec.opened (written_coding default_is_stmt) address) (moved address rows.now)) }
+        ≡ spec.after_rows (spec.opened (written_coding default_is_stmt) address (moved address rows.now))
+        (moved address rows.now)) }
     ensures fits { OnOk result (All IsRow (moved address rows.now)) }
 {
+    let begun = opened(address, default_is_stmt, rows);
     put_op(out, LineOp::SetAddress(address))?;
-    put_rows(out, opened(address, default_is_stmt), address, rows)
+    put_op(out, LineOp::SetFile(begun.file))?;
+    put_rows(out, begun, address, rows)
 }
 
 // Writes the rows of a run that starts at `address`, and answers the registers behind them. The sequence under way goes
