@@ -53,6 +53,11 @@ def add_tool_option(parser: argparse.ArgumentParser):
                         f"{TOOL}, or that on the path")
 
 
+def program_words(words):
+    """The words that a program gets of those after the script's own: without `--` before them."""
+    return words[1:] if words[:1] == ["--"] else words
+
+
 def find_tool(given=None):
     """The words of the tool's command: those that were given, else the script of this checkout, else that on the path.
     The script builds the program, if it has to; then the program takes its place, since the script looks at the times
@@ -83,8 +88,9 @@ def call_tool(tool, *words):
 
 
 @contextlib.contextmanager
-def written_whole(path):
-    """The path of an empty file beside `path`, which takes its place after the block; after a failure it is removed."""
+def written_whole(path, mode=None):
+    """The path of an empty file beside `path`, which takes its place after the block, with these permissions; after a
+    failure it is removed."""
     real = os.path.realpath(path)
     if os.path.exists(real) and not os.path.isfile(real):
         raise Failure(f"{path} is no file that can be replaced")
@@ -93,9 +99,11 @@ def written_whole(path):
     os.close(number)
     try:
         yield draft
-        mask = os.umask(0)
-        os.umask(mask)
-        os.chmod(draft, os.stat(real).st_mode & 0o777 if os.path.exists(real) else 0o666 & ~mask)
+        if mode is None:
+            mask = os.umask(0)
+            os.umask(mask)
+            mode = os.stat(real).st_mode & 0o777 if os.path.exists(real) else 0o666 & ~mask
+        os.chmod(draft, mode)
         os.replace(draft, real)
     except BaseException:
         os.unlink(draft)
