@@ -13,6 +13,7 @@ It wants qemu-user, and is fast with a compiler `cc`. Without one, with a qemu t
 reads qemu's log, which takes a hundred times as long. COMMAND tells the blocks of FILE.
 """
 import argparse
+import os
 import sys
 
 from program_graph import Failure, Graph, add_tool_option, find_tool, program_words, run_script, written_whole
@@ -33,6 +34,8 @@ def main():
     given = arguments()
     want_qemu()
     graph = Graph(find_tool(given.tool), given.file)
+    if not os.access(given.file, os.X_OK):
+        raise Failure(f"{given.file} may not be run: chmod +x makes it so")
     with written_whole(given.out) as draft:
         status, trace = trace_run([given.file, *program_words(given.words)], given.log)
         counts = trace.profile(graph)
@@ -40,7 +43,8 @@ def main():
             raise Failure(f"no profile: {QEMU} ended with {status}, and nothing of {given.file} ran")
         graph.write_profile(draft, counts)
     ended = f"ended {status}" if status >= 0 else f"ended by signal {-status}"
-    print(f"[{ended} after {trace.instructions()} steps]; {len(counts)} lines of the profile", file=sys.stderr)
+    way = "qemu's log" if trace.is_logged else "the plugin"
+    print(f"[{ended} after {trace.instructions()} steps]; {len(counts)} lines by {way}", file=sys.stderr)
     return status if status >= 0 else 128 - status
 
 

@@ -1,7 +1,8 @@
 """Runs of programs under `qemu-riscv64`, with counts of what they executed.
 
 A plugin, which the compiler `cc` makes of branch_plugin.c beside this file, counts in qemu itself. Without a compiler,
-and with a qemu that takes no plugins, qemu's own log of translation blocks is read, which takes a hundred times as long.
+and with a qemu that takes no plugins, qemu's own log of translation blocks is read, which takes a hundred times as
+long. There all processes that a program forks write into one log, so they can't be told apart.
 """
 import array
 import collections
@@ -19,6 +20,7 @@ QEMU = "qemu-riscv64"
 BLOCK, BLOCK_HEAD, EDGE_SIZE, ROOM = 1, 3, 4, 1 << 26  # as in branch_plugin.c
 AT_ONCE = 1 << 20  # bytes of the log
 FIRST_WITH_NEW_PLUGINS = 9  # the version of qemu
+MOST_IMPOSSIBLE = 0.01  # of what a log says: signals make few
 
 
 class Trace:
@@ -26,19 +28,24 @@ class Trace:
     how often control went from the last instruction of one to the first of another (`transfers`)."""
 
     def __init__(self):
-        self.runs, self.transfers = collections.Counter(), collections.Counter()
+        self.runs, self.transfers, self.is_logged = collections.Counter(), collections.Counter(), False
 
     def profile(self, graph):
         """The counts of pairs of instructions that `record` has. A signal comes anywhere, so what no instruction does
         isn't counted."""
-        counts = collections.Counter()
+        counts, impossible = collections.Counter(), 0
         for code, count in self.runs.items():
             for start, end in zip(code, code[1:]):
                 if start in graph.last_of and end in graph.owner:
                     counts[start, end] += count
         for (start, end), count in self.transfers.items():
-            if graph.is_source(start) and end in graph.owner and can_go(graph.elf, start, end):
+            if start in graph.owner and not can_go(graph.elf, start, end):
+                impossible += count
+            elif graph.is_source(start) and end in graph.owner:
                 counts[start, end] += count
+        if self.is_logged and impossible > MOST_IMPOSSIBLE * sum(self.transfers.values()):
+            raise Failure("the log mixes what several processes did: a program that forks wants the plugin, and so a "
+                          "compiler cc")
         return counts
 
     def instructions(self):
@@ -147,6 +154,7 @@ class Log:
 
     def __init__(self):
         self.trace = Trace()
+        self.trace.is_logged = True
         self.code, self.making, self.last = {}, None, {}  # blocks by start, the new one, and each thread's last one
         self.counts, self.pairs = collections.Counter(), collections.Counter()
 

@@ -23,8 +23,8 @@ import re
 import sys
 import tempfile
 
-from program_graph import (CALL, JUMP, RETURN, Failure, Graph, add_tool_option, call_tool, find_tool, run_script, signed,
-                           written_whole)
+from program_graph import (CALL, JUMP, RETURN, Failure, Graph, add_tool_option, call_tool, find_tool, run_script,
+                           signed, written_whole)
 
 SCALE = 1000  # what a sample in a block of one instruction counts
 UNSEEN = 0.1  # samples that a block counts as in which none fell, in a function in which some did
@@ -173,8 +173,8 @@ def write_sampled(tool, path, graph, lines, out):
     samples, others = read_samples(lines, graph)
     total = sum(samples.values())
     if not total:
-        raise Failure(f"no sample of {others} lies in the code of {path}: samples are of the linked program, not of the "
-                      "moved one" if others else "there are no samples")
+        raise Failure(f"none of {others} samples lies in the code of {path}: are they of the moved program?"
+                      if others else "there are no samples")
     with tempfile.TemporaryDirectory() as folder:
         guessed, repaired = os.path.join(folder, "guessed"), os.path.join(folder, "repaired")
         graph.write_profile(guessed, guessed_profile(graph, samples))
