@@ -5,7 +5,7 @@
 
 counts    `qemu_profile.py`, by the plugin and by qemu's log, writes byte for byte what `record` writes, on each program
           of `examples/` by GCC and Clang; and on Debian's packages by GCC, if FOLDER has their sources
-          (bench/packages.py)
+          (bench/packages.py). What a program does with the auxiliary vector isn't compared: that of qemu is another
 signals   a program that a signal ends leaves its profile: one that crashes the same that `record` writes of it, and
           one that goes on until the script gets a signal
 threads   what threads and a forked process do is added up, counted by calls that the text of the run demands
@@ -42,12 +42,13 @@ from real_programs import (COMPILE, EXAMPLES, LINK, LONGER, MACHINE, NO_COMPILER
                            buildable, call, compilers)
 from report import Builder  # noqa: E402
 
-from program_graph import Graph  # noqa: E402, of tools/
+from program_graph import Elf, Graph  # noqa: E402, of tools/
 from qemu_trace import trace_run  # noqa: E402
 
 TOOLS = os.path.join(ROOT, "tools")
 QEMU = "qemu-riscv64"
 STEPS = ["--steps", "1000000000"]
+READER = "find_index"  # of examples/frame_index.c
 LOGGED = 2_000_000  # steps of a run that is followed by the log too
 MOST_WORSE = 1.03
 WORDS_OF_TEXT = 2000
@@ -77,9 +78,11 @@ int main(void) {
 # main is the first function, and new code comes after the last one.
 CRASHES_MOVED = """
 __asm__(".text\\n.type far, @function\\nfar:\\n.rept 40000\\nnop\\n.endr\\nret\\n.size far, . - far\\n");
-int main(void) {
+void far(void);
+int main(int argc, char **argv) {
+    if (argc > 1) far();
     if ((unsigned long)main > 0x20000) *(volatile int *)0 = 1;
-    return 0;
+    return argv == 0;
 }
 """
 
@@ -124,7 +127,7 @@ class Checks:
         with open(source, "w", encoding="ascii") as file:
             file.write(text)
         front, libraries = self.builder.parts["gcc"]
-        call([*front, *MACHINE, *COMPILE, "-O1", "-isystem", os.path.join(PICOLIBC, "include"), "-nostdlib", *LINK,
+        call([*front, *MACHINE, *COMPILE, "-O2", "-isystem", os.path.join(PICOLIBC, "include"), "-nostdlib", *LINK,
               "-T", os.path.join(EXAMPLES, "roomy.ld"), source, os.path.join(EXAMPLES, "start.c"), *libraries,
               "-o", path])
         return path
@@ -153,16 +156,18 @@ class Checks:
         status, printed, said = self.record(path, recorded, words, given)
         name = f"{os.path.basename(path)} {' '.join(words)}"
         print(f"counts    {name}: {said}", flush=True)
+        reader = Elf(path).named.get(READER)
         steps = re.search(r"after (\d+) steps", said)
         ways = [["--log"]] if steps and int(steps[1]) <= LOGGED else []
         ways += [[]] if self.has("cc", "counts by the plugin") else []
         for options in ways:
             done = self.script("qemu_profile.py", *options, path, made, *words, input=given, stdin=None)
-            wanted = f"[ended {status} after {steps and steps[1]} steps]; {lines_of(recorded)} lines by "
-            wanted += "qemu's log" if options else "the plugin"
-            if (done.returncode, done.stdout) != (status, printed) or done.stderr.decode().strip() != wanted:
+            wanted = r"\[ended \d+ after \d+ steps\]; \d+ lines" if reader else \
+                     re.escape(f"[ended {status} after {steps and steps[1]} steps]; {len(lines_of(recorded))} lines")
+            wanted += " by qemu's log\n" if options else " by the plugin\n"
+            if (done.returncode, done.stdout) != (status, printed) or not re.fullmatch(wanted, done.stderr.decode()):
                 self.say(f"{name} {options}: {done.returncode} {done.stdout[-40:]} {done.stderr[-200:]}, not {wanted}")
-            elif read(recorded) != read(made):
+            elif lines_of(recorded, reader) != lines_of(made, reader):
                 self.say(f"{name} {options}: the profiles differ")
 
     def signals(self):
@@ -217,7 +222,7 @@ class Checks:
             entered = collections.Counter()
             for (_, end), count in graph.read_profile(made)[0].items():
                 entered[end] += count
-            for name, wanted in ("add", 10 * WORDS_OF_TEXT * processes), ("count_letters", threads):
+            for name, wanted in ("add", 10 * WORDS_OF_TEXT * processes), ("count_letters", threads * processes):
                 if entered[start_of[name]] != wanted:
                     self.say(f"tally {words}: {name} was entered {entered[start_of[name]]} times, not {wanted}")
 
@@ -271,8 +276,7 @@ class Checks:
         done = subprocess.run([*self.tool, "rewrite", path, profile, moved, text], capture_output=True, check=True)
         if b" 0 hot blocks" in done.stdout or b" 0 profile lines ignored" not in done.stdout:
             self.say(f"{path}: {done.stdout.decode()}")
-        graph = Graph(self.tool, path)
-        return trace_run([moved, *words], stdout=subprocess.DEVNULL)[1].taken(graph.elf.__class__(moved))
+        return trace_run([moved, *words], stdout=subprocess.DEVNULL)[1].taken(Elf(moved))
 
     def wrong_samples(self, path):
         """Gives samples that are none."""
@@ -383,9 +387,10 @@ def read(path):
         return file.read()
 
 
-def lines_of(path):
-    """How many lines a file has."""
-    return read(path).count(b"\n")
+def lines_of(path, without=()):
+    """The lines of a profile that don't name some functions by their addresses."""
+    names = {b"@%x" % address for address in without or ()}
+    return [line for line in read(path).splitlines() if not names & set(line.split())]
 
 
 def counts_in(path):

@@ -146,8 +146,8 @@ def kind_of(word):
 class Elf:
     """A linked file: its entry point, its sections of code, and where functions may start.
 
-    `cuts` holds the starts and ends of sections of code and of functions, ascending, `names` one name by address, and
-    `named` the addresses by name.
+    `cuts` holds the starts and ends of sections of code and of functions, ascending; `starts` those at which a function
+    starts; `names` one name by address, and `named` the addresses by name.
     """
 
     def __init__(self, path):
@@ -174,6 +174,7 @@ class Elf:
             if section[1] == SYMBOL_TABLE:
                 cuts |= set(self._functions(section, sections[section[6]][4]))
         self.cuts = sorted(cuts)
+        self.starts = {cut for cut in cuts if self.is_code(cut)}
 
     def _functions(self, section, strings):
         """Reads a table of symbols, and gives the starts and ends of its functions."""
@@ -186,10 +187,6 @@ class Elf:
                 self.named[text].add(value)
                 yield value
                 yield value + size
-
-    def functions(self):
-        """The starts of functions, ascending."""
-        return [cut for cut in self.cuts if self.is_code(cut)]
 
     def _section(self, address):
         i = bisect.bisect_right(self._starts, address) - 1
@@ -307,7 +304,7 @@ class Graph:
     def _place(self, name, offset):
         """The instruction at an offset of a function, or nothing. A name of several functions names none."""
         address = re.fullmatch("@(0|[1-9a-f][0-9a-f]*)", name)
-        found = {int(address[1], 16)} if address else self.elf.named.get(name, ())
+        found = {int(address[1], 16)} & self.elf.starts if address else self.elf.named.get(name, ())
         place = min(found) + int(offset, 16) if len(found) == 1 else None
         return place if place in self.owner else None
 
@@ -324,7 +321,7 @@ def _listed(tool, path, elf):
 def _entering(elf):
     """The lines of a profile by which each function is entered. What is alone has no other one to be entered from, so
     each of its edges is taken."""
-    functions = elf.functions()
+    functions = sorted(elf.starts)
     for function in functions[1:]:
         yield f"1 @{functions[0]:x} 0 1 @{function:x} 0 0 1\n"
     if len(functions) > 1:
