@@ -6,17 +6,18 @@
 `times` gives of a run of each program, with words that make it long, the seconds of the processor that it takes under
 `qemu-riscv64` alone, by `record`, and by `tools/qemu_profile.py` as a whole, and whether both profiles are the same.
 
-`samples` takes every so many instructions of a run one address, at distances that vary by half, as a counter of
+`samples` takes the address of an instruction of a run every so often, at distances that vary by half, as a counter of
 instructions would, and makes a profile of these by `tools/sample_profile.py`. A line has how often control went
-elsewhere than on in the program, moved by the profile of all branches, and moved by that of the samples; in each but the
-first, the second number is without the detours that branches make around a jump to code that is too far away.
+elsewhere than on in the program, in that moved by the profile of all branches, and in those moved by samples; but for
+the first, the second number is without branches that are taken around a jump to code which is too far away.
 
-The programs are those of `examples/`, and those of Debian's packages if FOLDER has their sources (packages.py), built by
-GCC at -O2. It wants qemu-user, GCC and picolibc.
+The programs are those of `examples/`, and those of Debian's packages if FOLDER has their sources (packages.py), built
+by GCC at -O2. It wants qemu-user, GCC and picolibc.
 """
 import argparse
 import os
 import random
+import re
 import subprocess
 import sys
 import tempfile
@@ -32,6 +33,7 @@ from qemu_trace import QEMU, trace_run
 TOOLS = os.path.join(ROOT, "tools")
 LONG = {"sorting": "1500", "interpreter": "60000", "shapes": "40000", "packing": "400000"}
 SAMPLED = {"sorting": "150", "interpreter": "1600", "shapes": "1000", "packing": "40000"}
+STEPS = ["--steps", "100000000000"]
 SAMPLES = (50_000, 5_000, 500)
 AROUND = 8  # bytes of a branch and the jump that it goes around
 
@@ -98,19 +100,19 @@ class Makers:
         with open(self.path("input"), "wb") as file:
             file.write(given)
         recorded, made = self.path("recorded"), self.path("made")
-        commands = [[QEMU, path, *words], [*self.tool, "record", "--steps", "100000000000", path, recorded, "--", *words],
-                    self.script("qemu_profile.py", path, made, *words)]
-        took = []
-        for command in commands:
-            with open(self.path("input"), "rb") as file:
-                took.append(spent(command, stdin=file, stdout=subprocess.DEVNULL, stderr=subprocess.DEVNULL).seconds)
-        steps = trace_run([path, *words], stdin=subprocess.DEVNULL, stdout=subprocess.DEVNULL)[1].instructions() \
-            if not given else None
-        with open(recorded, "rb") as one, open(made, "rb") as other:
+        took = [self.seconds(command) for command in (
+            [QEMU, path, *words], [*self.tool, "record", *STEPS, path, recorded, "--", *words],
+            self.script("qemu_profile.py", path, made, *words))]
+        with open(recorded, "rb") as one, open(made, "rb") as other, open(self.path("errors"), "rb") as said:
+            steps = int(re.search(rb"after (\d+) steps", said.read())[1])
             same = "the same" if one.read() == other.read() else "OTHER PROFILES"
-        told = f"{steps / 1e6:,.1f}" if steps else "?"
-        print(f"| {name} {' '.join(words)} | {told} | " + " | ".join(f"{seconds:.2f}" for seconds in took) +
-              f" | {same} |", flush=True)
+        print(f"| {name} {' '.join(words)} | {steps / 1e6:,.1f} | {' | '.join(f'{seconds:.2f}' for seconds in took)} | "
+              f"{same} |", flush=True)
+
+    def seconds(self, command):
+        """The seconds of the processor of a command that gets the program's input."""
+        with open(self.path("input"), "rb") as file, open(self.path("errors"), "wb") as errors:
+            return spent(command, stdin=file, stdout=subprocess.DEVNULL, stderr=errors).seconds
 
     def moved(self, path, profile):
         """A program that is moved by a profile."""
@@ -123,15 +125,13 @@ class Makers:
         """Measures layouts by samples."""
         path, words, given = self.program(name, SAMPLED)
         profile = self.path("profile")
-        subprocess.run([*self.tool, "record", "--steps", "100000000000", path, profile, "--", *words], input=given,
+        subprocess.run([*self.tool, "record", *STEPS, path, profile, "--", *words], input=given,
                        stdout=subprocess.DEVNULL, check=False)
         cells = [f"{taken(path, words, given)[0]:,}", shown(taken(self.moved(path, profile), words, given))]
         for found in sampled(path, words, given, SAMPLES):
             text = "".join(f"{address:16x}\n" for address in found)
-            done = subprocess.run(self.script("sample_profile.py", path, profile), input=text, text=True,
-                                  capture_output=True, check=False)
-            if done.returncode != 0:
-                sys.exit(done.stderr)
+            subprocess.run(self.script("sample_profile.py", path, profile), input=text, text=True,
+                           stdout=subprocess.DEVNULL, check=True)
             cells.append(f"{len(found):,}: {shown(taken(self.moved(path, profile), words, given))}")
         print(f"| {name} {' '.join(words)} | {' | '.join(cells)} |", flush=True)
 

@@ -9,8 +9,9 @@ counts    `qemu_profile.py`, by the plugin and by qemu's log, writes byte for by
 signals   a program that a signal ends leaves its profile: one that crashes the same that `record` writes of it, and
           one that goes on until the script gets a signal
 threads   what threads and a forked process do is added up, counted by calls that the text of the run demands
-samples   of 5,000 samples and more `sample_profile.py` makes profiles by which control is taken elsewhere at most 3 %
-          more often than by the profile of all branches; and says what is wrong with its input
+samples   of 5,000 samples and more `sample_profile.py` makes profiles by which control goes elsewhere than on at most
+          3 % more often than by the profile of all branches, but for branches around a jump to code that is too far
+          away; and it says what is wrong with its input
 optimize  a program that opens and maps files, takes the time, and has a signal handler and threads, is moved, verified
           and alike; the others are, too, by qemu, by `record` and by samples
 failures  each error of `optimize.py` is a sentence and a status, and leaves no file behind
@@ -37,20 +38,20 @@ import time
 ROOT = os.path.dirname(os.path.dirname(os.path.abspath(__file__)))
 sys.path.insert(0, os.path.join(ROOT, "bench"))
 from packages import PACKAGES  # noqa: E402
+from profile_makers import sampled, taken  # noqa: E402
 from profiles import built, follow  # noqa: E402
 from real_programs import (COMPILE, EXAMPLES, LINK, LONGER, MACHINE, NO_COMPILER, PICOLIBC, UNWINDING,  # noqa: E402
                            buildable, call, compilers)
 from report import Builder  # noqa: E402
 
 from program_graph import Elf, Graph  # noqa: E402, of tools/
-from qemu_trace import trace_run  # noqa: E402
 
 TOOLS = os.path.join(ROOT, "tools")
 QEMU = "qemu-riscv64"
 STEPS = ["--steps", "1000000000"]
 READER = "find_index"  # of examples/frame_index.c
 LOGGED = 2_000_000  # steps of a run that is followed by the log too
-MOST_WORSE = 1.03
+SAMPLES, MOST_WORSE = 6000, 1.03
 WORDS_OF_TEXT = 2000
 
 CRASH = """
@@ -232,26 +233,12 @@ class Checks:
             return
         for program in ("sorting", "interpreter", "packing", "shapes"):
             path, words = self.example(program), [LONGER[program]]
-            recorded, found = self.path("recorded"), self.sampled(path, words)
+            recorded, found = self.path("recorded"), sampled(path, words, b"", [SAMPLES])[0]
             self.record(path, recorded, words)
             with open(self.path("sampled.txt"), "w", encoding="ascii") as file:
                 file.writelines(f"{address:16x}\n" for address in found)
             self.same_layout(path, words, recorded, len(found))
         self.wrong_samples(path)
-
-    def sampled(self, path, words):
-        """The addresses of some instructions of a run, at distances that vary."""
-        steps = trace_run([path, *words], stdout=subprocess.DEVNULL)[1].instructions()
-        dice, every, found, left = random.Random(7), max(steps // 6000, 2), [], [1]
-
-        def go(address):
-            left[0] -= 1
-            if left[0] == 0:
-                found.append(address)
-                left[0] = dice.randint(every // 2, every * 3 // 2)
-
-        follow(path, words, go)
-        return found
 
     def same_layout(self, path, words, recorded, samples):
         """Moves a program by all branches and by samples, and counts what is taken."""
@@ -264,19 +251,19 @@ class Checks:
         if done.returncode or again.returncode or read(made) != read(counted):
             self.say(f"{path}: {done.stderr[-200:]} {again.stderr[-200:]}, or other profiles by counts")
             return
-        full, sampled = (self.taken(path, profile, words) for profile in (recorded, made))
-        print(f"samples   {os.path.basename(path)}: {samples} samples, taken {full:,} by all branches, {sampled:,} by "
+        full, some = (self.moved_taken(path, profile, words) for profile in (recorded, made))
+        print(f"samples   {os.path.basename(path)}: {samples} samples, taken {full:,} by all branches, {some:,} by "
               "these", flush=True)
-        if samples < 5000 or sampled > MOST_WORSE * full:
-            self.say(f"{path}: {samples} samples, taken {sampled}, where it is {full} by all branches")
+        if samples < 5000 or some > MOST_WORSE * full:
+            self.say(f"{path}: {samples} samples, taken {some}, where it is {full} by all branches")
 
-    def taken(self, path, profile, words):
-        """How often control goes elsewhere than on in a run of a moved program."""
+    def moved_taken(self, path, profile, words):
+        """How often control goes elsewhere than on in a run of a moved program, but for branches around a jump."""
         moved, text = self.path("moved"), self.path("moved.map")
         done = subprocess.run([*self.tool, "rewrite", path, profile, moved, text], capture_output=True, check=True)
         if b" 0 hot blocks" in done.stdout or b" 0 profile lines ignored" not in done.stdout:
             self.say(f"{path}: {done.stdout.decode()}")
-        return trace_run([moved, *words], stdout=subprocess.DEVNULL)[1].taken(Elf(moved))
+        return taken(moved, words, b"")[1]
 
     def wrong_samples(self, path):
         """Gives samples that are none."""
