@@ -9,7 +9,7 @@ import tempfile
 
 from profiles import CROSS, output, spent
 from real_programs import (COMPILE, EXAMPLES, LAYOUTS, LINK, MACHINE, OF_LINKER, OWN_TABLES, PICOLIBC, TABLES,
-                           UNWINDING, call, linker_of)
+                           UNWINDING, call, flags_of, linker_of, sources_of)
 
 from frame_tables import mend_tables  # of tools/
 
@@ -40,9 +40,9 @@ def build_with_tables(path, program, compiler, parts, level):
     front, libraries = parts
     folder = os.path.dirname(path)
     objects = []
-    for source in ["start.c", *UNWINDING.get(program, ([program + ".c"],))[0]]:
+    for source in ["start.c", *sources_of(program)]:
         objects.append(f"{path}.{source}.o")
-        kind = ["-fno-rtti"] if source.endswith(".cc") else []
+        kind = flags_of(program) if source.endswith(".cc") else []
         compiled = [word for word in COMPILE if word != "-g0"]
         include = ["-isystem", os.path.join(PICOLIBC, "include")]
         call([*front, *MACHINE, *compiled, *KINDS[compiler], *kind, level, *include, "-c",

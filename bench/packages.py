@@ -1,4 +1,4 @@
-"""Programs of Debian's source packages: Lua, zlib, bzip2 and pugixml, built for a RISC-V processor without a system.
+"""Programs of Debian's source packages, built for a RISC-V processor without a system: Lua, zlib, bzip2, LZ4, pugixml.
 
 `packages/` has what each of them wants beside its own code: a main function, standard input, and what is run. Their
 sources are fetched by `apt-get` from a mirror of Debian 12, which checks them by the archive's keys, and used as
@@ -58,6 +58,8 @@ PACKAGES = {
                      without=["gzclose.c", "gzlib.c", "gzread.c", "gzwrite.c"]),
     "bzip2": Program("bzip2", "bzip2-1.0.8", ["[bcdhr]*.c"], own=["bzip_pipe.c"], given="compress.c", length=8192,
                      without=["bzip2.c", "bzip2recover.c", "dlltest.c"], flags=["-DBZ_NO_STDIO"]),
+    "lz4": Program("lz4", "lz4-1.9.4", ["lib/lz4.c", "lib/lz4hc.c"], own=["lz4_pipe.c"], given="lib/lz4hc.c",
+                   length=16384),
     "pugixml": Program("pugixml", "pugixml-1.13", ["src/pugixml.cpp"], own=["xml_outline.cc"],
                        given="outline.xml",
                        flags=["-DPUGIXML_NO_STL", "-DPUGIXML_NO_EXCEPTIONS", "-fno-exceptions"]),

@@ -46,8 +46,10 @@ ROOT = os.path.dirname(os.path.dirname(os.path.abspath(__file__)))
 EXAMPLES = os.path.join(ROOT, "examples")
 PICOLIBC = "/usr/lib/picolibc/riscv64-unknown-elf"
 NO_COMPILER = f"there is no {CROSS}gcc, or no picolibc in {PICOLIBC}"
-LONGER = {"sorting": "150", "interpreter": "400", "shapes": "500", "packing": "5000",
-          "lifetimes": "10", "exceptions": "50", "cleanups": "50"}
+LONGER = {"sorting": "150", "interpreter": "400", "shapes": "500", "packing": "5000", "threaded": "1000",
+          "words": "2000", "registry": "1000", "lifetimes": "10", "exceptions": "50", "cleanups": "50"}
+# The files of programs that aren't one of C.
+SOURCES = {"registry": ["registry.cc", "cxx_memory.cc"]}
 # Programs that unwind themselves: their files, and a function at which they stop deep in calls.
 UNWINDING = {"exceptions": (["exceptions.cc", "cxx_runtime.cc", "frame_index.c"], "__cxa_throw"),
              "cleanups": (["cleanups.c", "frame_index.c"], "stop")}
@@ -134,14 +136,24 @@ def linker_of(folder, program, compiler):
     return [f"-B{folder}", "-fuse-ld=lld", "-Wl,--eh-frame-hdr"]
 
 
+def sources_of(program):
+    """The files of a program of `examples`, but for its start code."""
+    return UNWINDING[program][0] if program in UNWINDING else SOURCES.get(program, [program + ".c"])
+
+
+def flags_of(program):
+    """The options for its files of C++: there is no library of it."""
+    return ["-fno-rtti"] if program in UNWINDING else ["-fno-rtti", "-fno-exceptions", "-fno-threadsafe-statics"]
+
+
 def build(path, program, compiler, parts, layout, level):
     front, libraries = parts
     layouts = LAYOUTS[layout] + (OF_LINKER.get((compiler, layout), []) if program not in UNWINDING else [])
     include = ["-isystem", os.path.join(PICOLIBC, "include")]
     objects = []
-    for source in ["start.c", *UNWINDING.get(program, ([program + ".c"],))[0]]:
+    for source in ["start.c", *sources_of(program)]:
         objects.append(f"{path}.{os.path.basename(source)}.o")
-        kind = ["-fno-rtti"] if source.endswith(".cc") else []
+        kind = flags_of(program) if source.endswith(".cc") else []
         call([*front, *MACHINE, *COMPILE, *KINDS.get(layout, NO_TABLES), *kind, level, *include, "-c",
               os.path.join(EXAMPLES, source), "-o", objects[-1]])
     linker = linker_of(os.path.dirname(path), program, compiler)

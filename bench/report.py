@@ -4,7 +4,7 @@
     python3 bench/report.py [--tool COMMAND] [--sources FOLDER] [--keep FOLDER] [--build] [--jobs N] \
         [--levels LEVELS] [PROGRAM..]
 
-The programs are those of Debian's source packages Lua, zlib, bzip2 and pugixml (`packages.py`; fetched into FOLDER,
+The programs are those of Debian's source packages Lua, zlib, bzip2, LZ4 and pugixml (`packages.py`; fetched into FOLDER,
 or into the cache of the user) and those of `examples/`. Each is built by GCC with GNU ld and by Clang with lld, with
 picolibc for RV64IMC: `debug` with all that `-g` makes, at each of LEVELS, as `O0,Os` (-O0 to -O3 and -Os where none are
 given); at -O2 and -Os `bare` without debug data and unwind tables, and `tables` with unwind tables besides. Programs
@@ -40,7 +40,8 @@ from layouts import bolt_profile
 from packages import OWN, PACKAGES, fetch
 from profiles import built, output
 from real_programs import (COMPILE, EXAMPLES, LINES, LINK, LONGER, MACHINE, NO_COMPILER, NO_TABLES, OWN_TABLES,
-                           PICOLIBC, ROOT, UNWINDING, Checks, buildable, call, compilers, linker_of, newest)
+                           PICOLIBC, ROOT, UNWINDING, Checks, buildable, call, compilers, flags_of, linker_of,
+                           newest, sources_of)
 
 from elf_file import ElfFile  # of tools/
 from heatmap import counts_of, edges_of, functions_of
@@ -92,7 +93,7 @@ class Builder:
         """The files of a program, the folders of its headers, and its own flags."""
         start = os.path.join(EXAMPLES, "start.c")
         if program not in PACKAGES:
-            return [os.path.join(EXAMPLES, program + ".c"), start], [], []
+            return [*(os.path.join(EXAMPLES, name) for name in sources_of(program)), start], [], []
         package = PACKAGES[program]
         own = [*(os.path.join(OWN, name) for name in package.own), os.path.join(EXAMPLES, "standard_input.c")]
         return [*package.files(self.sources), *own, start], package.include(self.sources), package.flags
@@ -104,7 +105,7 @@ class Builder:
         made = []
         for number, source in enumerate(files):
             made.append(f"{path}.{number}.o")
-            cxx = ["-fno-rtti"] if source.endswith((".cc", ".cpp")) else []
+            cxx = flags_of(program) if source.endswith((".cc", ".cpp")) else []
             own = [*KINDS[kind], level, *OF_LEVEL.get(level, []), *OF_COMPILER[compiler], *flags, *cxx]
             call([*front, *MACHINE, *COMPILE, *own, *include, "-w", "-isystem", os.path.join(PICOLIBC, "include"),
                   "-c", source, "-o", made[-1]])

@@ -1,4 +1,4 @@
-// What a C++ program without exceptions needs of a library: memory from malloc, and an end for calls that have no function.
+// What a C++ program without exceptions needs of a library: memory from malloc, and an end for pure virtual calls.
 #include <stddef.h>
 #include <stdlib.h>
 

@@ -1,4 +1,4 @@
-/* Finds entries of the unwind table by its index, which a program header names: libgcc's unwinder asks for each frame. */
+/* Finds entries of the unwind table by its index, which a program header names; libgcc asks at each frame. */
 #include "frame_index.h"
 #include <stddef.h>
 #include <stdint.h>

@@ -15,7 +15,9 @@ static long call(long number, long a, long b, long c) {
     return a0;
 }
 
-__attribute__((used)) ssize_t write(int file, const void *bytes, size_t count) { return call(64, file, (long)bytes, (long)count); }
+__attribute__((used)) ssize_t write(int file, const void *bytes, size_t count) {
+    return call(64, file, (long)bytes, (long)count);
+}
 
 /* Characters are kept, so that a line is one call. */
 static char kept[4096];
