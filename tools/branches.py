@@ -11,7 +11,7 @@ LINKS = 1, 5  # registers from which calls return
 
 
 def field(word, *parts):
-    """An immediate of parts of a word: of each part the lowest bit there, the count of bits, and the lowest bit here."""
+    """An immediate of parts of a word: of each part the lowest bit there, the count of bits, the lowest bit here."""
     return sum((word >> at & (1 << count) - 1) << to for at, count, to in parts)
 
 

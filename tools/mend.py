@@ -8,8 +8,8 @@
 - GCC ends the location of a variable in a register that a call may change one byte before the end of the call. A
   debugger looks at that byte in a frame that waits for the call, and so doesn't read the register, which holds
   something else by then. A rewritten file says of all bytes of an instruction what its input says of the first, so the
-  register would be read there. Bounds inside an instruction are moved to its start: then both files say of the whole call what
-  GCC says of its last byte. Only ranges with two addresses are looked at, as GCC makes them for RISC-V.
+  register would be read there. Bounds inside an instruction are moved to its start: then both files say of the whole
+  call what GCC says of its last byte. Only ranges with two addresses are looked at, as GCC makes them for RISC-V.
 - GCC says of a tail call, which is a jump, where it would return. That is where the next function starts, and moves
   with it: then a backtrace through the call names a function that wasn't called. The address stays, but under another
   name (DW_AT_entry_pc), so debuggers don't show frames of tail calls, in neither file.

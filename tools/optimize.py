@@ -40,7 +40,6 @@ import typing
 from mend import mend
 from program_graph import (HERE, Elf, Failure, Graph, add_tool_option, call_tool, find_tool, program_words, run_script,
                            written_whole)
-from programs import CROSS
 from qemu_trace import QEMU, trace_run, want_qemu
 from sample_profile import write_sampled
 from steps import Step
@@ -131,15 +130,10 @@ class Optimizer:
         """Mends the copy, and says what."""
         if self.given.no_mend:
             return "not asked for"
-        for name in ("readelf", "objdump"):
-            if not shutil.which(CROSS + name):
-                raise Failure(f"there is no {CROSS}{name}, which the package binutils-riscv64-unknown-elf has; "
-                              "--no-mend does without, and a debugger then says less of OUT")
         try:
-            locations, calls, ranges = mend(self.program)
-        except (ValueError, IndexError):
+            return mend(self.program) or "nothing to mend"
+        except (ValueError, IndexError, SystemExit):
             raise Failure(f"the tables of {self.given.file} are damaged; --no-mend leaves them alone") from None
-        return f"{locations} bounds of locations, {calls} declarations of calls, {ranges} tables of ranges"
 
     def run(self):
         """Runs the copy, and counts its branches."""

@@ -68,13 +68,14 @@ def find_tool(given=None):
     found = shutil.which(words[0]) if words else None
     if not found:
         raise Failure(f"there is no command {given or TOOL}: --tool COMMAND tells where it is")
-    program = os.path.join(os.path.dirname(os.path.realpath(found)), "crates", "bolt_cli", "out", "bolt_cli")
+    folder = os.path.dirname(os.path.realpath(found))
+    programs = [os.path.join(folder, *path) for path in (("crates", "bolt_cli", "out", "bolt_cli"), ("program",))]
     if os.path.basename(found) != TOOL:
         return words
     status = subprocess.run(words, stdin=subprocess.DEVNULL, stdout=subprocess.DEVNULL, check=False).returncode
     if status < 0 or status in (1, 126, 127):  # without a command the tool ends with 220
         raise Failure(f"{found} ended with {status}: is it built?")
-    return [program] if os.path.isfile(program) else words
+    return next(([it] for it in programs if os.path.isfile(it)), words)
 
 
 def call_tool(tool, *words):
