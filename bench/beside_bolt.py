@@ -1,27 +1,29 @@
 #!/usr/bin/env python3
 """Layouts by plain and by refined profiles beside those of `llvm-bolt-19`.
 
-    python3 bench/beside_bolt.py [--tool COMMAND] [--sources FOLDER] [--keep FOLDER] [--jobs N] [--kinds KINDS] [PROGRAM..]
+    python3 bench/beside_bolt.py [--tool COMMAND] [--sources FOLDER] [--keep FOLDER] [--jobs N] [--kinds KINDS] \
+        [PROGRAM..]
 
-Each program is built by GCC with GNU ld and by Clang with lld, at -O2 without debug data, with picolibc's larger libraries
-(with the smaller ones files of `llvm-bolt-19` crash). COMMAND (`./sudrepka` where it isn't given) records a run, and rewrites
-the file by that profile and by what `tools/refine.py` makes of it; `llvm-bolt-19` takes the same profile, and is given
--reorder-blocks=ext-tsp, -reorder-functions=cdsort, -split-functions and -split-all-cold. If the symbol machine is stuck in a
-function of the library, that is left out of plain and refined profiles; `llvm-bolt-19` leaves it alone by itself. Each file has
-to print and end as the one before it was moved, and `COMMAND verify` has to find ours faithful.
+Each program is built by GCC with GNU ld and by Clang with lld, at -O2 without debug data, with picolibc's larger
+libraries (with the smaller ones files of `llvm-bolt-19` crash). COMMAND (`./sudrepka` where it isn't given) records a
+run, and rewrites the file by that profile and by what `tools/refine.py` makes of it; `llvm-bolt-19` takes the same
+profile, with -reorder-blocks=ext-tsp, -reorder-functions=cdsort, -split-functions and -split-all-cold. If the symbol
+machine is stuck in a function of the library, plain and refined profiles are without it; `llvm-bolt-19` leaves it alone
+by itself. Each file has to print and end as the one before it was moved, and `verify` has to find ours faithful.
 
-A plugin of qemu (`way_plugin.c`) counts each run: instructions, transfers taken, lines of 64 bytes and pages of 4096, misses of
-caches of 32 and 8 KiB, and misses of 8 and of 64 entries for pages. The first row of a program has its counts, the others
-the change in %. KINDS says how the profile comes about, as `same,other`; all are tried if it isn't given:
+A plugin of qemu (`way_plugin.c`) counts each run: instructions, transfers taken, lines of 64 bytes and pages of 4096,
+misses of caches of 32 and 8 KiB, and misses of 8 and of 64 entries for pages. The first row of a program has its
+counts, the others the change in %. KINDS says how the profile comes about, as `same,other`; all are tried if it isn't
+given:
 
 - `same`: of the run that is counted;
 - `other`: of a run with another input;
 - `samples`: 5,000 samples of the counts of that run;
 - `half`: a random half of the lines of its profile.
 
-At the end stand the columns in which a refined layout is worse than llvm-bolt's or than the plain one. It wants Debian's
-`gcc-riscv64-unknown-elf`, `picolibc-riscv64-unknown-elf`, `bolt-19` and `qemu-user`, and a C compiler; and `clang-19` and
-`lld-19` for half of the files. Sources are fetched as `packages.py` does.
+At the end stand the columns in which a refined layout is worse than llvm-bolt's or than the plain one. It wants
+Debian's `gcc-riscv64-unknown-elf`, `picolibc-riscv64-unknown-elf`, `bolt-19` and `qemu-user`, and a C compiler; and
+`clang-19` and `lld-19` for half of the files. Sources are fetched as `packages.py` does.
 """
 import argparse
 import collections

@@ -87,7 +87,8 @@ def bolt(path, profile, out):
 
 def rewrite(tool, path, profile, out):
     """Rewrites a file. Gives what was said, and whether it was written."""
-    done = subprocess.run([*tool, "rewrite", path, profile, out, out + ".map"], capture_output=True, text=True, check=False)
+    command = [*tool, "rewrite", path, profile, out, out + ".map"]
+    done = subprocess.run(command, capture_output=True, text=True, check=False)
     if done.returncode == 0:
         os.chmod(out, 0o755)
     return done.stdout.strip() or f"status {done.returncode}", done.returncode == 0

@@ -1,4 +1,5 @@
-"""Programs of Debian's source packages Lua, zlib, bzip2, pugixml, cJSON and Duktape, for a RISC-V processor without a system.
+"""Programs of Debian's source packages Lua, zlib, bzip2, pugixml, cJSON and Duktape, built for a RISC-V processor
+without a system.
 
 `packages/` has what each of them wants beside its own code: a main function, standard input, and what is run. Their
 sources are fetched by `apt-get` from a mirror of Debian 12, which checks them by the archive's keys, and used as

@@ -23,8 +23,8 @@ Of each file the table says, step by step, `yes` or `no`; what failed stands bel
 - `breaks`: breakpoints of `gdb` by file and line lead to the same lines of the same functions.
 
 A second table counts the files of each program that passed a step, and a third has the way of a run through the code
-before and after, by the plain profile and by what `tools/refine.py` makes of it, and that of `llvm-bolt-19`'s output, as
-`tools/layout.py` counts it. It wants what `real_programs.py` wants.
+before and after, by the plain profile and by what `tools/refine.py` makes of it, and that of `llvm-bolt-19`'s output,
+as `tools/layout.py` counts it. It wants what `real_programs.py` wants.
 """
 import argparse
 import concurrent.futures

@@ -1,13 +1,14 @@
-/* A plugin of qemu-user that counts the way of a run through its code, as tools/layout.py does, in caches and tables of entries
-   for pages of several sizes.
+/* A plugin of qemu-user that counts the way of a run through its code, as tools/layout.py does, in caches and in tables
+   of entries for pages, of two sizes each.
 
        cc -O2 -shared -fPIC -o way_plugin.so way_plugin.c
        qemu-riscv64 -plugin ./way_plugin.so,out=FILE program
 
-   When the run ends, a line of FILE has these numbers: instructions; those that went elsewhere than on; lines of 64 bytes and
-   pages of 4096 that instructions began in; misses of a cache of 32 KiB, of 64 sets of 8 lines, and of one of 8 KiB, of 32 sets
-   of 4 lines; and misses of 8 and of 64 entries for pages. What wasn't used for the longest time goes. Programs of one thread
-   are counted, with code below 4 GiB. Debian has no header for plugins, so what is used of the interface is declared here. */
+   When the run ends, a line of FILE has these numbers: instructions; those that went elsewhere than on; lines of 64
+   bytes and pages of 4096 that instructions began in; misses of a cache of 32 KiB, of 64 sets of 8 lines, and of one of
+   8 KiB, of 32 sets of 4 lines; and misses of 8 and of 64 entries for pages. What wasn't used for the longest time
+   goes. Programs of one thread are counted, with code below 4 GiB. Debian has no header for plugins, so what is used of
+   the interface is declared here. */
 #include <stdint.h>
 #include <stdio.h>
 #include <stdlib.h>
@@ -128,7 +129,9 @@ static void ended(Id id, void *data) {
     fclose(out);
 }
 
-static void make_room(Recent *recent) { recent->members = calloc(recent->sets * recent->ways, sizeof *recent->members); }
+static void make_room(Recent *recent) {
+    recent->members = calloc(recent->sets * recent->ways, sizeof *recent->members);
+}
 
 EXPORT int qemu_plugin_install(Id id, const void *info, int words, char **word) {
     (void)info;

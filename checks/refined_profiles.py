@@ -7,14 +7,15 @@ chains    chains of blocks are those that small functions ask for, and an order 
 weights   hiding and adding edges gives the wished chains by the rule, and keeps the weights of all blocks
 estimate  what is estimated equals what a followed run takes, for a plain and for a refined profile
 moved     files by refined profiles are faithful, and run as before
-guard     if the wishes are no better by the estimate, the profile's own counts are written; random profiles are never worse
+guard     if the wishes are no better by the estimate, the profile's own counts are written; of random profiles too,
+          none is worse
 profiles  empty, alien and mangled profiles are taken, and OUT is the same each time, and says what it is
 without   a function that is left out is cold, and a name that no function has is an error
 failures  each error is a sentence and a status, and leaves no file behind
 
-All of these are tried if none is named. No network is used. COMMAND stands for `./sudrepka`. It wants GCC and picolibc, and
-`qemu-riscv64` for `estimate` and `moved`: without them checks are left out, by name. FOLDER keeps what was built. A line for
-each problem says what was found, and the status is 0 if there is none.
+All of these are tried if none is named. No network is used. COMMAND stands for `./sudrepka`. It wants GCC and picolibc,
+and `qemu-riscv64` for `estimate` and `moved`: without them checks are left out, by name. FOLDER keeps what was built. A
+line for each problem says what was found, and the status is 0 if there is none.
 """
 import argparse
 import collections
@@ -113,11 +114,12 @@ class Checks:
     # What is tried
 
     def chains(self):
-        """By hand: a loop whose test is last falls into its body; the likely way of an `if` is straight; entries lead."""
+        """By hand: the likely way of an `if` is straight, a loop falls into its body, and entries lead."""
         hammock = [Edge(0, 1, 10, 10), Edge(0, 2, 90, 90), Edge(1, 3, 10, 10), Edge(2, 3, 90, 90)]
         self.expect(block_chains([8, 8, 8, 8], hammock)[0][:3], [0, 2, 3], "the likely way")
         loop = [Edge(0, 2, 1, 1), Edge(2, 1, 99, 99), Edge(1, 2, 99, 99), Edge(2, 3, 1, 1)]
-        self.expect(score([8] * 4, loop, block_chains([8] * 4, loop)[0]) >= 100, True, "a loop keeps one of its edges straight")
+        order = block_chains([8] * 4, loop)[0]
+        self.expect(score([8] * 4, loop, order) >= 100, True, "a loop keeps one of its edges straight")
         back = [Edge(1, 0, 1000, 1000), Edge(0, 1, 1, 1)]
         self.expect(block_chains([4, 4], back), [[0, 1]], "the entry is first")
         self.expect(block_chains([4, 4, 4], []), [[0], [1], [2]], "no edges")
@@ -171,7 +173,8 @@ class Checks:
                 for name, counts, i in (("plain", profile, 1), ("refined", refined, 2)):
                     way = way_of(self.rewrite(path, counts, "moved")[0], [word])[0]
                     told = tuple(number(found[j]) for j in (i, i + 2, i + 6))
-                    self.expect(told, (way.taken, way.instructions - first, len(way.pages)), f"{program}, {compiler}, {name}")
+                    took = (way.taken, way.instructions - first, len(way.pages))
+                    self.expect(told, took, f"{program}, {compiler}, {name}")
 
     def moved(self):
         """Runs files that were moved by refined profiles with another input, too."""
@@ -184,7 +187,8 @@ class Checks:
                                         check=False)
                 self.expect(judged.stdout.strip(), "faithful", program)
                 for words in ([word], [LONGER[program]]):
-                    runs = [subprocess.run([QEMU, file, *words], capture_output=True, check=False) for file in (path, out)]
+                    runs = [subprocess.run([QEMU, file, *words], capture_output=True, check=False)
+                            for file in (path, out)]
                     self.expect(runs[1].stdout, runs[0].stdout, f"{program} {words}")
                     self.expect(runs[1].returncode, runs[0].returncode, f"{program} {words}")
 
@@ -254,10 +258,12 @@ class Checks:
         refined = shutil.copy(self.refined(path, profile)[0], self.path("before"))
         text, out = self.write("text", b"no ELF\n"), self.path("none")
         broken = self.write("broken", open(path, "rb").read()[:3000])
-        cases = {"no IN": [self.path("nothing"), profile, out], "no ELF": [text, profile, out], "cut off": [broken, profile, out],
-                 "no PROFILE": [path, self.path("nothing"), out], "a folder": [path, self.folder, out],
+        cases = {"no IN": [self.path("nothing"), profile, out], "no ELF": [text, profile, out],
+                 "cut off": [broken, profile, out], "a folder": [path, self.folder, out],
+                 "no PROFILE": [path, self.path("nothing"), out],
                  "no folder": [path, profile, self.path("no/where")], "refined": [path, refined, out],
-                 "no name": ["--without", "nobody", path, profile, out], "no code": ["--without", "@1", path, profile, out],
+                 "no name": ["--without", "nobody", path, profile, out],
+                 "no code": ["--without", "@1", path, profile, out],
                  "no address": ["--without", "@x", path, profile, out]}
         for what, words in cases.items():
             done = self.refine(*words)

@@ -84,8 +84,8 @@ class Layout:
         return Cost(taken, more, *self.extent(counts))
 
     def leaves(self, source, target):
-        """Whether a jump, call or return goes elsewhere than on. The way from a call to the block behind it, which repaired
-        profiles have, is none of its own: a return is."""
+        """Whether a jump, call or return goes elsewhere than on. The way from a call to the block behind it, which
+        repaired profiles have, is none of its own: a return is."""
         goes_on = self.at[source] + self.size[source] == self.at[target]
         return not goes_on and self.program.call_before.get(target) != source
 
@@ -107,8 +107,8 @@ class Layout:
 
 
 class Mapper:
-    """Gives layouts of a program by counts. No table of debug data says how code is laid out, so the tool is given a copy
-    without them, which it reads in less time."""
+    """Gives layouts of a program by counts. No table of debug data says how code is laid out, so the tool is given a
+    copy without them, which it reads in less time."""
 
     def __init__(self, tool, program, path, folder):
         self.tool, self.program, self.folder = tool, program, folder

@@ -3,10 +3,10 @@
 
     python3 tools/refine.py [--tool COMMAND] [--without NAME] [--verbose] IN PROFILE OUT
 
-PROFILE is a profile of IN, recorded or repaired. The order of all code follows from a profile's counts by a fixed rule, so
-OUT asks for another order by other counts. They say what is wished, and not what happened, as OUT's first line says:
-keep PROFILE, draw pictures by it, and merge other profiles with it. Only order and heat are asked of counts, so what
-is proved of an output doesn't depend on them. It changes
+PROFILE is a profile of IN, recorded or repaired. The order of all code follows from a profile's counts by a fixed rule,
+so OUT asks for another order by other counts. They say what is wished, and not what happened, as OUT's first line says:
+keep PROFILE, draw pictures by it, and merge other profiles with it. Only order and heat are asked of counts, so what is
+proved of an output doesn't depend on them. It changes
 
 - chains: blocks are ordered by the ext-TSP score, in transfers taken and instructions. An edge that the rule would
   follow, and shouldn't, is hidden: its count goes to other instructions of the same two blocks, so their weights stay.
@@ -18,12 +18,13 @@ is proved of an output doesn't depend on them. It changes
   from a block to itself lets its chain stand earlier, if that end is too far away.
 
 Each kind of change is counted; with --verbose each line that is changed is printed, with its count before and after.
-The estimate is what a run that PROFILE counts costs by the map: transfers taken, instructions more than in IN, and lines
-of 64 bytes and pages of 4096 of all blocks that ran. If it isn't better than by PROFILE itself, OUT has its counts.
+The estimate is what a run that PROFILE counts costs by the map: transfers taken, instructions more than in IN, and
+lines of 64 bytes and pages of 4096 of all blocks that ran. If it isn't better than by PROFILE itself, OUT has its
+counts.
 
 A function that computes jumps, as `memset` of some libraries, must not be moved: `sudrepka run --symbols IN` is stuck
-there, and prints the address. --without takes its name, or `@` and an address in it, and leaves what happened there out of
-OUT. It may be given more than once. COMMAND is the checkout's `sudrepka`, or that on the path, if it isn't given.
+there, and prints the address. --without takes its name, or `@` and an address in it, and leaves what happened there out
+of OUT. It may be given more than once. COMMAND is the checkout's `sudrepka`, or that on the path, if it isn't given.
 """
 import argparse
 import bisect
@@ -93,12 +94,13 @@ def write(path, graph, counts):
 def say(wishes, unfit, plain, better):
     """Prints what was changed, and what it is worth."""
     changes = [(old, new) for _, old, new in wishes.changes()]
-    print(f"{len(wishes.given)} pairs of instructions, {unfit} lines ignored; {sum(not new for _, new in changes)} pairs left "
-          f"out, {sum(not old for old, _ in changes)} added, {sum(bool(old and new) for old, new in changes)} changed")
-    print(", ".join(f"{count} {what}" for what, count in wishes.done.items()) or "nothing is changed: OUT has the counts "
-          "of PROFILE")
-    print(f"estimated: taken {plain.taken:,} -> {better.taken:,}, instructions {plain.more:+,} -> {better.more:+,}, lines "
-          f"{plain.lines:,} -> {better.lines:,}, pages {plain.pages:,} -> {better.pages:,}")
+    lost, added = sum(not new for _, new in changes), sum(not old for old, _ in changes)
+    done = ", ".join(f"{count} {what}" for what, count in wishes.done.items())
+    print(f"{len(wishes.given)} pairs of instructions, {unfit} lines ignored; {lost} pairs left out, {added} added, "
+          f"{len(changes) - lost - added} changed")
+    print(done or "no wish is better by the estimate: OUT has the counts of PROFILE")
+    print(f"estimated: taken {plain.taken:,} -> {better.taken:,}, instructions {plain.more:+,} -> {better.more:+,}, "
+          f"lines {plain.lines:,} -> {better.lines:,}, pages {plain.pages:,} -> {better.pages:,}")
 
 
 def say_changes(wishes):
@@ -110,12 +112,13 @@ def say_changes(wishes):
 def arguments():
     words = argparse.ArgumentParser(description="makes of a profile one by which code is laid out better")
     add_tool_option(words)
-    words.add_argument("--without", metavar="NAME", action="append", default=[], help="a function that must not be moved")
+    words.add_argument("--without", metavar="NAME", action="append", default=[], help="a function that must not "
+                       "be moved")
     words.add_argument("--verbose", action="store_true", help="print each line that is changed")
     words.add_argument("--share", type=float, default=100, metavar="PPM", help="the millionths of all counts that a "
                        "branch has to have, so that cold blocks are brought near to it (100)")
-    words.add_argument("--line", type=float, default=1, metavar="COST", help="what a line of an added block costs at each "
-                       "call, in transfers (1)")
+    words.add_argument("--line", type=float, default=1, metavar="COST", help="what a line of an added block costs at "
+                       "each call, in transfers (1)")
     words.add_argument("--instruction", type=float, default=0.5, metavar="COST", help="what an instruction costs, in "
                        "transfers (0.5)")
     words.add_argument("input", metavar="IN")

@@ -35,8 +35,8 @@ def left_out(program, counts, functions):
 
 
 class Wishes:
-    """The counts of a profile as they were `given`, and as they are wished (`counts`), at first without what happened in
-    functions that are left out; `done` counts the changes."""
+    """The counts of a profile as they were `given`, and as they are wished (`counts`), at first without what happened
+    in functions that are left out; `done` counts the changes."""
 
     def __init__(self, program, given, weighing, without=()):
         self.program, self.given, self.weighing = program, given, weighing
@@ -198,8 +198,8 @@ class Wishes:
     # Cold blocks
 
     def bring_near(self, layout):
-        """Lets blocks stand in reach of branches that often lead around a jump to them, by a layout of the counts. Gives
-        how many it moved."""
+        """Lets blocks stand in reach of branches that often lead around a jump to them, by a layout of the counts.
+        Gives how many it moved."""
         program, weights = self.program, block_weights(self.program, self.counts)
         added, lifted = collections.defaultdict(list), {}
         for branch, count in self.often():
@@ -244,7 +244,8 @@ class Wishes:
         return found
 
     def lift(self, target, limit, layout, weights):
-        """Lets the chain of a block stand before the last chain that begins below an address. Gives how many it moved."""
+        """Lets the chain of a block stand before the last chain that begins below an address. Gives how many it
+        moved."""
         starts = self.program.functions[self.program.blocks[target].function]
         hot = hot_blocks(starts, weights)
         chains = rule_chains(hot, counted_edges(self.program, self.counts, hot))

@@ -1,5 +1,5 @@
-/* Reads a JSON text from standard input, sorts the members of its objects, writes it in both forms, and looks members up; as often
- * as the argument says. Prints the lengths and a checksum. */
+/* Reads a JSON text from standard input, sorts the members of its objects, writes it in both forms, and looks members
+ * up; as often as the argument says. Prints the lengths and a checksum. */
 #include "cJSON.h"
 #include "cJSON_Utils.h"
 #include <stdint.h>

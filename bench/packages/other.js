@@ -1,4 +1,4 @@
-// Other things that programs of JavaScript do: queens on a board, a matrix, texts that are taken apart, and a queue of events.
+// Other things that programs of JavaScript do: queens on a board, a matrix, texts that are taken apart, and a queue.
 function queens(n) {
   var columns = {}, up = {}, down = {}, found = 0;
   function place(row) {

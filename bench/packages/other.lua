@@ -37,7 +37,11 @@ end
 
 local queue = setmetatable({first = 1, last = 0}, {__len = function(q) return q.last - q.first + 1 end})
 function queue:push(event) self.last = self.last + 1; self[self.last] = event end
-function queue:pop() local event = self[self.first]; self[self.first] = nil; self.first = self.first + 1 return event end
+function queue:pop()
+  local event = self[self.first]
+  self[self.first], self.first = nil, self.first + 1
+  return event
+end
 
 print(queens(6), string.format("%.3f", product(14)))
 local lines = {}
