@@ -19,7 +19,7 @@ given:
 - `same`: of the run that is counted;
 - `other`: of a run with another input;
 - `samples`: 5,000 samples of the counts of that run;
-- `half`: a random half of the lines of its profile.
+- `half`: a random half of the lines of its profile. Of these two a row says what refining gives after `repair`, too.
 
 At the end stand the columns in which a refined layout is worse than llvm-bolt's or than the plain one. It wants
 Debian's `gcc-riscv64-unknown-elf`, `picolibc-riscv64-unknown-elf`, `bolt-19` and `qemu-user`, and a C compiler; and
@@ -55,6 +55,7 @@ STEPS = ["--steps", "1000000000"]
 OTHERS = {"zpipe": "trees.c", "bzip2": "decompress.c", "lua": "other.lua", "duktape": "other.js",
           "cjson": "tests/json-patch-tests/spec_tests.json", "interpreter": ["40"]}
 KINDS = ["same", "other", "samples", "half"]
+PARTIAL = ["samples", "half"]
 SAMPLES, SEED = 5000, 1
 
 
@@ -164,7 +165,12 @@ class Subject:
         profile, stuck = self.profile(kind), self.stuck()
         plain, refined = self.plain(profile, kind + ".plain", stuck), self.refined(profile, kind + ".refined", stuck)
         files = {"before": self.path, "plain": self.rewritten(plain, kind + ".moved"),
-                 "refined": self.rewritten(refined, kind + ".better"), "BOLT": self.bolted(profile, kind + ".bolted")}
+                 "refined": self.rewritten(refined, kind + ".better")}
+        if kind in PARTIAL:
+            self.expect(["repair", self.path, profile, self.at(kind + ".repaired")], "links")
+            refined = self.refined(self.at(kind + ".repaired"), kind + ".refined", stuck)
+            files["repaired and refined"] = self.rewritten(refined, kind + ".best")
+        files["BOLT"] = self.bolted(profile, kind + ".bolted")
         return {name: self.way(name, path) for name, path in files.items()}
 
     def way(self, name, path):

@@ -37,11 +37,24 @@ def most(edge):
 
 
 class Chain:
-    """Blocks in their order, their bytes, and the edges between them; the stamp counts its merges. `rooms` has by each
-    cut what a merge there may win at the most of the edges across it."""
+    """Blocks in their order, their bytes, and the edges between them; the stamp counts its merges. If they are asked
+    for, `numbers` has the places of blocks, and `rooms` by each cut what a merge there may win at the most of the edges
+    across it."""
 
     def __init__(self, block, size):
-        self.blocks, self.size, self.inner, self.stamp, self.rooms = [block], size, [], 0, None
+        self.blocks, self.size, self.inner, self.stamp = [block], size, [], 0
+        self.rooms = self._numbers = None
+
+    def numbers(self):
+        """By block its place in the chain, from 0."""
+        if self._numbers is None:
+            self._numbers = {block: i for i, block in enumerate(self.blocks)}
+        return self._numbers
+
+    def become(self, blocks, size, inner):
+        """Takes other blocks."""
+        self.blocks, self.size, self.inner, self.stamp = blocks, size, inner, self.stamp + 1
+        self.rooms = self._numbers = None
 
 
 class Merge(typing.NamedTuple):
@@ -67,26 +80,26 @@ class Merger:
         self.at = [0] * len(sizes)  # of each block within its chain
         self.chain_of = list(range(len(sizes)))
         self.between = {block: {} for block in self.chains}
-        self.leaving = {block: [] for block in self.chains}
         for edge in edges:
             if edge.source != edge.target and edge.count > 0:
-                self.leaving[edge.source].append(edge)
                 found = self.between[edge.source].get(edge.target, [])
                 self.between[edge.source][edge.target] = self.between[edge.target][edge.source] = found
                 found.append(edge)
         self.heap = []
 
-    def cuts(self, chain, other):
+    def cuts(self, chain, other, edges):
         """Where a chain may be cut for another one: everywhere if it is short, else where an edge leads to the other's
-        first block, or comes from its last one."""
+        first block, or comes from its last one. `edges` are those between both."""
         if not 1 < len(chain.blocks) <= LONGEST_SPLIT:
             return ()
         if len(chain.blocks) <= FEW:
             return range(1, len(chain.blocks))
-        number = {block: i for i, block in enumerate(chain.blocks)}
-        head, tail = other.blocks[0], other.blocks[-1]
-        found = {number[b] + 1 for b in chain.blocks if any(edge.target == head for edge in self.leaving[b])}
-        found |= {number[edge.target] for edge in self.leaving[tail] if edge.target in number}
+        number, head, tail, found = chain.numbers(), other.blocks[0], other.blocks[-1], set()
+        for source, target, _, _ in edges:
+            if target == head:
+                found.add(number[source] + 1)
+            if source == tail:
+                found.add(number[target])
         return sorted(found - {0, len(chain.blocks)})
 
     @staticmethod
@@ -103,13 +116,13 @@ class Merger:
         first, second = self.chains[merge.first], self.chains[merge.second]
         offset = self.at[first.blocks[merge.cut]] if merge.cut else first.size
         shift = self.shifts(first, second, offset, merge.order)
-        at, sizes, chain_of = self.at, self.sizes, self.chain_of
-
-        def moved(block):
-            return at[block] + shift[2 if chain_of[block] == merge.second else 0 if at[block] < offset else 1]
-
-        total = sum(value(count, worth, moved(target) - moved(source) - sizes[source])
-                    for source, target, count, worth in edges)
+        at, sizes, chain_of, total = self.at, self.sizes, self.chain_of, 0.0
+        for source, target, count, worth in edges:
+            if chain_of[source] == merge.second:
+                moved_by = shift[0 if at[target] < offset else 1] - shift[2]
+            else:
+                moved_by = shift[2] - shift[0 if at[source] < offset else 1]
+            total += value(count, worth, at[target] - at[source] - sizes[source] + moved_by)
         if merge.cut:
             apart = shift[1] - shift[0]
             for source, target, count, worth in first.inner:
@@ -124,7 +137,7 @@ class Merger:
         """See `Chain`. What lies across a cut is no longer next to it, but the chain's last block may come to be before
         its first one."""
         if chain.rooms is None:
-            number = {block: i for i, block in enumerate(chain.blocks)}
+            number = chain.numbers()
             changes = [0.0] * (len(chain.blocks) + 1)
             for source, target, count, worth in chain.inner:
                 i, j = number[source], number[target]
@@ -139,13 +152,14 @@ class Merger:
     def merges(self, a, b, least):
         """The ways in which two chains may be merged, so that the entry stays first; but for cuts by which no merge
         wins more than `least` gives."""
-        bound = sum(map(most, self.between[a][b]))
+        edges = self.between[a][b]
+        bound = sum(map(most, edges))
         for x, y in ((a, b), (b, a)):
             first, second = self.chains[x], self.chains[y]
             fixed = 0 if first.blocks[0] == self.entry else 2 if second.blocks[0] == self.entry else None
             if fixed != 2:
                 yield Merge(x, y, 0, WHOLE)
-            for cut in self.cuts(first, second):
+            for cut in self.cuts(first, second, edges):
                 if bound + self.rooms(first)[cut] > least():
                     yield from (Merge(x, y, cut, order) for order in PARTED if fixed in (None, order[0]))
 
@@ -166,9 +180,8 @@ class Merger:
         cut = merge.cut or len(first.blocks)
         parts = first.blocks[:cut], first.blocks[cut:], second.blocks
         kept = self.chains[a]
-        kept.inner = first.inner + second.inner + self.between[a][b]
-        kept.blocks, kept.size = [block for part in merge.order for block in parts[part]], first.size + second.size
-        kept.stamp, kept.rooms = kept.stamp + 1, None
+        kept.become([block for part in merge.order for block in parts[part]], first.size + second.size,
+                    first.inner + second.inner + self.between[a][b])
         going = 0
         for block in kept.blocks:
             self.at[block], self.chain_of[block] = going, a

@@ -25,14 +25,16 @@ class Cost(typing.NamedTuple):
 
 
 class Layout:
-    """Where each instruction went, by the text of a map."""
+    """Where instructions went, by the text of a map: those of `places`, by their addresses in hexadecimal, and how many
+    bytes they have."""
 
-    def __init__(self, program, text):
+    def __init__(self, program, text, places):
         self.program, self.at, self.size = program, {}, {}
         for line in text.splitlines():
-            new, size, old = line.split()
-            old = int(old, 16)
-            self.at[old], self.size[old] = int(new, 16), int(size)
+            new, size, old = line.split(" ")
+            if old in places:
+                place = places[old]
+                self.at[place], self.size[place] = int(new, 16), int(size)
 
     def ways(self, branch):
         """What control takes from a branch to its target and to what follows it: by place (transfers, jumps)."""
@@ -108,18 +110,21 @@ class Layout:
 
 class Mapper:
     """Gives layouts of a program by counts. No table of debug data says how code is laid out, so the tool is given a
-    copy without them, which it reads in less time."""
+    copy without them, which it reads in less time. Of maps it keeps the ends of blocks, and what the pairs of `given`
+    name."""
 
-    def __init__(self, tool, program, path, folder):
+    def __init__(self, tool, program, path, given, folder):
         self.tool, self.program, self.folder = tool, program, folder
         self.path, self.asked = os.path.join(folder, os.path.basename(path)), os.path.join(folder, "asked")
         with open(self.path, "wb") as file:
             file.write(without_debug_data(program.elf.data))
+        ends = {place for block in program.blocks.values() for place in (block.start, block.last)}
+        self.places = {f"{place:x}": place for place in ends.union(*given)}
 
     def layout(self, counts):
         """The layout that a profile with these counts gives."""
         self.program.graph.write_profile(self.asked, counts)
-        return Layout(self.program, call_tool(self.tool, "map", self.path, self.asked))
+        return Layout(self.program, call_tool(self.tool, "map", self.path, self.asked), self.places)
 
 
 ALLOCATED, RELOCATIONS, SECTION_BYTES = 2, (4, 9), 64  # SHF_ALLOC; SHT_RELA, SHT_REL

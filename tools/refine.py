@@ -137,7 +137,7 @@ def main():
     without = {function_of(program.elf, name) for name in given.without}
     wishes = Wishes(program, counts, Weighing(given.instruction, given.share, given.line), without)
     with tempfile.TemporaryDirectory() as folder:
-        plain, better = refine(Mapper(tool, program, given.input, folder), wishes)
+        plain, better = refine(Mapper(tool, program, given.input, counts, folder), wishes)
     write(given.output, program.graph, wishes.counts)
     say(wishes, unfit, plain, better)
     if given.verbose:
