@@ -6,13 +6,15 @@
 The programs are those of `examples`, and a program of many functions of which a few run often, each with much in it
 that seldom runs; it is made for so many functions (400 and 3,000 where none are given). Each is built by GCC with
 picolibc, as `real_programs.py` builds it; COMMAND (`./sudrepka` where it isn't given) records a run of it, and rewrites
-it by that profile. Then both files are followed and counted, as `tools/layout.py` does for two files.
+it by that profile, and by what `tools/refine.py` makes of it. Then the files are followed and counted, as
+`tools/layout.py` does for two files.
 
-Beside it stands `llvm-bolt-19` with the same profile, where it is there, or that its output doesn't run. It wants
+Beside them stands `llvm-bolt-19` with the same profile, where it is there, or that its output doesn't run. It wants
 Debian's `gcc-riscv64-unknown-elf`, `picolibc-riscv64-unknown-elf` and `qemu-user`.
 """
 import argparse
 import os
+import re
 import shutil
 import subprocess
 import sys
@@ -22,6 +24,9 @@ from profiles import CROSS, built, output, record
 from real_programs import EXAMPLES, LONGER, NO_COMPILER, ROOT, UNWINDING, build, compilers
 
 from layout import shown, way_of  # of tools/
+
+REFINE = os.path.join(ROOT, "tools", "refine.py")
+BOLT = ["llvm-bolt-19", "-reorder-blocks=ext-tsp", "-reorder-functions=cdsort", "-split-functions", "-split-all-cold"]
 
 
 def spread(functions):
@@ -63,28 +68,49 @@ def bolt_profile(path, old, new):
                 out.write(" ".join(fields) + "\n")
 
 
+def refine(tool, path, profile, refined, options=()):
+    """Writes what `tools/refine.py` makes of a profile. Gives what it said of an error, or nothing."""
+    command = [sys.executable, REFINE, "--tool", " ".join(tool), *options, path, profile, refined]
+    return subprocess.run(command, capture_output=True, text=True, check=False).stderr.strip()
+
+
+def bolt(path, profile, out):
+    """Lets llvm-bolt write a file. Gives why there is none, or nothing."""
+    bolt_profile(profile, path, out + ".named")
+    if os.path.exists(out):  # of a run before
+        os.remove(out)
+    done = subprocess.run([*BOLT, path, "-o", out, "--data", out + ".named"], capture_output=True, text=True,
+                          errors="replace", check=False)
+    said = re.findall(r"(?i)error: (.*)|(Emission failed.*)|(Assertion.*failed)|(UNREACHABLE.*)", done.stderr)
+    return "" if os.path.exists(out) else next(("".join(words) for words in said), f"status {done.returncode}")
+
+
+def rewrite(tool, path, profile, out):
+    """Rewrites a file. Gives what was said, and whether it was written."""
+    command = [*tool, "rewrite", path, profile, out, out + ".map"]
+    done = subprocess.run(command, capture_output=True, text=True, check=False)
+    if done.returncode == 0:
+        os.chmod(out, 0o755)
+    return done.stdout.strip() or f"status {done.returncode}", done.returncode == 0
+
+
 def compare(tool, name, path, words, folder):
-    profile, moved = os.path.join(folder, "profile"), os.path.join(folder, "moved")
+    profile, refined, moved = (os.path.join(folder, end) for end in ("profile", "refined", "moved"))
     if os.path.exists(profile):  # of the program before
         os.remove(profile)
     recorded = record(tool, path, words, profile)
-    command = [*tool, "rewrite", path, profile, moved, os.path.join(folder, "map")]
-    done = subprocess.run(command, capture_output=True, text=True, check=False)
-    if done.returncode != 0:
-        print(f"{name:18} {recorded}; {done.stdout.strip() or done.returncode}", flush=True)
+    said, done = rewrite(tool, path, profile, moved)
+    print(f"{name:18} {said if done else f'{recorded}; {said}'}", flush=True)
+    if not done:
         return
-    found = [("before", way_of(path, words))]
-    os.chmod(moved, 0o755)
-    found.append(("after", way_of(moved, words)))
-    if shutil.which("llvm-bolt-19"):
-        bolted, named = os.path.join(folder, "bolted"), os.path.join(folder, "named")
-        bolt_profile(profile, path, named)
-        options = ["--reorder-blocks=ext-tsp", "--reorder-functions=cdsort", "--split-functions", "--data", named]
-        subprocess.run(["llvm-bolt-19", path, "-o", bolted, *options], capture_output=True, check=False)
-        if os.path.exists(bolted):
-            found.append(("llvm-bolt", way_of(bolted, words)))
-            os.remove(bolted)
-    print(f"{name:18} {done.stdout.strip()}", flush=True)
+    found = [("before", way_of(path, words)), ("after", way_of(moved, words))]
+    why = refine(tool, path, profile, refined)
+    if why or not rewrite(tool, path, refined, moved)[1]:
+        print(f"    not refined: {why}")
+    else:
+        found.append(("refined", way_of(moved, words)))
+    if shutil.which(BOLT[0]) and not bolt(path, profile, moved):
+        found.append(("llvm-bolt", way_of(moved, words)))
     for tool_name, result in found:
         print(f"    {tool_name:10} {shown(result, found[0][1])}", flush=True)
 

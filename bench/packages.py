@@ -1,4 +1,5 @@
-"""Programs of Debian's source packages, built for a RISC-V processor without a system: Lua, zlib, bzip2, LZ4, pugixml.
+"""Programs of Debian's source packages Lua, zlib, bzip2, LZ4, pugixml, cJSON and Duktape, built for a RISC-V processor
+without a system.
 
 `packages/` has what each of them wants beside its own code: a main function, standard input, and what is run. Their
 sources are fetched by `apt-get` from a mirror of Debian 12, which checks them by the archive's keys, and used as
@@ -30,6 +31,7 @@ class Program:
     words: list = ()
     given: str = ""  # the file that is standard input, in the folder of sources or in `packages`
     length: int = 1 << 20  # how many bytes of that
+    reported: bool = True  # whether `report.py` tries it, if no program is named
 
     def files(self, sources):
         top = os.path.join(sources, self.folder)
@@ -63,6 +65,10 @@ PACKAGES = {
     "pugixml": Program("pugixml", "pugixml-1.13", ["src/pugixml.cpp"], own=["xml_outline.cc"],
                        given="outline.xml",
                        flags=["-DPUGIXML_NO_STL", "-DPUGIXML_NO_EXCEPTIONS", "-fno-exceptions"]),
+    "cjson": Program("cjson", "cJSON-1.7.15", ["cJSON.c", "cJSON_Utils.c"], own=["json_sort.c"], words=["2"],
+                     given="tests/json-patch-tests/tests.json", reported=False),
+    "duktape": Program("duktape", "duktape-2.7.0", ["src/duktape.c"], own=["script.c"], given="work.js",
+                       flags=["-ftrivial-auto-var-init=zero"], reported=False),
 }
 
 

@@ -23,7 +23,8 @@ Of each file the table says, step by step, `yes` or `no`; what failed stands bel
 - `breaks`: breakpoints of `gdb` by file and line lead to the same lines of the same functions.
 
 A second table counts the files of each program that passed a step, and a third has the way of a run through the code
-before and after, and that of `llvm-bolt-19`'s output, as `tools/layout.py` counts it. It wants what `real_programs.py` wants.
+before and after, by the plain profile and by what `tools/refine.py` makes of it, and that of `llvm-bolt-19`'s output,
+as `tools/layout.py` counts it. It wants what `real_programs.py` wants.
 """
 import argparse
 import concurrent.futures
@@ -36,7 +37,7 @@ import tempfile
 
 from debug_files import bare_libraries, build_with_tables
 from debugged import Debugged, with_lines
-from layouts import bolt_profile
+from layouts import BOLT, bolt, refine, rewrite
 from packages import OWN, PACKAGES, fetch
 from profiles import built, output
 from real_programs import (COMPILE, EXAMPLES, LINES, LINK, LONGER, MACHINE, NO_COMPILER, NO_TABLES, OWN_TABLES,
@@ -50,6 +51,7 @@ from mend import mend
 
 KINDS = {"bare": NO_TABLES, "debug": [*LINES, "-fno-dwarf2-cfi-asm"], "tables": ["-g", *OWN_TABLES]}
 SCRIPTS = {"tables": "roomy_tables.ld"}
+LIBRARIES = os.path.join(PICOLIBC, "lib", "rv64im", "lp64")
 LEVELS = ["-O0", "-O1", "-O2", "-O3", "-Os"]
 OF_KIND = {"bare": ["-O2", "-Os"], "tables": ["-O2", "-Os"], "debug": LEVELS, "index": LEVELS}
 # The tables of distances of switches are extended there by instructions that the symbol machine doesn't follow.
@@ -69,11 +71,10 @@ def kinds_of(program):
 class Builder:
     """Builds programs. Libraries have no debug data of their own: that of GNU as is refused, as HighPcForm."""
 
-    def __init__(self, folder, sources):
+    def __init__(self, folder, sources, found=LIBRARIES):
         self.folder, self.sources, self.parts = folder, sources, {}
         strip = shutil.which("riscv64-unknown-elf-strip")
         for compiler, (front, libraries) in compilers().items():
-            found = os.path.join(PICOLIBC, "lib", "rv64im", "lp64")
             gcc = output(["riscv64-unknown-elf-gcc", *MACHINE, "-print-libgcc-file-name"]).strip()
             stripped = []
             for path in (os.path.join(found, "libc.a"), os.path.join(found, "libm.a"), gcc):
@@ -216,20 +217,15 @@ class Try:
         self.note(name, problems)
 
     def ways(self):
-        """The way of the run before, after, and of llvm-bolt's output."""
+        """The way of the run before, after by the plain and by a refined profile, and of llvm-bolt's output."""
         way = lambda path: way_of(path, self.words, self.given)
         found = [("before", way(self.path)), ("after", way(self.at("moved")))]
-        if shutil.which("llvm-bolt-19"):
-            bolt_profile(self.at("profile"), self.path, self.at("named"))
-            options = ["--reorder-blocks=ext-tsp", "--reorder-functions=cdsort", "--split-functions", "--data",
-                       self.at("named")]
-            if os.path.exists(self.at("bolted")):  # of a run before
-                os.remove(self.at("bolted"))
-            done = subprocess.run(["llvm-bolt-19", self.path, "-o", self.at("bolted"), *options], capture_output=True,
-                                  text=True, errors="replace", check=False)
-            said = re.findall(r"(?i)error: (.*)|(Emission failed.*)|(Assertion.*failed)|(UNREACHABLE.*)", done.stderr)
-            why = next(("".join(words) for words in said), f"status {done.returncode}")
-            found.append(("llvm-bolt", way(self.at("bolted")) if os.path.exists(self.at("bolted")) else why))
+        why = refine(self.tool, self.path, self.at("profile"), self.at("refined"))
+        said, done = (why, False) if why else rewrite(self.tool, self.path, self.at("refined"), self.at("better"))
+        found.append(("refined", way(self.at("better")) if done else said))
+        if shutil.which(BOLT[0]):
+            why = bolt(self.path, self.at("profile"), self.at("bolted"))
+            found.append(("llvm-bolt", why or way(self.at("bolted"))))
         return found
 
 
@@ -320,6 +316,7 @@ def print_counts(files, tried):
 
 def main():
     cache = os.path.join(os.environ.get("XDG_CACHE_HOME", os.path.expanduser("~/.cache")), "sudrepka")
+    reported = [name for name, package in PACKAGES.items() if package.reported]
     words = argparse.ArgumentParser(description="all that is tried on real programs, in one table")
     words.add_argument("--tool", default=os.path.join(ROOT, "sudrepka"), help="the command that takes `rewrite ..`")
     words.add_argument("--sources", default=cache, help="where the sources of packages are, or go")
@@ -327,7 +324,7 @@ def main():
     words.add_argument("--build", action="store_true", help="only builds the files")
     words.add_argument("--jobs", type=int, default=1, help="how many files are tried at a time")
     words.add_argument("--levels", default=LEVELS, type=levels_of, help="levels of optimization, as O0,Os")
-    words.add_argument("programs", nargs="*", default=[*PACKAGES, *sorted(LONGER)])
+    words.add_argument("programs", nargs="*", default=[*reported, *sorted(LONGER)])
     given = words.parse_args()
     if given.build and not given.keep:
         words.error("--build wants --keep")

@@ -1,9 +1,10 @@
 #!/usr/bin/env python3
 """Counts what a rewrite does to the way of a run through a program's code.
 
-    python3 tools/layout.py [--json] IN OUT [WORDS..] [< INPUT]
+    python3 tools/layout.py [--json] [--also FILE] IN OUT [WORDS..] [< INPUT]
 
-Follows a run of IN and one of OUT, both with WORDS as arguments and with this standard input, if it is no terminal.
+Follows a run of IN and one of OUT, both with WORDS as arguments and with this standard input, if it is no terminal; and
+one of each FILE, as one that was rewritten by a refined profile, or by another tool.
 `qemu-riscv64` runs both files and says each instruction's address, from which this counts
 
 - instructions, and those that went elsewhere than on (taken branches, jumps, calls and returns);
@@ -117,23 +118,25 @@ def follow_files(paths, words, as_json):
     if not found[0]:
         sys.exit(f"{paths[0]} doesn't run on qemu-riscv64, or that has no -singlestep and -d exec: run it by itself")
     if as_json:
-        alike = found[1] is not None and found[1][1:] == found[0][1:]
+        alike = all(result is not None and result[1:] == found[0][1:] for result in found)
         runs = [result[0].counts() if result else None for result in found]
-        print(json.dumps({"before": runs[0], "after": runs[1], "alike": alike}, indent=1))
+        also = {"also": dict(zip(paths[2:], runs[2:]))} if runs[2:] else {}
+        print(json.dumps({"before": runs[0], "after": runs[1], **also, "alike": alike}, indent=1))
     else:
-        for when, result in zip(("before", "after"), found):
+        for when, result in zip(["before", "after", *map(os.path.basename, paths[2:])], found):
             print(f"{when:10} {shown(result, found[0])}")
 
 
 def main():
     words = argparse.ArgumentParser(description="the way of a run through its code before and after a rewrite")
     words.add_argument("--json", action="store_true", help="prints the counts as JSON")
+    words.add_argument("--also", metavar="FILE", action="append", default=[], help="one more program to be followed")
     words.add_argument("files", nargs=2, metavar="FILE", help="IN and OUT: the program before and after")
     words.add_argument("arguments", nargs=argparse.REMAINDER, metavar="WORDS", help="the arguments of both runs")
     given = words.parse_args()
     if not shutil.which("qemu-riscv64"):
         sys.exit("there is no qemu-riscv64, which Debian's qemu-user has")
-    follow_files(given.files, given.arguments, given.json)
+    follow_files(given.files + given.also, given.arguments, given.json)
 
 
 if __name__ == "__main__":
