@@ -1,5 +1,5 @@
 // How rows are spelled as call frame instructions. DWARF 5, section 6.4.2.
-ghost use Rattle.std.specs.Prelude.{◌≡◌, ◌<◌, ◌^◌, ◌++◌, ◌∷◌, [], Some, FitsSigned, IsTrue, OnOk, option_map};
+ghost use Rattle.std.specs.Prelude.{◌≡◌, ◌<◌, ◌^◌, ◌++◌, ◌∷◌, [], Some, FitsSigned, IsTrue, OnOk, drop, option_map};
 ghost use Rattle.std.specs.Int.{w64};
 ghost use Rattle.rb_bytes.specs.Leb.{uleb};
 ghost use Rattle.cfi_rows.specs.FrameRows.{rule_of};
@@ -153,16 +153,22 @@ fn put_rule(out: &mut Vec<u8>, register: u64, rule: &Rule) -> Result<(), NoMemor
     }
 }
 
-// The rule of a register among rules, if it has one.
+// How many of the rules are of registers below one, among rules that ascend.
+fn count_below(rules: &[(u64, Rule)], register: u64) -> usize
+    requires { Ascend 0 rules.now }
+    ensures rest { rule_of register (drop result rules.now) ≡ rule_of register rules.now }
+    ensures above { Ascend register (drop result rules.now) }
+{
+    rules.partition_point(|rule| rule.0 < register)
+}
+
+// The rule of a register among rules that ascend, if it has one.
 fn rule_in(rules: &[(u64, Rule)], register: u64) -> Option<&Rule>
+    requires { Ascend 0 rules.now }
     ensures { option_map (λ r. r.now) result ≡ rule_of register rules.now }
 {
-    for (other, rule) in rules {
-        if *other == register {
-            return Some(rule);
-        }
-    }
-    None
+    let (other, rule) = rules.get(count_below(rules, register))?;
+    if *other == register { Some(rule) } else { None }
 }
 
 fn fits_number(n: u64)
@@ -195,6 +201,7 @@ fn fits(register: u64, rule: &Rule)
 
 // Whether a register has another rule than before, or one at all.
 fn is_other(old: &[(u64, Rule)], register: u64, rule: &Rule) -> bool
+    requires { Ascend 0 old.now }
     ensures { result ≡ spec.other_by (rule_of register old.now) rule.now }
 {
     match rule_in(old, register) {
@@ -212,7 +219,8 @@ pub(crate) fn are_low(rules: &[(u64, Rule)]) -> bool
 
 // Takes back, by one byte each, the rules that are gone.
 fn put_restores(out: &mut Vec<u8>, old: &[(u64, Rule)], new: &[(u64, Rule)]) -> Result<(), NoMemory>
-    requires { IsTrue (spec.are_low old.now) }
+    requires low { IsTrue (spec.are_low old.now) }
+    requires ascend { Ascend 0 new.now }
     ensures { OnOk result (out.new.items ≡ out.old.items ++ spec.spelled_restores (spec.gone_rules old.now new.now)) }
 {
     for (register, _) in old {
@@ -230,6 +238,7 @@ fn put_other(
     register: u64,
     rule: &Rule,
 ) -> Result<(), NoMemory>
+    requires { Ascend 0 old.now }
     ensures spelled { OnOk result (out.new.items ≡ out.old.items ++ spec.spelled_other old.now register rule.now) }
     ensures fits { RuleFits rule.now }
     ensures register { register < 2 ^ 64 }
@@ -243,7 +252,8 @@ fn put_other(
 
 // Appends the rules that are new or others.
 fn put_rules(out: &mut Vec<u8>, old: &[(u64, Rule)], new: &[(u64, Rule)]) -> Result<(), NoMemory>
-    requires { Ascend 0 new.now }
+    requires old { Ascend 0 old.now }
+    requires new { Ascend 0 new.now }
     ensures spelled { OnOk result (out.new.items ≡ out.old.items ++ spec.spelled_rules (spec.other_rules old.now new.now)) }
     ensures fits { OnOk result (RulesFit 0 new.now) }
 {
@@ -256,6 +266,7 @@ fn put_rules(out: &mut Vec<u8>, old: &[(u64, Rule)], new: &[(u64, Rule)]) -> Res
 // Appends what leads from one row to the next.
 fn put_next(out: &mut Vec<u8>, known: &Row, row: &Row) -> Result<(), NoMemory>
     requires low { IsTrue (spec.are_low known.now.rules) }
+    requires known { Ascend 0 known.now.rules }
     requires ascend { Ascend 0 row.now.rules }
     ensures spelled { OnOk result (out.new.items ≡ out.old.items ++ spec.spelled_change (spec.known_by known.now) row.now) }
     ensures fits { OnOk result (RowFits row.now) }
@@ -287,6 +298,7 @@ pub(crate) fn put_change(
     row: &Row,
 ) -> Result<(), NoMemory>
     requires low { IsTrue (spec.are_low (spec.known_of signal (option_map (λ r. r.now) known)).rules) }
+    requires known { Ascend 0 (spec.known_of signal (option_map (λ r. r.now) known)).rules }
     requires ascend { Ascend 0 row.now.rules }
     ensures spelled { OnOk result (out.new.items ≡ out.old.items
         ++ spec.spelled_change (spec.known_of signal (option_map (λ r. r.now) known.entry)) row.now) }
@@ -330,6 +342,7 @@ pub(crate) fn put_row_before(
     distance: u64,
 ) -> Result<(), NoMemory>
     requires low { IsTrue (spec.are_low (spec.known_of signal (option_map (λ r. r.now) known)).rules) }
+    requires known { Ascend 0 (spec.known_of signal (option_map (λ r. r.now) known)).rules }
     requires ascend { Ascend 0 row.now.rules }
     ensures spelled { OnOk result (out.new.items ≡ out.old.items
         ++ spec.spelled_row_before (spec.known_of signal (option_map (λ r. r.now) known.entry)) row.now distance) }
@@ -352,10 +365,13 @@ pub(crate) fn known_behind<'x>(
     known: Option<&'x Row>,
     row: &'x Row,
 ) -> Option<&'x Row>
-    requires { IsTrue (spec.are_low (spec.known_of signal (option_map (λ r. r.now) known)).rules) }
+    requires low { IsTrue (spec.are_low (spec.known_of signal (option_map (λ r. r.now) known)).rules) }
+    requires known { Ascend 0 (spec.known_of signal (option_map (λ r. r.now) known)).rules }
+    requires ascend { Ascend 0 row.now.rules }
     ensures is { spec.known_of signal (option_map (λ r. r.now) result)
         ≡ spec.known_behind (spec.known_of signal (option_map (λ r. r.now) known.entry)) row.now }
     ensures low { IsTrue (spec.are_low (spec.known_of signal (option_map (λ r. r.now) result)).rules) }
+    ensures ascend { Ascend 0 (spec.known_of signal (option_map (λ r. r.now) result)).rules }
 {
     if are_low(&row.rules) {
         Some(row)

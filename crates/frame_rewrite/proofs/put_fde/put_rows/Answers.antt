@@ -33,6 +33,7 @@ loop-run-preserved c =
       last = row ∙ ap (λ (r : Run FrameAnswer). r.answer.row)
           (c.run-item.is ∙ get_or_default more i run first c.loop-run-test.true ∙ sym (item-behind first more i first));
       low = c.known_behind-known.ensures.low;
+      ascend = c.known_behind-known.ensures.ascend;
       above = rw at above.1;
       near = λ near. c.loop-run.invariant.near (to-run (Near c.loop-run.at) run run more i c.loop-run-test.true c.run-item.is (
         subst (λ (n : ℕ). n - c.loop-run.at < 2 ^ 32) at c.in_ok-put_row_before.ensures.near,

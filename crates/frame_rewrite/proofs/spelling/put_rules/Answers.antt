@@ -17,6 +17,6 @@ loop-register-preserved c =
 
 pub returns-clause-fits : goal.returns-clause-fits
 returns-clause-fits c =
-    rules-fit 0 c.args.new.now c.requires (all-taken EntryFits c.args.new.now c.loop-register.register-index
+    rules-fit 0 c.args.new.now c.requires.new (all-taken EntryFits c.args.new.now c.loop-register.register-index
     c.loop-register-test.false
     c.loop-register.invariant.fits)
