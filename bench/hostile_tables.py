@@ -97,6 +97,27 @@ def frames_of_one_range(size):
     return debug_file({".debug_frame": table + entry * (size // len(entry))})
 
 
+def folded(state, number):
+    """What the toolchain's hasher of a fixed seed makes of a number of 64 bits."""
+    product = (state ^ number) * (0x9E3779B97F4A7C15 ^ 16)
+    return product % (1 << 64) ^ product >> 64
+
+
+def frames_of_many_kinds(size):
+    """Entries of `.debug_frame` for an instruction of two bytes each, with as many CIEs: the return register and the
+    handler of each are its own, and in sets of 256 that hasher takes both to one number."""
+    count = size // 58
+    table, functions = bytearray(), halfwords(count)
+    for k in range(count):
+        handler = folded(0x243F6A8885A308D3, k % 256) ^ 1 + k // 256
+        # version 1, `zP`, factors 1 and -8, the register; an absolute handler; DW_CFA_def_cfa 2, 0
+        cie = struct.pack("<I9BQ3B", 0xFFFFFFFF, 1, 0x7A, 0x50, 0, 1, 0x78, k % 256, 9, 0, handler, 0x0C, 2, 0)
+        place = len(table)
+        table += frame_entry(cie)
+        table += frame_entry(struct.pack("<IQQB", place, BASE + TEXT + 2 * k, 2, 0))
+    return debug_file({".debug_frame": bytes(table)}, functions)
+
+
 def nested_ranges(count):
     """Ranges of the first instructions, each inside the one behind it."""
     return [(BASE + TEXT + 4 * k, 4 * (count - 2 * k)) for k in reversed(range(count // 2))]
@@ -237,6 +258,7 @@ TABLES = {
     "line-directory-rows": line_directory_rows,
     "short-sequences": short_sequences,
     "one-range": frames_of_one_range,
+    "frame-kinds": frames_of_many_kinds,
     "nested-ranges": frames_of_nested_ranges,
 }
 # Those in which a few bytes say so much that it has a bound.

@@ -200,12 +200,9 @@ group-start spans k r rs rest hi e w f =
 
 -- a whole table
 
-pub cies-put : (debug : Bool) (ks slice : List CieKey) (start a : List ℕ) → start ≡ [] → slice ≡ ks
-    → a ≡ start ++ spelled_entries (cie_entries debug 0 slice)
-    → a ≡ spelled_entries (cie_entries debug 0 ks)
-cies-put debug ks slice start a z s e =
-    e ∙ ap (λ (l : List ℕ). l ++ spelled_entries (cie_entries debug 0 slice)) z
-    ∙ ap (λ (l : List CieKey). spelled_entries (cie_entries debug 0 l)) s
+pub cies-put : (debug : Bool) (ks : List CieKey) (start a : List ℕ) → start ≡ []
+    → a ≡ start ++ spelled_entries (cie_entries debug 0 ks) → a ≡ spelled_entries (cie_entries debug 0 ks)
+cies-put debug ks start a z e = e ∙ ap (λ (l : List ℕ). l ++ spelled_entries (cie_entries debug 0 ks)) z
 
 pub cies-room : (debug : Bool) (ks : List CieKey) (a : List ℕ) → a ≡ spelled_entries (cie_entries debug 0 ks)
     → length a ≡ cie_size * length ks

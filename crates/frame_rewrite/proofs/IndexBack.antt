@@ -1,14 +1,14 @@
 -- The index that is made of what is kept of entries is that of the entries.
-use Rattle.std.proofs.Common.{ℕ, suc, ◌+◌, ◌*◌, ◌≤◌, ◌<◌, ◌≡◌, List, [], ◌∷◌, ◌++◌, refl, sym, ◌∙◌, ap, subst, arith, length, map, get_or}
+use Rattle.std.proofs.Common.{ℕ, suc, ◌+◌, ◌*◌, ◌≤◌, ◌<◌, ◌≡◌, List, [], ◌∷◌, ◌++◌, refl, sym, ◌∙◌, ap, subst, arith, length, map, get_or, set}
 use Rattle.std.proofs.Common.{flat_map, length-append}
 use Rattle.std.specs.Prelude.{IsPermutation, AllPairs}
 use Rattle.std.specs.List.{swap}
 use Rattle.std.specs.List.Sorted.{IsNonDecreasingBy, apply_swaps, SwapsInRange}
 use Rattle.std.proofs.lemmas.Grind.{common_steps}
-use Rattle.std.proofs.lemmas.List.{get_or-map}
+use Rattle.std.proofs.Math.ListN.{get_or-map as mapped-item}
+use Rattle.std.proofs.lemmas.List.{get_or-map, map-set}
 use Rattle.std.proofs.lemmas.List.Folds.{flat_map-map}
 use Rattle.byteorder.specs.Endian.{little_bytes}
-use Rattle.indexmap.proofs.ReorderLemmas.{map-swap}
 use Rattle.cfi_rows.specs.declared.frame_table.Fde.{Fde as ReadFde}
 use Rattle.cfi_rows.specs.Entries.{Fde}
 use Rattle.cfi_rows.specs.ReadEntries.{fde_of}
@@ -19,6 +19,14 @@ use Rattle.frame_rewrite.proofs.NumbersBack.{length-little}
 -- the pair of what is kept of an entry
 abbrev pub pairs_of : ℕ → ℕ → ReadFde → List ℕ
 pairs_of at index f = pair_bytes at index f.start f.place
+
+map-swap : {X Y : Type 0} (f : X → Y) (xs : List X) (i j : ℕ) → map f (swap xs i j) ≡ swap (map f xs) i j
+map-swap f [] i j = refl
+map-swap f (x ∷ xs) i j =
+    map-set f (set (x ∷ xs) i (get_or (x ∷ xs) j x)) j (get_or (x ∷ xs) i x)
+    ∙ ap (λ ys. set ys j (f (get_or (x ∷ xs) i x))) (map-set f (x ∷ xs) i (get_or (x ∷ xs) j x))
+    ∙ ap (λ y. set (set (map f (x ∷ xs)) i (f (get_or (x ∷ xs) j x))) j y) (sym (mapped-item f (x ∷ xs) i x))
+    ∙ ap (λ y. set (set (map f (x ∷ xs)) i y) j (get_or (map f (x ∷ xs)) i (f x))) (sym (mapped-item f (x ∷ xs) j x))
 
 map-swaps : {X Y : Type 0} (f : X → Y) (xs : List X) (moves : List (ℕ × ℕ))
     → map f (apply_swaps xs moves) ≡ apply_swaps (map f xs) moves

@@ -1,12 +1,12 @@
 -- Lists of kinds of frames.
-use Rattle.std.proofs.Common.{sym, suc, ◌+◌, ◌<◌, ◌≡◌, ◌==◌, ◌&&◌, List, [], ◌∷◌, ◌++◌, Some, cond, Bool, true, false}
-use Rattle.std.proofs.Common.{refl, ◌∙◌, ap, arith, length}
-use Rattle.std.specs.Prelude.{All, slice_get}
+use Rattle.std.proofs.Common.{ℕ, sym, zero, suc, ◌+◌, ◌<◌, ◌≡◌, ◌==◌, ◌&&◌, List, [], ◌∷◌, Some, Bool, true, false}
+use Rattle.std.proofs.Common.{refl, ◌∙◌, ap, subst, arith, length}
+use Rattle.std.specs.Prelude.{slice_get}
 use Rattle.std.specs.Bool.{beq}
-use Rattle.std.specs.List.{position_or_len}
+use Rattle.std.specs.List.{AllByRecursion, IsDistinct, position_or_len}
 use Rattle.std.proofs.lemmas.Bool.Decides.{nat_tests}
-use Rattle.std.proofs.lemmas.List.Elements.{All-push}
-use Rattle.rb_bytes.proofs.Tests.{bool_is}
+use Rattle.std.proofs.lemmas.Option.{same_Some}
+use Rattle.rb_bytes.proofs.Tests.{bool_is, clash}
 use Rattle.frame_rewrite.specs.declared.cie_key.CieKey.{CieKey}
 use Rattle.frame_rewrite.specs.SpelledFrames.{is_key}
 use Rattle.frame_rewrite.proofs.Appends.{pos-true, pos-false}
@@ -21,7 +21,7 @@ parts true true false d f e = absurd (cc)
 parts true false c d f e = absurd (cc)
 parts false b c d f e = absurd (cc)
 
-same-key : (a b : CieKey) → is_key a b ≡ true → b ≡ a
+pub same-key : (a b : CieKey) → is_key a b ≡ true → b ≡ a
 same-key a b e =
     let p = parts (a.ra == b.ra) (a.handler == b.handler) (beq a.indirect b.indirect) (beq a.signal b.signal)
     (beq a.tabled b.tabled) e in
@@ -54,7 +54,34 @@ pub key-found : (k : CieKey) (ks : List CieKey) → position_or_len (is_key k) k
 key-found k [] h = absurd (omega arith)
 key-found k (x ∷ xs) h = key-first (is_key k x) k x xs refl (key-found k xs) h
 
--- a key more, unless it is there
-pub all-inserted : (P : CieKey → Type 0) (b : Bool) (ks : List CieKey) (k : CieKey) → All P ks → P k → All P (cond b ks (ks ++ k ∷ []))
-all-inserted P true ks k f g = f
-all-inserted P false ks k f g = All-push P ks k f g
+one-itself : (b : Bool) → beq b b ≡ true
+one-itself true = refl
+one-itself false = refl
+
+pub key-itself : (k : CieKey) → is_key k k ≡ true
+key-itself k =
+    let r : (k.ra == k.ra) ≡ true = grind (arith, nat_tests) in
+    let h : (k.handler == k.handler) ≡ true = grind (arith, nat_tests) in
+    rw (r, h, one-itself k.indirect, one-itself k.signal, one-itself k.tabled) refl
+
+-- Among keys that differ the place of one is where it is found.
+
+all-at : (P : CieKey → Type 0) (ks : List CieKey) (i : ℕ) (k : CieKey) → AllByRecursion P ks → slice_get ks i ≡ Some k → P k
+all-at P [] i k a e = absurd (cc)
+all-at P (x ∷ xs) zero k a e = subst P (same_Some x k e) a.0
+all-at P (x ∷ xs) (suc i) k a e = all-at P xs i k a.1 e
+
+pub key-place : (k : CieKey) (ks : List CieKey) (i : ℕ) → IsDistinct is_key ks → slice_get ks i ≡ Some k
+    → i ≡ position_or_len (is_key k) ks
+unfolding IsDistinct
+key-place k [] i d e = absurd (cc)
+key-place k (x ∷ xs) zero d e =
+    sym (pos-true (is_key k) x xs (ap (is_key k) (same_Some x k e) ∙ key-itself k))
+key-place k (x ∷ xs) (suc i) d e = one (is_key k x) refl (key-place k xs i d.1 e) where
+  one : (b : Bool) → is_key k x ≡ b → i ≡ position_or_len (is_key k) xs → suc i ≡ position_or_len (is_key k) (x ∷ xs)
+  one true t more =
+      absurd (clash (is_key x k) (ap (λ (y : CieKey). is_key y k) (same-key k x t) ∙ key-itself k)
+      (all-at (λ y. is_key x y ≡ false) xs i k d.0 e))
+  one false t more =
+      let p : position_or_len (is_key k) (x ∷ xs) ≡ 1 + position_or_len (is_key k) xs = pos-false (is_key k) x xs t in
+      omega arith

@@ -2,7 +2,6 @@
 use Rattle.std.proofs.Common.{ℕ, suc, ◌+◌, ◌≤◌, ◌<◌, ◌≡◌, ◌==◌, ◌||◌, ◌⊎◌, inl, inr, List, [], ◌∷◌, Option, Some, None, Result, Ok, Err}
 use Rattle.std.proofs.Common.{cond, Bool, true, false, refl, sym, ◌∙◌, ap, subst, arith, length, map}
 use Rattle.std.specs.Prelude.{All, Contains, slice_get}
-use Rattle.std.specs.Bool.{beq}
 use Rattle.std.specs.List.{list_any, position_or_len, IsDistinct, AllByRecursion}
 use Rattle.std.proofs.lemmas.Bool.Decides.{nat_tests}
 use Rattle.std.proofs.lemmas.Grind.{common_steps}
@@ -17,7 +16,7 @@ use Rattle.cfi_rows.specs.Entries.{cie_in, cie_place, cie_at, end_of, fde_at, fd
 use Rattle.frame_rewrite.specs.declared.cie_key.CieKey.{CieKey}
 use Rattle.frame_rewrite.specs.SpelledFrames.{is_key}
 use Rattle.frame_rewrite.proofs.Appends.{pos-true, pos-false}
-use Rattle.frame_rewrite.proofs.KeyLists.{key-found}
+use Rattle.frame_rewrite.proofs.KeyLists.{key-found, key-itself}
 use Rattle.frame_rewrite.proofs.ReadEntries.{IfFde, IfCie, fde-so, fde-read, all-by-cie}
 
 -- the CIEs of entries, as far as they are sound
@@ -122,16 +121,6 @@ count-cies debug address table b = from-count debug address (walked_entries debu
     (walked_entries debug table).entries b
 
 -- Different keys among some kinds are no more than these
-
-one-itself : (b : Bool) → beq b b ≡ true
-one-itself true = refl
-one-itself false = refl
-
-pub key-itself : (k : CieKey) → is_key k k ≡ true
-key-itself k =
-    let r : (k.ra == k.ra) ≡ true = grind (arith, nat_tests) in
-    let h : (k.handler == k.handler) ≡ true = grind (arith, nat_tests) in
-    rw (r, h, one-itself k.indirect, one-itself k.signal, one-itself k.tabled) refl
 
 module _ (ys : List CieKey) where
   abbrev at : CieKey → ℕ

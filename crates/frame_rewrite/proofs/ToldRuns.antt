@@ -1,6 +1,7 @@
 -- The answers of runs are those of entries that were read.
 use Rattle.std.proofs.Common.{ℕ, suc, ◌-◌, ◌*◌, ◌^◌, ◌≤◌, ◌<◌, ◌≡◌, ◌==◌, ◌⊎◌, inl, inr, List, [], ◌∷◌, length, Bool, true, false, None, refl, sym, subst, arith}
 use Rattle.std.specs.Prelude.{All, Contains, not}
+use Rattle.std.specs.List.{IsDistinct}
 use Rattle.std.proofs.lemmas.List.Elements.{All-contains}
 use Rattle.rb_bytes.proofs.ListLemmas.{all_of}
 use Rattle.rb_bytes.proofs.Members.{Contains-nil, Contains-cons_cases, Contains-there}
@@ -14,9 +15,10 @@ use Rattle.cfi_rows.specs.Frames.{frames_of}
 use Rattle.frame_rewrite.specs.declared.cie_key.CieKey.{CieKey}
 use Rattle.frame_rewrite.specs.FrameAnswers.{FrameAnswer, answer_at}
 use Rattle.frame_rewrite.specs.SpelledFits.{RunAscends, RunReturns}
-use Rattle.frame_rewrite.specs.SpelledFrames.{key_of}
+use Rattle.frame_rewrite.specs.SpelledFrames.{is_key, key_of}
 use Rattle.frame_rewrite.proofs.AscendingRows.{FdeAscends, frames-ascend, row-ascends}
-use Rattle.frame_rewrite.proofs.KindCounts.{cies_of, HasCie, read-cies, count-cies}
+use Rattle.frame_rewrite.proofs.KeyLists.{key-itself}
+use Rattle.frame_rewrite.proofs.KindCounts.{cies_of, HasCie, read-cies, count-cies, few-keys}
 use Rattle.frame_rewrite.proofs.Reached.{Answered, answered-first}
 use Rattle.frame_rewrite.proofs.ReturnRegisters.{Bytes, FdeReturns, frames-return}
 
@@ -98,10 +100,11 @@ module _ (debug : Bool) (is_marked : Fde → Bool) (section : Held) (spans : Lis
 
   -- two kinds for each CIE serve
   pub few-kinds : (frames_of debug section).bad ≡ None → (keys : List CieKey)
-      → ((ks : List CieKey) → All (λ (r : Run FrameAnswer). Contains ks (key_of spans r.answer)) runs → length keys ≤ length ks)
+      → IsDistinct is_key keys
+      → ((ks : List CieKey) → All (λ (r : Run FrameAnswer). Contains ks (key_of spans r.answer)) runs → All (Contains ks) keys)
       → length keys ≤ 2 * (frames_of debug section).cies
-  few-kinds sound keys few =
-      let n = few kinds all-kinds in
+  few-kinds sound keys distinct needed =
+      let n = few-keys is_key key-itself kinds keys (needed kinds all-kinds) distinct in
       let l = length-kinds spans (cies_of debug section.address (walked_entries debug section.bytes).entries) in
       let m = count-cies debug section.address section.bytes sound in
       omega (arith, n, l, m)

@@ -7,7 +7,7 @@ use addr_map::AddrMap;
 
 /// What the CIE of a written entry says: the register with the return address, the new address of the handler and
 /// whether that is indirect, and whether the frame is one of a signal handler.
-#[derive(Clone, Copy, PartialEq, Eq, Hash)]
+#[derive(Clone, Copy, PartialEq, Eq, PartialOrd, Ord)]
 pub struct CieKey {
     pub ra: u64,
     pub handler: u64,

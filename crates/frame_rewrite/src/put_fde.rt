@@ -1,19 +1,18 @@
 // FDEs, each of a group of runs. LSB, "The .eh_frame section".
-ghost use Rattle.std.specs.Prelude.{◌≡◌, ◌<◌, ◌≤◌, ◌+◌, ◌-◌, ◌*◌, ◌^◌, ◌++◌, ◌∷◌, Some, OnOk, IfOk, All};
-ghost use Rattle.std.specs.Prelude.{length, slice_get};
-ghost use Rattle.std.specs.List.{position_or_len};
+ghost use Rattle.std.specs.Prelude.{◌≡◌, ◌<◌, ◌≤◌, ◌+◌, ◌-◌, ◌*◌, ◌^◌, ◌++◌, ◌∷◌, OnOk, All, length};
+ghost use Rattle.std.specs.List.{IsDistinct};
 ghost use Rattle.answer_runs.specs.AnswerRuns.{IsWithin};
 ghost use Rattle.frame_rewrite.specs.SpelledFrames as spec;
 ghost use Rattle.frame_rewrite.specs.SpelledFits.{RowFits, RunAscends, Writes, WritesAll, EndFits, Near, IsAbove};
 
 use crate::answer::FrameAt;
 use crate::cie_key::{CieKey, is_plain, key_of};
+use crate::kinds::index_of;
 use crate::put_cie::put_entry;
 use crate::spelling::{known_behind, put_byte, put_change, put_row_before, put_zeros};
 use addr_map::AddrMap;
 use answer_runs::Run;
 use cfi_rows::Row;
-use indexmap::IndexSet;
 use rb_bytes::fault::NoMemory;
 use rb_bytes::little::put_u64;
 
@@ -188,36 +187,25 @@ fn fde_id(debug: bool, place: usize, index: usize) -> usize
     }
 }
 
-// The index of a kind of frame, which is there; that isn't proved, so `NoMemory` is answered where it isn't.
-fn index_of(keys: &IndexSet<CieKey>, key: &CieKey) -> Result<usize, NoMemory>
-    ensures index { IfOk result (λ i. i ≡ position_or_len (spec.is_key key.now) keys.now.keys) }
-    ensures found { IfOk result (λ i. slice_get keys.now.keys i ≡ Some key.now) }
-    ensures within { IfOk result (λ i. i < length keys.now.keys) }
-{
-    match keys.get_index_of(key) {
-        Some(index) => Ok(index),
-        None => Err(NoMemory),
-    }
-}
-
 // Appends the FDE of a group of runs. `body` is room for its contents.
 fn put_fde(
     out: &mut Vec<u8>,
     body: &mut Vec<u8>,
     debug: bool,
-    keys: &IndexSet<CieKey>,
+    keys: &[CieKey],
     map: &AddrMap,
     first: &Run<FrameAt>,
     more: &[Run<FrameAt>],
 ) -> Result<(), NoMemory>
-    requires behind { CIE_SIZE * length keys.now.keys ≤ length out.old.items }
+    requires distinct { IsDistinct spec.is_key keys.now }
+    requires behind { CIE_SIZE * length keys.now ≤ length out.old.items }
     requires ends { All EndFits (first.now ∷ more.now) }
     requires ascend { All RunAscends (first.now ∷ more.now) }
     requires start { spec.start_of map.now first.now ≤ spec.last_end (first.now.start + first.now.len) more.now }
     requires follow { IsAbove (spec.start_of map.now first.now) more.now }
     ensures written { OnOk result (out.new.items ≡ out.old.items
-        ++ spec.spelled_entry (spec.fde_entry debug map.now keys.now.keys (length out.old.items) first.now more.now)) }
-    ensures writes { OnOk result (Writes map.now keys.now.keys (length out.old.items) first.now more.now) }
+        ++ spec.spelled_entry (spec.fde_entry debug map.now keys.now (length out.old.items) first.now more.now)) }
+    ensures writes { OnOk result (Writes map.now keys.now (length out.old.items) first.now more.now) }
 {
     if out.len() > MAX_PLACE {
         return Err(NoMemory);
@@ -237,18 +225,19 @@ pub(crate) fn put_fdes(
     out: &mut Vec<u8>,
     body: &mut Vec<u8>,
     debug: bool,
-    keys: &IndexSet<CieKey>,
+    keys: &[CieKey],
     map: &AddrMap,
     runs: &[Run<FrameAt>],
 ) -> Result<(), NoMemory>
-    requires behind { CIE_SIZE * length keys.now.keys ≤ length out.old.items }
+    requires distinct { IsDistinct spec.is_key keys.now }
+    requires behind { CIE_SIZE * length keys.now ≤ length out.old.items }
     requires within { IsWithin 0 runs.now (2 ^ 64 - 1) }
     requires before { All (λ r. spec.start_of map.now r ≤ r.start) runs.now }
     requires ascend { All RunAscends runs.now }
     ensures written { OnOk result (out.new.items ≡ out.old.items
         ++ spec.spelled_entries
-        (spec.fde_entries debug map.now keys.now.keys (length runs.now) (length out.old.items) runs.now)) }
-    ensures writes { OnOk result (WritesAll map.now keys.now.keys (length runs.now) (length out.old.items) runs.now) }
+        (spec.fde_entries debug map.now keys.now (length runs.now) (length out.old.items) runs.now)) }
+    ensures writes { OnOk result (WritesAll map.now keys.now (length runs.now) (length out.old.items) runs.now) }
 {
     let mut rest = runs;
     // Each FDE has a run at least. `count` isn't read: it bounds the loop.

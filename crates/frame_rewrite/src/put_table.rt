@@ -1,38 +1,19 @@
 // Whole frame tables. LSB, "The .eh_frame section"; DWARF 5, section 6.4.1.
-ghost use Rattle.std.specs.Prelude.{◌≡◌, ◌<◌, ◌≤◌, ◌-◌, ◌^◌, ◌++◌, List, IfOk, OnOk, All, Contains, length};
+ghost use Rattle.std.specs.Prelude.{◌≡◌, ◌≤◌, ◌-◌, ◌^◌, ◌++◌, IfOk, OnOk, All};
+ghost use Rattle.std.specs.List.{IsDistinct};
 ghost use Rattle.answer_runs.specs.AnswerRuns.{IsWithin};
 ghost use Rattle.frame_rewrite.specs.SpelledFrames as spec;
-ghost use Rattle.frame_rewrite.specs.SpelledFits.{KeyFits, RunAscends, RunReturns, IsSpelled};
+ghost use Rattle.frame_rewrite.specs.SpelledFits.{KeyFits, RunAscends, IsSpelled};
 
 use crate::answer::FrameAt;
-use crate::cie_key::{CieKey, key_of};
+use crate::cie_key::CieKey;
 use crate::put_cie::put_cies;
 use crate::put_fde::put_fdes;
 use crate::spelling::put_zeros;
 use addr_map::AddrMap;
 use answer_runs::Run;
-use indexmap::IndexSet;
 use rb_bytes::fault::NoMemory;
 use std::alloc::Global;
-
-/// The kinds of frames that runs need, each once.
-pub(crate) fn keys_of(
-    alloc: Global,
-    map: &AddrMap,
-    runs: &[Run<FrameAt>],
-) -> Result<IndexSet<CieKey>, NoMemory>
-    requires { All RunReturns runs.now }
-    ensures fits { IfOk result (λ keys. All KeyFits keys.keys) }
-    ensures few { IfOk result (λ keys. (kinds : List CieKey) →
-        All (λ r. Contains kinds (spec.key_of map.now r.answer)) runs.now →
-        length keys.keys ≤ length kinds) }
-{
-    let mut keys = IndexSet::new(alloc);
-    for run in runs {
-        keys.insert(key_of(map, &run.answer))?;
-    }
-    Ok(keys)
-}
 
 // Appends what ends a table: in `.eh_frame` a length of 0.
 fn put_end(out: &mut Vec<u8>, debug: bool) -> Result<(), NoMemory>
@@ -45,19 +26,20 @@ fn put_end(out: &mut Vec<u8>, debug: bool) -> Result<(), NoMemory>
 pub(crate) fn written(
     alloc: Global,
     debug: bool,
-    keys: &IndexSet<CieKey>,
+    keys: &[CieKey],
     map: &AddrMap,
     runs: &[Run<FrameAt>],
 ) -> Result<Vec<u8>, NoMemory>
-    requires keys { All KeyFits keys.now.keys }
+    requires keys { All KeyFits keys.now }
+    requires distinct { IsDistinct spec.is_key keys.now }
     requires within { IsWithin 0 runs.now (2 ^ 64 - 1) }
     requires before { All (λ r. spec.start_of map.now r ≤ r.start) runs.now }
     requires ascend { All RunAscends runs.now }
-    ensures { IfOk result (λ bytes. IsSpelled debug map.now keys.now.keys runs.now bytes.items) }
+    ensures { IfOk result (λ bytes. IsSpelled debug map.now keys.now runs.now bytes.items) }
 {
     let mut out = Vec::new(alloc);
     let mut body = Vec::new(alloc);
-    put_cies(&mut out, &mut body, debug, keys.as_slice())?;
+    put_cies(&mut out, &mut body, debug, keys)?;
     put_fdes(&mut out, &mut body, debug, keys, map, runs)?;
     put_end(&mut out, debug)?;
     Ok(out)

@@ -4,16 +4,16 @@ use Rattle.frame_rewrite.proofs.put_table.written.Goals as goal
 
 pub put_fdes-requires-clause-behind : goal.put_fdes-requires-clause-behind
 put_fdes-requires-clause-behind c =
-    let put = cies-put c.args.debug c.args.keys.now.keys c.as_slice.result.now c.new-out.result.items
-    c.put_cies.new.out.items c.new-out.ensures.items c.as_slice.ensures.keys c.in_ok-put_cies.ensures in
-    let room : length c.put_cies.new.out.items ≡ 32 * length c.args.keys.now.keys = cies-room c.args.debug
-    c.args.keys.now.keys c.put_cies.new.out.items put in
+    let put = cies-put c.args.debug c.args.keys.now c.new-out.result.items c.put_cies.new.out.items c.new-out.ensures.items
+    c.in_ok-put_cies.ensures in
+    let room : length c.put_cies.new.out.items ≡ 32 * length c.args.keys.now = cies-room c.args.debug
+    c.args.keys.now c.put_cies.new.out.items put in
     omega arith
 
 pub returns : goal.returns
 returns c =
-    spelled-table c.args.debug c.args.map.now c.args.keys.now.keys c.args.runs.now c.put_cies.new.out.items
+    spelled-table c.args.debug c.args.map.now c.args.keys.now c.args.runs.now c.put_cies.new.out.items
     c.put_fdes.new.out.items c.put_end.new.out.items
-    (cies-put c.args.debug c.args.keys.now.keys c.as_slice.result.now c.new-out.result.items c.put_cies.new.out.items
-    c.new-out.ensures.items c.as_slice.ensures.keys c.in_ok-put_cies.ensures)
+    (cies-put c.args.debug c.args.keys.now c.new-out.result.items c.put_cies.new.out.items c.new-out.ensures.items
+    c.in_ok-put_cies.ensures)
     c.in_ok-put_fdes.ensures.written c.in_ok-put_end.ensures c.in_ok-put_fdes.ensures.writes

@@ -1,8 +1,12 @@
-use Rattle.std.proofs.Common.{◌∙◌, ◌≡◌, ◌≢◌, true, rules, ap, subst, length}
+use Rattle.std.proofs.Common.{◌∙◌, ◌≡◌, ◌≢◌, true, rules, ap, sym, subst, length}
+use Rattle.std.specs.Prelude.{All}
+use Rattle.std.specs.List.{IsDistinct}
 use Rattle.std.proofs.lemmas.List.{nil_from_length}
 use Rattle.table_core.specs.Sections.{held}
 use Rattle.cfi_rows.specs.ReadFrames.{read_as, section_held}
 use Rattle.frame_rewrite.specs.FrameAnswers.{is_never_marked}
+use Rattle.frame_rewrite.specs.SpelledFits.{KeyFits}
+use Rattle.frame_rewrite.specs.SpelledFrames.{is_key}
 use Rattle.frame_rewrite.specs.Tables.{debug_name}
 use Rattle.frame_rewrite.proofs.AnswersBack.{reached-before}
 use Rattle.frame_rewrite.proofs.ReturnRegisters.{Bytes}
@@ -36,17 +40,24 @@ written-requires-clause-before c =
     reached-before c.args.map.now c.args.runs.now c.args.runs.now
     (debug-reached c.args.table.now c.args.map.now c.args.runs.now c.requires.within c.requires.answers)
 
+pub written-requires-clause-keys : goal.written-requires-clause-keys
+written-requires-clause-keys c = subst (All KeyFits) (sym c.deref-2.ensures.value) c.in_ok-keys.ensures.fits
+
+pub written-requires-clause-distinct : goal.written-requires-clause-distinct
+written-requires-clause-distinct c = subst (IsDistinct is_key) (sym c.deref-2.ensures.value) c.in_ok-keys.ensures.distinct
+
 pub returns-clause-law : goal.returns-clause-law
 returns-clause-law c = λ f there.
-    stands true is_never_marked c.args.map.now _ c.args.runs.now c.in_ok-bytes.bytes.items (held f debug_name)
-    c.in_ok-keys.ensures.fits c.requires.within
+    stands true is_never_marked c.args.map.now c.deref-2.result.now c.args.runs.now c.in_ok-bytes.bytes.items
+    (held f debug_name) (subst (All KeyFits) (sym c.deref-2.ensures.value) c.in_ok-keys.ensures.fits) c.requires.within
     (debug-reached c.args.table.now c.args.map.now c.args.runs.now c.requires.within c.requires.answers)
     c.in_ok-bytes.ensures there
 
 pub returns-clause-made : goal.returns-clause-made
 returns-clause-made c =
     let some : length c.args.table.now.frames.section.items ≢ 0 = search rules in
-    debug-makes c.args.table.now c.args.map.now _ c.args.runs.now _ c.in_ok-keys.ensures.fits c.requires.within
+    debug-makes c.args.table.now c.args.map.now c.deref-2.result.now c.args.runs.now _
+    (subst (All KeyFits) (sym c.deref-2.ensures.value) c.in_ok-keys.ensures.fits) c.requires.within
     (debug-reached c.args.table.now c.args.map.now c.args.runs.now c.requires.within c.requires.answers)
     (debug-alike c.args.table.now c.args.map.now c.args.runs.now c.requires.within c.requires.answers)
     (λ none. some (ap length none)) c.in_ok-bytes.ensures c.new-lists.ensures.items

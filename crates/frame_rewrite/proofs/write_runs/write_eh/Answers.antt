@@ -1,9 +1,14 @@
-use Rattle.std.proofs.Common.{◌∙◌, false, sym, ap, subst}
+use Rattle.std.proofs.Common.{◌∙◌, List, false, sym, ap, subst}
+use Rattle.std.specs.Prelude.{All}
+use Rattle.std.specs.List.{IsDistinct}
 use Rattle.elf_image.specs.file.SectionNames.{section_called}
 use Rattle.table_core.specs.Sections.{Held, held}
 use Rattle.cfi_rows.specs.KeptTables.{SaidFrames}
 use Rattle.cfi_rows.specs.ReadFrames.{read_as, section_held}
 use Rattle.frame_rewrite.specs.FrameAnswers.{is_marked_by, cuts_of}
+use Rattle.frame_rewrite.specs.declared.cie_key.CieKey.{CieKey}
+use Rattle.frame_rewrite.specs.SpelledFits.{IsSpelled, KeyFits}
+use Rattle.frame_rewrite.specs.SpelledFrames.{is_key}
 use Rattle.frame_rewrite.specs.Tables.{eh_name}
 use Rattle.frame_rewrite.proofs.AnswersBack.{reached-before}
 use Rattle.frame_rewrite.proofs.ReturnRegisters.{Bytes}
@@ -39,10 +44,16 @@ written-requires-clause-before c =
     reached-before c.args.map.now c.args.runs.now c.args.runs.now
     (eh-reached c.args.table.now c.args.map.now c.args.runs.now c.requires.allowed c.requires.within c.requires.answers)
 
+pub written-requires-clause-keys : goal.written-requires-clause-keys
+written-requires-clause-keys c = subst (All KeyFits) (sym c.deref-2.ensures.value) c.in_ok-keys.ensures.fits
+
+pub written-requires-clause-distinct : goal.written-requires-clause-distinct
+written-requires-clause-distinct c = subst (IsDistinct is_key) (sym c.deref-2.ensures.value) c.in_ok-keys.ensures.distinct
+
 pub returns-clause-law : goal.returns-clause-law
 returns-clause-law c = λ i f from there.
-    stands false (is_marked_by (cuts_of f)) c.args.map.now _ c.args.runs.now c.in_ok-bytes.bytes.items (held f eh_name)
-    c.in_ok-keys.ensures.fits c.requires.within
+    stands false (is_marked_by (cuts_of f)) c.args.map.now c.deref-2.result.now c.args.runs.now c.in_ok-bytes.bytes.items
+    (held f eh_name) (subst (All KeyFits) (sym c.deref-2.ensures.value) c.in_ok-keys.ensures.fits) c.requires.within
     (eh-reached c.args.table.now c.args.map.now c.args.runs.now c.requires.allowed c.requires.within c.requires.answers)
     c.in_ok-bytes.ensures there
 
@@ -50,11 +61,14 @@ pub returns-clause-made : goal.returns-clause-made
 returns-clause-made c =
     let few = few-kinds c.args.table.now.frames.debug (is_marked_by c.args.table.now.cuts.items) (section_held c.args.table.now.frames)
     c.args.map.now c.args.runs.now c.requires.within c.requires.answers
-    (ap (λ (s : SaidFrames). s.bad) c.args.table.now.frames.read ∙ c.args.table.now.sound) c.in_ok-keys.keys.keys c.in_ok-keys.ensures.few
-    in
+    (ap (λ (s : SaidFrames). s.bad) c.args.table.now.frames.read ∙ c.args.table.now.sound) c.in_ok-keys.keys.items
+    c.in_ok-keys.ensures.distinct c.in_ok-keys.ensures.needed in
     let ascend = all-ascend c.args.table.now.frames.debug (is_marked_by c.args.table.now.cuts.items)
     (section_held c.args.table.now.frames) c.args.map.now c.args.runs.now c.requires.within c.requires.answers in
-    makes c.args.table.now c.args.map.now _ c.args.runs.now _ c.in_ok-keys.ensures.fits c.requires.within ascend c.requires.answers
+    makes c.args.table.now c.args.map.now c.in_ok-keys.keys.items c.args.runs.now _ c.in_ok-keys.ensures.fits c.requires.within
+    ascend c.requires.answers
     (eh-reached c.args.table.now c.args.map.now c.args.runs.now c.requires.allowed c.requires.within c.requires.answers)
     (eh-alike c.args.table.now c.args.map.now c.args.runs.now c.requires.allowed c.requires.within c.requires.answers)
-    few c.if-not-table.false c.in_ok-bytes.ensures c.new-lists.ensures.items
+    few c.if-not-table.false
+    (subst (λ (k : List CieKey). IsSpelled false c.args.map.now k c.args.runs.now c.in_ok-bytes.bytes.items)
+    c.deref-2.ensures.value c.in_ok-bytes.ensures) c.new-lists.ensures.items
