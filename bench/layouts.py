@@ -103,7 +103,7 @@ def compare(tool, name, path, words, folder):
     print(f"{name:18} {said if done else f'{recorded}; {said}'}", flush=True)
     if not done:
         return
-    found = [("before", way_of(path, words)), ("after", way_of(moved, words))]
+    found = [("before", way_of(path, words)), ("plain", way_of(moved, words))]
     why = refine(tool, path, profile, refined)
     if why or not rewrite(tool, path, refined, moved)[1]:
         print(f"    not refined: {why}")

@@ -219,7 +219,7 @@ class Try:
     def ways(self):
         """The way of the run before, after by the plain and by a refined profile, and of llvm-bolt's output."""
         way = lambda path: way_of(path, self.words, self.given)
-        found = [("before", way(self.path)), ("after", way(self.at("moved")))]
+        found = [("before", way(self.path)), ("plain", way(self.at("moved")))]
         why = refine(self.tool, self.path, self.at("profile"), self.at("refined"))
         said, done = (why, False) if why else rewrite(self.tool, self.path, self.at("refined"), self.at("better"))
         found.append(("refined", way(self.at("better")) if done else said))
