@@ -1,6 +1,7 @@
-/* What programs of packages want beside start.c: standard input by the system call read, and calls that always fail. */
+/* What programs of packages need beside start.c: standard input by the system call read, and calls that always fail. */
 #include <errno.h>
 #include <stdio.h>
+#include <sys/time.h>
 #include <sys/types.h>
 #include <time.h>
 #include <unistd.h>
@@ -32,7 +33,7 @@ static int get(FILE *file) {
 static FILE in = FDEV_SETUP_STREAM(NULL, get, NULL, _FDEV_SETUP_READ);
 FILE *const stdin = &in;
 
-/* There are no other files, no clock and no signals. */
+/* There are no other files, processes or signals, and no clock. */
 int open(const char *name, int flags, ...) { (void)name, (void)flags; errno = ENOENT; return -1; }
 int close(int file) { (void)file; return 0; }
 off_t lseek(int file, off_t offset, int whence) { (void)file, (void)offset, (void)whence; errno = ESPIPE; return -1; }
@@ -42,3 +43,11 @@ int rename(const char *from, const char *to) { (void)from, (void)to; errno = ENO
 int system(const char *command) { (void)command; return 0; }
 clock_t clock(void) { return 0; }
 time_t time(time_t *into) { if (into) *into = 0; return 0; }
+int gettimeofday(struct timeval *restrict into, void *restrict zone) {
+    (void)zone;
+    if (into)
+        *into = (struct timeval){0};
+    return 0;
+}
+pid_t getpid(void) { return 1; }
+int kill(pid_t process, int number) { (void)process, (void)number; errno = ESRCH; return -1; }
