@@ -19,7 +19,7 @@ use Rattle.edge_profile.specs.PairCounts.{Counted}
 use Rattle.edge_profile.proofs.BlockLists.{AreApart-blocks}
 use Rattle.branch_fixup.specs.Inputs.{AreBlocksOf}
 use Rattle.func_place.specs.Faults.{HasPlacementFault}
-use Rattle.program.specs.Limits.{IsLimitFault}
+use Rattle.program.specs.Limits.{IsCodeTooLarge, IsLimitFault}
 use Rattle.program.specs.Program.{IsProgramOf, Program, program_of, program_seen}
 use Rattle.program.specs.Refusals.{IsRefusalFor, IsUnreadable}
 use Rattle.program.specs.Room.{new_start, no_program_room}
@@ -31,7 +31,8 @@ use Rattle.bolt_core.specs.NewCode.{IsLaidOutBy}
 use Rattle.bolt_core.specs.ProfileOrder.{ArePartsBy, ArePartsOf, IsProfileOrder, cold_starts, counts_of}
 use Rattle.bolt_core.specs.internal.TableLimits.{IsHeavy}
 use Rattle.bolt_core.specs.TableFaults.{HasCarryingFault}
-use Rattle.bolt_core.specs.Refusals.{CanStand, Fit, IsInput, IsRefusal, misplaced, no_place, not_carried, too_heavy, too_large, unreadable}
+use Rattle.bolt_core.specs.Refusals.{CanStand, Fit, IsInput, IsRefusal, large_code, misplaced, no_place, not_carried, too_heavy}
+use Rattle.bolt_core.specs.Refusals.{too_large, unreadable}
 
 -- a program with its functions and blocks as slices
 pub same_program : (p : ReadProgram) {funcs : List Func} {blocks : List Block} → funcs ≡ p.funcs.items →
@@ -45,6 +46,11 @@ input_of {file = file} p same_funcs same_blocks is fit = record {
   program = subst (IsProgramOf file) (same_program p same_funcs same_blocks) is;
   profile_fits = fit.profile_fits;
 }
+
+-- an input by its slices
+pub as_slices : {file profile : List ℕ} {funcs : List Func} {blocks : List Block} (p : ReadProgram) → funcs ≡ p.funcs.items →
+    blocks ≡ p.blocks.items → IsInput file profile (program_seen p) → IsInput file profile (program_of p.elf funcs p.refs blocks)
+as_slices {file} {profile} p same_funcs same_blocks is = subst (IsInput file profile) (same_program p same_funcs same_blocks) is
 
 pub start_by : {funcs : List Func} {blocks : List Block} (p : ReadProgram) → funcs ≡ p.funcs.items →
     blocks ≡ p.blocks.items → (start : ℕ) → start ≡ new_start (program_seen p) →
@@ -109,6 +115,11 @@ module _ {file profile : List ℕ} {x : Program} (is : IsInput file profile x) w
       IsRefusalFor (λ fault. no_program_room x ≡ Some fault) r → IsRefusal file profile r
   no_place_refusal placed carried (refusal.Fault fault) none = no_place x is (record { placed = placed; carried = carried }) none
   no_place_refusal placed carried refusal.Memory none = tt
+
+  pub large_code_refusal : CanStand x → (r : Refusal) →
+      IsRefusalFor (IsLimitFault (IsCodeTooLarge x.elf.file.now x.code.funcs)) r → IsRefusal file profile r
+  large_code_refusal stands (refusal.Fault fault) limit = large_code x is stands limit
+  large_code_refusal stands refusal.Memory limit = tt
 
   pub too_large_refusal : CanStand x → (pairs : List Counted) (parts : Chains) → ArePartsBy x profile pairs parts →
       (cold : List ℕ) → cold ≡ cold_starts x.code.funcs x.blocks parts → (r : Refusal) →

@@ -11,7 +11,7 @@ use Rattle.rv_code.specs.declared.layout.Chains.{Chains}
 use Rattle.addr_map.specs.declared.span.Span.{Span}
 use Rattle.edge_profile.specs.PairCounts.{Counted}
 use Rattle.func_place.specs.Faults.{HasPlacementFault}
-use Rattle.program.specs.Limits.{IsLimitFault, file_limit}
+use Rattle.program.specs.Limits.{IsCodeTooLarge, IsLimitFault, file_limit}
 use Rattle.program.specs.Program.{IsProgramOf, Program}
 use Rattle.program.specs.Refusals.{IsRefusalFor, IsUnreadable}
 use Rattle.program.specs.Room.{no_program_room}
@@ -42,8 +42,8 @@ pub record CanStand (x : Program) : Type 0 where
   pub room : no_program_room x ≡ None
 
 -- Length comes first, of the file and then of the profile; then why the file isn't read as a program; what keeps its
--- code from being placed; what keeps its tables from being carried; want of room; and then the other limits, of which
--- the weights of tables are the last.
+-- code from being placed; what keeps its tables from being carried; want of room; and then the other limits. Those of
+-- its code come first, for which its parts needn't be known, and the weights of tables are the last.
 pub data IsRefused (file profile : List ℕ) (fault : Fault) : Type 0 where
   long_file : file_limit < length file → fault ≡ fault_at TooLarge FILE_BYTES → IsRefused file profile fault
   long_profile : length file ≤ file_limit → file_limit < length profile → fault ≡ fault_at TooLarge PROFILE_BYTES →
@@ -55,6 +55,8 @@ pub data IsRefused (file profile : List ℕ) (fault : Fault) : Type 0 where
       IsAnswered (HasCarryingFault x.elf) fault → IsRefused file profile fault
   no_place : (x : Program) → IsInput file profile x → CanMove x → no_program_room x ≡ Some fault →
       IsRefused file profile fault
+  large_code : (x : Program) → IsInput file profile x → CanStand x →
+      IsLimitFault (IsCodeTooLarge x.elf.file.now x.code.funcs) fault → IsRefused file profile fault
   too_large : (x : Program) → IsInput file profile x → CanStand x → (pairs : List Counted) (parts : Chains) →
       ArePartsBy x profile pairs parts →
       IsLimitFault (IsTooLarge x.elf x.code.funcs (cold_starts x.code.funcs x.blocks parts)) fault →

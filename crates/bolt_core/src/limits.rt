@@ -1,7 +1,8 @@
 // Limits on what is rewritten.
-ghost use Rattle.std.specs.Prelude.{ℕ, ◌<◌, ◌≤◌, ◌^◌, AllPairs, IfErr, OnOk, length};
+ghost use Rattle.std.specs.Prelude.{ℕ, ◌≤◌, ◌^◌, All, AllPairs, IfErr, List, OnOk, length};
 ghost use Rattle.rb_bytes.specs.FirstFault.{IsFree};
 ghost use Rattle.rv_code.specs.layout.FunctionLists.{AreLaidOut};
+ghost use Rattle.rv_code.specs.layout.FunctionMembers.{IsOfFunction};
 ghost use Rattle.elf_image.specs.file.ParsedFile.{IsElfOf};
 ghost use Rattle.addr_map.specs.MapText.{IsLineBefore};
 ghost use Rattle.addr_map.specs.Spans.{ShareNoByte};
@@ -10,20 +11,24 @@ ghost use Rattle.dw_unit.specs.Faults.{HasDwarfFault, unit_fault_places};
 ghost use Rattle.dw_unit.specs.Tables.{sections_of};
 ghost use Rattle.table_set.specs.AllTables.{AllComeFrom};
 ghost use Rattle.table_set.specs.TableLimits.{IsTooHeavy};
+ghost use Rattle.area_room.specs.Need.{AreBlocksOf};
 ghost use Rattle.program.specs.Limits.{IsLimitFault};
+ghost use Rattle.program.specs.Program.{program_seen};
 ghost use Rattle.program.specs.Refusals.{IsRefusalFor};
 ghost use Rattle.bolt_core.specs.Limits.{IsTooLarge};
 ghost use Rattle.bolt_core.specs.internal.TableLimits.{IsHeavy};
-ghost use Rattle.bolt_core.specs.Refusals.{Fit, IsRefusal};
+ghost use Rattle.bolt_core.specs.Refusals.{Fit, IsInput, IsRefusal};
 
+use crate::reading::read_tables;
 use addr_map::AddrMap;
 use answer_runs::WEIGHT_LIMIT;
 use elf_image::Elf;
 use elf_write::name_weight;
-use program::{FILE_LIMIT, check_code};
-use rb_bytes::fault::{Fault, FaultKind, NoMemory, Refusal};
+use func_place::check_units;
+use program::{FILE_LIMIT, Program, check_code, new_start};
+use rb_bytes::fault::{Fault, FaultKind, Refusal};
 use rb_bytes::limit::{FILE_BYTES, HEADERS, PROFILE_BYTES, WEIGHTS};
-use rv_code::{Block, Func};
+use rv_code::Func;
 use std::alloc::Global;
 use table_set::{AllTables, is_too_heavy};
 
@@ -49,17 +54,28 @@ pub fn check_lengths(file: &[u8], profile: &[u8]) -> Result<(), Refusal>
     Ok(())
 }
 
-/// Answers want of memory for more blocks than a program within the limits has. It comes before they are laid out,
-/// which would take much memory for a program that is refused in the end.
-pub fn check_blocks(blocks: &[Block]) -> Result<(), NoMemory>
-    ensures few { OnOk result (length blocks.now ≤ 2 ^ 23) }
-    ensures many { IfErr result (λ _. 2 ^ 23 < length blocks.now) }
+/// Refuses a program that has more blocks than one within the limits, before they are laid out, which would take much
+/// memory. Its fault is the first of those for which no layout is needed: of its functions and tables, of room, and of
+/// its code. One of them is there, but for want of memory.
+pub fn check_blocks(alloc: Global, program: &Program<'_>) -> Result<(), Refusal>
+    requires fields { IsElfOf program.now.elf.file.now program.now.elf }
+    requires laid { AreLaidOut program.now.funcs.items }
+    requires stretches { All (IsOfFunction program.now.funcs.items) program.now.blocks.items }
+    requires blocks { AreBlocksOf program.now.funcs.items program.now.blocks.items }
+    ensures few { OnOk result (length program.now.blocks.items ≤ 2 ^ 23) }
+    ensures refused { (file profile : List ℕ) → IsInput file profile (program_seen program.now) →
+        IfErr result (IsRefusal file profile) }
 {
-    if blocks.len() > MOST_BLOCKS {
-        Err(NoMemory)
-    } else {
-        Ok(())
+    let funcs = program.funcs.as_slice();
+    let blocks = program.blocks.as_slice();
+    if blocks.len() <= MOST_BLOCKS {
+        return Ok(());
     }
+    check_units(alloc, funcs, blocks)?;
+    read_tables(alloc, &program.elf)?;
+    new_start(alloc, program)?;
+    check_code(&program.elf, funcs)?;
+    Err(Refusal::Memory)
 }
 
 /// Refuses a program that passes one of the other limits: on its code, at 2 (`CODE_BYTES`) and 3 (`FUNCTIONS`), on its

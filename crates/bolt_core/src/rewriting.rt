@@ -64,7 +64,7 @@ pub fn rewrite(alloc: Global, file: &[u8], profile: &[u8]) -> Result<Rewritten, 
     let program = program::read_program(alloc, file)?;
     let funcs = program.funcs.as_slice();
     let blocks = program.blocks.as_slice();
-    check_blocks(blocks)?;
+    check_blocks(alloc, &program)?;
     let counts = edge_profile::read(alloc, profile, &program.elf, funcs)?;
     let pairs = counts.pairs();
     let weights = block_weights(alloc, funcs, blocks, &counts)?;

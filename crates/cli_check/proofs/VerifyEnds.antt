@@ -1,5 +1,5 @@
 -- From what the steps of `verify` come to, to the answers of the whole.
-use Rattle.std.proofs.Common.{◌≡◌, ◌≤◌, ℕ, IsTrue, List, None, Option, Some, inl, inr, subst, sym}
+use Rattle.std.proofs.Common.{◌≡◌, ◌≤◌, ℕ, IsTrue, List, None, Option, Some, inl, inr, refl, subst, sym}
 use Rattle.std.specs.Prelude.{IsSomeAnd}
 use Rattle.rb_bytes.specs.declared.fault.Fault.{Fault}
 use Rattle.rb_io.specs.Names.{Unchanged}
@@ -14,7 +14,7 @@ use Rattle.cli_base.specs.declared.status.Status.{Status}
 use Rattle.cli_base.specs.declared.status.Status.TheVariants as status
 use Rattle.cli_check.specs.GivenFiles.{AreGiven, IsUngiven, input, map, map_limit, output}
 use Rattle.cli_check.specs.Judged.{Announces, AreFilesGiven, IsJudged}
-use Rattle.cli_check.specs.VerdictLines.{status_of, verdict_line}
+use Rattle.cli_check.specs.VerdictLines.{IsRefusalLine, status_of, verdict_line}
 use Rattle.cli_check.specs.VerifiedFiles.{IsRefusedBy, IsVerdictOn}
 use Rattle.cli_check.specs.VerifyAnswers.{AreAccepted, IsJudgedOrNoMemory, NoneRoseVerifying, OfFiles, OfTold, VerifyAnswers, VerifyServes}
 use Rattle.cli_check.specs.VerifyAnswers.{at_file, at_refusal, at_verdict, judged, no_memory, refused}
@@ -61,19 +61,19 @@ module _ (names : VerifyNames) (old new : World) (unwritten : Unchanged old.file
   says answer v (none_printed is kept) on = no_memory is (record { unprinted = kept; unwritten = unwritten })
 
   refuses : (answer : Status) (fault : Fault) (line : List ℕ) →
-      LinePrinted answer (status.Refused fault) line old.output new.output →
+      IsRefusalLine fault line → LinePrinted answer (status.Refused fault) line old.output new.output →
       OfTold old names (λ i o m. IsRefusedBy i o m fault line) → VerifyAnswers names old new answer
-  refuses answer fault line (all_printed is taken) by =
-      refused fault line is by (record { line_taken = taken; unwritten = unwritten })
-  refuses answer fault line (prefix_printed is rose taken) by =
-      at_refusal fault line is by (record { print = record { cause = rose; front = taken }; unwritten = unwritten })
-  refuses answer fault line (none_printed is kept) by = no_memory is (record { unprinted = kept; unwritten = unwritten })
+  refuses answer fault line of (all_printed is taken) by =
+      refused fault line is of by (record { line_taken = taken; unwritten = unwritten })
+  refuses answer fault line of (prefix_printed is rose taken) by =
+      at_refusal fault line is of by (record { print = record { cause = rose; front = taken }; unwritten = unwritten })
+  refuses answer fault line of (none_printed is kept) by = no_memory is (record { unprinted = kept; unwritten = unwritten })
 
   pub announced : (answer : Status) (j : Judged) → Announces j answer old.output new.output →
       OfTold old names (λ i o m. IsJudged i o m j) → VerifyAnswers names old new answer
   announced answer (found.Verdict v) printed on = says answer v printed on
-  announced answer (found.Refused fault) printed on = refuses answer fault _ printed on
-  announced answer (found.RefusedOutput fault) printed on = refuses answer fault _ printed on
+  announced answer (found.Refused fault) printed on = refuses answer fault _ (inl refl) printed on
+  announced answer (found.RefusedOutput fault) printed on = refuses answer fault _ (inr refl) printed on
 
   pub out_of_memory : (answer : Status) → answer ≡ status.NoMemory → new.output.taken ≡ old.output.taken →
       VerifyAnswers names old new answer
@@ -98,10 +98,10 @@ completes names old new answer (judged v is on prints) told accepted quiet = sub
     by verdict.Faithful = tt
     by (verdict.Unfaithful clause place) = tt
 completes names old new answer (at_verdict v is on fails) told accepted quiet = absurd (quiet.line fails.print.cause)
-completes names old new answer (refused fault line is by prints) told accepted quiet =
+completes names old new answer (refused fault line is of by prints) told accepted quiet =
     absurd (exclude (old.files.content names.input) (old.files.content names.output) (old.files.content names.map)
     (λ i o m. IsRefusedBy i o m fault line) AreAccepted (λ i o m is_refused accepts. accepts fault line is_refused) (by told) accepted)
-completes names old new answer (at_refusal fault line is by fails) told accepted quiet = absurd (quiet.line fails.print.cause)
+completes names old new answer (at_refusal fault line is of by fails) told accepted quiet = absurd (quiet.line fails.print.cause)
 completes names old new answer (at_file is rose silent) told accepted quiet = absurd (elim rose [
   | inl one ↦ quiet.input one
   | inr more ↦ elim more [ inl two ↦ quiet.output two | inr three ↦ quiet.map three ]

@@ -1,8 +1,8 @@
 -- What a verdict is answered by: its line, and how the command ends.
-use Rattle.std.specs.Prelude.{ℕ, List, ◌++◌, codes}
+use Rattle.std.specs.Prelude.{◌≡◌, ◌⊎◌, ℕ, List, ◌++◌, codes}
 use Rattle.rb_bytes.specs.Text.{hexadecimal}
 use Rattle.rb_bytes.specs.declared.fault.Fault.{Fault}
-use Rattle.cli_base.specs.Lines.{refused_front}
+use Rattle.cli_base.specs.Lines.{refused_front, refused_line}
 use Rattle.cli_base.specs.declared.status.Status.{Status}
 use Rattle.cli_base.specs.declared.status.Status.TheVariants as status
 use Rattle.map_check.specs.declared.clause.Clause.{Clause}
@@ -33,3 +33,7 @@ status_of (verdict.Unfaithful clause place) = status.Unfaithful clause place
 -- the line for an output that is refused
 abbrev pub refused_output_line : Fault → List ℕ
 refused_output_line fault = refused_front fault ++ codes " in OUT\n"
+
+-- a line of a refusal: of the input or of the map, or of the output
+abbrev pub IsRefusalLine : Fault → List ℕ → Type 0
+IsRefusalLine fault line = (line ≡ refused_line fault) ⊎ (line ≡ refused_output_line fault)

@@ -8,7 +8,7 @@ use Rattle.cli_base.specs.World.{ReadRose, World}
 use Rattle.cli_base.specs.declared.status.Status.{Status}
 use Rattle.cli_base.specs.declared.status.Status.TheVariants as status
 use Rattle.map_check.specs.declared.clause.Verdict.{Verdict}
-use Rattle.cli_check.specs.VerdictLines.{status_of, verdict_line}
+use Rattle.cli_check.specs.VerdictLines.{IsRefusalLine, status_of, verdict_line}
 use Rattle.cli_check.specs.VerifiedFiles.{IsRefusedBy, IsVerdictOn}
 use Rattle.cli_args.specs.Args.{VerifyNames}
 
@@ -24,16 +24,16 @@ abbrev pub OfTold : World → VerifyNames → (List ℕ → List ℕ → List �
 OfTold w names P = IsTrue w.files.told → OfFiles w names P
 
 -- No file was written. A verdict is printed, or a refusal; or its line fails; or a file can't be read, or memory ran
--- out, and nothing was printed.
+-- out, and nothing was printed. A refusal's line is one of its fault, also where files aren't told.
 pub data VerifyAnswers (names : VerifyNames) (old new : World) (answer : Status) : Type 0 where
   judged : (v : Verdict) → answer ≡ status_of v → OfTold old names (λ i o m. IsVerdictOn i o m v) →
       PrintsOnly (verdict_line v) old new → VerifyAnswers names old new answer
   at_verdict : (v : Verdict) → answer ≡ status.WriteFault → OfTold old names (λ i o m. IsVerdictOn i o m v) →
       FailsAtLine (verdict_line v) old new → VerifyAnswers names old new answer
-  refused : (fault : Fault) (line : List ℕ) → answer ≡ status.Refused fault →
+  refused : (fault : Fault) (line : List ℕ) → answer ≡ status.Refused fault → IsRefusalLine fault line →
       OfTold old names (λ i o m. IsRefusedBy i o m fault line) → PrintsOnly line old new →
       VerifyAnswers names old new answer
-  at_refusal : (fault : Fault) (line : List ℕ) → answer ≡ status.WriteFault →
+  at_refusal : (fault : Fault) (line : List ℕ) → answer ≡ status.WriteFault → IsRefusalLine fault line →
       OfTold old names (λ i o m. IsRefusedBy i o m fault line) → FailsAtLine line old new →
       VerifyAnswers names old new answer
   at_file : answer ≡ status.ReadFault →

@@ -16,4 +16,4 @@ mod unit_calls;
 mod unit_order;
 mod units;
 
-pub use placing::{place, place_by};
+pub use placing::{check_units, place, place_by};

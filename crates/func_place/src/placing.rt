@@ -88,6 +88,18 @@ pub fn place_by(
     Ok(Plan { order })
 }
 
+/// Answers whether code can be placed, as `place` does, without its order: nothing, or the first of the faults
+/// `UnitTooLong` and `KeptBranch`.
+pub fn check_units(alloc: Global, funcs: &[Func], blocks: &[Block]) -> Result<(), Refusal>
+    requires funcs { AreLaidOut funcs.now }
+    requires blocks { All (IsOfFunction funcs.now) blocks.now }
+    ensures free { OnOk result (IsFree (HasPlacementFault funcs.now blocks.now)) }
+    ensures fault { IfErr result (IsRefusalBy (HasPlacementFault funcs.now blocks.now)) }
+{
+    sized_units(alloc, funcs, blocks)?;
+    Ok(())
+}
+
 // The units of functions, and the worst size of each, where code can be placed; or the first of the faults
 // `UnitTooLong` and `KeptBranch`.
 fn sized_units(

@@ -5,14 +5,14 @@ use Rattle.edge_profile.specs.PairCounts.{ArePairs, Counted}
 use Rattle.edge_profile.specs.Profile.{profile_counts, pairs_of}
 use Rattle.edge_profile.specs.Weights.{block_weight}
 use Rattle.func_place.specs.Placement.{IsPlacement}
-use Rattle.program.specs.Program.{program_of, program_seen}
+use Rattle.program.specs.Program.{IsProgramOf, Program, program_of, program_seen}
 use Rattle.program.specs.Room.{new_start}
 use Rattle.program.proofs.Programs.{laid_out}
 use Rattle.rv_code.specs.layout.FunctionLists.{address_end}
 use Rattle.addr_map.specs.Spans.{IsStretch}
 use Rattle.bolt_core.specs.Limits.{IsTooLarge}
 use Rattle.bolt_core.specs.ProfileOrder.{ArePartsBy, IsProfileOrder}
-use Rattle.bolt_core.specs.Refusals.{CanStand, IsInput}
+use Rattle.bolt_core.specs.Refusals.{CanStand, Fit, IsInput}
 use Rattle.bolt_core.specs.internal.CarriedTables.{AreNewTables, HasRoomBehind}
 use Rattle.bolt_core.proofs.Accepted.{apart_blocks, blocks_of, input_of, laid_program, misplaced_refusal, no_place_refusal}
 use Rattle.bolt_core.proofs.Accepted.{not_carried_refusal, too_heavy_refusal, no_room_by, parts_by, read_again, readable_again, stands_by}
@@ -26,6 +26,9 @@ use Rattle.bolt_core.proofs.Rewrites.{all_bytes, cells_apart, cells_held, even, 
 use Rattle.bolt_core.proofs.SoundCode.{cells, direct, insts}
 use Rattle.bolt_core.proofs.rewriting.rewrite.Goals.{After-as_slice-blocks, In_ok-parts, In_ok-plan, In_ok-start}
 use Rattle.bolt_core.proofs.rewriting.rewrite.Goals as goal
+
+input_read : {file profile : List ℕ} {x : Program} → Fit file profile → IsProgramOf file x → IsInput file profile x
+input_read fit is = record { program = is; profile_fits = fit.profile_fits }
 
 -- What is known once the slices are taken.
 given : (c : After-as_slice-blocks) → IsInput c.args.file.now c.args.profile.now
@@ -78,6 +81,28 @@ returns-in_err-program-clause-refused c =
     let p = err_from_is_err_and c.from_residual-in_err-program.result c.from_residual-in_err-program.ensures.1 in
     rw (p.1, p.2) (unreadable_refusal c.args.file.now c.args.profile.now c.in_ok-check_lengths.ensures.fit
     c.in_err-program.field-0.0 c.in_err-program.ensures.fault)
+
+pub check_blocks-requires-clause-fields : goal.check_blocks-requires-clause-fields
+check_blocks-requires-clause-fields c =
+    read_again c.in_ok-program.ensures.program
+
+pub check_blocks-requires-clause-laid : goal.check_blocks-requires-clause-laid
+check_blocks-requires-clause-laid c =
+    laid_program (input_read c.in_ok-check_lengths.ensures.fit c.in_ok-program.ensures.program)
+
+pub check_blocks-requires-clause-stretches : goal.check_blocks-requires-clause-stretches
+check_blocks-requires-clause-stretches c =
+    stretches (input_read c.in_ok-check_lengths.ensures.fit c.in_ok-program.ensures.program)
+
+pub check_blocks-requires-clause-blocks : goal.check_blocks-requires-clause-blocks
+check_blocks-requires-clause-blocks c =
+    ((program_seen c.in_ok-program.program).code, refl, c.in_ok-program.ensures.program.blocks_are)
+
+pub returns-in_err-check_blocks-clause-refused : goal.returns-in_err-check_blocks-clause-refused
+returns-in_err-check_blocks-clause-refused c =
+    let p = err_from_is_err_and c.from_residual-in_err-check_blocks.result c.from_residual-in_err-check_blocks.ensures.1 in
+    rw (p.1, p.2) (c.in_err-check_blocks.ensures.refused c.args.file.now c.args.profile.now
+    (input_read c.in_ok-check_lengths.ensures.fit c.in_ok-program.ensures.program))
 
 pub read-requires-clause-funcs : goal.read-requires-clause-funcs
 read-requires-clause-funcs c =
