@@ -336,9 +336,7 @@ class Checks:
                  ("an alien one", "it is of another program", ["--profile", self.path("alien"), sorting, out], {}),
                  ("no samples", "there are no samples", ["--samples", os.devnull, sorting, out], {}),
                  ("no qemu", "there is no qemu-riscv64, which the package qemu-user has", [sorting, out],
-                  {"PATH": room}),
-                 ("no binutils", "which the package binutils-riscv64-unknown-elf has",
-                  ["--by", "record", sorting, out], {"PATH": room})]
+                  {"PATH": room})]
         if self.has(QEMU, "failures of runs"):
             wrong += [("a crash", "run: the program ended by signal 11", [self.small("crash", CRASH), out], {}),
                       ("a crash of OUT", "alike: the program ended by signal 11",

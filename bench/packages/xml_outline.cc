@@ -11,8 +11,6 @@ void operator delete(void *memory, size_t) noexcept { free(memory); }
 extern "C" void __cxa_pure_virtual() { abort(); }
 // No object is destroyed when the program ends.
 extern "C" int __cxa_atexit(void (*)(void *), void *, void *) { return 0; }
-extern "C" void *__dso_handle;
-void *__dso_handle;
 
 namespace {
 
