@@ -41,7 +41,7 @@ from layouts import bolt, refine
 from packages import PACKAGES, fetch
 from profiles import built, want
 from real_programs import NO_COMPILER, PICOLIBC, ROOT, compilers
-from report import Builder
+from report_files import Builder
 from ways import COLUMNS, plugin, way_of
 
 from layout_rule import Program  # of tools/

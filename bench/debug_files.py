@@ -10,6 +10,7 @@ import tempfile
 from profiles import CROSS, output, spent
 from real_programs import (COMPILE, EXAMPLES, LAYOUTS, LINK, MACHINE, OF_LINKER, OWN_TABLES, PICOLIBC, TABLES,
                            UNWINDING, call, flags_of, linker_of, sources_of)
+from unwinder import FRAMES, WRAPPED, files_of
 
 from frame_tables import mend_tables  # of tools/
 
@@ -35,21 +36,23 @@ def bare_libraries(folder, libraries):
     return ["-Wl,--start-group", *found, "-Wl,--end-group"]
 
 
-def build_with_tables(path, program, compiler, parts, level):
-    """Builds a program of `examples` with all debug tables of its own code."""
+def build_with_tables(path, program, compiler, parts, level, prints_frames=False, unwinder=()):
+    """Builds a program of `examples` with all debug tables of its own code. One that unwinds itself can print all
+    frames first, and gets other objects than libgcc's unwinder if these are given."""
     front, libraries = parts
     folder = os.path.dirname(path)
+    sources = [os.path.join(EXAMPLES, name) for name in ["start.c", *sources_of(program)]]
+    sources = [*(files_of(sources) if unwinder else sources), *([FRAMES] if prints_frames else [])]
+    compiled = [word for word in COMPILE if word != "-g0"]
+    include = ["-isystem", os.path.join(PICOLIBC, "include"), "-I", EXAMPLES]
     objects = []
-    for source in ["start.c", *sources_of(program)]:
-        objects.append(f"{path}.{source}.o")
+    for source in sources:
+        objects.append(f"{path}.{os.path.basename(source)}.o")
         kind = flags_of(program) if source.endswith(".cc") else []
-        compiled = [word for word in COMPILE if word != "-g0"]
-        include = ["-isystem", os.path.join(PICOLIBC, "include")]
-        call([*front, *MACHINE, *compiled, *KINDS[compiler], *kind, level, *include, "-c",
-              os.path.join(EXAMPLES, source), "-o", objects[-1]])
+        call([*front, *MACHINE, *compiled, *KINDS[compiler], *kind, level, *include, "-c", source, "-o", objects[-1]])
     own_layout = OF_LINKER.get((compiler, "tables"), []) if program not in UNWINDING else []
-    layout = [*LAYOUTS["tables"], *own_layout]
-    call([*front, *MACHINE, "-nostdlib", *LINK, *layout, *linker_of(folder, program, compiler), *objects,
+    layout = [*LAYOUTS["tables"], *own_layout, *(WRAPPED if prints_frames else [])]
+    call([*front, *MACHINE, "-nostdlib", *LINK, *layout, *linker_of(folder, program, compiler), *objects, *unwinder,
           *bare_libraries(folder, libraries), "-o", path])
     mend_tables(path)  # also those of libraries
     for name in objects:

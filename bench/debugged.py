@@ -4,13 +4,11 @@ import os
 import re
 import subprocess
 
-from profiles import CROSS, GDB, debug, output
+from profiles import CROSS, FILLED, GDB, debug, output
 
 # What is asked at a place. Nothing but its own frame is asked where a program was only put.
 STOPPED = [r'printf "\nSTOP %lx\n", $pc', "info line *$pc", "bt 12", "info args", "info locals", r"echo \nEND\n"]
 PUT = [r'printf "\nSTOP %lx\n", $pc', "info line *$pc", "frame", "info args", "info locals", r"echo \nEND\n"]
-FILLED = [*(f"set var $x{n} = {n * 1001}" for n in range(1, 32) if n != 2), "set var $x8 = $sp + 256",
-          'python for k in range(-64, 64): gdb.execute(f"set var *(long *)($sp + {8 * k}) = {2000001 + 1001 * k}")']
 NUMBER = re.compile(r"(0x[0-9a-f]+|\d+)")
 LONGEST = 12  # bytes of an instruction, with a jump that was added
 CALLER = re.compile(r"^(#\d+) +0x([0-9a-f]+) in ", re.M)  # a frame that waits: its label, and where it goes on

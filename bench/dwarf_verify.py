@@ -8,7 +8,7 @@ import re
 import subprocess
 import tempfile
 
-from frames import table_at
+from frame_rows import table_at
 
 from mend import CALL_SITE, declarations  # of tools/
 

@@ -1,112 +1,37 @@
 """Compares the frame tables of an executable and of its rewritten file.
 
-`readelf` says for each address how the frame is unwound there, and `llvm-dwarfdump` what its entry
-says of exceptions; `gdb` unwinds a stopped program.
+`readelf`, `llvm-dwarfdump` and pyelftools say for each address how the frame is unwound there, `llvm-dwarfdump` what
+its entry says of exceptions; `gdb` unwinds a program that is put to an address, and one that stops there.
 """
-import bisect
 import re
 import shutil
 
-from profiles import CROSS, debug, output
+from frame_rows import (entries_by_llvm, errors_by_llvm, frames_by_gdb, llvm_of_rows, python_with_pyelftools,
+                        rows_by_llvm, rows_by_pyelftools, rows_by_readelf)
+from profiles import CROSS, debug, newest, output
 
-from elf_file import ElfFile  # of tools/
-
-
-def table_at(path, name):
-    """The address, the offset and the size of a section; three times 0 if there is none that can be read as it is."""
-    section = ElfFile(path).section(name)
-    return (section.address, section.offset, section.size) if section else (0, 0, 0)
+ASKED = 300  # instructions at which gdb is asked for its frame
 
 
-def unwind_table(path):
-    """The address, the offset and the size of `.eh_frame`; three times 0 where there is none."""
-    return table_at(path, ".eh_frame")
-
-
-class Rows:
-    """Rows of a table, each from an address up to the end of its range."""
-
-    def __init__(self):
-        self.starts, self.rows = [], []
-
-    def add(self, found, end):
-        """The rows of one entry, which ends at an address."""
-        for i, (start, text) in enumerate(found):
-            stop = found[i + 1][0] if i + 1 < len(found) else end
-            if start < stop:
-                self.rows.append((start, stop, text))
-
-    def sort(self):
-        self.rows.sort(key=lambda row: row[0])
-        self.starts = [row[0] for row in self.rows]
-        return self
-
-    def at(self, address):
-        i = bisect.bisect_right(self.starts, address) - 1
-        if i < 0 or address >= self.rows[i][1]:
-            return None
-        return self.rows[i][2]
-
-
-def entries_by_llvm(path):
-    """By the name of each table what its entries say of exceptions, of the return address and of signals.
-    Their rows aren't taken: LLVM 14 keeps the frame address where a remembered state is restored."""
-    tables, rows, said, cie = {}, None, {}, None
-    start, _, size = unwind_table(path)
-    for line in output(["llvm-dwarfdump", "--eh-frame", path]).splitlines():
-        entry = re.match(r"([0-9a-f]{8}) .* (CIE|FDE)(?: cie=([0-9a-f]+) pc=([0-9a-f]+)\.\.\.([0-9a-f]+))?", line)
-        if section := re.match(r"(\S+) contents:", line):
-            rows, said = tables.setdefault(section[1], Rows()), {}
-        elif entry and entry[2] == "CIE":
-            cie, said[entry[1]] = entry[1], []
-        elif entry:
-            cie = None
-            rows.add([(int(entry[4], 16), list(said.get(entry[3], [])))], int(entry[5], 16))
-        elif pointer := re.match(r"  (?:Personality|LSDA) Address: ([0-9a-f]+)", line):
-            # None is 0, which LLVM takes for a distance: then it is a place in the table itself.
-            if pointer[1].strip("0") and not start <= int(pointer[1], 16) < start + size:
-                (said[cie] if cie is not None else rows.rows[-1][2]).append(line.strip())
-        elif re.match(r"  Return address|  Augmentation: .*S", line):
-            said[cie].append(line.strip())
-    return {name: table.sort() for name, table in tables.items() if table.rows}
-
-
-def rows_by_readelf(path):
-    """By the name of each table its rows: the frame address, and the rules of registers that have one."""
-    tables, rows, names, found, end, known, initial, cie = {}, None, [], [], 0, None, {}, ""
-    text = output([CROSS + "readelf", "--debug-dump=frames-interp", path])
-    for line in [*text.splitlines(), "Contents of the end section:"]:
-        section = re.match(r"Contents of the (\S+) section", line)
-        entry = re.match(r"([0-9a-f]+) \w+ \w+ (CIE|FDE)(?:.* cie=([0-9a-f]+) pc=([0-9a-f]+)\.\.([0-9a-f]+))?", line)
-        if (section or entry) and rows is not None and known is not None:
-            rows.add(found or [(known, initial.get(cie))], end)
-        if section:
-            rows, known, initial = tables.setdefault(section[1], Rows()), None, {}
-        elif entry and entry[2] == "CIE":
-            cie, known, found = entry[1], None, []
-        elif entry:
-            cie, known, end, found = entry[3], int(entry[4], 16), int(entry[5], 16), []
-        elif line.startswith("   LOC"):
-            names = line.split()[2:]
-        elif row := re.match(r"([0-9a-f]{16}) (\S+) +(.*)", line):
-            rules = [f"{name}={rule}" for name, rule in zip(names, row[3].split()) if rule != "u"]
-            said = " ".join([row[2], *sorted(rules)])
-            if known is None:
-                initial[cie] = said
-            else:
-                found.append((int(row[1], 16), said))
-    return {name: table.sort() for name, table in tables.items() if table.rows}
+def readers():
+    """What reads the rows of tables, by the names of those tools that are here."""
+    found = {"readelf": rows_by_readelf}
+    if newest("llvm-dwarfdump"):
+        found["llvm-dwarfdump's entries"] = entries_by_llvm
+    if llvm_of_rows():
+        found["llvm-dwarfdump"] = rows_by_llvm
+    if python_with_pyelftools():
+        found["pyelftools"] = rows_by_pyelftools
+    return found
 
 
 def table_problems(old, new, spans):
-    """Where the tables of a rewritten file say something else at new code than those of the input at the owners."""
+    """Where the tables of a rewritten file say something else at new code than those of the input at the owners, by
+    each tool at each instruction; and what LLVM can't read of them, and reads of the input's."""
     problems = []
-    readers = {"readelf": rows_by_readelf}
-    if shutil.which("llvm-dwarfdump"):
-        readers["llvm-dwarfdump"] = entries_by_llvm
-    for tool, rows in readers.items():
+    for tool, rows in readers().items():
         before, after = rows(old), rows(new)
-        if not before or set(before) != set(after):
+        if set(before) != set(after):
             problems.append(f"{tool} finds {sorted(before)} before and {sorted(after)} afterwards")
         for name in set(before) & set(after):
             asked = ((at, source) for start, length, source in spans if length for at in (start, start + length - 1))
@@ -114,7 +39,28 @@ def table_problems(old, new, spans):
                 said, wanted = after[name].at(at), before[name].at(source)
                 if said != wanted:
                     problems.append(f"{tool}: {name} says {said} at {at:x}, and {wanted} at {source:x} before")
-    return problems
+    return problems + unread(old, new)
+
+
+def unread(old, new):
+    """What LLVM can't read of a rewritten file's tables, and reads in the input's."""
+    if not newest("llvm-dwarfdump"):
+        return []
+    found = errors_by_llvm(new) - errors_by_llvm(old)
+    return [f"llvm-dwarfdump says {count} times more often: {line}" for line, count in sorted(found.items())]
+
+
+def frame_problems(old, new, spans, words):
+    """Where gdb finds another frame in a rewritten program than in the input, put to ASKED of the instructions."""
+    if not shutil.which("gdb-multiarch") or not shutil.which("qemu-riscv64"):
+        return []
+    moved = {source: at for at, length, source in spans if length}
+    places = sorted(moved)[::max(1, len(moved) // ASKED)]
+    before, after = frames_by_gdb(old, words, places), frames_by_gdb(new, words, [moved[place] for place in places])
+    if len(before) < len(places) or len(after) < len(places):
+        return [f"gdb says {len(before)} frames before and {len(after)} afterwards at {len(places)} instructions"]
+    return [f"gdb: the frame at {moved[at]:x} is {after[moved[at]]}, and {before[at]} at {at:x} before"
+            for at in places if before[at] != after[moved[at]]]
 
 
 def backtrace(path, place, words):
@@ -126,7 +72,7 @@ def backtrace(path, place, words):
 
 
 def backtrace_problems(old, new, moved, name, words):
-    """Where gdb unwinds a rewritten program otherwise than its input, both stopped where a function starts, if it is there."""
+    """Where gdb unwinds a rewritten program otherwise than its input, if both stop where a function starts."""
     if not shutil.which("gdb-multiarch") or not shutil.which("qemu-riscv64"):
         return []
     symbols = [line.split() for line in output([CROSS + "nm", old]).splitlines()]

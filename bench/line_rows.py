@@ -11,7 +11,7 @@ import struct
 import subprocess
 import tempfile
 
-from profiles import CROSS, output
+from profiles import CROSS, newest, output
 
 DEBUG_TABLES = ["info", "types", "abbrev", "aranges", "addr", "ranges", "rnglists", "loc", "loclists", "macro", "str_offsets",
                 "frame", "pubnames", "pubtypes", "gnu_pubnames", "gnu_pubtypes"]
@@ -41,7 +41,7 @@ class Unit:
 def units_by_llvm(path):
     """The units of `.debug_line`. A row has its address, and a text of all else that it says."""
     units = []
-    for line in output(["llvm-dwarfdump", "--debug-line", path]).splitlines():
+    for line in output([newest("llvm-dwarfdump"), "--debug-line", path]).splitlines():
         row = re.match(r"0x([0-9a-f]{16}) +(\d+) +(\d+) +(\d+) +(.*)", line)
         if found := re.match(r"debug_line\[0x([0-9a-f]+)\]", line):
             units.append(Unit(int(found[1], 16)))
@@ -50,7 +50,8 @@ def units_by_llvm(path):
         elif found := re.match(r" +name: \"(.*)\"", line):
             units[-1].files.append(found[1])
         elif found := re.match(r" +dir_index: (\d+)", line):
-            units[-1].files[-1] = os.path.join(units[-1].directories[int(found[1])], units[-1].files[-1])
+            home = os.path.join(units[-1].directories[0], units[-1].directories[int(found[1])])
+            units[-1].files[-1] = os.path.join(home, units[-1].files[-1])
         elif row and "end_sequence" in row[5]:
             units[-1].sequences[-1].append((int(row[1], 16), None))
             units[-1].sequences.append([])
@@ -117,13 +118,14 @@ def write_units(path, units, addresses, folder):
 
 
 def by_addr2line(path, addresses):
-    """Lines without their files, of which that of binutils 2.40 takes the first for the second at a sequence's start."""
+    """Lines without their files, of which that of binutils 2.40 takes the first for the second at the start of a
+    sequence."""
     said = output([CROSS + "addr2line", "-e", path, *(f"{address:x}" for address in addresses)]).splitlines()
     return [text.rpartition(":")[2] for text in said]
 
 
 def by_llvm(path, addresses):
-    return output(["llvm-symbolizer", "--functions=none", "--no-inlines", "--output-style=GNU", "-e", path,
+    return output([newest("llvm-symbolizer"), "--functions=none", "--no-inlines", "--output-style=GNU", "-e", path,
                    *(f"0x{address:x}" for address in addresses)]).splitlines()
 
 
@@ -159,7 +161,7 @@ def asked_problems(old, new, pairs):
 
 def line_problems(old, new, spans):
     """Where a rewritten file says other lines at the first and last byte of what an instruction became than the input at it."""
-    if not shutil.which("llvm-dwarfdump"):
+    if not newest("llvm-dwarfdump"):
         return []
     pairs = sorted({(at, source) for start, length, source in spans if length for at in (start, start + length - 1)})
     problems, rows = [], []
@@ -171,3 +173,34 @@ def line_problems(old, new, spans):
         problems += differences(name, pairs, rows, [after.get(at) for at, _ in pairs])
     # gdb says the line of the code before where a row says line 0.
     return problems + asked_problems(old, new, [pair for pair, said in zip(pairs, rows) if said and said[-1][:2] != "0:"])
+
+
+def places_by_addr2line(path, addresses):
+    """The path of a file and the line at each address, by `addr2line`, which reads these from its standard input."""
+    words = "".join(f"{address:x}\n" for address in addresses)
+    done = subprocess.run([CROSS + "addr2line", "-e", path], input=words, capture_output=True, text=True, check=False)
+    return [re.sub(r" \(discriminator \d+\)", "", line) for line in done.stdout.splitlines()]
+
+
+def place_of(rows):
+    """The path and the line of the row in force; None where no row is, or where its line is 0."""
+    if not rows or rows[-1] is None:
+        return None
+    number, path = re.match(r"(\d+):\d+ (\S+)", rows[-1]).groups()
+    return f"{os.path.normpath(path)}:{number}" if number != "0" else None
+
+
+def file_problems(old, new, spans):
+    """Where `addr2line` names another file or line at a new address than the table of the input does at the owner. That
+    of binutils 2.40 takes file 0 for one where a sequence gives none, so the table is read by `llvm-dwarfdump`."""
+    if not newest("llvm-dwarfdump"):
+        return []
+    pairs = [(at, source) for at, length, source in spans if length]
+    rows = in_force(sequences_by_llvm(old), [source for _, source in pairs])
+    wanted = [place_of(rows.get(source)) for _, source in pairs]
+    said = places_by_addr2line(new, [at for at, _ in pairs])
+    if len(said) != len(pairs):
+        return [f"addr2line says {len(said)} lines at {len(pairs)} addresses"]
+    said = [os.path.normpath(text.rpartition(":")[0]) + ":" + text.rpartition(":")[2] for text in said]
+    kept = [k for k, place in enumerate(wanted) if place]
+    return differences("addr2line", [pairs[k] for k in kept], [wanted[k] for k in kept], [said[k] for k in kept])

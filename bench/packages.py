@@ -14,6 +14,7 @@ import tempfile
 
 BENCH = os.path.dirname(os.path.abspath(__file__))
 OWN = os.path.join(BENCH, "packages")
+CACHE = os.path.join(os.environ.get("XDG_CACHE_HOME", os.path.expanduser("~/.cache")), "sudrepka")
 KEYS = "/usr/share/keyrings/debian-archive-keyring.gpg"
 MIRROR = f"deb-src [signed-by={KEYS}] http://deb.debian.org/debian bookworm main\n"
 
@@ -72,13 +73,30 @@ PACKAGES = {
 }
 
 
-def unpack(archive, sources):
-    """Unpacks what isn't in the folder yet; elsewhere first, so that no folder stands there of which a part lacks."""
+def unpack(archive, sources, part=None):
+    """Unpacks what isn't in the folder yet, or of that one part: into another folder first, so that each is whole."""
+    only = ["--wildcards", f"*/{part}/*"] if part else []
     with tempfile.TemporaryDirectory(dir=sources) as room:
-        subprocess.run(["tar", "xf", os.path.abspath(archive), "-C", room], check=True)
+        subprocess.run(["tar", "xf", os.path.abspath(archive), "-C", room, *only], check=True)
         for name in os.listdir(room):
             if not os.path.exists(os.path.join(sources, name)):
                 os.replace(os.path.join(room, name), os.path.join(sources, name))
+
+
+def download(sources, wanted):
+    """Fetches archives of source packages into the folder."""
+    os.makedirs(os.path.join(sources, "lists", "partial"), exist_ok=True)
+    with open(os.path.join(sources, "sources.list"), "w", encoding="ascii") as file:
+        file.write(MIRROR)
+    apt = ["apt-get", "-qq", "-o", f"Dir::Etc::sourcelist={sources}/sources.list",
+           "-o", "Dir::Etc::sourceparts=/dev/null", "-o", f"Dir::State::Lists={sources}/lists"]
+    for command in (["update"], ["source", "--download-only", *wanted]):
+        if subprocess.run([*apt, *command], cwd=sources, check=False).returncode != 0:
+            sys.exit(f"{' '.join([*apt, *command])} failed: the sources of {', '.join(wanted)} can't be had")
+
+
+def archives_of(source, sources):
+    return glob.glob(os.path.join(sources, f"{source}_*.orig.tar.*"))
 
 
 def fetch(sources, names):
@@ -88,13 +106,20 @@ def fetch(sources, names):
     wanted = [source for source, folder in wanted.items() if not os.path.isdir(os.path.join(sources, folder))]
     if not wanted:
         return
-    os.makedirs(os.path.join(sources, "lists", "partial"), exist_ok=True)
-    with open(os.path.join(sources, "sources.list"), "w", encoding="ascii") as file:
-        file.write(MIRROR)
-    apt = ["apt-get", "-qq", "-o", f"Dir::Etc::sourcelist={sources}/sources.list",
-           "-o", "Dir::Etc::sourceparts=/dev/null", "-o", f"Dir::State::Lists={sources}/lists"]
-    for command in (["update"], ["source", "--download-only", *wanted]):
-        if subprocess.run([*apt, *command], cwd=sources, check=False).returncode != 0:
-            sys.exit(f"{' '.join([*apt, *command])} failed: the sources of {', '.join(wanted)} can't be had")
-    for archive in glob.glob(os.path.join(sources, "*.orig.tar.*")):
-        unpack(archive, sources)
+    download(sources, wanted)
+    for source in wanted:
+        for archive in archives_of(source, sources):
+            unpack(archive, sources)
+
+
+def fetch_part(sources, source, part):
+    """Fetches a source package, and unpacks the part of that name; gives its folder, or ends where there is none."""
+    sources = os.path.abspath(sources)
+    folders = lambda: glob.glob(os.path.join(sources, f"{source}*", part))
+    if not folders():
+        download(sources, [source])
+        for archive in archives_of(source, sources):
+            unpack(archive, sources, part)
+    if not folders():
+        sys.exit(f"the sources of {source} have no {part}")
+    return folders()[0]

@@ -25,7 +25,7 @@ import tempfile
 from packages import PACKAGES
 from profiles import built, follow, spent, want
 from real_programs import NO_COMPILER, ROOT, compilers
-from report import Builder
+from report_files import Builder
 
 from program_graph import BRANCH, JUMP, Elf  # of tools/
 from qemu_trace import QEMU, trace_run

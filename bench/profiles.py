@@ -18,6 +18,9 @@ from programs import CROSS, follow, output  # noqa: E402, F401, of tools/
 
 MOST_SECONDS = 600  # for a run that may not end
 GDB = ["gdb-multiarch", "-batch", "-nx", "-ex", "set confirm off", "-ex", "set width 0"]
+# Commands of gdb by which each register, and each word of the stack around its end, has a number of its own.
+FILLED = [*(f"set var $x{n} = {n * 1001}" for n in range(1, 32) if n != 2), "set var $x8 = $sp + 256",
+          'python for k in range(-64, 64): gdb.execute(f"set var *(long *)($sp + {8 * k}) = {2000001 + 1001 * k}")']
 # Runs a command, and writes what it took into the descriptor that stands before it.
 SPENT = """
 import os, sys, time
@@ -29,6 +32,14 @@ clock = time.monotonic() - began
 words = os.waitstatus_to_exitcode(status), usage.ru_utime + usage.ru_stime, clock, usage.ru_maxrss / 1024
 os.write(int(told), " ".join(map(str, words)).encode())
 """
+
+
+def newest(name):
+    """A tool of LLVM, the newest that is there."""
+    for version in ("-19", "-18", "-17", "-16", "-15", "-14", ""):
+        if shutil.which(name + version):
+            return shutil.which(name + version)
+    return None
 
 
 def want(*tools):

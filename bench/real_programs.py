@@ -38,7 +38,7 @@ import tempfile
 from dwarf_verify import verify_problems
 from frames import backtrace_problems, table_problems
 from line_rows import leave_lines, line_problems, table_size
-from profiles import CROSS, MOST_SECONDS, built, output, record
+from profiles import CROSS, MOST_SECONDS, built, newest, output, record
 
 from frame_tables import mend_tables  # of tools/
 
@@ -81,14 +81,6 @@ KINDS = {**UNWOUND, "lines": LINES}
 OF_LINKER = {("gcc", layout): ["-Wl,-Ttext-segment=0x100000"] for layout in ("pages", "tables", "own-tables")}
 
 
-def newest(name):
-    """A tool of LLVM, the newest that is there."""
-    for version in ("-19", "-18", "-17", "-16", "-15", "-14", ""):
-        if shutil.which(name + version):
-            return shutil.which(name + version)
-    return None
-
-
 def compilers():
     """By their names the compilers that are there, and the libraries of a link; none without GCC and picolibc."""
     library = os.path.join(PICOLIBC, "lib", "rv64im", "lp64")
@@ -124,16 +116,19 @@ def call(command):
         sys.exit(f"{' '.join(command)}\n{done.stderr}")
 
 
-def linker_of(folder, program, compiler):
-    """The options by which lld links a program that unwinds itself, with the index of its table."""
-    if program not in UNWINDING:
-        return []
+def indexed_link(folder, compiler):
+    """The options by which lld links a program, with the index of its unwind table."""
     if compiler != "gcc":
         return ["-Wl,--eh-frame-hdr"]
     lld = os.path.join(folder, "ld.lld")  # where GCC finds it
     if not os.path.lexists(lld):
         os.symlink(newest("ld.lld"), lld)
     return [f"-B{folder}", "-fuse-ld=lld", "-Wl,--eh-frame-hdr"]
+
+
+def linker_of(folder, program, compiler):
+    """The options by which a program is linked that unwinds itself: it needs the index of its table."""
+    return indexed_link(folder, compiler) if program in UNWINDING else []
 
 
 def sources_of(program):

@@ -7,24 +7,30 @@
 The programs are those of Debian's source packages Lua, zlib, bzip2, LZ4 and pugixml (`packages.py`; fetched into FOLDER,
 or into the cache of the user) and those of `examples/`. Each is built by GCC with GNU ld and by Clang with lld, with
 picolibc for RV64IMC: `debug` with all that `-g` makes, at each of LEVELS, as `O0,Os` (-O0 to -O3 and -Os where none are
-given); at -O2 and -Os `bare` without debug data and unwind tables, and `tables` with unwind tables besides. Programs
-that unwind themselves are built in one way, `index`: with debug data, unwind tables and their index. N files are tried
-at a time. What is built goes into FOLDER, and isn't built again where it stands there; with --build, which wants a
-FOLDER, that is all that is done.
+given); at -O2 and -Os `bare` without debug data and unwind tables, and `tables` with unwind tables besides; at -O2
+`lto`, which is optimized when it is linked, and `indexed`, with the index of its unwind tables. Programs that unwind
+themselves are built with debug data, unwind tables and their index: `index` with libgcc's unwinder and, at -O2 and -Os,
+`unwinder` with LLVM's, from Debian's source package of LLVM 19. N files are tried at a time. What is built goes into
+FOLDER, and isn't built again if it is there; with --build, which wants a FOLDER, that is all that is done.
 Of each file the table says, step by step, `yes` or `no`; what failed stands below the table, with its cause:
 
 - `record`, `repair`, `rewrite`, `verify` by COMMAND (`./sudrepka` where it isn't given), and `run --symbols` to the
   end, but where a program unwinds itself;
 - `alike`: both files run alike on `run` and on `qemu-riscv64`, and `readelf`, `eu-elflint`, `objdump`, `gdb` and
-  `llvm-dwarfdump --verify` find nothing in the output that they don't find in the input;
+  `llvm-dwarfdump --verify` find nothing in the output that they don't find in the input; programs that unwind
+  themselves print all frames before it;
 - `lookup` and `frames`: the same at moved instructions as at their owners;
+- `unwind`: the same rows of frame tables at each instruction by `readelf`, `llvm-dwarfdump` and pyelftools, and the
+  same frames by `gdb` at some;
+- `lines`: `addr2line` names the file and the line at each instruction that the input's table has;
 - `gdb`: the same lines, frames, arguments and locals where both programs stop at one instruction; the same but for
   frames where both are put to one, hot or cold;
-- `breaks`: breakpoints of `gdb` by file and line lead to the same lines of the same functions.
+- `breaks`: breakpoints of `gdb` by file and line lead to the same lines of the same functions;
+- `inlined`: breakpoints of `gdb` on inlined functions lead to where these are entered.
 
 A second table counts the files of each program that passed a step, and a third has the way of a run through the code
 before and after, by the plain profile and by what `tools/refine.py` makes of it, and that of `llvm-bolt-19`'s output,
-as `tools/layout.py` counts it. It wants what `real_programs.py` wants.
+as `tools/layout.py` counts it. It wants what `real_programs.py` wants, and pyelftools.
 """
 import argparse
 import concurrent.futures
@@ -35,100 +41,27 @@ import subprocess
 import sys
 import tempfile
 
-from debug_files import bare_libraries, build_with_tables
 from debugged import Debugged, with_lines
+from frame_rows import table_at
+from frames import frame_problems, table_problems
+from inlined_breaks import break_problems
 from layouts import BOLT, bolt, refine, rewrite
-from packages import OWN, PACKAGES, fetch
-from profiles import built, output
-from real_programs import (COMPILE, EXAMPLES, LINES, LINK, LONGER, MACHINE, NO_COMPILER, NO_TABLES, OWN_TABLES,
-                           PICOLIBC, ROOT, UNWINDING, Checks, buildable, call, compilers, flags_of, linker_of,
-                           newest, sources_of)
+from line_rows import file_problems
+from packages import CACHE, PACKAGES, fetch
+from profiles import built
+from real_programs import LONGER, NO_COMPILER, ROOT, UNWINDING, Checks, buildable, compilers
+from report_files import LEVELS, Builder, files_of
 
 from elf_file import ElfFile  # of tools/
 from heatmap import counts_of, edges_of, functions_of
 from layout import shown, way_of
-from mend import mend
 
-KINDS = {"bare": NO_TABLES, "debug": [*LINES, "-fno-dwarf2-cfi-asm"], "tables": ["-g", *OWN_TABLES]}
-SCRIPTS = {"tables": "roomy_tables.ld"}
-LIBRARIES = os.path.join(PICOLIBC, "lib", "rv64im", "lp64")
-LEVELS = ["-O0", "-O1", "-O2", "-O3", "-Os"]
-OF_KIND = {"bare": ["-O2", "-Os"], "tables": ["-O2", "-Os"], "debug": LEVELS, "index": LEVELS}
-# The tables of distances of switches are extended there by instructions that the symbol machine doesn't follow.
-OF_LEVEL = {"-O0": ["-fno-jump-tables"]}
-# Clang's own trap is no instruction: it stands in what no call reaches, as destructors of abstract classes.
-OF_COMPILER = {"gcc": [], "clang": ["-ftrap-function=abort"]}
-STEPS = ["record", "repair", "symbols", "rewrite", "verify", "alike", "lookup", "frames", "gdb", "breaks"]
+STEPS = ["record", "repair", "symbols", "rewrite", "verify", "alike", "lookup", "frames", "unwind", "lines", "gdb",
+         "breaks", "inlined"]
+FEWEST = 3  # frames that programs have that unwind themselves
 ASKED = 24  # addresses that are looked up, and at which gdb stops
 # Files of programs that unwind themselves which read the tables for it: these are others in an output.
 READERS = ["frame_index.c", "cxx_runtime.cc"]
-
-
-def kinds_of(program):
-    return ["index"] if program in UNWINDING else list(KINDS)
-
-
-class Builder:
-    """Builds programs. Libraries have no debug data of their own: that of GNU as is refused, as HighPcForm."""
-
-    def __init__(self, folder, sources, found=LIBRARIES):
-        self.folder, self.sources, self.parts = folder, sources, {}
-        strip = shutil.which("riscv64-unknown-elf-strip")
-        for compiler, (front, libraries) in compilers().items():
-            gcc = output(["riscv64-unknown-elf-gcc", *MACHINE, "-print-libgcc-file-name"]).strip()
-            stripped = []
-            for path in (os.path.join(found, "libc.a"), os.path.join(found, "libm.a"), gcc):
-                stripped.append(os.path.join(folder, os.path.basename(path)))
-                if not os.path.exists(stripped[-1]):
-                    made = stripped[-1] + ".part"
-                    call([strip, "-g", "-o", made, path])
-                    os.replace(made, stripped[-1])
-            group = ["-Wl,--start-group", *stripped, "-Wl,--end-group"]
-            self.parts[compiler] = (front, group)
-            # what threads that build programs of kind `index` share
-            if newest("ld.lld"):
-                linker_of(folder, "exceptions", compiler)
-            bare_libraries(folder, group)
-
-    def files(self, program):
-        """The files of a program, the folders of its headers, and its own flags."""
-        start = os.path.join(EXAMPLES, "start.c")
-        if program not in PACKAGES:
-            return [*(os.path.join(EXAMPLES, name) for name in sources_of(program)), start], [], []
-        package = PACKAGES[program]
-        own = [*(os.path.join(OWN, name) for name in package.own), os.path.join(EXAMPLES, "standard_input.c")]
-        return [*package.files(self.sources), *own, start], package.include(self.sources), package.flags
-
-    def objects(self, path, program, compiler, kind, level):
-        front, _ = self.parts[compiler]
-        files, folders, flags = self.files(program)
-        include = [word for folder in folders for word in ("-I", folder)]
-        made = []
-        for number, source in enumerate(files):
-            made.append(f"{path}.{number}.o")
-            cxx = flags_of(program) if source.endswith((".cc", ".cpp")) else []
-            own = [*KINDS[kind], level, *OF_LEVEL.get(level, []), *OF_COMPILER[compiler], *flags, *cxx]
-            call([*front, *MACHINE, *COMPILE, *own, *include, "-w", "-isystem", os.path.join(PICOLIBC, "include"),
-                  "-c", source, "-o", made[-1]])
-        return made
-
-    def build(self, path, program, compiler, kind, level):
-        if not os.path.exists(path):
-            made = path + ".part"
-            self.link(made, program, compiler, kind, level)
-            os.replace(made, path)
-
-    def link(self, path, program, compiler, kind, level):
-        front, libraries = self.parts[compiler]
-        if kind == "index":
-            build_with_tables(path, program, compiler, (front, libraries), level)
-        else:
-            script = os.path.join(EXAMPLES, SCRIPTS.get(kind, "roomy.ld"))
-            made = self.objects(path, program, compiler, kind, level)
-            call([*front, *MACHINE, "-nostdlib", *LINK, "-T", script, *made, *libraries, "-o", path])
-            for name in made:
-                os.remove(name)
-        mend(path)
 
 
 class Try:
@@ -176,7 +109,17 @@ class Try:
         often, never = self.places([old for _, size, old in checks.spans if size])
         self.looked_up("lookup", often + never, checks.moved)
         self.looked_up("frames", often + never, checks.moved)
+        self.read_tables(checks)
         self.debugged(checks)
+
+    def read_tables(self, checks):
+        """Has other tools read frames and lines, if there are tables of them."""
+        if any(table_at(self.path, name)[2] for name in (".debug_frame", ".eh_frame")):
+            problems = table_problems(self.path, self.at("moved"), checks.spans)
+            self.note("unwind", problems + frame_problems(self.path, self.at("moved"), checks.spans, self.words))
+        if table_at(self.path, ".debug_line")[2]:
+            self.note("lines", file_problems(self.path, self.at("moved"), checks.spans))
+            self.note("inlined", break_problems(self.path, self.at("moved"), checks.moved))
 
     def debugged(self, checks):
         """Asks gdb, where instructions have lines."""
@@ -191,6 +134,10 @@ class Try:
 
     def compared(self, checks):
         checks.runs(self.words, True)
+        if self.unwinds:
+            printed = checks.run_with(self.path, [], self.words)[1]
+            if max(map(int, re.findall(rb", (\d+) in all", printed)), default=0) < FEWEST:
+                checks.say(f"the unwinder finds fewer than {FEWEST} frames before")
         checks.readers()
         checks.debugger(checks.disassembly())
         self.note("alike", checks.problems)
@@ -250,10 +197,6 @@ class Report:
         self.tool, self.folder, self.sources = tool, folder, sources
         self.builder = Builder(folder, sources)
 
-    def files(self, programs, levels):
-        return [(program, compiler, kind, level) for program in programs for compiler in self.builder.parts
-                for kind in kinds_of(program) for level in levels if level in OF_KIND[kind]]
-
     def built(self, file):
         program, compiler, kind, level = file
         path = os.path.join(self.folder, f"{program}.{compiler}.{kind}{level}")
@@ -286,7 +229,7 @@ class Report:
 
     def all(self, programs, levels, jobs):
         """Prints the tables and the problems. Gives the number of these."""
-        files = self.files(programs, levels)
+        files = files_of(programs, self.builder.parts, levels)
         tried = self.table(files, jobs)
         print_counts(files, [found for _, found, _ in tried])
         print("\n| file | | way of a run |\n|---|---|---|")
@@ -315,11 +258,10 @@ def print_counts(files, tried):
 
 
 def main():
-    cache = os.path.join(os.environ.get("XDG_CACHE_HOME", os.path.expanduser("~/.cache")), "sudrepka")
     reported = [name for name, package in PACKAGES.items() if package.reported]
     words = argparse.ArgumentParser(description="all that is tried on real programs, in one table")
     words.add_argument("--tool", default=os.path.join(ROOT, "sudrepka"), help="the command that takes `rewrite ..`")
-    words.add_argument("--sources", default=cache, help="where the sources of packages are, or go")
+    words.add_argument("--sources", default=CACHE, help="where the sources of packages are, or go")
     words.add_argument("--keep", help="a folder for all files")
     words.add_argument("--build", action="store_true", help="only builds the files")
     words.add_argument("--jobs", type=int, default=1, help="how many files are tried at a time")
@@ -333,13 +275,16 @@ def main():
     tool = [] if given.build else built(given.tool)
     programs = buildable(given.programs)
     fetch(given.sources, [name for name in programs if name in PACKAGES])
+    is_unwound = any(name in UNWINDING for name in programs)
     with tempfile.TemporaryDirectory() as room:
         folder = given.keep or room
         os.makedirs(folder, exist_ok=True)
         report = Report(tool, folder, given.sources)
+        if is_unwound:
+            report.builder.add_unwinders()
         if given.build:
             with concurrent.futures.ThreadPoolExecutor(given.jobs) as pool:
-                return list(pool.map(report.built, report.files(programs, given.levels)))
+                return list(pool.map(report.built, files_of(programs, report.builder.parts, given.levels)))
         problems = report.all(programs, given.levels, given.jobs)
     sys.exit(1 if problems else 0)
 

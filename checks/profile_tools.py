@@ -42,7 +42,7 @@ from profile_makers import sampled, taken  # noqa: E402
 from profiles import built, follow  # noqa: E402
 from real_programs import (COMPILE, EXAMPLES, LINK, LONGER, MACHINE, NO_COMPILER, PICOLIBC, UNWINDING,  # noqa: E402
                            buildable, call, compilers)
-from report import Builder  # noqa: E402
+from report_files import Builder  # noqa: E402
 
 from program_graph import Elf, Graph  # noqa: E402, of tools/
 

@@ -13,9 +13,13 @@ crate are built. Only where it still proves, or where the edit is of something e
 crate is checked. A function that isn't proved without the edit either tells nothing, so the functions of all edits
 of a crate are checked as they stand first.
 
-The last line counts the edits that were refused. The status is 0 where all were.
+Of each edit that was refused, the script says how: by values at which a goal is false (`countermodel`), at a limit of a
+search (`limit`), or since no proof was found (`no proof`). Of the last two kinds the goal may be true, and a better
+search would let the edit pass: an edit says in a line `why:` for what values its goal is false. Those of these kinds
+without such a line are listed. The last line counts the edits that were refused. The status is 0 if all were.
 """
 import argparse
+import collections
 import concurrent.futures
 import pathlib
 import queue
@@ -24,6 +28,7 @@ import shutil
 import subprocess
 import sys
 import tempfile
+import threading
 
 ROOT = pathlib.Path(__file__).resolve().parent.parent
 EDITS = ROOT / "checks" / "wrong_bodies"
@@ -39,7 +44,7 @@ class Edit:
     def __init__(self, folder, crate, path):
         self.crate, self.path, self.home = crate, path, folder / "crates" / crate
         self.texts = {}
-        self.function = None
+        self.function = self.why = None
         file = old = None
         for line in path.read_text().splitlines():
             word, _, rest = line.partition(":")
@@ -50,6 +55,8 @@ class Edit:
                 old = rest
             elif word == "new":
                 self.replace(file, old, rest)
+            elif word == "why":
+                self.why = rest.strip()
 
     def replace(self, file, old, new):
         text = self.texts.get(file) or (self.home / file).read_text()
@@ -123,8 +130,43 @@ def reason(said):
 NO_VERDICT = re.compile(r"has no function|several functions are named|error\[[\w-]+\]|is not in scope|could not be used")
 
 
+# What a check says of goals: that values were found at which one is false, or that a search came to a limit.
+COUNTERMODEL = re.compile(r"allow values at which this goal is false")
+LIMIT = re.compile(r"gave up at one of its limits|within its bounds|went on past its bounds")
+
+
+def kind_of(said):
+    """How a check refused an edit."""
+    if COUNTERMODEL.search(said):
+        return "countermodel"
+    return "limit" if LIMIT.search(said) else "no proof"
+
+
+class Told:
+    """What came out of the edits: how many were refused in which way, and which of these want a reason."""
+
+    def __init__(self):
+        self.kinds, self.unexplained, self.lock = collections.Counter(), [], threading.Lock()
+
+    def add(self, edit, kind):
+        with self.lock:
+            self.kinds[kind] += 1
+            if kind != "countermodel" and not edit.why:
+                self.unexplained.append(f"{edit.label()} ({kind})")
+
+    def show(self, wanted):
+        """Prints the counts, and gives how many edits weren't refused."""
+        if self.unexplained:
+            names = ", ".join(sorted(self.unexplained))
+            print(f"without values at which a goal is false, and without a reason: {names}")
+        kinds = ", ".join(f"{count} by {kind}" for kind, count in self.kinds.most_common())
+        refused = sum(self.kinds.values())
+        print(f"{refused} of {wanted} refused: {kinds or 'none'}")
+        return wanted - refused
+
+
 def try_edit(folder, edit):
-    """Tries one edit in its copy of the crate: whether it was refused, and what to print."""
+    """Tries one edit in its copy of the crate: how it was refused, None if it wasn't, and what to print."""
     home = folder / "crates" / edit.crate
     kept = {file: (home / file).read_text() for file in edit.texts}
     try:
@@ -133,20 +175,20 @@ def try_edit(folder, edit):
         for function in dict.fromkeys([edit.function, None]):
             proved, said = check(folder, edit.crate, function)
             if not proved and GONE.search(said) and not refusals(said):
-                return False, "NO VERDICT: only goals that answers name are gone"
+                return None, "NO VERDICT: only goals that answers name are gone"
             if proved is False and not NO_VERDICT.search(said):
-                return True, f"refused ({function or 'whole crate'}): {reason(said)}"
+                return kind_of(said), f"refused ({function or 'whole crate'}) by {kind_of(said)}: {reason(said)}"
             if not proved and not function:
-                return False, f"NO VERDICT: {reason(said)}"
-        return False, "NOT REFUSED: the crate is still proved"
+                return None, f"NO VERDICT: {reason(said)}"
+        return None, "NOT REFUSED: the crate is still proved"
     finally:
         for file, text in kept.items():
             (home / file).write_text(text)
 
 
-def try_crate(folder, crate):
-    """Tries all edits of a crate: how many were refused."""
-    edits, refused = [], 0
+def try_crate(folder, crate, told):
+    """Tries all edits of a crate, and adds what came out."""
+    edits = []
     for path in sorted((EDITS / crate).glob("*.edit")):
         try:
             edits.append(Edit(folder, crate, path))
@@ -163,10 +205,10 @@ def try_crate(folder, crate):
             print(f"{crate}: {function or 'the crate'} isn't proved as it stands: {reason(said)}", flush=True)
             edits = [edit for edit in edits if edit.function != function]
     for edit in edits:
-        was_refused, told = try_edit(folder, edit)
-        refused += was_refused
-        print(f"{edit.label()}: {told}", flush=True)
-    return refused
+        kind, said = try_edit(folder, edit)
+        if kind:
+            told.add(edit, kind)
+        print(f"{edit.label()}: {said}", flush=True)
 
 
 def copy_repository(folder):
@@ -186,29 +228,29 @@ def main():
     words = argparse.ArgumentParser(description="Tries wrong bodies of functions.")
     words.add_argument("--jobs", type=int, default=1, help="how many crates at a time")
     words.add_argument("crates", nargs="*")
-    told = words.parse_args()
-    crates = told.crates or known
+    given = words.parse_args()
+    crates = given.crates or known
     unknown = [crate for crate in crates if crate not in known]
     if unknown:
         sys.exit(f"no wrong bodies of {unknown[0]}; there are those of {', '.join(known)}")
     wanted = sum(len(list((EDITS / crate).glob("*.edit"))) for crate in crates)
+    told = Told()
     with tempfile.TemporaryDirectory(prefix="wrong-bodies-") as name:
         # (a copy for each, as an edit of a crate is one of all that stand on it)
         copies = queue.SimpleQueue()
-        for number in range(told.jobs):
+        for number in range(given.jobs):
             copies.put(copy_repository(pathlib.Path(name) / str(number)))
 
         def try_one(crate):
             folder = copies.get()
             try:
-                return try_crate(folder, crate)
+                try_crate(folder, crate, told)
             finally:
                 copies.put(folder)
 
-        with concurrent.futures.ThreadPoolExecutor(told.jobs) as pool:
-            refused = sum(pool.map(try_one, crates))
-    print(f"{refused} of {wanted} refused")
-    sys.exit(0 if refused == wanted else 1)
+        with concurrent.futures.ThreadPoolExecutor(given.jobs) as pool:
+            list(pool.map(try_one, crates))
+    sys.exit(1 if told.show(wanted) else 0)
 
 
 if __name__ == "__main__":
