@@ -11,6 +11,7 @@ use Rattle.addr_map.specs.declared.span.Span.{Span}
 use Rattle.addr_map.specs.Spans.{IsStretch}
 use Rattle.cfi_rows.specs.Entries.{frames}
 use Rattle.frame_rewrite.specs.Index.{has_frames, has_index}
+use Rattle.frame_rewrite.proofs.CodeEnd.{comes-after}
 use Rattle.table_set.specs.AllTables.{AllComeFrom}
 use Rattle.table_set.specs.CarriedTables.{AreCarried}
 use Rattle.table_set.specs.declared.all.AllTables.{AllTables}
@@ -28,9 +29,10 @@ can_index elf t comes spans start code stretch low room w carried indexed =
     let has : IsTrue t.eh.has_section = comes.eh.there ∙ loads in
     let r = room has carried.eh_runs carried.are_eh_runs in
     let size = carried.eh_made.size in
+    let after = comes-after spans start (start + code) stretch in
     record {
-      sound = carried.eh_made.sound (frames_at start code);
+      sound = carried.eh_made.sound (frames_at start code) after;
       starts = starts_low spans start (start + code) address_end (frames false (frames_at start code) w.eh.bytes.items).list stretch
-          low (carried.eh_made.starts (frames_at start code));
+          low (carried.eh_made.starts (frames_at start code) after);
       low = index_within start code address_end w.eh.bytes.items (omega (arith, r, size));
     }

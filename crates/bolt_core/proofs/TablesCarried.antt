@@ -23,12 +23,12 @@ use Rattle.rb_bytes.proofs.Tests.{clash}
 use Rattle.answer_runs.specs.declared.run.Run.{Run}
 use Rattle.answer_runs.specs.AnswerRuns.{AreRunsOf, carried}
 use Rattle.table_core.specs.Sections.{Held, bytes_of, held, held_by}
-use Rattle.cfi_rows.specs.Entries.{Fde, Frames, frames}
+use Rattle.cfi_rows.specs.Entries.{Fde, Frames, frames, walk}
 use Rattle.cfi_rows.specs.Frames.{frames_of}
 use Rattle.cfi_rows.specs.ReadFrames.{read_as}
 use Rattle.frame_rewrite.specs.FrameAnswers.{FrameAnswer}
 use Rattle.frame_rewrite.specs.Index.{AreApart, AreFilled, IsIndexOf, StandsIndex, has_frames, has_index}
-use Rattle.frame_rewrite.specs.Tables.{EndsWithMark, StandsAs, debug_name, eh_name, eh_says, run_size}
+use Rattle.frame_rewrite.specs.Tables.{ComesAfter, EndsWithMark, StandsAs, StandsEh, debug_name, eh_name, eh_says, run_size}
 use Rattle.frame_rewrite.proofs.FramesCarried.{read_is}
 use Rattle.line_rewrite.specs.Tables.{AreSequencesApart, LineSections, line_sections}
 use Rattle.addr_rewrite.specs.Aranges.{ArePairsApart}
@@ -86,6 +86,11 @@ none_of (Some xs) h = absurd (cc)
 
 not_zero : (n : ℕ) → (suc n == 0) ≡ false
 not_zero n = grind (arith, nat_tests)
+
+-- an empty table has no entries, wherever it stands
+none_listed : (a b : ℕ) → (frames false a []).list ≡ (frames false b []).list
+unfolding walk
+none_listed a b = refl
 
 -- the only name of a list
 alone : (b : Bool) → (b || false) ≡ false → b ≡ false
@@ -154,7 +159,7 @@ module _ (elf : Elf) (t : AllTables) (comes : AllComeFrom t elf) (spans : List S
     with_index (Some x) has is =
         let r = room has made.are_carried.eh_runs made.are_carried.are_eh_runs in
         let size = made.are_carried.eh_made.size in
-        let count = made.are_carried.eh_made.count (frames_at start (length code)) in
+        let count = made.are_carried.eh_made.count (frames_at start (length code)) made.after in
         let long = is.size in
         omega (arith, size, r, count, long)
 
@@ -215,8 +220,8 @@ module _ (elf : Elf) (t : AllTables) (comes : AllComeFrom t elf) (spans : List S
         (subst (λ (n : ℕ). HoldsAt new (codes ".eh_frame_hdr") (index_at n (length code) eh) x) (sym start_is)
         (subst (λ (xs : List ℕ). HoldsAt new (codes ".eh_frame_hdr") (index_at base (length code) eh) xs) bytes holds))
 
-    eh_stands : StandsAs eh_name made.written.eh new
-    eh_stands = by (has_frames elf) refl
+    eh_bytes : StandsAs eh_name made.written.eh new
+    eh_bytes = by (has_frames elf) refl
       where
         by : (b : Bool) → has_frames elf ≡ b → bytes_of new (codes ".eh_frame") ≡ eh
         by true e = ap (λ (h : Held). h.bytes) (frames_held e)
@@ -225,6 +230,12 @@ module _ (elf : Elf) (t : AllTables) (comes : AllComeFrom t elf) (spans : List S
             let none : table_start 8 (base + length code) (table_size given (codes ".eh_frame")) ≡ None =
             ap (table_start 8 (base + length code)) size in
             none_held new (codes ".eh_frame") (stand.no_frames none) ∙ sym (made.are_carried.eh_made.nothing (there ∙ e))
+
+    eh_stands : StandsEh elf spans made.written.eh new
+    eh_stands = record {
+      bytes = eh_bytes;
+      place = λ e. subst (ComesAfter spans) (sym (ap (λ (h : Held). h.address) (frames_held e))) made.after;
+    }
 
     -- A section of debug data holds what is given for it; one that the input hasn't holds nothing.
     debug_stands : (name bytes : List ℕ) → names_debug name ≡ true → bytes_eq name (codes ".debug_rnglists") ≡ false →
@@ -311,7 +322,7 @@ module _ (elf : Elf) (t : AllTables) (comes : AllComeFrom t elf) (spans : List S
             (stand.ranges (is_added (is_in ∙ ap is_some some) e))
             ∙ given_is ∙ ap (λ (o : Option (List ℕ)). unwrap_or o []) some
 
-    hold_all : HoldAll elf new made.written
+    hold_all : HoldAll elf new spans made.written
     hold_all = record {
       eh = eh_stands;
       df = debug_stands (codes ".debug_frame") made.written.df.bytes.items refl refl refl
@@ -352,6 +363,22 @@ module _ (elf : Elf) (t : AllTables) (comes : AllComeFrom t elf) (spans : List S
         (subst (λ (h : Held). IsIndexOf (frames_at start (length code)) h.address (frames false (frames_at start (length code)) eh).list
         h.bytes) (sym (index_held loads x is)) index.is)
 
+    -- what is so of the unwind table where it comes after the new code is so where it stands
+    of_eh : (P : List Fde → Type 0) → ((at : ℕ) → ComesAfter spans at → P (frames false at eh).list) →
+        P (frames_of false (held new eh_name)).list
+    of_eh P all = by (has_frames elf) refl
+      where
+        here : P (frames false (frames_at start (length code)) eh).list
+        here = all (frames_at start (length code)) made.after
+
+        by : (b : Bool) → has_frames elf ≡ b → P (frames_of false (held new eh_name)).list
+        by true e = subst (λ (h : Held). P (frames_of false h).list) (sym (frames_held e)) here
+        by false e =
+            let none : eh ≡ [] = made.are_carried.eh_made.nothing (there ∙ e) in
+            subst (λ (l : List ℕ). P (frames false (held new eh_name).address l).list) (sym (eh_bytes ∙ none))
+            (subst P (none_listed (frames_at start (length code)) (held new eh_name).address)
+            (subst (λ (l : List ℕ). P (frames false (frames_at start (length code)) l).list) none here))
+
     -- what is so of a written table wherever it stands is so where it stands
     of_frames : (debug : Bool) (name bytes : List ℕ) (P : List Fde → Type 0) → ((at : ℕ) → P (frames debug at bytes).list)
         → bytes_of new name ≡ bytes → P (frames_of debug (held new name)).list
@@ -368,12 +395,11 @@ module _ (elf : Elf) (t : AllTables) (comes : AllComeFrom t elf) (spans : List S
     carries_tables = record {
       answers = all_carried elf spans t made.written comes made.are_carried new hold_all;
       sound = no_fault new (all_sound elf spans t made.written comes made.are_carried new hold_all);
-      ends = λ e. subst EndsWithMark (sym eh_stands) (made.are_carried.eh_made.ends (there ∙ e));
+      ends = λ e. subst EndsWithMark (sym eh_bytes) (made.are_carried.eh_made.ends (there ∙ e));
       index = index_stands;
-      apart = λ apart. of_frames false eh_name eh AreApart
-          (made.are_carried.eh_made.apart (subst (λ (f : Frames). AreApart f.list) (sym (read_is t.eh elf comes.eh)) apart))
-          eh_stands;
-      filled = of_frames false eh_name eh AreFilled made.are_carried.eh_made.filled eh_stands;
+      apart = λ apart. of_eh AreApart
+          (made.are_carried.eh_made.apart (subst (λ (f : Frames). AreApart f.list) (sym (read_is t.eh elf comes.eh)) apart));
+      filled = of_eh AreFilled made.are_carried.eh_made.filled;
       debug_apart = of_frames true debug_name made.written.df.bytes.items AreApart made.are_carried.df_made.apart hold_all.df;
       lines_apart = subst AreSequencesApart lines_are made.are_carried.lines_made.apart;
       units_apart = subst ArePairsApart (sym hold_all.aranges) made.are_carried.aranges_made.apart;

@@ -17,6 +17,7 @@ use Rattle.answer_runs.specs.CarriedAnswers.{Agree}
 use Rattle.cfi_rows.specs.FrameRows.{RowValue, row_at}
 use Rattle.cfi_rows.specs.Entries.{Fde, is_in_range}
 use Rattle.frame_rewrite.specs.FrameAnswers.{FrameAnswer, answer_of, answer_at}
+use Rattle.frame_rewrite.specs.declared.form.Form.{Form}
 use Rattle.frame_rewrite.specs.CarriedFrames.{IsCarriedFrame}
 use Rattle.frame_rewrite.specs.SpelledFits.{IsReached}
 use Rattle.frame_rewrite.specs.SpelledFrames.{key_of, is_alike, count_on, more_count, start_of, last_end, fde_body}
@@ -172,16 +173,16 @@ in-entry is_marked f fs p e = rw e refl
 pub ranged : (s p e : ℕ) → (leb s p && ltb p e) ≡ true → (s ≤ p) × (p < e)
 ranged s p e t = (grind (arith, nat_tests), grind (arith, nat_tests))
 
-pub none-made : (is_marked : Fde → Bool) (spans : List Span) (all : Runs) (n place : ℕ) (rs : Runs) (p : ℕ)
+pub none-made : (form : Form) (is_marked : Fde → Bool) (spans : List Span) (all : Runs) (n place : ℕ) (rs : Runs) (p : ℕ)
     → All (IsReached spans all) rs → run_at all p ≡ None
-    → answer_at is_marked (made spans n place rs) p ≡ None
+    → answer_at is_marked (made form spans n place rs) p ≡ None
 unfolding made
-none-made is_marked spans all n place [] p f e = refl
-none-made is_marked spans all zero place (r ∷ rs) p f e = refl
-none-made is_marked spans all (suc n) place (r ∷ rs) p f e =
-    past-entry is_marked _ _ p (out (is_in_range (fde_of spans (key_of spans r.answer) place r
+none-made form is_marked spans all n place [] p f e = refl
+none-made form is_marked spans all zero place (r ∷ rs) p f e = refl
+none-made form is_marked spans all (suc n) place (r ∷ rs) p f e =
+    past-entry is_marked _ _ p (out (is_in_range (fde_of form spans (key_of spans r.answer) place r
     (take (more_count r rs) rs)) p) refl)
-    ∙ none-made is_marked spans all n (place + 8 + length (fde_body spans r (take (more_count r rs) rs)))
+    ∙ none-made form is_marked spans all n (place + 8 + length (fde_body form place spans r (take (more_count r rs) rs)))
     (drop (more_count r rs) rs) p
     (All-drop (IsReached spans all) (more_count r rs) rs (All-tail (IsReached spans all) r rs f)) e where
       out : (b : Bool) → (leb (start_of spans r) p && ltb p (last_end (r.start + r.len) (take (more_count r rs) rs))) ≡ b
@@ -197,11 +198,11 @@ none-made is_marked spans all (suc n) place (r ∷ rs) p f e =
 -- Where a run has the byte
 
 -- the entry of a group answers at a byte of one of its runs
-group-answer : (is_marked : Fde → Bool) (spans : List Span) (place lo hi p : ℕ) (r : Run FrameAnswer) (more : Runs)
+group-answer : (form : Form) (is_marked : Fde → Bool) (spans : List Span) (place lo hi p : ℕ) (r : Run FrameAnswer) (more : Runs)
     (a : FrameAnswer) → IsWithin lo (r ∷ more) hi → Before spans r
     → All (Continues r) more → run_at (r ∷ more) p ≡ Some a → r.start ≤ p
-    → Agree (IsCarriedFrame spans) (Some a) (answer_of is_marked (fde_of spans (key_of spans r.answer) place r more) p)
-group-answer is_marked spans place lo hi p r more a w before c e l =
+    → Agree (IsCarriedFrame spans) (Some a) (answer_of is_marked (fde_of form spans (key_of spans r.answer) place r more) p)
+group-answer form is_marked spans place lo hi p r more a w before c e l =
     let s : leb (start_of spans r) p ≡ true = least (start_of spans r) r.start before l in
     let like : IsLike spans r a = at-all (IsLike spans r) (r ∷ more) p a
     (All-cons (λ (q : Run FrameAnswer). IsLike spans r q.answer) r more (like-itself spans r) (likes more c)) e in
@@ -241,7 +242,7 @@ group-answer is_marked spans place lo hi p r more a w before c e l =
         table = r.answer.table;
         signal = r.answer.signal;
         start = start_of spans r;
-        marked = is_marked (fde_of spans (key_of spans r.answer) place r more);
+        marked = is_marked (fde_of form spans (key_of spans r.answer) place r more);
       }
 
 from-first : (lo hi p : ℕ) (r : Run FrameAnswer) (rs : Runs) (a : FrameAnswer) → IsWithin lo (r ∷ rs) hi
@@ -274,36 +275,36 @@ shorter : (k : ℕ) (rs : Runs) (n : ℕ) → suc (length rs) ≤ suc n → leng
 shorter k rs n h = grind (arith, common_steps)
 
 -- the first group has the byte, or it lies behind
-split-made : (is_marked : Fde → Bool) (spans : List Span) (n place lo hi : ℕ) (r : Run FrameAnswer) (rs : Runs) (p : ℕ)
+split-made : (form : Form) (is_marked : Fde → Bool) (spans : List Span) (n place lo hi : ℕ) (r : Run FrameAnswer) (rs : Runs) (p : ℕ)
     (a : FrameAnswer) → IsWithin lo (r ∷ rs) hi
     → All (Before spans) (r ∷ rs) → run_at (r ∷ rs) p ≡ Some a
     → (run_at (drop (more_count r rs) rs) p ≡ Some a
     → Agree (IsCarriedFrame spans) (Some a) (answer_at is_marked
-    (made spans n (place + 8 + length (fde_body spans r (take (more_count r rs) rs))) (drop (more_count r rs) rs)) p))
-    → Agree (IsCarriedFrame spans) (Some a) (answer_at is_marked (made spans (suc n) place (r ∷ rs)) p)
+    (made form spans n (place + 8 + length (fde_body form place spans r (take (more_count r rs) rs))) (drop (more_count r rs) rs)) p))
+    → Agree (IsCarriedFrame spans) (Some a) (answer_at is_marked (made form spans (suc n) place (r ∷ rs)) p)
 unfolding made
-split-made is_marked spans n place lo hi r rs p a w before e further = one
+split-made form is_marked spans n place lo hi r rs p a w before e further = one
     (ltb p (last_end (r.start + r.len) (take (more_count r rs) rs))) refl where
       first : r.start ≤ p
       first = from-first lo hi p r rs a w e
 
       here : Fde
-      here = fde_of spans (key_of spans r.answer) place r (take (more_count r rs) rs)
+      here = fde_of form spans (key_of spans r.answer) place r (take (more_count r rs) rs)
 
       rest : List Fde
-      rest = made spans n (place + 8 + length (fde_body spans r (take (more_count r rs) rs))) (drop (more_count r rs) rs)
+      rest = made form spans n (place + 8 + length (fde_body form place spans r (take (more_count r rs) rs))) (drop (more_count r rs) rs)
 
       one : (b : Bool) → ltb p (last_end (r.start + r.len) (take (more_count r rs) rs)) ≡ b
           → Agree (IsCarriedFrame spans) (Some a) (answer_at is_marked
-          (fde_of spans (key_of spans r.answer) place r (take (more_count r rs) rs)
-          ∷ made spans n (place + 8 + length (fde_body spans r (take (more_count r rs) rs))) (drop (more_count r rs) rs)) p)
+          (fde_of form spans (key_of spans r.answer) place r (take (more_count r rs) rs)
+          ∷ made form spans n (place + 8 + length (fde_body form place spans r (take (more_count r rs) rs))) (drop (more_count r rs) rs)) p)
       one true t =
           let among = sym (at-among (suc (more_count r rs)) lo (r ∷ rs) hi p w
           (ltb-true p (last_end (r.start + r.len) (take (more_count r rs) rs)) t)) ∙ e in
           subst (Agree (IsCarriedFrame spans) (Some a)) (sym (in-entry is_marked here rest p
           (is_in (start_of spans r) r.start p (last_end (r.start + r.len) (take (more_count r rs) rs))
           (All-head (Before spans) r rs before) first t)))
-          (group-answer is_marked spans place lo hi p r (take (more_count r rs) rs) a
+          (group-answer form is_marked spans place lo hi p r (take (more_count r rs) rs) a
           (w.0, w.1, within-take (more_count r rs) (r.start + r.len) rs hi w.2) (All-head (Before spans) r rs before)
           (group-continues r rs) among first)
       one false t =
@@ -313,15 +314,15 @@ split-made is_marked spans n place lo hi r rs p a w before e further = one
           (is_out (start_of spans r) p (last_end (r.start + r.len) (take (more_count r rs) rs)) t)))
           (further later)
 
-pub some-made : (is_marked : Fde → Bool) (spans : List Span) (n place lo hi : ℕ) (rs : Runs) (p : ℕ) (a : FrameAnswer)
+pub some-made : (form : Form) (is_marked : Fde → Bool) (spans : List Span) (n place lo hi : ℕ) (rs : Runs) (p : ℕ) (a : FrameAnswer)
     → length rs ≤ n → IsWithin lo rs hi → All (Before spans) rs → run_at rs p ≡ Some a
-    → Agree (IsCarriedFrame spans) (Some a) (answer_at is_marked (made spans n place rs) p)
+    → Agree (IsCarriedFrame spans) (Some a) (answer_at is_marked (made form spans n place rs) p)
 unfolding made
-some-made is_marked spans n place lo hi [] p a l w before e = absurd (cc)
-some-made is_marked spans zero place lo hi (r ∷ rs) p a l w before e = absurd (omega arith)
-some-made is_marked spans (suc n) place lo hi (r ∷ rs) p a l w before e =
-    split-made is_marked spans n place lo hi r rs p a w before e
-    (some-made is_marked spans n (place + 8 + length (fde_body spans r (take (more_count r rs) rs)))
+some-made form is_marked spans n place lo hi [] p a l w before e = absurd (cc)
+some-made form is_marked spans zero place lo hi (r ∷ rs) p a l w before e = absurd (omega arith)
+some-made form is_marked spans (suc n) place lo hi (r ∷ rs) p a l w before e =
+    split-made form is_marked spans n place lo hi r rs p a w before e
+    (some-made form is_marked spans n (place + 8 + length (fde_body form place spans r (take (more_count r rs) rs)))
     (last_end (r.start + r.len) (take (more_count r rs) rs)) hi (drop (more_count r rs) rs) p a
     (shorter (more_count r rs) rs n l) (within-drop (more_count r rs) (r.start + r.len) rs hi w.2)
     (All-drop (Before spans) (more_count r rs) rs (All-tail (Before spans) r rs before)))

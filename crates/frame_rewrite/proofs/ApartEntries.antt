@@ -16,10 +16,12 @@ use Rattle.answer_runs.specs.declared.run.Run.{Run}
 use Rattle.answer_runs.specs.AnswerRuns.{IsWithin, run_at, carried}
 use Rattle.cfi_rows.specs.Entries.{Fde, Frames, frames, is_in_range}
 use Rattle.frame_rewrite.specs.declared.cie_key.CieKey.{CieKey}
+use Rattle.frame_rewrite.specs.declared.form.Form.{Form}
+use Rattle.frame_rewrite.proofs.FdeBack.{IsAt}
 use Rattle.frame_rewrite.specs.FrameAnswers.{FrameAnswer, answer_at}
 use Rattle.frame_rewrite.specs.Index.{AreApart, AreFilled, ShareNoAddress}
 use Rattle.frame_rewrite.specs.SpelledFits.{KeyFits, IsReached, IsSpelled}
-use Rattle.frame_rewrite.specs.SpelledFrames.{is_alike, count_on, more_count, start_of, last_end, fde_body, cie_size}
+use Rattle.frame_rewrite.specs.SpelledFrames.{is_debug, is_alike, count_on, more_count, start_of, last_end, fde_body, cie_size}
 use Rattle.frame_rewrite.specs.Tables.{MovesWhole}
 use Rattle.frame_rewrite.proofs.AnswersBack.{Continues, group-continues, ranged, reached-before}
 use Rattle.frame_rewrite.proofs.Law.{reads-as}
@@ -242,30 +244,30 @@ is-filled spans lo hi h rs w before = filled (start_of spans h) h.start h.len _ 
       filled : (s a n e : ℕ) → s ≤ a → 0 < n → a + n ≤ e → s < e
       filled s a n e h k l = omega arith
 
-made-filled : (spans : List Span) (n place lo hi : ℕ) (rs : Runs) → IsWithin lo rs hi → All (Before spans) rs
-    → AreFilled (made spans n place rs)
+made-filled : (form : Form) (spans : List Span) (n place lo hi : ℕ) (rs : Runs) → IsWithin lo rs hi → All (Before spans) rs
+    → AreFilled (made form spans n place rs)
 unfolding made
-made-filled spans n place lo hi [] w before = All-nil (λ (f : Fde). f.start < f.end)
-made-filled spans zero place lo hi (h ∷ rs) w before = All-nil (λ (f : Fde). f.start < f.end)
-made-filled spans (suc n) place lo hi (h ∷ rs) w before =
+made-filled form spans n place lo hi [] w before = All-nil (λ (f : Fde). f.start < f.end)
+made-filled form spans zero place lo hi (h ∷ rs) w before = All-nil (λ (f : Fde). f.start < f.end)
+made-filled form spans (suc n) place lo hi (h ∷ rs) w before =
     All-cons (λ (f : Fde). f.start < f.end) _ _ (is-filled spans lo hi h rs w (All-head (Before spans) h rs before))
-    (made-filled spans n (place + 8 + length (fde_body spans h (take (more_count h rs) rs)))
+    (made-filled form spans n (place + 8 + length (fde_body form place spans h (take (more_count h rs) rs)))
     (last_end (h.start + h.len) (take (more_count h rs) rs)) hi (drop (more_count h rs) rs)
     (within-drop (more_count h rs) (h.start + h.len) rs hi w.2)
     (All-drop (Before spans) (more_count h rs) rs (All-tail (Before spans) h rs before)))
 
-made-follow : (spans : List Span) (all : Runs) (n place lo hi end : ℕ) (rs : Runs) → IsWithin lo rs hi
+made-follow : (form : Form) (spans : List Span) (all : Runs) (n place lo hi end : ℕ) (rs : Runs) → IsWithin lo rs hi
     → Behind all lo rs → All (IsReached spans all) rs → All (Alike spans all) rs → All (Contains all) rs
-    → FirstFrom spans end rs → Follows end (made spans n place rs)
+    → FirstFrom spans end rs → Follows end (made form spans n place rs)
 unfolding made
-made-follow spans all n place lo hi end [] w same reach alike m first = tt
-made-follow spans all zero place lo hi end (h ∷ rs) w same reach alike m first = tt
-made-follow spans all (suc n) place lo hi end (h ∷ rs) w same reach alike m first =
+made-follow form spans all n place lo hi end [] w same reach alike m first = tt
+made-follow form spans all zero place lo hi end (h ∷ rs) w same reach alike m first = tt
+made-follow form spans all (suc n) place lo hi end (h ∷ rs) w same reach alike m first =
     let long : h.start + h.len ≤ last_end (h.start + h.len) (take (more_count h rs) rs) =
     le-last (h.start + h.len) (take (more_count h rs) rs) hi (within-take (more_count h rs) (h.start + h.len) rs hi w.2) in (
       first,
       is-filled spans lo hi h rs w (All-head (IsReached spans all) h rs reach).before,
-      made-follow spans all n (place + 8 + length (fde_body spans h (take (more_count h rs) rs)))
+      made-follow form spans all n (place + 8 + length (fde_body form place spans h (take (more_count h rs) rs)))
           (last_end (h.start + h.len) (take (more_count h rs) rs)) hi
           (last_end (h.start + h.len) (take (more_count h rs) rs)) (drop (more_count h rs) rs)
           (within-drop (more_count h rs) (h.start + h.len) rs hi w.2)
@@ -303,22 +305,22 @@ apart-of end (f ∷ fs) x = AllPairs-cons ShareNoAddress f fs (none-behind f f.e
   same : (n : ℕ) → n ≤ n
   same n = omega arith
 
--- what is read of a written table, wherever it stands
-pub written-filled : (debug : Bool) (spans : List Span) (keys : List CieKey) (runs : Runs) (bytes : List ℕ) (address : ℕ)
-    → All KeyFits keys → IsWithin 0 runs (2 ^ 64 - 1) → All (IsReached spans runs) runs
-    → IsSpelled debug spans keys runs bytes → AreFilled (frames debug address bytes).list
-written-filled debug spans keys runs bytes address f w r s =
-    let read = ap (λ (t : Frames). t.list) (reads-as debug spans keys runs bytes address f w r s) in
+-- what is read of a written table
+pub written-filled : (form : Form) (spans : List Span) (keys : List CieKey) (runs : Runs) (bytes : List ℕ) (address : ℕ)
+    → All KeyFits keys → IsAt form address → IsWithin 0 runs (2 ^ 64 - 1) → All (IsReached spans runs) runs
+    → IsSpelled form spans keys runs bytes → AreFilled (frames (is_debug form) address bytes).list
+written-filled form spans keys runs bytes address f here w r s =
+    let read = ap (λ (t : Frames). t.list) (reads-as form spans keys runs bytes address f here w r s) in
     subst AreFilled (sym read)
-    (made-filled spans (length runs) (cie_size * length keys) 0 (2 ^ 64 - 1) runs w (reached-before spans runs runs r))
+    (made-filled form spans (length runs) (cie_size * length keys) 0 (2 ^ 64 - 1) runs w (reached-before spans runs runs r))
 
-pub written-apart : (debug : Bool) (spans : List Span) (keys : List CieKey) (runs : Runs) (bytes : List ℕ) (address : ℕ)
-    → All KeyFits keys → IsWithin 0 runs (2 ^ 64 - 1) → All (IsReached spans runs) runs → All (Alike spans runs) runs
-    → IsSpelled debug spans keys runs bytes → AreApart (frames debug address bytes).list
-written-apart debug spans keys runs bytes address f w r alike s =
-    let read = ap (λ (t : Frames). t.list) (reads-as debug spans keys runs bytes address f w r s) in
-    subst AreApart (sym read) (apart-of 0 (made spans (length runs) (cie_size * length keys) runs)
-    (made-follow spans runs (length runs) (cie_size * length keys) 0 (2 ^ 64 - 1) 0 runs w (λ p l. refl) r
+pub written-apart : (form : Form) (spans : List Span) (keys : List CieKey) (runs : Runs) (bytes : List ℕ) (address : ℕ)
+    → All KeyFits keys → IsAt form address → IsWithin 0 runs (2 ^ 64 - 1) → All (IsReached spans runs) runs → All (Alike spans runs) runs
+    → IsSpelled form spans keys runs bytes → AreApart (frames (is_debug form) address bytes).list
+written-apart form spans keys runs bytes address f here w r alike s =
+    let read = ap (λ (t : Frames). t.list) (reads-as form spans keys runs bytes address f here w r s) in
+    subst AreApart (sym read) (apart-of 0 (made form spans (length runs) (cie_size * length keys) runs)
+    (made-follow form spans runs (length runs) (cie_size * length keys) 0 (2 ^ 64 - 1) 0 runs w (λ p l. refl) r
     alike (all_of (Contains runs) runs (λ q c. c)) (from-none runs))) where
       from-none : (rs : Runs) → FirstFrom spans 0 rs
       from-none [] = tt

@@ -81,19 +81,25 @@ pub to-run : (P : List (Run FrameAnswer) → Type 0) (r d : Run FrameAnswer) (mo
     → i < length more → r ≡ get_or more i d → P (r ∷ drop (i + 1) more) → P (drop i more)
 to-run P r d more i h is p = subst P (sym (drop_more more i d h)) (subst (λ (q : Run FrameAnswer). P (q ∷ drop (i + 1) more)) is p)
 
+pub three-fields : (o a b c x y z : List ℕ) → a ≡ o ++ x → b ≡ a ++ y → c ≡ b ++ z → c ≡ o ++ (x ++ (y ++ z))
+three-fields o a b c x y z p q u = rw (u, q, p) (simp append_assoc)
+
 pub four-fields : (o a b c d x y z t : List ℕ) → a ≡ o ++ x → b ≡ a ++ y → c ≡ b ++ z → d ≡ c ++ t
     → d ≡ o ++ (x ++ (y ++ (z ++ t)))
 four-fields o a b c d x y z t p q u v = rw (v, u, q, p) (simp append_assoc)
 
-pub six-puts : (o a b c d e f x y z t r s : List ℕ) → a ≡ o ++ x → b ≡ a ++ y → c ≡ b ++ z → d ≡ c ++ t → e ≡ d ++ r
-    → f ≡ e ++ s → f ≡ o ++ (x ++ (y ++ (z ++ (t ++ (r ++ s)))))
-six-puts o a b c d e f x y z t r s p q u v w m = rw (m, w, v, u, q, p) (simp append_assoc)
+pub five-fields : (o a b c d e x y z t r : List ℕ) → a ≡ o ++ x → b ≡ a ++ y → c ≡ b ++ z → d ≡ c ++ t → e ≡ d ++ r
+    → e ≡ o ++ (x ++ (y ++ (z ++ (t ++ r))))
+five-fields o a b c d e x y z t r p q u v w = rw (w, v, u, q, p) (simp append_assoc)
 
 -- a body of some fields, and the entry of it
 
-pub body-put : (a b d f : List ℕ) → a ≡ [] → b ≡ a ++ f → d ≡ b ++ zeros (padding (length b))
-    → d ≡ f ++ zeros (padding (length f))
-body-put a b d f p q r = rw (r, q, p) refl
+pub body-put : (debug : Bool) (a b d f : List ℕ) → a ≡ [] → b ≡ a ++ f → d ≡ b ++ zeros (padding debug (length b))
+    → d ≡ f ++ zeros (padding debug (length f))
+body-put debug a b d f p q r = rw (r, q, p) refl
+
+pub cie-put : (a b d f : List ℕ) → a ≡ [] → b ≡ a ++ f → d ≡ b ++ zeros (24 - length b) → d ≡ f ++ zeros (24 - length f)
+cie-put a b d f p q r = rw (r, q, p) refl
 
 pub new-length : (out new : List ℕ) (e : RawEntry) → new ≡ out ++ spelled_entry e
     → length new ≡ length out + 8 + length e.body
@@ -114,13 +120,14 @@ pub pos-false : {A : Type 0} (p : A → Bool) (x : A) (xs : List A) → p x ≡ 
     → position_or_len p (x ∷ xs) ≡ 1 + position_or_len p xs
 pos-false p x xs e = rw e refl
 
-pub entry-put : (out new a b d g f : List ℕ) (place id want : ℕ)
+pub entry-put : (debug : Bool) (out new a b d g f : List ℕ) (place id want : ℕ)
     → new ≡ out ++ spelled_entry (record { place = place; id = id; body = g }) → g ≡ d → id ≡ want
-    → a ≡ [] → b ≡ a ++ f → d ≡ b ++ zeros (padding (length b))
-    → new ≡ out ++ spelled_entry (record { place = place; id = want; body = f ++ zeros (padding (length f)) })
-entry-put out new a b d g f place id want w u e p q r =
+    → a ≡ [] → b ≡ a ++ f → d ≡ b ++ zeros (padding debug (length b))
+    → new ≡ out ++ spelled_entry (record { place = place; id = want; body = f ++ zeros (padding debug (length f)) })
+entry-put debug out new a b d g f place id want w u e p q r =
     w ∙ ap (λ (n : ℕ). out ++ spelled_entry (record { place = place; id = n; body = g })) e
-    ∙ ap (λ (l : List ℕ). out ++ spelled_entry (record { place = place; id = want; body = l })) (u ∙ body-put a b d f p q r)
+    ∙ ap (λ (l : List ℕ). out ++ spelled_entry (record { place = place; id = want; body = l }))
+    (u ∙ body-put debug a b d f p q r)
 
 pub all-taken : {A : Type 0} (P : A → Type 0) (xs : List A) (i : ℕ) → length xs ≤ i → All P (take i xs) → All P xs
 all-taken P xs i h f = subst (All P) (whole xs i h) f where

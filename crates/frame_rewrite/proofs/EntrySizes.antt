@@ -18,12 +18,15 @@ use Rattle.cfi_rows.specs.declared.row.Rule.TheVariants as rule
 use Rattle.cfi_rows.specs.EntryCounts.{cfa_bytes, rule_bytes}
 use Rattle.cfi_rows.specs.FrameRows.{RowValue, Rules, Known}
 use Rattle.cfi_rows.specs.RuleEntries.{Ascend}
+use Rattle.frame_rewrite.specs.declared.form.Form.{Form}
+use Rattle.frame_rewrite.specs.declared.form.Form.TheVariants.{Debug, Loaded}
+use Rattle.frame_rewrite.specs.Index.{distance, distance_bytes}
 use Rattle.frame_rewrite.specs.declared.cie_key.CieKey.{CieKey}
 use Rattle.frame_rewrite.specs.FrameAnswers.{FrameAnswer}
 use Rattle.frame_rewrite.specs.SpelledFits.{RunAscends}
 use Rattle.frame_rewrite.specs.SpelledFrames.{up, down, spelled_block, spelled_cfa, spelled_cfa_from, spelled_rule, spelled_rules}
 use Rattle.frame_rewrite.specs.SpelledFrames.{spelled_restores, spelled_change, spelled_advance, spelled_rows, spelled_entries}
-use Rattle.frame_rewrite.specs.SpelledFrames.{key_of, is_plain, spelled_table, known_by, known_behind, spelled_row_before, first_known, gone_rules, other_rules, zeros, padding, are_low}
+use Rattle.frame_rewrite.specs.SpelledFrames.{key_of, is_debug, has_data, spelled_range, spelled_table, known_by, known_behind, spelled_row_before, first_known, gone_rules, other_rules, zeros, padding, are_low}
 use Rattle.frame_rewrite.specs.SpelledFrames.{start_of, last_end, fde_fields, fde_body, fde_entry, fde_entries, more_count}
 use Rattle.frame_rewrite.specs.Tables.{rules_bytes, run_size}
 use Rattle.frame_rewrite.proofs.NumbersBack.{length-little, length-zeros}
@@ -227,36 +230,51 @@ rows-size known at row (r ∷ rs) few a ascend =
 abbrev first_rows : List Span → Run FrameAnswer → Runs → List ℕ
 first_rows spans r more = spelled_rows (first_known r.answer.signal) (start_of spans r) r.answer.row more
 
-table-size : (plain : Bool) (t : ℕ) → length (spelled_table plain t) ≤ 9
-table-size true t = omega arith
-table-size false t = let l = length-little 8 t in omega arith
+table-size : (has_data tabled : Bool) (t : ℕ) → length (spelled_table has_data tabled t) ≤ 9
+table-size false tabled t = omega arith
+table-size true false t = omega arith
+table-size true true t = let l = length-little 8 t in omega arith
 
-fields-size : (spans : List Span) (r : Run FrameAnswer) (more : Runs)
-    → length (fde_fields spans r more) ≤ 25 + length (first_rows spans r more)
-fields-size spans r more =
-    sums _ _ _ (length (spelled_table (is_plain (key_of spans r.answer)) r.answer.table)) _
-    (behind-eight (start_of spans r) (little_bytes 8 (last_end (r.start + r.len) more - start_of spans r)
-    ++ (spelled_table (is_plain (key_of spans r.answer)) r.answer.table ++ first_rows spans r more)))
-    (behind-eight (last_end (r.start + r.len) more - start_of spans r)
-    (spelled_table (is_plain (key_of spans r.answer)) r.answer.table ++ first_rows spans r more))
-    (length-append (spelled_table (is_plain (key_of spans r.answer)) r.answer.table) (first_rows spans r more))
-    (table-size (is_plain (key_of spans r.answer)) r.answer.table) where
-      sums : (t u v w x : ℕ) → t ≡ 8 + u → u ≡ 8 + v → v ≡ w + x → w ≤ 9 → t ≤ 25 + x
+range-size : (form : Form) (place start size : ℕ) → length (spelled_range form place start size) ≤ 16
+range-size Debug place start size =
+    both _ (length (little_bytes 8 start)) (length (little_bytes 8 size)) (length-append (little_bytes 8 start) (little_bytes 8 size))
+    (length-little 8 start) (length-little 8 size) where
+      both : (n a b : ℕ) → n ≡ a + b → a ≡ 8 → b ≡ 8 → n ≤ 16
+      both n a b e f g = omega arith
+range-size (Loaded at) place start size =
+    let from = distance_bytes start (at + place + 8) in
+    both _ (length from) (length (little_bytes 4 size)) (length-append from (little_bytes 4 size))
+    (length-little 4 (distance start (at + place + 8))) (length-little 4 size) where
+      both : (n a b : ℕ) → n ≡ a + b → a ≡ 4 → b ≡ 4 → n ≤ 16
+      both n a b e f g = omega arith
+
+fields-size : (form : Form) (place : ℕ) (spans : List Span) (r : Run FrameAnswer) (more : Runs)
+    → length (fde_fields form place spans r more) ≤ 25 + length (first_rows spans r more)
+fields-size form place spans r more =
+    let size = last_end (r.start + r.len) more - start_of spans r in
+    let range = spelled_range form place (start_of spans r) size in
+    let key = key_of spans r.answer in
+    let table = spelled_table (has_data (is_debug form) key) key.tabled r.answer.table in
+    sums _ (length range) _ (length table) _ (length-append range (table ++ first_rows spans r more))
+    (range-size form place (start_of spans r) size) (length-append table (first_rows spans r more))
+    (table-size (has_data (is_debug form) key) key.tabled r.answer.table) where
+      sums : (t u v w x : ℕ) → t ≡ u + v → u ≤ 16 → v ≡ w + x → w ≤ 9 → t ≤ 25 + x
       sums t u v w x a b c d = omega arith
 
-body-size : (spans : List Span) (r : Run FrameAnswer) (more : Runs) → All RunAscends (r ∷ more)
-    → 8 + length (fde_body spans r more) + 8 * suc (length more) ≤ run_size r.answer + total more
-body-size spans r more ascend =
-    let f = fields-size spans r more in
-    let b = length-append (fde_fields spans r more) (zeros (padding (length (fde_fields spans r more)))) in
-    let z = length-zeros (padding (length (fde_fields spans r more))) in
-    sums _ (length (fde_fields spans r more)) _ (length (first_rows spans r more)) (row_count r.answer.row)
+body-size : (form : Form) (place : ℕ) (spans : List Span) (r : Run FrameAnswer) (more : Runs) → All RunAscends (r ∷ more)
+    → 8 + length (fde_body form place spans r more) + 8 * suc (length more) ≤ run_size r.answer + total more
+body-size form place spans r more ascend =
+    let fields = fde_fields form place spans r more in
+    let pad = padding (is_debug form) (length fields) in
+    sums _ (length fields) _ (length (first_rows spans r more)) (row_count r.answer.row)
     (run_size r.answer) (length more) (total more)
-    b (subst (λ (n : ℕ). n ≤ 7) (sym z) (padded (length (fde_fields spans r more)))) f (counted r)
+    (length-append fields (zeros pad)) (subst (λ (n : ℕ). n ≤ 7) (sym (length-zeros pad)) (padded (is_debug form) (length fields)))
+    (fields-size form place spans r more) (counted r)
     (rows-size (first_known r.answer.signal) (start_of spans r) r.answer.row more (omega arith)
     (All-head RunAscends r more ascend) (All-tail RunAscends r more ascend)) where
-      padded : (n : ℕ) → padding n ≤ 7
-      padded n = omega arith
+      padded : (debug : Bool) (n : ℕ) → padding debug n ≤ 7
+      padded true n = omega arith
+      padded false n = omega arith
 
       sums : (t f z a x s n u : ℕ) → t ≡ f + z → z ≤ 7 → f ≤ 25 + a → 88 + x ≤ s → a + 8 * n ≤ 28 + 0 + x + u
           → 8 + t + 8 * suc n ≤ s + u
@@ -282,19 +300,19 @@ least-total (r ∷ rs) = sums (length rs) (run_size r.answer) (total rs) (row_co
 nothing-more : (n t : ℕ) → n ≤ t → 0 + n ≤ t
 nothing-more n t h = omega arith
 
-pub fdes-size : (debug : Bool) (spans : List Span) (keys : List CieKey) (n place : ℕ) (rs : Runs)
-    → All RunAscends rs → length (spelled_entries (fde_entries debug spans keys n place rs)) + 8 * length rs ≤ total rs
+pub fdes-size : (form : Form) (spans : List Span) (keys : List CieKey) (n place : ℕ) (rs : Runs)
+    → All RunAscends rs → length (spelled_entries (fde_entries form spans keys n place rs)) + 8 * length rs ≤ total rs
 unfolding fde_entries
-fdes-size debug spans keys n place [] ascend = omega arith
-fdes-size debug spans keys zero place (r ∷ rs) ascend = nothing-more (8 * length (r ∷ rs)) (total (r ∷ rs)) (least-total (r ∷ rs))
-fdes-size debug spans keys (suc n) place (r ∷ rs) ascend =
+fdes-size form spans keys n place [] ascend = omega arith
+fdes-size form spans keys zero place (r ∷ rs) ascend = nothing-more (8 * length (r ∷ rs)) (total (r ∷ rs)) (least-total (r ∷ rs))
+fdes-size form spans keys (suc n) place (r ∷ rs) ascend =
     sums _ _ _ (run_size r.answer) _ _ _ _ _ _ _
-    (spelled-length (fde_entry debug spans keys place r (take (more_count r rs) rs))
-    (spelled_entries (fde_entries debug spans keys n
-    (place + 8 + length (fde_body spans r (take (more_count r rs) rs))) (drop (more_count r rs) rs))))
-    (body-size spans r (take (more_count r rs) rs) (All-cons RunAscends r (take (more_count r rs) rs)
+    (spelled-length (fde_entry form spans keys place r (take (more_count r rs) rs))
+    (spelled_entries (fde_entries form spans keys n
+    (place + 8 + length (fde_body form place spans r (take (more_count r rs) rs))) (drop (more_count r rs) rs))))
+    (body-size form place spans r (take (more_count r rs) rs) (All-cons RunAscends r (take (more_count r rs) rs)
     (All-head RunAscends r rs ascend) (All-take RunAscends (more_count r rs) rs (All-tail RunAscends r rs ascend)))) (length-split (more_count r rs) rs) (total-split (more_count r rs) rs)
-    (fdes-size debug spans keys n (place + 8 + length (fde_body spans r (take (more_count r rs) rs)))
+    (fdes-size form spans keys n (place + 8 + length (fde_body form place spans r (take (more_count r rs) rs)))
     (drop (more_count r rs) rs) (All-drop RunAscends (more_count r rs) rs (All-tail RunAscends r rs ascend))) (total-cons r rs) where
       sums : (t b rest s taken left count both front back u : ℕ) → t ≡ 8 + b + rest → 8 + b + 8 * suc taken ≤ s + front
           → count ≡ taken + left → both ≡ front + back → rest + 8 * left ≤ back

@@ -13,14 +13,16 @@ use Rattle.cfi_rows.specs.Entries.{RawEntry}
 use Rattle.cfi_rows.specs.FrameRows.{Rules}
 use Rattle.cfi_rows.specs.RuleEntries.{Ascend}
 use Rattle.frame_rewrite.specs.declared.cie_key.CieKey.{CieKey}
+use Rattle.frame_rewrite.specs.declared.form.Form.{Form}
 use Rattle.frame_rewrite.specs.FrameAnswers.{FrameAnswer}
 use Rattle.frame_rewrite.specs.SpelledFits.{RuleFits, RulesFit, RunAscends, Writes, WritesAll, EndFits, IsAbove, IsSpelled}
 use Rattle.frame_rewrite.specs.SpelledFrames.{spelled_entry, spelled_entries, cie_entry, cie_entries, fde_entry, fde_entries, fde_body}
-use Rattle.frame_rewrite.specs.SpelledFrames.{more_count, start_of, last_end, cie_size, cie_body, end_mark}
+use Rattle.frame_rewrite.specs.SpelledFrames.{is_debug, more_count, start_of, last_end, cie_size, cie_body, end_mark}
 use Rattle.frame_rewrite.proofs.Appends.{past-end, new-length}
 use Rattle.frame_rewrite.proofs.EntriesBack.{spelled-length}
 use Rattle.frame_rewrite.proofs.RunGroups.{within-take, within-drop, within-low, le-last, ends-fit}
-use Rattle.frame_rewrite.proofs.TableBack.{Before, cie-length}
+use Rattle.frame_rewrite.proofs.CieBack.{cie-length}
+use Rattle.frame_rewrite.proofs.TableBack.{Before}
 
 abbrev Runs : Type 0
 Runs = List (Run FrameAnswer)
@@ -54,102 +56,102 @@ pub cies-long : (debug : Bool) (i : ℕ) (ks : List CieKey)
     → length (spelled_entries (cie_entries debug i ks)) ≡ cie_size * length ks
 cies-long debug i [] = refl
 cies-long debug i (k ∷ ks) =
-    sums _ (length (cie_body k)) (length (spelled_entries (cie_entries debug (i + 1) ks))) (length ks)
-    (spelled-length (cie_entry debug i k) (spelled_entries (cie_entries debug (i + 1) ks))) (cie-length k)
+    sums _ (length (cie_body debug k)) (length (spelled_entries (cie_entries debug (i + 1) ks))) (length ks)
+    (spelled-length (cie_entry debug i k) (spelled_entries (cie_entries debug (i + 1) ks))) (cie-length debug k)
     (cies-long debug (i + 1) ks) where
       sums : (a b c n : ℕ) → a ≡ 8 + b + c → b ≡ 24 → c ≡ 32 * n → a ≡ 32 * suc n
       sums a b c n e f g = omega arith
 
 -- one group more
 
-abbrev spelled_from : (debug : Bool) → List Span → List CieKey → ℕ → ℕ → Runs → List ℕ
-spelled_from debug spans keys n place rs = spelled_entries (fde_entries debug spans keys n place rs)
+abbrev spelled_from : (form : Form) → List Span → List CieKey → ℕ → ℕ → Runs → List ℕ
+spelled_from form spans keys n place rs = spelled_entries (fde_entries form spans keys n place rs)
 
-entries-next : (debug : Bool) (spans : List Span) (keys : List CieKey) (n place : ℕ) (r : Run FrameAnswer) (rs : Runs)
-    → spelled_from debug spans keys (suc n) place (r ∷ rs)
-    ≡ spelled_entry (fde_entry debug spans keys place r (take (more_count r rs) rs))
-    ++ spelled_from debug spans keys n (place + 8 + length (fde_body spans r (take (more_count r rs) rs)))
+entries-next : (form : Form) (spans : List Span) (keys : List CieKey) (n place : ℕ) (r : Run FrameAnswer) (rs : Runs)
+    → spelled_from form spans keys (suc n) place (r ∷ rs)
+    ≡ spelled_entry (fde_entry form spans keys place r (take (more_count r rs) rs))
+    ++ spelled_from form spans keys n (place + 8 + length (fde_body form place spans r (take (more_count r rs) rs)))
     (drop (more_count r rs) rs)
 unfolding fde_entries
-entries-next debug spans keys n place r rs = refl
+entries-next form spans keys n place r rs = refl
 
-pub group-more : (debug : Bool) (spans : List Span) (keys : List CieKey) (n count : ℕ) (r : Run FrameAnswer)
+pub group-more : (form : Form) (spans : List Span) (keys : List CieKey) (n count : ℕ) (r : Run FrameAnswer)
     (rs rest : Runs) (o new want : List ℕ) → count < n → rest ≡ r ∷ rs
-    → new ≡ o ++ spelled_entry (fde_entry debug spans keys (length o) r (take (more_count r rs) rs))
-    → o ++ spelled_entries (fde_entries debug spans keys (n - count) (length o) rest) ≡ want
-    → new ++ spelled_entries (fde_entries debug spans keys (n - (count + 1)) (length new) (drop (more_count r rs) rs)) ≡ want
-group-more debug spans keys n count r rs rest o new want h is e w =
-    let l : length new ≡ length o + 8 + length (fde_body spans r (take (more_count r rs) rs)) = new-length o new
-    (fde_entry debug spans keys (length o) r (take (more_count r rs) rs)) e in
+    → new ≡ o ++ spelled_entry (fde_entry form spans keys (length o) r (take (more_count r rs) rs))
+    → o ++ spelled_entries (fde_entries form spans keys (n - count) (length o) rest) ≡ want
+    → new ++ spelled_entries (fde_entries form spans keys (n - (count + 1)) (length new) (drop (more_count r rs) rs)) ≡ want
+group-more form spans keys n count r rs rest o new want h is e w =
+    let l : length new ≡ length o + 8 + length (fde_body form (length o) spans r (take (more_count r rs) rs)) = new-length o new
+    (fde_entry form spans keys (length o) r (take (more_count r rs) rs)) e in
     let k : n - count ≡ suc (n - (count + 1)) = omega arith in
-    ap (λ (m : ℕ). new ++ spelled_from debug spans keys (n - (count + 1)) m (drop (more_count r rs) rs)) l
-    ∙ ap (λ (x : List ℕ). x ++ spelled_from debug spans keys (n - (count + 1))
-    (length o + 8 + length (fde_body spans r (take (more_count r rs) rs))) (drop (more_count r rs) rs)) e
-    ∙ append_assoc o (spelled_entry (fde_entry debug spans keys (length o) r (take (more_count r rs) rs)))
-    (spelled_from debug spans keys (n - (count + 1))
-    (length o + 8 + length (fde_body spans r (take (more_count r rs) rs))) (drop (more_count r rs) rs))
-    ∙ ap (λ (x : List ℕ). o ++ x) (sym (entries-next debug spans keys (n - (count + 1)) (length o) r rs))
-    ∙ ap (λ (m : ℕ). o ++ spelled_from debug spans keys m (length o) (r ∷ rs)) (sym k)
-    ∙ ap (λ (x : Runs). o ++ spelled_from debug spans keys (n - count) (length o) x) (sym is) ∙ w
+    ap (λ (m : ℕ). new ++ spelled_from form spans keys (n - (count + 1)) m (drop (more_count r rs) rs)) l
+    ∙ ap (λ (x : List ℕ). x ++ spelled_from form spans keys (n - (count + 1))
+    (length o + 8 + length (fde_body form (length o) spans r (take (more_count r rs) rs))) (drop (more_count r rs) rs)) e
+    ∙ append_assoc o (spelled_entry (fde_entry form spans keys (length o) r (take (more_count r rs) rs)))
+    (spelled_from form spans keys (n - (count + 1))
+    (length o + 8 + length (fde_body form (length o) spans r (take (more_count r rs) rs))) (drop (more_count r rs) rs))
+    ∙ ap (λ (x : List ℕ). o ++ x) (sym (entries-next form spans keys (n - (count + 1)) (length o) r rs))
+    ∙ ap (λ (m : ℕ). o ++ spelled_from form spans keys m (length o) (r ∷ rs)) (sym k)
+    ∙ ap (λ (x : Runs). o ++ spelled_from form spans keys (n - count) (length o) x) (sym is) ∙ w
 
-writes-next : (spans : List Span) (keys : List CieKey) (n place : ℕ) (r : Run FrameAnswer) (rs : Runs)
-    → Writes spans keys place r (take (more_count r rs) rs)
-    → WritesAll spans keys n (place + 8 + length (fde_body spans r (take (more_count r rs) rs)))
-    (drop (more_count r rs) rs) → WritesAll spans keys (suc n) place (r ∷ rs)
+writes-next : (form : Form) (spans : List Span) (keys : List CieKey) (n place : ℕ) (r : Run FrameAnswer) (rs : Runs)
+    → Writes form spans keys place r (take (more_count r rs) rs)
+    → WritesAll form spans keys n (place + 8 + length (fde_body form place spans r (take (more_count r rs) rs)))
+    (drop (more_count r rs) rs) → WritesAll form spans keys (suc n) place (r ∷ rs)
 unfolding WritesAll
-writes-next spans keys n place r rs w more = (w, more)
+writes-next form spans keys n place r rs w more = (w, more)
 
-pub writes-more : (debug : Bool) (spans : List Span) (keys : List CieKey) (n count : ℕ) (r : Run FrameAnswer)
+pub writes-more : (form : Form) (spans : List Span) (keys : List CieKey) (n count : ℕ) (r : Run FrameAnswer)
     (rs rest : Runs) (o new : List ℕ) (W : Type 0) → count < n → rest ≡ r ∷ rs
-    → new ≡ o ++ spelled_entry (fde_entry debug spans keys (length o) r (take (more_count r rs) rs))
-    → Writes spans keys (length o) r (take (more_count r rs) rs)
-    → (WritesAll spans keys (n - count) (length o) rest → W)
-    → WritesAll spans keys (n - (count + 1)) (length new) (drop (more_count r rs) rs) → W
-writes-more debug spans keys n count r rs rest o new W h is e w all more =
-    let l : length new ≡ length o + 8 + length (fde_body spans r (take (more_count r rs) rs)) = new-length o new
-    (fde_entry debug spans keys (length o) r (take (more_count r rs) rs)) e in
+    → new ≡ o ++ spelled_entry (fde_entry form spans keys (length o) r (take (more_count r rs) rs))
+    → Writes form spans keys (length o) r (take (more_count r rs) rs)
+    → (WritesAll form spans keys (n - count) (length o) rest → W)
+    → WritesAll form spans keys (n - (count + 1)) (length new) (drop (more_count r rs) rs) → W
+writes-more form spans keys n count r rs rest o new W h is e w all more =
+    let l : length new ≡ length o + 8 + length (fde_body form (length o) spans r (take (more_count r rs) rs)) = new-length o new
+    (fde_entry form spans keys (length o) r (take (more_count r rs) rs)) e in
     let k : n - count ≡ suc (n - (count + 1)) = omega arith in
-    all (subst (WritesAll spans keys (n - count) (length o)) (sym is)
-    (subst (λ (m : ℕ). WritesAll spans keys m (length o) (r ∷ rs)) (sym k)
-    (writes-next spans keys (n - (count + 1)) (length o) r rs w
-    (subst (λ (m : ℕ). WritesAll spans keys (n - (count + 1)) m (drop (more_count r rs) rs)) l more))))
+    all (subst (WritesAll form spans keys (n - count) (length o)) (sym is)
+    (subst (λ (m : ℕ). WritesAll form spans keys m (length o) (r ∷ rs)) (sym k)
+    (writes-next form spans keys (n - (count + 1)) (length o) r rs w
+    (subst (λ (m : ℕ). WritesAll form spans keys (n - (count + 1)) m (drop (more_count r rs) rs)) l more))))
 
-pub no-entries : (debug : Bool) (spans : List Span) (keys : List CieKey) (n place : ℕ) (rest : Runs) (o want : List ℕ)
+pub no-entries : (form : Form) (spans : List Span) (keys : List CieKey) (n place : ℕ) (rest : Runs) (o want : List ℕ)
     → rest ≡ []
-    → o ++ spelled_entries (fde_entries debug spans keys n place rest) ≡ want → o ≡ want
+    → o ++ spelled_entries (fde_entries form spans keys n place rest) ≡ want → o ≡ want
 unfolding fde_entries
-no-entries debug spans keys n place rest o want e w = sym (append-nil o)
-    ∙ ap (λ (x : Runs). o ++ spelled_from debug spans keys n place x) (sym e) ∙ w
+no-entries form spans keys n place rest o want e w = sym (append-nil o)
+    ∙ ap (λ (x : Runs). o ++ spelled_from form spans keys n place x) (sym e) ∙ w
 
-no-fuel : (debug : Bool) (spans : List Span) (keys : List CieKey) (place : ℕ) (rest : Runs)
-    → fde_entries debug spans keys 0 place rest ≡ []
+no-fuel : (form : Form) (spans : List Span) (keys : List CieKey) (place : ℕ) (rest : Runs)
+    → fde_entries form spans keys 0 place rest ≡ []
 unfolding fde_entries
-no-fuel debug spans keys place [] = refl
-no-fuel debug spans keys place (r ∷ rs) = refl
+no-fuel form spans keys place [] = refl
+no-fuel form spans keys place (r ∷ rs) = refl
 
-pub out-of-fuel : (debug : Bool) (spans : List Span) (keys : List CieKey) (n count place : ℕ) (rest : Runs)
+pub out-of-fuel : (form : Form) (spans : List Span) (keys : List CieKey) (n count place : ℕ) (rest : Runs)
     (o want : List ℕ) → n ≤ count
-    → o ++ spelled_entries (fde_entries debug spans keys (n - count) place rest) ≡ want → o ≡ want
-out-of-fuel debug spans keys n count place rest o want h w =
+    → o ++ spelled_entries (fde_entries form spans keys (n - count) place rest) ≡ want → o ≡ want
+out-of-fuel form spans keys n count place rest o want h w =
     let z : n - count ≡ 0 = omega arith in
-    sym (append-nil o) ∙ ap (λ (x : List RawEntry). o ++ spelled_entries x) (sym (no-fuel debug spans keys place rest))
-    ∙ ap (λ (m : ℕ). o ++ spelled_from debug spans keys m place rest) (sym z) ∙ w
+    sym (append-nil o) ∙ ap (λ (x : List RawEntry). o ++ spelled_entries x) (sym (no-fuel form spans keys place rest))
+    ∙ ap (λ (m : ℕ). o ++ spelled_from form spans keys m place rest) (sym z) ∙ w
 
-pub no-writes : (spans : List Span) (keys : List CieKey) (n place : ℕ) (rest : Runs) (W : Type 0) → rest ≡ []
-    → (WritesAll spans keys n place rest → W) → W
+pub no-writes : (form : Form) (spans : List Span) (keys : List CieKey) (n place : ℕ) (rest : Runs) (W : Type 0) → rest ≡ []
+    → (WritesAll form spans keys n place rest → W) → W
 unfolding WritesAll
-no-writes spans keys n place rest W e w = w (subst (WritesAll spans keys n place) (sym e) tt)
+no-writes form spans keys n place rest W e w = w (subst (WritesAll form spans keys n place) (sym e) tt)
 
-unfuelled : (spans : List Span) (keys : List CieKey) (place : ℕ) (rest : Runs) → WritesAll spans keys 0 place rest
+unfuelled : (form : Form) (spans : List Span) (keys : List CieKey) (place : ℕ) (rest : Runs) → WritesAll form spans keys 0 place rest
 unfolding WritesAll
-unfuelled spans keys place [] = tt
-unfuelled spans keys place (r ∷ rs) = tt
+unfuelled form spans keys place [] = tt
+unfuelled form spans keys place (r ∷ rs) = tt
 
-pub out-of-writes : (spans : List Span) (keys : List CieKey) (n count place : ℕ) (rest : Runs) (W : Type 0) → n ≤ count
-    → (WritesAll spans keys (n - count) place rest → W) → W
-out-of-writes spans keys n count place rest W h w =
+pub out-of-writes : (form : Form) (spans : List Span) (keys : List CieKey) (n count place : ℕ) (rest : Runs) (W : Type 0) → n ≤ count
+    → (WritesAll form spans keys (n - count) place rest → W) → W
+out-of-writes form spans keys n count place rest W h w =
     let z : n - count ≡ 0 = omega arith in
-    w (subst (λ (m : ℕ). WritesAll spans keys m place rest) (sym z) (unfuelled spans keys place rest))
+    w (subst (λ (m : ℕ). WritesAll form spans keys m place rest) (sym z) (unfuelled form spans keys place rest))
 
 pub longer : (out new : List ℕ) (n : ℕ) (e : RawEntry) → new ≡ out ++ spelled_entry e → n ≤ length out → n ≤ length new
 longer out new n e w h = let l : length new ≡ length out + 8 + length e.body = new-length out new e w in omega arith
@@ -208,19 +210,19 @@ pub cies-room : (debug : Bool) (ks : List CieKey) (a : List ℕ) → a ≡ spell
     → length a ≡ cie_size * length ks
 cies-room debug ks a e = ap length e ∙ cies-long debug 0 ks
 
-pub spelled-table : (debug : Bool) (spans : List Span) (keys : List CieKey) (runs : Runs) (a b c : List ℕ)
-    → a ≡ spelled_entries (cie_entries debug 0 keys)
-    → b ≡ a ++ spelled_entries (fde_entries debug spans keys (length runs) (length a) runs) → c ≡ b ++ end_mark debug
-    → WritesAll spans keys (length runs) (length a) runs → IsSpelled debug spans keys runs c
-spelled-table debug spans keys runs a b c e f g w =
-    let n : length a ≡ cie_size * length keys = cies-room debug keys a e in
+pub spelled-table : (form : Form) (spans : List Span) (keys : List CieKey) (runs : Runs) (a b c : List ℕ)
+    → a ≡ spelled_entries (cie_entries (is_debug form) 0 keys)
+    → b ≡ a ++ spelled_entries (fde_entries form spans keys (length runs) (length a) runs) → c ≡ b ++ end_mark (is_debug form)
+    → WritesAll form spans keys (length runs) (length a) runs → IsSpelled form spans keys runs c
+spelled-table form spans keys runs a b c e f g w =
+    let n : length a ≡ cie_size * length keys = cies-room (is_debug form) keys a e in
     record {
-      writes = subst (λ (m : ℕ). WritesAll spans keys (length runs) m runs) n w;
-      bytes_are = g ∙ ap (λ (l : List ℕ). l ++ end_mark debug)
-          (f ∙ ap (λ (m : ℕ). a ++ spelled_from debug spans keys (length runs) m runs) n
-          ∙ ap (λ (l : List ℕ). l ++ spelled_from debug spans keys (length runs) (cie_size * length keys) runs) e
-          ∙ sym (flat_map-append spelled_entry (cie_entries debug 0 keys)
-          (fde_entries debug spans keys (length runs) (cie_size * length keys) runs)));
+      writes = subst (λ (m : ℕ). WritesAll form spans keys (length runs) m runs) n w;
+      bytes_are = g ∙ ap (λ (l : List ℕ). l ++ end_mark (is_debug form))
+          (f ∙ ap (λ (m : ℕ). a ++ spelled_from form spans keys (length runs) m runs) n
+          ∙ ap (λ (l : List ℕ). l ++ spelled_from form spans keys (length runs) (cie_size * length keys) runs) e
+          ∙ sym (flat_map-append spelled_entry (cie_entries (is_debug form) 0 keys)
+          (fde_entries form spans keys (length runs) (cie_size * length keys) runs)));
     }
 
 -- runs are in order, from an address on

@@ -22,7 +22,7 @@ use Rattle.cfi_rows.specs.declared.row.Rule.TheVariants as rule
 use Rattle.cfi_rows.specs.declared.instruction.Instruction.{Instruction}
 use Rattle.cfi_rows.specs.declared.instruction.Instruction.TheVariants.{Advance, DefCfa, DefCfaOffset, SetRule, Restore}
 use Rattle.cfi_rows.specs.declared.instruction.Instruction.TheVariants.{RememberState, RestoreState, Nop}
-use Rattle.cfi_rows.specs.declared.encoding.Encoding.TheVariants.{Absptr}
+use Rattle.cfi_rows.specs.declared.encoding.Encoding.{Encoding}
 use Rattle.cfi_rows.specs.FrameRows.{RowValue, Rules, Known}
 use Rattle.cfi_rows.specs.FrameInstructions.{Read, Context, instruction_of, instruction_at, instructions_in, instructions_at}
 use Rattle.cfi_rows.specs.FrameInstructions.{advance, unsigned_offset, rule_by_unsigned}
@@ -38,9 +38,13 @@ bits-fit : (n : ℤ) → FitsSigned w64 n → up n < 2 ^ 64
 bits-fit (ℤ.pos n) f = omega (arith, f)
 bits-fit (negsuc n) f = omega arith
 
+-- how addresses are encoded, and the address at which an entry ends
+abbrev pub Ending : Type 0
+Ending = Encoding × ℕ
+
 -- what the writer's entries are read under
-abbrev pub plain : ℕ → Context
-plain end = record { code = 1; «data» = negsuc 0; encoding = Absptr; end = end }
+abbrev pub plain : Ending → Context
+plain end = record { code = 1; «data» = negsuc 0; encoding = end.0; end = end.1 }
 
 -- Offsets
 
@@ -63,7 +67,7 @@ twice : (n : ℤ) → neg_ℤ n *ℤ negsuc 0 ≡ n
 unfolding Rattle.std.proofs.Math.IntN.one
 twice n = *ℤ-negsuc (neg_ℤ n) 0 ∙ ap neg_ℤ (*ℤ-one (neg_ℤ n)) ∙ neg_ℤ-neg_ℤ n
 
-pub down-back : (end : ℕ) (n : ℤ) → FitsSigned w64 n → unsigned_offset (plain end) (down n) ≡ n
+pub down-back : (end : Ending) (n : ℤ) → FitsSigned w64 n → unsigned_offset (plain end) (down n) ≡ n
 down-back end n f =
     ap (λ (m : ℤ). int_wrap w64 (m *ℤ negsuc 0)) (to_z-of_z w64 (int_wrapping_neg w64 n) (down-wraps n f) ∙ down-is n f)
     ∙ int_wrap-mul_left w64 (neg_ℤ n) (negsuc 0)
@@ -76,7 +80,7 @@ opens c op xs rest = ap (λ (r : Read ℕ). and_then r (instruction_of c)) (byte
 abbrev set_read : ℕ → Rule → List ℕ → Read Instruction
 set_read r v rest = Ok (SetRule r v, rest)
 
-rule-back : (end r : ℕ) (v : Rule) (rest : List ℕ) → r < 2 ^ 64 → RuleFits v
+rule-back : (end : Ending) (r : ℕ) (v : Rule) (rest : List ℕ) → r < 2 ^ 64 → RuleFits v
     → instruction_at (plain end) (spelled_rule r v ++ rest) ≡ Ok (SetRule r v, rest)
 rule-back end r rule.Undefined rest h f = opens (plain end) 0x07 (uleb r) rest ∙ uleb-back r rest _ h
 rule-back end r rule.Same rest h f = opens (plain end) 0x08 (uleb r) rest ∙ uleb-back r rest _ h
@@ -124,7 +128,7 @@ rule-back end r (rule.ValExpr b) rest h f =
 abbrev cfa_read : Cfa → List ℕ → Read Instruction
 cfa_read v rest = Ok (DefCfa v, rest)
 
-cfa-back : (end : ℕ) (v : Cfa) (rest : List ℕ) → CfaFits v
+cfa-back : (end : Ending) (v : Cfa) (rest : List ℕ) → CfaFits v
     → instruction_at (plain end) (spelled_cfa v ++ rest) ≡ Ok (DefCfa v, rest)
 cfa-back end (Reg r n) rest f =
     opens (plain end) 0x0c (uleb r ++ uleb (up n)) rest ∙ ap (instruction_of (plain end) 0x0c)
@@ -136,7 +140,7 @@ cfa-back end (Expr b) rest f =
     (λ y more. cfa_read (Expr y) more)) (block-back b rest f)
 
 -- the offset alone
-offset-back : (end : ℕ) (n : ℤ) (rest : List ℕ) → FitsSigned w64 n
+offset-back : (end : Ending) (n : ℤ) (rest : List ℕ) → FitsSigned w64 n
     → instruction_at (plain end) (0x0e ∷ (uleb (up n) ++ rest)) ≡ Ok (DefCfaOffset n, rest)
 offset-back end n rest f =
     opens (plain end) 0x0e (uleb (up n)) rest ∙ uleb-back (up n) rest _ (up-fits n f)
@@ -145,7 +149,7 @@ offset-back end n rest f =
       the_offset m = Ok (DefCfaOffset m, rest)
 
 -- the location moves on
-advance-back : (end n : ℕ) (rest : List ℕ) → n < 2 ^ 32
+advance-back : (end : Ending) (n : ℕ) (rest : List ℕ) → n < 2 ^ 32
     → instruction_at (plain end) (spelled_advance n ++ rest) ≡ Ok (Advance n, rest)
 advance-back end n rest h = by (nat_lt n 64) (nat_lt n 256) (nat_lt n 65536) refl refl refl where
   moved : (m : ℕ) (left : List ℕ) → m ≡ n → advance (m * 1) left ≡ Ok (Advance n, left)
@@ -180,7 +184,7 @@ advance-back end n rest h = by (nat_lt n 64) (nat_lt n 256) (nat_lt n 65536) ref
 -- Sequences
 
 -- some bytes spell some instructions, whatever follows
-pub record Spells (end : ℕ) (bytes : List ℕ) (is : List Instruction) : Type 0 where
+pub record Spells (end : Ending) (bytes : List ℕ) (is : List Instruction) : Type 0 where
   pub reads : (n : ℕ) (rest : List ℕ) (more : List Instruction) → length (bytes ++ rest) ≤ n →
       ((m : ℕ) → length rest ≤ m → instructions_in (plain end) m rest ≡ Ok more) →
       instructions_in (plain end) n (bytes ++ rest) ≡ Ok (is ++ more)
@@ -200,10 +204,10 @@ unfolding instructions_in
 in-end c zero = refl
 in-end c (suc n) = refl
 
-spells-nothing : (end : ℕ) → Spells end [] []
+spells-nothing : (end : Ending) → Spells end [] []
 spells-nothing end = record { reads = λ n rest more h f. f n h }
 
-spells-one : (end : ℕ) (bytes : List ℕ) (i : Instruction) → 0 < length bytes →
+spells-one : (end : Ending) (bytes : List ℕ) (i : Instruction) → 0 < length bytes →
     ((rest : List ℕ) → instruction_at (plain end) (bytes ++ rest) ≡ Ok (i, rest)) → Spells end bytes (i ∷ [])
 spells-one end bytes i l e = record {
   reads = λ n rest more h f.
@@ -220,7 +224,7 @@ spells-one end bytes i l e = record {
   fewer : (x y z n : ℕ) → x ≡ y + z → 0 < y → x ≤ n → z ≤ n - 1
   fewer x y z n s l h = omega arith
 
-spells-both : (end : ℕ) (xs ys : List ℕ) (is js : List Instruction) → Spells end xs is → Spells end ys js
+spells-both : (end : Ending) (xs ys : List ℕ) (is js : List Instruction) → Spells end xs is → Spells end ys js
     → Spells end (xs ++ ys) (is ++ js)
 spells-both end xs ys is js a b = record {
   reads = λ n rest more h f.
@@ -288,7 +292,7 @@ abbrev pub nops : ℕ → List Instruction
 nops zero = []
 nops (suc n) = Nop ∷ nops n
 
-spells-rules : (end least : ℕ) (rules : Rules) → RulesFit least rules → Spells end (spelled_rules rules) (rule_list rules)
+spells-rules : (end : Ending) (least : ℕ) (rules : Rules) → RulesFit least rules → Spells end (spelled_rules rules) (rule_list rules)
 spells-rules end least [] f = spells-nothing end
 spells-rules end least (x ∷ xs) f =
     spells-both end (spelled_rule x.0 x.1) (spelled_rules xs) (SetRule x.0 x.1 ∷ []) (rule_list xs)
@@ -296,13 +300,13 @@ spells-rules end least (x ∷ xs) f =
     (λ rest. rule-back end x.0 x.1 rest f.1 f.2))
     (spells-rules end (x.0 + 1) xs f.3)
 
-remembers : (end : ℕ) → Spells end (0x0a ∷ []) (RememberState ∷ [])
+remembers : (end : Ending) → Spells end (0x0a ∷ []) (RememberState ∷ [])
 remembers end = spells-one end (0x0a ∷ []) RememberState (omega arith) (λ rest. opens (plain end) 0x0a [] rest)
 
-restores : (end : ℕ) → Spells end (0x0b ∷ []) (RestoreState ∷ [])
+restores : (end : Ending) → Spells end (0x0b ∷ []) (RestoreState ∷ [])
 restores end = spells-one end (0x0b ∷ []) RestoreState (omega arith) (λ rest. opens (plain end) 0x0b [] rest)
 
-spells-cfa : (end : ℕ) (o : Option Cfa) (v : Cfa) → CfaFits v → Spells end (spelled_cfa_from o v) (cfa_list o v)
+spells-cfa : (end : Ending) (o : Option Cfa) (v : Cfa) → CfaFits v → Spells end (spelled_cfa_from o v) (cfa_list o v)
 spells-cfa end o v f = by o v f where
   whole : (v : Cfa) → CfaFits v → Spells end (spelled_cfa v) (DefCfa v ∷ [])
   whole v f = spells-one end (spelled_cfa v) (DefCfa v) (cfa_length v) (λ rest. cfa-back end v rest f)
@@ -321,13 +325,13 @@ spells-cfa end o v f = by o v f where
   by (Some (Reg q m)) (Reg r n) f = from r n (q == r) (int_eq m n) f
 
 -- the short form of DW_CFA_restore has the register in its opcode
-restore-back : (end r : ℕ) (rest : List ℕ) → r < 64 → instruction_of (plain end) (192 + r) rest ≡ Ok (Restore r, rest)
+restore-back : (end : Ending) (r : ℕ) (rest : List ℕ) → r < 64 → instruction_of (plain end) (192 + r) rest ≡ Ok (Restore r, rest)
 restore-back end r rest h =
     let kind : (192 + r) / 64 ≡ 3 = omega arith in
     let low : (192 + r) % 64 ≡ r = omega arith in
     rw (kind, low) refl
 
-spells-restores : (end : ℕ) (rules : Rules) → are_low rules ≡ true → Spells end (spelled_restores rules) (restore_list rules)
+spells-restores : (end : Ending) (rules : Rules) → are_low rules ≡ true → Spells end (spelled_restores rules) (restore_list rules)
 spells-restores end [] low = spells-nothing end
 spells-restores end (x ∷ xs) low =
     let both = and_parts (nat_lt x.0 32) (are_low xs) low in
@@ -337,7 +341,7 @@ spells-restores end (x ∷ xs) low =
     (λ rest. opens (plain end) (192 + x.0) [] rest ∙ restore-back end x.0 rest (omega arith)))
     (spells-restores end xs both.1)
 
-spells-change : (end : ℕ) (known : Known) (row : RowValue) → are_low (gone_rules known.rules row.rules) ≡ true → RowFits row
+spells-change : (end : Ending) (known : Known) (row : RowValue) → are_low (gone_rules known.rules row.rules) ≡ true → RowFits row
     → RulesFit 0 (other_rules known.rules row.rules) → Spells end (spelled_change known row) (change_list known row)
 spells-change end known row low f g =
     spells-both end (spelled_cfa_from known.cfa row.cfa)
@@ -350,7 +354,7 @@ spells-change end known row low f g =
     (spells-restores end (gone_rules known.rules row.rules) low)
     (spells-rules end 0 (other_rules known.rules row.rules) g))
 
-spells-advance : (end n : ℕ) → n < 2 ^ 32 → Spells end (spelled_advance n) (Advance n ∷ [])
+spells-advance : (end : Ending) (n : ℕ) → n < 2 ^ 32 → Spells end (spelled_advance n) (Advance n ∷ [])
 spells-advance end n h = spells-one end (spelled_advance n) (Advance n) (advance_length n) (λ rest. advance-back end n rest h)
 
 chosen-low : (P : ℕ × Rule → Bool) (xs : Rules) → are_low xs ≡ true → are_low (filter P xs) ≡ true
@@ -372,7 +376,7 @@ chosen-fit P lo low (x ∷ xs) l f =
       by true e h kept more = rw e (h, f.1, f.2, kept)
       by false e h kept more = rw e more
 
-spells-before : (end : ℕ) (known : Known) (row : RowValue) (n : ℕ) → n < 2 ^ 32
+spells-before : (end : Ending) (known : Known) (row : RowValue) (n : ℕ) → n < 2 ^ 32
     → Spells end (spelled_change known row) (change_list known row)
     → Spells end (spelled_row_before known row n) (before_list known row n)
 spells-before end known row n h change = by (are_low row.rules) where
@@ -395,7 +399,7 @@ known-low known row low = by (are_low row.rules) refl where
   by true e = e
   by false e = low
 
-spells-rows : (end : ℕ) (known : Known) (at : ℕ) (row : RowValue) (more : List (Run FrameAnswer))
+spells-rows : (end : Ending) (known : Known) (at : ℕ) (row : RowValue) (more : List (Run FrameAnswer))
     → are_low known.rules ≡ true → RowFits row → Near at more → All (λ (r : Run FrameAnswer). RowFits r.answer.row) more
     → Spells end (spelled_rows known at row more) (program known at row more)
 spells-rows end known at row [] low f h g =
@@ -410,14 +414,14 @@ spells-rows end known at row (r ∷ rs) low f h g =
     (All-head (λ (r : Run FrameAnswer). RowFits r.answer.row) r rs g) h.1
     (All-tail (λ (r : Run FrameAnswer). RowFits r.answer.row) r rs g))
 
-pub nops-in : (end k n : ℕ) → k ≤ n → instructions_in (plain end) n (zeros k) ≡ Ok (nops k)
+pub nops-in : (end : Ending) (k n : ℕ) → k ≤ n → instructions_in (plain end) n (zeros k) ≡ Ok (nops k)
 nops-in end zero n h = in-end (plain end) n
 nops-in end (suc k) n h =
     in-step (plain end) n (0 ∷ zeros k) (zeros k) Nop (nops k) (opens (plain end) 0 [] (zeros k)) (omega arith)
     (omega arith) (nops-in end k (n - 1) (omega arith))
 
 -- a frame address alone
-pub cfa-alone : (end : ℕ) (v : Cfa) → CfaFits v → instructions_at (plain end) (spelled_cfa v) ≡ Ok (DefCfa v ∷ [])
+pub cfa-alone : (end : Ending) (v : Cfa) → CfaFits v → instructions_at (plain end) (spelled_cfa v) ≡ Ok (DefCfa v ∷ [])
 cfa-alone end v f =
     subst (λ (l : List ℕ). instructions_in (plain end) (length (spelled_cfa v)) l ≡ Ok (DefCfa v ∷ []))
     (append-nil (spelled_cfa v))
@@ -426,14 +430,14 @@ cfa-alone end v f =
       long xs = let e = length-append xs [] in omega arith
 
 -- and nops behind it
-pub cfa-nops : (end k : ℕ) (v : Cfa) → CfaFits v
+pub cfa-nops : (end : Ending) (k : ℕ) (v : Cfa) → CfaFits v
     → instructions_at (plain end) (spelled_cfa v ++ zeros k) ≡ Ok (DefCfa v ∷ nops k)
 cfa-nops end k v f =
     (spells-cfa end None v f).reads (length (spelled_cfa v ++ zeros k)) (zeros k) (nops k)
     (omega arith) (λ m l. nops-in end k m (let e : length (zeros k) ≡ k = length-zeros k in omega arith))
 
 -- all instructions of an entry
-pub program-back : (end k : ℕ) (known : Known) (at : ℕ) (row : RowValue) (more : List (Run FrameAnswer))
+pub program-back : (end : Ending) (k : ℕ) (known : Known) (at : ℕ) (row : RowValue) (more : List (Run FrameAnswer))
     → are_low known.rules ≡ true → RowFits row → Near at more → All (λ (r : Run FrameAnswer). RowFits r.answer.row) more
     → instructions_at (plain end) (spelled_rows known at row more ++ zeros k) ≡ Ok (program known at row more ++ nops k)
 program-back end k known at row more low f h g =

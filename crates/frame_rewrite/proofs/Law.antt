@@ -11,47 +11,49 @@ use Rattle.frame_rewrite.specs.CarriedFrames.{IsCarriedFrame}
 use Rattle.frame_rewrite.specs.Faults.{IsFrameFault}
 use Rattle.frame_rewrite.specs.FrameAnswers.{FrameAnswer, answer_at}
 use Rattle.frame_rewrite.specs.declared.cie_key.CieKey.{CieKey}
+use Rattle.frame_rewrite.specs.declared.form.Form.{Form}
 use Rattle.frame_rewrite.specs.SpelledFits.{KeyFits, IsReached, IsSpelled}
-use Rattle.frame_rewrite.specs.SpelledFrames.{cie_size}
+use Rattle.frame_rewrite.specs.SpelledFrames.{is_debug, cie_size}
 use Rattle.frame_rewrite.specs.Tables.{answers}
 use Rattle.frame_rewrite.proofs.AnswersBack.{none-made, some-made, reached-before}
+use Rattle.frame_rewrite.proofs.FdeBack.{IsAt}
 use Rattle.frame_rewrite.proofs.TableBack.{made, frames-back}
 
 abbrev Runs : Type 0
 Runs = List (Run FrameAnswer)
 
 -- at every address
-made-agrees : (is_marked : Fde → Bool) (spans : List Span) (place hi : ℕ) (runs : Runs) (p : ℕ) → IsWithin 0 runs hi
+made-agrees : (form : Form) (is_marked : Fde → Bool) (spans : List Span) (place hi : ℕ) (runs : Runs) (p : ℕ) → IsWithin 0 runs hi
     → All (IsReached spans runs) runs
-    → Agree (IsCarriedFrame spans) (run_at runs p) (answer_at is_marked (made spans (length runs) place runs) p)
-made-agrees is_marked spans place hi runs p w r = one (run_at runs p) refl where
+    → Agree (IsCarriedFrame spans) (run_at runs p) (answer_at is_marked (made form spans (length runs) place runs) p)
+made-agrees form is_marked spans place hi runs p w r = one (run_at runs p) refl where
   full : (n : ℕ) → n ≤ n
   full n = omega arith
 
   one : (o : Option FrameAnswer) → run_at runs p ≡ o
-      → Agree (IsCarriedFrame spans) (run_at runs p) (answer_at is_marked (made spans (length runs) place runs) p)
+      → Agree (IsCarriedFrame spans) (run_at runs p) (answer_at is_marked (made form spans (length runs) place runs) p)
   one None e =
       subst (λ (x : Option FrameAnswer). Agree (IsCarriedFrame spans) x
-      (answer_at is_marked (made spans (length runs) place runs) p)) (sym e)
-      (subst (Agree (IsCarriedFrame spans) None) (sym (none-made is_marked spans runs (length runs) place runs p r e)) tt)
+      (answer_at is_marked (made form spans (length runs) place runs) p)) (sym e)
+      (subst (Agree (IsCarriedFrame spans) None) (sym (none-made form is_marked spans runs (length runs) place runs p r e)) tt)
   one (Some a) e =
       subst (λ (x : Option FrameAnswer). Agree (IsCarriedFrame spans) x
-      (answer_at is_marked (made spans (length runs) place runs) p)) (sym e)
-      (some-made is_marked spans (length runs) place 0 hi runs p a (full (length runs)) w
+      (answer_at is_marked (made form spans (length runs) place runs) p)) (sym e)
+      (some-made form is_marked spans (length runs) place 0 hi runs p a (full (length runs)) w
       (reached-before spans runs runs r) e)
 
--- what is read of a written table, wherever it stands
-pub reads-as : (debug : Bool) (spans : List Span) (keys : List CieKey) (runs : Runs) (bytes : List ℕ) (address : ℕ)
-    → All KeyFits keys → IsWithin 0 runs (2 ^ 64 - 1)
-    → All (IsReached spans runs) runs → IsSpelled debug spans keys runs bytes
-    → frames debug address bytes ≡ record {
+-- what is read of a written table where it was written for
+pub reads-as : (form : Form) (spans : List Span) (keys : List CieKey) (runs : Runs) (bytes : List ℕ) (address : ℕ)
+    → All KeyFits keys → IsAt form address → IsWithin 0 runs (2 ^ 64 - 1)
+    → All (IsReached spans runs) runs → IsSpelled form spans keys runs bytes
+    → frames (is_debug form) address bytes ≡ record {
       cies = length keys;
-      list = made spans (length runs) (cie_size * length keys) runs;
+      list = made form spans (length runs) (cie_size * length keys) runs;
       bad = None;
     }
-reads-as debug spans keys runs bytes address f w r s =
-    ap (frames debug address) s.bytes_are
-    ∙ frames-back debug address keys spans 0 (2 ^ 64 - 1) runs f s.writes (omega arith) w (reached-before spans runs runs r)
+reads-as form spans keys runs bytes address f here w r s =
+    ap (frames (is_debug form) address) s.bytes_are
+    ∙ frames-back form address keys spans 0 (2 ^ 64 - 1) runs f here s.writes (omega arith) w (reached-before spans runs runs r)
 
 free : (t : Frames) → t.bad ≡ None → IsFree (IsFrameFault t)
 free t e kind place f = none t.bad e f.1 where
@@ -64,17 +66,17 @@ carried-by : (is_marked : Fde → Bool) (spans : List Span) (wanted : ℕ → Op
     → IsCarried (IsCarriedFrame spans) spans wanted (answers is_marked t)
 carried-by is_marked spans wanted t e f = rw e (λ p owned. f p)
 
-pub law : (debug : Bool) (is_marked : Fde → Bool) (spans : List Span) (keys : List CieKey) (runs : Runs) (bytes : List ℕ)
-    (address : ℕ) → All KeyFits keys
-    → IsWithin 0 runs (2 ^ 64 - 1) → All (IsReached spans runs) runs → IsSpelled debug spans keys runs bytes
-    → IsCarried (IsCarriedFrame spans) spans (run_at runs) (answers is_marked (frames debug address bytes))
-    × IsFree (IsFrameFault (frames debug address bytes))
-law debug is_marked spans keys runs bytes address f w r s =
-    let read = reads-as debug spans keys runs bytes address f w r s in
-    let sound : (frames debug address bytes).bad ≡ None = ap (λ (t : Frames). t.bad) read in
+pub law : (form : Form) (is_marked : Fde → Bool) (spans : List Span) (keys : List CieKey) (runs : Runs) (bytes : List ℕ)
+    (address : ℕ) → All KeyFits keys → IsAt form address
+    → IsWithin 0 runs (2 ^ 64 - 1) → All (IsReached spans runs) runs → IsSpelled form spans keys runs bytes
+    → IsCarried (IsCarriedFrame spans) spans (run_at runs) (answers is_marked (frames (is_debug form) address bytes))
+    × IsFree (IsFrameFault (frames (is_debug form) address bytes))
+law form is_marked spans keys runs bytes address f here w r s =
+    let read = reads-as form spans keys runs bytes address f here w r s in
+    let sound : (frames (is_debug form) address bytes).bad ≡ None = ap (λ (t : Frames). t.bad) read in
     let list = ap (λ (t : Frames). t.list) read in (
-      carried-by is_marked spans (run_at runs) (frames debug address bytes) sound
+      carried-by is_marked spans (run_at runs) (frames (is_debug form) address bytes) sound
           (λ p. subst (λ (l : List Fde). Agree (IsCarriedFrame spans) (run_at runs p) (answer_at is_marked l p)) (sym list)
-          (made-agrees is_marked spans (cie_size * length keys) (2 ^ 64 - 1) runs p w r)),
-      free (frames debug address bytes) sound,
+          (made-agrees form is_marked spans (cie_size * length keys) (2 ^ 64 - 1) runs p w r)),
+      free (frames (is_debug form) address bytes) sound,
     )

@@ -14,16 +14,16 @@ use Rattle.cfi_rows.specs.declared.instruction.Malformed.{Malformed}
 use Rattle.cfi_rows.specs.FrameInstructions.{whole, Read, uleb_then, sleb_then, block_at}
 use Rattle.frame_rewrite.specs.SpelledFrames.{spelled_block, zeros}
 
-drop-front : (xs ys : List ℕ) (n : ℕ) → n ≡ length xs → drop n (xs ++ ys) ≡ ys
+pub drop-front : (xs ys : List ℕ) (n : ℕ) → n ≡ length xs → drop n (xs ++ ys) ≡ ys
 drop-front xs ys n e = grind (arith, common_steps)
 
-take-front : (xs ys : List ℕ) (n : ℕ) → n ≡ length xs → take n (xs ++ ys) ≡ xs
+pub take-front : (xs ys : List ℕ) (n : ℕ) → n ≡ length xs → take n (xs ++ ys) ≡ xs
 take-front xs ys n e = grind (arith, common_steps)
 
 pub length-little : (n d : ℕ) → length (little_bytes n d) ≡ n
 length-little n d = length-bytes_low_first 0 n d
 
-read_pair : {X : Type 0} (a b : X) (r t : List ℕ) → a ≡ b → r ≡ t
+pub read_pair : {X : Type 0} (a b : X) (r t : List ℕ) → a ≡ b → r ≡ t
     → ◌≡◌ {A = Result (X × List ℕ) Malformed} (Ok (a, r)) (Ok (b, t))
 read_pair a b r t e f = cc
 

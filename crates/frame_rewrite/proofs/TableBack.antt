@@ -1,7 +1,7 @@
 -- The entries of a table that is written are read back.
 use Rattle.std.proofs.Common.{ℕ, zero, suc, zero-add, ◌+◌, ◌-◌, ◌*◌, ◌^◌, ◌≤◌, ◌<◌, ◌≡◌, ◌==◌, List, [], ◌∷◌, ◌++◌, Option, Some, None}
 use Rattle.std.proofs.Common.{Result, Ok, leb, Bool, true, false, refl, sym, ◌∙◌, ap, subst, arith, length, take, drop}
-use Rattle.std.specs.Prelude.{All, slice_get, if◌then◌else◌}
+use Rattle.std.specs.Prelude.{All, slice_get}
 use Rattle.std.specs.List.{find}
 use Rattle.std.proofs.lemmas.Bool.Decides.{nat_tests}
 use Rattle.std.proofs.lemmas.List.Elements.{All-head, All-tail, All-drop}
@@ -14,40 +14,29 @@ use Rattle.cfi_rows.specs.declared.instruction.Malformed.{Malformed}
 use Rattle.cfi_rows.specs.Entries.{RawEntry, Cie, Fde, is_cie, cie_id, cie_place, is_named, cie_in, cie_at, fde_at, end_of, sound_if}
 use Rattle.cfi_rows.specs.Entries.{frames_from, frames, WalkedEntries}
 use Rattle.frame_rewrite.specs.declared.cie_key.CieKey.{CieKey}
+use Rattle.frame_rewrite.specs.declared.form.Form.{Form}
 use Rattle.frame_rewrite.specs.FrameAnswers.{FrameAnswer}
 use Rattle.frame_rewrite.specs.SpelledFits.{KeyFits, Writes, WritesAll}
-use Rattle.frame_rewrite.specs.SpelledFrames.{key_of, is_plain, plain_body, full_body, cie_body, cie_text, cie_code, cie_size, cie_entry, cie_entries, fde_body}
+use Rattle.frame_rewrite.specs.SpelledFrames.{is_debug, key_of, cie_body, cie_size, cie_entry, cie_entries, fde_body}
 use Rattle.frame_rewrite.specs.SpelledFrames.{fde_id, fde_entry, fde_entries, table_entries}
-use Rattle.frame_rewrite.specs.SpelledFrames.{spelled_entries, end_mark, start_of, last_end, more_count, key_index, handler_encoding}
+use Rattle.frame_rewrite.specs.SpelledFrames.{spelled_entries, end_mark, start_of, last_end, more_count, key_index}
 use Rattle.frame_rewrite.proofs.EntriesBack.{EntryFits, AreFrom, walked-back}
-use Rattle.frame_rewrite.proofs.CieBack.{cie_of, cie-back}
-use Rattle.frame_rewrite.proofs.FdeBack.{fde_of, fde-back}
+use Rattle.frame_rewrite.proofs.CieBack.{cie_of, cie-back, cie-length}
+use Rattle.frame_rewrite.proofs.FdeBack.{IsAt, fde_of, fde-back}
 use Rattle.frame_rewrite.proofs.RunGroups.{within-take, within-drop, last-le, le-last, follow}
-use Rattle.byteorder.specs.Endian.{little_bytes}
 
 abbrev Runs : Type 0
 Runs = List (Run FrameAnswer)
 
 -- The entries follow one another.
 
-pub cie-length : (k : CieKey) → length (cie_body k) ≡ 24
-cie-length k = by (is_plain k) where
-  sized : (signal : Bool) → length (1 ∷ (cie_text signal ++ (1 ∷ 0x7f ∷ k.ra ∷ 11 ∷ 0 ∷ handler_encoding k.indirect
-      ∷ (little_bytes 8 k.handler ++ (0 ∷ cie_code signal))))) ≡ 24
-  sized true = refl
-  sized false = refl
-
-  by : (b : Bool) → length (if b then plain_body k.ra else full_body k) ≡ 24
-  by true = refl
-  by false = sized k.signal
-
 cie-id-fits : (debug : Bool) → cie_id debug < 2 ^ 32
 cie-id-fits true = omega arith
 cie-id-fits false = omega arith
 
 cie-fits : (debug : Bool) (i : ℕ) (k : CieKey) → EntryFits (cie_entry debug i k)
-cie-fits debug i k = let l : length (cie_body k) ≡ 24 = cie-length k in record
-    { id = cie-id-fits debug; size = small (length (cie_body k)) l } where
+cie-fits debug i k = let l : length (cie_body debug k) ≡ 24 = cie-length debug k in record
+    { id = cie-id-fits debug; size = small (length (cie_body debug k)) l } where
       small : (n : ℕ) → n ≡ 24 → n + 4 < 0xffffffff
       small n e = omega arith
 
@@ -56,12 +45,12 @@ cies-from : (debug : Bool) (i place : ℕ) (ks : List CieKey) (es : List RawEntr
     → AreFrom (cie_size * (i + length ks)) es → AreFrom place (cie_entries debug i ks ++ es)
 cies-from debug i place [] es e a = let z : cie_size * (i + 0) ≡ place = omega arith in subst (λ (p : ℕ). AreFrom p es) z a
 cies-from debug i place (k ∷ ks) es e a =
-    let l : length (cie_body k) ≡ 24 = cie-length k in
+    let l : length (cie_body debug k) ≡ 24 = cie-length debug k in
     let n : cie_size * (i + suc (length ks)) ≡ cie_size * (i + 1 + length ks) = omega arith in (
       sym e,
       cie-fits debug i k,
-      cies-from debug (i + 1) (place + 8 + length (cie_body k)) ks es
-          (next place i (length (cie_body k)) e l) (subst (λ (p : ℕ). AreFrom p es) n a),
+      cies-from debug (i + 1) (place + 8 + length (cie_body debug k)) ks es
+          (next place i (length (cie_body debug k)) e l) (subst (λ (p : ℕ). AreFrom p es) n a),
     ) where
       next : (place i n : ℕ) → place ≡ 32 * i → n ≡ 24 → place + 8 + n ≡ 32 * (i + 1)
       next place i n e l = omega arith
@@ -74,31 +63,31 @@ fde-id-fits false place i n h l f = omega arith
 further : (a place n : ℕ) → a ≤ place → a ≤ place + 8 + n
 further a place n h = omega arith
 
-fdes-from : (debug : Bool) (spans : List Span) (keys : List CieKey) (n place : ℕ) (rs : Runs)
-    → cie_size * length keys ≤ place → WritesAll spans keys n place rs
-    → AreFrom place (fde_entries debug spans keys n place rs)
+fdes-from : (form : Form) (spans : List Span) (keys : List CieKey) (n place : ℕ) (rs : Runs)
+    → cie_size * length keys ≤ place → WritesAll form spans keys n place rs
+    → AreFrom place (fde_entries form spans keys n place rs)
 unfolding fde_entries WritesAll
-fdes-from debug spans keys n place [] h w = tt
-fdes-from debug spans keys zero place (r ∷ rs) h w = tt
-fdes-from debug spans keys (suc n) place (r ∷ rs) h w = (
+fdes-from form spans keys n place [] h w = tt
+fdes-from form spans keys zero place (r ∷ rs) h w = tt
+fdes-from form spans keys (suc n) place (r ∷ rs) h w = (
   refl,
   record {
-    id = fde-id-fits debug place (key_index spans keys r) (length keys)
+    id = fde-id-fits (is_debug form) place (key_index spans keys r) (length keys)
         (slice_get_within keys (key_index spans keys r) (key_of spans r.answer) w.0.key) h w.0.low;
     size = w.0.size;
   },
-  fdes-from debug spans keys n (place + 8 + length (fde_body spans r (take (more_count r rs) rs)))
+  fdes-from form spans keys n (place + 8 + length (fde_body form place spans r (take (more_count r rs) rs)))
       (drop (more_count r rs) rs) (further _ place _ h) w.1,
 )
 
-pub table-from : (debug : Bool) (spans : List Span) (keys : List CieKey) (rs : Runs)
-    → WritesAll spans keys (length rs) (cie_size * length keys) rs → AreFrom 0 (table_entries debug spans keys rs)
-table-from debug spans keys rs w =
+pub table-from : (form : Form) (spans : List Span) (keys : List CieKey) (rs : Runs)
+    → WritesAll form spans keys (length rs) (cie_size * length keys) rs → AreFrom 0 (table_entries form spans keys rs)
+table-from form spans keys rs w =
     let z : 0 + length keys ≡ length keys = omega arith in
-    let es : List RawEntry = fde_entries debug spans keys (length rs) (cie_size * length keys) rs in
-    cies-from debug 0 0 keys es refl
-    (subst (λ (n : ℕ). AreFrom (cie_size * n) (fde_entries debug spans keys (length rs) (cie_size * length keys) rs))
-    (sym z) (fdes-from debug spans keys (length rs) (cie_size * length keys) rs (omega arith) w))
+    let es : List RawEntry = fde_entries form spans keys (length rs) (cie_size * length keys) rs in
+    cies-from (is_debug form) 0 0 keys es refl
+    (subst (λ (n : ℕ). AreFrom (cie_size * n) (fde_entries form spans keys (length rs) (cie_size * length keys) rs))
+    (sym z) (fdes-from form spans keys (length rs) (cie_size * length keys) rs (omega arith) w))
 
 -- Each FDE finds its CIE.
 
@@ -158,43 +147,43 @@ key-fits (y ∷ ys) (suc i) k f e = key-fits ys i k (All-tail KeyFits y ys f) e
 
 -- What is read.
 
-unfoldable pub made : List Span → ℕ → ℕ → Runs → List Fde
-made spans n place [] = []
-made spans zero place (r ∷ rs) = []
-made spans (suc n) place (r ∷ rs) =
-    fde_of spans (key_of spans r.answer) place r (take (more_count r rs) rs)
-    ∷ made spans n (place + 8 + length (fde_body spans r (take (more_count r rs) rs))) (drop (more_count r rs) rs)
+unfoldable pub made : Form → List Span → ℕ → ℕ → Runs → List Fde
+made form spans n place [] = []
+made form spans zero place (r ∷ rs) = []
+made form spans (suc n) place (r ∷ rs) =
+    fde_of form spans (key_of spans r.answer) place r (take (more_count r rs) rs)
+    ∷ made form spans n (place + 8 + length (fde_body form place spans r (take (more_count r rs) rs))) (drop (more_count r rs) rs)
 
 abbrev pub Before : List Span → Run FrameAnswer → Type 0
 Before spans r = start_of spans r ≤ r.start
 
-fde-found : (debug : Bool) (address : ℕ) (all : List RawEntry) (keys : List CieKey) (spans : List Span) (place lo hi : ℕ)
+fde-found : (form : Form) (address : ℕ) (all : List RawEntry) (keys : List CieKey) (spans : List Span) (place lo hi : ℕ)
     (r : Run FrameAnswer) (more : Runs)
     → ((i : ℕ) (k : CieKey) → slice_get keys i ≡ Some k
-    → find (is_named debug (cie_size * i)) all ≡ Some (cie_entry debug i k))
-    → All KeyFits keys → cie_size * length keys ≤ place → Writes spans keys place r more → hi < 2 ^ 64
-    → IsWithin lo (r ∷ more) hi → Before spans r
-    → and_so (cie_in debug address all (cie_place debug (fde_entry debug spans keys place r more)))
-    (λ cie. fde_at cie (end_of address (fde_entry debug spans keys place r more))
-    (fde_entry debug spans keys place r more))
-    ≡ Ok (fde_of spans (key_of spans r.answer) place r more)
-fde-found debug address all keys spans place lo hi r more h f l w low within before =
-    let n = place-named debug place (key_index spans keys r) (length keys) (fde_body spans r more)
+    → find (is_named (is_debug form) (cie_size * i)) all ≡ Some (cie_entry (is_debug form) i k))
+    → All KeyFits keys → IsAt form address → cie_size * length keys ≤ place → Writes form spans keys place r more
+    → hi < 2 ^ 64 → IsWithin lo (r ∷ more) hi → Before spans r
+    → and_so (cie_in (is_debug form) address all (cie_place (is_debug form) (fde_entry form spans keys place r more)))
+    (λ cie. fde_at cie (end_of address (fde_entry form spans keys place r more))
+    (fde_entry form spans keys place r more))
+    ≡ Ok (fde_of form spans (key_of spans r.answer) place r more)
+fde-found form address all keys spans place lo hi r more h f here l w low within before =
+    let n = place-named (is_debug form) place (key_index spans keys r) (length keys) (fde_body form place spans r more)
     (slice_get_within keys (key_index spans keys r) (key_of spans r.answer) w.key) l in
-    let c : cie_in debug address all (cie_place debug (fde_entry debug spans keys place r more))
-    ≡ Ok (cie_of (key_of spans r.answer)) =
-    ap (cie_in debug address all) n
+    let c : cie_in (is_debug form) address all (cie_place (is_debug form) (fde_entry form spans keys place r more))
+    ≡ Ok (cie_of (is_debug form) (key_of spans r.answer)) =
+    ap (cie_in (is_debug form) address all) n
     ∙ ap (λ (o : Option RawEntry). and_so (sound_if o) (λ y. cie_at (end_of address y) y.body))
     (h (key_index spans keys r) (key_of spans r.answer) w.key)
-    ∙ cie-back (end_of address (cie_entry debug (key_index spans keys r) (key_of spans r.answer))) (key_of spans r.answer)
+    ∙ cie-back (end_of address (cie_entry (is_debug form) (key_index spans keys r) (key_of spans r.answer)))
+    (is_debug form) (key_of spans r.answer)
     (key-fits keys (key_index spans keys r) (key_of spans r.answer) f w.key) in
     let later : r.start + r.len ≤ last_end (r.start + r.len) more = le-last (r.start + r.len) more hi within.2 in
     let ended : last_end (r.start + r.len) more ≤ hi = last-le (r.start + r.len) more hi within.2 in
     ap (λ (x : Result Cie Malformed). and_so x (λ cie. fde_at cie
-    (end_of address (fde_entry debug spans keys place r more)) (fde_entry debug spans keys place r more))) c
-    ∙ fde-back spans (end_of address (fde_entry debug spans keys place r more)) place
-    (fde_id debug place (key_index spans keys r)) r more
-    (least _ _ _ _ before later) (lower _ _ ended low) w.table w.row
+    (end_of address (fde_entry form spans keys place r more)) (fde_entry form spans keys place r more))) c
+    ∙ fde-back form spans address place (fde_id (is_debug form) place (key_index spans keys r)) r more here
+    (least _ _ _ _ before later) (lower _ _ ended low) w.range w.table w.row
     (follow (start_of spans r) (r.start + r.len) more hi (near _ _ _ before) low within.2 w.rows) w.near w.rows where
       least : (s a n e : ℕ) → s ≤ a → a + n ≤ e → s ≤ e
       least s a n e h l = omega arith
@@ -212,32 +201,32 @@ one-more : (debug : Bool) (address : ℕ) (all : List RawEntry) (e : RawEntry) (
     → frames_from debug address all None (e ∷ es) ≡ record { cies = 0; list = fde ∷ list; bad = None }
 one-more debug address all e es fde list t m r = rw (t, m, r) refl
 
-frames-fdes : (debug : Bool) (address : ℕ) (all : List RawEntry) (keys : List CieKey) (spans : List Span)
+frames-fdes : (form : Form) (address : ℕ) (all : List RawEntry) (keys : List CieKey) (spans : List Span)
     (n place lo hi : ℕ) (rs : Runs)
     → ((i : ℕ) (k : CieKey) → slice_get keys i ≡ Some k
-    → find (is_named debug (cie_size * i)) all ≡ Some (cie_entry debug i k))
-    → All KeyFits keys → cie_size * length keys ≤ place → WritesAll spans keys n place rs → hi < 2 ^ 64
-    → IsWithin lo rs hi → All (Before spans) rs
-    → frames_from debug address all None (fde_entries debug spans keys n place rs)
-    ≡ record { cies = 0; list = made spans n place rs; bad = None }
+    → find (is_named (is_debug form) (cie_size * i)) all ≡ Some (cie_entry (is_debug form) i k))
+    → All KeyFits keys → IsAt form address → cie_size * length keys ≤ place → WritesAll form spans keys n place rs
+    → hi < 2 ^ 64 → IsWithin lo rs hi → All (Before spans) rs
+    → frames_from (is_debug form) address all None (fde_entries form spans keys n place rs)
+    ≡ record { cies = 0; list = made form spans n place rs; bad = None }
 unfolding fde_entries WritesAll made
-frames-fdes debug address all keys spans n place lo hi [] h f l w low within before = refl
-frames-fdes debug address all keys spans zero place lo hi (r ∷ rs) h f l w low within before = refl
-frames-fdes debug address all keys spans (suc n) place lo hi (r ∷ rs) h f l w low within before =
-    let t : is_cie debug (fde_entry debug spans keys place r (take (more_count r rs) rs)) ≡ false
-    = not-cie debug place (key_index spans keys r) (length keys)
+frames-fdes form address all keys spans n place lo hi [] h f here l w low within before = refl
+frames-fdes form address all keys spans zero place lo hi (r ∷ rs) h f here l w low within before = refl
+frames-fdes form address all keys spans (suc n) place lo hi (r ∷ rs) h f here l w low within before =
+    let t : is_cie (is_debug form) (fde_entry form spans keys place r (take (more_count r rs) rs)) ≡ false
+    = not-cie (is_debug form) place (key_index spans keys r) (length keys)
     (slice_get_within keys (key_index spans keys r) (key_of spans r.answer) w.0.key) l w.0.low in
-    let rest = frames-fdes debug address all keys spans n
-    (place + 8 + length (fde_body spans r (take (more_count r rs) rs)))
+    let rest = frames-fdes form address all keys spans n
+    (place + 8 + length (fde_body form place spans r (take (more_count r rs) rs)))
     (last_end (r.start + r.len) (take (more_count r rs) rs)) hi
-    (drop (more_count r rs) rs) h f (further _ place _ l) w.1 low
+    (drop (more_count r rs) rs) h f here (further _ place _ l) w.1 low
     (within-drop (more_count r rs) (r.start + r.len) rs hi within.2)
     (All-drop (Before spans) (more_count r rs) rs (All-tail (Before spans) r rs before)) in
-    one-more debug address all (fde_entry debug spans keys place r (take (more_count r rs) rs))
-    (fde_entries debug spans keys n (place + 8 + length (fde_body spans r (take (more_count r rs) rs)))
+    one-more (is_debug form) address all (fde_entry form spans keys place r (take (more_count r rs) rs))
+    (fde_entries form spans keys n (place + 8 + length (fde_body form place spans r (take (more_count r rs) rs)))
     (drop (more_count r rs) rs))
     _ _ t
-    (fde-found debug address all keys spans place lo hi r (take (more_count r rs) rs) h f l w.0 low
+    (fde-found form address all keys spans place lo hi r (take (more_count r rs) rs) h f here l w.0 low
     (within.0, within.1, within-take (more_count r rs) (r.start + r.len) rs hi within.2)
     (All-head (Before spans) r rs before)) rest
 
@@ -249,24 +238,24 @@ frames-cies : (debug : Bool) (address i n : ℕ) (all : List RawEntry) (ks : Lis
 frames-cies debug address i n all [] es list f r = r
     ∙ ap (λ (m : ℕ). record { cies = m; list = list; bad = None }) (omega arith)
 frames-cies debug address i n all (k ∷ ks) es list f r =
-    let c = cie-back (end_of address (cie_entry debug i k)) k (All-head KeyFits k ks f) in
+    let c = cie-back (end_of address (cie_entry debug i k)) debug k (All-head KeyFits k ks f) in
     let m = frames-cies debug address (i + 1) n all ks es list (All-tail KeyFits k ks f) r in
     let s : n + length ks + 1 ≡ n + suc (length ks) = omega arith in
     rw (cie-tells debug, c, m, s) refl
 
 -- a whole table
-pub frames-back : (debug : Bool) (address : ℕ) (keys : List CieKey) (spans : List Span) (lo hi : ℕ) (rs : Runs)
-    → All KeyFits keys
-    → WritesAll spans keys (length rs) (cie_size * length keys) rs → hi < 2 ^ 64 → IsWithin lo rs hi → All (Before spans) rs
-    → frames debug address (spelled_entries (table_entries debug spans keys rs) ++ end_mark debug)
-    ≡ record { cies = length keys; list = made spans (length rs) (cie_size * length keys) rs; bad = None }
-frames-back debug address keys spans lo hi rs f w low within before =
-    let s = walked-back debug (table_entries debug spans keys rs) (table-from debug spans keys rs w) in
-    let r = frames-fdes debug address (table_entries debug spans keys rs) keys spans (length rs) (cie_size * length keys)
+pub frames-back : (form : Form) (address : ℕ) (keys : List CieKey) (spans : List Span) (lo hi : ℕ) (rs : Runs)
+    → All KeyFits keys → IsAt form address
+    → WritesAll form spans keys (length rs) (cie_size * length keys) rs → hi < 2 ^ 64 → IsWithin lo rs hi → All (Before spans) rs
+    → frames (is_debug form) address (spelled_entries (table_entries form spans keys rs) ++ end_mark (is_debug form))
+    ≡ record { cies = length keys; list = made form spans (length rs) (cie_size * length keys) rs; bad = None }
+frames-back form address keys spans lo hi rs f here w low within before =
+    let s = walked-back (is_debug form) (table_entries form spans keys rs) (table-from form spans keys rs w) in
+    let r = frames-fdes form address (table_entries form spans keys rs) keys spans (length rs) (cie_size * length keys)
     lo hi rs
-    (λ i k e. found debug 0 i (cie_size * i) k keys _ e (ap (λ (m : ℕ). cie_size * m) (sym (zero-add i)))
-    ∙ ap (λ (m : ℕ). Some (cie_entry debug m k)) (zero-add i)) f (omega arith) w low within before in
-    ap (λ (x : WalkedEntries). frames_from debug address x.entries x.broken x.entries) s
-    ∙ frames-cies debug address 0 0 (table_entries debug spans keys rs) keys _ _ f r
-    ∙ ap (λ (m : ℕ). record { cies = m; list = made spans (length rs) (cie_size * length keys) rs; bad = None })
+    (λ i k e. found (is_debug form) 0 i (cie_size * i) k keys _ e (ap (λ (m : ℕ). cie_size * m) (sym (zero-add i)))
+    ∙ ap (λ (m : ℕ). Some (cie_entry (is_debug form) m k)) (zero-add i)) f here (omega arith) w low within before in
+    ap (λ (x : WalkedEntries). frames_from (is_debug form) address x.entries x.broken x.entries) s
+    ∙ frames-cies (is_debug form) address 0 0 (table_entries form spans keys rs) keys _ _ f r
+    ∙ ap (λ (m : ℕ). record { cies = m; list = made form spans (length rs) (cie_size * length keys) rs; bad = None })
     (zero-add (length keys))

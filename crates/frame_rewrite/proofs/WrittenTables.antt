@@ -17,6 +17,8 @@ use Rattle.cfi_rows.specs.Entries.{Fde, Frames, frames, walk}
 use Rattle.cfi_rows.specs.Frames.{frames_of}
 use Rattle.cfi_rows.specs.ReadFrames.{read_as, section_held}
 use Rattle.frame_rewrite.specs.declared.cie_key.CieKey.{CieKey}
+use Rattle.frame_rewrite.specs.declared.form.Form.{Form}
+use Rattle.frame_rewrite.specs.declared.form.Form.TheVariants.{Debug, Loaded}
 use Rattle.frame_rewrite.specs.declared.eh.EhFrames.{EhFrames}
 use Rattle.frame_rewrite.specs.CarriedFrames.{IsCarriedFrame}
 use Rattle.frame_rewrite.specs.Faults.{IsFrameFault}
@@ -24,12 +26,15 @@ use Rattle.frame_rewrite.specs.declared.debug.DebugFrames.{DebugFrames}
 use Rattle.frame_rewrite.specs.FrameAnswers.{FrameAnswer, answer_at, is_marked_by, is_never_marked}
 use Rattle.frame_rewrite.specs.Index.{AreApart, AreFilled, ShareNoAddress}
 use Rattle.frame_rewrite.specs.SpelledFits.{KeyFits, IsReached, IsSpelled, RunAscends}
+use Rattle.frame_rewrite.specs.SpelledFrames.{is_debug}
+use Rattle.frame_rewrite.specs.Tables.{ComesAfter, frames_address}
 use Rattle.frame_rewrite.specs.Tables.{answers, DebugMakes, EhMakes, MovesWhole, run_size, eh_says, debug_says, EhAllows}
 use Rattle.frame_rewrite.proofs.ApartEntries.{Alike, all-alike, written-apart, written-filled}
 use Rattle.frame_rewrite.proofs.EntrySizes.{least-total}
+use Rattle.frame_rewrite.proofs.FdeBack.{IsAt}
 use Rattle.frame_rewrite.proofs.FirstRows.{frames-begin}
 use Rattle.frame_rewrite.proofs.Law.{law, reads-as}
-use Rattle.frame_rewrite.proofs.MadeTables.{starts-in, count-of, size-of, ends-with}
+use Rattle.frame_rewrite.proofs.MadeTables.{starts-in, count-of, spelled-at, size-of, ends-with}
 use Rattle.frame_rewrite.proofs.Reached.{reached}
 
 abbrev Runs : Type 0
@@ -41,15 +46,15 @@ Stands debug is_marked spans runs section =
     IsCarried (IsCarriedFrame spans) spans (run_at runs) (answers is_marked (frames_of debug section))
     × IsFree (IsFrameFault (frames_of debug section))
 
-pub stands : (debug : Bool) (is_marked : Fde → Bool) (spans : List Span) (keys : List CieKey) (runs : Runs)
-    (bytes : List ℕ) (section : Held) → All KeyFits keys
-    → IsWithin 0 runs (2 ^ 64 - 1) → All (IsReached spans runs) runs → IsSpelled debug spans keys runs bytes
-    → section.bytes ≡ bytes → Stands debug is_marked spans runs section
-stands debug is_marked spans keys runs bytes section f w r s e =
+pub stands : (form : Form) (is_marked : Fde → Bool) (spans : List Span) (keys : List CieKey) (runs : Runs)
+    (bytes : List ℕ) (section : Held) → All KeyFits keys → IsAt form section.address
+    → IsWithin 0 runs (2 ^ 64 - 1) → All (IsReached spans runs) runs → IsSpelled form spans keys runs bytes
+    → section.bytes ≡ bytes → Stands (is_debug form) is_marked spans runs section
+stands form is_marked spans keys runs bytes section f here w r s e =
     subst (λ (l : List ℕ). IsCarried (IsCarriedFrame spans) spans (run_at runs)
-    (answers is_marked (frames debug section.address l)) × IsFree (IsFrameFault (frames debug section.address l)))
+    (answers is_marked (frames (is_debug form) section.address l)) × IsFree (IsFrameFault (frames (is_debug form) section.address l)))
     (sym e)
-    (law debug is_marked spans keys runs bytes section.address f w r s)
+    (law form is_marked spans keys runs bytes section.address f here w r s)
 
 -- Without a section there is nothing.
 
@@ -98,33 +103,40 @@ pub makes : (t : EhFrames) (spans : List Span) (keys : List CieKey) (runs : Runs
     → IsWithin 0 runs (2 ^ 64 - 1) → All RunAscends runs
     → ((p : ℕ) → run_at runs p ≡ carried (eh_says t) spans p) → All (IsReached spans runs) runs
     → (AreApart (read_as t.frames).list → All (Alike spans runs) runs) → length keys ≤ 2 * (read_as t.frames).cies
-    → t.has_section ≡ true → IsSpelled false spans keys runs w.bytes.items → w.lists.items ≡ [] → EhMakes t spans runs w
+    → t.has_section ≡ true → IsSpelled (Loaded (frames_address spans)) spans keys runs w.bytes.items → w.lists.items ≡ []
+    → EhMakes t spans runs w
 makes t spans keys runs w f within ascend a r alike few there s lists =
+    let place = frames_address spans in
     record {
-      sound = λ at. ap (λ (x : Frames). x.bad) (reads-as false spans keys runs w.bytes.items at f within r s);
-      starts = λ at. starts-in (eh_says t) spans keys runs w.bytes.items at f within a r s;
-      filled = λ at. written-filled false spans keys runs w.bytes.items at f within r s;
-      apart = λ apart at. written-apart false spans keys runs w.bytes.items at f within r (alike apart) s;
-      count = λ at. count-of spans keys runs w.bytes.items at f within r s;
-      size = size-of spans keys runs w.bytes.items (read_as t.frames).cies few ascend s;
-      ends = λ _. ends-with spans keys runs w.bytes.items s;
+      sound = λ at after. ap (λ (x : Frames). x.bad) (reads-as (Loaded at) spans keys runs w.bytes.items at f refl within r
+          (spelled at after));
+      starts = λ at after. starts-in (eh_says t) spans keys runs w.bytes.items at f within a r (spelled at after);
+      filled = λ at after. written-filled (Loaded at) spans keys runs w.bytes.items at f refl within r (spelled at after);
+      apart = λ apart at after. written-apart (Loaded at) spans keys runs w.bytes.items at f refl within r (alike apart)
+          (spelled at after);
+      count = λ at after. count-of spans keys runs w.bytes.items at f within r (spelled at after);
+      size = size-of place spans keys runs w.bytes.items (read_as t.frames).cies few ascend s;
+      ends = λ _. ends-with place spans keys runs w.bytes.items s;
       nothing = λ none. absurd (clash t.has_section there none);
       lists = lists;
     } where
       clash : (b : Bool) → b ≡ true → b ≡ false → ⊥
       clash b x y = cc
 
+      spelled : (at : ℕ) → ComesAfter spans at → IsSpelled (Loaded at) spans keys runs w.bytes.items
+      spelled at after = spelled-at (eh_says t) spans keys runs w.bytes.items at within a r after s
+
 pub makes-nothing : (t : EhFrames) (spans : List Span) (runs : Runs) (w : Written) → t.has_section ≡ false
     → w.bytes.items ≡ [] → w.lists.items ≡ [] → EhMakes t spans runs w
 makes-nothing t spans runs w none e lists =
     let empty = λ (at : ℕ). ap (frames false at) e ∙ none-framed false at in
     record {
-      sound = λ at. ap (λ (x : Frames). x.bad) (empty at);
-      starts = λ at. subst (λ (x : Frames). All (λ (f : Fde). is_new_code spans f.start ≡ true) x.list) (sym (empty at))
+      sound = λ at after. ap (λ (x : Frames). x.bad) (empty at);
+      starts = λ at after. subst (λ (x : Frames). All (λ (f : Fde). is_new_code spans f.start ≡ true) x.list) (sym (empty at))
           (All-nil (λ (f : Fde). is_new_code spans f.start ≡ true));
-      filled = λ at. subst (λ (x : Frames). AreFilled x.list) (sym (empty at)) (All-nil (λ (f : Fde). f.start < f.end));
-      apart = λ apart at. nothing-apart false at w.bytes.items e;
-      count = λ at. subst (λ (x : Frames). length x.list ≤ length runs) (sym (empty at)) (least (length runs));
+      filled = λ at after. subst (λ (x : Frames). AreFilled x.list) (sym (empty at)) (All-nil (λ (f : Fde). f.start < f.end));
+      apart = λ apart at after. nothing-apart false at w.bytes.items e;
+      count = λ at after. subst (λ (x : Frames). length x.list ≤ length runs) (sym (empty at)) (least (length runs));
       size = subst (λ (l : List ℕ). length l + 8 * length runs ≤ 16 + 64 * (read_as t.frames).cies + sum_by
           (λ (r : Run FrameAnswer). run_size r.answer) runs) (sym e)
           (room (8 * length runs) (read_as t.frames).cies _ (least-total runs));
@@ -145,9 +157,9 @@ makes-nothing t spans runs w none e lists =
 
 pub debug-makes : (t : DebugFrames) (spans : List Span) (keys : List CieKey) (runs : Runs) (w : Written) → All KeyFits keys
     → IsWithin 0 runs (2 ^ 64 - 1) → All (IsReached spans runs) runs → All (Alike spans runs) runs
-    → (t.frames.section.items ≡ [] → ⊥) → IsSpelled true spans keys runs w.bytes.items → w.lists.items ≡ [] → DebugMakes t w
+    → (t.frames.section.items ≡ [] → ⊥) → IsSpelled Debug spans keys runs w.bytes.items → w.lists.items ≡ [] → DebugMakes t w
 debug-makes t spans keys runs w f within r alike some s lists = record {
-  apart = λ at. written-apart true spans keys runs w.bytes.items at f within r alike s;
+  apart = λ at. written-apart Debug spans keys runs w.bytes.items at f tt within r alike s;
   nothing = λ none. absurd (some none);
   lists = lists;
 }

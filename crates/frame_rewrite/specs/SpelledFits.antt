@@ -1,5 +1,5 @@
 -- What fits the fields of a written frame table.
-use Rattle.std.specs.Prelude.{◌≡◌, ℕ, ◌+◌, ◌-◌, ◌*◌, ◌++◌, ◌^◌, ◌<◌, ◌≤◌, Bool, List, [], ◌∷◌, All, length, take, drop}
+use Rattle.std.specs.Prelude.{◌≡◌, ℕ, ◌+◌, ◌-◌, ◌*◌, ◌++◌, ◌^◌, ◌<◌, ◌≤◌, List, [], ◌∷◌, All, length, take, drop}
 use Rattle.std.specs.Prelude.{FitsSigned, Some, slice_get, IsSome}
 use Rattle.std.specs.Int.{w64}
 use Rattle.addr_map.specs.declared.span.Span.{Span}
@@ -12,9 +12,11 @@ use Rattle.cfi_rows.specs.declared.row.Rule.TheVariants as rule
 use Rattle.cfi_rows.specs.FrameRows.{RowValue, Rules}
 use Rattle.cfi_rows.specs.RuleEntries.{Ascend}
 use Rattle.frame_rewrite.specs.declared.cie_key.CieKey.{CieKey}
+use Rattle.frame_rewrite.specs.declared.form.Form.{Form}
+use Rattle.frame_rewrite.specs.declared.form.Form.TheVariants.{Debug, Loaded}
 use Rattle.frame_rewrite.specs.FrameAnswers.{FrameAnswer}
-use Rattle.frame_rewrite.specs.SpelledFrames.{key_of, key_index, fde_body, more_count, start_of, cie_size}
-use Rattle.frame_rewrite.specs.SpelledFrames.{spelled_entries, table_entries, end_mark}
+use Rattle.frame_rewrite.specs.SpelledFrames.{key_of, key_index, fde_body, more_count, start_of, last_end, cie_size}
+use Rattle.frame_rewrite.specs.SpelledFrames.{is_debug, spelled_entries, table_entries, end_mark}
 
 abbrev pub CfaFits : Cfa → Type 0
 CfaFits (Reg r n) = (r < 2 ^ 64) × FitsSigned w64 n
@@ -60,23 +62,29 @@ abbrev pub Near : ℕ → List (Run FrameAnswer) → Type 0
 Near at [] = Unit {0}
 Near at (r ∷ rs) = (r.start - at < 2 ^ 32) × Near r.start rs
 
+-- The start and the size of a range at an offset fit four bytes, and so does the distance to the start.
+abbrev pub RangeFits : Form → (place start size : ℕ) → Type 0
+RangeFits Debug place start size = Unit {0}
+RangeFits (Loaded at) place start size = (at + place + 8 < 2 ^ 31) × (start < 2 ^ 31) × (size < 2 ^ 31)
+
 -- an entry at an offset: its fields fit, and its CIE is the one that its answers need
-pub record Writes (spans : List Span) (keys : List CieKey) (place : ℕ) (r : Run FrameAnswer)
+pub record Writes (form : Form) (spans : List Span) (keys : List CieKey) (place : ℕ) (r : Run FrameAnswer)
     (more : List (Run FrameAnswer)) : Type 0 where
   pub low : place + 4 < 2 ^ 32
-  pub size : length (fde_body spans r more) + 4 < 0xffffffff
+  pub size : length (fde_body form place spans r more) + 4 < 0xffffffff
   pub key : slice_get keys (key_index spans keys r) ≡ Some (key_of spans r.answer)
+  pub range : RangeFits form place (start_of spans r) (last_end (r.start + r.len) more - start_of spans r)
   pub table : r.answer.table < 2 ^ 64
   pub row : RowFits r.answer.row
   pub rows : All (λ (q : Run FrameAnswer). RowFits q.answer.row) more
   pub near : Near (start_of spans r) more
 
-unfoldable pub WritesAll : List Span → List CieKey → ℕ → ℕ → List (Run FrameAnswer) → Type 0
-WritesAll spans keys n place [] = Unit {0}
-WritesAll spans keys ℕ.zero place (r ∷ rs) = Unit {0}
-WritesAll spans keys (ℕ.suc n) place (r ∷ rs) =
-    Writes spans keys place r (take (more_count r rs) rs)
-    × WritesAll spans keys n (place + 8 + length (fde_body spans r (take (more_count r rs) rs)))
+unfoldable pub WritesAll : Form → List Span → List CieKey → ℕ → ℕ → List (Run FrameAnswer) → Type 0
+WritesAll form spans keys n place [] = Unit {0}
+WritesAll form spans keys ℕ.zero place (r ∷ rs) = Unit {0}
+WritesAll form spans keys (ℕ.suc n) place (r ∷ rs) =
+    Writes form spans keys place r (take (more_count r rs) rs)
+    × WritesAll form spans keys n (place + 8 + length (fde_body form place spans r (take (more_count r rs) rs)))
     (drop (more_count r rs) rs)
 
 -- Before the run the range of its entry holds only bytes of other runs.
@@ -89,7 +97,7 @@ abbrev pub EndFits : Run FrameAnswer → Type 0
 EndFits r = r.start + r.len < 2 ^ 64
 
 -- a table that was written of runs, whose CIEs are those of some kinds of frames
-pub record IsSpelled (debug : Bool) (spans : List Span) (keys : List CieKey) (runs : List (Run FrameAnswer))
+pub record IsSpelled (form : Form) (spans : List Span) (keys : List CieKey) (runs : List (Run FrameAnswer))
     (bytes : List ℕ) : Type 0 where
-  pub writes : WritesAll spans keys (length runs) (cie_size * length keys) runs
-  pub bytes_are : bytes ≡ spelled_entries (table_entries debug spans keys runs) ++ end_mark debug
+  pub writes : WritesAll form spans keys (length runs) (cie_size * length keys) runs
+  pub bytes_are : bytes ≡ spelled_entries (table_entries form spans keys runs) ++ end_mark (is_debug form)

@@ -1,7 +1,7 @@
--- How a frame table is written: one CIE for each kind of frame, and then the FDEs. All pointers are absolute, so the
--- bytes don't depend on the address of the section. LSB, "The .eh_frame section"; DWARF 5, sections 6.4.1, 6.4.2 and
--- 7.24.
-use Rattle.std.specs.Prelude.{ℕ, zero, suc, ℤ, pos, ◌+◌, ◌-◌, ◌*◌, ◌%◌, ◌==◌, ◌&&◌, ◌++◌, Bool, true, false, not, cond, List}
+-- How a frame table is written: one CIE for each kind of frame, and then the FDEs. Addresses of code are absolute in
+-- `.debug_frame`; in `.eh_frame` they are distances from where they stand, so its bytes depend on its address. LSB, "The
+-- .eh_frame section"; DWARF 5, sections 6.4.1, 6.4.2 and 7.24.
+use Rattle.std.specs.Prelude.{ℕ, zero, suc, ℤ, pos, ◌+◌, ◌-◌, ◌*◌, ◌%◌, ◌==◌, ◌&&◌, ◌||◌, ◌++◌, Bool, true, false, not, cond, List}
 use Rattle.std.specs.Prelude.{[], ◌∷◌, Option, Some, None, is_some}
 use Rattle.std.specs.Bool.{beq}
 use Rattle.std.specs.Int.{w64, cast_unsigned, int_wrapping_neg}
@@ -15,11 +15,12 @@ use Rattle.addr_map.specs.declared.span.Span.{Span}
 use Rattle.addr_map.specs.Spans.{new}
 use Rattle.answer_runs.specs.declared.run.Run.{Run}
 use Rattle.cfi_rows.specs.declared.encoding.TheConstants.{DW_EH_PE_absptr, DW_EH_PE_indirect_absptr}
+use Rattle.cfi_rows.specs.declared.encoding.TheConstants.{DW_EH_PE_pcrel_sdata4}
 use Rattle.cfi_rows.specs.declared.row.Cfa.{Cfa}
 use Rattle.cfi_rows.specs.declared.row.Cfa.TheVariants.{Reg, Expr}
 use Rattle.cfi_rows.specs.declared.row.Rule.{Rule}
 use Rattle.cfi_rows.specs.declared.row.Rule.TheVariants as rule
-use Rattle.cfi_rows.specs.declared.instruction.TheConstants.{DW_CFA_nop, DW_CFA_advance_loc, DW_CFA_advance_loc1, DW_CFA_advance_loc2}
+use Rattle.cfi_rows.specs.declared.instruction.TheConstants.{DW_CFA_advance_loc, DW_CFA_advance_loc1, DW_CFA_advance_loc2}
 use Rattle.cfi_rows.specs.declared.instruction.TheConstants.{DW_CFA_advance_loc4, DW_CFA_undefined, DW_CFA_same_value}
 use Rattle.cfi_rows.specs.declared.instruction.TheConstants.{DW_CFA_register, DW_CFA_remember_state, DW_CFA_restore}
 use Rattle.cfi_rows.specs.declared.instruction.TheConstants.{DW_CFA_restore_state, DW_CFA_def_cfa, DW_CFA_def_cfa_offset}
@@ -28,7 +29,10 @@ use Rattle.cfi_rows.specs.declared.instruction.TheConstants.{DW_CFA_offset_exten
 use Rattle.cfi_rows.specs.FrameRows.{RowValue, Rules, Known, rule_of}
 use Rattle.cfi_rows.specs.Entries.{RawEntry, cie_id, letter_z, letter_R, letter_P, letter_L, letter_S}
 use Rattle.frame_rewrite.specs.declared.cie_key.CieKey.{CieKey}
+use Rattle.frame_rewrite.specs.declared.form.Form.{Form}
+use Rattle.frame_rewrite.specs.declared.form.Form.TheVariants.{Debug, Loaded}
 use Rattle.frame_rewrite.specs.FrameAnswers.{FrameAnswer}
+use Rattle.frame_rewrite.specs.Index.{distance_bytes}
 
 -- Rows. The code factor is 1, and the data factor -1: registers are saved below the frame address.
 
@@ -169,10 +173,43 @@ abbrev pub handler_encoding : Bool → ℕ
 handler_encoding true = DW_EH_PE_indirect_absptr
 handler_encoding false = DW_EH_PE_absptr
 
--- the text `zRPL`, with an S for the frame of a signal handler
-abbrev pub cie_text : (signal : Bool) → List ℕ
-cie_text false = letter_z ∷ letter_R ∷ letter_P ∷ letter_L ∷ 0 ∷ []
-cie_text true = letter_z ∷ letter_R ∷ letter_P ∷ letter_L ∷ letter_S ∷ 0 ∷ []
+abbrev pub is_debug : Form → Bool
+is_debug Debug = true
+is_debug (Loaded at) = false
+
+-- bytes that are written only where they are needed
+abbrev pub bytes_if : Bool → List ℕ → List ℕ
+bytes_if true bytes = bytes
+bytes_if false bytes = []
+
+abbrev pub has_handler : CieKey → Bool
+has_handler k = not (k.handler == 0) || k.indirect
+
+-- An augmentation has to be written where addresses aren't absolute, and for a handler, an exception table or a frame of
+-- a signal handler.
+abbrev pub has_data : (debug : Bool) → CieKey → Bool
+has_data debug k = not debug || has_handler k || k.tabled || k.signal
+
+-- the letters of what is needed, in the order in which assemblers write them
+abbrev pub cie_letters : (debug : Bool) → CieKey → List ℕ
+cie_letters debug k =
+    bytes_if (has_handler k) (letter_P ∷ [])
+    ++ (bytes_if k.tabled (letter_L ∷ []) ++ (bytes_if (not debug) (letter_R ∷ []) ++ bytes_if k.signal (letter_S ∷ [])))
+
+abbrev pub handler_data : CieKey → List ℕ
+handler_data k = bytes_if (has_handler k) (handler_encoding k.indirect ∷ little_bytes 8 k.handler)
+
+-- their data: the encoding of the handler and its address, and the encodings of exception tables and of addresses
+abbrev pub letter_data : (debug : Bool) → CieKey → List ℕ
+letter_data debug k =
+    handler_data k
+    ++ (bytes_if k.tabled (DW_EH_PE_absptr ∷ []) ++ bytes_if (not debug) (DW_EH_PE_pcrel_sdata4 ∷ []))
+
+abbrev pub cie_text : (debug : Bool) → CieKey → List ℕ
+cie_text debug k = bytes_if (has_data debug k) (letter_z ∷ cie_letters debug k) ++ 0 ∷ []
+
+abbrev pub cie_data : (debug : Bool) → CieKey → List ℕ
+cie_data debug k = bytes_if (has_data debug k) (length (letter_data debug k) ∷ letter_data debug k)
 
 -- Where a function begins the frame address is the stack pointer. The frame of a signal handler isn't found so.
 abbrev pub first_cfa : (signal : Bool) → Option Cfa
@@ -187,34 +224,23 @@ abbrev pub known_of : (signal : Bool) → Option RowValue → Known
 known_of signal None = first_known signal
 known_of signal (Some row) = known_by row
 
--- the instructions that say so, or DW_CFA_nop
+-- the instructions that say so
 abbrev pub cie_code : (signal : Bool) → List ℕ
 cie_code false = DW_CFA_def_cfa ∷ 2 ∷ 0 ∷ []
-cie_code true = DW_CFA_nop ∷ DW_CFA_nop ∷ []
+cie_code true = []
 
--- a kind of frame without a handler, a signal mark and a table needs no augmentation
-abbrev pub is_plain : CieKey → Bool
-is_plain k = (k.handler == 0) && not k.indirect && not k.signal && not k.tabled
+-- version 1, the text, the factors 1 and -1, the register, the data of the augmentation, and the instructions
+abbrev pub cie_fields : (debug : Bool) → CieKey → List ℕ
+cie_fields debug k = 1 ∷ (cie_text debug k ++ (1 ∷ 0x7f ∷ k.ra ∷ (cie_data debug k ++ cie_code k.signal)))
 
--- version 1, an empty text, the factors 1 and -1, the register, and the instructions
-abbrev pub plain_body : ℕ → List ℕ
-plain_body ra = 1 ∷ 0 ∷ 1 ∷ 0x7f ∷ ra ∷ DW_CFA_def_cfa ∷ 2 ∷ 0 ∷ zeros 16
-
--- version 1, the text, the factors 1 and -1, the register, 11 bytes of augmentation data, and the instructions
-abbrev pub full_body : CieKey → List ℕ
-full_body k =
-    1 ∷ (cie_text k.signal
-    ++ (1 ∷ 0x7f ∷ k.ra ∷ 11 ∷ DW_EH_PE_absptr ∷ handler_encoding k.indirect
-    ∷ (little_bytes 8 k.handler ++ (DW_EH_PE_absptr ∷ cie_code k.signal))))
-
-abbrev pub cie_body : CieKey → List ℕ
-cie_body k = if is_plain k then plain_body k.ra else full_body k
+abbrev pub cie_body : (debug : Bool) → CieKey → List ℕ
+cie_body debug k = let fields = cie_fields debug k in fields ++ zeros (24 - length fields)
 
 abbrev pub cie_size : ℕ
 cie_size = 32
 
 abbrev pub cie_entry : (debug : Bool) → ℕ → CieKey → RawEntry
-cie_entry debug i k = record { place = cie_size * i; id = cie_id debug; body = cie_body k }
+cie_entry debug i k = record { place = cie_size * i; id = cie_id debug; body = cie_body debug k }
 
 abbrev pub cie_entries : (debug : Bool) → ℕ → List CieKey → List RawEntry
 cie_entries debug i [] = []
@@ -245,24 +271,32 @@ abbrev pub last_end : ℕ → List (Run FrameAnswer) → ℕ
 last_end end [] = end
 last_end end (r ∷ rs) = last_end (r.start + r.len) rs
 
--- how many zero bytes make of n bytes a multiple of 8
-abbrev pub padding : ℕ → ℕ
-padding n = 7 - (n % 8 + 7) % 8
+-- how many zero bytes make of n bytes a multiple of 8, or of 4 in `.eh_frame`
+abbrev pub padding : (debug : Bool) → ℕ → ℕ
+padding true n = 7 - (n % 8 + 7) % 8
+padding false n = 3 - (n % 4 + 3) % 4
 
--- what an entry has of its exception table
-abbrev pub spelled_table : (plain : Bool) → ℕ → List ℕ
-spelled_table true table = []
-spelled_table false table = 8 ∷ little_bytes 8 table
+-- the start and the size of a range, of an entry at an offset: absolute, or the distance to the start from where that
+-- stands, behind the length and the id
+abbrev pub spelled_range : Form → (place start size : ℕ) → List ℕ
+spelled_range Debug place start size = little_bytes 8 start ++ little_bytes 8 size
+spelled_range (Loaded at) place start size = distance_bytes start (at + place + 8) ++ little_bytes 4 size
 
-abbrev pub fde_fields : List Span → Run FrameAnswer → List (Run FrameAnswer) → List ℕ
-fde_fields spans r more =
-    little_bytes 8 (start_of spans r)
-    ++ (little_bytes 8 (last_end (r.start + r.len) more - start_of spans r)
-    ++ (spelled_table (is_plain (key_of spans r.answer)) r.answer.table
-    ++ spelled_rows (first_known r.answer.signal) (start_of spans r) r.answer.row more))
+-- what an entry has of its exception table, if there is an augmentation
+abbrev pub spelled_table : (has_data tabled : Bool) → ℕ → List ℕ
+spelled_table false tabled table = []
+spelled_table true false table = 0 ∷ []
+spelled_table true true table = 8 ∷ little_bytes 8 table
 
-abbrev pub fde_body : List Span → Run FrameAnswer → List (Run FrameAnswer) → List ℕ
-fde_body spans r more = let fields = fde_fields spans r more in fields ++ zeros (padding (length fields))
+abbrev pub fde_fields : Form → (place : ℕ) → List Span → Run FrameAnswer → List (Run FrameAnswer) → List ℕ
+fde_fields form place spans r more =
+    spelled_range form place (start_of spans r) (last_end (r.start + r.len) more - start_of spans r)
+    ++ (spelled_table (has_data (is_debug form) (key_of spans r.answer)) (key_of spans r.answer).tabled r.answer.table
+    ++ spelled_rows (first_known r.answer.signal) (start_of spans r) r.answer.row more)
+
+abbrev pub fde_body : Form → (place : ℕ) → List Span → Run FrameAnswer → List (Run FrameAnswer) → List ℕ
+fde_body form place spans r more =
+    let fields = fde_fields form place spans r more in fields ++ zeros (padding (is_debug form) (length fields))
 
 abbrev pub is_key : CieKey → CieKey → Bool
 is_key a b = (a.ra == b.ra) && (a.handler == b.handler) && beq a.indirect b.indirect && beq a.signal b.signal
@@ -276,18 +310,20 @@ abbrev pub fde_id : (debug : Bool) → ℕ → ℕ → ℕ
 fde_id true place i = cie_size * i
 fde_id false place i = place + 4 - cie_size * i
 
-abbrev pub fde_entry : (debug : Bool) → List Span → List CieKey → ℕ → Run FrameAnswer → List (Run FrameAnswer) →
-    RawEntry
-fde_entry debug spans keys place r more =
-    record { place = place; id = fde_id debug place (key_index spans keys r); body = fde_body spans r more }
+abbrev pub fde_entry : Form → List Span → List CieKey → ℕ → Run FrameAnswer → List (Run FrameAnswer) → RawEntry
+fde_entry form spans keys place r more = record {
+  place = place;
+  id = fde_id (is_debug form) place (key_index spans keys r);
+  body = fde_body form place spans r more;
+}
 
 -- the entries of runs, from an offset on, where there are at most n
-unfoldable pub fde_entries : (debug : Bool) → List Span → List CieKey → ℕ → ℕ → List (Run FrameAnswer) → List RawEntry
-fde_entries debug spans keys n place [] = []
-fde_entries debug spans keys zero place (r ∷ rs) = []
-fde_entries debug spans keys (suc n) place (r ∷ rs) =
-    fde_entry debug spans keys place r (take (more_count r rs) rs)
-    ∷ fde_entries debug spans keys n (place + 8 + length (fde_body spans r (take (more_count r rs) rs)))
+unfoldable pub fde_entries : Form → List Span → List CieKey → ℕ → ℕ → List (Run FrameAnswer) → List RawEntry
+fde_entries form spans keys n place [] = []
+fde_entries form spans keys zero place (r ∷ rs) = []
+fde_entries form spans keys (suc n) place (r ∷ rs) =
+    fde_entry form spans keys place r (take (more_count r rs) rs)
+    ∷ fde_entries form spans keys n (place + 8 + length (fde_body form place spans r (take (more_count r rs) rs)))
     (drop (more_count r rs) rs)
 
 -- In `.eh_frame` an entry of length 0 comes last.
@@ -295,6 +331,6 @@ abbrev pub end_mark : (debug : Bool) → List ℕ
 end_mark true = []
 end_mark false = 0 ∷ 0 ∷ 0 ∷ 0 ∷ []
 
-abbrev pub table_entries : (debug : Bool) → List Span → List CieKey → List (Run FrameAnswer) → List RawEntry
-table_entries debug spans keys runs =
-    cie_entries debug 0 keys ++ fde_entries debug spans keys (length runs) (cie_size * length keys) runs
+abbrev pub table_entries : Form → List Span → List CieKey → List (Run FrameAnswer) → List RawEntry
+table_entries form spans keys runs =
+    cie_entries (is_debug form) 0 keys ++ fde_entries form spans keys (length runs) (cie_size * length keys) runs

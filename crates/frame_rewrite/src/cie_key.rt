@@ -1,6 +1,6 @@
 // The kinds of frames, for each of which one CIE is written.
 ghost use Rattle.std.specs.Prelude.{◌≡◌, ◌<◌, ◌^◌};
-ghost use Rattle.frame_rewrite.specs.SpelledFrames.{key_of, is_plain};
+ghost use Rattle.frame_rewrite.specs.SpelledFrames.{key_of, has_handler, has_data};
 
 use crate::answer::FrameAt;
 use addr_map::AddrMap;
@@ -31,9 +31,16 @@ pub(crate) fn key_of(map: &AddrMap, answer: &FrameAt) -> CieKey
     }
 }
 
-/// Whether a kind of frame needs no augmentation: it has no handler, no signal mark and no table.
-pub(crate) fn is_plain(key: &CieKey) -> bool
-    ensures { result ≡ is_plain key.now }
+/// Whether there is a handler.
+pub(crate) fn has_handler(key: &CieKey) -> bool
+    ensures { result ≡ has_handler key.now }
 {
-    key.handler == 0 && !key.indirect && !key.signal && !key.tabled
+    key.handler != 0 || key.indirect
+}
+
+/// Whether a kind of frame needs an augmentation: in `.eh_frame` each does, for the encoding of addresses.
+pub(crate) fn has_data(debug: bool, key: &CieKey) -> bool
+    ensures { result ≡ has_data debug key.now }
+{
+    !debug || has_handler(key) || key.tabled || key.signal
 }

@@ -37,7 +37,7 @@ impl ByAddress for EhFrames {
 
     ghost allows = { spec.EhAllows };
 
-    ghost stands = { λ i spans w f. spec.StandsAs spec.eh_name w f };
+    ghost stands = { spec.StandsEh };
 
     ghost carries = { IsCarriedFrame };
 

@@ -1,13 +1,13 @@
 // Entries of a frame table as bytes, and CIEs. LSB, "The .eh_frame section".
-ghost use Rattle.std.specs.Prelude.{◌≡◌, ◌<◌, ◌+◌, ◌^◌, ◌++◌, ℕ, OnOk, All, length};
+ghost use Rattle.std.specs.Prelude.{◌≡◌, ◌<◌, ◌+◌, ◌-◌, ◌^◌, ◌++◌, ◌∷◌, ℕ, OnOk, All, length};
 ghost use Rattle.cfi_rows.specs.Entries as entries;
 ghost use Rattle.frame_rewrite.specs.SpelledFrames as spec;
 ghost use Rattle.frame_rewrite.specs.SpelledFits.{KeyFits};
 
-use crate::cie_key::{CieKey, is_plain};
+use crate::cie_key::{CieKey, has_data, has_handler};
 use crate::spelling::{put_byte, put_bytes, put_zeros};
-use cfi_rows::encoding::{DW_EH_PE_absptr, DW_EH_PE_indirect_absptr};
-use cfi_rows::instruction::{DW_CFA_def_cfa, DW_CFA_nop};
+use cfi_rows::encoding::{DW_EH_PE_absptr, DW_EH_PE_indirect_absptr, DW_EH_PE_pcrel_sdata4};
+use cfi_rows::instruction::DW_CFA_def_cfa;
 use rb_bytes::fault::NoMemory;
 use rb_bytes::little::{put_u32, put_u64};
 
@@ -22,9 +22,8 @@ const DATA_ALIGNMENT_FACTOR: u8 = 0x7f;
 
 const STACK_POINTER: u8 = 2;
 
-// How many bytes a CIE's augmentation has: how addresses, the handler's and those of exception tables are encoded, and
-// the handler's address.
-const AUGMENTATION_SIZE: u8 = 11;
+// How many bytes a CIE has behind its id.
+const BODY_SIZE: usize = 24;
 
 // How many bytes an entry may have behind its id: with the id its length stays below 0xffffffff, which says that a
 // length of 64 bits follows.
@@ -49,16 +48,46 @@ pub(crate) fn put_entry(out: &mut Vec<u8>, id: usize, body: &[u8]) -> Result<(),
     put_bytes(out, body)
 }
 
-// Appends the letters of the augmentation, and the zero that ends them: data stand behind (z), and have the encodings
-// of addresses (R), of the handler (P) and of exception tables (L); the frame is one of a signal handler (S).
-fn put_text(out: &mut Vec<u8>, signal: bool) -> Result<(), NoMemory>
-    ensures { OnOk result (out.new.items ≡ out.old.items ++ spec.cie_text signal) }
+// Appends bytes where they are needed.
+fn put_if(out: &mut Vec<u8>, is_needed: bool, bytes: &[u8]) -> Result<(), NoMemory>
+    ensures { OnOk result (out.new.items ≡ out.old.items ++ spec.bytes_if is_needed bytes.now) }
 {
-    if signal {
-        put_bytes(out, b"zRPLS\0")
+    if is_needed {
+        put_bytes(out, bytes)
     } else {
-        put_bytes(out, b"zRPL\0")
+        Ok(())
     }
+}
+
+// Appends the letters of the augmentation: of the handler (P), of exception tables (L), of how addresses are encoded
+// (R), and that the frame is one of a signal handler (S).
+fn put_letters(out: &mut Vec<u8>, debug: bool, key: &CieKey) -> Result<(), NoMemory>
+    ensures { OnOk result (out.new.items ≡ out.old.items ++ spec.cie_letters debug key.now) }
+{
+    put_if(out, has_handler(key), b"P")?;
+    put_if(out, key.tabled, b"L")?;
+    put_if(out, !debug, b"R")?;
+    put_if(out, key.signal, b"S")
+}
+
+// Appends the letters, after the one that says that they have data (z), where any is needed.
+fn put_needed(out: &mut Vec<u8>, debug: bool, key: &CieKey) -> Result<(), NoMemory>
+    ensures { OnOk result (out.new.items ≡ out.old.items
+        ++ spec.bytes_if (spec.has_data debug key.now) (entries.letter_z ∷ spec.cie_letters debug key.now)) }
+{
+    if !has_data(debug, key) {
+        return Ok(());
+    }
+    put_byte(out, b'z')?;
+    put_letters(out, debug, key)
+}
+
+// Appends the text of the augmentation, and the zero that ends it.
+fn put_text(out: &mut Vec<u8>, debug: bool, key: &CieKey) -> Result<(), NoMemory>
+    ensures { OnOk result (out.new.items ≡ out.old.items ++ spec.cie_text debug key.now) }
+{
+    put_needed(out, debug, key)?;
+    put_byte(out, 0)
 }
 
 fn handler_encoding(indirect: bool) -> u8
@@ -71,70 +100,69 @@ fn handler_encoding(indirect: bool) -> u8
     }
 }
 
-// Appends the instructions of a CIE: that the frame address is the stack pointer, or ones that do nothing.
+// Appends how the handler is encoded, and its address.
+fn put_handler(out: &mut Vec<u8>, key: &CieKey) -> Result<(), NoMemory>
+    ensures { OnOk result (out.new.items ≡ out.old.items ++ spec.handler_data key.now) }
+{
+    if !has_handler(key) {
+        return Ok(());
+    }
+    put_byte(out, handler_encoding(key.indirect))?;
+    put_u64(out, key.handler)
+}
+
+// How many bytes the data of the letters have.
+fn data_size(debug: bool, key: &CieKey) -> u8
+    ensures { result ≡ length (spec.letter_data debug key.now) }
+{
+    let handler = if has_handler(key) { 9 } else { 0 };
+    handler + key.tabled as u8 + !debug as u8
+}
+
+// Appends the data of the letters, and their size before them.
+fn put_data(out: &mut Vec<u8>, debug: bool, key: &CieKey) -> Result<(), NoMemory>
+    ensures { OnOk result (out.new.items ≡ out.old.items ++ spec.cie_data debug key.now) }
+{
+    if !has_data(debug, key) {
+        return Ok(());
+    }
+    put_byte(out, data_size(debug, key))?;
+    put_handler(out, key)?;
+    put_if(out, key.tabled, &[DW_EH_PE_absptr as u8])?;
+    put_if(out, !debug, &[DW_EH_PE_pcrel_sdata4 as u8])
+}
+
+// Appends the instructions of a CIE: that the frame address is the stack pointer.
 fn put_code(out: &mut Vec<u8>, signal: bool) -> Result<(), NoMemory>
     ensures { OnOk result (out.new.items ≡ out.old.items ++ spec.cie_code signal) }
 {
     if signal {
-        put_bytes(out, &[DW_CFA_nop as u8, DW_CFA_nop as u8])
+        Ok(())
     } else {
         put_bytes(out, &[DW_CFA_def_cfa as u8, STACK_POINTER, 0])
     }
 }
 
-// Appends the body of a CIE with an augmentation.
-fn put_full(out: &mut Vec<u8>, key: &CieKey) -> Result<(), NoMemory>
+// Appends what a CIE says.
+fn put_fields(out: &mut Vec<u8>, debug: bool, key: &CieKey) -> Result<(), NoMemory>
     requires { key.now.ra < 256 }
-    ensures { OnOk result (out.new.items ≡ out.old.items ++ spec.full_body key.now) }
+    ensures { OnOk result (out.new.items ≡ out.old.items ++ spec.cie_fields debug key.now) }
 {
     put_byte(out, VERSION)?;
-    put_text(out, key.signal)?;
+    put_text(out, debug, key)?;
     put_bytes(
         out,
-        &[
-            CODE_ALIGNMENT_FACTOR,
-            DATA_ALIGNMENT_FACTOR,
-            key.ra as u8,
-            AUGMENTATION_SIZE,
-            DW_EH_PE_absptr as u8,
-            handler_encoding(key.indirect),
-        ],
+        &[CODE_ALIGNMENT_FACTOR, DATA_ALIGNMENT_FACTOR, key.ra as u8],
     )?;
-    put_u64(out, key.handler)?;
-    put_byte(out, DW_EH_PE_absptr as u8)?;
+    put_data(out, debug, key)?;
     put_code(out, key.signal)
 }
 
-// Appends the body of a CIE without one.
-fn put_plain(out: &mut Vec<u8>, ra: u64) -> Result<(), NoMemory>
-    requires { ra < 256 }
-    ensures { OnOk result (out.new.items ≡ out.old.items ++ spec.plain_body ra) }
+// Appends zero bytes (DW_CFA_nop) to the body of a CIE, so that all CIEs have one size.
+fn fill(body: &mut Vec<u8>) -> Result<(), NoMemory>
+    ensures { OnOk result (body.new.items ≡ body.old.items ++ spec.zeros (24 - length body.old.items)) }
 {
-    put_bytes(
-        out,
-        &[
-            VERSION,
-            0,
-            CODE_ALIGNMENT_FACTOR,
-            DATA_ALIGNMENT_FACTOR,
-            ra as u8,
-            DW_CFA_def_cfa as u8,
-            STACK_POINTER,
-            0,
-        ],
-    )?;
-    put_zeros(out, 16)
-}
-
-// Appends the body of a CIE, which has 24 bytes.
-fn put_cie(out: &mut Vec<u8>, key: &CieKey) -> Result<(), NoMemory>
-    requires { key.now.ra < 256 }
-    ensures { OnOk result (out.new.items ≡ out.old.items ++ spec.cie_body key.now) }
-{
-    if is_plain(key) {
-        return put_plain(out, key.ra);
-    }
-    put_full(out, key)
+    put_zeros(body, BODY_SIZE.saturating_sub(body.len()))
 }
 
 // The id by which an entry is a CIE.
@@ -155,7 +183,8 @@ fn put_cie_entry(
         ++ spec.spelled_entry (spec.cie_entry debug i key.now)) }
 {
     body.clear();
-    put_cie(body, key)?;
+    put_fields(body, debug, key)?;
+    fill(body)?;
     put_entry(out, cie_id(debug), body)
 }
 

@@ -7,6 +7,7 @@ ghost use Rattle.frame_rewrite.specs.SpelledFits.{KeyFits, RunAscends, IsSpelled
 
 use crate::answer::FrameAt;
 use crate::cie_key::CieKey;
+use crate::form::Form;
 use crate::put_cie::put_cies;
 use crate::put_fde::put_fdes;
 use crate::spelling::put_zeros;
@@ -22,10 +23,10 @@ fn put_end(out: &mut Vec<u8>, debug: bool) -> Result<(), NoMemory>
     if debug { Ok(()) } else { put_zeros(out, 4) }
 }
 
-/// A frame table, `.debug_frame` where `debug` holds, made of runs; `keys` are the kinds of frames that they need.
+/// A frame table in a form, made of runs; `keys` are the kinds of frames that they need.
 pub(crate) fn written(
     alloc: Global,
-    debug: bool,
+    form: Form,
     keys: &[CieKey],
     map: &AddrMap,
     runs: &[Run<FrameAt>],
@@ -35,12 +36,12 @@ pub(crate) fn written(
     requires within { IsWithin 0 runs.now (2 ^ 64 - 1) }
     requires before { All (λ r. spec.start_of map.now r ≤ r.start) runs.now }
     requires ascend { All RunAscends runs.now }
-    ensures { IfOk result (λ bytes. IsSpelled debug map.now keys.now runs.now bytes.items) }
+    ensures { IfOk result (λ bytes. IsSpelled form map.now keys.now runs.now bytes.items) }
 {
     let mut out = Vec::new(alloc);
     let mut body = Vec::new(alloc);
-    put_cies(&mut out, &mut body, debug, keys)?;
-    put_fdes(&mut out, &mut body, debug, keys, map, runs)?;
-    put_end(&mut out, debug)?;
+    put_cies(&mut out, &mut body, form.is_debug(), keys)?;
+    put_fdes(&mut out, &mut body, form, keys, map, runs)?;
+    put_end(&mut out, form.is_debug())?;
     Ok(out)
 }

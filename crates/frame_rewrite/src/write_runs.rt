@@ -12,6 +12,8 @@ ghost use Rattle.frame_rewrite.specs.Tables as spec;
 use crate::answer::FrameAt;
 use crate::debug::DebugFrames;
 use crate::eh::EhFrames;
+use crate::form::Form;
+use crate::frames_address::frames_address;
 use crate::kinds::keys_of;
 use crate::put_table::written;
 use addr_map::AddrMap;
@@ -33,9 +35,10 @@ pub(crate) fn write_eh(
     map: &AddrMap,
 ) -> Result<Written, NoMemory>
     requires allowed { spec.EhAllows table.now map.now }
+    requires fitting { spec.EhFits table.now map.now runs.now }
     requires within { IsWithin 0 runs.now (2 ^ 64 - 1) }
     requires answers { (p : ℕ) → run_at runs.now p ≡ carried (spec.eh_says table.now) map.now p }
-    ensures law { IfOk result (λ w. (i f : Elf) → spec.EhComesFrom table.now i → spec.StandsAs spec.eh_name w f →
+    ensures law { IfOk result (λ w. (i f : Elf) → spec.EhComesFrom table.now i → spec.StandsEh i map.now w f →
         IsCarried (IsCarriedFrame map.now) map.now (run_at runs.now) (spec.eh_answers f)
         × IsFree (IsFrameFault (eh_frames f))) }
     ensures made { IfOk result (λ w. spec.EhMakes table.now map.now runs.now w) }
@@ -49,7 +52,8 @@ pub(crate) fn write_eh(
     }
     are_bytes(&table.frames.section);
     let keys = keys_of(alloc, map, runs)?;
-    let bytes = written(alloc, false, &keys, map, runs)?;
+    let form = Form::Loaded(frames_address(map));
+    let bytes = written(alloc, form, &keys, map, runs)?;
     Ok(Written { bytes, lists })
 }
 
@@ -76,6 +80,6 @@ pub(crate) fn write_debug(
     }
     are_bytes(&table.frames.section);
     let keys = keys_of(alloc, map, runs)?;
-    let bytes = written(alloc, true, &keys, map, runs)?;
+    let bytes = written(alloc, Form::Debug, &keys, map, runs)?;
     Ok(Written { bytes, lists })
 }

@@ -8,12 +8,12 @@ use Rattle.answer_runs.specs.AnswerRuns.{AreRunsOf, carried}
 use Rattle.cfi_rows.specs.ReadFrames.{read_as}
 use Rattle.frame_rewrite.specs.declared.eh.EhFrames.{EhFrames}
 use Rattle.frame_rewrite.specs.FrameAnswers.{FrameAnswer}
-use Rattle.frame_rewrite.specs.Tables.{EhFits, eh_says, run_size}
+use Rattle.frame_rewrite.specs.Tables.{ComesAfter, EhFits, eh_says, run_size}
 use Rattle.table_set.specs.CarriedTables.{AreCarried}
 use Rattle.table_set.specs.declared.all.AllTables.{AllTables}
 use Rattle.table_set.specs.declared.all.AllWritten.{AllWritten}
 use Rattle.bolt_core.specs.GivenTables.{DebugContents, ReadTable}
-use Rattle.bolt_core.specs.internal.GivenIndex.{AreListed}
+use Rattle.bolt_core.specs.internal.GivenIndex.{AreListed, frames_at}
 
 -- the runs of the unwind table aren't too many
 abbrev pub EhRunsFit : EhFrames → List Span → Type 0
@@ -47,3 +47,5 @@ pub record AreNewTables (elf : Elf) (t : AllTables) (spans : List Span) (start c
   pub written : AllWritten
   pub are_carried : AreCarried elf spans t written
   pub are_listed : AreListedOf elf start code written given
+  -- the unwind table was written for where it comes
+  pub after : ComesAfter spans (frames_at start code)

@@ -19,7 +19,7 @@ returns-in-None-clause-written c = no-entries _ _ _ _ _ c.loop-count.rest.now c.
     (nil_from_length c.loop-count.rest.now c.in-None.ensures.cases) c.loop-count.invariant.written
 
 pub returns-in-None-clause-writes : goal.returns-in-None-clause-writes
-returns-in-None-clause-writes c = no-writes _ _ _ _ c.loop-count.rest.now _
+returns-in-None-clause-writes c = no-writes _ _ _ _ _ c.loop-count.rest.now _
     (nil_from_length c.loop-count.rest.now c.in-None.ensures.cases) c.loop-count.invariant.writes
 
 pub returns-clause-written : goal.returns-clause-written
@@ -27,7 +27,7 @@ returns-clause-written c = out-of-fuel _ _ _ _ c.loop-count.count _ c.loop-count
     c.loop-count-test.false c.loop-count.invariant.written
 
 pub returns-clause-writes : goal.returns-clause-writes
-returns-clause-writes c = out-of-writes _ _ _ c.loop-count.count _ c.loop-count.rest.now _ c.loop-count-test.false
+returns-clause-writes c = out-of-writes _ _ _ _ c.loop-count.count _ c.loop-count.rest.now _ c.loop-count-test.false
     c.loop-count.invariant.writes
 
 pub put_fde-requires-clause-ends : goal.put_fde-requires-clause-ends
@@ -68,24 +68,24 @@ loop-count-preserved c =
     let back : c.split_at.result.1.now ≡ drop (more_count c.in-Some.first.now c.in-Some.others.now) c.in-Some.others.now =
     c.split_at.ensures.back ∙ ap (λ (n : ℕ). drop n c.in-Some.others.now) c.more_count.ensures.count in
     let written = subst (λ (m : Runs). c.put_fde.new.out.items ≡ c.loop-count.out.items
-    ++ spelled_entry (fde_entry c.args.debug c.args.map.now c.args.keys.now (length c.loop-count.out.items)
+    ++ spelled_entry (fde_entry c.args.form c.args.map.now c.args.keys.now (length c.loop-count.out.items)
     c.in-Some.first.now m)) front c.in_ok-put_fde-in-Some.ensures.written in
-    let writes = subst (λ (m : Runs). Writes c.args.map.now c.args.keys.now (length c.loop-count.out.items)
+    let writes = subst (λ (m : Runs). Writes c.args.form c.args.map.now c.args.keys.now (length c.loop-count.out.items)
     c.in-Some.first.now m) front c.in_ok-put_fde-in-Some.ensures.writes in
     record {
       written = subst (λ (l : Runs). c.put_fde.new.out.items
-          ++ spelled_entries (fde_entries c.args.debug c.args.map.now c.args.keys.now
+          ++ spelled_entries (fde_entries c.args.form c.args.map.now c.args.keys.now
           (length c.args.runs.now - (c.loop-count.count + 1)) (length c.put_fde.new.out.items) l)
-          ≡ c.args.out.now.items ++ spelled_entries (fde_entries c.args.debug c.args.map.now c.args.keys.now
+          ≡ c.args.out.now.items ++ spelled_entries (fde_entries c.args.form c.args.map.now c.args.keys.now
           (length c.args.runs.now) (length c.args.out.now.items) c.args.runs.now)) (sym back)
-          (group-more c.args.debug c.args.map.now c.args.keys.now (length c.args.runs.now) c.loop-count.count
+          (group-more c.args.form c.args.map.now c.args.keys.now (length c.args.runs.now) c.loop-count.count
           c.in-Some.first.now c.in-Some.others.now c.loop-count.rest.now
           c.loop-count.out.items c.put_fde.new.out.items _ c.loop-count-test.true is written c.loop-count.invariant.written);
-      writes = λ more. writes-more c.args.debug c.args.map.now c.args.keys.now (length c.args.runs.now)
+      writes = λ more. writes-more c.args.form c.args.map.now c.args.keys.now (length c.args.runs.now)
           c.loop-count.count c.in-Some.first.now c.in-Some.others.now c.loop-count.rest.now
           c.loop-count.out.items c.put_fde.new.out.items _ c.loop-count-test.true is written writes
           c.loop-count.invariant.writes
-          (subst (λ (l : Runs). WritesAll c.args.map.now c.args.keys.now
+          (subst (λ (l : Runs). WritesAll c.args.form c.args.map.now c.args.keys.now
           (length c.args.runs.now - (c.loop-count.count + 1)) (length c.put_fde.new.out.items) l) back more);
       within = subst (λ (l : Runs). IsWithin 0 l (2 ^ 64 - 1)) (sym back)
           (within-behind (more_count c.in-Some.first.now c.in-Some.others.now) c.in-Some.first.now c.in-Some.others.now
@@ -97,7 +97,7 @@ loop-count-preserved c =
           (ascend-behind (more_count c.in-Some.first.now c.in-Some.others.now) c.in-Some.first.now c.in-Some.others.now
           c.loop-count.rest.now is c.loop-count.invariant.ascend);
       behind = longer c.loop-count.out.items c.put_fde.new.out.items _
-          (fde_entry c.args.debug c.args.map.now c.args.keys.now (length c.loop-count.out.items) c.in-Some.first.now
+          (fde_entry c.args.form c.args.map.now c.args.keys.now (length c.loop-count.out.items) c.in-Some.first.now
           (take (more_count c.in-Some.first.now c.in-Some.others.now) c.in-Some.others.now)) written
           c.loop-count.invariant.behind;
     }

@@ -4,6 +4,7 @@ use Rattle.std.specs.List.{IsDistinct}
 use Rattle.std.proofs.lemmas.List.{nil_from_length}
 use Rattle.table_core.specs.Sections.{held}
 use Rattle.cfi_rows.specs.ReadFrames.{read_as, section_held}
+use Rattle.frame_rewrite.specs.declared.form.Form.TheVariants.{Debug}
 use Rattle.frame_rewrite.specs.FrameAnswers.{is_never_marked}
 use Rattle.frame_rewrite.specs.SpelledFits.{KeyFits}
 use Rattle.frame_rewrite.specs.SpelledFrames.{is_key}
@@ -48,8 +49,8 @@ written-requires-clause-distinct c = subst (IsDistinct is_key) (sym c.deref-2.en
 
 pub returns-clause-law : goal.returns-clause-law
 returns-clause-law c = λ f there.
-    stands true is_never_marked c.args.map.now c.deref-2.result.now c.args.runs.now c.in_ok-bytes.bytes.items
-    (held f debug_name) (subst (All KeyFits) (sym c.deref-2.ensures.value) c.in_ok-keys.ensures.fits) c.requires.within
+    stands Debug is_never_marked c.args.map.now c.deref-2.result.now c.args.runs.now c.in_ok-bytes.bytes.items
+    (held f debug_name) (subst (All KeyFits) (sym c.deref-2.ensures.value) c.in_ok-keys.ensures.fits) tt c.requires.within
     (debug-reached c.args.table.now c.args.map.now c.args.runs.now c.requires.within c.requires.answers)
     c.in_ok-bytes.ensures there
 
