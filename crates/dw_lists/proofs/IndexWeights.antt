@@ -1,15 +1,20 @@
--- The greatest of the indexes of a unit's attributes, and the weight of its table.
+-- The greatest of the indexes of a unit's attributes, and the weight of the tables of units.
 use Rattle.std.proofs.Common.{◌≡◌, ◌∙◌, ◌+◌, ◌*◌, ◌==◌, ◌<◌, ◌++◌, ◌∷◌, [], ℕ, List, Option, Some, None, refl, sym, ap, length, take}
-use Rattle.std.proofs.Common.{get_or, map, filter}
-use Rattle.std.specs.Prelude.{flat_map}
+use Rattle.std.proofs.Common.{get_or, map, filter, zero-add}
+use Rattle.std.specs.Prelude.{flat_map, sum_by}
+use Rattle.std.specs.Option.{option_map_or}
 use Rattle.std.proofs.lemmas.List.{map-append, take_more}
 use Rattle.std.proofs.lemmas.List.Elements.{filter-append}
+use Rattle.std.proofs.lemmas.List.Sums.{sum_by-append, sum_by-cons}
+use Rattle.answer_runs.specs.Choices.{first_of}
 use Rattle.dw_unit.specs.declared.entry.Attr.{Attr}
 use Rattle.dw_unit.specs.ListedEntries.{ListedEntry}
 use Rattle.dw_unit.specs.ListedUnits.{plain}
-use Rattle.dw_unit.specs.CompUnits.{Entry}
+use Rattle.dw_unit.specs.CompUnits.{Entry, Unit, own_entry}
 use Rattle.dw_unit.proofs.UnitReadings.{flat-more}
-use Rattle.dw_lists.specs.Weights.{greatest, indexes_in, offsets_weight}
+use Rattle.dw_lists.specs.IndexedUnits.{indexed_by, indexed_of, table_weight}
+use Rattle.dw_lists.specs.Lists.{Kind}
+use Rattle.dw_lists.specs.Weights.{greatest, indexes, indexes_in, index_weight, offsets_weight}
 
 indexes-append : (form : ℕ) (xs ys : List Attr) → indexes_in form (xs ++ ys) ≡ indexes_in form xs ++ indexes_in form ys
 indexes-append form xs ys =
@@ -39,27 +44,26 @@ entries_more form es i x o h is e =
     ∙ ap (λ (y : ListedEntry). take i es ++ y ∷ []) (sym is))
     ∙ flat-more (λ (e : ListedEntry). e.attrs) (take i es) x)))
 
-plain_attrs : (es : List ListedEntry) → flat_map (λ (e : ListedEntry). e.attrs) es ≡ flat_map (λ (e : Entry). e.attrs) (map plain es)
+pub plain_attrs : (es : List ListedEntry) → flat_map (λ (e : ListedEntry). e.attrs) es ≡ flat_map (λ (e : Entry). e.attrs) (map plain es)
 plain_attrs [] = refl
 plain_attrs (e ∷ es) = ap (λ (l : List Attr). e.attrs ++ l) (plain_attrs es)
 
-weight_by : (is : List ℕ) (n : ℕ) → greatest is ≡ Some n → offsets_weight is ≡ 32 + 4 * (n + 1)
-weight_by [] n e = absurd (cc)
-weight_by (i ∷ is) n e = ap (λ (o : Option ℕ). or_zero o) e
+-- What units weigh is what their tables do.
+
+by_greatest : (is : List ℕ) → option_map_or (λ (i : ℕ). 32 + 4 * (i + 1)) (greatest is) 0 ≡ offsets_weight is
+by_greatest [] = refl
+by_greatest (i ∷ is) = refl
+
+unit_weight : (k : Kind) (u : Unit) → sum_by table_weight (indexed_of k u) ≡ index_weight k.index_form u
+unit_weight k u = by u.entries refl
   where
-    or_zero : Option ℕ → ℕ
-    or_zero (Some m) = 32 + 4 * (m + 1)
-    or_zero None = 0
+    by : (es : List Entry) → u.entries ≡ es → sum_by table_weight (indexed_by k u (first_of es)) ≡ index_weight k.index_form u
+    by [] e = sym (ap (λ (es : List Entry). offsets_weight (indexes_in k.index_form (flat_map (λ (e : Entry). e.attrs) es))) e)
+    by (x ∷ es) e = zero-add _ ∙ by_greatest (indexes k.index_form u)
 
-weight_none : (is : List ℕ) → greatest is ≡ None → offsets_weight is ≡ 0
-weight_none [] e = refl
-weight_none (i ∷ is) e = absurd (cc)
-
-pub weight_some : (form : ℕ) (es : List ListedEntry) (n : ℕ) → greatest (indexes_in form (flat_map (λ (e : ListedEntry). e.attrs) es)) ≡
-    Some n →
-    32 + 4 * (n + 1) ≡ offsets_weight (indexes_in form (flat_map (λ (e : Entry). e.attrs) (map plain es)))
-weight_some form es n e = sym (weight_by _ n e) ∙ ap (λ (l : List Attr). offsets_weight (indexes_in form l)) (plain_attrs es)
-
-pub weight_zero : (form : ℕ) (es : List ListedEntry) → greatest (indexes_in form (flat_map (λ (e : ListedEntry). e.attrs) es)) ≡ None →
-    0 ≡ offsets_weight (indexes_in form (flat_map (λ (e : Entry). e.attrs) (map plain es)))
-weight_zero form es e = sym (weight_none _ e) ∙ ap (λ (l : List Attr). offsets_weight (indexes_in form l)) (plain_attrs es)
+pub all_weights : (k : Kind) (us : List Unit) → sum_by table_weight (flat_map (indexed_of k) us) ≡ sum_by (index_weight k.index_form) us
+all_weights k [] = refl
+all_weights k (u ∷ us) =
+    sum_by-append table_weight (indexed_of k u) (flat_map (indexed_of k) us)
+    ∙ (λ i. unit_weight k u i + all_weights k us i)
+    ∙ sym (sum_by-cons (index_weight k.index_form) u us)

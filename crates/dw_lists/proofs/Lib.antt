@@ -5,4 +5,4 @@ pub mod RangeLists
 mod BadTables
 pub mod OwnRanges
 pub mod NotedLists
-mod IndexWeights
+pub mod IndexWeights

@@ -5,6 +5,7 @@ pub mod Ranges
 pub mod Locations
 pub mod Tables
 pub mod Weights
+pub mod IndexedUnits
 pub mod ListTables
 pub mod ListReading
 pub mod UnitLists

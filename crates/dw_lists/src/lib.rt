@@ -3,7 +3,7 @@
 
 pub mod addresses;
 pub mod expression_block;
-pub mod index_weight;
+pub mod indexed_unit;
 pub mod list_bound;
 pub mod list_entry;
 mod list_item;

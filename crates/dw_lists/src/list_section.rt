@@ -126,8 +126,8 @@ fn offset_of_index(section: &[u8], begin: Option<u64>, index: u64) -> Option<u64
     Some(begin + LittleEndian::read_u32(&section[place as usize..]) as u64)
 }
 
-// The form of attributes that name lists by an index.
-fn index_form(kind: ListKind) -> u64
+/// The form of attributes that name lists by an index.
+pub fn index_form(kind: ListKind) -> u64
     ensures { result ≡ (kind_of kind).index_form }
 {
     match kind {

@@ -68,6 +68,17 @@ fn own_place(entries: &[Entry]) -> u64
     }
 }
 
+/// The base of the indexes of lists of a kind in the unit of some entries, if it has one.
+pub fn lists_base(kind: ListKind, entries: &[Entry]) -> Option<u64>
+    ensures { result ≡ units.base (kind_of kind).base_name (plain_unit entries.now) }
+{
+    let bases = bases(entries);
+    match kind {
+        ListKind::Ranges => bases.rnglists,
+        ListKind::Locations => bases.loclists,
+    }
+}
+
 /// What the unit of some entries needs to read lists.
 pub fn unit_lists<'a>(addr: &'a [u8], kind: ListKind, entries: &[Entry]) -> UnitLists<'a>
     ensures { ReadsLists (kind_of kind) addr.now (plain_unit entries.now) result }
@@ -77,13 +88,9 @@ pub fn unit_lists<'a>(addr: &'a [u8], kind: ListKind, entries: &[Entry]) -> Unit
         section: addr,
         base: bases.addr,
     };
-    let lists = match kind {
-        ListKind::Ranges => bases.rnglists,
-        ListKind::Locations => bases.loclists,
-    };
     UnitLists {
         addresses,
-        lists,
+        lists: lists_base(kind, entries),
         base: base_address(&addresses, entries),
         own: own_place(entries),
     }

@@ -51,7 +51,7 @@ bad_is s p o q are ranges locations = by_bad p.bad refl
 -- without a fault all entries were read
 pub places_read : (s : ListSections) (p : PlaceProgress) → IsProgress s (walked 5 s.units.info) p →
     IsFree (HasDwarfFault (location_places s)) →
-    ArePlacesOf s p.groups p.kept p.named.items p.index_weight
+    ArePlacesOf s p.groups p.kept p.named.items p.indexed.items
 places_read s p are free =
     let none : p.bad ≡ None = are.bad ∙ left_none (of_units s) (option_or (bad_address_table s.units.addr)
     (option_or (bad_table ranges_kind s.ranges s.units) (bad_table locations_kind s.locations s.units)))

@@ -1,6 +1,6 @@
 -- What was read of the locations of some units, with what is read of the next one.
-use Rattle.std.proofs.Common.{◌≡◌, ◌∙◌, ◌||◌, ◌&&◌, ◌==◌, ◌+◌, ◌-◌, ◌^◌, ◌++◌, ◌∷◌, [], ℕ, Bool, true, false, List, Option, Some, None, Ok}
-use Rattle.std.proofs.Common.{refl, sym, ap, subst, min, not}
+use Rattle.std.proofs.Common.{◌≡◌, ◌∙◌, ◌||◌, ◌&&◌, ◌==◌, ◌++◌, ◌∷◌, [], ℕ, Bool, true, false, List, Option, Some, None, Ok}
+use Rattle.std.proofs.Common.{refl, sym, ap, subst, not}
 use Rattle.std.specs.Prelude.{if◌then◌else◌, flat_map, is_some}
 use Rattle.std.specs.List.{list_all}
 use Rattle.std.proofs.lemmas.Bool.{and_parts}
@@ -34,9 +34,9 @@ use Rattle.list_units.specs.PlaceReading.{is_bad_unit, unit_says, AreGathered, I
 use Rattle.list_units.specs.Placing.{IsUnitPlaced}
 use Rattle.list_units.specs.RangeReading.{units_of}
 use Rattle.list_units.specs.ReadLists.{unit_lists, is_formed, are_formed}
-use Rattle.dw_lists.specs.Weights.{index_weight}
+use Rattle.dw_lists.specs.IndexedUnits.{indexed_of}
 use Rattle.list_units.proofs.PlainPlaces.{unit_of_listed}
-use Rattle.list_units.proofs.PlainUnits.{unit_weight}
+use Rattle.list_units.proofs.PlainUnits.{unit_indexed}
 use Rattle.list_units.proofs.ReadProgress.{units_more, read_unit, entries_by, indexes_more}
 
 -- of a sound unit all attributes that say where something is are formed
@@ -131,7 +131,7 @@ module _ (s : ListSections) (ws : List Walked) (w : Walked) (old new : PlaceProg
       new.named.items f)
       (ranges : new.bad_ranges ≡ lower old.bad_ranges f.ranges.bad) (locations : new.bad_locations
       ≡ lower old.bad_locations f.locations.bad)
-      (indexes : new.index_weight ≡ min (old.index_weight + min (index_weight locations_kind.index_form u) (2 ^ 64 - 1)) (2 ^ 64 - 1)) where
+      (indexes : new.indexed.items ≡ old.indexed.items ++ indexed_of locations_kind u) where
     tested : is_bad_unit s w ≡ (f.ranges.lacks_offset || f.locations.lacks_offset)
     tested =
         (λ i. good i || (has_bad_offset ranges_kind s.ranges (read i) || has_bad_offset locations_kind s.locations (read i)))
@@ -161,17 +161,17 @@ module _ (s : ListSections) (ws : List Walked) (w : Walked) (old new : PlaceProg
           names = subst (AreNamesOf new.kept.lists.items new.named.items)
               (sym (ap (flat_map (unit_items s)) (units_more s ws w u read) ∙ flat-more (unit_items s) (units_of s ws) u))
               (x.names formed (flat_map (unit_items s) (units_of s ws)) was.names);
-          indexes = indexes_more s locations_kind.index_form ws w u old.index_weight new.index_weight read indexes was.indexes;
+          indexes = indexes_more s locations_kind ws w u old.indexed.items new.indexed.items read indexes was.indexes;
         })
 
 -- a unit whose entries can be read
 pub unit_added : (s : ListSections) (ws : List Walked) (w : Walked) (old mid new : PlaceProgress) (r : UnitReading) (es : Vec ListedEntry) →
     IsProgress s ws old → IsReading s.units.abbrevs s.units.addr w r → mid.bad_form ≡ lower old.bad_form r.bad_form →
     mid.bad_high ≡ lower old.bad_high r.bad_high → mid.unformed ≡ lower old.unformed r.unformed → mid.groups ≡ old.groups →
-    mid.kept ≡ old.kept → mid.named ≡ old.named → mid.index_weight ≡ old.index_weight → mid.bad_ranges ≡ old.bad_ranges →
+    mid.kept ≡ old.kept → mid.named ≡ old.named → mid.indexed ≡ old.indexed → mid.bad_ranges ≡ old.bad_ranges →
     mid.bad_locations ≡ old.bad_locations → mid.bad ≡ old.bad → old.bad ≡ None →
     r.entries ≡ Some es → IsUnitAdded s es.items w.place mid new → IsProgress s (ws ++ w ∷ []) new
-unit_added s ws w old mid new r es are is form high unform groups kept named weight ranges locations bad before some added =
+unit_added s ws w old mid new r es are is form high unform groups kept named indexed ranges locations bad before some added =
     let behind = entries_by s w r (Some es) is some in
     let u = read_unit (unit_of s.units.abbrevs w) es.items behind.1 in
     let x : IsUnitPlaced s u.0 old.groups old.kept old.named.items new.groups new.kept new.named.items added.faults =
@@ -184,7 +184,7 @@ unit_added s ws w old mid new r es are is form high unform groups kept named wei
     ∙ unform) added.faults before behind.0 u.0 u.1 x
     (added.ranges ∙ ap (λ (o : Option ℕ). lower o added.faults.ranges.bad) ranges)
     (added.locations ∙ ap (λ (o : Option ℕ). lower o added.faults.locations.bad) locations)
-    (added.indexes ∙ (λ i. min (weight i + min (unit_weight locations_kind.index_form u.0 es.items u.2 i) (2 ^ 64 - 1)) (2 ^ 64 - 1)))
+    (added.indexes ∙ (λ i. (indexed i).items ++ unit_indexed locations_kind u.0 es.items u.2 i))
     (added.faults.ranges.lacks_offset || added.faults.locations.lacks_offset) refl
     (added.bad ∙ ap (λ (o : Option ℕ). if added.faults.ranges.lacks_offset || added.faults.locations.lacks_offset then Some w.place else o)
     bad)

@@ -1,10 +1,10 @@
 -- What is gathered of a unit goes by what is listed of its entries.
 use Rattle.std.proofs.Common.{◌≡◌, ◌∙◌, ◌++◌, ◌∷◌, [], ℕ, List, refl, sym, ap, map, filter, subst}
-use Rattle.std.specs.Prelude.{not, is_some, flat_map, filter_map}
+use Rattle.std.specs.Prelude.{not, is_some, flat_map, filter_map, option_map}
 use Rattle.std.specs.List.{list_any}
 use Rattle.answer_runs.specs.Choices.{least}
 use Rattle.dw_unit.specs.declared.entry.Attr.{Attr}
-use Rattle.dw_unit.specs.CompUnits.{Entry, Unit}
+use Rattle.dw_unit.specs.CompUnits.{Entry, Unit, attr}
 use Rattle.dw_unit.specs.ListedEntries.{ListedEntry, listed}
 use Rattle.dw_unit.specs.ListedUnits.{plain, plain_unit}
 use Rattle.cover_lists.specs.declared.groups.Groups.{Groups}
@@ -14,7 +14,8 @@ use Rattle.dw_lists.specs.Faults.{ListSections, lacks_offset, bad_list_tables, t
 use Rattle.list_units.specs.Gathering.{SeenEntry, seen_of, seen_in, seen_kept, ranges_index, IsUnitGathered}
 use Rattle.dw_lists.specs.Lists.{Kind, ranges_kind, has_list, list_offset, list_at}
 use Rattle.dw_lists.specs.Ranges.{ranges_of}
-use Rattle.dw_lists.specs.Weights.{index_weight, indexes_in, offsets_weight}
+use Rattle.dw_lists.specs.IndexedUnits.{indexed_of}
+use Rattle.dw_lists.specs.Weights.{greatest, indexes_in}
 
 pub attrs_listed : (es : List Entry) → flat_map (λ (e : Entry). e.attrs) (map plain (map listed es)) ≡ flat_map (λ (e : Entry). e.attrs) es
 attrs_listed [] = refl
@@ -50,12 +51,21 @@ module _ (s : ListSections) (place offset : ℕ) where
       ap (λ (l : List Attr). map (table_place section) (filter (λ at. not (is_some (list_at k section s.units.addr (whole (e ∷ ds)) at)))
       (filter_map (list_offset k section (whole (e ∷ ds))) (filter (has_list k) l)))) (attrs_listed (e ∷ ds))
 
--- and so it is weighed
-pub unit_weight : (form : ℕ) (u : Unit) (es : List ListedEntry) → map listed u.entries ≡ es →
-    index_weight form (plain_unit es) ≡ index_weight form u
-unit_weight form u es is =
-    ap (λ (l : List ListedEntry). index_weight form (plain_unit l)) (sym is)
-    ∙ ap (λ (l : List Attr). offsets_weight (indexes_in form l)) (attrs_listed u.entries)
+-- and so are the indexes that it uses
+pub unit_indexed : (k : Kind) (u : Unit) (es : List ListedEntry) → map listed u.entries ≡ es →
+    indexed_of k (plain_unit es) ≡ indexed_of k u
+unit_indexed k u es is = ap (λ (l : List ListedEntry). indexed_of k (plain_unit l)) (sym is) ∙ by u.place u.abbrev_offset u.entries
+  where
+    by : (place offset : ℕ) (es : List Entry) →
+        indexed_of k (plain_unit (map listed es)) ≡ indexed_of k (record { place = place; abbrev_offset = offset; entries = es })
+    by place offset [] = refl
+    by place offset (e ∷ es) =
+        ap (λ (l : List Attr). record {
+          own = e.place;
+          base = option_map (λ (a : Attr). a.value) (attr k.base_name e);
+          greatest = greatest (indexes_in k.index_form l);
+        }
+        ∷ []) (attrs_listed (e ∷ es))
 
 -- the unit that was read is gathered
 pub unit_of_listed : (s : ListSections) (u : Unit) (es : List ListedEntry) (old new : Groups) (olds news : List RangedEntry)

@@ -58,7 +58,7 @@ left_none (Some n) b e = absurd (cc)
 
 -- without a fault all entries were read
 pub ranges_read : (s : ListSections) (p : Progress) → IsProgress s (walked 5 s.units.info) p → IsFree (HasDwarfFault (range_places s)) →
-    AreRangesOf s p.groups p.ranged.items p.index_weight
+    AreRangesOf s p.groups p.ranged.items p.indexed.items
 ranges_read s p are free =
     let none : p.bad ≡ None = are.bad ∙ left_none (of_units s) (option_or (bad_address_table s.units.addr)
     (bad_table ranges_kind s.ranges s.units))

@@ -1,10 +1,9 @@
 -- What was read of some units, with what is read of the next one.
 use Rattle.std.proofs.Common.{◌≡◌, ◌∙◌, ◌||◌, ◌++◌, ◌∷◌, [], ℕ, Bool, true, false, List, Option, Some, None, Result, Ok, Err, refl, sym, ap}
-use Rattle.std.proofs.Common.{subst, map, arith, ◌+◌, ◌-◌, ◌^◌, min}
-use Rattle.std.specs.Prelude.{if◌then◌else◌, flat_map, is_some, MatchOption, sum_by}
+use Rattle.std.proofs.Common.{subst, map}
+use Rattle.std.specs.Prelude.{if◌then◌else◌, flat_map, is_some, MatchOption}
 use Rattle.std.specs.Global.{Vec}
 use Rattle.std.proofs.lemmas.List.{map-append}
-use Rattle.std.proofs.lemmas.List.Sums.{sum_by_push}
 use Rattle.answer_runs.specs.Choices.{lower, least}
 use Rattle.table_core.specs.DebugUnits.{Walked, first_place}
 use Rattle.table_core.specs.ReadSteps.{oks}
@@ -25,10 +24,11 @@ use Rattle.dw_lists.specs.declared.unit_ranges.ListFaults.{ListFaults}
 use Rattle.dw_lists.specs.Faults.{ListSections, has_bad_offset, bad_list_tables}
 use Rattle.list_units.specs.Gathering.{SeenEntry, seen_in, IsUnitGathered}
 use Rattle.cover_lists.specs.Groups.{AreNumbered, AreWithin}
-use Rattle.dw_lists.specs.Lists.{ranges_kind}
+use Rattle.dw_lists.specs.Lists.{Kind, ranges_kind}
 use Rattle.list_units.specs.RangeReading.{is_bad_unit, units_of, AreGathered, IsProgress, IsUnitAdded}
-use Rattle.dw_lists.specs.Weights.{index_weight}
-use Rattle.list_units.proofs.PlainUnits.{unit_of_listed, unit_weight}
+use Rattle.dw_lists.specs.declared.indexed_unit.IndexedUnit.{IndexedUnit}
+use Rattle.dw_lists.specs.IndexedUnits.{indexed_of}
+use Rattle.list_units.proofs.PlainUnits.{unit_of_listed, unit_indexed}
 
 pub none_of : (o : Option ℕ) → is_some o ≡ false → o ≡ None
 none_of None e = refl
@@ -60,20 +60,13 @@ entries_by s w r o is e = subst (λ o. MatchOption o (fails (is_sound_unit s.uni
     × (listed_unit (unit_of s.units.abbrevs w) ≡ Ok es.items)))
     e is.behind.entries
 
-weights_more : (n m limit : ℕ) → min (min n limit + min m limit) limit ≡ min (n + m) limit
-weights_more n m limit = omega arith
-
--- the weights of the tables of offsets of one unit more
-pub indexes_more : (s : ListSections) (form : ℕ) (ws : List Walked) (w : Walked) (u : Unit) (old new : ℕ) →
-    unit_of s.units.abbrevs w ≡ Ok u →
-    new ≡ min (old + min (index_weight form u) (2 ^ 64 - 1)) (2 ^ 64 - 1) →
-    old ≡ min (sum_by (index_weight form) (units_of s ws)) (2 ^ 64 - 1) →
-    new ≡ min (sum_by (index_weight form) (units_of s (ws ++ w ∷ []))) (2 ^ 64 - 1)
-indexes_more s form ws w u old new read made before =
-    made ∙ ap (λ (n : ℕ). min (n + min (index_weight form u) (2 ^ 64 - 1)) (2 ^ 64 - 1)) before
-    ∙ weights_more (sum_by (index_weight form) (units_of s ws)) (index_weight form u) (2 ^ 64 - 1)
-    ∙ ap (λ (n : ℕ). min n (2 ^ 64 - 1))
-    (sym (ap (sum_by (index_weight form)) (units_more s ws w u read) ∙ sum_by_push (index_weight form) (units_of s ws) u))
+-- the indexes of one unit more
+pub indexes_more : (s : ListSections) (k : Kind) (ws : List Walked) (w : Walked) (u : Unit) (old new : List IndexedUnit) →
+    unit_of s.units.abbrevs w ≡ Ok u → new ≡ old ++ indexed_of k u → old ≡ flat_map (indexed_of k) (units_of s ws) →
+    new ≡ flat_map (indexed_of k) (units_of s (ws ++ w ∷ []))
+indexes_more s k ws w u old new read made before =
+    made ∙ ap (λ (l : List IndexedUnit). l ++ indexed_of k u) before
+    ∙ sym (ap (flat_map (indexed_of k)) (units_more s ws w u read) ∙ flat-more (indexed_of k) (units_of s ws) u)
 
 module _ (s : ListSections) (ws : List Walked) (w : Walked) (old new : Progress) (r : UnitReading) (are : IsProgress s ws old)
     (is : IsReading s.units.abbrevs s.units.addr w r) (form : new.bad_form ≡ lower old.bad_form r.bad_form)
@@ -120,7 +113,7 @@ module _ (s : ListSections) (ws : List Walked) (w : Walked) (old new : Progress)
       (good : fails (is_sound_unit s.units.addr) (unit_of s.units.abbrevs w) ≡ false) (u : Unit) (read : unit_of s.units.abbrevs w ≡ Ok u)
       (g : IsUnitGathered s u old.groups old.ranged.items new.groups new.ranged.items f)
       (table : new.bad_table ≡ lower old.bad_table f.bad)
-      (indexes : new.index_weight ≡ min (old.index_weight + min (index_weight ranges_kind.index_form u) (2 ^ 64 - 1)) (2 ^ 64 - 1)) where
+      (indexes : new.indexed.items ≡ old.indexed.items ++ indexed_of ranges_kind u) where
     tested : is_bad_unit s w ≡ f.lacks_offset
     tested = (λ i. good i || has_bad_offset ranges_kind s.ranges (read i)) ∙ sym g.lacks
 
@@ -142,17 +135,17 @@ module _ (s : ListSections) (ws : List Walked) (w : Walked) (old new : Progress)
               ∙ ap least (flat-more (bad_list_tables ranges_kind s.ranges s.units.addr) (units_of s ws) u)
               ∙ least-append (flat_map (bad_list_tables ranges_kind s.ranges s.units.addr) (units_of s ws))
               (bad_list_tables ranges_kind s.ranges s.units.addr u));
-          indexes = indexes_more s ranges_kind.index_form ws w u old.index_weight new.index_weight read indexes was.indexes;
+          indexes = indexes_more s ranges_kind ws w u old.indexed.items new.indexed.items read indexes was.indexes;
         })
 
 -- a unit whose entries can be read
 pub unit_added : (s : ListSections) (ws : List Walked) (w : Walked) (old mid new : Progress) (r : UnitReading) (es : Vec ListedEntry) →
     IsProgress s ws old → IsReading s.units.abbrevs s.units.addr w r → mid.bad_form ≡ lower old.bad_form r.bad_form →
     mid.bad_high ≡ lower old.bad_high r.bad_high → mid.unformed ≡ lower old.unformed r.unformed → mid.groups ≡ old.groups →
-    mid.ranged.items ≡ old.ranged.items → mid.index_weight ≡ old.index_weight → mid.bad_table ≡ old.bad_table → mid.bad ≡ old.bad →
+    mid.ranged.items ≡ old.ranged.items → mid.indexed ≡ old.indexed → mid.bad_table ≡ old.bad_table → mid.bad ≡ old.bad →
     old.bad ≡ None → r.entries ≡ Some es →
     IsUnitAdded s es.items w.place mid new → IsProgress s (ws ++ w ∷ []) new
-unit_added s ws w old mid new r es are is form high unform groups ranged weight table bad before some added =
+unit_added s ws w old mid new r es are is form high unform groups ranged indexed table bad before some added =
     let behind = entries_by s w r (Some es) is some in
     let u = read_unit (unit_of s.units.abbrevs w) es.items behind.1 in
     let g : IsUnitGathered s u.0 old.groups old.ranged.items new.groups new.ranged.items added.faults =
@@ -162,6 +155,6 @@ unit_added s ws w old mid new r es are is form high unform groups ranged weight 
     by_offset s ws w old new r are is (added.form ∙ form) (added.high ∙ high) (added.unformed_is ∙ unform) es.items added.faults before
     behind.0 u.0 u.1 g
     (added.table ∙ ap (λ (o : Option ℕ). lower o added.faults.bad) table)
-    (added.indexes ∙ (λ i. min (weight i + min (unit_weight ranges_kind.index_form u.0 es.items u.2 i) (2 ^ 64 - 1)) (2 ^ 64 - 1)))
+    (added.indexes ∙ (λ i. (indexed i).items ++ unit_indexed ranges_kind u.0 es.items u.2 i))
     added.faults.lacks_offset refl
     (added.bad ∙ ap (λ (o : Option ℕ). if added.faults.lacks_offset then Some w.place else o) bad)

@@ -1,5 +1,5 @@
 -- What was read of the locations of some units.
-use Rattle.std.specs.Prelude.{◌≡◌, ◌||◌, ◌+◌, ◌-◌, ◌^◌, ℕ, Bool, List, if◌then◌else◌, flat_map, Some, None, min, sum_by}
+use Rattle.std.specs.Prelude.{◌≡◌, ◌||◌, ◌++◌, ℕ, Bool, List, if◌then◌else◌, flat_map, Some, None}
 use Rattle.rb_bytes.specs.FirstFault.{IsFree}
 use Rattle.answer_runs.specs.Choices.{lower, least}
 use Rattle.table_core.specs.DebugUnits.{Walked, first_place}
@@ -24,7 +24,8 @@ use Rattle.dw_lists.specs.Ranges.{ranged_in}
 use Rattle.list_units.specs.ReadLists.{unit_lists}
 use Rattle.cover_lists.specs.KeptLists.{all_say}
 use Rattle.list_units.specs.UnitLocations.{AreHeld, all_located}
-use Rattle.dw_lists.specs.Weights.{index_weight, index_weights}
+use Rattle.dw_lists.specs.declared.indexed_unit.IndexedUnit.{IndexedUnit}
+use Rattle.dw_lists.specs.IndexedUnits.{indexed_of, indexed_units}
 
 -- a unit that can't be read, or names a list of either kind that isn't there
 abbrev pub is_bad_unit : ListSections → Walked → Bool
@@ -43,7 +44,7 @@ pub record AreGathered (s : ListSections) (ws : List Walked) (p : PlaceProgress)
       (units_of s ws))
   pub listed : all_say p.kept.lists.items ≡ flat_map (unit_lists s) (units_of s ws)
   pub names : AreNamesOf p.kept.lists.items p.named.items (flat_map (unit_items s) (units_of s ws))
-  pub indexes : p.index_weight ≡ min (sum_by (index_weight locations_kind.index_form) (units_of s ws)) (2 ^ 64 - 1)
+  pub indexes : p.indexed.items ≡ flat_map (indexed_of locations_kind) (units_of s ws)
 
 pub record IsProgress (s : ListSections) (ws : List Walked) (p : PlaceProgress) : Type 0 where
   pub numbered : AreNumbered p.groups
@@ -60,20 +61,19 @@ pub record IsUnitAdded (s : ListSections) (es : List ListedEntry) (place : ℕ) 
       faults
   pub ranges : new.bad_ranges ≡ lower old.bad_ranges faults.ranges.bad
   pub locations : new.bad_locations ≡ lower old.bad_locations faults.locations.bad
-  pub indexes : new.index_weight
-      ≡ min (old.index_weight + min (index_weight locations_kind.index_form (plain_unit es)) (2 ^ 64 - 1)) (2 ^ 64 - 1)
+  pub indexes : new.indexed.items ≡ old.indexed.items ++ indexed_of locations_kind (plain_unit es)
   pub bad : new.bad ≡ (if faults.ranges.lacks_offset || faults.locations.lacks_offset then Some place else old.bad)
   pub form : new.bad_form ≡ old.bad_form
   pub high : new.bad_high ≡ old.bad_high
   pub unformed_is : new.unformed ≡ old.unformed
 
--- What sections without a fault say of locations, and what their tables of offsets weigh.
+-- What sections without a fault say of locations, and the indexes that units use.
 pub record ArePlacesOf (s : ListSections) (groups : Groups) (kept : Locations) (named : List NamedList)
-    (weight : ℕ) : Type 0 where
+    (indexed : List IndexedUnit) : Type 0 where
   pub free : IsFree (HasDwarfFault (location_places s))
   pub numbered : AreNumbered groups
   pub held : AreHeld groups.count kept
   pub says : (a : ℕ) → all_located groups.covers.items kept.lists.items kept.located.items a ≡ places_said s a
   pub listed : all_say kept.lists.items ≡ flat_map (unit_lists s) (units s.units)
   pub names : AreNamesOf kept.lists.items named (all_items s)
-  pub indexes : weight ≡ min (index_weights locations_kind.index_form s) (2 ^ 64 - 1)
+  pub indexes : indexed ≡ indexed_units locations_kind s.units

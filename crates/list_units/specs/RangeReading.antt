@@ -1,6 +1,5 @@
 -- What was read of the ranges of some units.
-use Rattle.std.specs.Prelude.{◌≡◌, ◌||◌, ◌+◌, ◌-◌, ◌^◌, ℕ, Bool, List, if◌then◌else◌, flat_map, map, Some, None, min}
-use Rattle.std.specs.Prelude.{sum_by}
+use Rattle.std.specs.Prelude.{◌≡◌, ◌||◌, ◌++◌, ℕ, Bool, List, if◌then◌else◌, flat_map, map, Some, None}
 use Rattle.answer_runs.specs.Choices.{lower, least}
 use Rattle.table_core.specs.DebugUnits.{Walked, first_place}
 use Rattle.table_core.specs.ReadSteps.{oks}
@@ -20,7 +19,8 @@ use Rattle.dw_lists.specs.Ranges.{covering}
 use Rattle.list_units.specs.Gathering.{SeenEntry, seen_in, seen_kept, IsUnitGathered}
 use Rattle.cover_lists.specs.Groups.{AreNumbered, AreWithin, held_places}
 use Rattle.dw_lists.specs.Lists.{ranges_kind}
-use Rattle.dw_lists.specs.Weights.{index_weight, index_weights}
+use Rattle.dw_lists.specs.declared.indexed_unit.IndexedUnit.{IndexedUnit}
+use Rattle.dw_lists.specs.IndexedUnits.{indexed_of, indexed_units}
 
 -- a unit that can't be read, or names a list that isn't there
 abbrev pub is_bad_unit : ListSections → Walked → Bool
@@ -34,7 +34,7 @@ pub record AreGathered (s : ListSections) (ws : List Walked) (p : Progress) : Ty
   pub seen : (a : ℕ) → seen_kept p.groups.covers.items p.ranged.items a
       ≡ flat_map (λ (u : Unit). seen_in s u u.entries a) (units_of s ws)
   pub bad : p.bad_table ≡ least (flat_map (bad_list_tables ranges_kind s.ranges s.units.addr) (units_of s ws))
-  pub indexes : p.index_weight ≡ min (sum_by (index_weight ranges_kind.index_form) (units_of s ws)) (2 ^ 64 - 1)
+  pub indexes : p.indexed.items ≡ flat_map (indexed_of ranges_kind) (units_of s ws)
 
 pub record IsProgress (s : ListSections) (ws : List Walked) (p : Progress) : Type 0 where
   pub numbered : AreNumbered p.groups
@@ -50,8 +50,7 @@ pub record IsUnitAdded (s : ListSections) (es : List ListedEntry) (place : ℕ) 
   pub faults : ListFaults
   pub gathered : IsUnitGathered s (plain_unit es) old.groups old.ranged.items new.groups new.ranged.items faults
   pub table : new.bad_table ≡ lower old.bad_table faults.bad
-  pub indexes : new.index_weight
-      ≡ min (old.index_weight + min (index_weight ranges_kind.index_form (plain_unit es)) (2 ^ 64 - 1)) (2 ^ 64 - 1)
+  pub indexes : new.indexed.items ≡ old.indexed.items ++ indexed_of ranges_kind (plain_unit es)
   pub bad : new.bad ≡ (if faults.lacks_offset then Some place else old.bad)
   pub form : new.bad_form ≡ old.bad_form
   pub high : new.bad_high ≡ old.bad_high
@@ -60,11 +59,12 @@ pub record IsUnitAdded (s : ListSections) (es : List ListedEntry) (place : ℕ) 
 abbrev pub all_seen : ListSections → ℕ → List SeenEntry
 all_seen s a = flat_map (λ (u : Unit). seen_in s u u.entries a) (units s.units)
 
--- The entries that have ranges, of sections without a fault.
-pub record AreRangesOf (s : ListSections) (groups : Groups) (ranged : List RangedEntry) (weight : ℕ) : Type 0 where
+-- The entries that have ranges, and the indexes that units use, of sections without a fault.
+pub record AreRangesOf (s : ListSections) (groups : Groups) (ranged : List RangedEntry)
+    (indexed : List IndexedUnit) : Type 0 where
   pub free : IsFree (HasDwarfFault (range_places s))
   pub numbered : AreNumbered groups
   pub within : AreWithin groups.count ranged
   pub seen : (a : ℕ) → seen_kept groups.covers.items ranged a ≡ all_seen s a
   pub held : (a : ℕ) → held_places groups.covers.items ranged a ≡ covering s a
-  pub indexes : weight ≡ min (index_weights ranges_kind.index_form s) (2 ^ 64 - 1)
+  pub indexes : indexed ≡ indexed_units ranges_kind s.units

@@ -101,10 +101,10 @@ pub fn read_both(
 ) -> Result<BothEntries, Refusal>
     ensures ranges { IfOk result (λ r.
         ranges_read.AreRangesOf (list_sections_held info.now abbrevs.now addr.now ranges.now locations.now)
-        r.ranges.groups r.ranges.ranged.items r.ranges.index_weight) }
+        r.ranges.groups r.ranges.ranged.items r.ranges.indexed.items) }
     ensures places { IfOk result (λ r.
         places_read.ArePlacesOf (list_sections_held info.now abbrevs.now addr.now ranges.now locations.now)
-        r.places.groups r.places.kept r.places.named.items r.places.index_weight) }
+        r.places.groups r.places.kept r.places.named.items r.places.indexed.items) }
     ensures fault { IfErr result (λ e. IsRefusalBy
         (HasDwarfFault (location_places
         (list_sections_held info.now abbrevs.now addr.now ranges.now locations.now))) e) }
@@ -140,13 +140,13 @@ pub fn read_both(
         ranges: RangedEntries {
             groups: ranged.groups,
             ranged: ranged.ranged,
-            index_weight: ranged.index_weight,
+            indexed: ranged.indexed,
         },
         places: PlacedEntries {
             groups: placed.groups,
             kept: placed.kept,
             named: placed.named,
-            index_weight: placed.index_weight,
+            indexed: placed.indexed,
         },
     })
 }

@@ -7,6 +7,7 @@ ghost use Rattle.list_units.specs.PlaceReading.{IsProgress};
 use crate::located_attr::Locations;
 use crate::place_reading::PlaceProgress;
 use cover_lists::groups::Groups;
+use dw_lists::indexed_unit::IndexedUnit;
 use dw_lists::list_section::bad_table;
 use dw_lists::named_list::NamedList;
 use dw_unit::address_table;
@@ -24,9 +25,8 @@ pub struct PlacedEntries {
     pub kept: Locations,
     /// The attributes that name location lists, in the order of their entries, DW_AT_location before DW_AT_frame_base.
     pub named: Vec<NamedList>,
-    /// What the tables of offsets weigh that units need for their indexes, or the greatest number where that is none
-    /// of 64 bits.
-    pub index_weight: u64,
+    /// The indexes of lists that units use, one after another.
+    pub indexed: Vec<IndexedUnit>,
 }
 
 /// What was read before the first unit: nothing.
@@ -49,7 +49,7 @@ pub(crate) fn nothing(alloc: Global) -> PlaceProgress
         bad: None,
         bad_ranges: None,
         bad_locations: None,
-        index_weight: 0,
+        indexed: Vec::new(alloc),
     }
 }
 

@@ -11,14 +11,14 @@ ghost use Rattle.list_units.specs.UnitLocations.{AreHeld};
 use crate::located_attr::Locations;
 use crate::placing::{PlaceSections, UnitFaults, place_unit};
 use cover_lists::groups::Groups;
-use dw_lists::index_weight::index_weight;
+use dw_lists::indexed_unit::{IndexedUnit, put_indexed};
+use dw_lists::list_kind::ListKind;
 use dw_lists::named_list::NamedList;
 use dw_unit::Entry;
 use dw_unit::lowest::lower;
 use dw_unit::unit_reading::UnitReading;
 use rb_bytes::fault::NoMemory;
 use std::alloc::Global;
-use table_core::form::DW_FORM_loclistx;
 
 /// What was read so far: of the locations of some units, and of their faults.
 #[derive(Drop)]
@@ -39,9 +39,8 @@ pub struct PlaceProgress {
     pub bad_ranges: Option<u64>,
     /// The lowest table with a location list that can't be read; it counts where no unit is bad.
     pub bad_locations: Option<u64>,
-    /// What the tables of offsets weigh that units need for their indexes, or the greatest number where that is none
-    /// of 64 bits.
-    pub index_weight: u64,
+    /// The indexes of lists that units use, one after another.
+    pub indexed: Vec<IndexedUnit>,
 }
 
 // Whether a unit names a list whose offset can't be read or is past the section.
@@ -79,8 +78,7 @@ fn add_entries(
     )?;
     progress.bad_ranges = lower(progress.bad_ranges, faults.ranges.bad);
     progress.bad_locations = lower(progress.bad_locations, faults.locations.bad);
-    let weight = index_weight(DW_FORM_loclistx, entries);
-    progress.index_weight = progress.index_weight.saturating_add(weight);
+    put_indexed(&mut progress.indexed, ListKind::Locations, entries)?;
     progress.bad = if lacks_offset(&faults) {
         Some(place)
     } else {

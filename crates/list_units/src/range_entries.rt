@@ -9,6 +9,7 @@ ghost use Rattle.list_units.specs.RangeReading.{IsProgress, AreRangesOf};
 
 use crate::range_reading::{Progress, add_reading};
 use cover_lists::groups::{Groups, RangedEntry};
+use dw_lists::indexed_unit::IndexedUnit;
 use dw_lists::list_section::{ListSection, bad_table};
 use dw_unit::address_table::other_version;
 use dw_unit::fault_places::{FaultPlaces, refused};
@@ -25,9 +26,8 @@ pub struct RangedEntries {
     pub groups: Groups,
     /// The entries in order, each with its group.
     pub ranged: Vec<RangedEntry>,
-    /// What the tables of offsets weigh that units need for their indexes, or the greatest number where that is none
-    /// of 64 bits.
-    pub index_weight: u64,
+    /// The indexes of lists that units use, one after another.
+    pub indexed: Vec<IndexedUnit>,
 }
 
 /// What was read before the first unit: nothing.
@@ -45,7 +45,7 @@ pub(crate) fn nothing(alloc: Global) -> Progress
         unformed: None,
         bad: None,
         bad_table: None,
-        index_weight: 0,
+        indexed: Vec::new(alloc),
     }
 }
 
@@ -113,7 +113,7 @@ pub fn read_ranges(
 ) -> Result<RangedEntries, Refusal>
     ensures read { IfOk result (λ r. (locations : List ℕ) →
         AreRangesOf (list_sections_held info.now abbrevs.now addr.now ranges.now locations) r.groups r.ranged.items
-        r.index_weight) }
+        r.indexed.items) }
     ensures fault { IfErr result (λ e. (locations : List ℕ) →
         IsRefusalBy
         (HasDwarfFault (range_places (list_sections_held info.now abbrevs.now addr.now ranges.now locations))) e) }
@@ -132,6 +132,6 @@ pub fn read_ranges(
     Ok(RangedEntries {
         groups: progress.groups,
         ranged: progress.ranged,
-        index_weight: progress.index_weight,
+        indexed: progress.indexed,
     })
 }

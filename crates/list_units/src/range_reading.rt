@@ -9,14 +9,14 @@ ghost use Rattle.list_units.specs.RangeReading.{IsProgress, IsUnitAdded};
 
 use crate::gathering::add_unit;
 use cover_lists::groups::{Groups, RangedEntry};
-use dw_lists::index_weight::index_weight;
+use dw_lists::indexed_unit::{IndexedUnit, put_indexed};
+use dw_lists::list_kind::ListKind;
 use dw_lists::list_section::ListSection;
 use dw_unit::Entry;
 use dw_unit::lowest::lower;
 use dw_unit::unit_reading::UnitReading;
 use rb_bytes::fault::NoMemory;
 use std::alloc::Global;
-use table_core::form::DW_FORM_rnglistx;
 
 /// What was read so far: of the ranges of some units, and of their faults.
 #[derive(Drop)]
@@ -33,9 +33,8 @@ pub struct Progress {
     pub bad: Option<u64>,
     /// The lowest table with a list that can't be read; it counts where no unit is bad.
     pub bad_table: Option<u64>,
-    /// What the tables of offsets weigh that units need for their indexes, or the greatest number where that is none
-    /// of 64 bits.
-    pub index_weight: u64,
+    /// The indexes of lists that units use, one after another.
+    pub indexed: Vec<IndexedUnit>,
 }
 
 // Adds the entries of a unit that can be read, and notes what is wrong with its lists.
@@ -62,8 +61,7 @@ fn add_entries(
         entries,
     )?;
     progress.bad_table = lower(progress.bad_table, faults.bad);
-    let weight = index_weight(DW_FORM_rnglistx, entries);
-    progress.index_weight = progress.index_weight.saturating_add(weight);
+    put_indexed(&mut progress.indexed, ListKind::Ranges, entries)?;
     if faults.lacks_offset {
         progress.bad = Some(place);
     }

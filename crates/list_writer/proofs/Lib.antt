@@ -6,7 +6,8 @@ mod SpelledLists
 pub mod PutEntries
 mod UnitTables
 pub mod HeldRuns
-mod UnitSteps
+pub mod UnitSteps
 pub mod ListsThere
+pub mod BasesThere
 mod SpelledLocations
 pub mod ForcedRuns

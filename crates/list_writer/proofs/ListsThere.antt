@@ -1,5 +1,5 @@
 -- A list that stands in a table of a section is read there, and so is an offset.
-use Rattle.std.proofs.Common.{ℕ, ◌+◌, ◌-◌, ◌*◌, ◌^◌, ◌≤◌, ◌<◌, ◌≡◌, List, [], ◌∷◌, ◌++◌, Option, Some, None, cond, leb, Bool, true, false, refl}
+use Rattle.std.proofs.Common.{ℕ, ◌+◌, ◌-◌, ◌*◌, ◌^◌, ◌≤◌, ◌<◌, ◌≡◌, List, [], ◌∷◌, ◌++◌, Option, Some, None, Ok, cond, leb, Bool, true, false, refl}
 use Rattle.std.proofs.Common.{◌∙◌, ap, subst, arith, length, take, drop, append_assoc, length-append, map}
 use Rattle.std.proofs.lemmas.Bool.Decides.{nat_tests}
 use Rattle.std.proofs.lemmas.Grind.{common_steps}
@@ -16,10 +16,10 @@ use Rattle.dw_lists.specs.declared.list_kind.ListKind.TheVariants as kind
 use Rattle.list_writer.specs.ListBytes.{Bounded, IsWritable, list_bytes, located_at}
 use Rattle.dw_lists.specs.ListEntries.{items_within}
 use Rattle.dw_lists.specs.ListReading.{kind_of, item_of}
-use Rattle.dw_lists.specs.Lists.{table_below, end_of_table, list_end, items_said, list_at, base_address}
+use Rattle.dw_lists.specs.Lists.{table_below, end_of_table, list_end, items_at, items_said, list_at, base_address}
 use Rattle.list_writer.specs.WrittenTables.{StandsAt}
 use Rattle.list_writer.proofs.ListsBack.{list-back, list-said}
-use Rattle.list_writer.proofs.SpelledEntries.{length-little}
+use Rattle.list_writer.proofs.SpelledEntries.{item_at, length-little}
 use Rattle.list_writer.proofs.UnitTables.{units-append, one_unit_more}
 
 none-below : (at place : ℕ) (bs : List (List ℕ)) → at < place → table_below at (walked_units place bs) ≡ None
@@ -29,7 +29,7 @@ none-below at place (b ∷ bs) lt =
     let past : leb place at ≡ false = grind (arith, nat_tests) in
     rw (none-below at (place + (length b + 4)) bs (omega (arith, lt)), past) refl
 
-abbrev table_of : ℕ → List ℕ → Walked
+abbrev pub table_of : ℕ → List ℕ → Walked
 table_of place b = record { place = place; bytes = Some b; is_other = false }
 
 -- the table that has a place
@@ -141,15 +141,18 @@ list_some k [] = omega arith
 list_some kind.Ranges (b ∷ bs) = omega arith
 list_some kind.Locations (b ∷ bs) = omega arith
 
+pub list_read : (k : ListKind) (tables : List (List ℕ)) (at : ℕ) (bs : List Bounded) → StandsAt tables at (list_bytes k bs) →
+    All (IsUnit 5) tables → All (IsWritable k) bs → items_at (kind_of k) (units_bytes tables) at ≡ Ok (map item_at bs)
+list_read k tables at bs s units w =
+    ap (λ (l : List ℕ). items_within (kind_of k).item (length l) l) (left_at tables at (list_bytes k bs) s units (list_some k bs))
+    ∙ ap (λ (item : ℕ → List ℕ → _). items_within item (length (list_bytes k bs ++ s.more)) (list_bytes k bs ++ s.more)) (item_is k)
+    ∙ list-back k bs s.more (length (list_bytes k bs ++ s.more)) w (omega arith)
+
 pub list_there : (k : ListKind) (tables : List (List ℕ)) (at : ℕ) (bs : List Bounded) → StandsAt tables at (list_bytes k bs) →
     All (IsUnit 5) tables →
     All (IsWritable k) bs → (addr : List ℕ) (u : Unit) → list_at (kind_of k) (units_bytes tables) addr u at ≡ Some (map located_at bs)
 list_there k tables at bs s units w addr u =
-    ap (items_said addr u)
-    (ap (λ (l : List ℕ). items_within (kind_of k).item (length l) l) (left_at tables at (list_bytes k bs) s units (list_some k bs))
-    ∙ ap (λ (item : ℕ → List ℕ → _). items_within item (length (list_bytes k bs ++ s.more)) (list_bytes k bs ++ s.more)) (item_is k)
-    ∙ list-back k bs s.more (length (list_bytes k bs ++ s.more)) w (omega arith))
-    ∙ list-said (address_at addr u) bs (base_address addr u)
+    ap (items_said addr u) (list_read k tables at bs s units w) ∙ list-said (address_at addr u) bs (base_address addr u)
 
 pub list_inside : (k : ListKind) (tables : List (List ℕ)) (at : ℕ) (bs : List Bounded) → StandsAt tables at (list_bytes k bs) →
     All (IsUnit 5) tables →

@@ -1,9 +1,10 @@
 -- Attributes whose lists are written get names, one after another.
 use Rattle.std.proofs.Common.{◌≡◌, ◌≢◌, ◌∙◌, ◌+◌, ◌-◌, ◌^◌, ◌<◌, ◌≤◌, ◌==◌, ◌&&◌, ◌||◌, ◌*◌, ◌⊎◌, inl, inr, ◌++◌, ◌∷◌, [], ℕ, zero, suc, Bool}
 use Rattle.std.proofs.Common.{true, false, List, Option, Some, None, BTreeMap, nat_cmp}
-use Rattle.std.proofs.Common.{refl, sym, ap, subst, arith, length, take, get_or, All, ⊎_elim}
+use Rattle.std.proofs.Common.{refl, sym, ap, subst, arith, length, take, get_or, All, ⊎_elim, append-nil, append_assoc}
 use Rattle.std.specs.Prelude.{if◌then◌else◌, Contains, option_map, IsTrue, flat_map}
-use Rattle.std.specs.BTreeMap.{get, is_at}
+use Rattle.std.specs.BTreeMap.{get, is_at, IsEmpty}
+use Rattle.std.specs.Map.{lookup}
 use Rattle.std.specs.Global.{Vec}
 use Rattle.std.specs.List.{find}
 use Rattle.std.specs.Option.{option_or}
@@ -13,14 +14,17 @@ use Rattle.std.proofs.lemmas.List.{take_more}
 use Rattle.std.proofs.lemmas.List.Elements.{All-append, All-cons, All-nil}
 use Rattle.std.proofs.lemmas.List.Folds.{find-append}
 use Rattle.rb_bytes.proofs.Members.{Contains-nil, Contains-cons_cases, Contains-there}
+use Rattle.rb_bytes.proofs.Options.{same_some}
 use Rattle.answer_runs.proofs.Grown.{or_none}
 use Rattle.table_core.specs.declared.written.ListAt.{ListAt}
 use Rattle.dw_unit.specs.EntryMoves.{is_list_of, new_list_offset}
+use Rattle.dw_lists.specs.declared.indexed_unit.IndexedUnit.{IndexedUnit}
 use Rattle.dw_lists.specs.declared.list_kind.ListKind.{ListKind}
 use Rattle.dw_lists.specs.declared.list_kind.ListKind.TheVariants.{Ranges, Locations}
 use Rattle.dw_lists.specs.declared.named_list.NamedList.{NamedList}
-use Rattle.list_writer.specs.WrittenTables.{base_name, is_of, key, IsNaming, AreInOrder, IsListed, bytes_in, AreNames, Keeps, name_at}
-use Rattle.list_writer.specs.WrittenTables.{base_at, IsOffsetGiven, IsEntryPut, IsPut, ArePut, keys_end}
+use Rattle.list_writer.specs.WrittenTables.{base_name, is_of, key, IsNaming, AreInOrder, IsListed, bytes_in, AreListed, AreNames, IsLonger, Keeps, name_at}
+use Rattle.list_writer.specs.WrittenTables.{base_at, IsOffsetGiven, IsEntryPut, IsPut, ArePut, keys_end, Begins, IsCountOf, IsNoOwn}
+use Rattle.list_writer.specs.WrittenTables.{UnitsRise, bases_at, units_end}
 use Rattle.list_writer.proofs.WrittenLists.{longer_begins}
 
 -- a member of a list with one more
@@ -227,10 +231,10 @@ key_at kind lo [] i d up h = absurd (omega arith)
 key_at kind lo (r ∷ rs) zero d up h = (up.0, up.1)
 key_at kind lo (r ∷ rs) (suc i) d up h = key_at kind (key r.place r.attr + 1) rs i d up.2 (omega arith)
 
-at_key : (k q : ℕ) → k ≢ q → is_at (nat_cmp k) q ≡ false
+pub at_key : (k q : ℕ) → k ≢ q → is_at (nat_cmp k) q ≡ false
 at_key k q ne = grind (arith, common_steps)
 
-at_same : (k q : ℕ) → k ≡ q → is_at (nat_cmp k) q ≡ true
+pub at_same : (k q : ℕ) → k ≡ q → is_at (nat_cmp k) q ≡ true
 at_same k q e = grind (arith, common_steps)
 
 module _ (lists : List (Vec ℕ)) (start : ℕ) (r : NamedList) (ps : List NamedList) (old new : List ℕ) (known indexes now : BTreeMap ℕ ℕ)
@@ -318,6 +322,30 @@ module _ (lists : List (Vec ℕ)) (start : ℕ) (r : NamedList) (ps : List Named
       (and_right (r.place == e) (r.attr == base_name kind) (no_base kind r.attr naming))
   bases_by kind (Some i) naming given e = ap (λ (l : List ListAt). new_list_offset l e (base_name kind)) given.0
 
+  abbrev AreUsed : List ℕ → BTreeMap ℕ ℕ → List NamedList → Type 0
+  AreUsed body m rs = (i x : ℕ) → get nat_cmp m i ≡ Some x →
+      (q : NamedList) × Contains rs q × (q.index ≡ Some i) × Begins body x (bytes_in lists q.list)
+
+  used_by : (index : Option ℕ) → r.index ≡ index → IsOffsetGiven start o r names more indexes now index → AreUsed old indexes ps →
+      AreUsed new now all
+  used_by None is given before i x e =
+      let p = before i x (ap (λ (m : BTreeMap ℕ ℕ). get nat_cmp m i) (sym given.2) ∙ e) in
+      (p.0, contains_still ps (r ∷ []) p.0 p.1, p.2, longer_begins old new x (bytes_in lists p.0.list) listed.longer p.3)
+  used_by (Some j) is given before i x e = ⊎_elim
+      (λ (same : j ≡ i).
+      let offset : Some o ≡ Some x =
+      sym (given.1 i ∙ ap (λ (b : Bool). if b then Some o else get nat_cmp indexes i) (at_same j i same)) ∙ e in
+      (
+        r,
+        contains_last ps r,
+        is ∙ ap (λ (n : ℕ). Some n) same,
+        subst (λ (n : ℕ). Begins new n (bytes_in lists r.list)) (same_some (Some o) o x refl offset) listed.begins,
+      ))
+      (λ (ne : j ≢ i).
+      let p = before i x (sym (given.1 i ∙ ap (λ (b : Bool). if b then Some o else get nat_cmp indexes i) (at_key j i ne)) ∙ e) in
+      (p.0, contains_still ps (r ∷ []) p.0 p.1, p.2, longer_begins old new x (bytes_in lists p.0.list) listed.longer p.3))
+      (cases_eq j i)
+
   put_by : (kind : ListKind) (lo own : ℕ) (was : List ListAt) → ArePut kind lists start lo own old indexes was names ps →
       keys_end lo ps ≤ key r.place r.attr →
       IsNaming kind r.attr → (index : Option ℕ) → r.index ≡ index → IsOffsetGiven start o r names more indexes now index →
@@ -328,6 +356,7 @@ module _ (lists : List (Vec ℕ)) (start : ℕ) (r : NamedList) (ps : List Named
         names_are = subst (λ (e : ℕ). AreNames kind e own more) (sym (keys_more lo ps r)) n.0;
         keeps = λ e attr x f. n.1 e attr x (p.keeps e attr x f);
         bases = λ e. bases_by kind index naming given e ∙ p.bases e;
+        used = used_by index is given p.used;
         each = λ k c. ⊎_elim
             (λ (there : Contains ps k). still_put index is given n.1 k k.index (p.each k there))
             (λ (same : r ≡ k).
@@ -349,26 +378,87 @@ put_taken kind lists start lo own rs i d old new known indexes now was names mor
     (put_by lists start (get_or rs i d) (take i rs) old new known indexes now names more e.offset e.listed kind lo own was p k.0 k.1
     (get_or rs i d).index refl e.given)
 
-pub index_more : (rs : List NamedList) (i count more : ℕ) (d : NamedList) → i < length rs →
-    ((r : NamedList) (x : ℕ) → Contains (take i rs) r → r.index ≡ Some x → x < count) → count ≤ more →
-    ((x : ℕ) → (get_or rs i d).index ≡ Some x → x < more) → (r : NamedList) (x : ℕ) → Contains (take (i + 1) rs) r → r.index ≡ Some x →
-    x < more
-index_more rs i count more d h before least above r x c e = ⊎_elim
-    (λ (there : Contains (take i rs) r). omega (arith, before r x there e, least))
-    (λ (same : get_or rs i d ≡ r). above x (ap (λ (q : NamedList). q.index) same ∙ e))
-    (contains_more (take i rs) (get_or rs i d) r (subst (λ (l : List NamedList). Contains l r) (take_more rs i d h) c))
+-- Nothing is put
 
-pub index_used : (rs : List NamedList) (i count more : ℕ) (d : NamedList) → i < length rs →
-    (0 < count → (r : NamedList) × Contains (take i rs) r × (r.index ≡ Some (count - 1))) → count ≤ more →
-    (count < more → (get_or rs i d).index ≡ Some (more - 1)) → 0 < more →
-    (r : NamedList) × Contains (take (i + 1) rs) r × (r.index ≡ Some (more - 1))
-index_used rs i count more d h before least used some = ⊎_elim
-    (λ (lt : count < more). (get_or rs i d, within (get_or rs i d) (contains_last (take i rs) (get_or rs i d)), used lt))
-    (λ (le : more ≤ count).
-    let same : count ≡ more = omega (arith, le, least) in
-    let b = before (omega (arith, same, some)) in
-    (b.0, within b.0 (contains_still (take i rs) (get_or rs i d ∷ []) b.0 b.1), b.2 ∙ ap (λ (n : ℕ). Some (n - 1)) same))
-    (cases_lt count more)
-  where
-    within : (r : NamedList) → Contains (take i rs ++ get_or rs i d ∷ []) r → Contains (take (i + 1) rs) r
-    within r c = subst (λ (l : List NamedList). Contains l r) (sym (take_more rs i d h)) c
+none_there : (m : BTreeMap ℕ ℕ) (n : ℕ) → IsEmpty m → get nat_cmp m n ≡ None
+none_there m n empty = ap (λ (es : List (ℕ × ℕ)). lookup (is_at (nat_cmp n)) es) empty
+
+pub none_listed : (lists : List (Vec ℕ)) (body : List ℕ) (known : BTreeMap ℕ ℕ) → IsEmpty known → AreListed lists body known
+none_listed lists body known empty n o e = let f : None ≡ Some o = sym (none_there known n empty) ∙ e in absurd (cc)
+
+pub longer_same : (first body : List ℕ) → body ≡ first → IsLonger first body
+longer_same first body e = record { more = []; is = e ∙ sym (append-nil first) }
+
+pub longer_more : (first old new : List ℕ) → IsLonger first old → IsLonger old new → IsLonger first new
+longer_more first old new a b = record {
+  more = a.more ++ b.more;
+  is = b.is ∙ ap (λ (l : List ℕ). l ++ b.more) a.is ∙ append_assoc first a.more b.more;
+}
+
+pub none_put : (kind : ListKind) (lists : List (Vec ℕ)) (start lo own : ℕ) (body : List ℕ) (indexes : BTreeMap ℕ ℕ) (names : List ListAt) →
+    IsEmpty indexes → AreNames kind lo own names → ArePut kind lists start lo own body indexes names names []
+none_put kind lists start lo own body indexes names empty n = record {
+  names_are = n;
+  keeps = λ e attr o is. is;
+  bases = λ e. refl;
+  each = λ r c. absurd (Contains-nil r c);
+  used = λ i o e. let f : None ≡ Some o = sym (none_there indexes i empty) ∙ e in absurd (cc);
+}
+
+-- Units
+
+pub index_none : IsCountOf [] 0
+index_none = record { above = λ x i c e. absurd (Contains-nil x c); used = λ some. absurd (omega (arith, some)) }
+
+pub index_more : (us : List IndexedUnit) (i count more : ℕ) (d : IndexedUnit) → i < length us → IsCountOf (take i us) count → count ≤ more →
+    ((x : ℕ) → (get_or us i d).greatest ≡ Some x → x < more) → (count < more → (get_or us i d).greatest ≡ Some (more - 1)) →
+    IsCountOf (take (i + 1) us) more
+index_more us i count more d h before least above used =
+    subst (λ (l : List IndexedUnit). IsCountOf l more) (sym (take_more us i d h)) (record {
+      above = λ x n c e. ⊎_elim
+          (λ (there : Contains (take i us) x). let b = before.above x n there e in omega (arith, b, least))
+          (λ (same : get_or us i d ≡ x). above n (ap (λ (q : IndexedUnit). q.greatest) same ∙ e))
+          (contains_more (take i us) (get_or us i d) x c);
+      used = λ some. ⊎_elim
+          (λ (lt : count < more). (get_or us i d, contains_last (take i us) (get_or us i d), used lt))
+          (λ (le : more ≤ count).
+          let same : count ≡ more = omega (arith, le, least) in
+          let b = before.used (omega (arith, same, some)) in
+          (b.0, contains_still (take i us) (get_or us i d ∷ []) b.0 b.1, b.2 ∙ ap (λ (n : ℕ). Some (n - 1)) same))
+          (cases_lt count more);
+    })
+
+-- Names and bases by units
+
+pub record AreBased (kind : ListKind) (lo own base : ℕ) (units : List IndexedUnit) (names more : List ListAt) : Type 0 where
+  pub names_are : AreNames kind lo (units_end own units) more
+  pub keeps : Keeps names more
+  pub named : (x : IndexedUnit) → Contains units x → new_list_offset more x.own (base_name kind) ≡ Some base
+  pub others : (e : ℕ) → IsNoOwn units e → new_list_offset more e (base_name kind) ≡ new_list_offset names e (base_name kind)
+
+pub bases_put : (kind : ListKind) (lo own base : ℕ) (units : List IndexedUnit) (names more : List ListAt) → AreNames kind lo own names →
+    UnitsRise own units → base < 2 ^ 32 → more ≡ names ++ bases_at kind base units → AreBased kind lo own base units names more
+bases_put kind lo own base [] names more n rise low made =
+    let same : more ≡ names = made ∙ append-nil names in record {
+      names_are = subst (AreNames kind lo own) (sym same) n;
+      keeps = subst (Keeps names) (sym same) (λ e attr o is. is);
+      named = λ x c. absurd (Contains-nil x c);
+      others = λ e none. ap (λ (l : List ListAt). new_list_offset l e (base_name kind)) same;
+    }
+bases_put kind lo own base (x ∷ xs) names more n rise low made =
+    let l : ListAt = base_at kind x.own base in
+    let b = bases_put kind lo (x.own + 1) base xs (names ++ l ∷ []) more (names_base kind lo own x.own base names n rise.0 low) rise.1 low
+    (made ∙ sym (append_assoc names (l ∷ []) (bases_at kind base xs))) in
+    record {
+      names_are = b.names_are;
+      keeps = λ e attr o is. b.keeps e attr o (keeps_more names l e attr o is);
+      named = λ y c. ⊎_elim
+          (λ (same : x ≡ y). subst (λ (z : IndexedUnit). new_list_offset more z.own (base_name kind) ≡ Some base) same
+          (b.keeps x.own (base_name kind) base (new_name names l (n.bases x.own rise.0))))
+          (λ (there : Contains xs y). b.named y there)
+          (Contains-cons_cases x xs y c);
+      others = λ e none.
+          b.others e (λ y c. none y (Contains-there x xs y c))
+          ∙ other_name names l e (base_name kind)
+          (and_left (x.own == e) (base_name kind == base_name kind) (ne_eqb x.own e (λ same. none x (0, omega arith, refl) same)));
+    }

@@ -1,24 +1,33 @@
 -- A table that is written holds the lists of its unit.
 use Rattle.std.proofs.Common.{◌≡◌, ◌∙◌, ◌+◌, ◌-◌, ◌*◌, ◌^◌, ◌<◌, ◌≤◌, ◌==◌, ◌&&◌, ◌++◌, ◌∷◌, [], ℕ, zero, suc, Bool, true, false, List}
-use Rattle.std.proofs.Common.{Option, Some, None, BTreeMap}
+use Rattle.std.proofs.Common.{Option, Some, None, BTreeMap, nat_cmp, inl, inr}
+use Rattle.std.specs.BTreeMap.{get}
 use Rattle.std.proofs.Common.{refl, sym, ap, subst, arith, length, drop, ⊎_elim, append-nil, append_assoc, length-append, add-one}
 use Rattle.std.specs.Prelude.{Contains, nat_le, unwrap_or}
 use Rattle.std.specs.Global.{Vec}
-use Rattle.std.proofs.lemmas.Bool.{cases_lt, ne_eqb}
+use Rattle.std.proofs.lemmas.Bool.{cases_lt}
 use Rattle.std.proofs.lemmas.Bool.Decides.{nat_tests}
 use Rattle.byteorder.specs.Endian.{little_number, little_bytes}
 use Rattle.byteorder.specs.Numbers.{little_number-reads_back}
 use Rattle.table_core.specs.declared.written.ListAt.{ListAt}
 use Rattle.table_core.specs.WrittenUnits.{IsUnit, units_bytes}
 use Rattle.dw_unit.specs.EntryMoves.{new_list_offset}
+use Rattle.dw_lists.specs.declared.indexed_unit.IndexedUnit.{IndexedUnit}
+use Rattle.dw_lists.specs.declared.list_entry.TheConstants.{DW_RLE_end_of_list}
 use Rattle.dw_lists.specs.declared.list_kind.ListKind.{ListKind}
 use Rattle.dw_lists.specs.declared.named_list.NamedList.{NamedList}
 use Rattle.dw_lists.specs.Faults.{is_list_table}
-use Rattle.list_writer.specs.WrittenTables.{bytes_in, base_name, Begins, AreNames, Keeps, base_at, IsPut, ArePut, keys_end, list_header}
-use Rattle.list_writer.specs.WrittenTables.{offset_of, list_offsets, list_table, IsTablePut, StandsAt, IsNamed, AreUnindexed}
-use Rattle.list_writer.specs.WrittenTables.{IsUnitWritten}
-use Rattle.list_writer.proofs.PutEntries.{keeps_more, new_name, other_name, names_less, names_base, and_left}
+use Rattle.list_writer.specs.WrittenTables.{bytes_in, base_name, Begins, Keeps, IsPut, ArePut, keys_end, list_header}
+use Rattle.list_writer.specs.WrittenTables.{offset_of, list_offsets, list_table, IsTablePut, StandsAt, IsNamed, first_list, IsLonger}
+use Rattle.list_writer.specs.WrittenTables.{IsTableAt, IsListOf, HasBase, IsCountOf, IsOwned, AreApart, UnitsRise, bases_at, IsGroupWritten}
+use Rattle.list_writer.specs.ListBytes.{list_bytes}
+use Rattle.list_writer.proofs.PutEntries.{bases_put}
 use Rattle.list_writer.proofs.SpelledEntries.{length-little}
+
+-- the list without entries
+pub no_entries : (kind : ListKind) → list_bytes kind [] ≡ DW_RLE_end_of_list ∷ []
+unfolding list_bytes
+no_entries kind = refl
 
 -- Offsets
 
@@ -94,7 +103,7 @@ drop_front [] ys n e = ap (λ (k : ℕ). drop k ys) e
 drop_front (x ∷ xs) ys zero e = absurd (omega (arith, e))
 drop_front (x ∷ xs) ys (suc n) e = drop_front xs ys n (omega (arith, e))
 
-module _ (count : ℕ) (m : BTreeMap ℕ ℕ) (body : List ℕ) (low : 4 * count < 2 ^ 32) (small : 8 + 4 * count + length body < 2 ^ 32 - 1) where
+module _ (count : ℕ) (m : BTreeMap ℕ ℕ) (body : List ℕ) (low : 4 * count < 2 ^ 32) where
   abbrev table : List ℕ
   table = list_table count m body
 
@@ -104,30 +113,20 @@ module _ (count : ℕ) (m : BTreeMap ℕ ℕ) (body : List ℕ) (low : 4 * count
   front : table ≡ little_bytes 2 5 ++ (8 ∷ 0 ∷ (little_bytes 4 count ++ rest))
   front = append_assoc (little_bytes 2 5) (8 ∷ 0 ∷ little_bytes 4 count) rest
 
-  is_unit : IsUnit 5 table
-  is_unit =
-      let n = table_size count m body in
-      record {
-        is_version = ap (little_number 2) front ∙ little_number-reads_back 2 5 (8 ∷ 0 ∷ (little_bytes 4 count ++ rest)) (omega arith);
-        some = omega (arith, n);
-        small = omega (arith, n, small);
-      }
+  sizes : drop 2 table ≡ 8 ∷ 0 ∷ (little_bytes 4 count ++ rest)
+  sizes =
+      let two : 2 ≡ length (little_bytes 2 5) = sym (length-little 2 5) in
+      ap (drop 2) front ∙ drop_front (little_bytes 2 5) (8 ∷ 0 ∷ (little_bytes 4 count ++ rest)) 2 two
 
-  sound_by : (a b c : Bool) → a ≡ true → b ≡ true → c ≡ true → (a && b && c) ≡ true
-  sound_by true true true e f g = refl
-  sound_by true true false e f g = absurd (cc)
-  sound_by true false c e f g = absurd (cc)
-  sound_by false b c e f g = absurd (cc)
+  pub count_is : little_number 4 (drop 4 table) ≡ count
+  count_is =
+      let counted : drop 4 table ≡ little_bytes 4 count ++ rest = ap (drop 2) sizes in
+      ap (little_number 4) counted ∙ little_number-reads_back 4 count rest (omega (arith, low))
 
-  is_table : is_list_table table ≡ true
+  pub is_table : is_list_table table ≡ true
   is_table =
       let n = table_size count m body in
-      let two : 2 ≡ length (little_bytes 2 5) = sym (length-little 2 5) in
-      let sizes : drop 2 table ≡ 8 ∷ 0 ∷ (little_bytes 4 count ++ rest) = ap (drop 2) front
-      ∙ drop_front (little_bytes 2 5) (8 ∷ 0 ∷ (little_bytes 4 count ++ rest)) 2 two in
-      let counted : drop 4 table ≡ little_bytes 4 count ++ rest = ap (drop 2) sizes in
-      let number : little_number 4 (drop 4 table) ≡ count = ap (little_number 4) counted
-      ∙ little_number-reads_back 4 count rest (omega (arith, low)) in
+      let number = count_is in
       let eight : (little_number 2 (drop 2 table) == 8) ≡ true = ap (λ (l : List ℕ). little_number 2 l == 8) sizes in
       let long : nat_le 8 (length table) ≡ true = at_most 8 (length table) (omega (arith, n)) in
       let fits : nat_le (4 * little_number 4 (drop 4 table)) (length table - 8) ≡ true = at_most (4 * little_number 4 (drop 4 table))
@@ -137,6 +136,21 @@ module _ (count : ℕ) (m : BTreeMap ℕ ℕ) (body : List ℕ) (low : 4 * count
     where
       at_most : (a b : ℕ) → a ≤ b → nat_le a b ≡ true
       at_most a b h = grind (arith, nat_tests)
+
+      sound_by : (a b c : Bool) → a ≡ true → b ≡ true → c ≡ true → (a && b && c) ≡ true
+      sound_by true true true e f g = refl
+      sound_by true true false e f g = absurd (cc)
+      sound_by true false c e f g = absurd (cc)
+      sound_by false b c e f g = absurd (cc)
+
+  is_unit : 8 + 4 * count + length body < 2 ^ 32 - 1 → IsUnit 5 table
+  is_unit small =
+      let n = table_size count m body in
+      record {
+        is_version = ap (little_number 2) front ∙ little_number-reads_back 2 5 (8 ∷ 0 ∷ (little_bytes 4 count ++ rest)) (omega arith);
+        some = omega (arith, n);
+        small = omega (arith, n, small);
+      }
 
 pub units-append : (bs cs : List (List ℕ)) → units_bytes (bs ++ cs) ≡ units_bytes bs ++ units_bytes cs
 unfolding units_bytes
@@ -205,75 +219,100 @@ module _ (lists : List (Vec ℕ)) (tables : List (List ℕ)) (count base : ℕ) 
         at_is = omega (arith, a, d, e, based);
       }
 
-  module _ (kind : ListKind) (own : ℕ) (names more : List ListAt) (entries : List NamedList) (keeps : Keeps names more)
-      (owned : (r : NamedList) → Contains entries r → r.own ≡ own) (counted : (r : NamedList) (i : ℕ) → Contains entries r →
-      r.index ≡ Some i → i < count)
-      (named : 0 < count → new_list_offset more own (base_name kind) ≡ Some base) where
+  pub table_at : 4 * count < 2 ^ 32 → IsTableAt with_table base count
+  table_at fits = record { before = tables; after = []; indexes = m; body = body; are = refl; at = based; low = fits }
+
+  module _ (kind : ListKind) (units : List IndexedUnit) (names more : List ListAt) (entries : List NamedList) (keeps : Keeps names more)
+      (owned : (r : NamedList) → Contains entries r → IsOwned units r) (apart : AreApart entries) (counted : IsCountOf units count)
+      (named : (x : IndexedUnit) → Contains units x → new_list_offset more x.own (base_name kind) ≡ Some base) where
+    low_index : (r : NamedList) (i : ℕ) → Contains entries r → r.index ≡ Some i → i < count
+    low_index r i there is =
+        let w = owned r there in
+        let g = w.index i is in
+        let h = counted.above w.x g.0 w.there g.1 in
+        let k = g.2 in omega (arith, h, k)
+
+    own_base : (r : NamedList) → Contains entries r → new_list_offset more r.own (base_name kind) ≡ Some base
+    own_base r there =
+        let w = owned r there in
+        subst (λ (n : ℕ). new_list_offset more n (base_name kind) ≡ Some base) w.own (named w.x w.there)
+
     is_named : (r : NamedList) → Contains entries r → (index : Option ℕ) → r.index ≡ index →
         IsPut lists (base + 4 * count) body m names entries r index → IsNamed kind lists with_table more entries r index
     is_named r there None is p =
         (base + 4 * count + p.0, keeps r.place r.attr (base + 4 * count + p.0) p.1, list_stands p.0 (bytes_in lists r.list) p.2)
     is_named r there (Some i) is p =
-        let h : i < count = counted r i there is in
+        let h : i < count = low_index r i there is in
         let o : offset_of (4 * count) m i ≡ 4 * count + p.0 = ap (λ (x : Option ℕ). 4 * count + unwrap_or x 0) p.2 in
         let at : base + 4 * count + p.0 ≡ base + offset_of (4 * count) m i = omega (arith, o) in (
           base,
           offset_of (4 * count) m i,
           p.1,
-          ap (λ (n : ℕ). new_list_offset more n (base_name kind)) (owned r there) ∙ named (omega (arith, h)),
+          own_base r there,
           offset_stands i h,
           low i h,
-          owned p.1 p.4 ∙ sym (owned r there),
+          apart p.1 r i p.4 there p.3 is,
           p.3,
           p.4,
           subst (λ (n : ℕ). StandsAt with_table n (bytes_in lists p.1.list)) at (list_stands p.0 (bytes_in lists p.1.list) p.5),
         )
 
--- A unit's table is written, and the base of its indexes named.
-module _ (kind : ListKind) (lists : List (Vec ℕ)) (lo bound own count base : ℕ) (entries : List NamedList) (tables : List (List ℕ))
-    (old new : List ℕ)
-    (body : List ℕ) (m : BTreeMap ℕ ℕ) (was names more : List ListAt)
+    -- an index that no attribute uses
+    module _ (used : (i o : ℕ) → get nat_cmp m i ≡ Some o →
+        (r : NamedList) × Contains entries r × (r.index ≡ Some i) × Begins body o (bytes_in lists r.list))
+        (first : IsLonger (first_list count) body) where
+      begins_by : (n : ℕ) → 0 < n → IsLonger (first_list n) body → Begins body 0 (list_bytes kind [])
+      begins_by zero h l = absurd (omega arith)
+      begins_by (suc n) h l =
+          subst (Begins body 0) (sym (no_entries kind)) (record { before = []; more = l.more; is = l.is; at = refl })
+
+      listed_by : (i : ℕ) → i < count → (o : Option ℕ) → get nat_cmp m i ≡ o →
+          IsListOf kind lists with_table more entries base i (base + offset_of (4 * count) m i)
+      listed_by i h None e =
+          let o : offset_of (4 * count) m i ≡ 4 * count + 0 = ap (λ (x : Option ℕ). 4 * count + unwrap_or x 0) e in
+          let at : base + 4 * count + 0 ≡ base + offset_of (4 * count) m i = omega (arith, o) in
+          inr (subst (λ (n : ℕ). StandsAt with_table n (list_bytes kind [])) at
+          (list_stands 0 (list_bytes kind []) (begins_by count (omega (arith, h)) first)))
+      listed_by i h (Some x) e =
+          let o : offset_of (4 * count) m i ≡ 4 * count + x = ap (λ (x : Option ℕ). 4 * count + unwrap_or x 0) e in
+          let at : base + 4 * count + x ≡ base + offset_of (4 * count) m i = omega (arith, o) in
+          let p = used i x e in
+          inl (
+            p.0,
+            p.1,
+            p.2,
+            own_base p.0 p.1,
+            subst (λ (n : ℕ). StandsAt with_table n (bytes_in lists p.0.list)) at (list_stands x (bytes_in lists p.0.list) p.3),
+          )
+
+      pub has_base : 4 * count < 2 ^ 32 → (x : IndexedUnit) → Contains units x → HasBase kind lists with_table more entries x
+      has_base fits x there = record {
+        base = base;
+        named = named x there;
+        count = count;
+        table = table_at fits;
+        above = λ i e. counted.above x i there e;
+        slots = λ i h. record {
+          offset = offset_of (4 * count) m i;
+          stands = offset_stands i h;
+          low = low i h;
+          list = listed_by i h (get nat_cmp m i) refl;
+        };
+      }
+
+-- A table of some units is written, and their bases named.
+module _ (kind : ListKind) (lists : List (Vec ℕ)) (lo bound count base : ℕ) (entries : List NamedList) (units : List IndexedUnit)
+    (tables : List (List ℕ)) (old new : List ℕ) (body : List ℕ) (m : BTreeMap ℕ ℕ) (was names more : List ListAt)
     (before : old ≡ units_bytes tables) (based : base ≡ length old + 12) (small : base < 2 ^ 32) (fits : 4 * count < 2 ^ 32)
-    (put : ArePut kind lists (base + 4 * count) lo bound body m was names entries) (le : bound ≤ own)
-    (owned : (r : NamedList) → Contains entries r → r.own ≡ own)
-    (counted : (r : NamedList) (i : ℕ) → Contains entries r → r.index ≡ Some i → i < count)
-    (used : 0 < count → (r : NamedList) × Contains entries r × (r.index ≡ Some (count - 1)))
-    (some : 0 < count → more ≡ names ++ base_at kind own base ∷ []) (none : count ≡ 0 → more ≡ names)
-    (table : IsTablePut count m body old new) where
+    (first : IsLonger (first_list count) body) (put : ArePut kind lists (base + 4 * count) lo bound body m was names entries)
+    (rise : UnitsRise bound units) (owned : (r : NamedList) → Contains entries r → IsOwned units r) (apart : AreApart entries)
+    (counted : IsCountOf units count) (named : more ≡ names ++ bases_at kind base units) (table : IsTablePut count m body old new) where
   at_tables : base ≡ length (units_bytes tables) + 12
   at_tables = based ∙ ap (λ (l : List ℕ). length l + 12) before
 
-  kept_by : (n : ℕ) → count ≡ n → Keeps names more × AreNames kind (keys_end lo entries) (own + 1) more
-  kept_by zero e = (
-    subst (Keeps names) (sym (none e)) (λ e attr o is. is),
-    subst (AreNames kind (keys_end lo entries) (own + 1)) (sym (none e))
-        (names_less kind (keys_end lo entries) bound (keys_end lo entries) (own + 1) names (omega arith) (omega (arith, le)) put.names_are),
-  )
-  kept_by (suc n) e =
-      let is : more ≡ names ++ base_at kind own base ∷ [] = some (omega (arith, e)) in (
-        subst (Keeps names) (sym is) (keeps_more names (base_at kind own base)),
-        subst (AreNames kind (keys_end lo entries) (own + 1)) (sym is)
-            (names_base kind (keys_end lo entries) bound own base names put.names_are le small),
-      )
-
-  bases_by : (n : ℕ) → count ≡ n → (e : ℕ) → (e ≡ own → AreUnindexed entries) →
-      new_list_offset more e (base_name kind) ≡ new_list_offset names e (base_name kind)
-  bases_by zero c e free = ap (λ (l : List ListAt). new_list_offset l e (base_name kind)) (none c)
-  bases_by (suc n) c e free =
-      let is : more ≡ names ++ base_at kind own base ∷ [] = some (omega (arith, c)) in
-      ap (λ (l : List ListAt). new_list_offset l e (base_name kind)) is
-      ∙ other_name names (base_at kind own base) e (base_name kind)
-      (and_left (own == e) (base_name kind == base_name kind) (ne_eqb own e other))
-    where
-      other : own ≡ e → ⊥
-      other same =
-          let u = used (omega (arith, c)) in
-          let no : Some (count - 1) ≡ None = sym u.2 ∙ free (sym same) u.0 u.1 in
-          absurd (cc)
-
-  pub unit_written : IsUnitWritten kind lists lo own entries tables new was more
-  unit_written =
-      let k = kept_by count refl in
+  pub group_written : IsGroupWritten kind lists lo bound entries units tables new was more
+  group_written =
+      let b = bases_put kind (keys_end lo entries) bound base units names more put.names_are rise small named in
       let size : 8 + 4 * count + length body ≡ length (list_table count m body) = sym (table_size count m body) in
       record {
         table = list_table count m body;
@@ -281,13 +320,14 @@ module _ (kind : ListKind) (lists : List (Vec ℕ)) (lo bound own count base : �
             ∙ ap (λ (l : List ℕ). units_bytes tables ++ l) (sym (one_unit (list_table count m body)))
             ∙ sym (units-append tables (list_table count m body ∷ []));
         is_unit = is_unit count m body fits table.small;
-        is_table = is_table count m body fits table.small;
-        names_are = k.1;
-        keeps = λ e attr o is. k.0 e attr o (put.keeps e attr o is);
-        bases = λ e free. bases_by count refl e free ∙ put.bases e;
-        each = λ r there. is_named lists tables count base m body table.low at_tables kind own names more entries k.0 owned counted
-            (λ h. ap (λ (l : List ListAt). new_list_offset l own (base_name kind)) (some h)
-            ∙ new_name names (base_at kind own base) (put.names_are.bases own le)) r there r.index refl (put.each r there);
+        is_table = is_table count m body fits;
+        names_are = b.names_are;
+        keeps = λ e attr o is. b.keeps e attr o (put.keeps e attr o is);
+        bases = λ e none. b.others e none ∙ put.bases e;
+        each = λ r there. is_named lists tables count base m body table.low at_tables kind units names more entries b.keeps owned apart counted
+            b.named r there r.index refl (put.each r there);
+        based = has_base lists tables count base m body table.low at_tables kind units names more entries b.keeps owned apart counted b.named
+            put.used first fits;
       }
 
 -- a table's bytes, one part behind another

@@ -2,6 +2,8 @@
 -- sections 7.28 and 7.29.
 use Rattle.std.specs.Prelude.{◌≡◌, ◌<◌, ◌≤◌, ◌+◌, ◌-◌, ◌*◌, ◌^◌, ℕ, zero, suc, Bool, true, IsTrue, List, [], ◌∷◌, ◌++◌}
 use Rattle.std.specs.Prelude.{All, Contains, length, unwrap_or, slice_get, Option, Some, None, if◌then◌else◌}
+use Rattle.std.specs.Prelude.{◌==◌, ◌||◌, ◌⊎◌, filter, is_some, map}
+use Rattle.std.specs.List.{list_any}
 use Rattle.std.specs.BTreeMap.{BTreeMap, get, is_at}
 use Rattle.std.specs.Global.{Vec}
 use Rattle.std.specs.Ordering.{nat_cmp}
@@ -9,12 +11,15 @@ use Rattle.byteorder.specs.Endian.{little_bytes}
 use Rattle.table_core.specs.declared.written.ListAt.{ListAt}
 use Rattle.table_core.specs.WrittenUnits.{IsUnit, units_bytes}
 use Rattle.dw_unit.specs.EntryMoves.{new_list_offset}
+use Rattle.dw_lists.specs.declared.indexed_unit.IndexedUnit.{IndexedUnit}
+use Rattle.dw_lists.specs.declared.list_entry.TheConstants.{DW_RLE_end_of_list}
 use Rattle.dw_lists.specs.declared.list_kind.ListKind.{ListKind}
 use Rattle.dw_lists.specs.declared.list_kind.ListKind.TheVariants.{Ranges, Locations}
 use Rattle.dw_lists.specs.declared.named_list.NamedList.{NamedList}
 use Rattle.dw_lists.specs.Faults.{is_list_table}
 use Rattle.dw_lists.specs.ListReading.{kind_of}
 use Rattle.dw_lists.specs.ListTables.{is_of_ranges, is_of_locations}
+use Rattle.list_writer.specs.ListBytes.{list_bytes}
 
 abbrev pub bytes_of : Option (Vec ℕ) → List ℕ
 bytes_of None = []
@@ -122,12 +127,20 @@ pub record ArePut (kind : ListKind) (lists : List (Vec ℕ)) (start lo own : ℕ
   -- No base is named.
   pub bases : (e : ℕ) → new_list_offset names e (base_name kind) ≡ new_list_offset old e (base_name kind)
   pub each : (r : NamedList) → Contains entries r → IsPut lists start body indexes names entries r r.index
+  -- An index that has an offset is one of them.
+  pub used : (i o : ℕ) → get nat_cmp indexes i ≡ Some o →
+      (r : NamedList) × Contains entries r × (r.index ≡ Some i) × Begins body o (bytes_in lists r.list)
 
 -- Tables
 
 -- version, size of addresses, and how many offsets there are
 abbrev pub list_header : ℕ → List ℕ
 list_header count = little_bytes 2 5 ++ 8 ∷ 0 ∷ little_bytes 4 count
+
+-- Where a table has offsets, a list without entries is its first.
+abbrev pub first_list : ℕ → List ℕ
+first_list zero = []
+first_list (suc n) = DW_RLE_end_of_list ∷ []
 
 -- Offsets count from the first of them, and lists begin behind them; an index that isn't used has the first list.
 abbrev pub offset_of : ℕ → BTreeMap ℕ ℕ → ℕ → ℕ
@@ -166,43 +179,123 @@ IsNamed kind lists tables names all r (Some i) =
     × StandsAt tables (base + 4 * i) (little_bytes 4 o) × (o < 2 ^ 32) × (like.own ≡ r.own) × (like.index ≡ Some i)
     × Contains all like × StandsAt tables (base + o) (bytes_in lists like.list)
 
--- Attributes that use no indexes.
-abbrev pub AreUnindexed : List NamedList → Type 0
-AreUnindexed entries = (r : NamedList) → Contains entries r → r.index ≡ None
+-- Bases
 
--- A table more, in which the attributes of a unit's entries find their lists.
-pub record IsUnitWritten (kind : ListKind) (lists : List (Vec ℕ)) (lo own : ℕ) (entries : List NamedList)
-    (tables : List (List ℕ))
-    (bytes : List ℕ) (old names : List ListAt) : Type 0 where
+-- A table stands whose offsets begin at a base.
+pub record IsTableAt (tables : List (List ℕ)) (base count : ℕ) : Type 0 where
+  pub before : List (List ℕ)
+  pub after : List (List ℕ)
+  pub indexes : BTreeMap ℕ ℕ
+  pub body : List ℕ
+  pub are : tables ≡ before ++ list_table count indexes body ∷ after
+  pub at : base ≡ length (units_bytes before) + 12
+  pub low : 4 * count < 2 ^ 32
+
+-- a list that an index names, at an offset: that of an attribute that uses it, of a unit with the base, or the empty one
+abbrev pub IsListOf : ListKind → List (Vec ℕ) → List (List ℕ) → List ListAt → List NamedList → (base i at : ℕ) → Type 0
+IsListOf kind lists tables names entries base i at =
+    ((r : NamedList) × Contains entries r × (r.index ≡ Some i) × (new_list_offset names r.own (base_name kind) ≡ Some base)
+    × StandsAt tables at (bytes_in lists r.list))
+    ⊎ StandsAt tables at (list_bytes kind [])
+
+pub record HasSlot (kind : ListKind) (lists : List (Vec ℕ)) (tables : List (List ℕ)) (names : List ListAt)
+    (entries : List NamedList) (base i : ℕ) : Type 0 where
+  pub offset : ℕ
+  pub stands : StandsAt tables (base + 4 * i) (little_bytes 4 offset)
+  pub low : offset < 2 ^ 32
+  pub list : IsListOf kind lists tables names entries base i (base + offset)
+
+-- A unit's base is named, at which a table has an offset for each index up to the unit's greatest one.
+pub record HasBase (kind : ListKind) (lists : List (Vec ℕ)) (tables : List (List ℕ)) (names : List ListAt)
+    (entries : List NamedList) (x : IndexedUnit) : Type 0 where
+  pub base : ℕ
+  pub named : new_list_offset names x.own (base_name kind) ≡ Some base
+  pub count : ℕ
+  pub table : IsTableAt tables base count
+  pub above : (i : ℕ) → x.greatest ≡ Some i → i < count
+  pub slots : (i : ℕ) → i < count → HasSlot kind lists tables names entries base i
+
+-- How many offsets units need: one for each index up to the greatest.
+pub record IsCountOf (units : List IndexedUnit) (count : ℕ) : Type 0 where
+  pub above : (x : IndexedUnit) (i : ℕ) → Contains units x → x.greatest ≡ Some i → i < count
+  pub used : 0 < count → (x : IndexedUnit) × Contains units x × (x.greatest ≡ Some (count - 1))
+
+-- the bases of units that share a table
+abbrev pub bases_at : ListKind → ℕ → List IndexedUnit → List ListAt
+bases_at kind base units = map (λ (x : IndexedUnit). base_at kind x.own base) units
+
+-- no unit has one of some places
+abbrev pub IsNoOwn : List IndexedUnit → ℕ → Type 0
+IsNoOwn units e = (x : IndexedUnit) → Contains units x → x.own ≡ e → ⊥
+
+-- Units, by their own entries, in order.
+abbrev pub UnitsRise : ℕ → List IndexedUnit → Type 0
+UnitsRise lo [] = Unit {0}
+UnitsRise lo (x ∷ xs) = (lo ≤ x.own) × UnitsRise (x.own + 1) xs
+
+abbrev pub units_end : ℕ → List IndexedUnit → ℕ
+units_end lo [] = lo
+units_end lo (x ∷ xs) = units_end (x.own + 1) xs
+
+-- An attribute is of one of some units, whose indexes it doesn't pass.
+pub record IsOwned (units : List IndexedUnit) (r : NamedList) : Type 0 where
+  pub x : IndexedUnit
+  pub there : Contains units x
+  pub own : x.own ≡ r.own
+  pub index : (i : ℕ) → r.index ≡ Some i → (g : ℕ) × (x.greatest ≡ Some g) × (i ≤ g)
+
+-- No index is used by attributes of two units.
+abbrev pub AreApart : List NamedList → Type 0
+AreApart entries = (r q : NamedList) (i : ℕ) → Contains entries r → Contains entries q → r.index ≡ Some i →
+    q.index ≡ Some i → r.own ≡ q.own
+
+-- A table more, in which the attributes of some units' entries find their lists.
+pub record IsGroupWritten (kind : ListKind) (lists : List (Vec ℕ)) (lo own : ℕ) (entries : List NamedList)
+    (units : List IndexedUnit) (tables : List (List ℕ)) (bytes : List ℕ) (old names : List ListAt) : Type 0 where
   pub table : List ℕ
   pub bytes_are : bytes ≡ units_bytes (tables ++ table ∷ [])
   pub is_unit : IsUnit 5 table
   pub is_table : is_list_table table ≡ true
-  pub names_are : AreNames kind (keys_end lo entries) (own + 1) names
+  pub names_are : AreNames kind (keys_end lo entries) (units_end own units) names
   pub keeps : Keeps old names
-  -- No base is named but the unit's own, and that only where its attributes use indexes.
-  pub bases : (e : ℕ) → (e ≡ own → AreUnindexed entries) →
-      new_list_offset names e (base_name kind) ≡ new_list_offset old e (base_name kind)
+  -- No base is named but those of the units.
+  pub bases : (e : ℕ) → IsNoOwn units e → new_list_offset names e (base_name kind) ≡ new_list_offset old e (base_name kind)
   pub each : (r : NamedList) → Contains entries r → IsNamed kind lists (tables ++ table ∷ []) names entries r r.index
+  pub based : (x : IndexedUnit) → Contains units x → HasBase kind lists (tables ++ table ∷ []) names entries x
 
 -- Own entries of units stand at places that don't fall.
 abbrev pub OwnsRise : ℕ → List NamedList → Type 0
 OwnsRise lo [] = Unit {0}
 OwnsRise lo (r ∷ rs) = (lo ≤ r.own) × OwnsRise r.own rs
 
--- Tables in which some attributes find their lists, of all attributes.
-pub record AreWritten (kind : ListKind) (lists : List (Vec ℕ)) (all entries rest : List NamedList) (bytes : List ℕ)
-    (names : List ListAt) :
-    Type 0 where
+-- Attributes and units for which no table is written yet.
+pub record AreLeft (kind : ListKind) (lo own : ℕ) (entries : List NamedList) (units : List IndexedUnit) : Type 0 where
+  pub order : AreInOrder kind lo entries
+  pub owns : OwnsRise 0 entries
+  pub rise : UnitsRise own units
+  pub owned : (r : NamedList) → Contains entries r → IsOwned units r
+
+-- The units that may get tables: no section is added for indexes alone.
+abbrev pub indexed_in : (section : List ℕ) → List NamedList → List IndexedUnit → List IndexedUnit
+indexed_in [] [] units = []
+indexed_in [] (r ∷ rs) units = units
+indexed_in (b ∷ bs) named units = units
+
+-- The units that need a table: those that use an index, and those whose attributes name lists.
+abbrev pub needs_table : List NamedList → IndexedUnit → Bool
+needs_table entries x = is_some x.greatest || list_any (λ (r : NamedList). r.own == x.own) entries
+
+abbrev pub with_tables : List NamedList → List IndexedUnit → List IndexedUnit
+with_tables entries units = filter (needs_table entries) units
+
+-- Tables in which attributes find their lists, and the bases of units.
+pub record AreWritten (kind : ListKind) (lists : List (Vec ℕ)) (entries : List NamedList) (us : List IndexedUnit)
+    (bytes : List ℕ) (names : List ListAt) : Type 0 where
   pub tables : List (List ℕ)
   pub bytes_are : bytes ≡ units_bytes tables
   pub units : All (IsUnit 5) tables
   pub sound : All (λ b. is_list_table b ≡ true) tables
-  pub own : ℕ
-  pub owns : OwnsRise own rest
-  pub order : AreInOrder kind (keys_end 0 entries) rest
-  pub names_are : AreNames kind (keys_end 0 entries) own names
-  pub each : (r : NamedList) → Contains entries r → IsNamed kind lists tables names all r r.index
-  -- A unit none of whose attributes uses an index gets no base.
-  pub unbased : (e : ℕ) → ((r : NamedList) → Contains entries r → r.own ≡ e → r.index ≡ None) →
-      new_list_offset names e (base_name kind) ≡ None
+  pub names_are : AreNames kind (keys_end 0 entries) (units_end 0 us) names
+  pub each : (r : NamedList) → Contains entries r → IsNamed kind lists tables names entries r r.index
+  pub based : (x : IndexedUnit) → Contains us x → HasBase kind lists tables names entries x
+  pub unbased : (e : ℕ) → IsNoOwn us e → new_list_offset names e (base_name kind) ≡ None

@@ -1,23 +1,29 @@
 // Tables of lists written anew. DWARF 5, sections 7.28 and 7.29.
 ghost use Rattle.std.specs.Prelude.{◌≡◌, ◌++◌, [], ◌+◌, ◌*◌, ◌<◌, ◌≤◌, ◌^◌, ℕ, List, Contains, Some, IfOk, OnOk, ◌∷◌};
-ghost use Rattle.std.specs.Prelude.{length, ◌≢◌, ◌-◌, unwrap_or, slice_index_or};
+ghost use Rattle.std.specs.Prelude.{length, ◌≢◌, ◌-◌, ◌||◌, ◌==◌, unwrap_or, slice_index_or, filter, is_some};
+ghost use Rattle.std.specs.List.{list_any};
+ghost use Rattle.std.specs.BTreeSet.{contains};
 ghost use Rattle.std.specs.BTreeMap.{get};
 ghost use Rattle.std.specs.Ordering.{nat_cmp};
 ghost use Rattle.byteorder.specs.Endian.{little_bytes};
 ghost use Rattle.table_core.specs.WrittenUnits.{units_bytes};
+ghost use Rattle.dw_lists.specs.declared.indexed_unit.IndexedUnit as indexed;
 ghost use Rattle.dw_lists.specs.declared.list_kind.ListKind as kinds;
 ghost use Rattle.dw_lists.specs.declared.named_list.NamedList as code;
 ghost use Rattle.list_writer.specs.WrittenTables as spec;
 ghost use Rattle.list_writer.specs.WrittenTables.{bytes_in, base_name, AreInOrder, AreListed, IsListed, AreNames};
-ghost use Rattle.list_writer.specs.WrittenTables.{IsEntryPut, ArePut, IsTablePut, IsUnitWritten, AreWritten, OwnsRise};
+ghost use Rattle.list_writer.specs.WrittenTables.{IsEntryPut, ArePut, IsTablePut, IsGroupWritten, AreWritten, OwnsRise};
+ghost use Rattle.list_writer.specs.WrittenTables.{AreApart, AreLeft, IsCountOf, IsLonger, IsOwned, UnitsRise};
 
+use crate::list_writing::put_end;
+use dw_lists::indexed_unit::IndexedUnit;
 use dw_lists::list_kind::ListKind;
 use dw_lists::named_list::NamedList;
 use dw_unit::attribute::{DW_AT_loclists_base, DW_AT_rnglists_base};
 use rb_bytes::fault::NoMemory;
 use rb_bytes::little::put_u32;
 use std::alloc::Global;
-use std::collections::BTreeMap;
+use std::collections::{BTreeMap, BTreeSet};
 use table_core::{ListAt, Written};
 
 // The version of tables, and the sizes of addresses and of segment selectors that they give.
@@ -116,29 +122,43 @@ fn add_entry(
     }
 }
 
-// The lists of a unit, as the body of its table: what stands behind the offsets.
+// The lists of some units, as the body of their table: what stands behind the offsets.
 #[derive(Drop)]
-struct UnitBody {
+struct TableBody {
     /// The lists, one behind another.
     bytes: Vec<u8>,
     /// Where in these the list of each index begins that is used.
     indexes: BTreeMap<u64, u64>,
 }
 
-// The body of a unit's table, which begins at offset `start` of the section. Attributes that name their list by its
-// offset are added to `names`.
-fn unit_body(
+// The list that stands first in the body of a table with `count` offsets, if it has some: one without entries, which
+// all indexes name that no attribute uses.
+fn first_list(alloc: Global, count: u64) -> Result<Vec<u8>, NoMemory>
+    ensures { IfOk result (λ b. b.items ≡ spec.first_list count) }
+{
+    let mut bytes = Vec::new(alloc);
+    if count > 0 {
+        put_end(&mut bytes)?;
+    }
+    Ok(bytes)
+}
+
+// The body of a table with `count` offsets, which begins at offset `start` of the section. Attributes that name their
+// list by its offset are added to `names`.
+fn table_body(
     alloc: Global,
     names: &mut Vec<ListAt>,
     lists: &[Vec<u8>],
+    count: u64,
     start: u64,
     entries: &[NamedList],
-) -> Result<UnitBody, NoMemory>
-    ensures { IfOk result (λ b. (kind : kinds.ListKind) (lo own : ℕ) → AreNames kind lo own names.old.items →
+) -> Result<TableBody, NoMemory>
+    ensures first { IfOk result (λ b. IsLonger (spec.first_list count) b.bytes.items) }
+    ensures put { IfOk result (λ b. (kind : kinds.ListKind) (lo own : ℕ) → AreNames kind lo own names.old.items →
         AreInOrder kind lo entries.now →
         ArePut kind lists.now start lo own b.bytes.items b.indexes names.old.items names.new.items entries.now) }
 {
-    let mut bytes = Vec::new(alloc);
+    let mut bytes = first_list(alloc, count)?;
     let mut known = BTreeMap::new(alloc);
     let mut indexes = BTreeMap::new(alloc);
     for entry in entries {
@@ -152,7 +172,7 @@ fn unit_body(
             entry,
         )?;
     }
-    Ok(UnitBody { bytes, indexes })
+    Ok(TableBody { bytes, indexes })
 }
 
 // The least number that is at least `count` and above the index, if there is one.
@@ -172,14 +192,13 @@ fn above(count: u64, index: Option<u64>) -> Result<u64, NoMemory>
     }
 }
 
-// How many offsets the indexes of some entries need: one for each number up to the greatest.
-fn offset_count(entries: &[NamedList]) -> Result<u64, NoMemory>
-    ensures above { IfOk result (λ n. (r : code.NamedList) (i : ℕ) → Contains entries.now r → r.index ≡ Some i → i < n) }
-    ensures used { IfOk result (λ n. 0 < n → (r : code.NamedList) × Contains entries.now r × (r.index ≡ Some (n - 1))) }
+// How many offsets units need: one for each index up to the greatest.
+fn offset_count(units: &[IndexedUnit]) -> Result<u64, NoMemory>
+    ensures { IfOk result (IsCountOf units.now) }
 {
     let mut count = 0;
-    for entry in entries {
-        count = above(count, entry.index)?;
+    for unit in units {
+        count = above(count, unit.greatest)?;
     }
     Ok(count)
 }
@@ -286,20 +305,18 @@ fn base_name(kind: ListKind) -> u64
     }
 }
 
-// Adds the base of a unit to the names, if its attributes use indexes.
-fn name_base(
+// Adds the bases of units to the names.
+fn name_bases(
     names: &mut Vec<ListAt>,
     kind: ListKind,
-    own: u64,
+    units: &[IndexedUnit],
     base: u64,
-    count: u64,
 ) -> Result<(), NoMemory>
-    ensures some { 0 < count → OnOk result (names.new.items ≡ names.old.items ++ spec.base_at kind own base ∷ []) }
-    ensures none { count ≡ 0 → OnOk result (names.new.items ≡ names.old.items) }
+    ensures { OnOk result (names.new.items ≡ names.old.items ++ spec.bases_at kind base units.now) }
 {
-    if count > 0 {
+    for unit in units {
         names.push(ListAt {
-            entry: own,
+            entry: unit.own,
             attr: base_name(kind),
             offset: base,
         })?;
@@ -307,27 +324,28 @@ fn name_base(
     Ok(())
 }
 
-// Appends a table with the lists of the unit whose own entry stands at `own`.
-fn put_unit(
+// Appends a table with the lists of some units.
+fn put_group(
     alloc: Global,
     out: &mut Vec<u8>,
     names: &mut Vec<ListAt>,
     kind: ListKind,
     lists: &[Vec<u8>],
-    own: u64,
+    units: &[IndexedUnit],
     entries: &[NamedList],
 ) -> Result<(), NoMemory>
     ensures { OnOk result ((tables : List (List ℕ)) (lo bound : ℕ) → out.old.items ≡ units_bytes tables →
-        AreNames kind lo bound names.old.items → AreInOrder kind lo entries.now → bound ≤ own →
-        ((r : code.NamedList) → Contains entries.now r → r.own ≡ own) →
-        IsUnitWritten kind lists.now lo own entries.now tables out.new.items names.old.items names.new.items) }
+        AreNames kind lo bound names.old.items → AreInOrder kind lo entries.now → UnitsRise bound units.now →
+        ((r : code.NamedList) → Contains entries.now r → IsOwned units.now r) → AreApart entries.now →
+        IsGroupWritten kind lists.now lo bound entries.now units.now tables out.new.items names.old.items
+        names.new.items) }
 {
-    let count = offset_count(entries)?;
+    let count = offset_count(units)?;
     let size = offsets_size(count)?;
     let base = offset_sum(out.len() as u64, FRONT_SIZE)?;
     let start = offset_sum(base, size)?;
-    let body = unit_body(alloc, names, lists, start, entries)?;
-    name_base(names, kind, own, base, count)?;
+    let body = table_body(alloc, names, lists, count, start, entries)?;
+    name_bases(names, kind, units, base)?;
     put_table(out, &body.indexes, count, &body.bytes)?;
     Ok(())
 }
@@ -350,27 +368,30 @@ fn unit_len(entries: &[NamedList], own: u64) -> usize
 }
 
 // Appends tables with the lists that attributes name, one for each unit.
-fn put_units(
+fn put_groups(
     alloc: Global,
     out: &mut Vec<u8>,
     names: &mut Vec<ListAt>,
     kind: ListKind,
     lists: &[Vec<u8>],
     named: &[NamedList],
+    units: &[IndexedUnit],
 ) -> Result<(), NoMemory>
-    requires start { AreWritten kind lists.now named.now [] named.now out.old.items names.old.items }
-    ensures written { OnOk result (AreWritten kind lists.now named.now named.now [] out.new.items names.new.items) }
-    ensures none { length named.now ≡ 0 → OnOk result (out.new.items ≡ out.old.items) }
+    requires left { AreLeft kind 0 0 named.now units.now }
+    requires start { AreWritten kind lists.now [] [] out.old.items names.old.items }
+    ensures written { OnOk result (AreWritten kind lists.now named.now units.now out.new.items names.new.items) }
+    ensures none { length units.now ≡ 0 → OnOk result (out.new.items ≡ out.old.items) }
 {
     let mut rest = named;
-    // Each unit has an attribute at least. `number` isn't read: it bounds the loop.
-    for number in 0..named.len() {
-        match rest.first() {
+    let mut left = units;
+    for number in 0..units.len() {
+        match left.first() {
             Some(first) => {
-                let own = first.own;
-                let (unit, behind) = rest.split_at(unit_len(rest, own));
-                put_unit(alloc, out, names, kind, lists, own, unit)?;
+                let (entries, behind) = rest.split_at(unit_len(rest, first.own));
+                let (group, later) = left.split_at(1);
+                put_group(alloc, out, names, kind, lists, group, entries)?;
                 rest = behind;
+                left = later;
             }
             None => return Ok(()),
         }
@@ -378,24 +399,85 @@ fn put_units(
     Ok(())
 }
 
-/// Writes tables of the lists that attributes name, one for each unit. `lists` has the bytes of each list, by its
-/// number; `named` the attributes, in the order of their entries. What is written has the offset of each attribute that
-/// names its list by one, and the base of each unit that uses indexes. `NoMemory` is answered, too, where an offset or
-/// a length doesn't fit 32 bits.
+// Where the own entries of the units stand whose attributes name lists.
+fn owns_of(alloc: Global, named: &[NamedList]) -> Result<BTreeSet<u64>, NoMemory>
+    ensures { IfOk result (λ owns. (o : ℕ) → contains nat_cmp owns o ≡ list_any (λ r. r.own == o) named.now) }
+{
+    let mut owns = BTreeSet::new(alloc);
+    for entry in named {
+        owns.insert(entry.own)?;
+    }
+    Ok(owns)
+}
+
+// Adds a unit if it needs a table.
+fn put_needing(
+    out: &mut Vec<IndexedUnit>,
+    unit: IndexedUnit,
+    owns: &BTreeSet<u64>,
+) -> Result<(), NoMemory>
+    ensures { OnOk result (out.new.items ≡ out.old.items
+        ++ filter (λ (x : indexed.IndexedUnit). is_some x.greatest || contains nat_cmp owns.now x.own) (unit ∷ [])) }
+{
+    if unit.greatest.is_some() || owns.contains(&unit.own) {
+        out.push(unit)?;
+    }
+    Ok(())
+}
+
+// The units that need a table, since they use an index or their own entries stand at one of `owns`.
+fn needing(
+    alloc: Global,
+    all: &[IndexedUnit],
+    owns: &BTreeSet<u64>,
+) -> Result<Vec<IndexedUnit>, NoMemory>
+    ensures { IfOk result (λ us. us.items
+        ≡ filter (λ (x : indexed.IndexedUnit). is_some x.greatest || contains nat_cmp owns.now x.own) all.now) }
+{
+    let mut needing = Vec::new(alloc);
+    for unit in all {
+        put_needing(&mut needing, *unit, owns)?;
+    }
+    Ok(needing)
+}
+
+/// The units of a file that may get tables. Where the file has no section of lists, and no attribute names one, there
+/// are none: no section is added for indexes alone.
+pub fn indexed_in<'a>(
+    section: &[u8],
+    named: &[NamedList],
+    units: &'a [IndexedUnit],
+) -> &'a [IndexedUnit]
+    ensures { result.now ≡ spec.indexed_in section.now named.now units.now }
+{
+    if section.is_empty() && named.is_empty() {
+        return &[];
+    }
+    units
+}
+
+/// Writes tables of the lists that attributes name, one for each unit that has such attributes or uses an index.
+/// `lists` has the bytes of each list, by its number; `named` the attributes, and `units` their units, in the order of
+/// entries. A table has an offset for each index up to the greatest of its unit; one that none of the attributes uses
+/// names a list without entries. What is written has the offset of each attribute that names its list by one, and the
+/// base of each unit that has a table. `NoMemory` is answered, too, where an offset or a length doesn't fit 32 bits.
 pub fn write_tables(
     alloc: Global,
     kind: ListKind,
     lists: &[Vec<u8>],
     named: &[NamedList],
+    units: &[IndexedUnit],
 ) -> Result<Written, NoMemory>
-    requires order { AreInOrder kind 0 named.now }
-    requires owns { OwnsRise 0 named.now }
-    ensures written { IfOk result (λ w. AreWritten kind lists.now named.now named.now [] w.bytes.items w.lists.items) }
-    ensures none { length named.now ≡ 0 → IfOk result (λ w. w.bytes.items ≡ []) }
+    requires { AreLeft kind 0 0 named.now units.now }
+    ensures written { IfOk result (λ w. AreWritten kind lists.now named.now (spec.with_tables named.now units.now)
+        w.bytes.items w.lists.items) }
+    ensures none { length named.now ≡ 0 → length units.now ≡ 0 → IfOk result (λ w. w.bytes.items ≡ []) }
 {
+    let owns = owns_of(alloc, named)?;
+    let needing = needing(alloc, units, &owns)?;
     let mut bytes = Vec::new(alloc);
     let mut names = Vec::new(alloc);
-    put_units(alloc, &mut bytes, &mut names, kind, lists, named)?;
+    put_groups(alloc, &mut bytes, &mut names, kind, lists, named, &needing)?;
     Ok(Written {
         bytes,
         lists: names,

@@ -22,6 +22,7 @@ use Rattle.list_units.specs.declared.located_attr.Source.TheVariants.{Direct, Li
 use Rattle.cover_lists.specs.Bounds.{bounds_in}
 use Rattle.cover_lists.specs.CoverIndex.{IsCoverIndex, held_numbers}
 use Rattle.dw_lists.specs.declared.named_list.NamedList.{NamedList}
+use Rattle.dw_lists.specs.declared.indexed_unit.IndexedUnit.{IndexedUnit}
 use Rattle.dw_lists.specs.Faults.{ListSections, location_places}
 use Rattle.cover_lists.specs.Groups.{group_holds}
 use Rattle.cover_lists.specs.KeptLists.{list_bounds}
@@ -52,11 +53,12 @@ numbers_are covers located a = λ i. filter (λ k. tested k i) (range_with_len 0
     tested k = ap (λ (o : Option RangedEntry). option_map_or (λ (r : RangedEntry). group_holds covers r.group a) o false)
         (slice_get-map ranged_of located k) ∙ of_option (slice_get located k)
 
-pub found_places : (s : ListSections) (kept : Locations) (named : List NamedList) (index : CoverIndex) (bounds : List ℕ) (weight a : ℕ)
+pub found_places : (s : ListSections) (kept : Locations) (named : List NamedList) (index : CoverIndex) (bounds : List ℕ)
+    (indexed : List IndexedUnit) (a : ℕ)
     (numbers : List ℕ) →
-    ArePlacesKept s kept named index bounds weight → numbers ≡ held_numbers index.tree (map ranged_of kept.located.items) a →
+    ArePlacesKept s kept named index bounds indexed → numbers ≡ held_numbers index.tree (map ranged_of kept.located.items) a →
     flat_map (said_by_number kept a) numbers ≡ places_said s a
-found_places s kept named index bounds weight a numbers are e =
+found_places s kept named index bounds indexed a numbers are e =
     ap (flat_map (said_by_number kept a)) (e ∙ numbers_are index.tree kept.located.items a)
     ∙ listed_by_number (located_says kept.lists.items a) (λ (l : LocatedAttr). group_holds index.tree l.group a) kept.located.items
     ∙ are.says a
@@ -76,11 +78,11 @@ all_alike covers lists located a b same listed =
     (filter (λ (l : LocatedAttr). alike_groups covers a b l.group same i) located))
 
 pub places_kept : (s : ListSections) (groups : Groups) (kept : Locations) (named : List NamedList) (index : CoverIndex) (bounds : List ℕ)
-    (weight : ℕ) →
-    ArePlacesOf s groups kept named weight →
+    (indexed : List IndexedUnit) →
+    ArePlacesOf s groups kept named indexed →
     IsCoverIndex groups.covers.items (map ranged_of kept.located.items) index → IsNonDecreasing bounds →
-    IsPermutation (bounds_in groups.covers.items ++ list_bounds kept.lists.items) bounds → ArePlacesKept s kept named index bounds weight
-places_kept s groups kept named index bounds weight are is rising all = record {
+    IsPermutation (bounds_in groups.covers.items ++ list_bounds kept.lists.items) bounds → ArePlacesKept s kept named index bounds indexed
+places_kept s groups kept named index bounds indexed are is rising all = record {
   free = are.free;
   index_is = record { held = λ g a. refl; members = is.members };
   says = λ a. same_covers a ∙ are.says a;

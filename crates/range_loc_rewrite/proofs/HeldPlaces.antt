@@ -6,6 +6,7 @@ use Rattle.cover_lists.specs.declared.groups.RangedEntry.{RangedEntry}
 use Rattle.cover_lists.specs.declared.cover_index.CoverIndex.{CoverIndex}
 use Rattle.cover_lists.specs.declared.groups.Groups.{Groups}
 use Rattle.cover_lists.specs.CoverIndex.{IsCoverIndex, held_numbers, place_at}
+use Rattle.dw_lists.specs.declared.indexed_unit.IndexedUnit.{IndexedUnit}
 use Rattle.dw_lists.specs.Faults.{ListSections}
 use Rattle.list_units.specs.Gathering.{seen_kept}
 use Rattle.cover_lists.specs.Groups.{group_holds, held_places}
@@ -45,10 +46,11 @@ seen_alike cs ds [] a same = refl
 seen_alike cs ds (r ∷ rs) a same =
     λ i. record { place = r.place; own = r.own; index = r.index; held = same r.group i } ∷ seen_alike cs ds rs a same i
 
-pub kept_are : (s : ListSections) (groups : Groups) (ranged : List RangedEntry) (index : CoverIndex) (bounds : List ℕ) (weight : ℕ) →
-    AreRangesOf s groups ranged weight → IsCoverIndex groups.covers.items ranged index → IsNonDecreasing bounds →
-    IsPermutation (bounds_in groups.covers.items) bounds → AreKept s ranged groups.count index bounds weight
-kept_are s groups ranged index bounds weight are is rising all = record {
+pub kept_are : (s : ListSections) (groups : Groups) (ranged : List RangedEntry) (index : CoverIndex) (bounds : List ℕ)
+    (indexed : List IndexedUnit) →
+    AreRangesOf s groups ranged indexed → IsCoverIndex groups.covers.items ranged index → IsNonDecreasing bounds →
+    IsPermutation (bounds_in groups.covers.items) bounds → AreKept s ranged groups.count index bounds indexed
+kept_are s groups ranged index bounds indexed are is rising all = record {
   free = are.free;
   within = are.within;
   seen = λ a. seen_alike index.tree groups.covers.items ranged a (λ g. is.held g a) ∙ are.seen a;
@@ -64,15 +66,17 @@ kept_are s groups ranged index bounds weight are is rising all = record {
 }
 
 -- what is found by numbers is what covers an address
-pub found_are : (s : ListSections) (ranged : List RangedEntry) (count : ℕ) (index : CoverIndex) (bounds : List ℕ) (weight a : ℕ)
+pub found_are : (s : ListSections) (ranged : List RangedEntry) (count : ℕ) (index : CoverIndex) (bounds : List ℕ)
+    (indexed : List IndexedUnit) (a : ℕ)
     (numbers : List ℕ) →
-    AreKept s ranged count index bounds weight →
+    AreKept s ranged count index bounds indexed →
     numbers ≡ held_numbers index.tree ranged a → filter_map (place_at ranged) numbers ≡ covering s a
-found_are s ranged count index bounds weight a numbers are e =
+found_are s ranged count index bounds indexed a numbers are e =
     ap (filter_map (place_at ranged)) e ∙ places_are index.tree ranged a ∙ are.held a
 
 -- no range starts or ends between two addresses
-pub covered_alike : (s : ListSections) (ranged : List RangedEntry) (count : ℕ) (index : CoverIndex) (bounds : List ℕ) (weight a b : ℕ) →
-    AreKept s ranged count index bounds weight → All (λ x. nat_le x a ≡ nat_le x b) bounds → covering s a ≡ covering s b
-covered_alike s ranged count index bounds weight a b are same =
+pub covered_alike : (s : ListSections) (ranged : List RangedEntry) (count : ℕ) (index : CoverIndex) (bounds : List ℕ)
+    (indexed : List IndexedUnit) (a b : ℕ) →
+    AreKept s ranged count index bounds indexed → All (λ x. nat_le x a ≡ nat_le x b) bounds → covering s a ≡ covering s b
+covered_alike s ranged count index bounds indexed a b are same =
     sym (are.held a) ∙ held_alike_at index.tree ranged a b (are.apart a b same) ∙ are.held b

@@ -1,6 +1,6 @@
 -- Which entry of the sections is kept as what, and that entries of one unit with one index have the same ranges.
-use Rattle.std.proofs.Common.{◌≡◌, ◌∙◌, ◌++◌, ◌∷◌, [], ℕ, List, Option, Some, None, refl, sym, ap, subst}
-use Rattle.std.specs.Prelude.{flat_map}
+use Rattle.std.proofs.Common.{◌≡◌, ◌∙◌, ◌++◌, ◌∷◌, [], ℕ, List, Option, Some, None, true, refl, sym, ap, subst}
+use Rattle.std.specs.Prelude.{flat_map, is_some}
 use Rattle.std.specs.List.{list_any}
 use Rattle.answer_runs.specs.declared.range.Range.{Range}
 use Rattle.answer_runs.specs.AddressRanges.{holds_address}
@@ -19,6 +19,7 @@ pub record IsKeptAs (s : ListSections) (covers : List Cover) (u : Unit) (e : Ent
   pub place : r.place ≡ e.place
   pub own : r.own ≡ own_place u
   pub index : r.index ≡ ranges_index e.attrs
+  pub some : is_some (ranges_of s u e) ≡ true
   pub held : (a : ℕ) → group_holds covers r.group a ≡ hold (ranges_of s u e) a
 
 same_head : {X : Type 0} (x y : X) (xs ys : List X) → x ∷ xs ≡ y ∷ ys → x ≡ y
@@ -91,6 +92,7 @@ module _ (s : ListSections) (covers : List Cover) where
                     place = ap (λ (x : SeenEntry). x.place) (first 0);
                     own = ap (λ (x : SeenEntry). x.own) (first 0);
                     index = ap (λ (x : SeenEntry). x.index) (first 0);
+                    some = ap is_some is;
                     held = λ a. ap (λ (x : SeenEntry). x.held) (first a) ∙ sym (ap (λ (o : Option (List Range)). hold o a) is);
                   }) p.paired;
                   rest = p.rest;

@@ -12,6 +12,7 @@ use Rattle.table_core.specs.WrittenUnits.{IsUnit, units_bytes}
 use Rattle.dw_unit.specs.EntryMoves.{new_list_offset}
 use Rattle.answer_runs.proofs.Ascending.{Ascends}
 use Rattle.cover_lists.specs.declared.groups.RangedEntry.{RangedEntry}
+use Rattle.dw_lists.specs.declared.indexed_unit.IndexedUnit.{IndexedUnit}
 use Rattle.dw_lists.specs.declared.list_kind.ListKind.TheVariants.{Ranges}
 use Rattle.dw_lists.specs.declared.named_list.NamedList.{NamedList}
 use Rattle.dw_lists.specs.Faults.{is_list_table}
@@ -43,16 +44,15 @@ pub record AreNamed (lists : List (Vec (Run Bool))) (kept : List RangedEntry) (b
   pub units : All (IsUnit 5) tables
   pub sound : All (λ b. is_list_table b ≡ true) tables
   pub each : (r : RangedEntry) → Contains kept r → IsNamed lists tables names kept r r.index
-  pub unbased : (e : ℕ) → ((r : RangedEntry) → Contains kept r → r.own ≡ e → r.index ≡ None) → new_list_offset names e 0x74 ≡ None
 
-contains_map : (kept : List RangedEntry) (r : RangedEntry) → Contains kept r → Contains (map named_of kept) (named_of r)
+pub contains_map : (kept : List RangedEntry) (r : RangedEntry) → Contains kept r → Contains (map named_of kept) (named_of r)
 contains_map [] r c = absurd (Contains-nil r c)
 contains_map (x ∷ kept) r c = ⊎_elim
     (λ (same : x ≡ r). (0, omega arith, ap named_of same))
     (λ (there : Contains kept r). Contains-there (named_of x) (map named_of kept) (named_of r) (contains_map kept r there))
     (Contains-cons_cases x kept r c)
 
-map_contains : (kept : List RangedEntry) (n : NamedList) → Contains (map named_of kept) n → (r : RangedEntry) × Contains kept r
+pub map_contains : (kept : List RangedEntry) (n : NamedList) → Contains (map named_of kept) n → (r : RangedEntry) × Contains kept r
     × (named_of r ≡ n)
 map_contains [] n c = absurd (Contains-nil n c)
 map_contains (x ∷ kept) n c = ⊎_elim
@@ -73,7 +73,7 @@ group_at bs lists g e h = bytes_at group_bytes bs lists g e ∙ there lists g h
     there (l ∷ lists) (suc g) h = there lists g (omega (arith, h))
 
 module _ (bs : List (Vec ℕ)) (lists : List (Vec (Run Bool))) (kept : List RangedEntry) (bytes : List ℕ) (names : List ListAt)
-    (w : AreWritten Ranges bs (map named_of kept) (map named_of kept) [] bytes names)
+    (us : List IndexedUnit) (w : AreWritten Ranges bs (map named_of kept) us bytes names)
     (same : (r : RangedEntry) → Contains kept r → bytes_in bs r.group ≡ group_list lists r.group) where
   named_by : (r : RangedEntry) → Contains kept r → (i : Option ℕ) →
       tables.IsNamed Ranges bs w.tables names (map named_of kept) (named_of r) i →
@@ -100,9 +100,6 @@ module _ (bs : List (Vec ℕ)) (lists : List (Vec (Run Bool))) (kept : List Rang
     units = w.units;
     sound = w.sound;
     each = λ r c. named_by r c r.index (w.each (named_of r) (contains_map kept r c));
-    unbased = λ e free. w.unbased e (λ n c own.
-        let q = map_contains kept n c in
-        sym (ap (λ (x : NamedList). x.index) q.2) ∙ free q.0 q.1 (ap (λ (x : NamedList). x.own) q.2 ∙ own));
   }
 
 -- the attributes of entries are in their order

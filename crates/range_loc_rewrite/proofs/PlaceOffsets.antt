@@ -1,39 +1,48 @@
 -- Each attribute that names a location list gets an offset in a table that was written, or its unit a base.
 use Rattle.std.proofs.Common.{◌≡◌, ◌<◌, ◌==◌, ◌&&◌, ◌||◌, ◌∙◌, [], ℕ, Bool, true, false, List, Some, None, sym, ap, subst}
-use Rattle.std.proofs.Common.{length, map}
-use Rattle.std.specs.Prelude.{flat_map, Contains, if◌then◌else◌}
+use Rattle.std.proofs.Common.{length, map, inl, inr, ◌≢◌}
+use Rattle.std.specs.Prelude.{flat_map, Contains, if◌then◌else◌, is_some}
 use Rattle.std.specs.Global.{Vec}
-use Rattle.std.proofs.lemmas.Bool.{ne_eqb}
 use Rattle.answer_runs.specs.declared.run.Run.{Run}
 use Rattle.answer_runs.proofs.Ascending.{Ascends}
 use Rattle.table_core.specs.declared.written.ListAt.{ListAt}
 use Rattle.addr_map.specs.declared.span.Span.{Span}
 use Rattle.dw_unit.specs.declared.entry.Attr.{Attr}
-use Rattle.dw_unit.specs.CompUnits.{Entry, Unit, units, attr, own_entry}
+use Rattle.dw_unit.specs.CompUnits.{Entry, Unit, units, attr}
 use Rattle.dw_unit.specs.EntryMoves.{new_list_offset}
 use Rattle.cover_lists.specs.declared.kept_list.KeptList.{KeptList}
 use Rattle.dw_lists.specs.declared.list_kind.ListKind.TheVariants.{Locations}
 use Rattle.dw_lists.specs.declared.named_list.NamedList.{NamedList}
 use Rattle.dw_lists.specs.Faults.{ListSections}
+use Rattle.dw_lists.specs.IndexedUnits.{indexed_units}
 use Rattle.dw_lists.specs.Lists.{locations_kind}
 use Rattle.dw_lists.specs.UnitLists.{own_place}
+use Rattle.dw_lists.specs.Weights.{indexes}
 use Rattle.list_units.specs.Listing.{AreNamesOf, IsNameOf, ListItem, all_items, list_index}
-use Rattle.list_units.proofs.Zips.{zip_left, zip_right}
+use Rattle.list_units.proofs.Zips.{zip_right}
 use Rattle.list_writer.specs.WrittenLocations.{bounded}
-use Rattle.list_writer.specs.WrittenTables.{AreWritten, IsNamed, StandsAt}
-use Rattle.list_writer.proofs.ListsThere.{list_inside, base_inside}
-use Rattle.range_loc_rewrite.specs.NewOffsets.{GetsOffset, PlacesGetOffsets, UsesIndex}
+use Rattle.list_writer.specs.FullLists.{IsFullList}
+use Rattle.list_writer.specs.WrittenTables.{AreWritten, IsNamed, StandsAt, bytes_in, indexed_in, with_tables}
+use Rattle.list_writer.proofs.BasesThere.{list_full}
+use Rattle.list_writer.proofs.ListsThere.{list_inside}
+use Rattle.range_loc_rewrite.specs.NewOffsets.{GetsBase, GetsOffset, NeedsTable, PlacesGetOffsets}
 use Rattle.range_loc_rewrite.proofs.ItemsThere.{IsPlaceName, HasItem, has_item}
-use Rattle.range_loc_rewrite.proofs.KeptLookups.{all_of, own_unique, place_of, first_there, own_at}
-use Rattle.range_loc_rewrite.proofs.PlacesStay.{AreSpelled, is_item}
+use Rattle.range_loc_rewrite.proofs.KeptLookups.{all_of, place_of}
+use Rattle.range_loc_rewrite.proofs.NewBases.{IsSpelled, kept_base, new_base}
+use Rattle.range_loc_rewrite.proofs.PlaceOrigins.{origin}
+use Rattle.range_loc_rewrite.proofs.PlacesStay.{AreSpelled}
 use Rattle.range_loc_rewrite.proofs.RangesStay.{found_name}
 use Rattle.range_loc_rewrite.proofs.SoundLists.{AreThere}
+use Rattle.range_loc_rewrite.proofs.UsedIndexes.{greatest_is, used_entry}
 
 module _ (s : ListSections) (fine : (u : Unit) → Contains (units s.units) u →
     AreThere locations_kind s.locations s.units.addr u (flat_map (λ (e : Entry). e.attrs) u.entries))
     (lists : List KeptList) (named : List NamedList) (items : AreNamesOf lists named (all_items s))
     (bs : List (Vec ℕ)) (spans : List Span) (runs : ℕ → List (Run (List (List ℕ)))) (spelled : AreSpelled lists bs spans runs named)
-    (bytes : List ℕ) (names : List ListAt) (w : AreWritten Locations bs named named [] bytes names)
+    (bytes : List ℕ) (names : List ListAt)
+    (w : AreWritten Locations bs named (with_tables named (indexed_in s.locations named (indexed_units locations_kind s.units))) bytes
+    names)
+    (none : length named ≡ 0 → length (indexed_in s.locations named (indexed_units locations_kind s.units)) ≡ 0 → bytes ≡ [])
     (up : Ascends 0 (map place_of (all_of (units s.units)))) where
   module _ (u : Unit) (uc : Contains (units s.units) u) (e : Entry) (ec : Contains u.entries e) (k : ℕ) (a : Attr)
       (is : attr k e ≡ Some a) (name : IsPlaceName k) where
@@ -59,7 +68,7 @@ module _ (s : ListSections) (fine : (u : Unit) → Contains (units s.units) u �
         both true y f g = g
         both false y f g = absurd (cc)
 
-    by_offset : a.form ≡ 0x17 → GetsOffset names bytes e.place k
+    by_offset : a.form ≡ 0x17 → GetsOffset locations_kind names bytes e.place k
     by_offset form =
         let q = name_of (ap (λ (f : ℕ). f == 0x17 || f == 0x22) form) in
         let index : q.n.index ≡ None = q.index ∙ ap (λ (f : ℕ). if f == 0x22 then Some a.value else None) form in
@@ -70,43 +79,30 @@ module _ (s : ListSections) (fine : (u : Unit) → Contains (units s.units) u �
           within = subst (λ (l : List ℕ). x.0 < length l) (sym w.bytes_are)
               (list_inside Locations w.tables x.0 (bounded (runs q.n.list))
               (subst (StandsAt w.tables x.0) (spelled.bytes q.n q.there) x.2) w.units);
+          full = subst (λ (l : List ℕ). IsFullList locations_kind l x.0) (sym w.bytes_are)
+              (list_full Locations w.tables x.0 (bounded (runs q.n.list))
+              (subst (StandsAt w.tables x.0) (spelled.bytes q.n q.there) x.2) w.units (spelled.writable q.n q.there));
         }
 
-    by_index : a.form ≡ 0x22 → GetsOffset names bytes (own_place u) 0x8c
-    by_index form =
-        let q = name_of (ap (λ (f : ℕ). f == 0x17 || f == 0x22) form) in
-        let index : q.n.index ≡ Some a.value = q.index ∙ ap (λ (f : ℕ). if f == 0x22 then Some a.value else None) form in
-        let x = subst (IsNamed Locations bs w.tables names named q.n) index (w.each q.n q.there) in
-        record {
-          offset = x.0;
-          is = ap (λ (n : ℕ). new_list_offset names n 0x8c) (sym q.own) ∙ x.3;
-          within = subst (λ (l : List ℕ). x.0 < length l) (sym w.bytes_are) (base_inside w.tables x.0 a.value x.1 x.4 w.units);
-        }
+  lists_spelled : (r : NamedList) → Contains named r → IsSpelled Locations (bytes_in bs r.list)
+  lists_spelled r c = record { entries = bounded (runs r.list); are = spelled.bytes r c; writable = spelled.writable r c }
 
-  -- a unit that uses no index
-  kept_base : (u : Unit) → Contains (units s.units) u → (d : Entry) → own_entry u ≡ Some d → (UsesIndex locations_kind u → ⊥) →
-      new_list_offset names d.place 0x8c ≡ None
-  kept_base u uc d is none = w.unbased d.place (λ r there own.
-      let x = zip_left (IsNameOf lists) named (all_items s) r items there in
-      let y = is_item s x.0 x.1 in
-      let same : y.u ≡ u = own_unique 0 (units s.units) y.u u y.e d up y.unit y.entry uc (first_there u.entries d is)
-      (sym y.own ∙ sym x.2.own ∙ own ∙ sym (own_at u d is)) in
-      x.2.index ∙ y.index ∙ plain y.a (λ form. none (record {
-        e = y.e;
-        entry = subst (λ (v : Unit). Contains v.entries y.e) same y.entry;
-        name = y.name;
-        a = y.a;
-        is = y.is;
-        names = y.naming;
-        form = form;
-      })))
-    where
-      plain : (a : Attr) → (a.form ≡ 0x22 → ⊥) → list_index a ≡ None
-      plain a other = ap (λ (b : Bool). if b then Some a.value else None) (ne_eqb a.form 0x22 other)
+  base_of : (s.locations ≡ [] → bytes ≢ []) → (u : Unit) → Contains (units s.units) u → NeedsTable locations_kind (λ _. ⊥) u →
+      GetsBase locations_kind s.units u names bytes
+  base_of some u uc (NeedsTable.uses_index i c) =
+      let e = used_entry 0x22 u i c in
+      let g = greatest_is (indexes 0x22 u) i c in
+      new_base Locations (λ _. ⊥) s.units s.locations bs named bytes names w (origin s lists named items) up lists_spelled some none u uc
+      e.0 e.1 (inl (ap is_some g.1))
+  base_of some u uc (NeedsTable.names_list e k a ec is name form) =
+      let q = name_of u uc e ec k a is name (ap (λ (f : ℕ). f == 0x17 || f == 0x22) form) in
+      new_base Locations (λ _. ⊥) s.units s.locations bs named bytes names w (origin s lists named items) up lists_spelled some none u uc
+      e ec (inr (q.n, q.there, q.own))
+  base_of some u uc (NeedsTable.has_entry e ec never) = absurd never
 
-  pub places_get_offsets : PlacesGetOffsets s.units names bytes
+  pub places_get_offsets : PlacesGetOffsets s.units s.locations names bytes
   places_get_offsets = record {
     offsets = λ u uc e ec k a is name form. by_offset u uc e ec k a is name form;
-    bases = λ u uc x. by_index u uc x.e x.entry x.name x.a x.is x.names x.form;
-    kept = kept_base;
+    bases = base_of;
+    kept = kept_base Locations (λ _. ⊥) s.units s.locations bs named bytes names w (origin s lists named items) up;
   }

@@ -15,6 +15,7 @@ use Rattle.dw_unit.proofs.NoFaults.{absent, none_least, both_nil}
 use Rattle.cover_lists.specs.declared.cover_index.CoverIndex.{CoverIndex}
 use Rattle.list_units.specs.declared.located_attr.Locations.{Locations}
 use Rattle.dw_lists.specs.declared.named_list.NamedList.{NamedList}
+use Rattle.dw_lists.specs.declared.indexed_unit.IndexedUnit.{IndexedUnit}
 use Rattle.dw_lists.specs.Faults.{ListSections, location_places, has_bad_offsets, list_offsets, table_place, bad_list_tables, bad_table}
 use Rattle.dw_lists.specs.KnownLists.{location_list}
 use Rattle.range_loc_rewrite.specs.KeptPlaces.{ArePlacesKept}
@@ -76,10 +77,11 @@ module _ (s : ListSections) (spans : List Span) where
       subst (IsSumOf (IsUnitWeight s spans) (u ∷ us)) (sym two.sum)
       (more u us two.first two.second (unit_weight u two.first both.0 two.of_first) (units_weight us two.second both.1 two.of_second))
 
-  pub places_weight : (kept : Locations) (named : List NamedList) (index : CoverIndex) (bounds : List ℕ) (weight n : ℕ) →
-      ArePlacesKept s kept named index bounds weight →
+  pub places_weight : (kept : Locations) (named : List NamedList) (index : CoverIndex) (bounds : List ℕ)
+      (indexed : List IndexedUnit) (n : ℕ) →
+      ArePlacesKept s kept named index bounds indexed →
       IsListsWeight kept.lists.items spans n → IsPlacesWeight s spans (index_weights locations_kind.index_form s + n)
-  places_weight kept named index bounds weight n are w = record {
+  places_weight kept named index bounds indexed n are w = record {
     runs = n;
     of_runs = units_weight (units s.units) n (none_bad s are.free)
         (subst (λ (l : List (ℕ → List (List ℕ))). IsSumOf (IsSaidWeight spans) l n) are.listed w);

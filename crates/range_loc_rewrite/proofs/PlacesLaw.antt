@@ -27,6 +27,7 @@ use Rattle.dw_unit.proofs.SoundEntries.{IsSoundEntry, AreSoundUnits, all_sound}
 use Rattle.cover_lists.specs.declared.kept_list.KeptList.{KeptList}
 use Rattle.dw_lists.specs.declared.list_kind.ListKind.TheVariants.{Locations}
 use Rattle.dw_lists.specs.declared.named_list.NamedList.{NamedList}
+use Rattle.dw_lists.specs.declared.indexed_unit.IndexedUnit.{IndexedUnit}
 use Rattle.dw_lists.specs.Faults.{ListSections, range_places, location_places}
 use Rattle.list_units.specs.Listing.{all_items, IsNameOf}
 use Rattle.dw_lists.specs.Lists.{ranges_kind, locations_kind, has_list}
@@ -123,7 +124,7 @@ ranged_size own before (e ∷ es) = let h = ranged_size own (e ∷ before) es in
 module _ (s t : ListSections) (spans : List Span) (m : Moves) (lists : List KeptList) (bs : List (Vec ℕ)) (named : List NamedList)
     (bytes : List ℕ) (names : List ListAt)
     (free : IsFree (HasDwarfFault (location_places s))) (items : AllZip (IsNameOf lists) named (all_items s))
-    (w : AreWritten Locations bs named named [] bytes names)
+    (us : List IndexedUnit) (w : AreWritten Locations bs named us bytes names)
     (table : t.locations ≡ bytes) (free_ranges : IsFree (HasDwarfFault (range_places t))) (covered : (p o : ℕ) → owner spans p ≡ Some o →
     covering t p ≡ covering s o)
     (changes : AreChangedUnits s.units m t.units)

@@ -132,11 +132,11 @@ other_form f g e h = step (f == g) refl
 
 -- A list that stands in the tables
 
-record IsIndexed (o : Option ℕ) (i : ℕ) (a : Attr) : Type 0 where
+pub record IsIndexed (o : Option ℕ) (i : ℕ) (a : Attr) : Type 0 where
   pub form : (a.form == 0x22) ≡ true
   pub value : a.value ≡ i
 
-indexed : (a : Attr) (i : ℕ) → list_index a ≡ Some i → IsIndexed (list_index a) i a
+pub indexed : (a : Attr) (i : ℕ) → list_index a ≡ Some i → IsIndexed (list_index a) i a
 indexed a i e = step (a.form == 0x22) refl e
   where
     same : (m n : ℕ) → Some m ≡ Some n → m ≡ n

@@ -12,6 +12,7 @@ use Rattle.answer_runs.specs.AnswerRuns.{carried, AreRunsOf}
 use Rattle.answer_runs.specs.CarriedAnswers.{IsCarriedFrom}
 use Rattle.table_core.specs.declared.written.Written.{Written}
 use Rattle.dw_unit.specs.Faults.{HasDwarfFault}
+use Rattle.dw_lists.specs.declared.indexed_unit.IndexedUnit.{IndexedUnit}
 use Rattle.dw_lists.specs.declared.list_kind.ListKind.TheVariants.{Locations}
 use Rattle.cover_lists.specs.declared.kept_list.KeptList.{KeptList}
 use Rattle.dw_lists.specs.declared.named_list.NamedList.{NamedList}
@@ -49,11 +50,11 @@ fits_there (r ∷ rs) zero h all = All-head CanBeWritten r rs all
 fits_there (r ∷ rs) (suc n) h all = fits_there rs n (omega (arith, h)) (All-tail CanBeWritten r rs all)
 
 module _ (s : ListSections) (kept : List KeptList) (named : List NamedList) (names : AreNamesOf kept named (all_items s)) where
-  pub made_of : (bs : List (Vec ℕ)) (w : Written) → AreWritten Locations bs named named [] w.bytes.items w.lists.items →
-      (length named ≡ 0 → w.bytes.items ≡ []) → PlacesMade s w
-  made_of bs w written none = record {
+  pub made_of : (bs : List (Vec ℕ)) (us : List IndexedUnit) (w : Written) → AreWritten Locations bs named us w.bytes.items w.lists.items →
+      (s.locations ≡ [] → length named ≡ 0 → w.bytes.items ≡ []) → PlacesMade s w
+  made_of bs us w written none = record {
     lists = record { attrs = written.names_are.attrs; once = written.names_are.once; low = written.names_are.low };
-    nothing = λ empty. none (ap length (no_names s empty kept named names));
+    nothing = λ empty. none empty (ap length (no_names s empty kept named names));
   }
 
   module _ (spans : List Span) (rs : AllRuns) (count : length rs ≡ length kept) (each : (n : ℕ) →
@@ -73,23 +74,23 @@ module _ (s : ListSections) (kept : List KeptList) (named : List NamedList) (nam
 pub law_of : (i f : Elf) (spans : List Span) → IsFree (HasDwarfFault (location_places (list_sections i))) →
     (kept : List KeptList) (named : List NamedList) → AreNamesOf kept named (all_items (list_sections i)) →
     (rs : AllRuns) → length rs ≡ length kept → ((n : ℕ) → AreRunsOf (carried (list_answer kept n) spans) (said_in rs n)) →
-    (bs : List (Vec ℕ)) → items_in bs ≡ map runs_bytes rs → All CanBeWritten rs → (w : Written) →
-    AreWritten Locations bs named named [] w.bytes.items w.lists.items → StandsPlaces i spans w f →
+    (bs : List (Vec ℕ)) → items_in bs ≡ map runs_bytes rs → All CanBeWritten rs → (us : List IndexedUnit) (w : Written) →
+    AreWritten Locations bs named us w.bytes.items w.lists.items → StandsPlaces i spans w f →
     IsCarriedFrom (λ x y. x ≡ y) spans (place_says (list_sections i)) (place_answers f)
     × IsFree (HasDwarfFault (location_places (list_sections f)))
-law_of i f spans free kept named names rs count each bs spelled fits w written stands =
+law_of i f spans free kept named names rs count each bs spelled fits us w written stands =
     let s : ListSections = list_sections i in
     let t : ListSections = list_sections f in
     let c = stands.changed in
     let sp = are_spelled s kept named names spans rs count each bs spelled fits in
     let free_new : IsFree (HasDwarfFault (location_places t)) =
-    new_free s t spans c.moves kept bs named w.bytes.items w.lists.items free names written stands.table stands.ranges stands.covered
+    new_free s t spans c.moves kept bs named w.bytes.items w.lists.items free names us written stands.table stands.ranges stands.covered
     c.units_are c.named
     (said_in rs) sp in (
       subst (λ (x : Option (ℕ → Option (List PlaceSaid))). IsCarriedFrom (λ x y. x ≡ y) spans (place_says s) x)
           (sym (answers_free (location_places t) (place_says t) free_new))
           (is_carried (places_said s) (places_said t) spans (carried (place_says s) spans) (λ p. refl)
-          (new_places s t spans c.moves kept bs named w.bytes.items w.lists.items free names written stands.table stands.ranges
+          (new_places s t spans c.moves kept bs named w.bytes.items w.lists.items free names us written stands.table stands.ranges
           stands.covered c.units_are c.named
           (said_in rs) sp)),
       free_new,

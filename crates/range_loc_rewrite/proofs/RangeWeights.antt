@@ -1,6 +1,6 @@
 -- The weight of ranges, by the runs of the groups of entries.
 use Rattle.std.proofs.Common.{◌≡◌, ◌∙◌, ◌+◌, ◌*◌, ◌<◌, ◌++◌, ◌∷◌, [], ℕ, Bool, true, false, List, Option, Some, None, refl, sym, ap}
-use Rattle.std.proofs.Common.{subst, arith, length, map, ⊎_elim}
+use Rattle.std.proofs.Common.{subst, arith, length, map, ⊎_elim, ◌-◌, ◌^◌}
 use Rattle.std.specs.Prelude.{if◌then◌else◌, flat_map, option_and_then, sum_by, Contains, min}
 use Rattle.std.specs.Global.{Vec}
 use Rattle.std.specs.List.{list_any}
@@ -16,21 +16,24 @@ use Rattle.answer_runs.specs.declared.run.Run.{Run}
 use Rattle.answer_runs.specs.AddressRanges.{holds_address}
 use Rattle.answer_runs.specs.AnswerRuns.{run_at, carried, AreRunsOf}
 use Rattle.answer_runs.specs.Weights.{IsWeightOf, run_weight}
-use Rattle.dw_unit.specs.CompUnits.{Entry, Unit, units}
+use Rattle.dw_unit.specs.CompUnits.{Entry, Sections, Unit, units}
 use Rattle.cover_lists.specs.declared.cover_tree.Cover.{Cover}
 use Rattle.cover_lists.specs.declared.cover_index.CoverIndex.{CoverIndex}
 use Rattle.cover_lists.specs.declared.groups.RangedEntry.{RangedEntry}
+use Rattle.dw_lists.specs.declared.indexed_unit.IndexedUnit.{IndexedUnit}
 use Rattle.dw_lists.specs.Faults.{ListSections}
 use Rattle.list_units.specs.Gathering.{SeenEntry, seen_of, seen_in, seen_kept, ranges_index}
 use Rattle.cover_lists.specs.GroupRuns.{runs_in, held_by, if_held}
 use Rattle.cover_lists.specs.Groups.{AreWithin, group_holds}
 use Rattle.range_loc_rewrite.specs.KeptRanges.{AreKept}
-use Rattle.dw_lists.specs.Lists.{ranges_kind}
+use Rattle.dw_lists.specs.IndexedUnits.{indexed_units, table_weight}
+use Rattle.dw_lists.specs.Lists.{Kind, ranges_kind}
 use Rattle.list_units.specs.RangeReading.{all_seen}
 use Rattle.dw_lists.specs.Ranges.{Ranged, ranged_from, ranged_in, ranged, ranges_of}
 use Rattle.cover_lists.specs.Located.{hold}
 use Rattle.dw_lists.specs.UnitLists.{own_place}
-use Rattle.dw_lists.specs.Weights.{IsRangesWeight, covered_by, index_weights}
+use Rattle.dw_lists.specs.Weights.{IsRangesWeight, covered_by, index_weight, index_weights}
+use Rattle.dw_lists.proofs.IndexWeights.{all_weights}
 use Rattle.cover_lists.specs.ListWeights.{IsSumOf}
 
 -- which of the entries that have ranges hold an address
@@ -186,8 +189,9 @@ within_there n (x ∷ xs) r w c = ⊎_elim
     (Contains-cons_cases x xs r c)
 
 -- What is kept, and the runs of its groups.
-module _ (s : ListSections) (spans : List Span) (kept : List RangedEntry) (count : ℕ) (index : CoverIndex) (bounds : List ℕ) (weight : ℕ)
-    (are : AreKept s kept count index bounds weight) (lists : List (Vec (Run Bool)))
+module _ (s : ListSections) (spans : List Span) (kept : List RangedEntry) (count : ℕ) (index : CoverIndex) (bounds : List ℕ)
+    (indexed : List IndexedUnit)
+    (are : AreKept s kept count index bounds indexed) (lists : List (Vec (Run Bool)))
     (each : (g : ℕ) → g < count → AreRunsOf (carried (held_by index.tree g) spans) (runs_in lists g)) where
   pub kept_says : (r : RangedEntry) → Contains kept r → (p : ℕ) →
       run_at (runs_in lists r.group) p ≡ if_held (holds_some index.tree r.group (owner spans p))
@@ -201,6 +205,12 @@ module _ (s : ListSections) (spans : List Span) (kept : List RangedEntry) (count
     of_runs = ranged_weight s spans index.tree lists kept (λ r there. each r.group (within_there count kept r are.within there)) are.seen;
     sum = refl;
   }
+
+-- what is kept of the indexes of units weighs what these do
+pub indexes_weight : (k : Kind) (s : Sections) (indexed : List IndexedUnit) (weight : ℕ) → indexed ≡ indexed_units k s →
+    weight ≡ min (sum_by table_weight indexed) (2 ^ 64 - 1) → weight ≡ min (sum_by (index_weight k.index_form) (units s)) (2 ^ 64 - 1)
+indexes_weight k s indexed weight are is =
+    is ∙ ap (λ (n : ℕ). min n (2 ^ 64 - 1)) (ap (sum_by table_weight) are ∙ all_weights k (units s))
 
 pub weights_joined : (result sum index weight limit : ℕ) → result ≡ min (min sum limit + index) limit → index ≡ min weight limit →
     result ≡ min (weight + sum) limit

@@ -1,5 +1,5 @@
 -- What is kept of sections of locations without a fault.
-use Rattle.std.specs.Prelude.{◌≡◌, ◌-◌, ◌^◌, ℕ, List, [], All, map, nat_le, flat_map, slice_get, None, min}
+use Rattle.std.specs.Prelude.{◌≡◌, ℕ, List, [], All, map, nat_le, flat_map, slice_get, None}
 use Rattle.std.specs.List.Sorted.{IsNonDecreasing}
 use Rattle.std.specs.Option.{option_map_or}
 use Rattle.rb_bytes.specs.FirstFault.{IsFree}
@@ -18,7 +18,8 @@ use Rattle.list_units.specs.Listing.{AreNamesOf, all_items}
 use Rattle.list_units.specs.ReadLists.{unit_lists}
 use Rattle.cover_lists.specs.KeptLists.{all_say}
 use Rattle.list_units.specs.UnitLocations.{all_located, located_says}
-use Rattle.dw_lists.specs.Weights.{index_weights}
+use Rattle.dw_lists.specs.declared.indexed_unit.IndexedUnit.{IndexedUnit}
+use Rattle.dw_lists.specs.IndexedUnits.{indexed_units}
 
 abbrev pub ranged_of : LocatedAttr → RangedEntry
 ranged_of l = record { place = l.place; group = l.group; own = 0; index = None }
@@ -28,16 +29,16 @@ abbrev pub said_by_number : Locations → ℕ → ℕ → List PlaceSaid
 said_by_number kept a k = option_map_or (located_says kept.lists.items a) (slice_get kept.located.items k) []
 
 -- The attributes that say where something is, with the lists that each unit names and their names, the index by which
--- those are found whose ranges hold an address, numbers between which the same is said at all addresses, and what
--- tables of offsets weigh.
+-- those are found whose ranges hold an address, numbers between which the same is said at all addresses, and the
+-- indexes of lists that units use.
 pub record ArePlacesKept (s : ListSections) (kept : Locations) (named : List NamedList) (index : CoverIndex)
-    (bounds : List ℕ) (weight : ℕ) :
+    (bounds : List ℕ) (indexed : List IndexedUnit) :
     Type 0 where
   pub free : IsFree (HasDwarfFault (location_places s))
   pub index_is : IsCoverIndex index.tree (map ranged_of kept.located.items) index
   pub says : (a : ℕ) → all_located index.tree kept.lists.items kept.located.items a ≡ places_said s a
   pub listed : all_say kept.lists.items ≡ flat_map (unit_lists s) (units s.units)
   pub names : AreNamesOf kept.lists.items named (all_items s)
-  pub indexes : weight ≡ min (index_weights locations_kind.index_form s) (2 ^ 64 - 1)
+  pub indexes : indexed ≡ indexed_units locations_kind s.units
   pub rising : IsNonDecreasing bounds
   pub apart : (a b : ℕ) → All (λ x. nat_le x a ≡ nat_le x b) bounds → places_said s a ≡ places_said s b

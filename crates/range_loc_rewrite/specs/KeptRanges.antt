@@ -1,5 +1,5 @@
 -- What is kept of sections of ranges without a fault.
-use Rattle.std.specs.Prelude.{◌≡◌, ◌-◌, ◌^◌, ℕ, List, All, nat_le, min}
+use Rattle.std.specs.Prelude.{◌≡◌, ℕ, List, All, nat_le}
 use Rattle.std.specs.List.Sorted.{IsNonDecreasing}
 use Rattle.rb_bytes.specs.FirstFault.{IsFree}
 use Rattle.dw_unit.specs.Faults.{HasDwarfFault}
@@ -12,19 +12,20 @@ use Rattle.cover_lists.specs.Groups.{AreWithin, group_holds, held_places}
 use Rattle.dw_lists.specs.Lists.{ranges_kind}
 use Rattle.list_units.specs.RangeReading.{all_seen}
 use Rattle.dw_lists.specs.Ranges.{covering}
-use Rattle.dw_lists.specs.Weights.{index_weights}
+use Rattle.dw_lists.specs.declared.indexed_unit.IndexedUnit.{IndexedUnit}
+use Rattle.dw_lists.specs.IndexedUnits.{indexed_units}
 
 -- The entries that have ranges, of so many groups, the index by which those are found that cover an address, numbers
--- between which the same cover all addresses, and what tables of offsets weigh.
+-- between which the same cover all addresses, and the indexes of lists that units use.
 pub record AreKept (s : ListSections) (ranged : List RangedEntry) (count : ℕ) (index : CoverIndex) (bounds : List ℕ)
-    (weight : ℕ) :
+    (indexed : List IndexedUnit) :
     Type 0 where
   pub free : IsFree (HasDwarfFault (range_places s))
   pub index_is : IsCoverIndex index.tree ranged index
   pub within : AreWithin count ranged
   pub seen : (a : ℕ) → seen_kept index.tree ranged a ≡ all_seen s a
   pub held : (a : ℕ) → held_places index.tree ranged a ≡ covering s a
-  pub indexes : weight ≡ min (index_weights ranges_kind.index_form s) (2 ^ 64 - 1)
+  pub indexes : indexed ≡ indexed_units ranges_kind s.units
   pub rising : IsNonDecreasing bounds
   pub apart : (a b : ℕ) → All (λ x. nat_le x a ≡ nat_le x b) bounds → (g : ℕ) →
       group_holds index.tree g a ≡ group_holds index.tree g b

@@ -20,9 +20,11 @@ use table_core::section::contents_of;
 /// from.
 pub fn read_entries(alloc: Global, elf: &Elf) -> Result<BothEntries, Refusal>
     ensures ranges { IfOk result (λ r.
-        AreRangesOf (list_sections elf.now) r.ranges.groups r.ranges.ranged.items r.ranges.index_weight) }
+        AreRangesOf (list_sections elf.now) r.ranges.groups r.ranges.ranged.items
+        r.ranges.indexed.items) }
     ensures places { IfOk result (λ r.
-        ArePlacesOf (list_sections elf.now) r.places.groups r.places.kept r.places.named.items r.places.index_weight) }
+        ArePlacesOf (list_sections elf.now) r.places.groups r.places.kept r.places.named.items
+        r.places.indexed.items) }
     ensures fault { IfErr result (IsRefusalBy (HasDwarfFault (location_places (list_sections elf.now)))) }
 {
     let info = contents_of(elf, b".debug_info");

@@ -31,8 +31,10 @@ pub record AreUnitsKept (spans : List Span) (lists : List ListAt) (i f : Elf) : 
   pub other_offsets : (n : ℕ) → unit_number (line_sections i) n ≡ length (unit_places (line_sections i)) →
       new_line_offset lists n ≡ no_line_unit
   -- attributes of entries find their lists in the new tables
-  pub range_offsets : RangesGetOffsets (sections_of i) lists (bytes_of f (codes ".debug_rnglists"))
-  pub place_offsets : PlacesGetOffsets (sections_of i) lists (bytes_of f (codes ".debug_loclists"))
+  pub range_offsets : RangesGetOffsets (sections_of i) (bytes_of i (codes ".debug_rnglists")) lists
+      (bytes_of f (codes ".debug_rnglists"))
+  pub place_offsets : PlacesGetOffsets (sections_of i) (bytes_of i (codes ".debug_loclists")) lists
+      (bytes_of f (codes ".debug_loclists"))
 
 -- the debug sections that are written anew, and those that are left out
 abbrev pub written_names : List (List ℕ)

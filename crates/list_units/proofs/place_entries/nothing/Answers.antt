@@ -26,6 +26,6 @@ returns c = λ s. record {
     locations = refl;
     listed = ap all_say c.new-2.ensures.items;
     names = subst (λ (ns : List NamedList). AllZip (IsNameOf c.new-2.result.items) ns []) (sym c.new-4.ensures.items) tt;
-    indexes = refl;
+    indexes = c.new-5.ensures.items;
   };
 }

@@ -1,4 +1,4 @@
-use Rattle.std.proofs.Common.{◌∙◌, ◌+◌, ◌-◌, ◌^◌, ℕ, Bool, Option, Some, refl, sym, ap, min}
+use Rattle.std.proofs.Common.{◌∙◌, ℕ, Bool, Option, Some, refl, sym, ap}
 use Rattle.std.specs.Prelude.{if◌then◌else◌}
 use Rattle.list_units.proofs.place_reading.add_entries.Goals as goal
 use Rattle.list_units.proofs.place_reading.add_entries.Goals.{then-lacks_offset, else-lacks_offset}
@@ -13,8 +13,7 @@ returns c = λ s i a b l numbered held. record {
   placed = c.in_ok-faults.ensures s i a b l numbered held;
   ranges = c.lower-progress.ensures;
   locations = c.lower-progress-2.ensures;
-  indexes = c.saturating_add-progress.ensures
-      ∙ ap (λ (n : ℕ). min (c.args.progress.now.index_weight + n) (2 ^ 64 - 1)) c.index_weight-weight.ensures;
+  indexes = c.in_ok-put_indexed.ensures;
   bad = elim c.if-lacks_offset.branch [
     | then-lacks_offset w ↦ w.progress-is
         ∙ sym (ap (kept_or c.args.place c.args.progress.now.bad) (sym c.lacks_offset.ensures ∙ w.if-lacks_offset.true))

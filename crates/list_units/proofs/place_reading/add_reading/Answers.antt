@@ -26,7 +26,7 @@ returns-in_ok-add_entries-in-Some c = λ s ws w place i a b l are is.
       bad = old.bad;
       bad_ranges = old.bad_ranges;
       bad_locations = old.bad_locations;
-      index_weight = old.index_weight;
+      indexed = old.indexed;
     } in
     let new : PlaceProgress = c.add_entries.new.progress in
     let items : c.deref.result.now ≡ c.in-Some.entries.items = search (rules, c.deref.ensures.value) in

@@ -19,6 +19,6 @@ returns c = λ s. record {
   gathered = λ _. record {
     seen = λ a. ap (λ (rs : List RangedEntry). seen_kept c.new.result.items rs a) c.new-2.ensures.items;
     bad = refl;
-    indexes = refl;
+    indexes = c.new-3.ensures.items;
   };
 }

@@ -1,4 +1,4 @@
-use Rattle.std.proofs.Common.{Bool, ◌∙◌, ◌+◌, ◌-◌, ◌^◌, ℕ, Some, refl, sym, ap, min}
+use Rattle.std.proofs.Common.{Bool, Some, refl, sym, ap}
 use Rattle.std.specs.Prelude.{if◌then◌else◌}
 use Rattle.list_units.proofs.range_reading.add_entries.Goals as goal
 
@@ -7,8 +7,7 @@ returns-then-faults c = λ s b a n within. record {
   faults = c.in_ok-faults.faults;
   gathered = c.in_ok-faults.ensures s b a n within;
   table = c.lower-progress.ensures;
-  indexes = c.saturating_add-progress.ensures
-      ∙ ap (λ (n : ℕ). min (c.args.progress.now.index_weight + n) (2 ^ 64 - 1)) c.index_weight-weight.ensures;
+  indexes = c.in_ok-put_indexed.ensures;
   bad = sym (ap (λ (t : Bool). if t then Some c.args.place else c.args.progress.now.bad) c.if-faults.true);
   form = refl;
   high = refl;
@@ -20,8 +19,7 @@ returns-else-faults c = λ s b a n within. record {
   faults = c.in_ok-faults.faults;
   gathered = c.in_ok-faults.ensures s b a n within;
   table = c.lower-progress.ensures;
-  indexes = c.saturating_add-progress.ensures
-      ∙ ap (λ (n : ℕ). min (c.args.progress.now.index_weight + n) (2 ^ 64 - 1)) c.index_weight-weight.ensures;
+  indexes = c.in_ok-put_indexed.ensures;
   bad = sym (ap (λ (t : Bool). if t then Some c.args.place else c.args.progress.now.bad) c.if-faults.false);
   form = refl;
   high = refl;

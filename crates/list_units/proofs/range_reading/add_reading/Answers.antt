@@ -23,7 +23,7 @@ returns-in_ok-add_entries-in-Some c = λ s ws w place b a are is.
       unformed = c.lower-progress-3.result;
       bad = old.bad;
       bad_table = old.bad_table;
-      index_weight = old.index_weight;
+      indexed = old.indexed;
     } in
     let new : Progress = c.add_entries.new.progress in
     let items : c.deref.result.now ≡ c.in-Some.entries.items = search (rules, c.deref.ensures.value) in

@@ -25,7 +25,7 @@ returns-clause-ranges c =
     c.contents_of-ranges.result.now c.contents_of-locations.result.now ≡ list_sections c.args.elf.now =
     λ i. list_sections_held (c.contents_of-info.ensures i) (c.contents_of-abbrevs.ensures i) (c.contents_of-addr.ensures i)
     (c.contents_of-ranges.ensures i) (c.contents_of-locations.ensures i) in
-    subst (λ (x : ListSections). AreRangesOf x r.groups r.ranged.items r.index_weight) same c.in_ok-entries.ensures.ranges
+    subst (λ (x : ListSections). AreRangesOf x r.groups r.ranged.items r.indexed.items) same c.in_ok-entries.ensures.ranges
 
 pub returns-clause-places : goal.returns-clause-places
 returns-clause-places c =
@@ -34,4 +34,4 @@ returns-clause-places c =
     c.contents_of-ranges.result.now c.contents_of-locations.result.now ≡ list_sections c.args.elf.now =
     λ i. list_sections_held (c.contents_of-info.ensures i) (c.contents_of-abbrevs.ensures i) (c.contents_of-addr.ensures i)
     (c.contents_of-ranges.ensures i) (c.contents_of-locations.ensures i) in
-    subst (λ (x : ListSections). ArePlacesOf x r.groups r.kept r.named.items r.index_weight) same c.in_ok-entries.ensures.places
+    subst (λ (x : ListSections). ArePlacesOf x r.groups r.kept r.named.items r.indexed.items) same c.in_ok-entries.ensures.places

@@ -27,8 +27,8 @@ invariant_of-result c =
     ((c.in_ok-ranges.ensures.items ∙ c.contents_of-4.ensures) i) ((c.in_ok-locations.ensures.items ∙ c.contents_of-5.ensures) i) in
     kept_are (list_sections_held c.in_ok-info.info.items c.in_ok-abbrevs.abbrevs.items c.in_ok-addr.addr.items
     c.in_ok-ranges.ranges.items c.in_ok-locations.locations.items) e.groups e.ranged.items c.in_ok-index.index
-    c.in_ok-bounds.bounds.items e.index_weight
-    (subst (λ (x : ListSections). AreRangesOf x e.groups e.ranged.items e.index_weight) (sym same) c.requires)
+    c.in_ok-bounds.bounds.items e.indexed.items
+    (subst (λ (x : ListSections). AreRangesOf x e.groups e.ranged.items e.indexed.items) (sym same) c.requires)
     (subst (λ (rs : List RangedEntry). IsCoverIndex e.groups.covers.items rs c.in_ok-index.index) c.deref.ensures.value
     c.in_ok-index.ensures)
     c.in_ok-bounds.ensures.rising

@@ -27,7 +27,7 @@ keep-requires c =
     c.contents_of-ranges.result.now locations ≡ list_sections c.args.elf.now =
     λ i. list_sections_held (c.contents_of-info.ensures i) (c.contents_of-abbrevs.ensures i) (c.contents_of-addr.ensures i)
     (c.contents_of-ranges.ensures i) locations in
-    subst (λ (x : ListSections). AreRangesOf x e.groups e.ranged.items e.index_weight) same (c.in_ok-entries.ensures.read locations)
+    subst (λ (x : ListSections). AreRangesOf x e.groups e.ranged.items e.indexed.items) same (c.in_ok-entries.ensures.read locations)
 
 pub returns-clause-reads : goal.returns-clause-reads
 returns-clause-reads c =
@@ -38,7 +38,7 @@ returns-clause-reads c =
     λ i. list_sections_held (c.contents_of-info.ensures i) (c.contents_of-abbrevs.ensures i) (c.contents_of-addr.ensures i)
     (c.contents_of-ranges.ensures i) locations in
     let free : IsFree (HasDwarfFault (range_places (list_sections c.args.elf.now))) =
-    (subst (λ (x : ListSections). AreRangesOf x e.groups e.ranged.items e.index_weight) same (c.in_ok-entries.ensures.read locations)).free
+    (subst (λ (x : ListSections). AreRangesOf x e.groups e.ranged.items e.indexed.items) same (c.in_ok-entries.ensures.read locations)).free
     in
     ranges_free c.args.elf.now c.in_ok-table.table c.in_ok-table.ensures
     (subst (λ (x : ListSections). IsFree (HasDwarfFault (range_places x))) (sym c.in_ok-table.ensures) free)

@@ -12,5 +12,6 @@ returns c = λ yes_alike.
     let same : All (λ x. nat_le x c.args.a ≡ nat_le x c.args.b) t.bounds.items =
     subst (λ (bs : List ℕ). All (λ x. nat_le x c.args.a ≡ nat_le x c.args.b) bs) c.deref.ensures.value (c.are_alike.ensures yes_alike) in
     ap (λ (x : ListSections). range_says x c.args.a) (sym c.self.view_is)
-    ∙ ap unless_empty (covered_alike s t.ranged.items t.count t.index t.bounds.items t.index_weight c.args.a c.args.b c.self.invariant same)
+    ∙ ap unless_empty (covered_alike s t.ranged.items t.count t.index t.bounds.items t.indexed.items c.args.a c.args.b c.self.invariant
+    same)
     ∙ ap (λ (x : ListSections). range_says x c.args.b) c.self.view_is

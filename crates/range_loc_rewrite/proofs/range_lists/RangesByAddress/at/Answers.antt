@@ -14,6 +14,6 @@ returns c =
     let s : ListSections = list_sections_held t.info.items t.abbrevs.items t.addr.items t.ranges.items t.locations.items in
     let found : c.in_ok-places.places.items ≡ covering s c.args.a =
     c.in_ok-places.ensures ∙ (λ i. filter_map (place_at (c.deref.ensures.value i)) (c.deref-2.ensures.value i))
-    ∙ found_are s t.ranged.items t.count t.index t.bounds.items t.index_weight c.args.a c.in_ok-numbers.numbers.items c.self.invariant
+    ∙ found_are s t.ranged.items t.count t.index t.bounds.items t.indexed.items c.args.a c.in_ok-numbers.numbers.items c.self.invariant
     (c.in_ok-numbers.ensures t.index.tree t.ranged.items c.self.invariant.index_is) in
     c.unless_empty.ensures ∙ ap unless_empty found ∙ ap (λ (x : ListSections). range_says x c.args.a) c.self.view_is

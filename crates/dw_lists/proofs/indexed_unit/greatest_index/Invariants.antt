@@ -2,7 +2,7 @@ use Rattle.std.proofs.Common.{◌≡◌, take}
 use Rattle.std.specs.Prelude.{flat_map}
 use Rattle.dw_unit.specs.ListedEntries.{ListedEntry}
 use Rattle.dw_lists.specs.Weights as spec
-use Rattle.dw_lists.proofs.index_weight.index_weight.Given as goal
+use Rattle.dw_lists.proofs.indexed_unit.greatest_index.Given as goal
 
 abbrev pub invariant-loop-entry : goal.invariant-loop-entry
 invariant-loop-entry l =

@@ -1,6 +1,6 @@
 use Rattle.std.proofs.Common.{◌≡◌, ◌++◌, ℕ, List, take}
 use Rattle.dw_lists.specs.Weights as spec
-use Rattle.dw_lists.proofs.index_weight.greatest_in.Given as goal
+use Rattle.dw_lists.proofs.indexed_unit.greatest_in.Given as goal
 
 abbrev pub invariant-loop-attr : goal.invariant-loop-attr
 invariant-loop-attr l =

@@ -3,7 +3,7 @@ use Rattle.std.proofs.lemmas.List.{take_all}
 use Rattle.dw_unit.specs.declared.entry.Attr.{Attr}
 use Rattle.dw_lists.specs.Weights.{greatest, indexes_in}
 use Rattle.dw_lists.proofs.IndexWeights.{noted_more}
-use Rattle.dw_lists.proofs.index_weight.greatest_in.Goals as goal
+use Rattle.dw_lists.proofs.indexed_unit.greatest_in.Goals as goal
 
 pub loop-attr-init : goal.loop-attr-init
 loop-attr-init c = λ before e. e ∙ ap greatest (sym (append-nil before))
