@@ -7,6 +7,7 @@ pub mod PutEntries
 mod UnitTables
 pub mod HeldRuns
 pub mod UnitSteps
+mod GroupSteps
 pub mod ListsThere
 pub mod BasesThere
 mod SpelledLocations

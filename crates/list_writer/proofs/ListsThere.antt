@@ -1,5 +1,6 @@
 -- A list that stands in a table of a section is read there, and so is an offset.
-use Rattle.std.proofs.Common.{ℕ, ◌+◌, ◌-◌, ◌*◌, ◌^◌, ◌≤◌, ◌<◌, ◌≡◌, List, [], ◌∷◌, ◌++◌, Option, Some, None, Ok, cond, leb, Bool, true, false, refl}
+use Rattle.std.proofs.Common.{ℕ, ◌+◌, ◌-◌, ◌*◌, ◌^◌, ◌≤◌, ◌<◌, ◌≡◌, List, [], ◌∷◌, ◌++◌, Option, Some, None, Ok, cond, leb, Bool, true}
+use Rattle.std.proofs.Common.{false, refl}
 use Rattle.std.proofs.Common.{◌∙◌, ap, subst, arith, length, take, drop, append_assoc, length-append, map}
 use Rattle.std.proofs.lemmas.Bool.Decides.{nat_tests}
 use Rattle.std.proofs.lemmas.Grind.{common_steps}

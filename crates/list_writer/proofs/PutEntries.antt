@@ -1,5 +1,6 @@
 -- Attributes whose lists are written get names, one after another.
-use Rattle.std.proofs.Common.{◌≡◌, ◌≢◌, ◌∙◌, ◌+◌, ◌-◌, ◌^◌, ◌<◌, ◌≤◌, ◌==◌, ◌&&◌, ◌||◌, ◌*◌, ◌⊎◌, inl, inr, ◌++◌, ◌∷◌, [], ℕ, zero, suc, Bool}
+use Rattle.std.proofs.Common.{◌≡◌, ◌≢◌, ◌∙◌, ◌+◌, ◌-◌, ◌^◌, ◌<◌, ◌≤◌, ◌==◌, ◌&&◌, ◌||◌, ◌*◌, ◌⊎◌, inl, inr, ◌++◌, ◌∷◌, [], ℕ, zero, suc}
+use Rattle.std.proofs.Common.{Bool}
 use Rattle.std.proofs.Common.{true, false, List, Option, Some, None, BTreeMap, nat_cmp}
 use Rattle.std.proofs.Common.{refl, sym, ap, subst, arith, length, take, get_or, All, ⊎_elim, append-nil, append_assoc}
 use Rattle.std.specs.Prelude.{if◌then◌else◌, Contains, option_map, IsTrue, flat_map}
@@ -22,7 +23,8 @@ use Rattle.dw_lists.specs.declared.indexed_unit.IndexedUnit.{IndexedUnit}
 use Rattle.dw_lists.specs.declared.list_kind.ListKind.{ListKind}
 use Rattle.dw_lists.specs.declared.list_kind.ListKind.TheVariants.{Ranges, Locations}
 use Rattle.dw_lists.specs.declared.named_list.NamedList.{NamedList}
-use Rattle.list_writer.specs.WrittenTables.{base_name, is_of, key, IsNaming, AreInOrder, IsListed, bytes_in, AreListed, AreNames, IsLonger, Keeps, name_at}
+use Rattle.list_writer.specs.WrittenTables.{base_name, is_of, key, IsNaming, AreInOrder, IsListed, bytes_in, AreListed, AreNames, IsLonger}
+use Rattle.list_writer.specs.WrittenTables.{Keeps, name_at}
 use Rattle.list_writer.specs.WrittenTables.{base_at, IsOffsetGiven, IsEntryPut, IsPut, ArePut, keys_end, Begins, IsCountOf, IsNoOwn}
 use Rattle.list_writer.specs.WrittenTables.{UnitsRise, bases_at, units_end}
 use Rattle.list_writer.proofs.WrittenLists.{longer_begins}
@@ -334,8 +336,7 @@ module _ (lists : List (Vec ℕ)) (start : ℕ) (r : NamedList) (ps : List Named
   used_by (Some j) is given before i x e = ⊎_elim
       (λ (same : j ≡ i).
       let offset : Some o ≡ Some x =
-      sym (given.1 i ∙ ap (λ (b : Bool). if b then Some o else get nat_cmp indexes i) (at_same j i same)) ∙ e in
-      (
+      sym (given.1 i ∙ ap (λ (b : Bool). if b then Some o else get nat_cmp indexes i) (at_same j i same)) ∙ e in (
         r,
         contains_last ps r,
         is ∙ ap (λ (n : ℕ). Some n) same,
@@ -380,7 +381,7 @@ put_taken kind lists start lo own rs i d old new known indexes now was names mor
 
 -- Nothing is put
 
-none_there : (m : BTreeMap ℕ ℕ) (n : ℕ) → IsEmpty m → get nat_cmp m n ≡ None
+pub none_there : (m : BTreeMap ℕ ℕ) (n : ℕ) → IsEmpty m → get nat_cmp m n ≡ None
 none_there m n empty = ap (λ (es : List (ℕ × ℕ)). lookup (is_at (nat_cmp n)) es) empty
 
 pub none_listed : (lists : List (Vec ℕ)) (body : List ℕ) (known : BTreeMap ℕ ℕ) → IsEmpty known → AreListed lists body known

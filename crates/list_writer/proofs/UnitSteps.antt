@@ -2,17 +2,17 @@
 use Rattle.std.proofs.Common.{Bool, true, false, cond, ◌-◌, ◌*◌, ◌≡◌, ◌≢◌, ◌∙◌, ◌+◌, ◌<◌, ◌≤◌, ◌⊎◌, ◌==◌, ◌||◌, inl, inr, ◌++◌, ◌∷◌, []}
 use Rattle.std.proofs.Common.{ℕ, zero, suc, List, Option, Some, None, filter, nat_cmp}
 use Rattle.std.proofs.Common.{refl, sym, ap, subst, arith, length, take, drop, get_or, ⊎_elim, append-nil, append_assoc}
-use Rattle.std.specs.Prelude.{Contains, ⊤, is_some, slice_get}
+use Rattle.std.specs.Prelude.{Contains, ⊤, is_some}
 use Rattle.std.specs.BTreeMap.{is_at}
 use Rattle.std.specs.BTreeSet.{BTreeSet, contains}
 use Rattle.std.specs.List.{list_any}
 use Rattle.std.proofs.lemmas.Bool.{cases_eq, eq-eqb, ne_eqb}
+use Rattle.std.proofs.lemmas.Grind.{common_steps}
 use Rattle.std.proofs.lemmas.List.{take_more}
 use Rattle.std.proofs.lemmas.List.Folds.{list_any_more}
 use Rattle.std.specs.Global.{Vec}
 use Rattle.std.proofs.lemmas.List.Elements.{All-append, All-cons, All-nil, filter-append}
 use Rattle.rb_bytes.proofs.Members.{Contains-nil, Contains-cons_cases}
-use Rattle.rb_bytes.proofs.Options.{same_some}
 use Rattle.rb_bytes.proofs.Searches.{Contains-filter}
 use Rattle.table_core.specs.declared.written.ListAt.{ListAt}
 use Rattle.table_core.specs.WrittenUnits.{IsUnit, units_bytes}
@@ -21,6 +21,7 @@ use Rattle.dw_lists.specs.declared.indexed_unit.IndexedUnit.{IndexedUnit}
 use Rattle.dw_lists.specs.declared.list_kind.ListKind.{ListKind}
 use Rattle.dw_lists.specs.declared.named_list.NamedList.{NamedList}
 use Rattle.dw_lists.specs.Faults.{is_list_table}
+use Rattle.list_writer.specs.TableGroups.{IsGroup}
 use Rattle.list_writer.specs.WrittenTables.{base_name, key, AreInOrder, AreNames, Keeps, keys_end, StandsAt, IsNamed, list_table}
 use Rattle.list_writer.specs.WrittenTables.{IsTableAt, IsListOf, HasBase, UnitsRise, units_end, IsOwned, AreApart, IsGroupWritten}
 use Rattle.list_writer.specs.WrittenTables.{OwnsRise, AreLeft, needs_table, with_tables, AreWritten}
@@ -34,22 +35,22 @@ order_front : (kind : ListKind) (lo : ℕ) (xs ys : List NamedList) → AreInOrd
 order_front kind lo [] ys up = tt
 order_front kind lo (x ∷ xs) ys up = (up.0, up.1, order_front kind (key x.place x.attr + 1) xs ys up.2)
 
-order_back : (kind : ListKind) (lo : ℕ) (xs ys : List NamedList) → AreInOrder kind lo (xs ++ ys) → AreInOrder kind (keys_end lo xs) ys
+pub order_back : (kind : ListKind) (lo : ℕ) (xs ys : List NamedList) → AreInOrder kind lo (xs ++ ys) → AreInOrder kind (keys_end lo xs) ys
 order_back kind lo [] ys up = up
 order_back kind lo (x ∷ xs) ys up = order_back kind (key x.place x.attr + 1) xs ys up.2
 
 -- the next entry is of another unit
-abbrev Next : ℕ → List NamedList → Type 0
+abbrev pub Next : ℕ → List NamedList → Type 0
 Next own [] = ⊤
 Next own (r ∷ rs) = r.own ≢ own
 
 -- Own entries of attributes and of units
 
-owns_back : (lo : ℕ) (xs ys : List NamedList) → OwnsRise lo (xs ++ ys) → (less : ℕ) × OwnsRise less ys
+pub owns_back : (lo : ℕ) (xs ys : List NamedList) → OwnsRise lo (xs ++ ys) → (less : ℕ) × OwnsRise less ys
 owns_back lo [] ys rise = (lo, rise)
 owns_back lo (x ∷ xs) ys rise = owns_back x.own xs ys rise.1
 
-owns_from : (lo : ℕ) (rs : List NamedList) → OwnsRise lo rs → OwnsRise 0 rs
+pub owns_from : (lo : ℕ) (rs : List NamedList) → OwnsRise lo rs → OwnsRise 0 rs
 owns_from lo [] rise = tt
 owns_from lo (r ∷ rs) rise = (omega arith, rise.1)
 
@@ -95,15 +96,9 @@ units_front : (lo : ℕ) (xs ys : List IndexedUnit) → UnitsRise lo (xs ++ ys) 
 units_front lo [] ys rise = tt
 units_front lo (x ∷ xs) ys rise = (rise.0, units_front (x.own + 1) xs ys rise.1)
 
-units_back : (lo : ℕ) (xs ys : List IndexedUnit) → UnitsRise lo (xs ++ ys) → UnitsRise (units_end lo xs) ys
+pub units_back : (lo : ℕ) (xs ys : List IndexedUnit) → UnitsRise lo (xs ++ ys) → UnitsRise (units_end lo xs) ys
 units_back lo [] ys rise = rise
 units_back lo (x ∷ xs) ys rise = units_back (x.own + 1) xs ys rise.1
-
--- units that share a table, with the attributes of their entries, at the front of those that are left
-pub record IsGroup (entries behind : List NamedList) (group later : List IndexedUnit) : Type 0 where
-  pub owned : (r : NamedList) → Contains entries r → IsOwned group r
-  pub later_owned : (r : NamedList) → Contains behind r → IsOwned later r
-  pub apart : AreApart entries
 
 -- one unit
 module _ (kind : ListKind) (lo bound : ℕ) (entries behind : List NamedList) (x : IndexedUnit) (later : List IndexedUnit)
@@ -320,10 +315,10 @@ none_written kind lists bytes names empty unnamed = record {
   unbased = λ e none. ap (λ (l : List ListAt). new_list_offset l e (base_name kind)) unnamed;
 }
 
-split_is : (xs : List NamedList) (n : ℕ) → xs ≡ take n xs ++ drop n xs
+pub split_is : {X : Type 0} (xs : List X) (n : ℕ) → xs ≡ take n xs ++ drop n xs
 split_is xs zero = refl
 split_is [] (suc n) = refl
-split_is (x ∷ xs) (suc n) = ap (λ (l : List NamedList). x ∷ l) (split_is xs n)
+split_is (x ∷ xs) (suc n) = ap (λ l. x ∷ l) (split_is xs n)
 
 -- What was written of units and attributes, and what is left.
 pub record IsAt (kind : ListKind) (lists : List (Vec ℕ)) (all : List NamedList) (units : List IndexedUnit) (rest : List NamedList)
@@ -347,50 +342,45 @@ all_written kind lists all units [] [] number bytes names at e =
     (subst (λ (rs : List NamedList). AreWritten kind lists rs at.before bytes names) (sym (at.entries_are ∙ append-nil at.done)) at.written)
 all_written kind lists all units rest (x ∷ left) number bytes names at e = absurd (omega (arith, e))
 
--- The unit at the front is written.
+-- Units at the front are written, which share a table.
 pub next_group : (kind : ListKind) (lists : List (Vec ℕ)) (all : List NamedList) (units : List IndexedUnit) (rest : List NamedList)
     (left : List IndexedUnit) (number : ℕ) (bytes new : List ℕ) (names more : List ListAt) (unit behind : List NamedList)
-    (group later : List IndexedUnit) (n : ℕ) (first : IndexedUnit) → IsAt kind lists all units rest left number bytes names →
-    unit ≡ take n rest → behind ≡ drop n rest → group ≡ take 1 left → later ≡ drop 1 left → n ≤ length rest →
-    ((k : ℕ) (d : NamedList) → k < n → (get_or rest k d).own ≡ first.own) →
-    ((d : NamedList) → n < length rest → (get_or rest n d).own ≢ first.own) → slice_get left 0 ≡ Some first →
+    (group later : List IndexedUnit) (m n : ℕ) → IsAt kind lists all units rest left number bytes names →
+    unit ≡ take n rest → behind ≡ drop n rest → group ≡ take m left → later ≡ drop m left → 0 < m → 0 < length left →
+    ((kind : ListKind) (lo bound : ℕ) → AreLeft kind lo bound rest left → IsGroup (take n rest) (drop n rest) (take m left) (drop m left)) →
     ((tables : List (List ℕ)) (lo bound : ℕ) → bytes ≡ units_bytes tables → AreNames kind lo bound names → AreInOrder kind lo unit →
     UnitsRise bound group → ((r : NamedList) → Contains unit r → IsOwned group r) → AreApart unit →
     IsGroupWritten kind lists lo bound unit group tables new names more) →
     IsAt kind lists all units behind later (number + 1) new more
-next_group kind lists all units rest [] number bytes new names more unit behind group later n first at a b c d within same next is put =
-    absurd (cc)
-next_group kind lists all units rest (x ∷ xs) number bytes new names more unit behind group later n first at a b c d within same next is put
-    =
-    let one : x ≡ first = same_some (Some x) x first refl is in
+next_group kind lists all units rest left number bytes new names more unit behind group later m n at a b c d some any shared put =
     let split : rest ≡ unit ++ behind = split_is rest n ∙ (λ i. sym a i ++ sym b i) in
-    let left : x ∷ xs ≡ group ++ later = (λ i. sym c i ++ sym d i) in
+    let parts : left ≡ group ++ later = split_is left m ∙ (λ i. sym c i ++ sym d i) in
     let are : AreLeft kind (keys_end 0 at.done) (units_end 0 at.before) (unit ++ behind) (group ++ later) =
-    subst (λ (us : List IndexedUnit). AreLeft kind (keys_end 0 at.done) (units_end 0 at.before) (unit ++ behind) us) left
-    (subst (λ (rs : List NamedList). AreLeft kind (keys_end 0 at.done) (units_end 0 at.before) rs (x ∷ xs)) split at.are_left) in
-    let own : (r : NamedList) → Contains unit r → r.own ≡ x.own =
-    λ r there. taken_own rest n first.own same within r (subst (λ (l : List NamedList). Contains l r) a there)
-    ∙ ap (λ (q : IndexedUnit). q.own) (sym one) in
-    let after : Next x.own behind =
-    subst (λ (q : IndexedUnit). Next q.own behind) (sym one) (subst (Next first.own) (sym b) (next_own rest n first.own next)) in
+    subst (λ (us : List IndexedUnit). AreLeft kind (keys_end 0 at.done) (units_end 0 at.before) (unit ++ behind) us) parts
+    (subst (λ (rs : List NamedList). AreLeft kind (keys_end 0 at.done) (units_end 0 at.before) rs left) split at.are_left) in
     let g : IsGroup unit behind group later =
-    subst (λ (us : List IndexedUnit). IsGroup unit behind group us) (sym d) (subst (λ (us : List IndexedUnit). IsGroup unit behind us xs) (sym c)
-    (one_group kind (keys_end 0 at.done) (units_end 0 at.before) unit behind x xs
-    (subst (λ (rs : List NamedList). AreLeft kind (keys_end 0 at.done) (units_end 0 at.before) rs (x ∷ xs)) split at.are_left) own after)) in
+    subst (λ (us : List IndexedUnit). IsGroup unit behind group us) (sym d)
+    (subst (λ (us : List IndexedUnit). IsGroup unit behind us (drop m left)) (sym c)
+    (subst (λ (rs : List NamedList). IsGroup unit rs (take m left) (drop m left)) (sym b)
+    (subst (λ (rs : List NamedList). IsGroup rs (drop n rest) (take m left) (drop m left)) (sym a)
+    (shared kind (keys_end 0 at.done) (units_end 0 at.before) at.are_left)))) in
     let u = put at.written.tables (keys_end 0 at.done) (units_end 0 at.before) at.written.bytes_are at.written.names_are
     (unit_order kind lists at.done unit behind at.before group later bytes new names more at.written are)
     (group_rise kind lists at.done unit behind at.before group later bytes new names more at.written are) g.owned g.apart in
-    let size : length later ≡ length xs = ap length d in
+    let size : length later ≡ length left - m = ap length d ∙ units_dropped left m in
     let fits = at.fits in
     record {
       done = at.done ++ unit;
       before = at.before ++ group;
       entries_are = at.entries_are ∙ ap (λ (l : List NamedList). at.done ++ l) split ∙ sym (append_assoc at.done unit behind);
-      units_are = at.units_are ∙ ap (λ (l : List IndexedUnit). at.before ++ l) left ∙ sym (append_assoc at.before group later);
-      fits = omega (arith, size, fits);
+      units_are = at.units_are ∙ ap (λ (l : List IndexedUnit). at.before ++ l) parts ∙ sym (append_assoc at.before group later);
+      fits = omega (arith, size, fits, some, any);
       written = more_written kind lists at.done unit behind at.before group later bytes new names more at.written are u;
       are_left = still_left kind lists at.done unit behind at.before group later bytes new names more at.written are g;
     }
+  where
+    units_dropped : (xs : List IndexedUnit) (n : ℕ) → length (drop n xs) ≡ length xs - n
+    units_dropped xs n = grind (arith, common_steps)
 
 -- nothing is written yet
 pub at_start : (kind : ListKind) (lists : List (Vec ℕ)) (all : List NamedList) (units : List IndexedUnit) (bytes : List ℕ)
@@ -398,10 +388,6 @@ pub at_start : (kind : ListKind) (lists : List (Vec ℕ)) (all : List NamedList)
     IsAt kind lists all units all units 0 bytes names
 at_start kind lists all units bytes names left w =
     record { done = []; before = []; entries_are = refl; units_are = refl; fits = omega arith; written = w; are_left = left }
-
-pub none_left : (left : List IndexedUnit) → slice_get left 0 ≡ None → length left ≡ 0
-none_left [] e = refl
-none_left (x ∷ left) e = absurd (cc)
 
 -- Which units need a table
 
@@ -429,8 +415,8 @@ own_more o named i d old new h made before =
         or_false true = refl
         or_false false = refl
 
-pub filter_more : {X : Type 0} (p : X → Bool) (xs : List X) (i : ℕ) (d : X) (old new : List X) → i < length xs → old ≡ filter p (take i xs) →
-    new ≡ old ++ filter p (get_or xs i d ∷ []) → new ≡ filter p (take (i + 1) xs)
+pub filter_more : {X : Type 0} (p : X → Bool) (xs : List X) (i : ℕ) (d : X) (old new : List X) → i < length xs →
+    old ≡ filter p (take i xs) → new ≡ old ++ filter p (get_or xs i d ∷ []) → new ≡ filter p (take (i + 1) xs)
 filter_more p xs i d old new h before made =
     made ∙ ap (λ l. l ++ filter p (get_or xs i d ∷ [])) before
     ∙ sym (ap (filter p) (take_more xs i d h) ∙ filter-append p (take i xs) (get_or xs i d ∷ []))

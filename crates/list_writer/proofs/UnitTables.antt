@@ -324,10 +324,11 @@ module _ (kind : ListKind) (lists : List (Vec ℕ)) (lo bound count base : ℕ) 
         names_are = b.names_are;
         keeps = λ e attr o is. b.keeps e attr o (put.keeps e attr o is);
         bases = λ e none. b.others e none ∙ put.bases e;
-        each = λ r there. is_named lists tables count base m body table.low at_tables kind units names more entries b.keeps owned apart counted
-            b.named r there r.index refl (put.each r there);
-        based = has_base lists tables count base m body table.low at_tables kind units names more entries b.keeps owned apart counted b.named
-            put.used first fits;
+        each = λ r there.
+            is_named lists tables count base m body table.low at_tables kind units names more entries b.keeps owned apart counted b.named r
+            there r.index refl (put.each r there);
+        based = has_base lists tables count base m body table.low at_tables kind units names more entries b.keeps owned apart counted
+            b.named put.used first fits;
       }
 
 -- a table's bytes, one part behind another

@@ -191,11 +191,11 @@ pub record IsTableAt (tables : List (List ℕ)) (base count : ℕ) : Type 0 wher
   pub at : base ≡ length (units_bytes before) + 12
   pub low : 4 * count < 2 ^ 32
 
--- a list that an index names, at an offset: that of an attribute that uses it, of a unit with the base, or the empty one
+-- a list that an index of a base names: that of an attribute which uses it in a unit with the base, or the empty one
 abbrev pub IsListOf : ListKind → List (Vec ℕ) → List (List ℕ) → List ListAt → List NamedList → (base i at : ℕ) → Type 0
 IsListOf kind lists tables names entries base i at =
-    ((r : NamedList) × Contains entries r × (r.index ≡ Some i) × (new_list_offset names r.own (base_name kind) ≡ Some base)
-    × StandsAt tables at (bytes_in lists r.list))
+    ((r : NamedList) × Contains entries r × (r.index ≡ Some i)
+    × (new_list_offset names r.own (base_name kind) ≡ Some base) × StandsAt tables at (bytes_in lists r.list))
     ⊎ StandsAt tables at (list_bytes kind [])
 
 pub record HasSlot (kind : ListKind) (lists : List (Vec ℕ)) (tables : List (List ℕ)) (names : List ListAt)
@@ -259,7 +259,8 @@ pub record IsGroupWritten (kind : ListKind) (lists : List (Vec ℕ)) (lo own : �
   pub names_are : AreNames kind (keys_end lo entries) (units_end own units) names
   pub keeps : Keeps old names
   -- No base is named but those of the units.
-  pub bases : (e : ℕ) → IsNoOwn units e → new_list_offset names e (base_name kind) ≡ new_list_offset old e (base_name kind)
+  pub bases : (e : ℕ) → IsNoOwn units e →
+      new_list_offset names e (base_name kind) ≡ new_list_offset old e (base_name kind)
   pub each : (r : NamedList) → Contains entries r → IsNamed kind lists (tables ++ table ∷ []) names entries r r.index
   pub based : (x : IndexedUnit) → Contains units x → HasBase kind lists (tables ++ table ∷ []) names entries x
 

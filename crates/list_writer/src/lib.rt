@@ -5,3 +5,4 @@ pub mod list_tables;
 mod list_writing;
 pub mod location_spelling;
 pub mod range_tables;
+mod table_groups;

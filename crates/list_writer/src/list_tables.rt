@@ -1,6 +1,6 @@
 // Tables of lists written anew. DWARF 5, sections 7.28 and 7.29.
 ghost use Rattle.std.specs.Prelude.{◌≡◌, ◌++◌, [], ◌+◌, ◌*◌, ◌<◌, ◌≤◌, ◌^◌, ℕ, List, Contains, Some, IfOk, OnOk, ◌∷◌};
-ghost use Rattle.std.specs.Prelude.{length, ◌≢◌, ◌-◌, ◌||◌, ◌==◌, unwrap_or, slice_index_or, filter, is_some};
+ghost use Rattle.std.specs.Prelude.{length, ◌-◌, ◌||◌, ◌==◌, unwrap_or, filter, is_some};
 ghost use Rattle.std.specs.List.{list_any};
 ghost use Rattle.std.specs.BTreeSet.{contains};
 ghost use Rattle.std.specs.BTreeMap.{get};
@@ -16,6 +16,7 @@ ghost use Rattle.list_writer.specs.WrittenTables.{IsEntryPut, ArePut, IsTablePut
 ghost use Rattle.list_writer.specs.WrittenTables.{AreApart, AreLeft, IsCountOf, IsLonger, IsOwned, UnitsRise};
 
 use crate::list_writing::put_end;
+use crate::table_groups::shared_len;
 use dw_lists::indexed_unit::IndexedUnit;
 use dw_lists::list_kind::ListKind;
 use dw_lists::named_list::NamedList;
@@ -350,24 +351,7 @@ fn put_group(
     Ok(())
 }
 
-// How many attributes at the front are of the unit whose own entry stands at `own`.
-fn unit_len(entries: &[NamedList], own: u64) -> usize
-    ensures within { result ≤ length entries.now }
-    ensures same { (k : ℕ) (d : code.NamedList) → k < result → (slice_index_or entries.now k d).own ≡ own }
-    ensures next { (d : code.NamedList) → result < length entries.now →
-        (slice_index_or entries.now result d).own ≢ own }
-{
-    let mut count = 0;
-    for entry in entries {
-        if entry.own != own {
-            return count;
-        }
-        count += 1;
-    }
-    count
-}
-
-// Appends tables with the lists that attributes name, one for each unit.
+// Appends tables with the lists that attributes name, for units that share one and the next ones.
 fn put_groups(
     alloc: Global,
     out: &mut Vec<u8>,
@@ -385,16 +369,15 @@ fn put_groups(
     let mut rest = named;
     let mut left = units;
     for number in 0..units.len() {
-        match left.first() {
-            Some(first) => {
-                let (entries, behind) = rest.split_at(unit_len(rest, first.own));
-                let (group, later) = left.split_at(1);
-                put_group(alloc, out, names, kind, lists, group, entries)?;
-                rest = behind;
-                left = later;
-            }
-            None => return Ok(()),
+        if left.is_empty() {
+            return Ok(());
         }
+        let (unit_count, entry_count) = shared_len(alloc, left, rest)?;
+        let (group, later) = left.split_at(unit_count);
+        let (entries, behind) = rest.split_at(entry_count);
+        put_group(alloc, out, names, kind, lists, group, entries)?;
+        rest = behind;
+        left = later;
     }
     Ok(())
 }
@@ -456,11 +439,12 @@ pub fn indexed_in<'a>(
     units
 }
 
-/// Writes tables of the lists that attributes name, one for each unit that has such attributes or uses an index.
-/// `lists` has the bytes of each list, by its number; `named` the attributes, and `units` their units, in the order of
-/// entries. A table has an offset for each index up to the greatest of its unit; one that none of the attributes uses
-/// names a list without entries. What is written has the offset of each attribute that names its list by one, and the
-/// base of each unit that has a table. `NoMemory` is answered, too, where an offset or a length doesn't fit 32 bits.
+/// Writes tables of the lists that attributes name, for each unit that has such attributes or uses an index. `lists` has
+/// the bytes of each list, by its number; `named` the attributes, and `units` their units, in the order of entries.
+/// Units that had one base share a table (`shared_len`). It has an offset for each index up to the greatest of its
+/// units; one that none of the attributes uses names a list without entries. What is written has the offset of each
+/// attribute that names its list by one, and the base of each unit that has a table. `NoMemory` is answered, too, where
+/// an offset or a length doesn't fit 32 bits.
 pub fn write_tables(
     alloc: Global,
     kind: ListKind,

@@ -17,5 +17,6 @@ loop-unit-preserved c =
 
 pub returns : goal.returns
 returns c =
-    subst (λ (l : List IndexedUnit). IsCountOf l c.loop-unit.count) (take_all c.loop-unit.unit-index c.args.units.now c.loop-unit-test.false)
+    subst (λ (l : List IndexedUnit). IsCountOf l c.loop-unit.count)
+    (take_all c.loop-unit.unit-index c.args.units.now c.loop-unit-test.false)
     c.loop-unit.invariant

@@ -8,7 +8,8 @@ pub loop-entry-init : goal.loop-entry-init
 loop-entry-init c = (
   none_listed c.args.lists.now c.in_ok-bytes.bytes.items c.new-known.result c.new-known.ensures.empty,
   longer_same _ c.in_ok-bytes.bytes.items c.in_ok-bytes.ensures,
-  λ kind lo own n up. none_put kind c.args.lists.now c.args.start lo own c.in_ok-bytes.bytes.items c.new-indexes.result c.args.names.now.items
+  λ kind lo own n up.
+      none_put kind c.args.lists.now c.args.start lo own c.in_ok-bytes.bytes.items c.new-indexes.result c.args.names.now.items
       c.new-indexes.ensures.empty n,
 )
 

@@ -24,5 +24,6 @@ returns c =
       written = subst (λ (us : List IndexedUnit). AreWritten c.args.kind c.args.lists.now c.args.named.now us c.put_groups.new.out.items
           c.put_groups.new.names.items) needing c.in_ok-put_groups.ensures.written;
       none = λ unnamed empty.
-          c.in_ok-put_groups.ensures.none (ap length needing ∙ needing_none c.args.named.now c.args.units.now empty) ∙ c.new-bytes.ensures.items;
+          c.in_ok-put_groups.ensures.none (ap length needing ∙ needing_none c.args.named.now c.args.units.now empty)
+          ∙ c.new-bytes.ensures.items;
     }
