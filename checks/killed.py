@@ -73,10 +73,19 @@ def make_whole(program: str, functions: int) -> Whole:
     return Whole({name: content_of(name) for name in (OUT, MAP)}, seconds)
 
 
+def stamp_of(name: str) -> tuple[int, int, int] | None:
+    """What tells a file from one that was written since, or None where it isn't there."""
+    try:
+        found = os.stat(name)
+    except FileNotFoundError:
+        return None
+    return found.st_ino, found.st_size, found.st_mtime_ns
+
+
 def wait_for_writing(running: subprocess.Popen, seconds: float) -> None:
-    """Waits until a file is there beside OUT, or OUT is written, or the time is over."""
-    end = time.monotonic() + seconds
-    while running.poll() is None and time.monotonic() < end and not files_beside():
+    """Waits until a file is there beside OUT, or OUT changes, or the time is over."""
+    end, before = time.monotonic() + seconds, stamp_of(OUT)
+    while running.poll() is None and time.monotonic() < end and not files_beside() and stamp_of(OUT) == before:
         pass
 
 
