@@ -11,7 +11,7 @@ mod Maps
 mod MarkedFrames
 mod Near
 mod NewArea
-mod PassedLimits
+pub mod PassedLimits
 mod Ranges
 mod Rewrites
 mod RunCounts

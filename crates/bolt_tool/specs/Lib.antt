@@ -1,3 +1,4 @@
 pub mod CommandAnswers
 pub mod Lines
+pub mod RefusalLaw
 pub mod RunCommands

@@ -6,5 +6,5 @@ mod RecordEnds
 mod RunAnswering
 mod RunEnds
 pub mod RunModes
-mod SymbolRunAnswering
-mod TabledRanges
+pub mod SymbolRunAnswering
+pub mod TabledRanges

@@ -23,7 +23,7 @@ bare_held name file (x ∷ xs) = by (is_called name x) (bare_held name file xs)
     by true rest = refl
     by false rest = rest
 
-same_held : (e e' : Elf) → Alike e e' → (name : List ℕ) → held e name ≡ held e' name
+pub same_held : (e e' : Elf) → Alike e e' → (name : List ℕ) → held e name ≡ held e' name
 same_held e e' a name =
     bare_held name e.file.now e.sections.items
     ∙ ap (λ (xs : List Section). held_by e.file.now (section_called xs name)) a.sections
