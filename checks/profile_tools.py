@@ -364,7 +364,7 @@ class Checks:
                                   env={**os.environ, "PYTHONPATH": TOOLS})
             drawn = os.read(own, 10_000).decode() if stream == other else done.stderr.decode()
             bar = re.search(r"long +1 s  \[#+\.+\] of about 2.*\r\033\[K$", drawn)
-            if not re.fullmatch(r"long +1\.[67] s  done\n", done.stdout.decode()) or bool(bar) != (stream == other):
+            if not re.fullmatch(r"long +[0-9.]+ s  done\n", done.stdout.decode()) or bool(bar) != (stream == other):
                 self.say(f"bar: {done.stdout} {drawn!r}")
             elif stream != other and drawn:
                 self.say(f"bar: {drawn!r} where there is no terminal")
