@@ -268,10 +268,12 @@ class Checks:
     def wrong_samples(self, path):
         """Gives samples that are none."""
         for text, said in ((b"", "there are no samples"), (b"10\nmain+4\n", "line 2 of the samples is no address"),
-                           (b"1\n2\n3 7\n", "none of 5 samples lies in the code"), (b"10000 1 2\n", "line 1 of the")):
+                           (b"1\n2\n3 7\n", "none of 5 samples lies in the code"), (b"10000 1 2\n", "line 1 of the"),
+                           (b"\xff\xfe\n", "line 1 of the samples is no address")):
             self.fails(f"samples {text}", said, "sample_profile.py", [path, self.path("none")], input=text, stdin=None)
             if os.path.exists(self.path("none")):
                 self.say(f"samples {text}: OUT is there")
+        self.fails("samples over IN", "is the program itself", "sample_profile.py", [path, path])
 
     def optimize(self):
         """Goes the whole way."""
@@ -282,8 +284,10 @@ class Checks:
             self.moves("tally", [text, out, *words], [], r"uses more of the system")
         for program in ("sorting", "interpreter", "packing", "shapes"):
             self.moves(program, [LONGER[program]], [], r"\[ended \d+ after \d+ steps\]: what is proved holds")
-        self.moves("sorting", ["20"], ["--by", "record"], r"what is proved holds of this run, on the tool's machine\n")
         self.moves("sorting", ["20"], ["--no-refine", "--no-mend"], "not asked for")
+        self.moves("sorting", ["20"], ["--by", "record"], r"what is proved holds of this run, on the tool's machine\n")
+        shutil.copyfile(os.path.join(self.path("kept"), "refined"), self.path("refined"))
+        self.moves("sorting", [], ["--profile", self.path("refined")], r"1 lines that don't fit\nrewrite ")
         follow(self.example("sorting"), [], (found := []).append)
         with open(self.path("sampled.txt"), "w", encoding="ascii") as file:
             file.writelines(f"{address:x}\n" for address in found[::7])
@@ -360,7 +364,7 @@ class Checks:
                                   env={**os.environ, "PYTHONPATH": TOOLS})
             drawn = os.read(own, 10_000).decode() if stream == other else done.stderr.decode()
             bar = re.search(r"long +1 s  \[#+\.+\] of about 2.*\r\033\[K$", drawn)
-            if not re.fullmatch(r"long +1\.[67] s  done\n", done.stdout.decode()) or bool(bar) != (stream == other):
+            if not re.fullmatch(r"long +[0-9.]+ s  done\n", done.stdout.decode()) or bool(bar) != (stream == other):
                 self.say(f"bar: {done.stdout} {drawn!r}")
             elif stream != other and drawn:
                 self.say(f"bar: {drawn!r} where there is no terminal")

@@ -22,8 +22,8 @@ alike     OUT runs as the copy did, and has to print the same and end alike
 won       instructions, transfers of control taken, and lines and pages of code touched, before and after
 
 With --by record no step wants qemu-user: the tool's own machine runs the program in place of qemu. With --strict it
-fails if the check is in doubt. FOLDER keeps the mended copy (`program`), the profiles and the map: `verify` wants the
-copy and the map, and so does who looks for the old address of an instruction. The status is 0 if all went well, and
+fails if the check is in doubt. FOLDER gets the mended copy (`program`), which `verify` wants beside OUT and OUT.map,
+and the profile before and after it was refined (`profile`, `refined`), if all went well. The status is 0 then, and
 else 1 with a line on standard error. The program runs four times, so what it writes to files, it writes each time.
 """
 import argparse
@@ -41,6 +41,7 @@ from mend import mend
 from program_graph import (HERE, Elf, Failure, Graph, add_tool_option, call_tool, find_tool, program_words, run_script,
                            written_whole)
 from qemu_trace import QEMU, trace_run, want_qemu
+from refine import is_refined
 from sample_profile import write_sampled
 from steps import Step
 
@@ -110,6 +111,7 @@ class Optimizer:
         self.given, self.tool, self.machines = given, tool, machines
         self.program, self.profile, self.refined, self.moved, self.map, self.spare = (
             os.path.join(folder, name) for name in ("program", "profile", "refined", "moved", "moved.map", "spare"))
+        self.layout = self.profile  # the profile by which the code is moved
         self.graph = self.before = self.after = None
         self.without = []  # options of refine.py
 
@@ -146,7 +148,8 @@ class Optimizer:
                 self.before = self.machines.qemu(self.program)
                 steps = self.before.trace.instructions()
                 self.graph.write_profile(self.profile, self.before.trace.profile(self.graph))
-                step.say(f"{steps:,} instructions: {self.before.ended()}")
+                way = ", counted by qemu's log, since there is no plugin" if self.before.trace.is_logged else ""
+                step.say(f"{steps:,} instructions: {self.before.ended()}{way}")
 
     def want_end(self, run):
         """Fails if a run on the tool's machine didn't end by itself."""
@@ -207,8 +210,8 @@ class Optimizer:
                 step.say(self.fitting("the run's profile"))
 
     def refine(self):
-        """Refines the profile, if that is asked for."""
-        if self.given.no_refine or not os.path.exists(REFINE):
+        """Refines the profile, if that is asked for and wasn't done before."""
+        if self.given.no_refine or is_refined(self.profile):
             return
         with Step("refine") as step:
             command = [sys.executable, REFINE, "--tool", " ".join(self.tool), *self.without, self.program, self.profile,
@@ -217,7 +220,7 @@ class Optimizer:
             if done.returncode != 0:
                 raise Failure(done.stderr.strip().rpartition("\n")[2] or f"refine.py ended with {done.returncode}")
             step.say(done.stdout.strip().rpartition("\n")[2])
-            self.profile = self.refined
+            self.layout = self.refined
 
     def fitting(self, name):
         """Says what a profile has. It has to be one of this program."""
@@ -235,7 +238,7 @@ class Optimizer:
     def move(self):
         """Rewrites the copy, and has the output judged."""
         with Step("rewrite") as step:
-            step.say(call_tool(self.tool, "rewrite", self.program, self.profile, self.moved, self.map).strip())
+            step.say(call_tool(self.tool, "rewrite", self.program, self.layout, self.moved, self.map).strip())
             os.chmod(self.moved, 0o755)
         with Step("verify") as step:
             step.say(call_tool(self.tool, "verify", self.program, self.moved, self.map).strip())
@@ -265,6 +268,12 @@ class Optimizer:
                 ("taken", old.taken(self.graph.elf), new.taken(Elf(self.moved))),
                 ("lines", old.touched(LINE), new.touched(LINE)), ("pages", old.touched(PAGE), new.touched(PAGE))]
 
+    def keep(self, folder):
+        """Copies what belongs to OUT into a folder."""
+        os.makedirs(folder, exist_ok=True)
+        for path in {self.program, self.profile, self.layout}:
+            shutil.copy(path, folder)
+
     def steps(self):
         """All steps, up to those that write OUT."""
         for step in (self.prepare, self.run, self.check, self.take_profile, self.refine, self.move, self.compare):
@@ -292,7 +301,7 @@ def arguments():
     parser.add_argument("--no-mend", action="store_true", help="takes IN as it is")
     parser.add_argument("--no-refine", action="store_true", help="takes the profile as it is")
     parser.add_argument("--strict", action="store_true", help="fails if the check is in doubt")
-    parser.add_argument("--keep", metavar="FOLDER", help="for the mended program, the profiles and the map")
+    parser.add_argument("--keep", metavar="FOLDER", help="for the mended program and the profiles")
     parser.add_argument("file", metavar="IN")
     parser.add_argument("out", metavar="OUT")
     parser.add_argument("words", metavar="WORDS", nargs=argparse.REMAINDER, help="arguments of the program")
@@ -316,12 +325,12 @@ def main():
         map_draft = stack.enter_context(written_whole(given.out + ".map"))
         out_draft = stack.enter_context(written_whole(given.out, mode | 0o100))
         room = stack.enter_context(tempfile.TemporaryDirectory())
-        if given.keep:
-            os.makedirs(given.keep, exist_ok=True)
         source = os.path.join(room, "input")
         keep_input(source)
-        optimizer = Optimizer(given, tool, given.keep or room, Machines(tool, program_words(given.words), source))
+        optimizer = Optimizer(given, tool, room, Machines(tool, program_words(given.words), source))
         optimizer.steps()
+        if given.keep:
+            optimizer.keep(given.keep)
         shutil.copyfile(optimizer.moved, out_draft)
         shutil.copyfile(optimizer.map, map_draft)
     return 0

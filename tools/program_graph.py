@@ -111,6 +111,12 @@ def written_whole(path, mode=None):
         raise
 
 
+def want_other(out, path):
+    """Fails if a file would be written over the program that it is made of."""
+    if os.path.exists(out) and os.path.exists(path) and os.path.samefile(out, path):
+        raise Failure(f"{out} is the program itself: give another name")
+
+
 def signed(word, places):
     """The number whose bits lie at these places of a word: first its sign, then the others from the highest one."""
     value = -(word >> places[0] & 1)

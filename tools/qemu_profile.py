@@ -16,7 +16,8 @@ import argparse
 import os
 import sys
 
-from program_graph import Failure, Graph, add_tool_option, find_tool, program_words, run_script, written_whole
+from program_graph import (Failure, Graph, add_tool_option, find_tool, program_words, run_script, want_other,
+                           written_whole)
 from qemu_trace import QEMU, trace_run, want_qemu
 
 
@@ -33,6 +34,7 @@ def arguments():
 def main():
     given = arguments()
     want_qemu()
+    want_other(given.out, given.file)
     graph = Graph(find_tool(given.tool), given.file)
     if not os.access(given.file, os.X_OK):
         raise Failure(f"{given.file} may not be run: chmod +x makes it so")

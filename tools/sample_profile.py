@@ -24,7 +24,7 @@ import sys
 import tempfile
 
 from program_graph import (CALL, JUMP, RETURN, Failure, Graph, add_tool_option, call_tool, find_tool, run_script,
-                           signed, written_whole)
+                           signed, want_other, written_whole)
 
 SCALE = 1000  # what a sample in a block of one instruction counts
 UNSEEN = 0.1  # samples that a block counts as in which none fell, in a function in which some did
@@ -194,6 +194,8 @@ def arguments():
 
 def main():
     given = arguments()
+    want_other(given.out, given.file)
+    sys.stdin.reconfigure(errors="replace")  # bytes are no address, either
     tool = find_tool(given.tool)
     graph = Graph(tool, given.file)
     with written_whole(given.out) as draft:
