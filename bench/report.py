@@ -4,8 +4,8 @@
     python3 bench/report.py [--tool COMMAND] [--sources FOLDER] [--keep FOLDER] [--build] [--jobs N] \
         [--levels LEVELS] [PROGRAM..]
 
-The programs are those of Debian's source packages Lua, zlib, bzip2, LZ4 and pugixml (`packages.py`; fetched into FOLDER,
-or into the cache of the user) and those of `examples/`. Each is built by GCC with GNU ld and by Clang with lld, with
+The programs are those of Debian's source packages Lua, zlib, bzip2, LZ4 and pugixml (`packages.py`; fetched into
+FOLDER, or into the cache of the user) and those of `examples/`. Each is built by GCC with GNU ld and by Clang with lld, with
 picolibc for RV64IMC: `debug` with all that `-g` makes, at each of LEVELS, as `O0,Os` (-O0 to -O3 and -Os where none are
 given); at -O2 and -Os `bare` without debug data and unwind tables, and `tables` with unwind tables besides; at -O2
 `lto`, which is optimized when it is linked, and `indexed`, with the index of its unwind tables. Programs that unwind

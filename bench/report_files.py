@@ -118,8 +118,8 @@ class Builder:
         else:
             optimized = [*KINDS[kind], level, *OF_COMPILER[compiler]] if kind == "lto" else []
             made = self.objects(path, program, compiler, kind, level)
-            call([*front, *MACHINE, "-nostdlib", *self.options, *optimized, *self.layout(compiler, kind), *made, *libraries,
-                  "-o", path])
+            options = [*self.options, *optimized, *self.layout(compiler, kind)]
+            call([*front, *MACHINE, "-nostdlib", *options, *made, *libraries, "-o", path])
             for name in made:
                 os.remove(name)
         mend(path)

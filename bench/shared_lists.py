@@ -6,8 +6,8 @@
 Clang that optimizes when linking (`-flto`) makes one table of lists for all units, which all name the same offsets
 (DWARF 5, sections 7.28 and 7.29). Programs of UNITS units (120 and 600 if none are given) of three functions each are
 built by Clang 19 at -O2 -g. COMMAND (`./sudrepka` if it isn't given) records a run of each and rewrites it by that
-profile. A row has the bytes of each table of lists and of addresses before and after, with the ratio, and the seconds of
-the processor that the rewrite took. The status is 0 if no table has more than RATIO times its bytes (1.5 if it isn't
+profile. A row has the bytes of each table of lists and of addresses before and after, with the ratio, and the seconds
+of the processor that the rewrite took. The status is 0 if no table has more than RATIO times its bytes (1.5 if it isn't
 given). It wants `clang-19` and `lld-19`, and picolibc.
 """
 import argparse
