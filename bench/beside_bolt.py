@@ -32,7 +32,6 @@ import dataclasses
 import os
 import random
 import re
-import shutil
 import subprocess
 import sys
 import tempfile
@@ -95,9 +94,11 @@ class Subject:
         self.problems = []
 
     def at(self, end):
+        """A file beside the subject."""
         return f"{self.path}.{end}"
 
     def command(self, *words, given=b""):
+        """The status of a command, and the last line that it printed."""
         done = subprocess.run([*self.tool, *words], input=given, capture_output=True, check=False)
         return done.returncode, done.stdout.decode(errors="replace").rstrip().rpartition("\n")[2]
 
@@ -108,6 +109,7 @@ class Subject:
             self.problems.append(f"{words[0]} of {os.path.basename(self.path)}: {said or status}")
 
     def record(self, name, run):
+        """Records a run into a profile."""
         words, given = run
         status, said = self.command("record", *STEPS, self.path, self.at(name), "--", *words, given=given)
         if "[ended" not in said:

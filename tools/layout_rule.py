@@ -2,7 +2,7 @@
 functions that belong together."""
 import collections
 
-from program_graph import BRANCH, CALL, JUMP, OTHER, RETURN
+from program_graph import BRANCH, CALL, JUMP, OTHER
 
 BRANCH_ROOM, JUMP_ROOM = 8, 4  # the most bytes that a branch and a jump may take, of which a block may end with both
 

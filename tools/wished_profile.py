@@ -108,6 +108,7 @@ class Wishes:
         plain = rule_chains(hot, counted_edges(self.program, self.counts, hot))
 
         def value(chains):
+            """What a layout of chains saves, and its score."""
             ordered = sorted(chains, key=lambda c: (c[0] != hot[0], -max(weights[start] for start in c), c[0]))
             order = [number[start] for chain in ordered for start in chain]
             following = dict(zip(order, order[1:]))
@@ -184,6 +185,7 @@ class Wishes:
         """Lets each unit be the only caller of the next one, in clusters that the rule makes."""
 
         def hottest(one):
+            """The block of a unit that runs most often."""
             return max(hot[one], key=lambda start: (weights[start], -start))
 
         total = 0
