@@ -28,6 +28,7 @@ of OUT. It may be given more than once. COMMAND is the checkout's `sudrepka`, or
 """
 import argparse
 import bisect
+import os
 import tempfile
 
 from layout_estimate import Mapper
@@ -129,6 +130,8 @@ def arguments():
 
 def main():
     given = arguments()
+    if os.path.realpath(given.output) in map(os.path.realpath, (given.input, given.profile)):
+        raise Failure(f"{given.output} is IN or PROFILE: OUT has to be another file")
     if is_refined(given.profile):
         raise Failure(f"{given.profile} is refined already: give the profile that it was made of")
     tool = find_tool(given.tool)
