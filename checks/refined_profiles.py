@@ -257,7 +257,6 @@ class Checks:
         path, profile = self.example("interpreter")
         refined = shutil.copy(self.refined(path, profile)[0], self.path("before"))
         text, out = self.write("text", b"no ELF\n"), self.path("none")
-        profile_name = os.path.basename(profile)
         broken = self.write("broken", open(path, "rb").read()[:3000])
         cases = {"no IN": [self.path("nothing"), profile, out], "no ELF": [text, profile, out],
                  "cut off": [broken, profile, out], "a folder": [path, self.folder, out],
@@ -266,7 +265,8 @@ class Checks:
                  "no name": ["--without", "nobody", path, profile, out],
                  "no code": ["--without", "@1", path, profile, out],
                  "no address": ["--without", "@x", path, profile, out],
-                 "OUT is IN": [path, profile, path], "OUT is PROFILE": [path, profile, self.folder + "/./" + profile_name]}
+                 "OUT is IN": [path, profile, path],
+                 "OUT is PROFILE": [path, profile, os.path.join(self.folder, ".", os.path.basename(profile))]}
         for what, words in cases.items():
             done = self.refine(*words)
             self.expect((done.returncode, done.stderr.count("\n"), "Traceback" in done.stderr), (1, 1, False), what)
