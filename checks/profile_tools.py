@@ -5,7 +5,8 @@
 
 counts    `qemu_profile.py`, by the plugin and by qemu's log, writes byte for byte what `record` writes, on each program
           of `examples/` by GCC and Clang; and on Debian's packages by GCC, if FOLDER has their sources
-          (bench/packages.py). What a program does with the auxiliary vector isn't compared: that of qemu is another
+          (bench/packages.py). Its name is `program`, as under `record`. What a program does with the auxiliary vector
+          isn't compared: that of qemu is another
 signals   a program that a signal ends leaves its profile: one that crashes the same that `record` writes of it, and
           one that goes on until the script gets a signal
 threads   what threads and a forked process do is added up, counted by calls that the text of the run demands
@@ -158,11 +159,13 @@ class Checks:
         name = f"{os.path.basename(path)} {' '.join(words)}"
         print(f"counts    {name}: {said}", flush=True)
         reader = Elf(path).named.get(READER)
+        shutil.copy(path, self.path("program"))  # the name that it gets from `record`
         steps = re.search(r"after (\d+) steps", said)
         ways = [["--log"]] if steps and int(steps[1]) <= LOGGED else []
         ways += [[]] if self.has("cc", "counts by the plugin") else []
         for options in ways:
-            done = self.script("qemu_profile.py", *options, path, made, *words, input=given, stdin=None)
+            done = self.script("qemu_profile.py", *options, "program", made, *words, input=given, stdin=None,
+                               cwd=self.folder)
             wanted = r"\[ended \d+ after \d+ steps\]; \d+ lines" if reader else \
                      re.escape(f"[ended {status} after {steps and steps[1]} steps]; {len(lines_of(recorded))} lines")
             wanted += " by qemu's log\n" if options else " by the plugin\n"
