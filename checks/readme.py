@@ -29,11 +29,13 @@ def command_lines(text):
     """Each command line with the lines that it is to print."""
     found = []
     for block in re.findall(r"(?:^    .*\n)+", text, re.M):
+        said = None  # what the line before is to print
         for line in block.replace("\\\n", " ").splitlines():
             if line.startswith("    $ "):
-                found.append((line[6:], []))
-            elif found and "$ " in block:
-                found[-1][1].append(line[4:])
+                said = []
+                found.append((line[6:], said))
+            elif said is not None:
+                said.append(line[4:])
     return [(line, said) for line, said in found if not line.startswith(LEFT_OUT)]
 
 
