@@ -91,8 +91,8 @@ class Builder:
         for number, source in enumerate(files):
             made.append(f"{path}.{number}.o")
             cxx = flags_of(program) if source.endswith((".cc", ".cpp")) else []
-            # what the libraries call has to be there after a link that optimizes
-            kept = ["-fno-lto"] if os.path.dirname(source) == EXAMPLES and source != files[0] else []
+            # what the libraries call has to be there after a link that optimizes; start.c says so itself
+            kept = ["-fno-lto"] if os.path.basename(source) == "standard_input.c" else []
             own = [*KINDS[kind], level, *OF_LEVEL.get(level, []), *OF_COMPILER[compiler], *flags, *cxx, *kept]
             call([*front, *MACHINE, *COMPILE, *own, *include, "-w", "-isystem", os.path.join(PICOLIBC, "include"),
                   "-c", source, "-o", made[-1]])
