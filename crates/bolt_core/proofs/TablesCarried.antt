@@ -29,7 +29,7 @@ use Rattle.cfi_rows.specs.ReadFrames.{read_as}
 use Rattle.frame_rewrite.specs.FrameAnswers.{FrameAnswer}
 use Rattle.frame_rewrite.specs.Index.{AreApart, AreFilled, IsIndexOf, StandsIndex, has_frames, has_index}
 use Rattle.frame_rewrite.specs.Tables.{ComesAfter, EndsWithMark, StandsAs, StandsEh, debug_name, eh_name, eh_says, run_size}
-use Rattle.frame_rewrite.proofs.FramesCarried.{read_is}
+use Rattle.frame_rewrite.proofs.FramesCarried.{read_is, eh_stretches, df_stretches, df_plain}
 use Rattle.line_rewrite.specs.Tables.{AreSequencesApart, LineSections, line_sections}
 use Rattle.addr_rewrite.specs.Aranges.{ArePairsApart}
 use Rattle.bolt_core.specs.CarriedAnswers.{CarriesTables}
@@ -401,6 +401,9 @@ module _ (elf : Elf) (t : AllTables) (comes : AllComeFrom t elf) (spans : List S
           (made.are_carried.eh_made.apart (subst (λ (f : Frames). AreApart f.list) (sym (read_is t.eh elf comes.eh)) apart));
       filled = of_eh AreFilled made.are_carried.eh_made.filled;
       debug_apart = of_frames true debug_name made.written.df.bytes.items AreApart made.are_carried.df_made.apart hold_all.df;
+      stretches = eh_stretches spans t.eh elf new made.are_carried.eh_runs made.written.eh comes.eh made.are_carried.eh_made eh_stands;
+      debug_stretches = df_stretches spans t.df elf new made.written.df comes.df made.are_carried.df_made hold_all.df;
+      plain = df_plain spans t.df new made.written.df made.are_carried.df_made hold_all.df;
       lines_apart = subst AreSequencesApart lines_are made.are_carried.lines_made.apart;
       units_apart = subst ArePairsApart (sym hold_all.aranges) made.are_carried.aranges_made.apart;
       lists = all_lists made.written;

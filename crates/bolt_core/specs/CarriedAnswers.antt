@@ -1,13 +1,16 @@
 -- What tables of a written file answer at new code, and what is kept of them. DWARF 5, sections 2.17, 2.6 and 6; LSB,
 -- "The .eh_frame section".
-use Rattle.std.specs.Prelude.{IsTrue, List, codes}
+use Rattle.std.specs.Prelude.{ℕ, IfSome, IsTrue, List, codes}
 use Rattle.elf_image.specs.declared.elf.Elf.{Elf}
 use Rattle.rb_bytes.specs.FirstFault.{IsFree}
 use Rattle.addr_map.specs.declared.span.Span.{Span}
 use Rattle.table_core.specs.declared.written.ListAt.{ListAt}
 use Rattle.table_core.specs.Sections.{bytes_of}
 use Rattle.cfi_rows.specs.Frames.{eh_frames, debug_frames}
+use Rattle.frame_rewrite.specs.FrameAnswers.{df}
 use Rattle.frame_rewrite.specs.Index.{AreApart, AreFilled, StandsIndex, has_frames, has_index}
+use Rattle.frame_rewrite.specs.PlainFrames.{HasNoTexts, IsPlain}
+use Rattle.frame_rewrite.specs.Stretches.{AreApartAt, AreStretches}
 use Rattle.frame_rewrite.specs.Tables.{EndsWithMark}
 use Rattle.line_rewrite.specs.Tables.{AreSequencesApart, line_sections}
 use Rattle.addr_rewrite.specs.Aranges.{ArePairsApart}
@@ -28,6 +31,13 @@ pub record CarriesTables (spans : List Span) (i f : Elf) : Type 0 where
   pub apart : AreApart (eh_frames i).list → AreApart (eh_frames f).list
   pub filled : AreFilled (eh_frames f).list
   pub debug_apart : AreApart (debug_frames f).list
+  -- If no instruction lies in two of the input's entries, those of the file are the longest stretches of new code of
+  -- one: none holds new code of two, and there are as many as stretches.
+  pub stretches : AreApartAt spans (eh_frames i).list → AreStretches spans (eh_frames i).list (eh_frames f).list
+  pub debug_stretches : AreApartAt spans (debug_frames i).list →
+      AreStretches spans (debug_frames i).list (debug_frames f).list
+  -- `.debug_frame` has no augmentation if no answer of it has a handler, a signal mark or an exception table
+  pub plain : ((a : ℕ) → IfSome (df f a) IsPlain) → HasNoTexts (bytes_of f (codes ".debug_frame"))
   -- no address is in two sequences of line units, or in two pairs of `.debug_aranges`
   pub lines_apart : AreSequencesApart (line_sections f)
   pub units_apart : ArePairsApart (aranges_of f)

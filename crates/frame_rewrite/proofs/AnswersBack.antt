@@ -83,7 +83,7 @@ abbrev pub Touch : ℕ → Runs → Type 0
 Touch end [] = Unit {0}
 Touch end (q ∷ qs) = (q.start ≡ end) × Touch (q.start + q.len) qs
 
-group-so : (end : ℕ) (r : Run FrameAnswer) (rs : Runs)
+pub group-so : (end : ℕ) (r : Run FrameAnswer) (rs : Runs)
     → All (Continues r) (take (count_on end r rs) rs) × Touch end (take (count_on end r rs) rs)
 group-so end r [] = (All-nil (Continues r), tt)
 group-so end r (q ∷ qs) = one ((q.start == end) && is_alike r q) refl (group-so (q.start + q.len) r qs) where
@@ -245,7 +245,7 @@ group-answer form is_marked spans place lo hi p r more a w before c e l =
         marked = is_marked (fde_of form spans (key_of spans r.answer) place r more);
       }
 
-from-first : (lo hi p : ℕ) (r : Run FrameAnswer) (rs : Runs) (a : FrameAnswer) → IsWithin lo (r ∷ rs) hi
+pub from-first : (lo hi p : ℕ) (r : Run FrameAnswer) (rs : Runs) (a : FrameAnswer) → IsWithin lo (r ∷ rs) hi
     → run_at (r ∷ rs) p ≡ Some a → r.start ≤ p
 from-first lo hi p r rs a w e = one (leb r.start p) refl where
   clash : (o : Option FrameAnswer) → o ≡ None → o ≡ Some a → ⊥

@@ -37,14 +37,14 @@ abbrev pub Alike : List Span → Runs → Run FrameAnswer → Type 0
 Alike spans all r = (q : Run FrameAnswer) (p : ℕ) → Contains all q → q.start ≤ p → p < q.start + q.len
     → start_of spans r ≤ p → p < r.start → Continues q r
 
--- An entry that is marked shares no address with another.
-abbrev pub IsOnly : (Fde → Bool) → List Fde → Type 0
-IsOnly marks list = (f g : Fde) (a : ℕ) → Contains list f → Contains list g → marks f ≡ true → is_in_range f a ≡ true
-    → is_in_range g a ≡ true → f ≡ g
+-- An entry that is marked shares no instruction with another.
+abbrev pub IsOnly : (Fde → Bool) → List Fde → List Span → Type 0
+IsOnly marks list spans = (s : Span) (f g : Fde) → Contains spans s → Contains list f → Contains list g → marks f ≡ true
+    → is_in_range f s.input ≡ true → is_in_range g s.input ≡ true → f ≡ g
 
 module _ (marks : Fde → Bool) (list : List Fde) (spans : List Span) (runs : Runs) (hi : ℕ) (within : IsWithin 0 runs hi)
     (answers : (p : ℕ) → run_at runs p ≡ carried (answer_at marks list) spans p) (whole : AreWhole marks list spans)
-    (only : IsOnly marks list) where
+    (only : IsOnly marks list spans) where
   -- both have the answers of one entry
   of-marked : (r : Run FrameAnswer) → Contains runs r → r.answer.marked ≡ true → Alike spans runs r
   of-marked r r_in m q p q_in a b low high =
@@ -55,7 +55,7 @@ module _ (marks : Fde → Bool) (list : List Fde) (spans : List Span) (runs : Ru
       x.span p x.in_map x.in_range (subst (λ (n : ℕ). n ≤ p) (is ∙ ap (new spans) x.start) low)
       (held x.span.out x.span.len r.start high x.has) in
       let owners : z.0 ≡ y.span.input = same_Some z.0 y.span.input (sym z.1 ∙ y.owned) in
-      let one : y.fde ≡ x.fde = sym (only x.fde y.fde y.span.input x.in_list y.in_list (sym x.marked ∙ m)
+      let one : y.fde ≡ x.fde = sym (only y.span x.fde y.fde y.in_map x.in_list y.in_list (sym x.marked ∙ m)
       (subst (λ (n : ℕ). is_in_range x.fde n ≡ true) owners z.2) y.in_range) in
       record {
         marked = y.marked ∙ ap marks one ∙ sym x.marked;
@@ -87,7 +87,7 @@ every : (a b c d e f g : Bool) → a ≡ true → b ≡ true → c ≡ true → 
     → (a && b && c && d && e && f && g) ≡ true
 every a b c d e f g ta tb tc td te tf tg = rw (ta, tb, tc, td, te, tf, tg) refl
 
-numbers : (a b : ℕ) → a ≡ b → (a == b) ≡ true
+pub numbers : (a b : ℕ) → a ≡ b → (a == b) ≡ true
 numbers a b e = grind (arith, nat_tests)
 
 bools : (a b : Bool) → a ≡ b → beq a b ≡ true
@@ -96,7 +96,7 @@ bools true false e = absurd (cc)
 bools false true e = absurd (cc)
 bools false false e = refl
 
-so-continues : (h r : Run FrameAnswer) → Continues h r → is_alike h r ≡ true
+pub so-continues : (h r : Run FrameAnswer) → Continues h r → is_alike h r ≡ true
 so-continues h r c =
     every (beq h.answer.marked r.answer.marked) (h.answer.start == r.answer.start) (h.answer.table == r.answer.table)
     (h.answer.ra == r.answer.ra) (h.answer.handler == r.answer.handler) (beq h.answer.indirect r.answer.indirect)
@@ -105,7 +105,7 @@ so-continues h r c =
     (numbers h.answer.ra r.answer.ra c.ra) (numbers h.answer.handler r.answer.handler c.handler)
     (bools h.answer.indirect r.answer.indirect c.indirect) (bools h.answer.signal r.answer.signal c.signal)
 
-joined : (h q r : Run FrameAnswer) → Continues h q → Continues q r → Continues h r
+pub joined : (h q r : Run FrameAnswer) → Continues h q → Continues q r → Continues h r
 joined h q r c d =
     record {
       marked = c.marked ∙ d.marked;
@@ -117,14 +117,14 @@ joined h q r c d =
       signal = c.signal ∙ d.signal;
     }
 
-both : (a b : Bool) → a ≡ true → b ≡ true → (a && b) ≡ true
+pub both : (a b : Bool) → a ≡ true → b ≡ true → (a && b) ≡ true
 both a b e f = rw (e, f) refl
 
 same-head : (q r : Run FrameAnswer) (qs rs : Runs) → q ∷ qs ≡ r ∷ rs → q ≡ r
 same-head q r qs rs e = cc
 
 -- a group ends before a run that doesn't touch it or doesn't go on in it
-stops : (end : ℕ) (h : Run FrameAnswer) (rs : Runs) (r : Run FrameAnswer) (ds : Runs) → drop (count_on end h rs) rs ≡ r ∷ ds
+pub stops : (end : ℕ) (h : Run FrameAnswer) (rs : Runs) (r : Run FrameAnswer) (ds : Runs) → drop (count_on end h rs) rs ≡ r ∷ ds
     → ((r.start == last_end end (take (count_on end h rs) rs)) && is_alike h r) ≡ false
 stops end h [] r ds e = absurd (cc)
 stops end h (q ∷ qs) r ds e = one ((q.start == end) && is_alike h q) refl (stops (q.start + q.len) h qs r ds) e where
@@ -144,7 +144,7 @@ record Last (h : Run FrameAnswer) (all : Runs) (end : ℕ) : Type 0 where
   pub ends : run.start + run.len ≡ end
   pub goes : (r : Run FrameAnswer) → Continues run r → Continues h r
 
-some-bytes : (s n : ℕ) → 0 < n → s < s + n
+pub some-bytes : (s n : ℕ) → 0 < n → s < s + n
 some-bytes s n h = omega arith
 
 last-of : (h : Run FrameAnswer) (all : Runs) (end hi : ℕ) (more : Runs) → Last h all end → All (Continues h) more
@@ -166,7 +166,7 @@ FirstFrom spans end [] = Unit {0}
 FirstFrom spans end (r ∷ rs) = end ≤ start_of spans r
 
 -- behind an address, the bytes of all runs are those of some of them
-abbrev Behind : Runs → ℕ → Runs → Type 0
+abbrev pub Behind : Runs → ℕ → Runs → Type 0
 Behind all lo rs = (p : ℕ) → lo ≤ p → run_at all p ≡ run_at rs p
 
 none-some : (o : Option FrameAnswer) → o ≡ None → IsSome o → ⊥

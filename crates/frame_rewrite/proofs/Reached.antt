@@ -141,7 +141,7 @@ module _ (marks : Fde → Bool) (list : List Fde) (spans : List Span) (runs : Ru
     more n k h = omega arith
 
 -- an address that an entry holds has an answer
-holds-answer : (marks : Fde → Bool) (list : List Fde) (o : ℕ) (f : Fde) → All Begins list → Contains list f
+pub holds-answer : (marks : Fde → Bool) (list : List Fde) (o : ℕ) (f : Fde) → All Begins list → Contains list f
     → is_in_range f o ≡ true → IsSome (answer_at marks list o)
 holds-answer marks list o f begins c t =
     let (g, e) = find-finds (λ x. is_in_range x o) list f c t in

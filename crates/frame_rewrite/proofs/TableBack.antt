@@ -135,7 +135,7 @@ place-named false place i n body h l =
     let v : place + 4 - (place + 4 - cie_size * i) ≡ cie_size * i = omega arith in
     rw (t, v) refl
 
-not-cie : (debug : Bool) (place i n : ℕ) → i < n → cie_size * n ≤ place → place + 4 < 2 ^ 32
+pub not-cie : (debug : Bool) (place i n : ℕ) → i < n → cie_size * n ≤ place → place + 4 < 2 ^ 32
     → (fde_id debug place i == cie_id debug) ≡ false
 not-cie true place i n h l f = let m : cie_size * i < 2 ^ 32 - 4 = omega arith in grind (arith, nat_tests)
 not-cie false place i n h l f = let m : 0 < place + 4 - cie_size * i = omega arith in grind (arith, nat_tests)

@@ -1,9 +1,10 @@
 -- The law and what is made, of the two tables where they stand.
 use Rattle.std.proofs.Common.{ℕ, ◌+◌, ◌-◌, ◌*◌, ◌^◌, ◌≤◌, ◌<◌, ◌≡◌, List, [], Option, Some, None, Bool, true, false, refl, sym, ◌∙◌, ap, subst}
 use Rattle.std.proofs.Common.{arith, length}
-use Rattle.std.specs.Prelude.{All, is_some, option_and_then, sum_by}
+use Rattle.std.specs.Prelude.{All, Contains, is_some, option_and_then, sum_by}
 use Rattle.std.proofs.lemmas.List.Elements.{All-nil}
 use Rattle.rb_bytes.proofs.ListLemmas.{one_of}
+use Rattle.rb_bytes.proofs.Members.{Contains-nil}
 use Rattle.rb_bytes.specs.FirstFault.{IsFree}
 use Rattle.elf_image.specs.declared.section.Section.{Section}
 use Rattle.addr_map.specs.declared.span.Span.{Span}
@@ -13,7 +14,7 @@ use Rattle.answer_runs.specs.AnswerRuns.{IsWithin, run_at, carried}
 use Rattle.answer_runs.specs.CarriedAnswers.{Agree, IsCarried}
 use Rattle.table_core.specs.Sections.{Held, held_by}
 use Rattle.table_core.specs.declared.written.Written.{Written}
-use Rattle.cfi_rows.specs.Entries.{Fde, Frames, frames, walk}
+use Rattle.cfi_rows.specs.Entries.{RawEntry, Fde, Frames, frames, is_cie, range_of, walk}
 use Rattle.cfi_rows.specs.Frames.{frames_of}
 use Rattle.cfi_rows.specs.ReadFrames.{read_as, section_held}
 use Rattle.frame_rewrite.specs.declared.cie_key.CieKey.{CieKey}
@@ -25,17 +26,21 @@ use Rattle.frame_rewrite.specs.Faults.{IsFrameFault}
 use Rattle.frame_rewrite.specs.declared.debug.DebugFrames.{DebugFrames}
 use Rattle.frame_rewrite.specs.FrameAnswers.{FrameAnswer, answer_at, is_marked_by, is_never_marked}
 use Rattle.frame_rewrite.specs.Index.{AreApart, AreFilled, ShareNoAddress}
+use Rattle.frame_rewrite.specs.PlainFrames.{HasNoText, HasNoTexts}
 use Rattle.frame_rewrite.specs.SpelledFits.{KeyFits, IsReached, IsSpelled, RunAscends}
-use Rattle.frame_rewrite.specs.SpelledFrames.{is_debug}
+use Rattle.frame_rewrite.specs.SpelledFrames.{cie_size, is_debug, key_of}
+use Rattle.frame_rewrite.specs.Stretches.{AreApartAt, AreStretches, IsStretchOf}
 use Rattle.frame_rewrite.specs.Tables.{ComesAfter, frames_address}
 use Rattle.frame_rewrite.specs.Tables.{answers, DebugMakes, EhMakes, MovesWhole, run_size, eh_says, debug_says, EhAllows}
 use Rattle.frame_rewrite.proofs.ApartEntries.{Alike, all-alike, written-apart, written-filled}
 use Rattle.frame_rewrite.proofs.EntrySizes.{least-total}
+use Rattle.frame_rewrite.proofs.EntryStretches.{each-made, every-made}
 use Rattle.frame_rewrite.proofs.FdeBack.{IsAt}
-use Rattle.frame_rewrite.proofs.FirstRows.{frames-begin}
+use Rattle.frame_rewrite.proofs.FirstRows.{Begins, frames-begin}
 use Rattle.frame_rewrite.proofs.Law.{law, reads-as}
 use Rattle.frame_rewrite.proofs.MadeTables.{starts-in, count-of, spelled-at, size-of, ends-with}
-use Rattle.frame_rewrite.proofs.Reached.{reached}
+use Rattle.frame_rewrite.proofs.PlainTables.{texts-none}
+use Rattle.frame_rewrite.proofs.Reached.{AreWhole, reached}
 
 abbrev Runs : Type 0
 Runs = List (Run FrameAnswer)
@@ -99,13 +104,29 @@ nothing-apart : (debug : Bool) (at : ℕ) (bytes : List ℕ) → bytes ≡ [] �
 nothing-apart debug at bytes e = subst (λ (x : Frames). AreApart x.list) (sym (ap (frames debug at) e ∙ none-framed debug at))
     (λ i j d less inside. absurd (omega arith))
 
+-- where nothing was read, and nothing is written
+pub no-stretches : (spans : List Span) (old new : List Fde) → old ≡ [] → new ≡ [] → AreStretches spans old new
+no-stretches spans old new e f =
+    subst (λ (l : List Fde). AreStretches spans l new) (sym e) (subst (AreStretches spans []) (sym f) (record {
+      each = All-nil (λ (g : Fde). (f : Fde) × Contains [] f × IsStretchOf spans f (range_of g));
+      every = λ f r c x. absurd (Contains-nil f c);
+      apart = λ i j d less inside. absurd (omega arith);
+    }))
+
+no-texts : HasNoTexts []
+unfolding walk
+no-texts = All-nil (λ (e : RawEntry). is_cie true e ≡ true → HasNoText e)
+
 pub makes : (t : EhFrames) (spans : List Span) (keys : List CieKey) (runs : Runs) (w : Written) → All KeyFits keys
     → IsWithin 0 runs (2 ^ 64 - 1) → All RunAscends runs
     → ((p : ℕ) → run_at runs p ≡ carried (eh_says t) spans p) → All (IsReached spans runs) runs
-    → (AreApart (read_as t.frames).list → All (Alike spans runs) runs) → length keys ≤ 2 * (read_as t.frames).cies
+    → (AreApart (read_as t.frames).list → All (Alike spans runs) runs)
+    → (AreApartAt spans (read_as t.frames).list → (at : ℕ) → IsSpelled (Loaded at) spans keys runs w.bytes.items
+    → AreStretches spans (read_as t.frames).list (frames false at w.bytes.items).list)
+    → length keys ≤ 2 * (read_as t.frames).cies
     → t.has_section ≡ true → IsSpelled (Loaded (frames_address spans)) spans keys runs w.bytes.items → w.lists.items ≡ []
     → EhMakes t spans runs w
-makes t spans keys runs w f within ascend a r alike few there s lists =
+makes t spans keys runs w f within ascend a r alike stretches few there s lists =
     let place = frames_address spans in
     record {
       sound = λ at after. ap (λ (x : Frames). x.bad) (reads-as (Loaded at) spans keys runs w.bytes.items at f refl within r
@@ -114,6 +135,7 @@ makes t spans keys runs w f within ascend a r alike few there s lists =
       filled = λ at after. written-filled (Loaded at) spans keys runs w.bytes.items at f refl within r (spelled at after);
       apart = λ apart at after. written-apart (Loaded at) spans keys runs w.bytes.items at f refl within r (alike apart)
           (spelled at after);
+      stretches = λ _ once at after. stretches once at (spelled at after);
       count = λ at after. count-of spans keys runs w.bytes.items at f within r (spelled at after);
       size = size-of place spans keys runs w.bytes.items (read_as t.frames).cies few ascend s;
       ends = λ _. ends-with place spans keys runs w.bytes.items s;
@@ -136,6 +158,7 @@ makes-nothing t spans runs w none e lists =
           (All-nil (λ (f : Fde). is_new_code spans f.start ≡ true));
       filled = λ at after. subst (λ (x : Frames). AreFilled x.list) (sym (empty at)) (All-nil (λ (f : Fde). f.start < f.end));
       apart = λ apart at after. nothing-apart false at w.bytes.items e;
+      stretches = λ there. absurd (clash t.has_section there none);
       count = λ at after. subst (λ (x : Frames). length x.list ≤ length runs) (sym (empty at)) (least (length runs));
       size = subst (λ (l : List ℕ). length l + 8 * length runs ≤ 16 + 64 * (read_as t.frames).cies + sum_by
           (λ (r : Run FrameAnswer). run_size r.answer) runs) (sym e)
@@ -157,16 +180,25 @@ makes-nothing t spans runs w none e lists =
 
 pub debug-makes : (t : DebugFrames) (spans : List Span) (keys : List CieKey) (runs : Runs) (w : Written) → All KeyFits keys
     → IsWithin 0 runs (2 ^ 64 - 1) → All (IsReached spans runs) runs → All (Alike spans runs) runs
-    → (t.frames.section.items ≡ [] → ⊥) → IsSpelled Debug spans keys runs w.bytes.items → w.lists.items ≡ [] → DebugMakes t w
-debug-makes t spans keys runs w f within r alike some s lists = record {
+    → (AreApartAt spans (read_as t.frames).list → (at : ℕ) → AreStretches spans (read_as t.frames).list (frames true at w.bytes.items).list)
+    → ((among : List CieKey) → All (λ (r : Run FrameAnswer). Contains among (key_of spans r.answer)) runs → All (Contains among) keys)
+    → (t.frames.section.items ≡ [] → ⊥) → IsSpelled Debug spans keys runs w.bytes.items → w.lists.items ≡ []
+    → DebugMakes t spans w
+debug-makes t spans keys runs w f within r alike stretches needed some s lists = record {
   apart = λ at. written-apart Debug spans keys runs w.bytes.items at f tt within r alike s;
+  stretches = stretches;
+  plain = λ at. texts-none spans keys runs w.bytes.items at f within r s needed;
   nothing = λ none. absurd (some none);
   lists = lists;
 }
 
-pub debug-makes-nothing : (t : DebugFrames) (w : Written) → w.bytes.items ≡ [] → w.lists.items ≡ [] → DebugMakes t w
-debug-makes-nothing t w e lists = record {
+pub debug-makes-nothing : (t : DebugFrames) (spans : List Span) (w : Written) → (read_as t.frames).list ≡ [] → w.bytes.items ≡ []
+    → w.lists.items ≡ [] → DebugMakes t spans w
+debug-makes-nothing t spans w none e lists = record {
   apart = λ at. nothing-apart true at w.bytes.items e;
+  stretches = λ _ at. no-stretches spans (read_as t.frames).list (frames true at w.bytes.items).list none
+      (ap (λ (l : List ℕ). (frames true at l).list) e ∙ ap (λ (x : Frames). x.list) (none-framed true at));
+  plain = λ at plain. subst HasNoTexts (sym e) no-texts;
   nothing = λ _. e;
   lists = lists;
 }
@@ -194,6 +226,39 @@ debug-reached t spans runs w a = all-reached t.frames.debug is_never_marked (sec
       clash : false ≡ true → ⊥
       clash e = cc
 
+-- they are longest stretches
+written-stretches : (form : Form) (marks : Fde → Bool) (list : List Fde) (spans : List Span) (keys : List CieKey) (runs : Runs)
+    (bytes : List ℕ) (at : ℕ) → All KeyFits keys → IsAt form at → IsWithin 0 runs (2 ^ 64 - 1)
+    → ((p : ℕ) → run_at runs p ≡ carried (answer_at marks list) spans p) → AreWhole marks list spans → All Begins list
+    → IsSpelled form spans keys runs bytes → AreApartAt spans list → AreStretches spans list (frames (is_debug form) at bytes).list
+written-stretches form marks list spans keys runs bytes at f here w a whole begins s once =
+    let r = reached marks list spans runs (2 ^ 64 - 1) w a whole begins in
+    let alike = all-alike marks list spans runs (2 ^ 64 - 1) w a whole (λ s f g s_in f_in g_in m x y. once s f g s_in f_in g_in x y) in
+    let read = ap (λ (t : Frames). t.list) (reads-as form spans keys runs bytes at f here w r s) in
+    subst (AreStretches spans list) (sym read) (record {
+      each = each-made marks list spans runs (2 ^ 64 - 1) w a whole begins r once form (length runs) (cie_size * length keys);
+      every = every-made marks list spans runs (2 ^ 64 - 1) w a whole begins r once form (cie_size * length keys);
+      apart = subst AreApart read (written-apart form spans keys runs bytes at f here w r alike s);
+    })
+
+pub eh-stretches : (t : EhFrames) (spans : List Span) (keys : List CieKey) (runs : Runs) (bytes : List ℕ) → All KeyFits keys
+    → EhAllows t spans → IsWithin 0 runs (2 ^ 64 - 1) → ((p : ℕ) → run_at runs p ≡ carried (eh_says t) spans p)
+    → AreApartAt spans (read_as t.frames).list → (at : ℕ) → IsSpelled (Loaded at) spans keys runs bytes
+    → AreStretches spans (read_as t.frames).list (frames false at bytes).list
+eh-stretches t spans keys runs bytes f allowed w a once at s =
+    written-stretches (Loaded at) (is_marked_by t.cuts.items) (read_as t.frames).list spans keys runs bytes at f refl w a allowed.1
+    (frames-begin t.frames.debug (section_held t.frames).address (section_held t.frames).bytes) s once
+
+pub debug-stretches : (t : DebugFrames) (spans : List Span) (keys : List CieKey) (runs : Runs) (bytes : List ℕ) → All KeyFits keys
+    → IsWithin 0 runs (2 ^ 64 - 1) → ((p : ℕ) → run_at runs p ≡ carried (debug_says t) spans p)
+    → IsSpelled Debug spans keys runs bytes → AreApartAt spans (read_as t.frames).list → (at : ℕ)
+    → AreStretches spans (read_as t.frames).list (frames true at bytes).list
+debug-stretches t spans keys runs bytes f w a s once at =
+    written-stretches Debug is_never_marked (read_as t.frames).list spans keys runs bytes at f tt w a (λ k d h m. absurd (never m))
+    (frames-begin t.frames.debug (section_held t.frames).address (section_held t.frames).bytes) s once where
+      never : false ≡ true → ⊥
+      never e = cc
+
 -- and of these only those that go on in them
 
 pub eh-alike : (t : EhFrames) (spans : List Span) (runs : Runs) → EhAllows t spans → IsWithin 0 runs (2 ^ 64 - 1)
@@ -201,11 +266,12 @@ pub eh-alike : (t : EhFrames) (spans : List Span) (runs : Runs) → EhAllows t s
     → All (Alike spans runs) runs
 eh-alike t spans runs allowed w a apart =
     all-alike (is_marked_by t.cuts.items) (read_as t.frames).list spans runs (2 ^ 64 - 1) w a allowed.1
-    (λ f g p f_in g_in m x y. one_of ShareNoAddress (read_as t.frames).list f g apart f_in g_in (λ s. s p x y) (λ s. s p y x))
+    (λ s f g s_in f_in g_in m x y. one_of ShareNoAddress (read_as t.frames).list f g apart f_in g_in (λ n. n s.input x y)
+    (λ n. n s.input y x))
 
 pub debug-alike : (t : DebugFrames) (spans : List Span) (runs : Runs) → IsWithin 0 runs (2 ^ 64 - 1)
     → ((p : ℕ) → run_at runs p ≡ carried (debug_says t) spans p) → All (Alike spans runs) runs
 debug-alike t spans runs w a = all-alike is_never_marked (read_as t.frames).list spans runs (2 ^ 64 - 1) w a
-    (λ k d h m. absurd (never m)) (λ f g p f_in g_in m x y. absurd (never m)) where
+    (λ k d h m. absurd (never m)) (λ s f g s_in f_in g_in m x y. absurd (never m)) where
       never : false ≡ true → ⊥
       never e = cc

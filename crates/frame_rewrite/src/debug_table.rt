@@ -44,7 +44,7 @@ impl ByAddress for DebugFrames {
 
     ghost fits = { spec.DebugFits };
 
-    ghost makes = { λ t spans runs w. spec.DebugMakes t w };
+    ghost makes = { λ t spans runs w. spec.DebugMakes t spans w };
 
     ghost keeps = { λ i f. Unit {0} };
 

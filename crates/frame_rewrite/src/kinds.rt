@@ -1,4 +1,5 @@
-// The kinds of frames of a table, in order. They are sorted and not hashed: a file chooses the kinds, and so their hashes.
+// The kinds of frames of a table, in order. They are sorted and not hashed, since a file chooses them, and could choose
+// their hashes.
 ghost use Rattle.std.specs.Prelude.{◌≡◌, ◌<◌, ◌≤◌, List, IfOk, All, Contains, length, slice_get};
 ghost use Rattle.std.specs.List.{IsDistinct, position_or_len};
 ghost use Rattle.frame_rewrite.specs.SpelledFrames as spec;

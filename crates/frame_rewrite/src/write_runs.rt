@@ -69,7 +69,7 @@ pub(crate) fn write_debug(
     ensures law { IfOk result (λ w. (f : Elf) → spec.StandsAs spec.debug_name w f →
         IsCarried (IsCarriedFrame map.now) map.now (run_at runs.now) (spec.debug_answers f)
         × IsFree (IsFrameFault (debug_frames f))) }
-    ensures made { IfOk result (λ w. spec.DebugMakes table.now w) }
+    ensures made { IfOk result (λ w. spec.DebugMakes table.now map.now w) }
 {
     let lists = Vec::new(alloc);
     if table.frames.section.is_empty() {

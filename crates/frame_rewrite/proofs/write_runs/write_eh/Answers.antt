@@ -17,7 +17,7 @@ use Rattle.frame_rewrite.proofs.MadeTables.{spelled-at}
 use Rattle.frame_rewrite.proofs.AnswersBack.{reached-before}
 use Rattle.frame_rewrite.proofs.ReturnRegisters.{Bytes}
 use Rattle.frame_rewrite.proofs.ToldRuns.{all-ascend, all-return, few-kinds}
-use Rattle.frame_rewrite.proofs.WrittenTables.{stands, none-listed, nothing-stands, nothing-held, eh-reached, eh-alike, makes, makes-nothing}
+use Rattle.frame_rewrite.proofs.WrittenTables.{stands, none-listed, nothing-stands, nothing-held, eh-reached, eh-alike, eh-stretches, makes, makes-nothing}
 use Rattle.frame_rewrite.proofs.write_runs.write_eh.Goals as goal
 
 pub returns-then-not-table-clause-law : goal.returns-then-not-table-clause-law
@@ -85,6 +85,7 @@ returns-clause-made c =
     ascend c.requires.answers
     (eh-reached c.args.table.now c.args.map.now c.args.runs.now c.requires.allowed c.requires.within c.requires.answers)
     (eh-alike c.args.table.now c.args.map.now c.args.runs.now c.requires.allowed c.requires.within c.requires.answers)
-    few c.if-not-table.false
+    (eh-stretches c.args.table.now c.args.map.now c.in_ok-keys.keys.items c.args.runs.now _ c.in_ok-keys.ensures.fits
+    c.requires.allowed c.requires.within c.requires.answers) few c.if-not-table.false
     (spelled c.args.map.now c.deref-2.result.now c.in_ok-keys.keys.items c.args.runs.now c.in_ok-bytes.bytes.items
     c.frames_address.result c.deref-2.ensures.value c.frames_address.ensures c.in_ok-bytes.ensures) c.new-lists.ensures.items
