@@ -396,7 +396,7 @@ def main():
     words.add_argument("--tool", default=os.path.join(ROOT, "sudrepka"), help="the command that takes `rewrite ..`")
     words.add_argument("--sources", help="where the sources of packages are")
     words.add_argument("--keep", help="a folder for what is built")
-    words.add_argument("checks", metavar="CHECK", nargs="*", default=every, choices=[*every, []])
+    words.add_argument("checks", metavar="CHECK", nargs="*", choices=[*every, []], help="all if none is named")
     given = words.parse_args()
     if not compilers():
         sys.exit(NO_COMPILER)
@@ -404,7 +404,7 @@ def main():
         folder = os.path.abspath(given.keep or room)
         os.makedirs(folder, exist_ok=True)
         checks = Checks(built(given.tool), folder, given.sources)
-        for name in given.checks:
+        for name in given.checks or every:
             getattr(checks, name)()
     print(f"{checks.problems} problems")
     sys.exit(1 if checks.problems else 0)

@@ -19,16 +19,17 @@ link 10078 1007c 0 0/link 1007c 10080 3 3/link 1007c 10088 0 0/link 10080 1007c 
 6 links, total change 0/
      | text map 1 @10078 4 1 @10078 8 0 3/1 @10078 c 1 @10078 4 0 3/
 
-# The loop is entered and left once, and one of its counts is too low: the cheapest is to take these two away.
+# The loop is entered and left once, and one of its counts is too low. To raise that, and to count the way in and the way
+# out, changes three counts; so does to raise it and to take the other two away, by which code that ran is lost.
 like countdown
 - profile 1 @10078 c 1 @10078 4 0 3
   profile 1 @10078 4 1 @10078 8 0 2
   profile 1 @10078 4 1 @10078 10 0 1
   profile 1 @10078 0 1 @10078 4 0 1
   => $ repair in profile out
-     | 0 Ok price 10078 1/price 1007c 0/price 10080 1/price 10088 -1/link - 10078 0 0/link 10078 1007c 1 0/\
-link 1007c 10080 2 3/link 1007c 10088 1 0/link 10080 1007c 3 3/link 10088 - 0 0/6 links, total change 3/
-     | text out 1 @10078 4 1 @10078 8 0 3/1 @10078 c 1 @10078 4 0 3/
+     | 0 Ok price 10078 1/price 1007c 0/price 10080 1/price 10088 -1/link - 10078 0 1/link 10078 1007c 1 1/\
+link 1007c 10080 2 3/link 1007c 10088 1 1/link 10080 1007c 3 3/link 10088 - 0 1/6 links, total change 3/
+     | text out 1 @10078 0 1 @10078 4 0 1/1 @10078 4 1 @10078 8 0 3/1 @10078 4 1 @10078 10 0 1/1 @10078 c 1 @10078 4 0 3/
 
 # Counts of 2^65 - 2 and of 2^65 take two lines and three. A pair that is no edge keeps its count.
 like countdown

@@ -35,7 +35,8 @@ loaded .eh_frame 10090 1400000000000000017a5200017801011b0c020000000000100000001
 
 # The loop with a line table of three lines for two instructions each: line 1 for the first two and where the last of
 # them went, and lines 2 and 3. The new unit has its header as it was, and the rows 1 at 10090, 2 at 10098, 1 at 1009c
-# and 3 at 100a0 up to 100a8: DW_LNE_set_address, four special opcodes, DW_LNS_advance_pc and DW_LNE_end_sequence.
+# and 3 at 100a0 up to 100a8: DW_LNE_set_address, DW_LNS_set_file, four special opcodes, DW_LNS_advance_pc and
+# DW_LNE_end_sequence.
 like countdown
 unloaded .debug_line 0 4c0000000500080029000000010101fb0e0d000101010100000001000001010108012f7300020108020b02612e630000\
 612e630000000902780001000000000001020803010102080301010208000101
@@ -44,8 +45,8 @@ unloaded .debug_line 0 4c0000000500080029000000010101fb0e0d000101010100000001000
   => $ rewrite in profile out map
      | 0 Ok moved 1 functions, 6 instructions, 24 bytes; 3 hot blocks; 0 profile lines ignored/
      | text map 10090 8 10078/10098 4 10080/1009c 0 10084/1009c 4 1007c/100a0 4 10088/100a4 4 1008c/
-     | bytes out a8 450000000500080029000000010101fb0e0d000101010100000001000001010108012f7300020108020b02612e63000061\
-2e63000000090290000100000000001283494c0208000101
+     | bytes out a8 470000000500080029000000010101fb0e0d000101010100000001000001010108012f7300020108020b02612e63000061\
+2e630000000902900001000000000004011283494c0208000101
      | $ run in | 0 Ended(0) [ended 0 after 13 steps]/ | $ run out | 0 Ended(0) [ended 0 after 11 steps]/
 
 # The loop with an exception table: its function stays in one piece.
