@@ -17,7 +17,8 @@ from profiles import CROSS, FILLED, debug, newest, output
 from elf_file import ElfFile  # of tools/
 
 # What pyelftools says, in a process of a Python that has it: a line for each entry, and one for each row of it. Nothing
-# is relocated, since a linked file has the values already. A rule of a register is named after its kind.
+# is relocated, since a linked file has the values already. A rule of a register is named after its kind. Common entries
+# of version 4 are left out: that of version 0.29 doesn't read the sizes in them of addresses and of segments.
 BY_PYELFTOOLS = """
 import sys
 from elftools.dwarf.callframe import FDE
@@ -38,7 +39,7 @@ with open(sys.argv[1], "rb") as file:
         tables.append((".eh_frame", info.EH_CFI_entries()))
     for name, entries in tables:
         for entry in entries:
-            if not isinstance(entry, FDE):
+            if not isinstance(entry, FDE) or entry.cie.header["version"] == 4:
                 continue
             start = entry.header["initial_location"]
             print(name, start, start + entry.header["address_range"])

@@ -31,7 +31,7 @@ def table_problems(old, new, spans):
     problems = []
     for tool, rows in readers().items():
         before, after = rows(old), rows(new)
-        if set(before) != set(after):
+        if set(before) - set(after):
             problems.append(f"{tool} finds {sorted(before)} before and {sorted(after)} afterwards")
         for name in set(before) & set(after):
             asked = ((at, source) for start, length, source in spans if length for at in (start, start + length - 1))
@@ -51,10 +51,12 @@ def unread(old, new):
 
 
 def frame_problems(old, new, spans, words):
-    """Where gdb finds another frame in a rewritten program than in the input, put to ASKED of the instructions."""
+    """Where gdb finds another frame in a rewritten program than in the input, put to ASKED of the instructions that
+    have a row in a table. Of others it guesses the frame by the code before them."""
     if not shutil.which("gdb-multiarch") or not shutil.which("qemu-riscv64"):
         return []
-    moved = {source: at for at, length, source in spans if length}
+    tables = rows_by_readelf(old).values()
+    moved = {source: at for at, length, source in spans if length and any(rows.at(source) for rows in tables)}
     places = sorted(moved)[::max(1, len(moved) // ASKED)]
     before, after = frames_by_gdb(old, words, places), frames_by_gdb(new, words, [moved[place] for place in places])
     if len(before) < len(places) or len(after) < len(places):

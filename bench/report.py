@@ -60,8 +60,9 @@ STEPS = ["record", "repair", "symbols", "rewrite", "verify", "alike", "lookup", 
          "breaks", "inlined"]
 FEWEST = 3  # frames that programs have that unwind themselves
 ASKED = 24  # addresses that are looked up, and at which gdb stops
-# Files of programs that unwind themselves which read the tables for it: these are others in an output.
-READERS = ["frame_index.c", "cxx_runtime.cc"]
+# Files of programs that unwind themselves which read the tables for it, or give memory for that: these are others in an
+# output.
+READERS = ["frame_index.c", "cxx_runtime.cc", "headers.c", "start.c"]
 
 
 class Try:
