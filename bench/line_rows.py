@@ -193,13 +193,14 @@ def place_of(rows):
 def file_problems(old, new, spans):
     """Where `addr2line` names another file or line at a new address than the table of the input does at the owner. That
     of binutils 2.40 takes file 0 where a sequence gives none, so `llvm-dwarfdump` reads the table; and it doesn't find
-    all units of Clang's -flto, so it isn't asked where it says nothing at the owner."""
+    all units of Clang's -flto, so it isn't asked where it says no line at the owner."""
     if not newest("llvm-dwarfdump"):
         return []
     pairs = [(at, source) for at, length, source in spans if length]
     rows = in_force(sequences_by_llvm(old), [source for _, source in pairs])
     found = places_by_addr2line(old, [source for _, source in pairs])
-    wanted = [None if text.startswith("??") else place_of(rows.get(source)) for text, (_, source) in zip(found, pairs)]
+    told = [text.rpartition(":")[2].isdigit() for text in found]
+    wanted = [place_of(rows.get(source)) if line else None for line, (_, source) in zip(told, pairs)]
     said = places_by_addr2line(new, [at for at, _ in pairs])
     if len(said) != len(pairs):
         return [f"addr2line says {len(said)} lines at {len(pairs)} addresses"]
