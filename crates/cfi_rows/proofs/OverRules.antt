@@ -50,7 +50,7 @@ without-found k q x xs false true false e f g a r = rw (e, f, g) (r ∙ ap (λ (
 without-found k q x xs false false true e f g a r = rw (e, f, g) refl
 without-found k q x xs false false false e f g a r = rw (e, f, g) (r ∙ ap (λ (t : Bool). cond t None (rule_of q xs)) f)
 
-rule-without : (k q lo : ℕ) (xs : Rules) → Ascend lo xs → rule_of q (without_rule k xs) ≡ cond (k == q) None (rule_of q xs)
+pub rule-without : (k q lo : ℕ) (xs : Rules) → Ascend lo xs → rule_of q (without_rule k xs) ≡ cond (k == q) None (rule_of q xs)
 rule-without k q lo [] a = either (k == q) where
   either : (b : Bool) → ◌≡◌ {A = Option Rule} None (cond b None None)
   either true = refl
@@ -65,14 +65,14 @@ over-found q x xs o true e a =
     rw e (ap (λ (p : Option Rule). option_or p (Some x.1)) (absent q (x.0 + 1) xs (omega arith) a))
 over-found q x xs o false e a = rw e refl
 
-rule-over : (q lo : ℕ) (initial xs : Rules) → Ascend lo xs → rule_of q (over initial xs) ≡ option_or (rule_of q xs) (rule_of q initial)
+pub rule-over : (q lo : ℕ) (initial xs : Rules) → Ascend lo xs → rule_of q (over initial xs) ≡ option_or (rule_of q xs) (rule_of q initial)
 rule-over q lo initial [] a = refl
 rule-over q lo initial (x ∷ xs) a =
     rule-over q (x.0 + 1) (with_rule x.0 x.1 initial) xs a.1
     ∙ ap (option_or (rule_of q xs)) (rule-with x.0 x.1 q initial)
     ∙ over-found q x xs (rule_of q initial) (x.0 == q) refl a.1
 
-over-ascend : (initial xs : Rules) → Ascend 0 initial → Ascend 0 (over initial xs)
+pub over-ascend : (initial xs : Rules) → Ascend 0 initial → Ascend 0 (over initial xs)
 over-ascend initial [] a = a
 over-ascend initial (x ∷ xs) a = over-ascend (with_rule x.0 x.1 initial) xs (with-ascend x.0 x.1 initial 0 (omega arith) a)
 
@@ -93,7 +93,7 @@ tail-same q x y xs ys false s e a c r =
 pair-same : (a b : ℕ) (x y : Rule) → a ≡ b → x ≡ y → ◌≡◌ {A = ℕ × Rule} (a, x) (b, y)
 pair-same a b x y p q = λ i. (p i, q i)
 
-same-rules : (xs ys : Rules) (lo hi : ℕ) → Ascend lo xs → Ascend hi ys → ((q : ℕ) → rule_of q xs ≡ rule_of q ys) → xs ≡ ys
+pub same-rules : (xs ys : Rules) (lo hi : ℕ) → Ascend lo xs → Ascend hi ys → ((q : ℕ) → rule_of q xs ≡ rule_of q ys) → xs ≡ ys
 same-rules [] [] lo hi a c r = refl
 same-rules [] (y ∷ ys) lo hi a c r = absurd (none-some y.1 (r y.0 ∙ first-found y.0 y ys refl))
 same-rules (x ∷ xs) [] lo hi a c r = absurd (none-some x.1 (sym (r x.0) ∙ first-found x.0 x xs refl))

@@ -12,7 +12,8 @@ use Rattle.cfi_rows.specs.RuleChanges.{over}
 use Rattle.cfi_rows.specs.RuleEntries.{Ascend}
 use Rattle.frame_rewrite.specs.SpelledFrames.{same_rule, gone_by, other_by, gone_rules, other_rules}
 use Rattle.cfi_rows.proofs.AscendingRules.{without-ascend}
-use Rattle.frame_rewrite.proofs.RuleLookups.{absent, over-ascend, rule-without, rule-over, same-rules}
+use Rattle.cfi_rows.proofs.OverRules.{over-ascend, rule-without, rule-over, same-rules}
+use Rattle.cfi_rows.proofs.RuleLists.{absent}
 
 -- some rules are taken back, one after another
 abbrev pub without_all : Rules → Rules → Rules

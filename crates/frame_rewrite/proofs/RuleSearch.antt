@@ -7,7 +7,7 @@ use Rattle.std.specs.Prelude.{slice_get}
 use Rattle.cfi_rows.specs.declared.row.Rule.{Rule}
 use Rattle.cfi_rows.specs.FrameRows.{Rules, rule_of}
 use Rattle.cfi_rows.specs.RuleEntries.{Ascend}
-use Rattle.frame_rewrite.proofs.RuleLookups.{absent}
+use Rattle.cfi_rows.proofs.RuleLists.{absent}
 
 at-least : (lo : ℕ) (xs : Rules) (j : ℕ) (d : ℕ × Rule) → Ascend lo xs → j < length xs → lo ≤ (get_or xs j d).0
 at-least lo [] j d a h = absurd (omega arith)
