@@ -19,7 +19,8 @@ pub enum FaultKind {
     /// in hexadecimal. psABI, "File Header".
     Flags,
     /// The file is not a static executable. Place: the offset of the file type, 10 in
-    /// hexadecimal, or of the program header that asks for a dynamic linker.
+    /// hexadecimal, or of the program header that asks for a dynamic linker (PT_INTERP) or
+    /// describes dynamic linking (PT_DYNAMIC).
     NotStatic,
     /// The loaded segments do not lie as they must: one of them executable (or two, in a file that
     /// was rewritten), no two sharing an address or a byte of the file, and all sections with code
@@ -56,10 +57,11 @@ pub enum FaultKind {
     /// A branch, jump or call goes to no instruction of a function. Place: the address of the
     /// instruction.
     BadTarget,
-    /// Functions that lead into each other by branches and JALs take more than a JAL reaches (ISA manual, section 2.5).
-    /// Place: their lowest address.
+    /// Functions that lead into each other by branches and JALs, or one function alone, take more
+    /// than 1,000,000 bytes: a JAL reaches 1,048,576 (ISA manual, section 2.5). Place: their lowest
+    /// address.
     UnitTooLong,
-    /// A branch leaves a function that is moved whole. Place: the address of the branch.
+    /// A branch, or a jump of two bytes, leaves a function that is moved whole. Place: its address.
     KeptBranch,
     /// The program registers its unwind tables by hand. Place: the address of the section that
     /// holds them.
