@@ -1,4 +1,4 @@
--- What is spelled of a table of abbreviations is at most three times what it was read from.
+-- A table of abbreviations takes at most three times the bytes that it was read from.
 use Rattle.std.proofs.Common.{◌≡◌, ◌<◌, ◌≤◌, ◌+◌, ◌-◌, ◌*◌, ◌^◌, ◌++◌, ◌∙◌, ℕ, ℤ, zero, suc, pos, negsuc, List, [], ◌∷◌, Bool, true}
 use Rattle.std.proofs.Common.{false, cond, Option, Some, None, Ok, Err, Result, refl, ap, sym, subst, arith, length, drop, map, take}
 use Rattle.std.proofs.Common.{nat_lt, not, length-append, length-drop, ⊎_elim, inl, inr}
@@ -87,7 +87,7 @@ signed_size x bytes rest e = step (sleb_at bytes) refl e where
 
 -- Pairs
 
--- the bytes of a pair as it was read, and of its form and value
+-- The bytes of a pair when it was read, and of its form and value.
 record IsSized (s : Spec) (left rest : List ℕ) : Type 0 where
   size : length (uleb s.name) + length (uleb s.form) + length (implicit_bytes (s.form == 33) s) + length rest ≤ length left
   less : 1 + length (uleb s.form) + length (implicit_bytes (s.form == 33) s) + length rest ≤ length left
@@ -136,7 +136,7 @@ spec_sized left rest s e = by_name (uleb_at left) refl e where
   by_name (Err gap) is e = absurd (cc)
   by_name (Ok read) is e = by_form read.0 left read.1 rest s (uleb_at read.1) is refl e
 
--- the two zeros
+-- The two zeros.
 zeros_behind : (name : ℕ) (left left1 rest : List ℕ) (found : Result (ℕ × List ℕ) Gap) → length left1 < length left →
     uleb_at left1 ≡ found →
     behind_form name (whole found) ≡ Ok (None, rest) → 2 + length rest ≤ length left
@@ -162,7 +162,7 @@ zeros_sized left rest e = by_name (uleb_at left) refl e where
   by_name (Err gap) is e = absurd (cc)
   by_name (Ok read) is e = zeros_behind read.0 left read.1 rest (uleb_at read.1) (uleb_forward left read.1 read.0 is) refl e
 
--- with their changes
+-- With changes
 
 module _ (own : Bool) (d : Declaration) where
   spec_size : (name form implicit : ℕ) → length (spec_bytes (spec name form implicit)) ≡ length (uleb name) + length (uleb form) + length
@@ -416,7 +416,7 @@ table_bytes_size s offset end e =
     let w = ap (λ (o : Option ℕ). 3 * (unwrap_or o offset - offset)) e in
     omega arith
 
--- a table that a unit has ends
+-- The table of a unit that can be read ends.
 named_ends : (abbrevs : List ℕ) (o : ℕ) (ws : List Walked) → list_any (λ (u : Unit). u.abbrev_offset == o)
     (oks (map (unit_of abbrevs) ws)) ≡ true →
     (end : ℕ) × ((table_at abbrevs o).end ≡ Some end)
@@ -453,7 +453,7 @@ sum_size f w p (o ∷ os) each = by_test (p o) refl (sum_size f w p os each) whe
       subst (λ (n : ℕ). length (f o ++ flat_map f (filter p os)) ≤ n) (sym (sum_by-cons w o (filter p os))) both
   by_test false is ih = ih
 
--- the weight of the written `.debug_abbrev` bounds its size
+-- The weight of the written `.debug_abbrev` bounds its size.
 pub abbrevs_size : (s : Sections) → length (changed_abbrevs s) ≤ abbrev_weight s
 abbrevs_size s =
     sum_size (table_bytes s) (table_weight s) (λ o. list_any (λ (u : Unit). u.abbrev_offset == o) (units s))

@@ -1,4 +1,4 @@
--- An attribute's bytes: those of its form, where it stands before the value, and those of its value.
+-- An attribute's bytes: the bytes of its form after DW_FORM_indirect, and the bytes of its value.
 use Rattle.std.proofs.Common.{◌≡◌, ◌+◌, ◌-◌, ◌++◌, ℕ, zero, suc, List, Bool, true, false, Option, Some, None, Ok, Err, Result, refl, ap}
 use Rattle.std.proofs.Common.{sym, ◌∙◌, arith, length, length-append}
 use Rattle.std.specs.Prelude.{◌==◌, if◌then◌else◌}
@@ -26,7 +26,7 @@ form_within-local (suc n) d =
     (λ form. cond_local (form == 22) (form_within n d) _ (form_within-local n d)
     (cond_local (form == 33) _ _ (err_local Unsound) (cond_local (is_form form) _ _ (ok_local form) (err_local (NoForm d)))))
 
--- the declaration's place matters for what names no form alone
+-- The offset of the declaration only matters for unknown forms.
 form_within-any : (n d c : ℕ) (left : List ℕ) (r : ℕ × List ℕ) → form_within n d left ≡ Ok r → form_within n c left ≡ Ok r
 unfolding form_within
 form_within-any zero d c left r e = absurd (cc)
@@ -69,7 +69,7 @@ form_step_any false d c form left r e = last (is_form form) e where
 pub form_any : (d c form : ℕ) (left : List ℕ) (r : ℕ × List ℕ) → form_at d form left ≡ Ok r → form_at c form left ≡ Ok r
 form_any d c form left r e = form_step_any (form == 22) d c form left r e
 
--- at just so many bytes
+-- The same result for as many other bytes after it.
 form_local : (d form : ℕ) → Local (form_at d form)
 form_local d form x left rest e = step (form == 22) refl e where
   step : (b : Bool) → (form == 22) ≡ b → ◌≡◌ {A = Read ℕ} (if b then form_within (length left) d left else
@@ -98,7 +98,7 @@ form_local d form x left rest e = step (form == 22) refl e where
             else (if is_form form then Ok (form, a.front ++ more) else Err (NoForm d))) is ∙ a.takes more h;
       }
 
--- an attribute, and its bytes: those of its form and those of its value
+-- An attribute, and its bytes: its form's and its value's.
 pub record IsAttr (end : ℕ) (s : Spec) (a : Attr) (left rest : List ℕ) : Type 0 where
   pub lead : List ℕ
   pub body : List ℕ
@@ -166,7 +166,7 @@ attr_front end d s a left rest e = formed (form_at d s.form left) refl e where
   formed (Err t) f e = absurd (cc)
   formed (Ok read) f e = shaped read.0 read.1 (shape_of read.0) f refl e
 
--- the other way: what is read of such bytes
+-- The converse: what is read from such bytes.
 pub attr_again : (end d : ℕ) (s : Spec) (form value : ℕ) (shape : Shape) (lead left1 more : List ℕ) →
     form_at d s.form (lead ++ left1) ≡ Ok (form, left1) → shape_of form ≡ Some shape →
     gap_value_at s.implicit shape left1 ≡ Ok (value, more) →

@@ -1,4 +1,4 @@
--- Which bytes are a call, by their bits. So whether one is there can be computed.
+-- Which bytes are a call, by their bits. So a proof can compute whether a call is there.
 use Rattle.std.proofs.Common.{◌≡◌, ◌≢◌, ◌∙◌, ℕ, ◌+◌, ◌*◌, ◌^◌, Bool, true, false, not, Option, Some, None, refl, ap, sym, subst, inl, inr}
 use Rattle.std.specs.Prelude.{◌==◌, ◌&&◌, ◌||◌, ◌⊎◌, if◌then◌else◌, IsTrue}
 use Rattle.std.proofs.lemmas.Bool.{and_parts, and_from, or_cases, or_left, or_right, not-true, eqb-true, eqb-false, eq-eqb, ne_eqb}
@@ -13,7 +13,7 @@ use Rattle.rv_code.specs.isa.HalfRows.{C_JALR, IsHalf, Matches, Row, expansion}
 use Rattle.rv_code.specs.isa.InstBytes.{Decodes}
 use Rattle.rv_code.specs.layout.Flow.{is_call}
 
--- bytes are a call of so many of them
+-- These are a call of `bytes` bytes.
 pub record IsCall (half next bytes : ℕ) : Type 0 where
   pub inst : Inst
   pub is : Decodes half (Some next) inst bytes
@@ -33,7 +33,7 @@ call_bytes half next =
     if field half 0 2 == 3 then (if is_full_call (next * 2 ^ 16 + half) then Some 4 else None)
     else (if is_half_call half then Some 2 else None)
 
--- What is a call passes.
+-- A call passes the test.
 
 renamed : (x rd : ℕ) → x ≡ rd → not (rd == 0) ≡ true → not (x == 0) ≡ true
 renamed x rd is t = subst (λ (n : ℕ). not (n == 0) ≡ true) (sym is) t
@@ -78,7 +78,7 @@ call_passes half next bytes c = by c.is where
       ∙ ap (λ (b : Bool). if b then Some 4 else None) (full_call (next * 2 ^ 16 + half) c.inst d.row c.calls)
       ∙ ap Some (sym d.four_bytes)
 
--- What passes is a call.
+-- What passes the test is a call.
 
 full_found : (word : ℕ) → is_full_call word ≡ true → (i : Inst) × IsFull word i × IsTrue (is_call (action_of i))
 full_found word t =

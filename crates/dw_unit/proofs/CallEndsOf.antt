@@ -1,4 +1,4 @@
--- The ends of calls that a map moved, computed from the file and the map alone.
+-- The ends of calls that a map moved, computed from the file and the map.
 use Rattle.std.proofs.Common.{◌≡◌, ◌∙◌, ◌+◌, ◌-◌, ◌%◌, ◌^◌, ℕ, Bool, true, false, List, Option, Some, None, refl, ap, sym, arith}
 use Rattle.std.proofs.Common.{option_map}
 use Rattle.std.specs.Prelude.{◌==◌, Contains}
@@ -16,14 +16,14 @@ use Rattle.dw_unit.proofs.CallBits.{IsCall, call_bytes, call_passes, passes_call
 abbrev call_at : Elf → ℕ → Option ℕ
 call_at elf a = call_bytes (halfword_at elf a) (halfword_at elf (a + 2))
 
--- a span's instruction is a call that ends at an address
+-- A span's instruction is a call that ends at an address.
 abbrev ends_at : Elf → ℕ → Span → Bool
 ends_at elf a s = option_map_or (λ n. s.input + n == a) (call_at elf s.input) false
 
 abbrev moved_end : ℕ → Span → ℕ
 moved_end a s = (s.out + (a - s.input)) % 2 ^ 64
 
--- the end of the moved call that ended at an address
+-- The end of the moved call that ended at an address.
 abbrev pub call_end_of : Elf → List Span → ℕ → Option ℕ
 call_end_of elf spans a = option_map (moved_end a) (find (ends_at elf a) spans)
 

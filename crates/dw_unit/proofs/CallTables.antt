@@ -1,4 +1,4 @@
--- The ends of calls, with one span more.
+-- The ends of calls, with one more span.
 use Rattle.std.proofs.Common.{◌≡◌, ◌≢◌, ◌<◌, ◌+◌, ◌%◌, ◌^◌, ◌++◌, ◌∙◌, ⊎_elim, ℕ, List, [], ◌∷◌, Bool, cond, Option, Some, None}
 use Rattle.std.proofs.Common.{BTreeMap, true, inl, inr, nat_cmp, ap, sym, subst, arith}
 use Rattle.std.specs.Prelude.{Contains, ◌⊎◌}
@@ -47,7 +47,7 @@ module _ (elf : Elf) (spans : List Span) (x : Span) (ends : BTreeMap ℕ ℕ) (a
       (λ (same : x ≡ c.span). inr same)
       (Contains-push_cases spans x c.span c.listed)
 
-  -- no call is at the span's address
+  -- No call is at the span's address.
   pub ends_same : ((n : ℕ) → HasCall elf x.input n → ⊥) → AreCallEnds elf (spans ++ x ∷ []) ends
   ends_same no_call = record {
     is = λ from to e. longer from to (are.is from to e);
@@ -59,7 +59,7 @@ module _ (elf : Elf) (spans : List Span) (x : Span) (ends : BTreeMap ℕ ℕ) (a
     below = are.below;
   }
 
-  -- one of so many bytes is
+  -- A call of `bytes` bytes is there.
   module _ (new : BTreeMap ℕ ℕ) (k v bytes : ℕ) (call : HasCall elf x.input bytes) (only : (n : ℕ) → HasCall elf x.input n → bytes ≡ n)
       (k_is : k ≡ x.input + bytes) (v_is : v ≡ (x.out + bytes) % 2 ^ 64) (small : v < 2 ^ 64)
       (updates : (q : ℕ) → get nat_cmp new q ≡ cond (is_at (nat_cmp k) q) (Some v) (get nat_cmp ends q)) where

@@ -1,4 +1,4 @@
--- What can be read of a file without faults can be changed in place.
+-- The units of a file without faults can be changed in place.
 use Rattle.std.proofs.Common.{◌≡◌, ◌<◌, ◌^◌, ◌∙◌, ℕ, List, [], ◌∷◌, Bool, true, false, not, Option, Some, None, Ok, Err, Result, refl, ap}
 use Rattle.std.proofs.Common.{subst, arith, inl, inr, unwrap_or}
 use Rattle.std.specs.Prelude.{◌==◌, ◌&&◌, ◌||◌, ◌⊎◌, if◌then◌else◌}
@@ -28,7 +28,7 @@ use Rattle.dw_unit.proofs.Rewrites.{IsChangeable, number_len}
 use Rattle.dw_unit.proofs.RewrittenEntries.{AreChangeable, CanChange, CanAll}
 use Rattle.dw_unit.proofs.ReadEntries.{IsReadEntry, AreReadEntries}
 
--- new addresses are of 64 bits, new offsets of 32
+-- New addresses are of 64 bits, new offsets of 32.
 pub record AreSmall (m : Moves) : Type 0 where
   pub moved : (a b : ℕ) → moved_address m a ≡ Some b → b < 2 ^ 64
   pub call_end : (a b : ℕ) → m.call_end a ≡ Some b → b < 2 ^ 64
@@ -95,7 +95,7 @@ module _ (m : Moves) (small : AreSmall m) (own first : Bool) (e : Entry) (a : At
   ranges_small None is = omega arith
   ranges_small (Some x) is = let low : x < 2 ^ 32 = small.lists e.place DW_AT_ranges x is in omega arith
 
-  -- a pair that isn't a bad high address
+  -- A pair that is no bad high address.
   abbrev pub is_fine : Spec → Bool
   is_fine s = s.name == DW_AT_high_pc && not (is_high_form s.form)
 
@@ -147,7 +147,7 @@ module _ (m : Moves) (small : AreSmall m) (own first : Bool) (e : Entry) (end d 
 
 -- Declarations
 
--- none of a table passes a test, so none that is declared
+-- If no declaration of a table passes a test, then no declaration that a code means does.
 pub not_any : (test p : Declaration → Bool) (ds : List Declaration) (d : Declaration) → list_any test ds ≡ false → find p ds ≡ Some d →
     test d ≡ false
 not_any test p [] d none e = absurd (cc)
@@ -175,7 +175,7 @@ declared_is table code d e = by_found (declared table code) refl e where
   by_found None is f = absurd (cc)
   by_found (Some x) is f = is ∙ ap (λ (y : Declaration). Some y) (by_once (are_named_once x.specs) x f)
 
--- no bad high address has a form that can't be changed, nor ranges beside it
+-- No bad high address: its form can be changed, and it has no ranges beside it.
 fine_specs : (d : Declaration) (r : Bool) (specs : List Spec) →
     list_any (λ s. s.name == DW_AT_high_pc && (not (is_high_form s.form) || has_spec DW_AT_ranges d || r)) specs ≡ false →
     list_any (λ s. s.name == DW_AT_high_pc && not (is_high_form s.form)) specs ≡ false

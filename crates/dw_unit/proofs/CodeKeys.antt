@@ -1,4 +1,4 @@
--- The first place of a code is found among sorted keys.
+-- The first index of a code, found among sorted keys.
 use Rattle.std.proofs.Common.{◌≡◌, ◌≢◌, ◌∙◌, ◌<◌, ◌≤◌, ◌+◌, ◌-◌, ◌/◌, ◌%◌, ◌^◌, ⊎_elim, ℕ, zero, suc, Bool, true, false, Some, None, List}
 use Rattle.std.proofs.Common.{[], ◌∷◌, refl, sym, ap, arith, length, drop, get_or, add-one, option_map, length-drop}
 use Rattle.std.specs.Prelude.{◌==◌, if◌then◌else◌, IsPermutation, Contains}
@@ -39,7 +39,7 @@ from_none codes q i f =
     ap (option_map (λ (n : ℕ). i + n)) (first_none q (drop i codes)
     (λ k b g. f (i + k) (omega arith) (omega arith) (sym (get_or-drop i codes k 0) ∙ g)))
 
--- the parts of a key
+-- The parts of a key.
 code_of : (c j : ℕ) → j < 2 ^ 64 → key c j / 2 ^ 64 ≡ c
 code_of c j h = omega arith
 
@@ -55,7 +55,7 @@ same_of x y e = grind (arith, common_steps)
 other_of : (x y : ℕ) → (x == y) ≡ false → x ≢ y
 other_of x y e same = grind (arith, common_steps)
 
--- what stands at the place that splits the keys
+-- The key at the index that splits the keys.
 record IsNext (codes : List ℕ) (q i x : ℕ) : Type 0 where
   j : ℕ
   within : j < length codes
@@ -65,7 +65,7 @@ record IsNext (codes : List ℕ) (q i x : ℕ) : Type 0 where
 
 module _ (codes raw keys : List ℕ) (are : AreKeys codes raw) (same : IsPermutation raw keys) (rising : IsNonDecreasing keys)
     (small : length codes ≤ 2 ^ 64) where
-  -- where a later key stands
+  -- The index of a later key.
   record IsLater (q k p : ℕ) : Type 0 where
     at : ℕ
     from : p ≤ at

@@ -1,4 +1,4 @@
--- The declaration that a code means, by its first place.
+-- The declaration of a code, by its first index.
 use Rattle.std.proofs.Common.{◌≡◌, ◌+◌, ◌∙◌, sym, refl, ap, ℕ, zero, suc, Bool, true, false, Option, Some, None, List, [], ◌∷◌, map, drop}
 use Rattle.std.proofs.Common.{add-one, option_map, arith, Err, Result}
 use Rattle.std.specs.Prelude.{◌==◌, if◌then◌else◌, option_and_then, slice_get}
@@ -32,7 +32,7 @@ get-drop xs zero n = let e : n ≡ 0 + n = omega arith in ap (slice_get xs) e
 get-drop [] (suc i) n = refl
 get-drop (x ∷ xs) (suc i) n = get-drop xs i n ∙ (let e : suc (i + n) ≡ suc i + n = omega arith in ap (slice_get (x ∷ xs)) e)
 
--- from a place on, at the first place of its code
+-- From an index on, the first of the code.
 pub declared_from : (ds : List Declaration) (q i : ℕ) →
     option_and_then (slice_get ds) (first_from (map (λ (d : Declaration). d.code) ds) q i) ≡ find (λ d. d.code == q) (drop i ds)
 declared_from ds q i =
@@ -43,7 +43,7 @@ declared_from ds q i =
       step None = refl
       step (Some n) = sym (get-drop ds i n)
 
--- the same of declarations as they were read
+-- For the declarations of the code's own type.
 
 codes_told : (xs : List code.Declaration.Declaration) → map (λ (d : Declaration). d.code) (map told_declaration xs) ≡ codes_of xs
 codes_told [] = refl

@@ -21,7 +21,7 @@ use Rattle.dw_unit.specs.declared.trouble.Stop.TheVariants as stop
 use Rattle.dw_unit.specs.Stops.{TroubleHas}
 use Rattle.dw_unit.proofs.Readers.{attr_less, after_attr, attrs_of_attr}
 
--- attributes go forward
+-- Reading attributes goes forward.
 
 attrs_less_by : (end d : ℕ) (specs : List Spec) (l1 l2 : List ℕ) (attrs : List Attr) (a : Attr) (found : Read (List Attr)) →
     attrs_at end d specs l1 ≡ found → after_attr a found ≡ Ok (attrs, l2) →
@@ -49,7 +49,7 @@ attrs_less end d [] l1 l2 attrs e = let same : length l1 ≡ length l2 = ap leng
 attrs_less end d (s ∷ specs) l1 l2 attrs e =
     attrs_less_from end d s specs l1 l2 attrs (attr_at end d s l1) refl e (λ l got m. attrs_less end d specs l m got)
 
--- a count that reaches the bytes left is as good as another
+-- Any limit that is at least the number of bytes left gives the same result.
 
 abbrev pub More : Type 0
 More = ℕ → List ℕ → Result (List Entry) Trouble
@@ -107,7 +107,7 @@ entries_enough u (suc n) (suc m) depth (b ∷ left) h k =
     same_code u (entries_within u n) (entries_within u m) (u.end - length (b ∷ left)) depth (b ∷ left) (uleb_at (b ∷ left)) refl
     (λ depth rest s. entries_enough u n m depth rest (omega arith) (omega arith))
 
--- what the front says
+-- What the front decides.
 
 pub entries_step : (u : UnitBounds) (depth : ℕ) (left : List ℕ) → 0 < length left →
     entries_at u depth left ≡ behind_code u (entries_at u) (u.end - length left) depth (whole (uleb_at left))
@@ -160,7 +160,7 @@ one_entry u depth code left rest l2 d attrs h e f g k =
     code_step u depth code left rest h e f ∙ ap (behind_declaration u (entries_at u) (u.end - length left) depth rest) g
     ∙ ap (behind_attrs u (entries_at u) (u.end - length left) depth d) k
 
--- trouble of a part is trouble of the whole
+-- From the trouble of a part to that of the whole.
 pub trouble_map : (s : Stop) (P Q : Trouble → Type 0) → ((t : Trouble) → P t → Q t) → TroubleHas s P → TroubleHas s Q
 trouble_map stop.Memory P Q f p = tt
 trouble_map (stop.Trouble t) P Q f p = f t p

@@ -1,4 +1,4 @@
--- Entries stand one behind another, over all units of a file.
+-- Entries follow one another, over all units of a file.
 use Rattle.std.proofs.Common.{◌≡◌, ◌<◌, ◌≤◌, ◌+◌, ◌-◌, ◌++◌, ◌∙◌, ℕ, zero, suc, List, [], ◌∷◌, Bool, true, false, Ok, Err, Result, refl, ap}
 use Rattle.std.proofs.Common.{subst, arith, length, length-append, map}
 use Rattle.std.specs.Prelude.{◌==◌, if◌then◌else◌, flat_map}
@@ -25,7 +25,7 @@ use Rattle.answer_runs.proofs.Ascending.{Ascends}
 use Rattle.dw_unit.proofs.NewSections.{sound_units, units_behind}
 use Rattle.dw_unit.proofs.UnitsRead.{IsRead, IsGoodUnit, unit_read}
 
--- places that ascend, between two
+-- Offsets that ascend, between two bounds.
 abbrev pub Rise : (from to : ℕ) → List Entry → Type 0
 Rise from to [] = from ≤ to
 Rise from to (e ∷ es) = (from ≤ e.place) × Rise (e.place + 1) to es
@@ -126,7 +126,7 @@ units_rise s from to (w ∷ ws) (u ∷ us) b z =
     (rise_append w.place (end_of w) (end_of w) to u.entries (flat_map (λ (u : Unit). u.entries) us) (omega arith)
     (unit_rises s.abbrevs w u (unit_read s.abbrevs w u z.0.0)) (units_rise s (end_of w) to ws us b.2 z.1))
 
--- The places of the entries of sound sections ascend strictly.
+-- The offsets of the entries of sound sections ascend strictly.
 pub places_ascend : (s : Sections) → IsFree (HasDwarfFault (unit_fault_places s)) → Ascends 0 (map (λ (e : Entry). e.place) (entries s))
 places_ascend s free =
     rise_ascends 0 (length s.info) (entries s) (units_rise s 0 (length s.info) (walked 5 s.info) (units s) (units_behind s free)

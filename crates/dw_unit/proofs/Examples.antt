@@ -33,7 +33,7 @@ span out input = record { out = out; len = 4; input = input }
 abbrev list : ℕ → ℕ → ListAt
 list entry offset = record { entry = entry; attr = 0x55; offset = offset }
 
--- the list of the unit's own entry stands at 12, that of the subprogram at 16
+-- The list of the unit's own entry is at offset 12, the list of the subprogram at 16.
 abbrev moves : Moves
 moves = record {
   spans = span 0x20000 0x10078 ∷ span 0x20004 0x1007c ∷ span 0x20008 0x10080 ∷ [];
@@ -52,14 +52,14 @@ no_fault : (unit_fault_places sections).bad ≡ None
 unfolding abbrevs info units_from specs_within table_within entries_within
 no_fault = refl
 
--- Eight bytes of DW_AT_high_pc become the offset of a list and four that say nothing. The unit's own low address stays one,
--- the subprogram's becomes where to enter.
+-- Eight bytes of DW_AT_high_pc become the offset of a list and four unused bytes. The unit's own DW_AT_low_pc stays one, and the
+-- subprogram's becomes DW_AT_entry_pc.
 abbrevs_are : changed_abbrevs sections
     ≡ 1 ∷ 17 ∷ 1 ∷ 17 ∷ 1 ∷ 0x55 ∷ 0x17 ∷ 0x90 ∷ 0x7e ∷ 6 ∷ 0 ∷ 0 ∷ 2 ∷ 46 ∷ 0 ∷ 0x52 ∷ 1 ∷ 0x55 ∷ 0x17 ∷ 0 ∷ 0 ∷ 0 ∷ []
 unfolding abbrevs info units_from specs_within table_within entries_within uleb
 abbrevs_are = refl
 
--- the unit's base address becomes 0
+-- The unit's base address becomes 0.
 info_is : changed_info sections moves
     ≡ 39 ∷ 0 ∷ 0 ∷ 0 ∷ 5 ∷ 0 ∷ 1 ∷ 8 ∷ 0 ∷ 0 ∷ 0 ∷ 0
     ∷ 1 ∷ 0 ∷ 0 ∷ 0 ∷ 0 ∷ 0 ∷ 0 ∷ 0 ∷ 0 ∷ 12 ∷ 0 ∷ 0 ∷ 0 ∷ 0 ∷ 0 ∷ 0 ∷ 0
@@ -86,22 +86,22 @@ address name value = record { name = name; form = 1; place = 13; len = 8; value 
 abbrev entry_at : ℕ → ℕ → Declaration → Entry
 entry_at place depth d = record { place = place; unit = 0; depth = depth; declaration = d; attrs = [] }
 
--- an address of code moves
+-- The address of an instruction that moves changes.
 moved_entry : new_address moves false (entry_at 12 0 (declared (spec 0x52 1 ∷ []))) (address 0x52 0x10078) ≡ Some 0x20000
 moved_entry = refl
 
--- the bases of addresses and of texts stay, whatever they equal
+-- The bases of address and text tables stay, even if they equal a code address.
 kept_base : new_address moves false (entry_at 12 0 (declared (spec 0x73 1 ∷ []))) (address 0x73 0x10078) ≡ None
 kept_base = refl
 
 kept_text_base : new_address moves false (entry_at 12 0 (declared (spec 0x72 1 ∷ []))) (address 0x72 0x10078) ≡ None
 kept_text_base = refl
 
--- what is no address of code stays
+-- A number that is no instruction's address stays.
 kept_number : new_address moves false (entry_at 12 0 (declared (spec 0x52 1 ∷ []))) (address 0x52 0x10079) ≡ None
 kept_number = refl
 
--- a high address needs a low one beside it, and no ranges
+-- A high address needs a low one in its declaration, and no ranges.
 bad_alone : has_bad_high (declared (spec 0x12 6 ∷ [])) ≡ true
 bad_alone = refl
 
@@ -114,7 +114,7 @@ bad_beside_ranges = refl
 sound_index : has_bad_high (declared (spec 0x11 0x29 ∷ spec 0x12 6 ∷ [])) ≡ false
 sound_index = refl
 
--- An entry of depth 2 lies in the last one of depth 1 before it, and in that one's own.
+-- The parent of an entry of depth 2 is the last entry of depth 1 before it. That entry's parent is the own entry.
 abbrev at_depths : List Entry
 at_depths =
     entry_at 40 3 (declared []) ∷ entry_at 30 2 (declared []) ∷ entry_at 20 1 (declared []) ∷ entry_at 15 1 (declared [])

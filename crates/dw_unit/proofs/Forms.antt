@@ -1,4 +1,4 @@
--- Forms that stand before their values.
+-- Forms after DW_FORM_indirect.
 use Rattle.std.proofs.Common.{◌≡◌, ◌≢◌, ◌<◌, ◌≤◌, ◌-◌, ℕ, zero, suc, List, [], ◌∷◌, Bool, true, false, cond, Ok, Err, Result, refl, ap}
 use Rattle.std.proofs.Common.{sym, ◌∙◌, arith, length, drop, length-drop}
 use Rattle.std.specs.Prelude.{◌==◌, if◌then◌else◌}
@@ -24,12 +24,12 @@ uleb_by bytes rest n x false true v p h e =
     let g : length rest ≡ length bytes - n = ap length (sym f) ∙ length-drop n bytes in
     omega arith
 
--- a number in LEB128 takes a byte at least
+-- A number in LEB128 takes a byte at least.
 pub uleb_forward : (bytes rest : List ℕ) (x : ℕ) → uleb_at bytes ≡ Ok (x, rest) → length rest < length bytes
 uleb_forward bytes rest x e =
     uleb_by bytes rest (leb_length bytes) x _ _ _ (omega arith) (λ s. grind (arith, nat_tests)) e
 
--- What follows a form, by what is read of it.
+-- The result after the form.
 abbrev pub form_of : (List ℕ → Read ℕ) → ℕ → Result (ℕ × List ℕ) Gap → Read ℕ
 form_of more declaration read = and_then (whole read) (λ form rest.
     if form == 22 then more rest
@@ -48,7 +48,7 @@ form_same n m d left (Err gap) e same = refl
 form_same n m d left (Ok read) e same =
     same_behind (form_within n d) (form_within m d) d read.0 read.1 (same read.1 (uleb_forward left read.1 read.0 e))
 
--- a count that reaches the bytes left is as good as another
+-- Any limit that is at least the number of bytes left gives the same result.
 pub form_within-enough : (n m d : ℕ) (left : List ℕ) → length left ≤ n → length left ≤ m → form_within n d left ≡ form_within m d left
 unfolding form_within
 form_within-enough zero zero d left h k = refl
@@ -64,7 +64,7 @@ form_read d x rest h = let f : (x == 33) ≡ false = grind (arith, nat_tests) in
     ap (λ (b : Bool). if x == 22 then form_within (length rest) d rest else
     (if b then Err Unsound else (if is_form x then Ok (x, rest) else Err (NoForm d)))) f
 
--- one form more
+-- One more form.
 pub form_step : (d x : ℕ) (left rest : List ℕ) → uleb_at left ≡ Ok (x, rest) → x ≢ 33 → form_at d 22 left ≡ form_at d x rest
 unfolding form_within
 form_step d x [] rest e h = absurd (cc)

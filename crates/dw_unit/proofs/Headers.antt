@@ -1,4 +1,4 @@
--- A unit's header, with another offset of abbreviations in it.
+-- A unit's header, with another abbreviation offset.
 use Rattle.std.proofs.Common.{◌≡◌, ◌+◌, ◌-◌, ◌++◌, ℕ, List, ◌∷◌, Bool, true, false, Ok, Err, Result, refl, ap, sym, ◌∙◌, arith, length}
 use Rattle.std.proofs.Common.{length-append, append_assoc}
 use Rattle.std.specs.Prelude.{◌==◌, ◌&&◌}
@@ -14,7 +14,7 @@ use Rattle.dw_unit.specs.Changes.{Patch, patched}
 use Rattle.dw_unit.proofs.Patched.{From, patched-behind, patched-over}
 use Rattle.dw_unit.proofs.Rewrites.{IsNumber, number_size}
 
--- what was read first, and what was made of it
+-- The first result, and the one made from it.
 pub record Split {X Y : Type 0} (f : List ℕ → Read X) (g : X → List ℕ → Read Y) (y : Y) (left rest : List ℕ) : Type 0 where
   pub x : X
   pub mid : List ℕ
@@ -57,7 +57,7 @@ number_is n x left rest e t = number_size n x t.front rest (plain (number_read n
   plain (Err gap) is f = absurd (cc)
   plain (Ok read) is f = is ∙ ap (λ (x : ℕ). Ok (x, read.1)) (same_value _ _ _ _ f) ∙ ap (λ (l : List ℕ). Ok (x, l)) (same_left _ _ _ _ f)
 
--- a header's bytes: four, those of the offset, those of its type, and the entries behind
+-- A header's bytes: the first four, the offset, the type unit's fields, and the entries after them.
 pub record IsHeader (bytes left : List ℕ) : Type 0 where
   pub lead : List ℕ
   pub old : List ℕ
@@ -130,7 +130,7 @@ header_front bytes left offset e =
           ∙ ap (λ (b : Bool). when b (new, more)) k.0;
     }
 
--- A whole unit, behind its length: its patches, and any patches and bytes behind it.
+-- A whole unit, after its length: its patches, and any patches and bytes after it.
 pub unit_patched : (place end : ℕ) (size bytes left new : List ℕ) (offset : List ℕ) (ps : List Patch) (i : IsHeader bytes left) →
     length size ≡ 4 →
     end ≡ place + 4 + length bytes → length offset ≡ 4 →

@@ -69,7 +69,7 @@ module _ (end d : ℕ) where
   attrs_room (s ∷ specs) attrs left rest fine f =
       by_first s specs attrs left rest (attr_at end d s left) fine refl f (λ l1 got r g h. attrs_room specs got l1 r h g)
 
--- of an entry that was read, by a table without bad high addresses
+-- The attributes of an entry that was read, if its table has no bad high addresses.
 pub entry_room : (u : UnitBounds) (e : Entry) → list_any has_bad_high u.table.list ≡ false → IsReadEntry u e → HaveRoom e.attrs
 entry_room u e none r =
     let fine : has_bad_high e.declaration ≡ false =

@@ -1,4 +1,4 @@
--- The least of the places of several lists.
+-- The lowest offset over several lists.
 use Rattle.std.proofs.Common.{◌≡◌, ◌∙◌, ◌++◌, ◌<◌, Bool, true, false, Option, Some, None, List, [], ◌∷◌, refl, sym, ap, arith}
 use Rattle.std.specs.Prelude.{if◌then◌else◌, nat_le, slice_get}
 use Rattle.std.proofs.lemmas.Option.{slice_get_within, get_or_from_slice_get}
@@ -23,7 +23,7 @@ pub least-append : (xs ys : List ℕ) → least (xs ++ ys) ≡ lower (least xs) 
 least-append [] ys = refl
 least-append (x ∷ xs) ys = ap (lower (Some x)) (least-append xs ys) ∙ sym (lower-assoc (Some x) (least xs) (least ys))
 
--- one declaration more in front
+-- One more declaration in front.
 
 least_head : (test : Declaration → Bool) (d : Declaration) (ds : List Declaration) (b : Bool) → test d ≡ b →
     least (places_with test (d ∷ ds)) ≡ lower_if b d.place (least (places_with test ds))
@@ -38,7 +38,7 @@ least_step test ds i e h =
     ∙ least_head test (get_or ds i e) (drop (suc i) ds) (test (get_or ds i e)) refl
     ∙ ap (λ (k : ℕ). lower_if (test (get_or ds i e)) (get_or ds i e).place (least (places_with test (drop k ds)))) (sym (add-one i))
 
--- the same by the declaration that stands there, and the one behind it
+-- One more declaration in front, by the list from its index and from the next index on.
 pub least_with : (test : Declaration → Bool) (ds : List Declaration) (i n : ℕ) (d : Declaration) (o : Option ℕ) → n ≡ i + 1 →
     slice_get ds i ≡ Some d →
     o ≡ least (places_with test (drop n ds)) → lower_if (test d) d.place o ≡ least (places_with test (drop i ds))

@@ -14,7 +14,7 @@ use Rattle.dw_unit.specs.ListKeys.{Offsets, list_key}
 at_same : (k : ℕ) → is_at (nat_cmp k) k ≡ true
 at_same k = grind (arith, common_steps)
 
--- one list in front
+-- One more list in front.
 pub offsets_more : (l : ListAt) (lists : List ListAt) (old new : BTreeMap ℕ ℕ) → l.attr < 2 ^ 64 → Offsets lists old →
     ((q : ℕ) → get nat_cmp new q ≡ cond (is_at (nat_cmp (list_key l.entry l.attr)) q) (Some l.offset) (get nat_cmp old q)) →
     Offsets (l ∷ lists) new

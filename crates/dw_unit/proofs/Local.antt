@@ -1,4 +1,4 @@
--- Readers take what stands at the front, whatever follows: bytes that are as many as those that followed.
+-- Reading takes bytes off the front, and gives the same result whatever bytes of the same number follow.
 use Rattle.std.proofs.Common.{◌≡◌, ◌<◌, ◌≤◌, ◌+◌, ◌^◌, ◌++◌, ℕ, zero, suc, List, [], ◌∷◌, Bool, true, false, cond, Ok, Err, Result, refl}
 use Rattle.std.proofs.Common.{ap, sym, ◌∙◌, arith, length, take, drop, nat_lt, length-append, append_assoc}
 use Rattle.std.specs.Prelude.{◌==◌}
@@ -19,7 +19,7 @@ use Rattle.table_core.specs.declared.shape.Shape.TheVariants.{Number, Leb, Signe
 use Rattle.table_core.specs.ReadSteps.{or_trouble}
 use Rattle.table_core.proofs.Numbers.{same_value, same_left, little_from-take}
 
--- a reading took a value off the front of some bytes
+-- `f` reads the value `x` from the front of `left`, with `rest` after it.
 pub record Takes {X E : Type 0} (f : List ℕ → Result (X × List ℕ) E) (x : X) (left rest : List ℕ) : Type 0 where
   pub front : List ℕ
   pub is : left ≡ front ++ rest
@@ -78,12 +78,12 @@ trouble_local {X = X} {E = E} t f l x left rest e = step (f left) refl e where
             ∙ ap (λ (z : X). Ok (z, more)) (same_value _ _ _ _ e);
       }
 
--- what takes n bytes
+-- Reading `n` bytes
 
 behind : (n : ℕ) (left rest : List ℕ) → drop n left ≡ rest → left ≡ take n left ++ rest
 behind n left rest e = sym (take-append-drop n left) ∙ ap (λ (l : List ℕ). take n left ++ l) e
 
--- the test of the bytes in front of others
+-- The length test, for the front of longer bytes.
 not_short : (n : ℕ) (front more : List ℕ) → length front ≡ n → nat_lt (length (front ++ more)) n ≡ false
 not_short n front more e = let g = length-append front more in grind (arith, nat_tests)
 
@@ -115,7 +115,7 @@ number_local n = counted_local n (little_number n) (λ left more h.
     sym (little_from-take n 0 n (take n left ++ more) (omega arith)) ∙ ap (λ (l : List ℕ). little_number n l) (taken_again n left more h)
     ∙ little_from-take n 0 n left (omega arith))
 
--- the first byte of a kind is the first still, whatever follows
+-- The first byte that passes stays the first, whatever follows.
 first_here : (p : ℕ → Bool) (b n : ℕ) (left more : List ℕ) (t : Bool) → p b ≡ t → suc n ≡ position_or_len p (b ∷ left) + 1 →
     (n ≡ position_or_len p left + 1 → position_or_len p (take n left ++ more) + 1 ≡ n) →
     position_or_len p (take (suc n) (b ∷ left) ++ more) + 1 ≡ suc n
@@ -133,7 +133,7 @@ first_again p zero (b ∷ left) more e h = absurd (omega arith)
 first_again p (suc n) (b ∷ left) more e h =
     first_here p b n left more (p b) refl e (λ f. first_again p n left more f (omega arith))
 
--- numbers in LEB128: of n bytes, if the value fits
+-- Numbers in LEB128 of n bytes, if the value fits.
 abbrev pub leb_by : {X : Type 0} → (X → Bool) → (List ℕ → X) → ℕ → List ℕ → Result (X × List ℕ) Gap
 leb_by fits v n l = cond (nat_lt (length l) n) (Err Short) (cond (fits (v (take n l))) (Ok (v (take n l), drop n l)) (Err Wide))
 
@@ -162,7 +162,7 @@ uleb_local x left rest e = leb_step (λ n. nat_lt n (2 ^ 64)) uleb_value x (leb_
 pub sleb_local : Local sleb_at
 sleb_local x left rest e = leb_step fits_i64 sleb_value x (leb_length left) left rest _ _ refl refl refl e
 
--- texts
+-- Texts
 
 take_less : (n : ℕ) (left more : List ℕ) → n < length left → take n (take (suc n) left ++ more) ≡ take n left
 take_less zero left more h = refl
@@ -197,7 +197,7 @@ text_step x n left rest true m is e =
 pub text_local : Local text_at
 text_local x left rest e = text_step x (position_or_len (λ b. b == 0) left) left rest _ refl refl e
 
--- values of attributes
+-- Values of attributes.
 
 pub value_local : (implicit : ℕ) (shape : Shape) → Local (gap_value_at implicit shape)
 value_local implicit (Number n) = number_local n

@@ -1,4 +1,4 @@
--- Keys that maps have, with one entry more.
+-- Keys of maps, with one more entry.
 use Rattle.std.proofs.Common.{◌≡◌, ◌∙◌, ◌<◌, ℕ, zero, suc, true, cond, Some, List, [], ◌∷◌, BTreeMap, nat_cmp, refl}
 use Rattle.std.proofs.Common.{sym, ap, subst, arith, length, get_or, is_some}
 use Rattle.std.specs.Prelude.{◌==◌}
@@ -20,7 +20,7 @@ module _ {X : Type 0} (old new : BTreeMap ℕ X) (k : ℕ) (v : X)
   pub key_there : HasKey new k
   key_there = key_more old new k v is k ∙ or_right (is_some (get nat_cmp old k)) (k == k) (eq-eqb k k refl)
 
--- the offset of one of some units
+-- The abbreviation offset of one of the units.
 named_at : (q : ℕ) (ws : List Walked) (i : ℕ) (d : Walked) → i < length ws → offset_of (get_or ws i d) ≡ Some q → is_named_by q ws ≡ true
 named_at q [] i d h e = absurd (omega arith)
 named_at q (w ∷ ws) zero d h e =
@@ -31,7 +31,7 @@ pub offset_key : {X : Type 0} (m : BTreeMap ℕ X) (ws : List Walked) (i : ℕ) 
     w ≡ get_or ws i d → HasOffset m w
 offset_key m ws i d w has h is q e = has q (named_at q ws i d h (ap offset_of (sym is) ∙ e))
 
--- keys that are the offsets that units name
+-- The keys that units' abbreviation offsets are.
 offset_keys : {X : Type 0} (m : BTreeMap ℕ X) (ws : List Walked) (os : List ℕ) → HasKeys m os →
     ((q : ℕ) → list_any (λ o. o == q) os ≡ is_named_by q ws) → HasOffsets m ws
 offset_keys m ws os has named q e =

@@ -1,4 +1,4 @@
--- Names that stand once, one pair after another.
+-- Names that occur once, from one pair to the next.
 use Rattle.std.proofs.Common.{◌≡◌, ◌≢◌, ◌<◌, ◌≤◌, ◌+◌, ◌⊎◌, ⊎_elim, inl, inr, cond, nat_cmp, ℕ, zero, suc, List, [], ◌∷◌, Bool, true}
 use Rattle.std.proofs.Common.{false, not, refl, ap, sym, ◌∙◌, arith, length, drop, get_or, drop-cons, add-one}
 use Rattle.std.specs.Prelude.{◌==◌, ◌&&◌, ◌||◌}
@@ -24,7 +24,7 @@ named_end [] (suc i) h = refl
 named_end (s ∷ specs) zero h = absurd (omega arith)
 named_end (s ∷ specs) (suc i) h = named_end specs i (omega arith)
 
--- a name that stands again further on
+-- A name that occurs again further on.
 pub named_again : (specs : List Spec) (i : ℕ) (d : Spec) → i < length specs → may_repeat (get_or specs i d).name ≡ false →
     list_any (is_named (get_or specs i d).name) (drop (i + 1) specs) ≡ true → are_named_once (drop i specs) ≡ false
 named_again specs i d h once again = rw (named_step specs i d h, once, again) refl
@@ -56,7 +56,7 @@ once_step specs i d h (inr single) once = rw (named_step specs i d h, single, on
 at_key : (k q : ℕ) → is_at (nat_cmp k) q ≡ (k == q)
 at_key k q = ⊎_elim (λ (e : k ≡ q). grind (arith, common_steps)) (λ (ne : k ≢ q). grind (arith, common_steps)) (cases_eq k q)
 
--- a name among those of a set
+-- The set of known names.
 pub known_step : (specs : List Spec) (i q : ℕ) (d : Spec) (old new : Bool) → i < length specs →
     old ≡ list_any (is_named q) (drop (i + 1) specs) →
     new ≡ cond (is_at (nat_cmp (get_or specs i d).name) q) true old → new ≡ list_any (is_named q) (drop i specs)

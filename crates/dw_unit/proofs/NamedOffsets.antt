@@ -1,4 +1,4 @@
--- The offsets that headers name are those at which units have their abbreviations.
+-- The offsets in headers are the abbreviation offsets of units.
 use Rattle.std.proofs.Common.{◌≡◌, ◌∙◌, ◌<◌, ◌≤◌, ◌+◌, ⊎_elim, ℕ, zero, suc, Bool, true, false, Option, Some, None, Ok, Err}
 use Rattle.std.proofs.Common.{Result, List, [], ◌∷◌, refl, sym, ap, subst, arith, length, map}
 use Rattle.std.specs.Prelude.{◌==◌, ◌||◌, if◌then◌else◌, option_map}
@@ -21,14 +21,14 @@ use Rattle.dw_unit.specs.Faults.{HasDwarfFault, unit_fault_places, fails, is_bad
 use Rattle.dw_unit.specs.Changes.{table_offsets}
 use Rattle.dw_unit.specs.NamedOffsets.{offset_read, offset_of, is_of, is_named_by}
 
--- A sound section's units are those whose headers it has, each with a table that ends.
+-- A sound section's units are those of its headers, each with a table that ends.
 
 nothing_there : (section : List ℕ) (n size : ℕ) → table_within n size [] ≡ record { list = []; end = None }
 unfolding table_within
 nothing_there section zero size = refl
 nothing_there section (suc n) size = refl
 
--- a table that ends begins within the section
+-- A table that ends begins within the section.
 pub ends_inside : (section : List ℕ) (offset end : ℕ) → (table_at section offset).end ≡ Some end → offset < length section
 ends_inside section offset end e = ⊎_elim (λ (h : offset < length section). h)
     (λ (h : length section ≤ offset).
@@ -37,7 +37,7 @@ ends_inside section offset end e = ⊎_elim (λ (h : offset < length section). h
     ∙ nothing_there section (length section) (length section))) ∙ e in absurd (cc))
     (cases_lt offset (length section))
 
--- what a unit that can be read says of its offset
+-- A unit that can be read, and its abbreviation offset.
 record IsNamed (abbrevs : List ℕ) (w : Walked) (u : Unit) : Type 0 where
   offset : offset_of w ≡ Some u.abbrev_offset
   inside : u.abbrev_offset < length abbrevs
@@ -76,7 +76,7 @@ module _ (abbrevs : List ℕ) (test : Unit → Bool) where
   abbrev bad : Walked → Bool
   bad w = fails test (unit_of abbrevs w)
 
-  -- none of some is bad
+  -- None of the units is bad.
   none_here : (w : Walked) (ws : List Walked) → find bad (w ∷ ws) ≡ None → (bad w ≡ false) × (find bad ws ≡ None)
   none_here w ws e = step (bad w) refl e where
     step : (b : Bool) → bad w ≡ b → (if b then Some w else find bad ws) ≡ None → (bad w ≡ false) × (find bad ws ≡ None)
@@ -113,7 +113,7 @@ module _ (abbrevs : List ℕ) (test : Unit → Bool) where
       inside_by u.abbrev_offset q (is_named_by q ws) (u.abbrev_offset == q) refl r.2.inside (named_inside q ws p.1)
       (sym (ap (λ (o : Option ℕ). is_of q o || is_named_by q ws) r.2.offset) ∙ t)
 
--- The offsets of a sound file's units
+-- The abbreviation offsets of a sound file's units
 
 no_bad : (s : Sections) → IsFree (HasDwarfFault (unit_fault_places s)) → find (is_bad s) (walked 5 s.info) ≡ None
 no_bad s free = step (find (is_bad s) (walked 5 s.info)) refl where

@@ -1,4 +1,4 @@
--- `.debug_addr` with its addresses moved has the tables that it had.
+-- The changed `.debug_addr` has the tables of the old one.
 use Rattle.std.proofs.Common.{◌≡◌, ◌≤◌, ◌+◌, ◌-◌, ◌*◌, ◌/◌, ◌%◌, ◌++◌, ◌∙◌, ℕ, zero, suc, List, [], ◌∷◌, Bool, true, false, Option, Some}
 use Rattle.std.proofs.Common.{None, refl, ap, sym, subst, arith, length, take, drop, length-append, length-drop, append_assoc, unwrap_or}
 use Rattle.std.specs.Prelude.{⊤, ◌==◌, ◌&&◌, not, nat_le, if◌then◌else◌}
@@ -87,7 +87,7 @@ module _ (m : Moves) where
       let rest_is : length (drop 8 left) ≡ length left - 8 = length-drop 8 left in
       one_moved n place left e refl (all_moved n (place + 8) (drop 8 left) (omega arith))
 
--- a table's header stands in front, as it stood
+-- A table's header comes first, and is unchanged.
 next_two : (lead xs ys : List ℕ) → length lead ≡ 4 → little_number 2 (drop 2 (lead ++ xs)) ≡ little_number 2 (drop 2 (lead ++ ys))
 next_two [] xs ys e = absurd (omega arith)
 next_two (a ∷ []) xs ys e = absurd (omega arith)
@@ -106,7 +106,7 @@ whole_eights n e = let g : n % 8 ≡ 0 = grind (arith, nat_tests) in omega arith
 four_at_least : (n : ℕ) → nat_le 4 n ≡ true → 4 ≤ n
 four_at_least n e = grind (arith, nat_tests)
 
--- what is asked of a table's new bytes
+-- A table's new bytes pass the tests of a table.
 abbrev pub IsTable : Walked → Walked → List ℕ → Type 0
 IsTable w x new = is_address_table new ≡ true
 
@@ -234,7 +234,7 @@ module _ (m : Moves) where
   renewed_tables (w ∷ ws) (x ∷ xs) [] are = absurd are
   renewed_tables (w ∷ ws) (x ∷ xs) (n ∷ ns) are = (are.0.says, renewed_tables ws xs ns are.1)
 
-  -- the new section has as many bytes, and tables like those that it had
+  -- The new section has as many bytes as the old one, and its tables.
   pub record AreNewTables (addr : List ℕ) : Type 0 where
     pub size : length (changed_addr m addr) ≡ length addr
     pub good : AreGood (walked 5 (changed_addr m addr))

@@ -1,4 +1,4 @@
--- The written sections: units that can be read, each with its changes, and no fault.
+-- The written sections: their units can be read, each with its changes, and have no fault.
 use Rattle.std.proofs.Common.{◌≡◌, ◌<◌, ◌+◌, ◌^◌, ◌++◌, ◌∙◌, ℕ, List, [], ◌∷◌, Bool, true, false, Option, Some, None, Result, refl, ap}
 use Rattle.std.proofs.Common.{sym, subst, arith, length, length-append}
 use Rattle.std.specs.Prelude.{◌==◌, ◌||◌, if◌then◌else◌, flat_map, is_some, option_map}
@@ -33,14 +33,14 @@ use Rattle.dw_unit.proofs.SpelledSections.{IsSpelledAt, spelled_table}
 use Rattle.dw_unit.proofs.UnitsRead.{IsRead, unit_read, IsGoodUnit, all_read, oks_read, none_bad, zip_read}
 use Rattle.dw_unit.proofs.WholeUnits.{AreGood, AreWhole, units_whole, units_again, whole_good}
 
--- the declarations that a unit's header names
+-- The declarations of the table that a unit's header refers to.
 pub declarations_are : (abbrevs : List ℕ) (w : Walked) (u : Unit) → IsRead abbrevs w u →
     declarations_of abbrevs w ≡ (table_at abbrevs u.abbrev_offset).list
 declarations_are abbrevs w u r =
     ap (λ (o : Option (List ℕ)). named_declarations abbrevs (and_so (sound_if o) header_at)) r.is
     ∙ ap (named_declarations abbrevs) r.header
 
--- units that were read, none of another version, are good ones
+-- Units that were read, none of another version, are good.
 all_good : (abbrevs : List ℕ) (test : Unit → Bool) (ws : List Walked) (us : List Unit) → AllZip (IsGoodUnit abbrevs test) ws us →
     find (λ (w : Walked). w.is_other) ws ≡ None → AreGood ws
 all_good abbrevs test [] us z e = tt
@@ -51,7 +51,7 @@ all_good abbrevs test (w ∷ ws) (u ∷ us) z e = by_test w.is_other refl e (all
   by_test true is f ih = absurd (cc)
   by_test false is f ih = (ap is_some (unit_read abbrevs w u z.0.0).is, is, ih f)
 
--- and the other way
+-- The converse.
 good_none : (ws : List Walked) → AreGood ws → find (λ (w : Walked). w.is_other) ws ≡ None
 good_none [] g = refl
 good_none (w ∷ ws) g = ap (λ (b : Bool). if b then Some w else find (λ (w : Walked). w.is_other) ws) g.1 ∙ good_none ws g.2
@@ -71,7 +71,7 @@ table_bytes_good (w ∷ ws) t e = by_test w.is_other refl e (table_bytes_good ws
   by_test true is f ih = absurd (cc)
   by_test false is f ih = (some_bytes w.bytes t.0, is, ih f)
 
--- What it says of sections that they have no fault.
+-- What follows if the sections have no fault.
 
 module _ (s : Sections) (free : IsFree (HasDwarfFault (unit_fault_places s))) where
   none : AreAbsent (unit_fault_places s)
@@ -110,11 +110,11 @@ module _ (s : Sections) (free : IsFree (HasDwarfFault (unit_fault_places s))) wh
       (no_first (λ (w : Walked). w.is_other) (walked 5 s.addr) (both_none (other_version 5 s.info)
       (other_version 5 s.addr) none.version).1)
 
-  -- all units can be read
+  -- All units can be read.
   pub all_can_read : AllRead s.abbrevs (walked 5 s.info)
   all_can_read = zip_read s.abbrevs (is_sound_unit s.addr) (walked 5 s.info) (units s) sound_units
 
--- Units lie one behind another.
+-- Units follow one another.
 behind_all : (place : ℕ) (ws : List Walked) (left : List ℕ) (end : ℕ) → AreWhole place ws left → end ≡ place + length left →
     AreBehind place end ws
 behind_all place [] left end whole e = let g = ap length whole in omega arith
@@ -189,7 +189,7 @@ module _ (s : Sections) (m : Moves) (small : AreSmall m) (free : IsFree (HasDwar
   abbrev abbrevs : List ℕ
   abbrevs = changed_abbrevs s
 
-  -- what is read of the new units
+  -- The result of reading the new units.
   record AreReadNew (ws : List Walked) (us : List Unit) : Type 0 where
     list : List Unit
     good : AllZip (IsGoodUnit abbrevs (is_sound_unit new_addr)) ws list

@@ -1,4 +1,4 @@
--- A unit of the written file: its bytes, and what is read of them.
+-- A unit of the written file: its bytes, and the result of reading them.
 use Rattle.std.proofs.Common.{◌≡◌, ◌≢◌, ◌<◌, ◌≤◌, ◌+◌, ◌-◌, ◌^◌, ◌++◌, ◌∙◌, ℕ, List, [], ◌∷◌, Bool, false, Option, Some, Ok, refl, ap}
 use Rattle.std.proofs.Common.{sym, subst, arith, length, length-append, append_assoc}
 use Rattle.std.specs.Prelude.{◌==◌, flat_map, Contains}
@@ -33,7 +33,7 @@ use Rattle.dw_unit.proofs.Spelled.{AreChangedDeclarations, bytes_of_table, CanSp
 use Rattle.dw_unit.proofs.SpelledSections.{IsSpelledAt}
 use Rattle.dw_unit.proofs.UnitsRead.{IsRead, unit_again}
 
--- what is read of a unit's new bytes
+-- The result of reading a unit's new bytes.
 pub record IsNewUnit (s : Sections) (m : Moves) (w : Walked) (u : Unit) (new : List ℕ) : Type 0 where
   pub unit : Unit
   pub reads : unit_of (changed_abbrevs s) (renewed w new) ≡ Ok unit
@@ -202,7 +202,7 @@ module _ (s : Sections) (m : Moves) (small : AreSmall m) (w : Walked) (u : Unit)
     },
   )
 
--- Entries, with the bytes of the values that stay
+-- Entries, with the bytes of the values that don't change
 
 not_high : (n : ℕ) → n ≢ DW_AT_high_pc → (n == DW_AT_high_pc) ≡ false
 not_high n ne = grind (arith, nat_tests)

@@ -1,4 +1,4 @@
--- What it says that some sections have no fault.
+-- What follows if sections have no fault.
 use Rattle.std.proofs.Common.{◌≡◌, ◌∙◌, ◌<◌, ◌++◌, ℕ, zero, suc, List, [], ◌∷◌, Bool, true, false, Option, Some, None, refl, ap}
 use Rattle.std.proofs.Common.{arith, length, get_or, map}
 use Rattle.std.proofs.lemmas.Bool.{or_parts}
@@ -12,7 +12,7 @@ use Rattle.table_core.specs.DebugUnits.{Walked, first_place}
 use Rattle.dw_unit.specs.Declarations.{Declaration}
 use Rattle.dw_unit.specs.Faults.{HasDwarfFault, FaultPlaces, places_with}
 
--- each place is absent
+-- Each place is missing.
 pub record AreAbsent (p : FaultPlaces) : Type 0 where
   pub version : p.version ≡ None
   pub form : p.form ≡ None
@@ -44,7 +44,7 @@ least_some n (Some k) e = by_test (nat_le n k) e where
   by_test true f = cc
   by_test false f = cc
 
--- no least place, no place
+-- If a list has no least element, it is empty.
 pub none_least : (ns : List ℕ) → least ns ≡ None → ns ≡ []
 none_least [] e = refl
 none_least (n ∷ ns) e = absurd (least_some n (least ns) e)
@@ -53,7 +53,7 @@ pub both_nil : (xs ys : List ℕ) → xs ++ ys ≡ [] → (xs ≡ []) × (ys ≡
 both_nil [] ys e = (refl, e)
 both_nil (x ∷ xs) ys e = absurd (cc)
 
--- no place with a test, nothing that passes it
+-- If no declaration is listed for a test, none passes it.
 pub none_with : (test : Declaration → Bool) (ds : List Declaration) → places_with test ds ≡ [] → list_any test ds ≡ false
 none_with test [] e = refl
 none_with test (d ∷ ds) e = by_test (test d) e (none_with test ds) where
@@ -86,7 +86,7 @@ any_joined test (x ∷ xs) ys e f =
     let p = or_parts (test x) (list_any test xs) e in
     ap (λ (b : Bool). b || list_any test (xs ++ ys)) p.0 ∙ any_joined test xs ys p.1 f
 
--- of each unit's declarations
+-- For each unit's declarations.
 module _ (test : Declaration → Bool) (of : Walked → List Declaration) where
   abbrev pub NoneOf : List Walked → Type 0
   NoneOf [] = ⊤
@@ -105,7 +105,7 @@ module _ (test : Declaration → Bool) (of : Walked → List Declaration) where
   of_none [] n = refl
   of_none (w ∷ ws) n = any_joined test (of w) (flat_map of ws) n.0 (of_none ws n.1)
 
--- no first unit with a property
+-- If no unit is the first with a property, none has it.
 pub no_first : (test : Walked → Bool) (ws : List Walked) → first_place test ws ≡ None → find test ws ≡ None
 no_first test ws e = step (find test ws) e where
   step : (o : Option Walked) → option_map (λ (u : Walked). u.place) o ≡ None → o ≡ None

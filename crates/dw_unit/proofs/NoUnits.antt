@@ -1,4 +1,4 @@
--- A file that has neither units nor tables of addresses: nothing of them changes.
+-- A file that has neither units nor address tables doesn't change.
 use Rattle.std.proofs.Common.{◌≡◌, ◌∙◌, ℕ, List, [], ◌∷◌, false, refl, ap, sym, subst, length}
 use Rattle.std.specs.Prelude.{codes, filter, flat_map}
 use Rattle.std.specs.List.{AllZip, range_with_len}
@@ -17,7 +17,7 @@ use Rattle.dw_unit.specs.Tables.{AreNewUnits, sections_of}
 use Rattle.dw_unit.proofs.CallEndsOf.{call_end_is, call_end_of, no_call_end}
 use Rattle.dw_unit.proofs.NoFaults.{free_of}
 
--- sections with declarations alone
+-- Sections that only have declarations.
 abbrev declared_alone : List ℕ → Sections
 declared_alone abbrevs = record { info = []; abbrevs = abbrevs; addr = [] }
 

@@ -88,7 +88,7 @@ module _ (own : Bool) (d : Declaration) where
       (absent n ss r p.1 (λ e. (or_parts (s.name == 18) (named 18 ss) (high e)).1)
       (λ e f. (or_parts (s.name == 17) (named 17 ss) (low e f)).1))
 
-  -- high addresses have no ranges beside them
+  -- No declaration has a high address and ranges.
   module _ (apart : has_spec 18 d ≡ true → has_spec 85 d ≡ false) where
     abbrev pub Within : List Spec → Type 0
     Within ss = (n : ℕ) → named n d.specs ≡ false → named n ss ≡ false
@@ -150,7 +150,7 @@ module _ (own : Bool) (d : Declaration) where
         head_once s ss (flat_map (changed_spec own d) ss) within p.0 refl
         (named_once ss (λ n f. (or_parts (s.name == n) (named n ss) (within n f)).1) p.1) (s.name == 18) refl
 
--- Names stay single.
+-- No name comes twice after the change, if none did before.
 pub names_stay_single : (own : Bool) (d : Declaration) → (has_spec 18 d ≡ true → has_spec 85 d ≡ false) → are_named_once d.specs ≡ true →
     are_named_once (changed_specs own d) ≡ true
 names_stay_single own d apart e = named_once own d apart d.specs (λ n f. f) e

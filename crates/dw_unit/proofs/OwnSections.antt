@@ -1,4 +1,4 @@
--- Declarations that units' own entries have.
+-- The declarations of units' own entries.
 use Rattle.std.proofs.Common.{◌≡◌, ◌∙◌, ℕ, List, ap, sym, is_some, nat_cmp}
 use Rattle.std.specs.BTreeMap.{get}
 use Rattle.table_core.specs.DebugUnits.{Walked, walked}

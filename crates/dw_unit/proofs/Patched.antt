@@ -7,7 +7,7 @@ use Rattle.std.proofs.lemmas.List.{take_at, drop-drop}
 use Rattle.std.proofs.Math.Seq.{take-append-add, drop-append-add}
 use Rattle.dw_unit.specs.Changes.{Patch, patched}
 
--- the first of some patches stands at a place or behind it
+-- The first patch is at offset `from` or after it.
 abbrev pub From : ℕ → List Patch → Type 0
 From k [] = Unit {0}
 From k (p ∷ ps) = k ≤ p.place
@@ -16,7 +16,7 @@ pub from_less : (k j : ℕ) (ps : List Patch) → j ≤ k → From k ps → From
 from_less k j [] h f = f
 from_less k j (p ∷ ps) h f = omega arith
 
--- bytes in front of all patches stay
+-- Bytes before all patches stay.
 pub patched-behind : (from to : ℕ) (front rest : List ℕ) (ps : List Patch) → to ≡ from + length front → From to ps →
     patched from ps (front ++ rest) ≡ front ++ patched to ps rest
 patched-behind from to front rest [] e f = refl
@@ -34,7 +34,7 @@ patched-behind from to front rest (p ∷ ps) e f =
     ∙ append_assoc front (take (p.place - to) rest) (p.bytes ++ patched (p.place + length p.bytes) ps
     (drop (p.place - to + length p.bytes) rest))
 
--- a patch over the bytes behind some others
+-- One more patch, over the bytes after some others.
 pub patched-over : (from to : ℕ) (lead body rest : List ℕ) (p : Patch) (ps : List Patch) → p.place ≡ from + length lead →
     length p.bytes ≡ length body → to ≡ p.place + length p.bytes →
     patched from (p ∷ ps) (lead ++ (body ++ rest)) ≡ lead ++ (p.bytes ++ patched to ps rest)
@@ -54,7 +54,7 @@ patched-over from to lead body rest p ps e size is =
       dropped [] rest = refl
       dropped (b ∷ body) rest = dropped body rest
 
--- the lowest bytes of a number are the first of more of them
+-- The low bytes of a number begin the longer encoding.
 bytes-take : (i n m x : ℕ) → n ≤ m → take n (bytes_low_first i m x) ≡ bytes_low_first i n x
 bytes-take i zero m x h = refl
 bytes-take i (suc n) zero x h = absurd (omega arith)
@@ -63,7 +63,7 @@ bytes-take i (suc n) (suc m) x h = ap (λ (l : List ℕ). byte_at i x ∷ l) (by
 pub lowest_bytes : (n x : ℕ) → n ≤ 8 → take n (little_bytes 8 x) ≡ little_bytes n x
 lowest_bytes n x h = bytes-take 0 n 8 x h
 
--- what was put so far, and what patches make of the bytes behind
+-- The bytes written so far, and the patched bytes after them.
 pub patch_put : (old new kept bytes all : List ℕ) (from place len : ℕ) (ps : List Patch) → new ≡ (old ++ kept) ++ bytes →
     kept ≡ take (place - from) (drop from all) →
     length bytes ≡ len → from ≤ place →

@@ -1,4 +1,4 @@
--- Attributes that are read stand one behind another.
+-- Attributes that are read follow one another.
 use Rattle.std.proofs.Common.{◌≡◌, ◌≤◌, ◌+◌, ◌-◌, ◌++◌, ◌∙◌, ℕ, List, [], ◌∷◌, Ok, Err, refl, ap, sym, subst, arith, length, length-append}
 use Rattle.table_core.specs.AttributeForms.{shape_of}
 use Rattle.table_core.proofs.Numbers.{same_value, same_left}

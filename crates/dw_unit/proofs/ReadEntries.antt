@@ -1,4 +1,4 @@
--- Entries that were read: each by its declaration, from some bytes.
+-- Entries that were read: the bytes of each, and its declaration.
 use Rattle.std.proofs.Common.{◌≡◌, ◌-◌, ℕ, zero, suc, List, [], ◌∷◌, Bool, true, false, Ok, Err, Result, refl, ap, subst, length}
 use Rattle.std.specs.Prelude.{◌==◌, if◌then◌else◌}
 use Rattle.rb_bytes.specs.declared.gap.Gap.{Gap}

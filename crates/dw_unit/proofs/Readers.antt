@@ -1,4 +1,4 @@
--- Readers of declarations and attributes go forward, and take what stands at the front whatever follows.
+-- Reading declarations and attributes goes forward, and gives the same result whatever bytes of the same number follow.
 use Rattle.std.proofs.Common.{◌≡◌, ◌<◌, ◌≤◌, ◌+◌, ◌-◌, ◌++◌, ℕ, zero, suc, List, [], ◌∷◌, Option, Some, None, Ok, Err, Result, refl, ap}
 use Rattle.std.proofs.Common.{sym, ◌∙◌, arith, length, length-append, append_assoc}
 use Rattle.std.specs.Prelude.{◌==◌, ◌&&◌, if◌then◌else◌, nat_lt}
@@ -28,7 +28,7 @@ pub takes_less : {X E : Type 0} {f : List ℕ → Result (X × List ℕ) E} {x :
     length rest ≤ length left
 takes_less {f = f} {left = left} {rest = rest} t = let g = ap length t.is ∙ length-append t.front rest in omega arith
 
--- a number in LEB128, and then what may take nothing
+-- A number in LEB128, and then a reading that may take no bytes.
 leb_then : {Y : Type 0} (g : ℕ → List ℕ → Result (Y × List ℕ) Trouble) → ((x : ℕ) → Local (g x)) → (left rest : List ℕ) (y : Y) →
     and_then (whole (uleb_at left)) g ≡ Ok (y, rest) → length rest < length left
 leb_then {Y = Y} g l left rest y e = step (uleb_at left) refl e where
@@ -39,7 +39,7 @@ leb_then {Y = Y} g l left rest y e = step (uleb_at left) refl e where
       let more : length rest ≤ length read.1 = takes_less (l read.0 y read.1 rest e) in
       omega arith
 
--- pairs
+-- Pairs.
 
 implicit_local : (form : ℕ) → Local (implicit_at form)
 implicit_local form = cond_local (form == 33) (value_at Unsound 0 SignedLeb) (λ left. Ok (0, left))
@@ -117,7 +117,7 @@ specs_end xs left rest e = ap (with_front xs) (specs_step left (Ok (None, rest))
 pub specs_trouble : (xs : List Spec) (left : List ℕ) (t : Trouble) → spec_at left ≡ Err t → with_front xs (specs_at left) ≡ Err t
 specs_trouble xs left t e = ap (with_front xs) (specs_step left (Err t) e)
 
--- at just so many bytes
+-- The same result for as many other bytes after it.
 specs_within-local : (n : ℕ) → Local (specs_within n)
 unfolding specs_within
 specs_within-local zero = err_local Unsound
@@ -138,7 +138,7 @@ specs_local specs left rest e =
           ap (λ (n : ℕ). specs_within n (t.front ++ more)) long ∙ t.takes more h;
     }
 
--- declarations
+-- Declarations.
 
 pub declaration_local : (place code : ℕ) → Local (declaration_at place code)
 declaration_local place code =
@@ -171,7 +171,7 @@ pub declaration_forward : (place : ℕ) (left rest : List ℕ) (o : Option Decla
     length rest < length left
 declaration_forward place left rest o e = leb_then (declaration_or_end place) (declaration_or_end-local place) left rest o e
 
--- tables
+-- Tables.
 
 table_same : (n m size : ℕ) (left : List ℕ) (found : Read (Option Declaration)) → next_declaration (size - length left) left ≡ found →
     ((rest : List ℕ) → length rest < length left → table_within n size rest ≡ table_within m size rest) →
@@ -202,7 +202,7 @@ table_step size (b ∷ left) found e =
     (λ rest s. table_enough (length left) (length (b ∷ left)) size rest (omega arith) (omega arith))
     ∙ ap (table_behind (table_within (length (b ∷ left)) size) size) e
 
--- attributes
+-- Attributes.
 
 pub attr_less : (end d : ℕ) (s : Spec) (l1 l2 : List ℕ) (a : Attr) → attr_at end d s l1 ≡ Ok (a, l2) → length l2 ≤ length l1
 attr_less end d s l1 l2 a e =
@@ -211,7 +211,7 @@ attr_less end d s l1 l2 a e =
     ap length i.is ∙ length-append i.lead (i.body ++ l2) ∙ ap (λ (n : ℕ). length i.lead + n) (length-append i.body l2) in
     omega arith
 
--- one declaration more
+-- One more declaration.
 
 pub table_more : (ds : List Declaration) (d : Declaration) (size : ℕ) (left rest : List ℕ) →
     next_declaration (size - length left) left ≡ Ok (Some d, rest) →
@@ -241,7 +241,7 @@ pub table_starts : (section : List ℕ) (offset : ℕ) → with_before []
 table_starts section offset = table_enough (length (drop offset section)) (length section) (length section) (drop offset section)
     (omega arith) (let g = length-drop offset section in omega arith)
 
--- one attribute more
+-- One more attribute.
 
 abbrev pub after_attr : Attr → Read (List Attr) → Read (List Attr)
 after_attr a r = and_then r (λ attrs rest. Ok (a ∷ attrs, rest))

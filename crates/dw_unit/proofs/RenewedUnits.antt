@@ -14,7 +14,7 @@ use Rattle.dw_unit.proofs.WholeUnits.{IsWhole, AreWhole}
 abbrev pub renewed : Walked → List ℕ → Walked
 renewed w new = record { place = w.place; bytes = Some new; is_other = false }
 
--- what patches make of a unit's bytes behind its length
+-- The bytes of a unit after its length, with patches.
 pub record IsRenewed (w : Walked) (ps : List Patch) (bytes new : List ℕ) : Type 0 where
   pub size : length new ≡ length bytes
   pub version : little_number 2 new ≡ little_number 2 bytes
@@ -22,7 +22,7 @@ pub record IsRenewed (w : Walked) (ps : List Patch) (bytes new : List ℕ) : Typ
   pub are : (lead after : List ℕ) (qs : List Patch) → length lead ≡ 4 → From (end_of w) qs →
       patched w.place (ps ++ qs) ((lead ++ bytes) ++ after) ≡ (lead ++ new) ++ patched (end_of w) qs after
 
--- units, what each is, and its new bytes
+-- The units, a value for each, and its new bytes.
 module _ {X : Type 0} (ps : X → List Patch) (P : Walked → X → List ℕ → Type 0) where
   pub record IsNew (w : Walked) (x : X) (new : List ℕ) : Type 0 where
     pub renewal : (bytes : List ℕ) → w.bytes ≡ Some bytes → IsRenewed w (ps x) bytes new
@@ -107,7 +107,7 @@ module _ {X : Type 0} (ps : X → List Patch) (P : Walked → X → List ℕ →
         );
       }
 
--- Values that stay, from a unit's bytes to those of the section.
+-- Values that don't change, from a unit's bytes to the bytes of the section.
 module _ {X : Type 0} (ps : X → List Patch) (P : Walked → X → List ℕ → Type 0) where
   abbrev pub IsStaying : Walked → List ℕ → Attr → Type 0
   IsStaying w new a = (bytes : List ℕ) → w.bytes ≡ Some bytes → IsSameAt (w.place + 4) a bytes new

@@ -34,8 +34,8 @@ use Rattle.dw_unit.specs.declared.trouble.Trouble.TheVariants.{NoForm}
 use Rattle.dw_unit.specs.declared.attribute.TheConstants.{DW_AT_high_pc, DW_AT_ranges, DW_AT_unused_high}
 use Rattle.dw_unit.proofs.Patched.{From, from_less, patched-behind, patched-over}
 
--- The bytes left, with patches over those in front of the rest: what they are then, and what is read of them. The values of
--- some attributes stay as they are.
+-- Patched bytes: the patches are over the bytes before `rest`, and reading the new bytes gives `attrs`. The values of attributes that
+-- satisfy `Stays` don't change.
 pub record IsRewritten (Stays : Attr → Type 0) (end : ℕ) (specs : List Spec) (attrs : List Attr) (ps : List Patch)
     (left rest : List ℕ) : Type 0 where
   pub front : List ℕ
@@ -64,7 +64,7 @@ stays_less P Q end specs attrs ps left rest f r = record {
   patches = r.patches;
 }
 
--- attributes one after another
+-- Attributes one after another.
 
 attrs_last : (end c : ℕ) (specs more : List Spec) (attrs next : List Attr) (a : Attr) (l1 left1 rest : List ℕ)
     (found : Read (List Attr)) →
@@ -145,7 +145,7 @@ attr_is name form value p q l m more e f =
     ap (λ (p : ℕ). Ok (record { name = name; form = form; place = p; len = l; value = value }, more)) e
     ∙ ap (λ (l : ℕ). Ok (record { name = name; form = form; place = q; len = l; value = value }, more)) f
 
--- An attribute that stays, but for its name.
+-- An attribute that keeps its value; its name may change.
 pub kept_rewritten : (end name : ℕ) (s : Spec) (a : Attr) (left rest : List ℕ) → length left ≤ end → IsAttr end s a left rest →
     IsRewritten (λ x. x ≡ a) end (record { name = name; form = s.form; implicit = s.implicit } ∷ [])
     (record { name = name; form = a.form; place = a.place; len = a.len; value = a.value } ∷ []) [] left rest
@@ -197,7 +197,7 @@ kept_rewritten end name s a left rest h i =
             len = i.len;
           }
 
--- bytes that are a number
+-- Bytes that are the number `v` of `n` bytes.
 pub record IsNumber (n v : ℕ) (bytes : List ℕ) : Type 0 where
   pub size : length bytes ≡ n
   pub reads : (more : List ℕ) → number_read n (bytes ++ more) ≡ Ok (v, more)
@@ -245,7 +245,7 @@ number_len end n s a left rest i is =
     sym (ap (λ (k : Shape). gap_value_at s.implicit k (i.body ++ rest)) shape_is) ∙ i.value rest refl in
     i.len ∙ number_size n a.value i.body rest old
 
--- An attribute whose number is written anew.
+-- An attribute whose number is rewritten.
 pub number_rewritten : (end name n v : ℕ) (s : Spec) (a : Attr) (left rest bytes : List ℕ) → length left ≤ end →
     IsAttr end s a left rest →
     shape_of a.form ≡ Some (Number n) → IsNumber n v bytes →
@@ -289,7 +289,7 @@ number_rewritten end name n v s a left rest bytes h i is w =
           ∙ sym (append_assoc i.lead bytes (patched (end - length rest) qs (rest ++ after)));
     }
 
--- A number at the front, of a form that doesn't stand there.
+-- A number at the front, of a form that isn't after DW_FORM_indirect.
 front_rewritten : (end name form n v place : ℕ) (body rest bytes : List ℕ) → length (body ++ rest) ≤ end →
     ((c : ℕ) (left : List ℕ) → form_at c form left ≡ Ok (form, left)) → shape_of form ≡ Some (Number n) → IsNumber n v bytes →
     length body ≡ n → place ≡ end - length (body ++ rest) →
@@ -319,7 +319,7 @@ front_rewritten end name form n v place body rest bytes h formed shaped w body_i
           (record { place = place; bytes = bytes }) qs (omega arith) (omega arith) (omega arith);
     }
 
--- no form stands before a value whose form isn't the indirect one
+-- The bytes before a value are empty, unless the form is DW_FORM_indirect.
 lead_none : (form x : ℕ) (lead more : List ℕ) → (form == 22) ≡ false → form_at 0 form (lead ++ more) ≡ Ok (x, more) → lead ≡ []
 lead_none form x lead more direct e =
     step (is_form form) (ap (λ (b : Bool). if b then form_within (length (lead ++ more)) 0 (lead ++ more) else
@@ -339,7 +339,7 @@ direct_form form x lead more direct e =
       step false e = absurd (cc)
       step true e = same_value _ _ _ _ e
 
--- A high address of n bytes in the entry.
+-- A high address of `n` bytes in the entry.
 pub record IsHigh (n end : ℕ) (a : Attr) (left rest : List ℕ) : Type 0 where
   pub body : List ℕ
   pub is : left ≡ body ++ rest
@@ -410,8 +410,8 @@ high8_rewritten end v a left rest bytes zeros h i w z =
     (front_rewritten end DW_AT_unused_high 6 4 0 (a.place + 4) second rest zeros (omega arith) (λ c left. refl) refl z second_is
     (omega arith))))
 
--- What is asked of an attribute for its change to be read back. A high address is a number of the entry's, and
--- new numbers fit.
+-- The conditions under which the change of an attribute is read back: a high address is a number in the entry, and new numbers fit in their
+-- bytes.
 pub record IsChangeable (m : Moves) (own first : Bool) (e : Entry) (s : Spec) (a : Attr) : Type 0 where
   pub high : (s.name == DW_AT_high_pc) ≡ true → (s.form ≡ 6) ⊎ ((s.form ≡ 7) ⊎ (s.form ≡ 1))
   pub fits : (v : ℕ) → new_value m own first e a ≡ Some v → v < 256 ^ a.len
@@ -434,7 +434,7 @@ module _ (m : Moves) (own first : Bool) (e : Entry) (s : Spec) (a : Attr) where
   abbrev pub patch_by : Bool → Option ℕ → List Patch
   patch_by b nv = if b || is_some nv then map number_patch (attr_by b nv) else []
 
-  -- a number that gets another is one of eight bytes or of four
+  -- A number that changes has eight bytes or four.
   of_size : (end n : ℕ) (left rest : List ℕ) → IsAttr end s a left rest → shape_of a.form ≡ Some (Number n) →
       shape_of a.form ≡ Some (Number a.len)
   of_size end n left rest i is = is ∙ ap (λ (k : ℕ). Some (Number k)) (sym (number_len end n s a left rest i is))
@@ -518,7 +518,7 @@ module _ (m : Moves) (own first : Bool) (e : Entry) (s : Spec) (a : Attr) where
       (attrs (record { name = x; form = a.form; place = a.place; len = a.len; value = value } ∷ [])) left rest)
       (sym (ap (λ (n : ℕ). new_name own e.declaration n) c)) r
 
-  -- what isn't written anew stays
+  -- A value that isn't rewritten stays.
   abbrev pub StaysOf : Bool → Option ℕ → Attr → Type 0
   StaysOf b nv x = (x ≡ a) × (b ≡ false) × (nv ≡ None)
 

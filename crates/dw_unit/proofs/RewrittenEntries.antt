@@ -46,7 +46,7 @@ none_rewritten P end left none = record {
   patches = λ after qs f. refl;
 }
 
--- an attribute among some whose value isn't written anew
+-- An attribute of these whose value isn't rewritten.
 abbrev pub StaysIn : (m : Moves) (own first : Bool) (e : Entry) → List Attr → Attr → Type 0
 StaysIn m own first e attrs a = Contains attrs a × (((a.name == DW_AT_high_pc) ≡ false) × (new_value m own first e a ≡ None))
 
@@ -118,7 +118,7 @@ module _ (m : Moves) (own first : Bool) (e : Entry) (end d : ℕ) where
 
 -- Entries
 
--- an entry before and after, by whether a unit's own entry has its declaration, and whether it is such an entry
+-- An entry before and after the change; `own` says which declarations own entries have, and `first` which entries are own ones.
 pub record IsChanged (m : Moves) (own : Declaration → Bool) (first : Entry → Bool) (old new : Entry) : Type 0 where
   pub place : new.place ≡ old.place
   pub unit : new.unit ≡ old.unit
@@ -126,7 +126,7 @@ pub record IsChanged (m : Moves) (own : Declaration → Bool) (first : Entry →
   pub tag : new.declaration.tag ≡ old.declaration.tag
   pub attrs : new.attrs ≡ changed_attrs m (own old.declaration) (first old) old
 
--- what a declaration became
+-- The changed declaration of a code.
 pub record IsDeclaredAs (own : Declaration → Bool) (table : Table) (code : ℕ) (d : Declaration) : Type 0 where
   pub new : Declaration
   pub is : declaration_of table code ≡ Ok new
@@ -173,7 +173,7 @@ module _ (m : Moves) (own : Declaration → Bool) (first : Entry → Bool) (plac
     pub stay : (e : Entry) (a : Attr) → Contains old e → StaysIn m (own e.declaration) (first e) e e.attrs a →
         IsSameAt (end - length left) a left bytes
 
-  -- what stands behind a code
+  -- Reading after a code.
   read_code : (n depth code : ℕ) (front more : List ℕ) (r : Result (List Entry) Trouble) → 0 < length front →
       uleb_at (front ++ more) ≡ Ok (code, more) →
       entry_behind new_unit (entries_within new_unit n) (end - length (front ++ more)) depth code more ≡ r →
@@ -202,7 +202,7 @@ module _ (m : Moves) (own : Declaration → Bool) (first : Entry → Bool) (plac
   or_none (Ok es) = es
   or_none (Err t) = []
 
-  -- one entry, and those behind it
+  -- One entry, and those after it.
   entry_done : (n depth code : ℕ) (left l1 l2 : List ℕ) (d : Declaration) (attrs : List Attr) (es : List Entry) → length left ≤ end →
       Takes uleb_at code left l1 → length l1 < length left → (code == 0) ≡ false → declaration_of table code ≡ Ok d →
       attrs_at end d.place d.specs l1 ≡ Ok (attrs, l2) → length l2 ≤ length l1 →
@@ -301,7 +301,7 @@ module _ (m : Moves) (own : Declaration → Bool) (first : Entry → Bool) (plac
   declaration_step n depth code left l1 old (Ok d) h f shorter coded ih fewer is e c =
       attrs_step n depth code left l1 d old (attrs_at end d.place d.specs l1) h f shorter coded is ih (fewer d) refl e c
 
-  -- the end of the children of an entry
+  -- The end of the children of an entry.
   end_done : (n depth code : ℕ) (left l1 : List ℕ) (old : List Entry) → length left ≤ end → Takes uleb_at code left l1 →
       length l1 < length left →
       (code == 0) ≡ true → AreReadBack n (depth - 1) old l1 → AreReadBack (suc n) depth old left

@@ -15,7 +15,7 @@ use Rattle.dw_unit.proofs.Entries.{attrs_less}
 use Rattle.dw_unit.proofs.RewrittenEntries.{IsDeclaredAs, CanAll, AreReadBack, entries_rewritten}
 use Rattle.dw_unit.proofs.Spelled.{bytes_of_table, CanSpellAll, IsTableRead, table_read, IsFound, found}
 
--- the table that is spelled behind some bytes and in front of others
+-- The table that is spelled between other bytes.
 pub spelled_at : (own : Declaration → Bool) (ds : List Declaration) (before rest : List ℕ) (end : ℕ) (list : List Declaration) →
     table_within (length (bytes_of_table own ds ++ (0 ∷ rest))) (length (before ++ (bytes_of_table own ds ++ (0 ∷ rest))))
     (bytes_of_table own ds ++ (0 ∷ rest))
@@ -28,7 +28,7 @@ spelled_at own ds before rest end list e =
     ap (λ (l : List ℕ). table_within size size l) (drop_at before here (length before) refl)
     ∙ table_enough size (length here) size here (omega arith) (omega arith) ∙ e
 
--- a declaration with a high address has no ranges beside it, as it would be a fault
+-- A declaration has no high address beside ranges, which would be a fault.
 abbrev pub AreApart : Table → Type 0
 AreApart table = (code : ℕ) (d : Declaration) → declared table code ≡ Some d → has_spec 18 d ≡ true → has_spec 85 d ≡ false
 
@@ -67,7 +67,7 @@ module _ (own : Declaration → Bool) where
       let p = named (are_named_once x.specs) x d e in
       declared_as code d x table.list new end new_table t (f x is) (names_stay_single (own x) x (apart code x is) p.0) p.1
 
-  -- Each code means the changed declaration of what it meant.
+  -- Each code means the changed declaration of its old one.
   pub tables_read : (table : Table) (before rest : List ℕ) → CanSpellAll own table.list → AreApart table → (code : ℕ) (d : Declaration) →
       declaration_of table code ≡ Ok d →
       IsDeclaredAs own (table_at (before ++ (bytes_of_table own table.list ++ (0 ∷ rest))) (length before)) code d
@@ -79,7 +79,7 @@ module _ (own : Declaration → Bool) where
       (spelled_at own table.list before rest (length section - length rest) r.new r.is)
       (λ x h. found own code x table.list r.new r.changed h) apart
 
--- The entries of a unit, changed in place, are read back over the changed table, one by one, with just their changes.
+-- The entries of a unit that is changed in place are read back with the changed table, one by one, with exactly their changes.
 module _ (m : Moves) (own : Declaration → Bool) (first : Entry → Bool)
     (place end : ℕ) (table : Table) (before rest : List ℕ) (can : CanSpellAll own table.list) (apart : AreApart table) where
   abbrev pub new_table : Table

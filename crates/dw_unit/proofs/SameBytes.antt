@@ -1,10 +1,10 @@
--- Values whose bytes stay where they stand.
+-- Values whose bytes stay, at the same offset.
 use Rattle.std.proofs.Common.{◌≡◌, ◌+◌, ◌++◌, ℕ, List, ap, sym, ◌∙◌, arith, length, take, drop, length-append, append_assoc}
 use Rattle.std.proofs.lemmas.List.{take_at, drop_at}
 use Rattle.dw_unit.specs.declared.entry.Attr.{Attr}
 use Rattle.dw_unit.specs.CompUnits.{value_bytes}
 
--- two lists of bytes that begin at a place have the same value of an attribute
+-- Two lists of bytes that begin at `from` have the same value of an attribute.
 pub record IsSameAt (from : ℕ) (a : Attr) (old new : List ℕ) : Type 0 where
   pub old_front : List ℕ
   pub new_front : List ℕ
@@ -37,7 +37,7 @@ same_behind from to a p q old new e f s =
       len = s.len;
     }
 
--- whatever stands behind
+-- With any bytes after them.
 pub same_before : (from : ℕ) (a : Attr) (old new x y : List ℕ) → IsSameAt from a old new → IsSameAt from a (old ++ x) (new ++ y)
 same_before from a old new x y s = record {
   old_front = s.old_front;

@@ -1,4 +1,4 @@
--- Moves of addresses of 64 bits to such, and lists at offsets of 32.
+-- Moves between addresses of 64 bits, and lists at offsets of 32 bits.
 use Rattle.std.proofs.Common.{◌≡◌, ◌<◌, ◌^◌, ℕ, List, Option, Some, None, All, refl, subst, option_map}
 use Rattle.std.proofs.lemmas.Option.{same_Some}
 use Rattle.std.proofs.lemmas.List.Elements.{All-contains}

@@ -1,4 +1,4 @@
--- What is sound stays sound when it is changed in place.
+-- Sound units stay sound when they are changed in place.
 use Rattle.std.proofs.Common.{◌≡◌, ◌+◌, ◌*◌, ◌∙◌, ◌++◌, ℕ, List, [], ◌∷◌, Bool, true, false, Option, Some, None, refl, ap, sym, subst}
 use Rattle.std.proofs.Common.{arith, drop, length, unwrap_or}
 use Rattle.std.specs.Prelude.{◌==◌, ◌&&◌, ◌||◌, not, nat_le, if◌then◌else◌, flat_map, is_some, option_map, option_and_then}
@@ -25,7 +25,7 @@ and_first : (a b c : Bool) → (a && b && c) ≡ true → a ≡ true
 and_first true b c e = refl
 and_first false b c e = absurd (cc)
 
--- Names that no change gives nor takes away
+-- Names that no change adds or removes.
 pub record IsSteady (k : ℕ) : Type 0 where
   pub entry : (82 == k) ≡ false
   pub unused_low : (16145 == k) ≡ false
@@ -113,7 +113,7 @@ module _ (m : Moves) (own first : Bool) (e : Entry) where
       if b then new_address m own e (record { name = n; form = a.form; place = a.place; len = a.len; value = a.value })
       else (if c then new_list m first e (record { name = n; form = a.form; place = a.place; len = a.len; value = a.value }) else None)
 
-  -- the base of addresses stays
+  -- The base of addresses doesn't change.
   base_kept : (a : Attr) → a.name ≡ 115 → new_value m own first e a ≡ None
   base_kept a f = subst (λ (n : ℕ). value_by a n (a.form == 1) (a.form == 23) ≡ None) (sym f) (none (a.form == 1) (a.form == 23)) where
     none : (b c : Bool) → value_by a 115 b c ≡ None
@@ -180,7 +180,7 @@ module _ (m : Moves) (own : Declaration → Bool) (first : Entry → Bool) where
 
 -- Attributes
 
--- the tests of an attribute, by what is looked up
+-- The tests of an attribute, by the bases and forms found.
 abbrev sound_by : (form : ℕ) (text address loc rng located ranges bases : Bool) → Bool
 sound_by form text address loc rng located ranges bases =
     implies (is_text_index form) text
@@ -221,7 +221,7 @@ module _ (m : Moves) (own first : Bool) (e : Entry) (addr new_addr : List ℕ) (
         step None = refl
         step (Some b) = number_same (b + 8 * index)
 
-  -- a value of an index form stays
+  -- A value of an index form doesn't change.
   index_kept : (a : Attr) (b c d : Bool) → (a.form == 1) ≡ b → (a.form == 23) ≡ c → is_address_index a.form ≡ d → b ≡ false → d ≡ true →
       (if b then new_address m own e a else (if c then new_list m first e a else None)) ≡ None
   index_kept a true c d f g h i j = absurd (cc)
@@ -361,7 +361,7 @@ module _ (own : Declaration → Bool) where
       forms_joined (changed_spec is_own d s) (flat_map (changed_spec is_own d) specs) (form_by is_own d s (s.name == 18) p.0)
       (forms_changed is_own d specs p.1)
 
-  -- no high address is left
+  -- No high address remains.
   high_joined : (d : Declaration) (xs ys : List Spec) → list_any (is_bad_high d) xs ≡ false → list_any (is_bad_high d) ys ≡ false →
       list_any (is_bad_high d) (xs ++ ys) ≡ false
   high_joined d [] ys f g = g

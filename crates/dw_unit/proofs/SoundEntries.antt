@@ -1,5 +1,4 @@
--- What is known of the entries of sound sections: no attribute is named twice, and a high address has a low one beside it,
--- and no ranges.
+-- Facts on the entries of sound sections: no attribute is named twice, and a high address has a low one beside it, and no ranges.
 use Rattle.std.proofs.Common.{◌≡◌, ◌≢◌, ◌∙◌, ◌++◌, ⊎_elim, ℕ, List, [], ◌∷◌, Bool, true, false, not, Option, Some, None, Ok, Err, Result}
 use Rattle.std.proofs.Common.{refl, ap, sym, subst, arith, length}
 use Rattle.std.specs.Prelude.{⊤, ◌==◌, ◌&&◌, ◌||◌, if◌then◌else◌, is_some, option_and_then, Contains}
@@ -44,7 +43,7 @@ abbrev pub AreSoundUnits : List ℕ → List Unit → Type 0
 AreSoundUnits addr [] = ⊤
 AreSoundUnits addr (u ∷ us) = AreSoundEntries addr u u.entries × AreSoundUnits addr us
 
--- Attributes have the names of their declaration, and its forms but where these stand before values.
+-- Attributes have the names of their declaration, and its forms, DW_FORM_indirect excepted.
 
 record IsOf (s : Spec) (a : Attr) : Type 0 where
   pub name : a.name ≡ s.name
@@ -206,7 +205,7 @@ low_there (s ∷ specs) (a ∷ attrs) of e = step (is_low s) refl e (low_there s
         let more = ih f in
         record { a = more.a; there = Contains-there a attrs more.a more.there; name = more.name; form = more.form }
 
--- an attribute of some that pass a test
+-- All attributes pass a test, so each one does.
 all_there : (test : Attr → Bool) (attrs : List Attr) (a : Attr) → list_all test attrs ≡ true → Contains attrs a → test a ≡ true
 all_there test [] a e c = absurd (Contains-nil a c)
 all_there test (b ∷ attrs) a e c =
@@ -215,7 +214,7 @@ all_there test (b ∷ attrs) a e c =
     (λ (there : Contains attrs a). all_there test attrs a p.1 there)
     (Contains-cons_cases b attrs a c)
 
--- the second of the tests of a sound attribute
+-- The second of the tests of a sound attribute.
 index_sound : (a b c d e f g h : Bool) → (a && (not b || c) && d && e && f && g && h) ≡ true → b ≡ true → c ≡ true
 index_sound true true true d e f g h is at = refl
 index_sound true true false d e f g h is at = absurd (cc)
@@ -294,7 +293,7 @@ by_units s (w ∷ ws) (u ∷ us) z n =
       by_units s ws us z.1 n.1,
     )
 
--- the units of sections without a fault
+-- The units of sections without a fault.
 pub all_sound : (s : Sections) → IsFree (HasDwarfFault (unit_fault_places s)) → AreSoundUnits s.addr (units s)
 all_sound s free =
     by_units s (walked 5 s.info) (units s) (sound_units s free)

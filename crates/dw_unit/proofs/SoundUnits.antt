@@ -1,4 +1,4 @@
--- Whether a unit is sound goes by what is listed of its entries.
+-- Whether a unit is sound depends on its listed entries only.
 use Rattle.std.proofs.Common.{◌≡◌, ℕ, Bool, List, [], ◌∷◌, refl, ap, map}
 use Rattle.std.specs.Prelude.{◌&&◌}
 use Rattle.std.specs.List.{list_all}
@@ -15,14 +15,14 @@ all_listed : (test : Attr → Bool) (es : List Entry) → are_sound test (map pl
 all_listed test [] = refl
 all_listed test (e ∷ es) = ap (λ (b : Bool). list_all test e.attrs && b) (all_listed test es)
 
--- the unit's own entry has the same attributes
+-- The unit's own entry has the same attributes.
 pub sound_listed : (addr : List ℕ) (place offset : ℕ) (es : List Entry) →
     is_sound_unit addr (plain_unit (map listed es)) ≡ is_sound_unit addr (record { place = place; abbrev_offset = offset; entries = es })
 sound_listed addr place offset [] = refl
 sound_listed addr place offset (e ∷ es) =
     all_listed (is_sound_attr addr (record { place = place; abbrev_offset = offset; entries = e ∷ es })) (e ∷ es)
 
--- entries that are listed so have the same attributes
+-- Entries with the same listed fields have the same attributes.
 pub plain_sound : (test : Attr → Bool) (es : List ListedEntry) →
     are_sound test (map plain es) ≡ list_all (λ (e : ListedEntry). list_all test e.attrs) es
 plain_sound test [] = refl

@@ -1,4 +1,4 @@
--- Declarations that were read can be spelled, changed or not.
+-- Declarations that were read can be spelled, with or without changes.
 use Rattle.std.proofs.Common.{◌≡◌, ◌≢◌, ◌<◌, ◌-◌, ◌^◌, ◌∙◌, ℕ, ℤ, zero, suc, List, [], ◌∷◌, ◌++◌, Bool, true, false, cond, Option, Some}
 use Rattle.std.proofs.Common.{None, Ok, Err, Result, refl, ap, sym, subst, arith, length, drop, take, nat_lt, pos, negsuc}
 use Rattle.std.specs.Prelude.{⊤, ◌==◌, ◌&&◌, ◌||◌, not, if◌then◌else◌, flat_map}
@@ -30,7 +30,7 @@ uleb_small_by false false v n x bytes rest f e = absurd (cc)
 uleb_small_by false true v n x bytes rest f e = let g : v ≡ x = same_value _ _ _ _ e in
     subst (λ (k : ℕ). k < 2 ^ 64) g (grind (arith, nat_tests))
 
--- a number in LEB128 that was read is of 64 bits
+-- A number in LEB128 that was read is of 64 bits.
 pub uleb_small : (x : ℕ) (bytes rest : List ℕ) → uleb_at bytes ≡ Ok (x, rest) → x < 2 ^ 64
 uleb_small x bytes rest e =
     uleb_small_by (nat_lt (length bytes) (leb_length bytes)) (nat_lt (uleb_value (take (leb_length bytes) bytes)) (2 ^ 64))
@@ -213,7 +213,7 @@ table_plain (suc n) size left = step (next_declaration (size - length left) left
   step (Ok (None, rest)) is ih = tt
   step (Ok (Some d, rest)) is ih = (declaration_plain (size - length left) left rest d is, ih rest)
 
--- with their changes
+-- With changes
 
 module _ (own : Bool) (d : Declaration) where
   constant : (name form : ℕ) → name < 2 ^ 64 → form < 2 ^ 64 → (name == 0 && form == 0) ≡ false →
@@ -262,7 +262,7 @@ all_spellable own (d ∷ ds) p =
           p.1,
     )
 
--- the declarations of a table can be spelled
+-- The declarations of a table can be spelled.
 pub table_spellable : (own : Declaration → Bool) (section : List ℕ) (offset : ℕ) → CanSpellAll own (table_at section offset).list
 table_spellable own section offset = all_spellable own (table_at section offset).list
     (table_plain (length section) (length section) (drop offset section))

@@ -25,7 +25,7 @@ use Rattle.dw_unit.specs.Changes.{spec_bytes, flag, declaration_bytes, changed_s
 use Rattle.dw_unit.proofs.Walks.{with_front, with_before}
 use Rattle.dw_unit.proofs.Readers.{spec_behind, specs_more, specs_end, table_more, table_ends}
 
--- a pair whose numbers are of 64 bits, not the two zeros, with no value where none stands
+-- A pair whose numbers have 64 bits, not two zeros, and with value 0 unless the form is DW_FORM_implicit_const.
 pub record IsSpellable (s : Spec) : Type 0 where
   pub name : s.name < 2 ^ 64
   pub form : s.form < 2 ^ 64
@@ -111,7 +111,7 @@ flag_read : (b : Bool) → nat_lt 0 (flag b) ≡ b
 flag_read true = refl
 flag_read false = refl
 
--- what is asked of a declaration, changed or not
+-- What a declaration needs to be spelled, changed or not.
 pub record CanSpell (specs : List Spec) (d : Declaration) : Type 0 where
   pub code : d.code < 2 ^ 64
   pub some : d.code ≢ 0
@@ -156,7 +156,7 @@ declaration_read own d place rest h =
 -- Tables
 
 module _ (own : Declaration → Bool) where
-  -- a declaration and what it becomes; its place is another
+  -- A declaration and its changed one, whose offset is another.
   pub record IsChangedDeclaration (old new : Declaration) : Type 0 where
     pub code : new.code ≡ old.code
     pub tag : new.tag ≡ old.tag
@@ -181,7 +181,7 @@ module _ (own : Declaration → Bool) where
     pub is : table_within (length left) size left ≡ record { list = new; end = Some (size - length rest) }
     pub changed : AreChangedDeclarations ds new
 
-  -- the changed declarations are read back in their order, up to the closing zero
+  -- The changed declarations are read back in order, up to the closing zero.
   pub table_read : (size : ℕ) (ds : List Declaration) (rest : List ℕ) → CanSpellAll ds →
       IsTableRead size ds (bytes_of_table ds ++ (0 ∷ rest)) rest
   table_read size [] rest h = record {
@@ -212,7 +212,7 @@ module _ (own : Declaration → Bool) where
         changed = (record { code = refl; tag = refl; children = refl; specs = refl }, r.changed);
       }
 
-  -- what a code means there
+  -- What a code means in the new table.
   pub record IsFound (old : Declaration) (new : List Declaration) (code : ℕ) : Type 0 where
     pub d : Declaration
     pub is : find (λ d. d.code == code) new ≡ Some d

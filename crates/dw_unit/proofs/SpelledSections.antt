@@ -1,4 +1,4 @@
--- Tables of abbreviations that are spelled one behind another.
+-- Tables of abbreviations that are spelled one after another.
 use Rattle.std.proofs.Common.{◌≡◌, ◌≢◌, ◌<◌, ◌≤◌, ◌+◌, ◌++◌, ◌∙◌, ⊎_elim, ℕ, zero, suc, List, [], ◌∷◌, Bool, true, false, refl, ap, sym}
 use Rattle.std.proofs.Common.{subst, arith, length, take, get_or, append_assoc}
 use Rattle.std.specs.Prelude.{◌==◌, ◌||◌, if◌then◌else◌, filter, flat_map, nat_lt}
@@ -22,7 +22,7 @@ kept_rising p (suc n) a = step (p a) (kept_rising p n (a + 1)) where
 abbrev pub among : ℕ → List ℕ → Bool
 among q xs = list_any (λ o. o == q) xs
 
--- those of a range that pass a test are among those that do
+-- A number of the range that passes the test is in the filtered range.
 pub kept_among : (p : ℕ → Bool) (n a q : ℕ) → a ≤ q → q < a + n → p q ≡ true → among q (filter p (range_with_len a n)) ≡ true
 kept_among p zero a q h k e = absurd (omega arith)
 kept_among p (suc n) a q h k e = ⊎_elim
@@ -63,7 +63,7 @@ at_least a i d [] up h = absurd (omega arith)
 at_least a zero d (x ∷ xs) up h = up.0
 at_least a (suc i) d (x ∷ xs) up h = let g = at_least (x + 1) i d xs up.1 (omega arith) in let k = up.0 in omega arith
 
--- those below one of them are those before it
+-- The numbers below one of an ascending list are those before it.
 pub below_it : (a i d : ℕ) (xs : List ℕ) → Ascends a xs → i < length xs → filter (λ x. nat_lt x (get_or xs i d)) xs ≡ take i xs
 below_it a i d [] up h = absurd (omega arith)
 below_it a zero d (x ∷ xs) up h = none_below x x (x ∷ xs) (omega arith) (omega arith, up.1)
@@ -73,7 +73,7 @@ below_it a (suc i) d (x ∷ xs) up h =
     ap (λ (b : Bool). if b then x ∷ filter (λ y. nat_lt y (get_or xs i d)) xs else filter (λ y. nat_lt y (get_or xs i d)) xs) in_front
     ∙ ap (λ (l : List ℕ). x ∷ l) (below_it (x + 1) i d xs up.1 (omega arith))
 
--- the bytes before those of a table, and those behind it
+-- The bytes before a table's, and those after them.
 pub record IsSplit (f : ℕ → List ℕ) (o : ℕ) (os : List ℕ) : Type 0 where
   pub rest : List ℕ
   pub is : flat_map f os ≡ flat_map f (filter (λ x. nat_lt x o) os) ++ (f o ++ rest)
@@ -103,7 +103,7 @@ split_at f o a (x ∷ xs) up e = ⊎_elim
     })
     (cases_eq x o)
 
--- where the table of an offset stands
+-- The offset of the table of an old offset.
 pub record IsSpelledAt (s : Sections) (offset : ℕ) : Type 0 where
   pub before : List ℕ
   pub rest : List ℕ

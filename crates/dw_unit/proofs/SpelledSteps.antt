@@ -1,4 +1,4 @@
--- Steps of spelling declarations and tables one behind another.
+-- Steps of spelling declarations and tables one after another.
 use Rattle.std.proofs.Common.{◌≡◌, ◌≢◌, ◌<◌, ◌+◌, ◌++◌, ◌∙◌, ⊎_elim, ℕ, zero, suc, List, [], ◌∷◌, Bool, true, false, cond, Option, Some}
 use Rattle.std.proofs.Common.{None, Ok, Err, Result, BTreeMap, nat_cmp, refl, ap, sym, subst, arith, length, take, drop, map, get_or}
 use Rattle.std.proofs.Common.{append_assoc, nat_lt}
@@ -35,7 +35,7 @@ spec_written out name form x b e =
 flat_one : {X : Type 0} (f : X → List ℕ) (x : X) → flat_map f (x ∷ []) ≡ f x
 flat_one f x = append-nil (f x)
 
--- one thing more, of those that were written
+-- One more value after those that were written.
 pub flat_more : {X : Type 0} (f : X → List ℕ) (xs : List X) (i : ℕ) (d : X) → i < length xs →
     flat_map f (take (i + 1) xs) ≡ flat_map f (take i xs) ++ f (get_or xs i d)
 flat_more f xs i d h =
@@ -49,7 +49,7 @@ out_more f xs i d first old new h e g =
     g ∙ ap (λ (l : List ℕ). l ++ f (get_or xs i d)) e ∙ append_assoc first (flat_map f (take i xs)) (f (get_or xs i d))
     ∙ ap (λ (l : List ℕ). first ++ l) (sym (flat_more f xs i d h))
 
--- the same of lists in lists
+-- For lists of lists.
 pub flat_flat : {X Y : Type 0} (f : Y → List ℕ) (g : X → List Y) (xs : List X) →
     flat_map f (flat_map g xs) ≡ flat_map (λ x. flat_map f (g x)) xs
 flat_flat f g [] = refl
@@ -63,19 +63,19 @@ told_step (y ∷ xs) (suc i) x h e =
     let next : suc (i + 1) ≡ suc i + 1 = omega arith in
     told_step xs i x (omega arith) e ∙ ap (λ (k : ℕ). told_declaration x ∷ drop k (map told_declaration (y ∷ xs))) next
 
--- what was written, in front of the rest of a table
+-- The bytes written, before the rest of a table.
 pub table_more : {X : Type 0} (f : X → List ℕ) (x : X) (rest : List X) (end old new : List ℕ) → new ≡ old ++ f x →
     new ++ (flat_map f rest ++ end) ≡ old ++ (flat_map f (x ∷ rest) ++ end)
 table_more f x rest end old new e =
     ap (λ (l : List ℕ). l ++ (flat_map f rest ++ end)) e ∙ append_assoc old (f x) (flat_map f rest ++ end)
     ∙ ap (λ (l : List ℕ). old ++ l) (sym (append_assoc (f x) (flat_map f rest) end))
 
--- Maps with one key more
+-- Maps with one more key
 
 at_same : (k : ℕ) → is_at (nat_cmp k) k ≡ true
 at_same k = grind (arith, common_steps)
 
--- what each key has
+-- A property of each key's value.
 pub keys_more : {X : Type 0} (P : ℕ → X → Type 0) (old new : BTreeMap ℕ X) (k : ℕ) (v : X) →
     ((q : ℕ) (n : X) → get nat_cmp old q ≡ Some n → P q n) → P k v →
     ((q : ℕ) → get nat_cmp new q ≡ cond (is_at (nat_cmp k) q) (Some v) (get nat_cmp old q)) → (q : ℕ) (n : X) →
@@ -89,7 +89,7 @@ keys_more P old new k v before now is q n e = ⊎_elim
     before q n (sym (is q ∙ ap (λ (b : Bool). cond b (Some v) (get nat_cmp old q)) (at_key k q ne)) ∙ e))
     (cases_eq k q)
 
--- whether a key is there
+-- Whether a key is in the map.
 pub key_more : {X : Type 0} (old new : BTreeMap ℕ X) (k : ℕ) (v : X) →
     ((q : ℕ) → get nat_cmp new q ≡ cond (is_at (nat_cmp k) q) (Some v) (get nat_cmp old q)) → (q : ℕ) →
     is_some (get nat_cmp new q) ≡ (is_some (get nat_cmp old q) || (k == q))
@@ -125,7 +125,7 @@ or_nothing : (b : Bool) → (b || false) ≡ b
 or_nothing true = refl
 or_nothing false = refl
 
--- one unit more
+-- One more unit.
 pub own_more : (abbrevs : List ℕ) (ws : List Walked) (w : Walked) (u : Unit) (q : ℕ) → unit_of abbrevs w ≡ Ok u →
     names_own abbrevs (ws ++ w ∷ []) q ≡ (names_own abbrevs ws q || is_own_of q u)
 own_more abbrevs ws w u q e =
@@ -136,7 +136,7 @@ abbrev pub own_test : ℕ → Option OwnEntry → Bool
 own_test q None = false
 own_test q (Some o) = o.declaration == q
 
--- by its own entry
+-- By its own entry.
 pub own_by : (q : ℕ) (u : Unit) (o : Option OwnEntry) → o ≡ option_map own_places (own_entry u) → is_own_of q u ≡ own_test q o
 own_by q u o e = step (own_entry u) ∙ ap (own_test q) (sym e) where
   step : (x : Option Entry) → option_map_or (λ (e : Entry). e.declaration.place == q) x false ≡ own_test q (option_map own_places x)

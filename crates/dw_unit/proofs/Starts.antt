@@ -1,4 +1,4 @@
--- Where tables begin, with one that was read more.
+-- The starts of tables, with one more table read.
 use Rattle.std.proofs.Common.{◌≡◌, ◌≢◌, ◌∙◌, ◌<◌, ◌≤◌, ◌+◌, ◌++◌, ⊎_elim, inr, ℕ, zero, suc, Bool, true, cond, Some, List, []}
 use Rattle.std.proofs.Common.{◌∷◌, BTreeMap, nat_cmp, refl, sym, ap, subst, arith, length, length-append}
 use Rattle.std.specs.Prelude.{slice_get}
@@ -37,7 +37,7 @@ module _ (section : List ℕ) (old : List IndexedTable) (t : IndexedTable) (from
   longer : length new ≡ length old + 1
   longer = length-append old (t ∷ [])
 
-  -- a start in one that was there
+  -- A start in a table that was there before.
   kept : (q : ℕ) (s : Start) → IsStart section old q s → IsStart section new q s
   kept q s is = record {
     within = let g = is.within in omega (arith, longer);
@@ -45,11 +45,11 @@ module _ (section : List ℕ) (old : List IndexedTable) (t : IndexedTable) (from
     from = λ x e. is.from x (sym (get-kept old (t ∷ []) s.number is.within) ∙ e);
   }
 
-  -- the table of a start in the last one
+  -- The table of a start in the last table read.
   last_is : (s : Start) (x : IndexedTable) → s.number ≡ length old → slice_get new s.number ≡ Some x → t ≡ x
   last_is s x n e = same_Some _ _ (sym (get-last old t) ∙ ap (slice_get new) (sym n) ∙ e)
 
-  -- a start of another table in the last one
+  -- The start of another table in the last one.
   marked : (q : ℕ) (s : Start) → IsMark (told_table t.table) (length old) q s → IsStart section new q s
   marked q s is =
       let there = slice_get_found (told_table t.table).list s.index is.within in
@@ -66,7 +66,7 @@ module _ (section : List ℕ) (old : List IndexedTable) (t : IndexedTable) (from
         from = λ x e. subst (λ (x : IndexedTable). IsFrom (told_table x.table) s) (last_is s x is.number_is e) is.from;
       }
 
-  -- the start of the last one itself
+  -- The start of the last one itself.
   pub first : (q : ℕ) (s : Start) → table_at section q ≡ table_at section from → s.number ≡ length old → s.index ≡ 0 →
       s.form ≡ least (places_with has_bad_form (told_table t.table).list) →
       s.high ≡ least (places_with has_bad_high (told_table t.table).list) →
@@ -105,7 +105,7 @@ module _ (section : List ℕ) (old : List IndexedTable) (t : IndexedTable) (from
       one_of starts mid are marks q s (sym (made q ∙ ap (λ (b : Bool). cond b (Some s0) (get nat_cmp mid q)) (at_key offset q ne)) ∙ e))
       (cases_eq offset q)
 
--- one mark more
+-- One more mark.
 pub mark_more : (t : Table) (number : ℕ) (old starts new : BTreeMap ℕ Start) (place : ℕ) (s0 : Start) → AreMarked t number old starts →
     ((q : ℕ) → get nat_cmp new q ≡ cond (is_at (nat_cmp place) q) (Some s0) (get nat_cmp starts q)) → IsMark t number place s0 →
     AreMarked t number old new

@@ -13,7 +13,7 @@ use Rattle.dw_unit.specs.Declarations.{table_at}
 use Rattle.dw_unit.specs.TableStarts.{table_from}
 use Rattle.dw_unit.proofs.Readers.{next_declaration_local, declaration_forward, table_step, table_enough}
 
--- where a declaration stands
+-- The offset of a declaration.
 
 then_holds : {X Y : Type 0} (P : Y × List ℕ → Type 0) (r : Read X) (g : X → List ℕ → Read Y) →
     ((x : X) (left : List ℕ) (z : Y × List ℕ) → g x left ≡ Ok z → P z) → (z : Y × List ℕ) → and_then r g ≡ Ok z → P z
@@ -65,7 +65,7 @@ declaration_place place left rest d e =
     then_holds (StandsAt place) (whole (uleb_at left)) (declaration_or_end place)
     (λ code left1 z. behind_code place code left1 z (code == 0)) (Some d, rest) e d refl
 
--- the bytes from a place on
+-- The bytes from an offset on.
 
 abbrev IsRest : List ℕ → List ℕ → Type 0
 IsRest section left = left ≡ drop (length section - length left) section
@@ -88,7 +88,7 @@ abbrev Begins : List ℕ → List ℕ → ℕ → Declaration → Type 0
 Begins section left i d = table_at section d.place ≡ table_from i (rest_table section left)
 
 module _ (section : List ℕ) where
-  -- a table of which the first declaration is known
+  -- A table whose first declaration is known.
   step_is : (left rest : List ℕ) (x : Declaration) → next_declaration (length section - length left) left ≡ Ok (Some x, rest) →
       rest_table section left ≡ record { list = x ∷ (rest_table section rest).list; end = (rest_table section rest).end }
   step_is left rest x e =
@@ -107,7 +107,7 @@ module _ (section : List ℕ) where
       ap (table_at section) place ∙ ap (table_within (length section) (length section)) (sym is)
       ∙ table_enough (length section) (length left) (length section) left inside (omega arith)
 
-  -- what the front says of the first declaration
+  -- The front decides the first declaration.
   first_of_front : (left : List ℕ) (d : Declaration) → IsRest section left → slice_get (rest_table section left).list 0 ≡ Some d →
       (r : Read (Option Declaration)) → next_declaration (length section - length left) left ≡ r → Begins section left 0 d
   first_of_front left d is e (Err t) f =
@@ -119,7 +119,7 @@ module _ (section : List ℕ) where
       let s : Some x ≡ Some d = ap (λ (t : Table). slice_get t.list 0) (sym (step_is left rest x f)) ∙ e in
       first_here left rest x d is f cc
 
-  -- and of one behind it
+  -- A later declaration of the table.
   by_front : (left : List ℕ) (j : ℕ) (d : Declaration) → IsRest section left → slice_get (rest_table section left).list (suc j) ≡ Some d →
       ((rest : List ℕ) → IsRest section rest → slice_get (rest_table section rest).list j ≡ Some d → Begins section rest j d) →
       (r : Read (Option Declaration)) → next_declaration (length section - length left) left ≡ r → Begins section left (suc j) d
@@ -141,7 +141,7 @@ module _ (section : List ℕ) where
   begins (suc i) left d is e = by_front left i d is e (λ rest. begins i rest d) (next_declaration (length section - length left) left)
       refl
 
--- the table of an offset within the section
+-- The table of an offset within the section.
 at_rest : (section : List ℕ) (offset : ℕ) → offset ≤ length section → table_at section offset ≡ rest_table section (drop offset section)
 at_rest section offset h =
     let size = length-drop offset section in
@@ -160,7 +160,7 @@ table_from_declaration section offset i d h e =
     (ap (λ (t : Table). slice_get t.list i) (sym (at_rest section offset h)) ∙ e)
     ∙ ap (table_from i) (sym (at_rest section offset h))
 
--- an offset past the end
+-- An offset past the end.
 pub table_past : (section : List ℕ) (offset from : ℕ) → length section ≤ offset → length section ≤ from →
     table_at section offset ≡ table_at section from
 table_past section offset from h k = ap (table_within (length section) (length section)) (drop_all offset section h

@@ -1,4 +1,4 @@
--- Units end in their section, or just behind the length that they begin with, and have fewer than 2 ^ 32 bytes.
+-- Units end in their section, or just after their length, and have fewer than 2^32 bytes.
 use Rattle.std.proofs.Common.{◌≡◌, ◌<◌, ◌≤◌, ◌+◌, ◌-◌, ◌^◌, ℕ, zero, suc, Bool, true, false, List, [], ◌∷◌, Some, None, All, refl}
 use Rattle.std.proofs.Common.{sym, subst, arith, get_or, length, drop, take, nat_le}
 use Rattle.std.specs.Prelude.{◌&&◌, if◌then◌else◌}

@@ -1,4 +1,4 @@
--- What is read of one unit more.
+-- The result of reading one more unit.
 use Rattle.std.proofs.Common.{◌≡◌, ◌∙◌, ◌++◌, ℕ, Bool, true, false, Option, Some, None, Ok, Err, Result, List, [], ◌∷◌, refl, sym, ap}
 use Rattle.std.proofs.Common.{subst, map, option_map}
 use Rattle.std.specs.Prelude.{flat_map, MatchOption, not, if◌then◌else◌, filter}
@@ -31,7 +31,7 @@ use Rattle.dw_unit.proofs.SoundUnits.{sound_listed}
 
 -- One unit
 
--- What stands behind a header
+-- After a header
 
 found_sound : (addr : List ℕ) (es : List ListedEntry) (r : Result Unit Trouble) → listed_unit r ≡ Ok es → (b : Bool) →
     is_sound_unit addr (plain_unit es) ≡ b →
@@ -43,7 +43,7 @@ found_sound addr es (Ok u) e b is = (
 )
 found_sound addr es (Err t) e b is = absurd (cc)
 
--- what can be read, and fails a test
+-- A unit that can be read, but fails a test.
 pub unsound_unit : (addr : List ℕ) (u : Result Unit Trouble) (es : List ListedEntry) (x : UnitReading) → listed_unit u ≡ Ok es →
     is_sound_unit addr (plain_unit es) ≡ false → x.unformed ≡ None → x.entries ≡ None → IsBehind addr u x
 unsound_unit addr u es x e t unformed_is none = let f = found_sound addr es u e false t in record {
@@ -53,7 +53,7 @@ unsound_unit addr u es x e t unformed_is none = let f = found_sound addr es u e 
       (sym none) f.0;
 }
 
--- what passes it
+-- A unit that passes the test.
 pub sound_unit : (addr : List ℕ) (u : Result Unit Trouble) (x : UnitReading) (es : Vec ListedEntry) → listed_unit u ≡ Ok es.items →
     is_sound_unit addr (plain_unit es.items) ≡ true → x.unformed ≡ None → x.entries ≡ Some es → IsBehind addr u x
 sound_unit addr u x es e t unformed_is some = let f = found_sound addr es.items u e true t in record {
@@ -98,12 +98,12 @@ first_more test ws w = ap (option_map (λ (u : Walked). u.place)) (find-append t
       step None y = refl
       step (Some x) y = refl
 
--- one was bad before
+-- A unit before was bad.
 pub bad_before : (test : Walked → Bool) (ws : List Walked) (w : Walked) (place : ℕ) → first_place test ws ≡ Some place →
     first_place test (ws ++ w ∷ []) ≡ Some place
 bad_before test ws w place e = first_more test ws w ∙ ap (λ (o : Option ℕ). option_or o (first_place test (w ∷ []))) e
 
--- this is the first bad one
+-- This unit is the first bad one.
 pub bad_now : (test : Walked → Bool) (ws : List Walked) (w : Walked) → first_place test ws ≡ None → test w ≡ true →
     first_place test (ws ++ w ∷ []) ≡ Some w.place
 bad_now test ws w e t = first_more test ws w ∙ ap (λ (o : Option ℕ). option_or o (first_place test (w ∷ []))) e
@@ -137,7 +137,7 @@ listed_more abbrevs ws w es e =
     ∙ map-append listed (flat_map (λ (u : Unit). u.entries) (oks (map of ws))) (flat_map (λ (u : Unit). u.entries) (oks (of w ∷ [])))
     ∙ ap (λ (l : List ListedEntry). listed_all abbrevs ws ++ l) (one_listed (of w) es e)
 
--- One unit more
+-- One more unit
 
 module _ (abbrevs addr : List ℕ) (ws : List Walked) (w : Walked) (r : Readings) (x : UnitReading) (y : Readings)
     (are : AreReadings abbrevs addr ws r) (is : IsReading abbrevs addr w x) (form : y.bad_form ≡ lower r.bad_form x.bad_form)

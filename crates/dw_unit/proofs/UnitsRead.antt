@@ -66,7 +66,7 @@ header_read abbrevs w u e =
     let r : IsRead abbrevs w u = unit_read abbrevs w u e in
     subst (λ (o : Option (List ℕ)). IsOk (and_so (sound_if o) header_at)) (sym r.is) (subst (λ (h : Read ℕ). IsOk h) (sym r.header) refl)
 
--- and the other way
+-- The converse.
 pub unit_again : (abbrevs : List ℕ) (w : Walked) (bytes left : List ℕ) (offset end : ℕ) (es : List Entry) → w.bytes ≡ Some bytes →
     header_at bytes ≡ Ok (offset, left) →
     (table_at abbrevs offset).end ≡ Some end → entries_within (unit_bounds w.place (end_of w) (table_at abbrevs offset))

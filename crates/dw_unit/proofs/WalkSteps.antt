@@ -16,13 +16,13 @@ use Rattle.dw_unit.specs.OwnPlaces.{AllRead}
 use Rattle.dw_unit.specs.Walking.{entries_at, unit_bounds}
 use Rattle.dw_unit.proofs.UnitsRead.{IsRead, unit_read}
 
--- patches of one more thing
+-- The patches of one more element.
 pub patches_step : {X : Type 0} (f : X → List Patch) (xs : List X) (i : ℕ) (d : X) (ps : List Patch) → i < length xs →
     flat_map f (drop i xs) ++ ps ≡ f (get_or xs i d) ++ (flat_map f (drop (i + 1) xs) ++ ps)
 patches_step f xs i d ps h =
     ap (λ (l : List _). flat_map f l ++ ps) (drop_more xs i d h) ∙ append_assoc (f (get_or xs i d)) (flat_map f (drop (i + 1) xs)) ps
 
--- what holds of what is there
+-- A property of an option's value.
 pub if_some : {X : Type 0} (o : Option X) (x : X) (P : X → Type 0) → o ≡ Some x → IfSome o P → P x
 if_some o x P e p = subst (λ (o : Option _). IfSome o P) e p
 
@@ -36,7 +36,7 @@ pub ok_map2 : {X E : Type 0} (r : Result X E) (P Q R : X → Type 0) → ((x : X
 ok_map2 (Ok x) P Q R f p q = f x p q
 ok_map2 (Err e) P Q R f p q = p
 
--- the entries of a unit whose header was read
+-- The entries of a unit whose header was read.
 pub record IsBehindHeader (w : Walked) (u : Unit) (offset : ℕ) (table : Table) (left : List ℕ) : Type 0 where
   pub at : u.abbrev_offset ≡ offset
   pub place : u.place ≡ w.place
@@ -60,7 +60,7 @@ entries_of abbrevs w u offset table left e h t =
           ∙ r.entries;
     }
 
--- those by a place and an end that are the unit's
+-- The entries by an offset and an end that are the unit's.
 pub entries_there : (abbrevs : List ℕ) (w : Walked) (u : Unit) (offset place end : ℕ) (table : Table) (left : List ℕ) →
     unit_of abbrevs w ≡ Ok u →
     header_of w ≡ Ok (offset, left) → table_at abbrevs offset ≡ table → place ≡ w.place → end ≡ end_of w →
@@ -73,7 +73,7 @@ abbrev pub or_entries : List Entry → Result (List Entry) Trouble → List Entr
 or_entries d (Ok l) = l
 or_entries d (Err t) = d
 
--- those behind it
+-- The entries after the first.
 pub record IsWithHead (e : Entry) (r : Result (List Entry) Trouble) (es : List Entry) : Type 0 where
   pub rest : List Entry
   pub read : r ≡ Ok rest
@@ -83,7 +83,7 @@ pub with_head_parts : (e : Entry) (r : Result (List Entry) Trouble) (es : List E
 with_head_parts e (Err t) es f = absurd (cc)
 with_head_parts e (Ok xs) es f = record { rest = xs; read = refl; is = sym (ap (or_entries es) f) }
 
--- units that can all be read
+-- Units that can all be read.
 
 pub read_at : (abbrevs : List ℕ) (ws : List Walked) (i : ℕ) (d : Walked) → AllRead abbrevs ws → i < length ws →
     (u : Unit) × (unit_of abbrevs (get_or ws i d) ≡ Ok u)

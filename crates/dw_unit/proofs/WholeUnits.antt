@@ -1,4 +1,4 @@
--- Units that lie whole one behind another fill their section, and are walked to again.
+-- Whole units that follow one another fill their section, and a walk finds them again.
 use Rattle.std.proofs.Common.{◌≡◌, ◌<◌, ◌≤◌, ◌+◌, ◌-◌, ◌++◌, ◌∙◌, ℕ, zero, suc, List, [], ◌∷◌, Bool, true, false, Option, Some, None}
 use Rattle.std.proofs.Common.{refl, ap, sym, subst, arith, length, take, drop, length-append, length-drop}
 use Rattle.std.specs.Prelude.{⊤, ◌==◌, ◌&&◌, ◌||◌, not, nat_le, if◌then◌else◌, is_some}
@@ -12,7 +12,7 @@ use Rattle.table_core.specs.DebugUnits.{Walked, units_from, unit_length, is_whol
 use Rattle.table_core.proofs.UnitsBack.{two-front}
 use Rattle.dw_unit.specs.CompUnits.{end_of}
 
--- a unit at the front of some bytes, behind its length
+-- A unit at the front of some bytes, after its length.
 pub record IsWhole (place : ℕ) (w : Walked) (left rest : List ℕ) : Type 0 where
   pub size : List ℕ
   pub bytes : List ℕ
@@ -28,7 +28,7 @@ abbrev pub AreWhole : ℕ → List Walked → List ℕ → Type 0
 AreWhole place [] left = left ≡ []
 AreWhole place (w ∷ ws) left = (rest : List ℕ) × (IsWhole place w left rest) × AreWhole (end_of w) ws rest
 
--- units of the version that is read, with their bytes
+-- Units of the version that is read, with their bytes.
 abbrev pub AreGood : List Walked → Type 0
 AreGood [] = ⊤
 AreGood (w ∷ ws) = (is_some w.bytes ≡ true) × (w.is_other ≡ false) × AreGood ws
@@ -51,7 +51,7 @@ is_five true true false k d n e f g h i = absurd (cc)
 le_true : (n m : ℕ) → n ≤ m → nat_le n m ≡ true
 le_true n m h = grind (arith, nat_tests)
 
--- what the tests say of a unit at the front
+-- The tests of a unit at the front.
 record IsFront (left : List ℕ) : Type 0 where
   inside : unit_length left + 4 ≤ length left
   some : 2 ≤ unit_length left
@@ -110,7 +110,7 @@ is_whole place left e f =
       known = ap (λ (n : ℕ). n == DWARF64) bytes_is ∙ i.known;
     }
 
--- good units fill the bytes in which they are walked to
+-- Good units fill the bytes in which they are found.
 module _ (n place : ℕ) (left : List ℕ) (some : 0 < length left)
     (ih : (place : ℕ) (left : List ℕ) → length left ≤ n → AreGood (units_from n 5 place left) →
     AreWhole place (units_from n 5 place left) left) where
@@ -151,7 +151,7 @@ units_whole (suc n) place (b ∷ left) h good =
     whole_step n place (b ∷ left) (omega arith) (λ place left h good. units_whole n place left h good)
     (is_whole_unit (b ∷ left)) h refl good
 
--- and the other way
+-- The converse.
 
 tests_whole : (d size : ℕ) → d + 4 ≤ size → (d == DWARF64) ≡ false → (nat_le 4 size && not (d == DWARF64) && nat_le (d + 4) size) ≡ true
 tests_whole d size inside known = rw known (grind (arith, nat_tests, common_steps))
@@ -207,7 +207,7 @@ units_again (suc n) place (w ∷ ws) left h (rest, i, more) =
     ∙ ap (λ (l : List Walked). unit_at place i.bytes ∷ l) (units_again n (end_of w) ws rest (omega arith) more)
     ∙ ap (λ (x : Walked). x ∷ ws) (sym i.walked)
 
--- none of them is of another version, and each has its bytes
+-- None of them is of another version, and each has its bytes.
 pub whole_good : (place : ℕ) (ws : List Walked) (left : List ℕ) → AreWhole place ws left → AreGood ws
 whole_good place [] left whole = tt
 whole_good place (w ∷ ws) left (rest, i, more) =

@@ -4,7 +4,7 @@ use Rattle.dw_unit.specs.Changes.{table_offsets}
 use Rattle.dw_unit.specs.Declarations.{table_at}
 use Rattle.dw_unit.specs.CompUnits.{Sections}
 
--- three times the bytes of a table that a unit names, its closing zero among them
+-- Three times the number of bytes of the table at `offset`, its closing zero included.
 abbrev pub table_weight : Sections → ℕ → ℕ
 table_weight s offset = 3 * (unwrap_or (table_at s.abbrevs offset).end offset - offset)
 

@@ -1,4 +1,4 @@
--- Units of the written file, beside those of the input that they were made of.
+-- The units of the written file, compared with the units of the input that they were made from.
 use Rattle.std.specs.Prelude.{◌≡◌, ◌≢◌, ℕ, Bool, List, Contains, None}
 use Rattle.std.specs.List.{AllZip}
 use Rattle.dw_unit.specs.declared.attribute.TheConstants.{DW_AT_high_pc}
@@ -7,13 +7,12 @@ use Rattle.dw_unit.specs.Changes.{new_value, changed_attrs, new_offset, is_own, 
 use Rattle.dw_unit.specs.EntryMoves.{Moves}
 use Rattle.dw_unit.specs.CompUnits.{Entry, Unit, Sections, units, value_bytes}
 
--- a value that isn't written anew
+-- A value that isn't rewritten.
 abbrev pub IsKeptValue : Moves → (is_own is_first : Bool) → Entry → Attr → Type 0
 IsKeptValue m is_own is_first e a = (a.name ≢ DW_AT_high_pc) × (new_value m is_own is_first e a ≡ None)
 
--- An entry, and the same entry of the written file, whose `.debug_info` is `info`: it stands where it stood, with its
--- changes.
--- Each value that isn't written anew has the bytes that it had, as texts and expressions have.
+-- `new` is the entry `old` in the written file, whose `.debug_info` is `info`: it has the same offset, unit, depth and
+-- tag, and the changed attributes. Each value that isn't rewritten keeps its bytes, those of texts and expressions too.
 pub record IsChangedEntry (s : Sections) (info : List ℕ) (m : Moves) (is_first : Bool) (old new : Entry) : Type 0 where
   pub place : new.place ≡ old.place
   pub unit : new.unit ≡ old.unit
@@ -23,12 +22,12 @@ pub record IsChangedEntry (s : Sections) (info : List ℕ) (m : Moves) (is_first
   pub bytes : (a : Attr) → Contains old.attrs a → IsKeptValue m (is_own s old.declaration) is_first old a →
       value_bytes info a ≡ value_bytes s.info a
 
--- a unit, and the same unit of the written file: it has as many entries, each of them changed
+-- `new` is the unit `old` in the written file: it has as many entries, each of them changed.
 pub record IsChangedUnit (s : Sections) (info : List ℕ) (m : Moves) (old new : Unit) : Type 0 where
   pub place : new.place ≡ old.place
   pub abbrev_offset : new.abbrev_offset ≡ new_offset s old.abbrev_offset
   pub entries : AllZip (λ x y. IsChangedEntry s info m (is_first_of old x) x y) old.entries new.entries
 
--- unit by unit, with no others
+-- The written file has the units of `s`, each changed, in order, and no others.
 abbrev pub AreChangedUnits : Sections → Moves → Sections → Type 0
 AreChangedUnits s m f = AllZip (IsChangedUnit s f.info m) (units s) (units f)

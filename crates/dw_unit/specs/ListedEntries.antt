@@ -1,4 +1,4 @@
--- Entries as they are listed: of their declarations only the tag is kept.
+-- Entries as `units` returns them: only the tag of their declarations is kept.
 use Rattle.std.specs.Prelude.{ℕ, List, map}
 use Rattle.dw_unit.specs.declared.entry.Attr.{Attr}
 use Rattle.dw_unit.specs.CompUnits.{Entry, Sections, entries}
@@ -13,6 +13,6 @@ pub record ListedEntry : Type 0 where
 abbrev pub listed : Entry → ListedEntry
 listed e = record { place = e.place; unit = e.unit; depth = e.depth; tag = e.declaration.tag; attrs = e.attrs }
 
--- all entries of a file, in order
+-- All entries of a file, in order.
 abbrev pub listed_entries : Sections → List ListedEntry
 listed_entries s = map listed (entries s)

@@ -4,7 +4,7 @@ use Rattle.dw_unit.specs.declared.trouble.Trouble.{Trouble}
 use Rattle.dw_unit.specs.CompUnits.{Entry, Sections, Unit}
 use Rattle.dw_unit.specs.ListedEntries.{ListedEntry, listed}
 
--- listed entries, and then those that were read
+-- Listed entries, and after them entries that were read.
 abbrev pub with_listed : List ListedEntry → Result (List Entry) Trouble → Result (List ListedEntry) Trouble
 with_listed ls (Ok es) = Ok (ls ++ map listed es)
 with_listed ls (Err e) = Err e
@@ -17,7 +17,7 @@ abbrev pub listed_unit : Result Unit Trouble → Result (List ListedEntry) Troub
 listed_unit (Ok u) = Ok (map listed u.entries)
 listed_unit (Err e) = Err e
 
--- an entry that is listed so, whatever its declaration says
+-- An entry with the fields of a listed entry. Its declaration has nothing except the tag.
 abbrev pub plain : ListedEntry → Entry
 plain e = record {
   place = e.place;
@@ -27,7 +27,7 @@ plain e = record {
   attrs = e.attrs;
 }
 
--- a unit of such entries
+-- A unit with such entries.
 abbrev pub plain_unit : List ListedEntry → Unit
 plain_unit es = record { place = 0; abbrev_offset = 0; entries = map plain es }
 

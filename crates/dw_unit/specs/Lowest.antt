@@ -1,4 +1,4 @@
--- The lower of a place, if it counts, and another.
+-- The lower of a number, if it counts, and another, which may be missing.
 use Rattle.std.specs.Prelude.{ℕ, Bool, if◌then◌else◌, Option, Some}
 use Rattle.answer_runs.specs.Choices.{lower}
 

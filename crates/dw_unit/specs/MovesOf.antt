@@ -1,4 +1,4 @@
--- What the change of entries goes by, as moves.
+-- The moves that the struct `EntryMoves` has.
 use Rattle.std.specs.Prelude.{◌≡◌, ℕ}
 use Rattle.std.specs.BTreeMap.{get}
 use Rattle.std.specs.Ordering.{nat_cmp}

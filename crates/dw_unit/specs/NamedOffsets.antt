@@ -1,4 +1,4 @@
--- The offsets of abbreviations that headers name.
+-- The abbreviation offsets in unit headers.
 use Rattle.std.specs.Prelude.{◌==◌, ℕ, Bool, false, List, Option, Some, None, Ok, Err}
 use Rattle.std.specs.List.{list_any}
 use Rattle.std.specs.Option.{option_map_or}

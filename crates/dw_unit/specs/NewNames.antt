@@ -1,4 +1,4 @@
--- What the new names of a declaration's attributes go by.
+-- What the new names of a declaration's attributes depend on.
 use Rattle.std.specs.Prelude.{◌≡◌, Bool}
 use Rattle.dw_unit.specs.declared.attribute.TheConstants.{DW_AT_high_pc, DW_AT_entry_pc}
 use Rattle.dw_unit.specs.declared.naming.Naming.{Naming}

@@ -17,6 +17,6 @@ AllRead abbrevs (w ∷ ws) = ((u : Unit) × (unit_of abbrevs w ≡ Ok u)) × All
 abbrev pub names_own : (abbrevs : List ℕ) → List Walked → ℕ → Bool
 names_own abbrevs ws q = list_any (is_own_of q) (oks (map (unit_of abbrevs) ws))
 
--- declarations are those that own entries of the units of some sections have
+-- `own` has the declarations that own entries of units use, and no others.
 abbrev pub AreOwn : Sections → OwnDeclarations → Type 0
 AreOwn s own = (d : Declaration) → is_own s d ≡ is_some (get nat_cmp own.places d.place)

@@ -1,4 +1,4 @@
--- The debug sections of a file that units are read from, and how those of the written file follow from the input's.
+-- The debug sections that units are read from, and how the sections of the written file follow from the input's.
 use Rattle.std.specs.Prelude.{◌≡◌, ◌+◌, ◌%◌, ◌^◌, ℕ, IsTrue, List, [], ◌∷◌, codes, Contains, Option, Some, None}
 use Rattle.rv_code.specs.declared.inst.Inst.{Inst}
 use Rattle.rv_code.specs.isa.Action.{action_of}
@@ -23,7 +23,7 @@ sections_of elf = record {
   addr = bytes_of elf (codes ".debug_addr");
 }
 
--- a call ends at one address in the input, and where it was moved at another
+-- A call that was moved ends at address `from` in the input and at address `to` in the output.
 pub record IsCallEnd (elf : Elf) (spans : List Span) (from to : ℕ) : Type 0 where
   pub span : Span
   pub listed : Contains spans span
@@ -34,19 +34,19 @@ pub record IsCallEnd (elf : Elf) (spans : List Span) (from to : ℕ) : Type 0 wh
   pub from_is : from ≡ span.input + bytes
   pub to_is : to ≡ (span.out + bytes) % 2 ^ 64
 
--- what a map and lists make of a file's addresses and attributes
+-- `m` has the moves of the spans `spans`, and the ends of the calls that they move.
 pub record AreMovesOf (elf : Elf) (spans : List Span) (m : Moves) : Type 0 where
   pub spans_are : m.spans ≡ spans
   pub call_end_is : (from to : ℕ) → m.call_end from ≡ Some to → IsCallEnd elf spans from to
   pub no_call_end : (from to : ℕ) → m.call_end from ≡ None → IsCallEnd elf spans from to → ⊥
 
--- The three sections of the file f are those of the input i, changed.
+-- The three sections of the file `f` are the changed sections of the input `i`.
 pub record AreChanged (m : Moves) (i f : Elf) : Type 0 where
   pub info : bytes_of f (codes ".debug_info") ≡ changed_info (sections_of i) m
   pub abbrevs : bytes_of f (codes ".debug_abbrev") ≡ changed_abbrevs (sections_of i)
   pub addr : bytes_of f (codes ".debug_addr") ≡ changed_addr m (sections_of i).addr
 
--- They were changed for a map, and by just these lists.
+-- The sections are changed for the spans, with the lists `lists` and no others.
 pub record AreChangedWith (spans : List Span) (lists : List ListAt) (i f : Elf) : Type 0 where
   pub moves : Moves
   pub are_moves : AreMovesOf i spans moves
@@ -54,7 +54,7 @@ pub record AreChangedWith (spans : List Span) (lists : List ListAt) (i f : Elf) 
   pub changed : AreChanged moves i f
   pub units_are : AreChangedUnits (sections_of i) moves (sections_of f)
 
--- They were changed for a map, and by lists among which are those of a written table.
+-- The sections are changed for the spans, with lists among which `lists` are found.
 pub record AreChangedBy (spans : List Span) (lists : List ListAt) (i f : Elf) : Type 0 where
   pub moves : Moves
   pub are_moves : AreMovesOf i spans moves
@@ -62,8 +62,8 @@ pub record AreChangedBy (spans : List Span) (lists : List ListAt) (i f : Elf) : 
   pub changed : AreChanged moves i f
   pub units_are : AreChangedUnits (sections_of i) moves (sections_of f)
 
--- The new contents of the two sections of a file whose code moves. In each file that has them, and the tables of
--- addresses changed too, each entry stands where it stood, and units can be read.
+-- The new `.debug_info` and `.debug_abbrev` of a file whose code moves. In each file with these sections and the
+-- changed `.debug_addr`, each entry keeps its offset, and all units can be read.
 pub record AreNewUnits (elf : Elf) (spans : List Span) (lists : List ListAt) (info abbrevs : List ℕ) : Type 0 where
   pub moves : Moves
   pub are_moves : AreMovesOf elf spans moves
@@ -73,6 +73,6 @@ pub record AreNewUnits (elf : Elf) (spans : List Span) (lists : List ListAt) (in
   pub units_are : (f : Elf) → AreChanged moves elf f → AreChangedUnits (sections_of elf) moves (sections_of f)
   pub sound : (f : Elf) → AreChanged moves elf f → IsFree (HasDwarfFault (unit_fault_places (sections_of f)))
 
--- where no fault is answered
+-- The answers, unless there is a fault.
 abbrev pub answers_if_free : {A : Type 0} → FaultPlaces → (ℕ → Option A) → Option (ℕ → Option A)
 answers_if_free p answers = unless_any (p.version ∷ p.form ∷ p.high ∷ p.bad ∷ []) answers

@@ -1,4 +1,4 @@
--- Declarations of a list: their codes, and whether each names no attribute twice.
+-- The codes of a list of declarations, and whether each names no attribute twice.
 use Rattle.std.specs.Prelude.{ℕ, Bool, List, map}
 use Rattle.dw_unit.specs.declared.declaration as declaration
 use Rattle.dw_unit.specs.CompUnits.{are_named_once}

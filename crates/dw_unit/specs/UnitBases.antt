@@ -1,4 +1,4 @@
--- What the bases of a unit are for.
+-- The bases of a unit, and what they are needed for.
 use Rattle.std.specs.Prelude.{◌==◌, ◌&&◌, ◌||◌, ℕ, Bool, List, is_some}
 use Rattle.table_core.specs.declared.form.TheConstants.{DW_FORM_sec_offset, DW_FORM_loclistx, DW_FORM_rnglistx}
 use Rattle.table_core.specs.AttributeForms.{is_block, is_address_index, is_text_index}
@@ -17,7 +17,7 @@ bases_of u = record {
   loclists = base DW_AT_loclists_base u;
 }
 
--- an attribute that uses an index has what it needs
+-- An attribute whose form is an index has the table that it needs.
 abbrev pub has_table : List ℕ → Unit → Attr → Bool
 has_table addr u a =
     implies (is_text_index a.form) (is_some (base DW_AT_str_offsets_base u))
@@ -25,7 +25,7 @@ has_table addr u a =
     && implies (a.form == DW_FORM_loclistx) (is_some (base DW_AT_loclists_base u))
     && implies (a.form == DW_FORM_rnglistx) (is_some (base DW_AT_rnglists_base u))
 
--- ranges, expressions and bases have the forms that are read
+-- Ranges, expressions and bases have the forms that are read.
 abbrev pub has_form : Attr → Bool
 has_form a =
     implies (is_located a.name) (is_block a.form || a.form == DW_FORM_sec_offset || a.form == DW_FORM_loclistx)

@@ -1,4 +1,4 @@
--- What the change of units goes by, of the sections of a file.
+-- What the change of a file's units depends on.
 use Rattle.std.specs.Prelude.{◌≡◌, ℕ, Some}
 use Rattle.std.specs.BTreeMap.{get}
 use Rattle.std.specs.Ordering.{nat_cmp}

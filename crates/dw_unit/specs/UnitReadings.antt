@@ -1,4 +1,4 @@
--- What is read of a unit, and of several.
+-- The results of reading one unit, and several.
 use Rattle.std.specs.Prelude.{◌≡◌, ℕ, true, false, List, map, flat_map, MatchOption, None, Result, Ok}
 use Rattle.answer_runs.specs.Choices.{least}
 use Rattle.table_core.specs.ReadSteps.{oks}
@@ -12,7 +12,7 @@ use Rattle.dw_unit.specs.Faults.{declarations_of, places_with, unformed, fails, 
 use Rattle.dw_unit.specs.ListedEntries.{ListedEntry, listed}
 use Rattle.dw_unit.specs.ListedUnits.{listed_unit}
 
--- behind the header, where a unit was read or not
+-- The result of reading a unit's table and entries, whether or not this succeeds.
 pub record IsBehind (addr : List ℕ) (u : Result Unit Trouble) (r : UnitReading) : Type 0 where
   pub unformed : r.unformed ≡ least (unformed u)
   pub entries : MatchOption r.entries (fails (is_sound_unit addr) u ≡ true)
@@ -23,7 +23,7 @@ pub record IsReading (abbrevs addr : List ℕ) (w : Walked) (r : UnitReading) : 
   pub high : r.bad_high ≡ least (places_with has_bad_high (declarations_of abbrevs w))
   pub behind : IsBehind addr (unit_of abbrevs w) r
 
--- the entries of those that can be read
+-- The entries of the units that can be read.
 abbrev pub listed_all : List ℕ → List Walked → List ListedEntry
 listed_all abbrevs ws = map listed (flat_map (λ (u : Unit). u.entries) (oks (map (unit_of abbrevs) ws)))
 

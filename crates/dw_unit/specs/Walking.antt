@@ -1,11 +1,11 @@
--- Entries that are read one by one.
+-- Entries read one by one.
 use Rattle.std.specs.Prelude.{ℕ, List, length, Result}
 use Rattle.dw_unit.specs.declared.entry.Attr.{Attr}
 use Rattle.dw_unit.specs.declared.trouble.Trouble.{Trouble}
 use Rattle.dw_unit.specs.Declarations.{Declaration, Table}
 use Rattle.dw_unit.specs.CompUnits.{Entry, UnitBounds, entries_within}
 
--- the entries in the bytes left, from a depth on
+-- The entries in the bytes left, from a depth on.
 abbrev pub entries_at : UnitBounds → ℕ → List ℕ → Result (List Entry) Trouble
 entries_at u depth left = entries_within u (length left) depth left
 

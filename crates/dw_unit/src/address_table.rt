@@ -27,7 +27,7 @@ fn is_bad(table: &DebugUnit) -> bool
     }
 }
 
-/// The place of the first table of addresses that isn't as the format has it. Versions are told by `other_version`.
+/// The offset of the first malformed address table. Other versions are found by `other_version`.
 pub fn bad_table(tables: &[DebugUnit]) -> Option<u64>
     ensures { result ≡ first_place (λ w. not (option_map_or is_address_table w.bytes false)) tables.now }
 {
@@ -41,7 +41,7 @@ fn is_other(unit: &DebugUnit) -> bool
     unit.is_other
 }
 
-/// The place of the first unit, or table, of another format or version than is read.
+/// The offset of the first unit, or table, of another format or version than those that are read.
 pub fn other_version(units: &[DebugUnit]) -> Option<u64>
     ensures { result ≡ first_place (λ w. w.is_other) units.now }
 {

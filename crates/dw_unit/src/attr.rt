@@ -17,8 +17,8 @@ pub(crate) fn is_form(form: u64) -> bool
     DW_FORM_addr <= form && form <= DW_FORM_addrx4 && form != 2
 }
 
-// The form of the value at the front: `form`, which its declaration at `declaration` gives; or where that is
-// DW_FORM_indirect, the one that stands before the value. DWARF 5, section 7.5.3.
+// The form of the value at the front. It is `form`, from the declaration at offset `declaration`, unless that is
+// DW_FORM_indirect: then the form precedes the value. DWARF 5, section 7.5.3.
 fn form<'a>(cursor: &mut Cursor<'a>, declaration: u64, form: u64) -> Result<u64, Trouble>
     ensures read { IfOk result (λ x. form_at declaration form cursor.old.left ≡ Ok (x, cursor.new.left)) }
     ensures trouble { IfErr result (λ e. form_at declaration form cursor.old.left ≡ Err e) }
@@ -38,8 +38,8 @@ fn form<'a>(cursor: &mut Cursor<'a>, declaration: u64, form: u64) -> Result<u64,
     }
 }
 
-/// Reads the attribute at the front of a unit's bytes, which end at offset `end` of `.debug_info`. `spec` is what the
-/// declaration at offset `declaration` of `.debug_abbrev` says of it.
+/// Reads the attribute at the front of a unit's bytes, which end at offset `end` of `.debug_info`. `spec` is the
+/// attribute's pair in the declaration at offset `declaration` of `.debug_abbrev`.
 pub fn attr<'a>(
     cursor: &mut Cursor<'a>,
     end: u64,

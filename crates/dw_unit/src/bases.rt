@@ -1,7 +1,7 @@
 // The bases of a unit.
 
 /// The bases of a unit's indexes: the values of DW_AT_addr_base, DW_AT_str_offsets_base, DW_AT_rnglists_base and
-/// DW_AT_loclists_base of its own entry, where that has them. Each is an offset in its section. DWARF 5, section 3.1.1.
+/// DW_AT_loclists_base of its own entry, if present. Each is an offset in its section. DWARF 5, section 3.1.1.
 #[derive(Clone, Copy)]
 pub struct Bases {
     pub addr: Option<u64>,

@@ -1,4 +1,4 @@
-// Where calls end.
+// The ends of calls.
 ghost use Rattle.std.specs.Prelude.{◌≡◌, ◌+◌, ◌^◌, ◌<◌, All, ℕ, IfOk, IfSome, Some};
 ghost use Rattle.elf_code.specs.Parts.{halfword_at};
 ghost use Rattle.dw_unit.specs.CallEnds.{AreCallEnds, HasCall};
@@ -11,7 +11,7 @@ use rv_decode::decode;
 use std::alloc::Global;
 use std::collections::BTreeMap;
 
-// The halfword at an address. What isn't loaded counts as zero.
+// The halfword at an address. Bytes that aren't loaded count as zero.
 fn halfword_at(elf: &Elf, address: u64) -> u16
     requires { address + 1 < 2 ^ 64 }
     ensures { result ≡ halfword_at elf.now address }
@@ -21,7 +21,7 @@ fn halfword_at(elf: &Elf, address: u64) -> u16
     low as u16 + 256 * high as u16
 }
 
-// How many bytes the call at an address has, if a call is there.
+// The size in bytes of the call at an address, if a call is there.
 fn call_at(elf: &Elf, address: u64) -> Option<u64>
     requires { address + 3 < 2 ^ 64 }
     ensures there { IfSome result (HasCall elf.now address) }
@@ -38,7 +38,7 @@ fn call_at(elf: &Elf, address: u64) -> Option<u64>
     }
 }
 
-/// The ends of all calls that a map moves, and beside each the end of the moved call, which has as many bytes.
+/// Maps the end of each call that `map` moves to the end of the moved call, which has the same size.
 pub fn call_ends(alloc: Global, elf: &Elf, map: &AddrMap) -> Result<BTreeMap<u64, u64>, NoMemory>
     ensures ends { IfOk result (AreCallEnds elf.now map.now) }
     ensures below { IfOk result (λ _. All (λ s. s.out < 2 ^ 64) map.now) }
@@ -48,7 +48,7 @@ pub fn call_ends(alloc: Global, elf: &Elf, map: &AddrMap) -> Result<BTreeMap<u64
         let Some(span) = map.span(index) else {
             unreachable!();
         };
-        // No code that is read stands so high. The sums below need it.
+        // No code is at so high an address. The sums below need this test.
         if span.input > u64::MAX - 8 {
             return Err(NoMemory);
         }

@@ -1,11 +1,11 @@
 // Entries that are changed in place.
 
-/// What the change of an entry's attributes goes by.
+/// What the change of an entry's attributes depends on.
 #[derive(Clone, Copy)]
 pub struct ChangedEntry {
     /// Its offset in `.debug_info`.
     pub place: u64,
-    /// Whether some unit's own entry has its declaration.
+    /// Whether some unit's own entry has the same declaration.
     pub is_own: bool,
     /// Whether it is its unit's own entry.
     pub is_first: bool,

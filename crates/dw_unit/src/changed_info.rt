@@ -1,6 +1,6 @@
-// `.debug_info` with its entries changed in place. It is written front to back: each function here copies `info` from
-// the offset `from` on up to where it changes something, writes that anew, and answers the offset from which on the
-// next one copies. What is behind the last change is copied by whoever comes next.
+// `.debug_info` with its entries changed in place. It is written front to back. Each function here copies `info` from
+// the offset `from` up to its last change, with its changes, and returns the offset after that change. The next call
+// goes on from there.
 ghost use Rattle.std.specs.Prelude.{◌≡◌, ◌≤◌, ◌+◌, ◌++◌, List, IfOk, length, drop, flat_map, map};
 ghost use Rattle.dw_unit.specs.Changes as spec;
 ghost use Rattle.dw_unit.specs.Changes.{Patch, patched};
@@ -17,8 +17,8 @@ use crate::new_value::new_value;
 use crate::patch::put_number;
 use rb_bytes::fault::NoMemory;
 
-// Writes the offset of the entry's range list over a high address, `attr`; of one of eight bytes the last four become
-// an attribute that says nothing, and get zeros.
+// Writes the offset of the entry's range list over its DW_AT_high_pc, `attr`. If that has eight bytes, the last four
+// become an unused attribute, and are zeros.
 fn put_ranges(
     out: &mut Vec<u8>,
     info: &[u8],
@@ -46,7 +46,7 @@ fn put_ranges(
     }
 }
 
-// Writes an attribute with its change, if it gets a new value.
+// Writes an attribute's new value, if it gets one.
 fn put_attr(
     out: &mut Vec<u8>,
     info: &[u8],
@@ -82,8 +82,8 @@ fn put_attr(
     }
 }
 
-/// Writes the attributes of an entry, which stand between `from` and `end`, with their changes. Answers the offset
-/// behind the last one that was changed, or `from`.
+/// Writes the changed attributes of an entry, which are between the offsets `from` and `end`. Returns the offset after
+/// the last change, or `from` if there is none.
 pub fn put_attrs(
     out: &mut Vec<u8>,
     info: &[u8],

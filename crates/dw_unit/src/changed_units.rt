@@ -1,5 +1,5 @@
 // Units with their entries changed in place. As in `changed_info`, `from` is the offset from which on `.debug_info`
-// isn't copied yet, and the answer is that offset afterwards.
+// isn't copied yet, and the result is that offset after the call.
 ghost use Rattle.std.specs.Prelude.{◌≡◌, ◌≤◌, ◌+◌, ◌++◌, List, false, IfOk, Ok, length, drop, flat_map, map};
 ghost use Rattle.std.specs.Prelude.{option_map};
 ghost use Rattle.std.specs.List.{list_any};
@@ -32,7 +32,7 @@ use rb_bytes::fault::NoMemory;
 use std::alloc::Global;
 use table_core::DebugUnit;
 
-// What the change of an entry goes by; `own` is its unit's own entry, `head` the entry itself.
+// How an entry changes. `own` is its unit's own entry, and `head` the entry itself.
 fn changed_entry(change: &UnitChange<'_>, own: Option<OwnEntry>, head: &Head<'_>) -> ChangedEntry
     ensures is_own { (s : Sections) (m : Moves) → IsChangeOf s m change.now →
         result.is_own ≡ is_own s (told_declaration head.now.declaration.now) }
@@ -53,7 +53,7 @@ fn changed_entry(change: &UnitChange<'_>, own: Option<OwnEntry>, head: &Head<'_>
     }
 }
 
-// Writes the changes of an entry, whose attributes stand before `end`.
+// Writes the changes of an entry whose attributes are before offset `end`.
 fn put_entry(
     out: &mut Vec<u8>,
     from: usize,
@@ -79,7 +79,7 @@ fn put_entry(
     put_attrs(out, change.info, from, end, change.moves, entry, attrs)
 }
 
-// Writes the changes of a unit's entries, which are walked once more.
+// Writes the changes of a unit's entries, in a second walk over them.
 fn put_entries(
     alloc: Global,
     out: &mut Vec<u8>,
@@ -126,7 +126,7 @@ fn put_entries(
     }
 }
 
-// Writes the changes of a unit that can be read: the offset of its abbreviations, and its entries.
+// Writes the changes of a unit that can be read: its abbreviation offset, and its entries.
 fn put_unit(
     alloc: Global,
     out: &mut Vec<u8>,
@@ -150,7 +150,7 @@ fn put_unit(
     let own = own_entry(alloc, change.tables, unit)?;
     let entries = unit_entries(change.tables, unit);
     let offset = change.new_tables.offset(entries.abbrev_offset);
-    // The offset stands behind the length (4), the version (2), the type (1) and the size of addresses (1).
+    // The abbreviation offset follows the length (4 bytes), version (2), type (1) and address size (1).
     let to = put_number(
         out,
         change.info,
@@ -162,7 +162,7 @@ fn put_unit(
     put_entries(alloc, out, to, change, own, entries)
 }
 
-/// The new `.debug_info`, by its units, all of which can be read.
+/// The new `.debug_info`. All its units can be read.
 pub fn changed_units(
     alloc: Global,
     change: &UnitChange<'_>,

@@ -15,16 +15,16 @@ use table_core::form::DW_FORM_implicit_const;
 use table_core::shape::Shape;
 use table_core::value::value;
 
-// How many attributes a declaration has at most; compilers list fewer than forty. Attributes need have no bytes in an
-// entry (DW_FORM_flag_present), so each entry of one byte could take as long to read as its declaration is.
+// The limit of a declaration's attributes. Compilers list fewer than forty. An attribute may have no bytes in an entry
+// (DW_FORM_flag_present), so without a limit an entry of one byte could take as long to read as its declaration.
 const MOST_SPECS: usize = 1 << 8;
 
-/// What a declaration says of an attribute: its number, as `DW_AT_low_pc`, and the form of its value.
+/// A pair of a declaration: an attribute's number, such as `DW_AT_low_pc`, and the form of its value.
 #[derive(Clone, Copy)]
 pub struct Spec {
     pub name: u64,
     pub form: u64,
-    /// The value, where it stands in the declaration, as a number modulo 2 ^ 64.
+    /// The value of a DW_FORM_implicit_const, modulo 2^64; 0 for other forms.
     pub implicit: u64,
 }
 
@@ -39,7 +39,7 @@ pub struct Declaration {
     pub specs: Vec<Spec>,
 }
 
-// The value that stands in a declaration, for DW_FORM_implicit_const; 0 for other forms.
+// The value of a DW_FORM_implicit_const, which is in the declaration; 0 for other forms.
 fn read_implicit<'a>(cursor: &mut Cursor<'a>, form: u64) -> Result<u64, Trouble>
     ensures read { IfOk result (λ x. implicit_at form cursor.old.left ≡ Ok (x, cursor.new.left)) }
     ensures trouble { IfErr result (λ e. implicit_at form cursor.old.left ≡ Err e) }
@@ -52,7 +52,7 @@ fn read_implicit<'a>(cursor: &mut Cursor<'a>, form: u64) -> Result<u64, Trouble>
     Ok(number)
 }
 
-// The next pair of a name and a form, or the two zeros that end them.
+// The next pair of a name and a form, or none at the two zeros that end them.
 fn next_spec<'a>(cursor: &mut Cursor<'a>) -> Result<Option<Spec>, Trouble>
     ensures read { IfOk result (λ s. spec_at cursor.old.left ≡ Ok (s, cursor.new.left)) }
     ensures trouble { IfErr result (λ e. spec_at cursor.old.left ≡ Err e) }
@@ -71,7 +71,7 @@ fn next_spec<'a>(cursor: &mut Cursor<'a>) -> Result<Option<Spec>, Trouble>
     }))
 }
 
-// The pairs of a declaration. Memory is said to be wanting for more than `MOST_SPECS`.
+// The pairs of a declaration. More than `MOST_SPECS` give `Stop::Memory`.
 fn read_specs<'a>(alloc: Global, cursor: &mut Cursor<'a>) -> Result<Vec<Spec>, Stop>
     ensures read { IfOk result (λ specs. specs_at cursor.old.left ≡ Ok (specs.items, cursor.new.left)) }
     ensures trouble { IfTrouble result (λ e. specs_at cursor.old.left ≡ Err e) }
@@ -91,7 +91,7 @@ fn read_specs<'a>(alloc: Global, cursor: &mut Cursor<'a>) -> Result<Vec<Spec>, S
     }
 }
 
-/// Reads a declaration behind its code, which stands at offset `place`.
+/// Reads a declaration after its code, which is at offset `place`.
 pub fn read_declaration<'a>(
     alloc: Global,
     cursor: &mut Cursor<'a>,

@@ -1,4 +1,4 @@
-// What is asked of a declaration.
+// Tests of declarations.
 ghost use Rattle.std.specs.Prelude.{◌≡◌, ◌==◌, ◌&&◌, ◌||◌, not, IfOk};
 ghost use Rattle.std.specs.List.{list_any};
 ghost use Rattle.table_core.specs.AttributeForms.{is_address_index};
@@ -42,7 +42,7 @@ pub fn are_named_once(alloc: Global, specs: &[Spec]) -> Result<bool, NoMemory>
     Ok(true)
 }
 
-/// Whether some attribute has a form that is none.
+/// Whether some attribute has an unknown form.
 pub fn has_bad_form(declaration: &Declaration) -> bool
     ensures { result ≡ has_bad_form (told_declaration declaration.now) }
 {
@@ -62,7 +62,7 @@ pub fn is_address_index(form: u64) -> bool
     form == DW_FORM_addrx || DW_FORM_addrx1 <= form && form <= DW_FORM_addrx4
 }
 
-// Whether it is DW_AT_low_pc, with its address in the entry or in the table of addresses.
+// Whether it is a DW_AT_low_pc whose address is in the entry or in the address table.
 fn is_low(spec: &Spec) -> bool
     ensures { result ≡ is_low spec.now }
 {
@@ -81,8 +81,8 @@ fn is_high_form(form: u64) -> bool
     form == DW_FORM_data4 || form == DW_FORM_data8 || form == DW_FORM_addr
 }
 
-// Whether it is DW_AT_high_pc in a form that leaves no room for the offset of a list, or beside DW_AT_ranges, or
-// without a low address.
+// Whether it is a DW_AT_high_pc whose form has no room for the offset of a list, or an entry with it has DW_AT_ranges,
+// or no low address.
 fn is_bad_high(spec: &Spec, ranged: bool, low: bool) -> bool
     ensures { result ≡ (spec.now.name == DW_AT_high_pc && (not (is_high_form spec.now.form) || ranged || not low)) }
 {

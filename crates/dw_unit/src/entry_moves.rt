@@ -1,14 +1,14 @@
-// What the change of entries goes by.
+// What the change of entries depends on.
 use crate::list_offsets::ListOffsets;
 use addr_map::AddrMap;
 use std::collections::BTreeMap;
 
-/// Where code and lists went.
+/// The new addresses of code and the new offsets of lists.
 #[derive(Drop)]
 pub struct EntryMoves<'m> {
     pub map: &'m AddrMap,
     pub lists: ListOffsets<'m>,
-    /// The ends of calls, and beside each that of the moved call.
+    /// The end of each call that moved, with the end of the moved call.
     pub call_ends: BTreeMap<u64, u64>,
 }
 
@@ -26,14 +26,15 @@ impl<'m> EntryMoves<'m> {
         self.map.moved(address)
     }
 
-    /// Where the moved call ends that ended at an address, if one did.
+    /// The end of the moved call that ended at an address, if there is one.
     pub fn call_end(&self, address: u64) -> Option<u64>
         ensures { result ≡ get nat_cmp self.now.call_ends address }
     {
         self.call_ends.get(&address).copied()
     }
 
-    /// Where the new list of an entry's attribute stands, or its new base or line unit (`ListAt`), if it has one.
+    /// The offset of the new list of an entry's attribute, or its new base or line number program (`ListAt`), if it has
+    /// one.
     pub fn list(&self, entry: u64, attr: u64) -> Option<u64>
         ensures { result ≡ new_list_offset self.now.lists entry attr }
     {

@@ -1,12 +1,12 @@
-// Which fault of units is answered.
+// Which fault of units is reported.
 ghost use Rattle.std.specs.Prelude.{OnOk, IfErr};
 ghost use Rattle.rb_bytes.specs.FirstFault.{IsFree, IsAnswered};
 ghost use Rattle.dw_unit.specs.Faults.{HasDwarfFault};
 
 use rb_bytes::fault::{Fault, FaultKind};
 
-/// Of each of four faults the place that is answered, where it is present: units or tables of another version, forms
-/// that are none, high addresses that can't be changed in place, and anything else.
+/// The place to report for each of four faults, if present: units or tables of another version, unknown forms, high
+/// addresses that can't be changed in place, and any other violation of the format.
 #[derive(Clone, Copy)]
 pub struct FaultPlaces {
     pub version: Option<u64>,
@@ -15,7 +15,7 @@ pub struct FaultPlaces {
     pub bad: Option<u64>,
 }
 
-/// Refuses for the first fault that is present, in the order of the fields.
+/// Refuses with the first fault that is present, in the order of the fields.
 pub fn refused(places: FaultPlaces) -> Result<(), Fault>
     ensures free { OnOk result (IsFree (HasDwarfFault (record
         { version = places.version; form = places.form; high = places.high; bad = places.bad }))) }

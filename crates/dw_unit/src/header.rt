@@ -10,11 +10,11 @@ use crate::trouble::Trouble;
 use crate::unit_type::{DW_UT_compile, DW_UT_partial, DW_UT_type};
 use rb_bytes::cursor::Cursor;
 
-// How many bytes an address has in all units that are read.
+// The size of an address in all units that are read.
 const ADDRESS_SIZE: u8 = 8;
 
-// Passes the fields that only type units have: a signature of eight bytes, and the offset of the type. DWARF 5,
-// section 7.5.1.3.
+// Skips the fields that only type units have: a signature of eight bytes, and the offset of the type. DWARF 5, section
+// 7.5.1.3.
 fn pass_fields<'a>(cursor: &mut Cursor<'a>, kind: u8) -> Result<&'a [u8], Trouble>
     ensures read { IfOk result (λ x. whole (bytes_at (type_fields kind) cursor.old.left) ≡ Ok
         (x.now, cursor.new.left)) }
@@ -34,8 +34,8 @@ fn is_type(kind: u8) -> bool
     kind == DW_UT_compile || kind == DW_UT_type || kind == DW_UT_partial
 }
 
-/// Reads a unit's header behind its length, and answers the offset of its abbreviations. The version isn't tested
-/// here: another one is a fault of its own (`other_version`).
+/// Reads a unit's header after its length, and returns the abbreviation offset. The version isn't tested here: another
+/// version is a fault of its own (`other_version`).
 pub fn header<'a>(cursor: &mut Cursor<'a>) -> Result<u64, Trouble>
     ensures read { IfOk result (λ x. header_at cursor.old.left ≡ Ok (x, cursor.new.left)) }
     ensures trouble { IfErr result (λ e. header_at cursor.old.left ≡ Err e) }

@@ -11,12 +11,12 @@ use crate::table::Table;
 use rb_bytes::fault::NoMemory;
 use std::alloc::Global;
 
-/// A table that was read, with what is asked of it at each entry: the declaration of a code, and whether that names no
-/// attribute twice.
+/// A table with an index for the queries of each entry: the declaration of a code, and whether it names no attribute
+/// twice.
 #[derive(Drop)]
 pub struct IndexedTable {
     pub table: Table,
-    // Of each declaration, whether it names no attribute twice.
+    // For each declaration, whether it names no attribute twice.
     pub(crate) once: Vec<bool>,
     // The keys of the declarations (`codes`), ascending.
     pub(crate) keys: Vec<u128>,

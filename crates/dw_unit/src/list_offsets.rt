@@ -1,4 +1,4 @@
-// Where lists stand in written tables.
+// The offsets of lists in the written tables.
 ghost use Rattle.std.specs.Prelude.{◌≡◌, ◌^◌, ◌<◌, IfOk};
 ghost use Rattle.dw_unit.specs.EntryMoves.{new_list_offset};
 ghost use Rattle.dw_unit.specs.ListKeys.{list_key, Offsets};
@@ -9,7 +9,7 @@ use std::collections::BTreeMap;
 use std::marker::Model;
 use table_core::ListAt;
 
-/// Lists of written tables, found by their entries and attributes. Contracts see the list of them that was given.
+/// The lists of the written tables, found by their entries and attributes. Contracts see the list that was given.
 #[derive(Drop)]
 pub struct ListOffsets<'l> {
     lists: &'l [ListAt],
@@ -36,8 +36,8 @@ fn key(entry: u64, attr: u64) -> u128
     entry as u128 * (1 << 64) + attr as u128
 }
 
-// The offsets of lists. Of several for one attribute of an entry the first counts, so they are gone through from the
-// last one on.
+// The offsets of lists. If several are for one attribute of an entry, the first counts: so they are inserted from the
+// last to the first.
 fn first_offsets(alloc: Global, lists: &[ListAt]) -> Result<BTreeMap<u128, u64>, NoMemory>
     ensures { IfOk result (Offsets lists.now) }
 {
@@ -50,7 +50,7 @@ fn first_offsets(alloc: Global, lists: &[ListAt]) -> Result<BTreeMap<u128, u64>,
 }
 
 impl<'l> ListOffsets<'l> {
-    /// The offsets of some lists, by their entries and attributes.
+    /// An index of `lists` by entry and attribute.
     pub fn new(alloc: Global, lists: &'l [ListAt]) -> Result<ListOffsets<'l>, NoMemory>
         ensures { IfOk result (λ l. l ≡ lists.now) }
     {
@@ -58,7 +58,7 @@ impl<'l> ListOffsets<'l> {
         Ok(ListOffsets { lists, offsets })
     }
 
-    /// Where the list of an entry's attribute stands, if it has one.
+    /// The offset of the list of an entry's attribute, if it has one.
     pub fn offset(&self, entry: u64, attr: u64) -> Option<u64>
         ensures { result ≡ new_list_offset self.now entry attr }
     {

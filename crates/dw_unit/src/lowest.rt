@@ -16,7 +16,7 @@ pub fn lower(x: Option<u64>, y: Option<u64>) -> Option<u64>
     }
 }
 
-/// The lower of a place, if it counts, and another one, which may be missing.
+/// The lower of `place`, if it counts, and `other`, which may be missing.
 pub fn lower_of(counts: bool, place: u64, other: Option<u64>) -> Option<u64>
     ensures { result ≡ lower_if counts place other }
 {

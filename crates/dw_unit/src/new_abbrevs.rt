@@ -1,4 +1,4 @@
-// Declarations as they stand in the written `.debug_abbrev`.
+// The declarations of the written `.debug_abbrev`.
 ghost use Rattle.std.specs.Prelude.{◌≡◌, ◌++◌, ◌&&◌, Bool, OnOk, flat_map};
 ghost use Rattle.std.specs.List.{list_any};
 ghost use Rattle.dw_unit.specs.Changes.{is_whole_low, new_name, spec_bytes, changed_spec, ranges_specs};
@@ -18,7 +18,7 @@ use rb_bytes::fault::NoMemory;
 use rb_bytes::leb::{put_sleb, put_uleb};
 use table_core::form::{DW_FORM_addr, DW_FORM_data4, DW_FORM_implicit_const, DW_FORM_sec_offset};
 
-// Whether it is DW_AT_low_pc, with its address in the entry.
+// Whether it is a DW_AT_low_pc whose address is in the entry.
 fn is_whole_low(spec: &Spec) -> bool
     ensures { result ≡ is_whole_low spec.now }
 {
@@ -31,8 +31,8 @@ fn has_whole_low(specs: &[Spec]) -> bool
     specs.iter().any(|spec| is_whole_low(spec))
 }
 
-// Whether a low address stays one in a declaration. The one of a unit's own entry does, which is the base address of
-// the unit's lists; `is_own` tells whether an own entry has the declaration.
+// Whether DW_AT_low_pc keeps its name. It does in a unit's own entry, as the base address of the unit's lists; `is_own`
+// is set if an own entry has the declaration.
 fn keeps_low(is_own: bool, specs: &[Spec]) -> bool
     ensures { result ≡ (is_own && list_any is_whole_low specs.now) }
 {
@@ -50,8 +50,8 @@ fn naming(is_own: bool, declaration: &Declaration) -> Naming
     }
 }
 
-// The new name of an attribute other than DW_AT_high_pc. Where that becomes ranges, the low address beside it is no
-// bound any more, but the address at which the code is entered; it says nothing where one is named already.
+// The new name of an attribute other than DW_AT_high_pc. If that becomes DW_AT_ranges, DW_AT_low_pc is no bound any
+// more: it becomes DW_AT_entry_pc, or an unused name if the declaration has DW_AT_entry_pc already.
 fn new_name(naming: Naming, name: u64) -> u64
     ensures { (is_own : Bool) (d : declared.Declaration) → IsNaming is_own d naming → result ≡ new_name is_own d name }
 {
@@ -80,8 +80,8 @@ fn put_spec(out: &mut Vec<u8>, spec: Spec) -> Result<(), NoMemory>
     Ok(())
 }
 
-// Appends what stands for a high address: the offset of a range list in four bytes, and a name for the other four
-// where it had eight.
+// Appends what replaces a DW_AT_high_pc: DW_AT_ranges with an offset of four bytes, and an unused name for the other
+// four if it had eight.
 fn put_ranges(out: &mut Vec<u8>, form: u64) -> Result<(), NoMemory>
     ensures { OnOk result (out.new.items ≡ out.old.items ++ flat_map spec_bytes (ranges_specs form)) }
 {

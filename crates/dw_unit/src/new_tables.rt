@@ -17,7 +17,7 @@ use rb_bytes::fault::NoMemory;
 use std::alloc::Global;
 use std::collections::BTreeMap;
 
-/// The written `.debug_abbrev`, and where each table stands in it, by its old offset.
+/// The written `.debug_abbrev`, and the new offset of each table by its old offset.
 #[derive(Drop)]
 pub struct NewTables {
     pub bytes: Vec<u8>,
@@ -39,8 +39,8 @@ fn put_table(out: &mut Vec<u8>, own: &OwnDeclarations, table: TableAt<'_>) -> Re
     Ok(())
 }
 
-/// Writes the tables at some old offsets, which ascend, one behind another, each with a closing zero. A table that
-/// lies within another is written for itself.
+/// Writes the tables of the old offsets `offsets`, which ascend, one after another, each with a closing zero. A table
+/// that begins within another gets its own copy.
 pub fn new_tables(
     alloc: Global,
     tables: &Tables<'_>,

@@ -1,4 +1,4 @@
-// The new values of attributes that are numbers in the entry.
+// The new values of attributes that are numbers in an entry.
 ghost use Rattle.std.specs.Prelude.{◌≡◌, ◌⊎◌, IfSome};
 ghost use Rattle.table_core.specs.declared.form.TheConstants.{DW_FORM_addr, DW_FORM_sec_offset};
 ghost use Rattle.dw_unit.specs.Changes as spec;
@@ -18,16 +18,16 @@ use crate::soundness::is_located;
 use table_core::form::{DW_FORM_addr, DW_FORM_sec_offset};
 use table_core::written::DW_AT_stmt_list;
 
-// The offset that names no line unit, for an entry that names none: no section is so large.
+// The DW_AT_stmt_list of an entry without a line number program: no section is so large.
 const NO_LINE_UNIT: u64 = 0xffff_ffff;
 
-// The new value of an address that stands in the entry.
+// The new value of an address in an entry.
 fn new_address(moves: &EntryMoves<'_>, entry: ChangedEntry, attr: &Attr) -> Option<u64>
     ensures { (m : Moves) (e : Entry) → AreMovesIn m moves.now → IsOf e entry →
         result ≡ spec.new_address m entry.is_own e attr.now }
 {
     if attr.name == DW_AT_low_pc && entry.is_own && entry.has_high {
-        // The base address of a unit's lists. The new lists have whole addresses.
+        // The base address of a unit's lists becomes 0, as the new lists have whole addresses.
         return Some(0);
     }
     if attr.name == DW_AT_addr_base || attr.name == DW_AT_str_offsets_base {

@@ -1,4 +1,4 @@
-// The offsets at which units have their abbreviations.
+// The abbreviation offsets of units.
 ghost use Rattle.std.specs.Prelude.{◌≡◌, ◌==◌, ℕ, IfOk};
 ghost use Rattle.std.specs.List.{list_any};
 ghost use Rattle.std.specs.List.Sorted.{IsStrictlyIncreasing};
@@ -10,7 +10,7 @@ use rb_bytes::fault::NoMemory;
 use std::alloc::Global;
 use table_core::DebugUnit;
 
-// The offset of a unit's abbreviations, if it has a header.
+// A unit's abbreviation offset, if its header can be read.
 fn offset_of(unit: &DebugUnit<'_>) -> Option<u64>
     ensures { result ≡ offset_of unit.now }
 {
@@ -31,7 +31,7 @@ fn all_offsets(alloc: Global, units: &[DebugUnit<'_>]) -> Result<Vec<u64>, NoMem
     Ok(offsets)
 }
 
-/// The offsets at which units have their abbreviations, ascending, each once.
+/// The abbreviation offsets of units, ascending, each once.
 pub fn abbrev_offsets(alloc: Global, units: &[DebugUnit<'_>]) -> Result<Vec<u64>, NoMemory>
     ensures rising { IfOk result (λ os. IsStrictlyIncreasing os.items) }
     ensures named { IfOk result (λ os. (q : ℕ) → list_any (λ o. o == q) os.items ≡ is_named_by q units.now) }

@@ -1,4 +1,4 @@
-// The declarations that own entries of units have.
+// The declarations of units' own entries.
 ghost use Rattle.std.specs.Prelude.{◌≡◌, ◌<◌, ◌^◌, ℕ, All, IfOk, is_some};
 ghost use Rattle.std.specs.BTreeMap.{get};
 ghost use Rattle.std.specs.Ordering.{nat_cmp};
@@ -45,7 +45,7 @@ impl OwnDeclarations {
     ghost use Rattle.std.specs.BTreeMap.{get};
     ghost use Rattle.std.specs.Ordering.{nat_cmp};
 
-    /// Whether a unit's own entry has the declaration at an offset.
+    /// Whether some unit's own entry has the declaration at offset `place`.
     pub fn has(&self, place: u64) -> bool
         ensures { result ≡ is_some (get nat_cmp self.now.places place) }
     {

@@ -1,6 +1,6 @@
 // The own entries of units.
 
-/// A unit's own entry, which is its first, as DW_TAG_compile_unit.
+/// A unit's own entry, which is its first, such as a DW_TAG_compile_unit.
 #[derive(Clone, Copy)]
 pub struct OwnEntry {
     /// Its offset in `.debug_info`.

@@ -6,8 +6,8 @@ ghost use Rattle.dw_unit.specs.Changes.{Patch, patched};
 use byteorder::{ByteOrder, LittleEndian};
 use rb_bytes::fault::NoMemory;
 
-/// Appends `bytes` from `from` to before `place`, and then, instead of the next `len` bytes, the low `len` bytes of
-/// `value`. Answers the place behind these, from which on `bytes` is still to be copied.
+/// Appends `bytes` from `from` up to `place`, and then the low `len` bytes of `value` in place of the next `len` bytes.
+/// Returns the offset after these, from which on `bytes` isn't copied yet.
 pub fn put_number(
     out: &mut Vec<u8>,
     bytes: &[u8],

@@ -1,4 +1,4 @@
-// Units and their faults.
+// Reading units and their faults.
 ghost use Rattle.std.specs.Prelude.{◌≡◌, ◌≤◌, ◌<◌, ◌^◌, ◌++◌, ◌∷◌, [], ℕ, List, None, All, IfOk, Err, length};
 ghost use Rattle.answer_runs.specs.Choices.{least};
 ghost use Rattle.table_core.specs.DebugUnits.{Walked};
@@ -21,7 +21,7 @@ use rb_bytes::fault::NoMemory;
 use std::alloc::Global;
 use table_core::DebugUnit;
 
-// The place of the declaration whose value names no form, if that is the trouble.
+// The offset of the declaration whose value has an unknown form, if that is the trouble.
 fn no_form(trouble: Trouble) -> Option<u64>
     ensures { result ≡ least (unformed (Err trouble)) }
 {
@@ -31,7 +31,7 @@ fn no_form(trouble: Trouble) -> Option<u64>
     }
 }
 
-// A reading without entries, and without faults of the declarations of the unit's table.
+// The result for a unit that can't be read, without faults of its declarations.
 fn unread(trouble: Trouble) -> UnitReading
     ensures { result ≡ record {
       bad_form = None;
@@ -48,7 +48,7 @@ fn unread(trouble: Trouble) -> UnitReading
     }
 }
 
-// What is read of a unit behind its header, by its table of abbreviations.
+// Reads a unit after its header, with its table of abbreviations.
 fn read_behind<'a>(
     alloc: Global,
     addr: &[u8],
@@ -87,7 +87,7 @@ fn read_behind<'a>(
     }
 }
 
-/// Reads a unit whose abbreviations are among the tables. One that can't be read is no error, but has no entries.
+/// Reads a unit whose table of abbreviations is in `tables`. A unit that can't be read is no error, but has no entries.
 pub fn read_unit(
     alloc: Global,
     tables: &Tables<'_>,
@@ -122,8 +122,7 @@ fn appended(entries: Vec<Entry>, more: Vec<Entry>) -> Result<Vec<Entry>, NoMemor
     Ok(all)
 }
 
-// What is read of some units and of the next one, which stands at `place`. Behind a unit that can't be read no entries
-// are added.
+// Adds the result for the next unit, which is at offset `place`. After a unit that can't be read no entries are added.
 fn joined(so_far: Readings, place: u64, reading: UnitReading) -> Result<Readings, NoMemory>
     ensures { IfOk result (λ r. (abbrevs addr : List ℕ) (ws : List Walked) (w : Walked) → w.place ≡ place →
         AreReadings abbrevs addr ws so_far → IsReading abbrevs addr w reading →
@@ -163,7 +162,7 @@ fn joined(so_far: Readings, place: u64, reading: UnitReading) -> Result<Readings
     }
 }
 
-/// Reads all units.
+/// Reads all units, in order.
 pub fn read_units(
     alloc: Global,
     tables: &Tables<'_>,

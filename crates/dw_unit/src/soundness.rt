@@ -45,14 +45,14 @@ pub fn bases(entries: &[Entry]) -> Bases
     }
 }
 
-/// Whether an attribute says where something is: its value is an expression, or names a list of them.
+/// Whether an attribute is a location: its value is an expression or refers to a location list.
 pub(crate) fn is_located(name: u64) -> bool
     ensures { result ≡ is_located name }
 {
     name == DW_AT_location || name == DW_AT_frame_base
 }
 
-// Whether a whole address stands at an index of the table of addresses that begins at `base`.
+// Whether the address table that begins at `base` has a whole address at `index`.
 fn has_address(addr: &[u8], base: Option<u64>, index: u64) -> bool
     ensures { (u : Unit) → base ≡ spec.base DW_AT_addr_base u → result ≡ is_some (address_at addr.now u index) }
 {
@@ -62,7 +62,8 @@ fn has_address(addr: &[u8], base: Option<u64>, index: u64) -> bool
     }
 }
 
-// Whether an attribute with an index has what it needs: the base of the table, and an address where it means one.
+// Whether an attribute whose form is an index has what it needs: the base of the table, and for an address index the
+// address.
 fn has_table(addr: &[u8], bases: &Bases, attr: &Attr) -> bool
     ensures { (u : Unit) → bases.now ≡ bases_of u → result ≡ has_table addr.now u attr.now }
 {
@@ -112,7 +113,8 @@ fn are_sound_attrs(addr: &[u8], bases: &Bases, attrs: &[Attr]) -> bool
     true
 }
 
-/// Whether all attributes of a unit have the forms that are read, and what their indexes need, by `.debug_addr`.
+/// Whether all attributes of a unit have the forms that are read, and the tables that their indexes need. `addr` is
+/// `.debug_addr`.
 pub fn is_sound_unit(addr: &[u8], entries: &[Entry]) -> bool
     ensures { result ≡ is_sound_unit addr.now (plain_unit entries.now) }
 {

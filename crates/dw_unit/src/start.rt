@@ -1,14 +1,14 @@
-// Where a table begins among those that were read.
+// Where a table begins within the tables that were read.
 
-/// Where a table begins: with which declaration of which table that was read. It goes on to that one's end.
+/// The start of a table: a declaration in a table that was read. The table goes on to the end of that table.
 #[derive(Clone, Copy)]
 pub struct Start {
-    /// The number of the table that was read.
+    /// The index of the table that was read.
     pub number: usize,
-    /// The index of the declaration in it.
+    /// The index of the declaration in the table.
     pub index: usize,
-    /// The least place of a declaration with a bad form, from here on.
+    /// The lowest offset of a declaration with an unknown form, from here on.
     pub form: Option<u64>,
-    /// The least place of a declaration with a bad high address, from here on.
+    /// The lowest offset of a declaration with a bad high address, from here on.
     pub high: Option<u64>,
 }

@@ -10,15 +10,15 @@ use rb_bytes::cursor::Cursor;
 use rb_bytes::fault::NoMemory;
 use std::alloc::Global;
 
-/// The declarations from an offset up to the closing zero, or to what is no declaration.
+/// The declarations from an offset up to the closing zero, or up to one that can't be read.
 #[derive(Drop)]
 pub struct Table {
     pub list: Vec<Declaration>,
-    /// The offset behind the closing zero, if it was reached. A unit needs it.
+    /// The offset after the closing zero, if it was reached. A unit needs it.
     pub end: Option<u64>,
 }
 
-// The next declaration, or none at the closing zero; the section has `size` bytes and ends with those left.
+// The next declaration, or none at the closing zero. The bytes left end a section of `size` bytes.
 fn next_declaration<'a>(
     alloc: Global,
     cursor: &mut Cursor<'a>,

@@ -1,4 +1,4 @@
-// Tables of abbreviations from one of their declarations on.
+// A table of abbreviations from one of its declarations on.
 ghost use Rattle.std.specs.Prelude.{◌≡◌, IfOk, IfErr, Ok, Err};
 ghost use Rattle.dw_unit.specs.CompUnits.{declaration_of};
 ghost use Rattle.dw_unit.specs.Told.{told_declaration};
@@ -10,7 +10,7 @@ use crate::table_place::TableAt;
 use crate::trouble::Trouble;
 
 impl<'t> TableAt<'t> {
-    /// The declaration that a code means: the first of that code, which has to name no attribute twice.
+    /// The first declaration of `code`. It must name no attribute twice.
     pub fn declaration(&self, code: u64) -> Result<&'t Declaration, Trouble>
         ensures read { IfOk result (λ d. declaration_of (told_at self.now) code ≡ Ok (told_declaration d.now)) }
         ensures trouble { IfErr result (λ e. declaration_of (told_at self.now) code ≡ Err e) }

@@ -1,4 +1,4 @@
-// The tables of abbreviations that units name, each declaration read once.
+// The tables of abbreviations that units refer to. Each declaration is read once.
 ghost use Rattle.std.specs.Prelude.{◌≡◌, ◌<◌, IfOk, OnOk, length};
 ghost use Rattle.answer_runs.specs.Choices.{least};
 ghost use Rattle.dw_unit.specs.Declarations.{table_at, has_bad_form, has_bad_high};
@@ -18,10 +18,10 @@ use rb_bytes::fault::NoMemory;
 use std::alloc::Global;
 use std::collections::BTreeMap;
 
-// How many bytes are read again at most, where tables overlap so that none begins with a declaration of another.
+// The limit of bytes that are read again, if tables overlap and none begins at a declaration of another.
 const READ_AGAIN: u64 = 1 << 25;
 
-/// The tables of a section that begin at some offsets.
+/// The tables of a section that begin at the offsets asked for.
 #[derive(Drop)]
 pub struct Tables<'s> {
     section: &'s [u8],
@@ -30,7 +30,7 @@ pub struct Tables<'s> {
     ghost right: { AreStarts section.now read.items starts },
 }
 
-/// A table, and the least places of its declarations that have a bad form or a bad high address.
+/// A table, and the lowest offsets of its declarations with an unknown form and with a bad high address.
 #[derive(Clone, Copy)]
 pub struct FoundTable<'t> {
     pub at: TableAt<'t>,
@@ -38,9 +38,9 @@ pub struct FoundTable<'t> {
     pub bad_high: Option<u64>,
 }
 
-// Marks the offsets that are places of declarations of a table: the tables there are the rest of it. Answers the least
-// places of its declarations with a bad form and with a bad high address. It goes back from the last declaration, so
-// that these places are known from each one on.
+// Marks those of the offsets at which declarations of a table begin: the table there is the rest of this one. Returns
+// the lowest offsets of its declarations with an unknown form and with a bad high address. It goes from the last
+// declaration to the first, so that these are known from each declaration on.
 fn mark(
     starts: &mut BTreeMap<u64, Start>,
     number: usize,
@@ -71,8 +71,8 @@ fn mark(
     Ok((form, high))
 }
 
-// Reads the table at an offset, unless its start is known, and marks where others begin in it. Answers how many bytes
-// were read.
+// Reads the table at an offset, unless its start is known, and marks the tables that begin in it. Returns the number of
+// bytes read.
 fn read_at(
     alloc: Global,
     section: &[u8],
@@ -109,8 +109,8 @@ fn read_at(
     Ok(end.saturating_sub(offset))
 }
 
-/// Reads the tables that begin at some offsets, which ascend. `NoMemory` is answered, too, where they overlap so badly
-/// that 2^25 bytes more than the section has were read.
+/// Reads the tables at `offsets`, which ascend. Gives `NoMemory` also if overlapping tables make it read 2^25 bytes
+/// more than the section has.
 pub fn read_tables<'s>(
     alloc: Global,
     section: &'s [u8],
@@ -158,7 +158,7 @@ impl<'s> Tables<'s> {
         }
     }
 
-    /// The table at one of the offsets for which tables were read.
+    /// The table at one of the offsets that were passed to `read_tables`.
     pub fn find(&self, offset: u64) -> FoundTable<'_>
         requires { HasKey self.now.starts offset }
         ensures table { table_at self.now.section.now offset ≡ told_at result.at }

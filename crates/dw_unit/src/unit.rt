@@ -13,18 +13,18 @@ use crate::walk::next_entry;
 use rb_bytes::cursor::Cursor;
 use std::alloc::Global;
 
-// How many bytes of memory the entries of a unit take at most, for each of its bytes and beside these: an entry can
-// have one byte, and an attribute none (DW_FORM_flag_present), so that few bytes could list any number of them.
+// The limit of memory for a unit's entries: `MEMORY_A_BYTE` for each of the unit's bytes, and `MEMORY_BESIDE` more. An
+// entry may have one byte, and an attribute none (DW_FORM_flag_present), so a few bytes could list any number of these.
 const MEMORY_A_BYTE: usize = 56;
 
 const MEMORY_BESIDE: usize = 1 << 14;
 
-// How many bytes of memory an entry takes, and an attribute of it, or a few more.
+// The memory of an entry, and of each of its attributes, in bytes, or a few more.
 const ENTRY_SIZE: usize = 56;
 
 const ATTR_SIZE: usize = 48;
 
-// About how many bytes of memory an entry takes.
+// The memory of an entry with its attributes, in bytes.
 fn size_with(attrs: &[Attr]) -> usize {
     attrs
         .len()
@@ -32,8 +32,8 @@ fn size_with(attrs: &[Attr]) -> usize {
         .saturating_add(ENTRY_SIZE)
 }
 
-/// The entries in the bytes left of the unit at offset `unit`, which end at offset `end`. Memory is said to be wanting,
-/// too, where they take much more than the unit.
+/// The entries in the bytes left of the unit at offset `unit`, which end at offset `end`. Gives `Stop::Memory` also if
+/// they take much more memory than the unit has bytes.
 pub fn read_entries<'a>(
     alloc: Global,
     cursor: &mut Cursor<'a>,
@@ -76,8 +76,8 @@ pub fn read_entries<'a>(
     }
 }
 
-/// The entries of the unit at offset `unit` behind its header, which end at offset `end`, by its table, which has to
-/// have a closing zero.
+/// The entries of the unit at offset `unit` after its header. They end at offset `end`. The table must have a closing
+/// zero.
 pub fn unit_entries<'a>(
     alloc: Global,
     cursor: &mut Cursor<'a>,

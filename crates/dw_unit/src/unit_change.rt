@@ -1,4 +1,4 @@
-// What the change of units goes by.
+// What the change of units depends on.
 use crate::entry_moves::EntryMoves;
 use crate::new_tables::NewTables;
 use crate::own_declarations::OwnDeclarations;

@@ -17,7 +17,7 @@ use rb_bytes::fault::NoMemory;
 use std::alloc::Global;
 use table_core::DebugUnit;
 
-/// A unit behind its header.
+/// A unit after its header.
 #[derive(Drop)]
 pub struct UnitEntries<'a, 't> {
     /// The bytes of its entries.
@@ -26,13 +26,13 @@ pub struct UnitEntries<'a, 't> {
     pub place: u64,
     /// The offset of its end.
     pub end: u64,
-    /// The offset of its abbreviations.
+    /// The abbreviation offset.
     pub abbrev_offset: u64,
     /// Its abbreviations.
     pub table: TableAt<'t>,
 }
 
-/// A unit behind its header, by tables of abbreviations, among which is its own.
+/// A unit after its header. Its table of abbreviations is in `tables`.
 pub fn unit_entries<'a, 't>(tables: &'t Tables<'_>, unit: &DebugUnit<'a>) -> UnitEntries<'a, 't>
     requires header { IsOk (header_of unit.now) }
     requires named { HasOffset tables.now.starts unit.now }
@@ -61,7 +61,7 @@ pub fn unit_entries<'a, 't>(tables: &'t Tables<'_>, unit: &DebugUnit<'a>) -> Uni
     }
 }
 
-/// The own entry of a unit that can be read; none of one without entries.
+/// The own entry of a unit that can be read; none if the unit has no entries.
 pub fn own_entry(
     alloc: Global,
     tables: &Tables<'_>,

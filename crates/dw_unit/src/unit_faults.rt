@@ -1,4 +1,4 @@
-// The faults of units, and the places that are answered of all faults of debug data.
+// The faults of units, and the places to report for all faults of debug data.
 ghost use Rattle.std.specs.Prelude.{◌≡◌};
 ghost use Rattle.table_core.specs.DebugUnits.{walked};
 ghost use Rattle.dw_unit.specs.CompUnits.{Sections};
@@ -10,20 +10,20 @@ use crate::fault_places::FaultPlaces;
 use crate::lowest::lower;
 use table_core::DebugUnit;
 
-/// Of each fault of some units, except for versions, the place that is answered.
+/// The place to report for each fault of some units, other versions excepted.
 #[derive(Clone, Copy)]
 pub struct UnitFaults {
-    /// The lowest place of a declaration with a bad form.
+    /// The lowest offset of a declaration with an unknown form.
     pub bad_form: Option<u64>,
-    /// The lowest place of a declaration with a high address that can't be changed in place.
+    /// The lowest offset of a declaration with a high address that can't be changed in place.
     pub bad_high: Option<u64>,
-    /// The lowest place of a declaration with a value that names no form.
+    /// The lowest offset of a declaration with a value of an unknown form.
     pub unformed: Option<u64>,
-    /// The first unit that can't be read.
+    /// The offset of the first unit that can't be read.
     pub bad: Option<u64>,
 }
 
-/// Of each fault the place that is answered, with those of versions and of tables of addresses. Units come first.
+/// The place to report for each fault, with those of versions and of address tables. Units come before tables.
 pub fn fault_places(
     faults: UnitFaults,
     units: &[DebugUnit<'_>],

@@ -15,7 +15,8 @@ use rb_bytes::fault::Refusal;
 use std::alloc::Global;
 use table_core::{DWARF_VERSION, debug_units};
 
-/// All entries of the units of `.debug_info`, by `.debug_abbrev` and `.debug_addr`, in order; or the first fault.
+/// All entries of the units of `.debug_info`, in order, or the first fault. `.debug_abbrev` and `.debug_addr` are read
+/// too.
 pub fn listed_units(
     alloc: Global,
     info: &[u8],

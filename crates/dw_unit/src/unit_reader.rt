@@ -12,7 +12,7 @@ use std::alloc::Global;
 use std::marker::Model;
 use table_core::{DWARF_VERSION, DebugUnit, debug_units};
 
-/// Reads units one at a time. The tables of abbreviations are read before, so that each declaration is read once.
+/// Reads units one at a time. All tables of abbreviations are read at the start, so that each declaration is read once.
 #[derive(Drop)]
 pub struct UnitReader<'a, 's> {
     units: Vec<DebugUnit<'a>>,
@@ -57,7 +57,7 @@ impl<'a, 's> UnitReader<'a, 's> {
         &self.units
     }
 
-    /// The entries and the faults of a unit, by its number from 0.
+    /// The entries and the faults of unit `number`, counted from 0.
     pub fn read(&self, alloc: Global, number: usize) -> Result<UnitReading, NoMemory>
         requires { number < length self.now.units }
         ensures { (w : Walked) → slice_get self.now.units number ≡ Some w →

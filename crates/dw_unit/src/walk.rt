@@ -1,4 +1,4 @@
-// Entries of a unit, one after another. DWARF 5, sections 7.5.2 and 7.5.3.
+// The entries of a unit, one after another. DWARF 5, sections 7.5.2 and 7.5.3.
 ghost use Rattle.std.specs.Prelude.{◌≡◌, ◌≤◌, ◌<◌, ◌-◌, ◌+◌, ◌^◌, [], IfOk, IfSome, OnOk, Ok, Err, length, MatchOption};
 ghost use Rattle.table_core.specs.ReadSteps.{with_head};
 ghost use Rattle.dw_unit.specs.CompUnits.{attrs_at};
@@ -15,7 +15,7 @@ use crate::table_place::TableAt;
 use crate::trouble::{Stop, Trouble};
 use rb_bytes::cursor::Cursor;
 
-// Reads the attributes that the declaration at offset `declaration` names into `attrs`, in place of those there.
+// Replaces `attrs` with the attributes that the declaration at offset `declaration` names.
 fn read_attrs<'a>(
     cursor: &mut Cursor<'a>,
     end: u64,
@@ -48,8 +48,8 @@ pub struct Head<'t> {
     pub declaration: &'t Declaration,
 }
 
-/// Reads the next entry of the unit at offset `unit`, whose bytes end at offset `end`; none where no entry is left.
-/// `depth` is the depth at the cursor, before and after. The entry's attributes replace those in `attrs`.
+/// Reads the next entry of the unit at offset `unit`, whose bytes end at offset `end`; none if no entry is left.
+/// `depth` is the depth at the cursor, before and after the call. The entry's attributes replace those in `attrs`.
 pub fn next_entry<'a, 't>(
     cursor: &mut Cursor<'a>,
     unit: u64,

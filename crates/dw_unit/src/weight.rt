@@ -1,4 +1,4 @@
-// The weight of the written `.debug_abbrev`.
+// The weight of the written `.debug_abbrev`, which bounds its size.
 ghost use Rattle.std.specs.Prelude.{◌≡◌, ◌-◌, ◌*◌, ◌^◌, IfOk, min, sum_by, unwrap_or};
 ghost use Rattle.rb_bytes.specs.FirstFault.{IsFree};
 ghost use Rattle.dw_unit.specs.AbbrevWeight as spec;
@@ -13,8 +13,8 @@ use rb_bytes::fault::NoMemory;
 use std::alloc::Global;
 use table_core::{DWARF_VERSION, debug_units};
 
-// What the written table of an offset weighs: three times the bytes that the old one has. No pair of a declaration
-// grows to more: two bytes of DW_AT_high_pc become five, and new names take two bytes where old ones took one.
+// The weight of a written table: three times the size of the old one. No pair of a declaration grows more: two bytes of
+// DW_AT_high_pc become five, and new names take two bytes instead of one. `offset` and `end` are the old table's.
 fn table_weight(offset: u64, end: Option<u64>) -> u64
     ensures { result ≡ min (3 * (unwrap_or end offset - offset)) (2 ^ 64 - 1) }
 {
@@ -38,7 +38,7 @@ fn sum_weights(tables: &Tables<'_>, offsets: &[u64]) -> u64
     weight
 }
 
-/// The weight of the tables of abbreviations that units name.
+/// The weight of all tables of abbreviations that units refer to.
 pub fn weigh_tables(
     alloc: Global,
     info: &[u8],

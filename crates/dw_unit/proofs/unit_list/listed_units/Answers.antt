@@ -14,7 +14,7 @@ use Rattle.dw_unit.proofs.UnitReadings.{all_listed}
 use Rattle.dw_unit.proofs.unit_list.listed_units.Goals.{After-fault_places-places}
 use Rattle.dw_unit.proofs.unit_list.listed_units.Goals as goal
 
--- Once the places of faults were found.
+-- After the places of faults were found.
 module _ (c : After-fault_places-places) where
   abbrev given : Sections
   given = sections c.args.info.now c.args.abbrevs.now c.args.addr.now
