@@ -6,7 +6,7 @@ use Rattle.dw_unit.specs.CompUnits.{Entry, enclosing}
 use Rattle.inline_frames.specs.Chains.{outward, chain_in}
 use Rattle.inline_frames.specs.declared.tag.TheConstants.{DW_TAG_subprogram}
 
--- entries of one depth and tag, for which two tests give one answer
+-- Entries with the same depth and tag, for which two tests give the same result.
 pub record IsAlike (s t : Entry → Bool) (K : Entry → Entry → Type 0) (x y : Entry) : Type 0 where
   pub kept : K x y
   pub depth : y.depth ≡ x.depth

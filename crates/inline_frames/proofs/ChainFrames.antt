@@ -1,4 +1,4 @@
--- The frames of the links that are found are those of the chain.
+-- The frames of the links found are the frames of the chain.
 use Rattle.std.proofs.Common.{◌≡◌, ◌∙◌, ℕ, zero, suc, not, false, List, [], ◌∷◌, Option, Some, None, refl, sym, ap, subst, map}
 use Rattle.std.specs.Prelude.{option_map, unwrap_or}
 use Rattle.std.specs.BTreeSet.{BTreeSet, contains}
@@ -55,7 +55,7 @@ row_column : (o : Option RowSaid) → (position_or_none o).column ≡ unwrap_or 
 row_column None = refl
 row_column (Some r) = refl
 
--- the reader of the units of a file
+-- The reader of a file's units.
 abbrev pub reader_of : Elf → ReaderSections
 reader_of elf = record {
   units = walked 5 (sections_of elf).info;

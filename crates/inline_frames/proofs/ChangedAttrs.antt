@@ -1,4 +1,4 @@
--- Attributes of names that no rewrite changes stand in the written file as they stood.
+-- Attributes with names that no rewrite changes are the same in the written file.
 use Rattle.std.proofs.Common.{◌≡◌, ◌∙◌, ℕ, ◌+◌, Bool, true, false, List, [], ◌∷◌, ◌++◌, Option, Some, None, refl, sym, ap, subst}
 use Rattle.std.specs.Prelude.{◌==◌, ◌&&◌, ◌||◌, not, flat_map, unwrap_or, if◌then◌else◌}
 use Rattle.std.specs.List.{find}
@@ -29,18 +29,18 @@ flip a b e = by (b == a) refl
         contra : (a == b) ≡ true → ⊥
         contra g = absurd (cc)
 
--- another name than n
+-- A name other than `n`.
 apart : (n x c : ℕ) → (x == c) ≡ true → (c == n) ≡ false → (x == n) ≡ false
 apart n x c is other = ap (λ z. z == n) (eqb-true x c is) ∙ other
 
--- a name that is n isn't another one
+-- The name `n` is no other name.
 is_other : (n x c : ℕ) → (x == n) ≡ true → (c == n) ≡ false → (x == c) ≡ false
 is_other n x c is other = ap (λ z. z == c) (eqb-true x n is) ∙ flip c n other
 
 find_skip : {A : Type 0} (t : A → Bool) (x : A) (xs : List A) → t x ≡ false → find t (x ∷ xs) ≡ find t xs
 find_skip t x xs e = ap (λ b. if b then Some x else find t xs) e
 
--- the bytes of a text that stands in an entry are kept
+-- The bytes of a text in an entry are kept.
 abbrev pub KeepsText : List ℕ → List ℕ → Attr → Type 0
 KeepsText i f a = (a.form == DW_FORM_string) ≡ true → (a.name == at.DW_AT_high_pc) ≡ false → value_bytes f a ≡ value_bytes i a
 
@@ -57,14 +57,14 @@ module _ (m : Moves) (own first : Bool) (e : Entry) (i f : List ℕ) (n : ℕ) w
   abbrev named : Attr → Bool
   named a = a.name == n
 
-  -- an attribute of the name, and what became of it
+  -- An attribute with the name, and the attribute that it became.
   pub record IsChanged (a b : Attr) : Type 0 where
     pub is : b ≡ changed a
     pub name : named a ≡ true
     pub text : KeepsText i f a
 
   module _ (stable : IsStable n) where
-    -- the new name is n where the old one is
+    -- The new name is `n` if and only if the old one is.
     name_test : (x : ℕ) → (new_name own e.declaration x == n) ≡ (x == n)
     name_test x = by (x == at.DW_AT_low_pc) (has_spec at.DW_AT_high_pc e.declaration) (not (keeps_low own e.declaration))
         (has_spec at.DW_AT_entry_pc e.declaration) (x == at.DW_AT_macros) (x == at.DW_AT_GNU_locviews)
@@ -87,7 +87,7 @@ module _ (m : Moves) (own first : Bool) (e : Entry) (i f : List ℕ) (n : ℕ) w
         by false b2 b3 b4 false true l v w = stable.unused_table ∙ sym (w refl)
         by false b2 b3 b4 false false l v w = refl
 
-    -- the ranges in place of a high address have other names
+    -- The ranges in place of a high address have other names.
     ranges_skipped : (a : Attr) (xs : List Attr) → find named (ranges_attrs m e a ++ xs) ≡ find named xs
     ranges_skipped a xs = by (a.len == 8)
       where
@@ -139,13 +139,13 @@ module _ (m : Moves) (own first : Bool) (e : Entry) (i f : List ℕ) (n : ℕ) w
             (sym (find_skip named a xs (apart n a.name at.DW_AT_high_pc is stable.high))) more)
         by false is more = one (named a) (named (changed a)) refl (name_test a.name) more
 
-    -- it is kept as a text
+    -- It is kept as a text.
     text_kept : (a b : Attr) → IsChanged a b → (a.form == DW_FORM_string) ≡ true → value_bytes f b ≡ value_bytes i a
     text_kept a b h is =
         ap (value_bytes f) h.is ∙ h.text is (is_other n a.name at.DW_AT_high_pc h.name stable.high)
 
   module _ (plain : IsPlain n) where
-    -- it gets no list
+    -- It gets no list.
     no_list : (a : Attr) → named a ≡ true → new_list m first e a ≡ None
     no_list a is = by (a.name == DW_AT_stmt_list) (a.name == at.DW_AT_ranges) (a.name == at.DW_AT_location)
         (a.name == at.DW_AT_frame_base) (a.name == at.DW_AT_rnglists_base) (a.name == at.DW_AT_loclists_base)
@@ -165,7 +165,7 @@ module _ (m : Moves) (own first : Bool) (e : Entry) (i f : List ℕ) (n : ℕ) w
         by false false false false true b6 e1 e2 e3 e4 e5 e6 = absurd (cc)
         by false false false false false true e1 e2 e3 e4 e5 e6 = absurd (cc)
 
-    -- a base gets no address, and what is no address none either
+    -- A base gets no new address, nor does a value that is no address.
     value_kept : (a : Attr) → named a ≡ true → (a.form == DW_FORM_addr && not (names_base a.name)) ≡ false →
         unwrap_or (new_value m own first e a) a.value ≡ a.value
     value_kept a is other =

@@ -1,4 +1,4 @@
--- Where no two entries stand at one place, an entry's ranges hold an address where the entry at its place covers it.
+-- If no two entries have the same offset, an entry's ranges contain an address whenever the entry at its offset covers it.
 use Rattle.std.proofs.Common.{◌≡◌, ◌∙◌, ◌+◌, ◌≤◌, ℕ, Bool, true, false, List, [], ◌∷◌, ◌++◌, Option, refl, sym, ap, subst, arith, map}
 use Rattle.std.specs.Prelude.{◌==◌, ◌&&◌, ◌||◌, flat_map}
 use Rattle.std.specs.List.{list_any}
@@ -16,7 +16,7 @@ use Rattle.range_loc_rewrite.specs.Ranges.{Ranged, ranges_of, ranged_from, range
 use Rattle.range_loc_rewrite.specs.Located.{hold}
 use Rattle.inline_frames.proofs.Pairs.{AllOf, map_all}
 
--- Entries that ascend by their places
+-- Entries that ascend by their offsets
 
 abbrev Above : ℕ → List Ranged → Type 0
 Above lo [] = Prim.Unit {0}
@@ -43,7 +43,7 @@ or_no false c e = e
 abbrev stands : ℕ → ℕ → Ranged → Bool
 stands place a q = hold q.own a && q.entry.place == place
 
--- none of those above a place stands there
+-- No entry above an offset is at it.
 none_above : (place a lo : ℕ) (rs : List Ranged) → place + 1 ≤ lo → Above lo rs → list_any (stands place a) rs ≡ false
 none_above place a lo [] h up = refl
 none_above place a lo (q ∷ rs) h up =
@@ -52,7 +52,7 @@ none_above place a lo (q ∷ rs) h up =
     let more = none_above place a (q.entry.place + 1) rs (omega arith) up.1 in
     (λ i. and_right (hold q.own a) (q.entry.place == place) other i || more i)
 
--- what stands at the place of each is itself alone
+-- The only entry at the offset of each is itself.
 all_stand : (a lo : ℕ) (rs : List Ranged) → Above lo rs → (before : Ranged → Bool) →
     ((r : Ranged) → lo ≤ r.entry.place → before r ≡ false) →
     AllOf (λ (r : Ranged). (before r || list_any (stands r.entry.place a) rs) ≡ hold r.own a) rs
@@ -82,7 +82,7 @@ all_stand a lo (r ∷ rs) up before none =
     regroup (q ∷ qs) h =
         (sym (assoc (before q) (stands q.entry.place a r) (list_any (stands q.entry.place a) rs)) ∙ h.0, regroup qs h.1)
 
--- The places of ranged entries are those of entries.
+-- The offsets of ranged entries are offsets of entries.
 
 entries_from : (own : Entry → Option (List Range)) (before es : List Entry) → map (λ (r : Ranged). r.entry) (ranged_from own before es) ≡ es
 entries_from own before [] = refl
@@ -104,7 +104,7 @@ are_above s free =
     above_of 0 (ranged s) (subst (λ (es : List Entry). Ascends 0 (map (λ (e : Entry). e.place) es)) (sym (entries_in s (units s.units)))
     (places_ascend s.units free))
 
--- The same of every entry of every unit.
+-- For every entry of every unit.
 
 left_of : {A : Type 0} (P : A → Type 0) (xs ys : List A) → AllOf P (xs ++ ys) → AllOf P xs
 left_of P [] ys h = tt
@@ -124,7 +124,7 @@ of_ranged : (s : ListSections) (a : ℕ) (own : Entry → Option (List Range)) (
 of_ranged s a own before [] h = tt
 of_ranged s a own before (e ∷ es) h = (h.0, of_ranged s a own (e ∷ before) es h.1)
 
--- an entry of a unit covers what its ranges hold
+-- An entry of a unit covers the addresses in its ranges.
 abbrev pub Covered : ListSections → ℕ → Unit → Type 0
 Covered s a u = AllOf (λ (e : Entry). covers s e.place a ≡ hold (ranges_of s u e) a) u.entries
 

@@ -1,4 +1,4 @@
--- What is found unit by unit is the chain of a file, and how its names are found.
+-- The links found unit by unit are the chain of the file, with how their names are found.
 use Rattle.std.proofs.Common.{◌≡◌, ◌∙◌, ℕ, zero, suc, Bool, true, false, cond, List, [], ◌∷◌, Option, Some, None, refl, sym, ap, subst, map}
 use Rattle.std.specs.Prelude.{◌==◌, ◌&&◌, ◌||◌, flat_map, if◌then◌else◌, option_and_then, option_map}
 use Rattle.std.specs.BTreeSet.{BTreeSet, contains}
@@ -37,7 +37,7 @@ use Rattle.inline_frames.proofs.CoveredEntries.{Covered, all_covered}
 use Rattle.inline_frames.proofs.FiledEntries.{IsFiled, units_filed}
 use Rattle.inline_frames.proofs.Pairs.{AllOf}
 
--- What the own entry of a unit says
+-- The fields of a unit's own entry
 
 own_base : (es : List Entry) →
     (own_says (map listed es)).text_base ≡ option_map (λ (a : Attr). a.value) (option_and_then (attr DW_AT_str_offsets_base) (first_of es))
@@ -162,7 +162,7 @@ module _ (s : NameSections) (l : ListSections) (a : ℕ) (covering : BTreeSet �
       ∙ sym (ap (map (link_of s)) (chain_picked (is_function_at l a u) found [] u.entries)))
       ∙ all_links us (chain_in (is_function_at l a u) found [] u.entries) filed.1 covered.1
 
--- the links of the chain at an address
+-- The links of the chain at an address.
 pub chain_links : (s : NameSections) (l : ListSections) (a : ℕ) (covering : BTreeSet ℕ) → l.units ≡ s.units →
     IsFree (HasDwarfFault (unit_fault_places s.units)) → ((d : ℕ) → contains nat_cmp covering d ≡ covers l d a) →
     file_links s.str_offsets covering [] (map (λ (u : Unit). map listed u.entries) (units s.units)) ≡ map (link_of s) (chain l a)

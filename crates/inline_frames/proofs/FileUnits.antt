@@ -23,7 +23,7 @@ use Rattle.inline_frames.specs.declared.link.Link.{Link}
 use Rattle.inline_frames.specs.declared.naming.Naming.{Naming}
 use Rattle.inline_frames.proofs.LackingUnits.{IsElsewhere, is_elsewhere, no_links, no_naming}
 
--- stands where no unit is needed
+-- A placeholder, for an index past the end.
 no_walked : Walked
 no_walked = record { place = 0; bytes = None; is_other = false }
 
@@ -34,7 +34,7 @@ pub walked_there : (ws : List Walked) (n : ℕ) → n < length ws → slice_get 
 unfolding walked_at
 walked_there ws n h = slice_get-get_or ws n no_walked h
 
--- by its number in an equal list
+-- By its index in an equal list.
 pub walked_same : (ws us : List Walked) (n : ℕ) (w : Walked) → us ≡ ws → n < length ws → w ≡ get_or us n w → w ≡ walked_at ws n
 unfolding walked_at
 walked_same ws us n w same h is = is ∙ ap (λ (l : List Walked). get_or l n w) same ∙ get_or_default ws n w no_walked h
@@ -44,7 +44,7 @@ unfolding walked_at
 walked_is ws n h = get_or_default ws n no_walked (get_or ws n no_walked) h
 
 module _ (abbrevs addr : List ℕ) where
-  -- what can be read, and what was read of it
+  -- Reading one more unit
 
   abbrev Behind : Walked → Option (Vec ListedEntry) → Type 0
   Behind w o = MatchOption o (fails (is_sound_unit addr) (unit_of abbrevs w) ≡ true)
@@ -67,7 +67,7 @@ module _ (abbrevs addr : List ℕ) where
       ap (λ (l : List ListedEntry). l ∷ map (λ (u : Unit). map listed u.entries) (oks rs)) same
   one_listed (Err t) es rs e = absurd (cc)
 
-  -- one unit more
+  -- One more unit.
   next_is : (ws : List Walked) (n : ℕ) (w : Walked) (es : List ListedEntry) → n < length ws → w ≡ get_or ws n w →
       listed_unit (unit_of abbrevs w) ≡ Ok es → listed_units abbrevs (drop n ws) ≡ es ∷ listed_units abbrevs (drop (n + 1) ws)
   next_is ws n w es h there is =
@@ -83,7 +83,7 @@ module _ (abbrevs addr : List ℕ) where
   pub no_more : (ws : List Walked) (n : ℕ) → length ws ≤ n → listed_units abbrevs (drop n ws) ≡ []
   no_more ws n h = ap (listed_units abbrevs) (drop_all n ws h)
 
-  -- The links of all
+  -- The links of all units
 
   module _ (str_offsets : List ℕ) (covering : BTreeSet ℕ) where
     abbrev pub AreFound : List Walked → ℕ → List Link → Type 0
@@ -99,7 +99,7 @@ module _ (abbrevs addr : List ℕ) where
         (e ∙ ap (λ (l : List Link). or_before l links) t)
         ∙ sym (ap (file_links str_offsets covering links) (next_listed ws n w r es h there is some)) ∙ inv
 
-    -- a unit in which none of the places lies has none
+    -- A unit without any of the offsets has no links.
     pub found_same : (ws : List Walked) (n : ℕ) (w : Walked) (links : List Link) → n < length ws → slice_get ws n ≡ Some w →
         w ≡ get_or ws n w → AreReadable abbrevs addr ws → LacksPlaces covering w → AreFound ws n links → AreFound ws (n + 1) links
     found_same ws n w links h at there are lacks inv =
@@ -143,7 +143,7 @@ module _ (abbrevs addr : List ℕ) where
         ∙ sym (ap (λ (us : List (List ListedEntry)). option_or old (if wanted then file_naming str_offsets us q else None))
         (next_listed ws n w r es h there is some)) ∙ inv
 
-    -- a unit without an entry at the place
+    -- A unit without an entry at the offset.
     not_named : (ws : List Walked) (n : ℕ) (w : Walked) (es : List ListedEntry) (old : Option Naming) → n < length ws →
         w ≡ get_or ws n w → listed_unit (unit_of abbrevs w) ≡ Ok es → (wanted ≡ true → unit_naming str_offsets es q ≡ None) →
         IsNamed ws n old → IsNamed ws (n + 1) old
@@ -167,7 +167,7 @@ module _ (abbrevs addr : List ℕ) where
         ∙ sym (ap (λ (us : List (List ListedEntry)). option_or found (if wanted then file_naming str_offsets us q else None))
         (no_more ws n h)) ∙ inv
 
-  -- a unit in which none of the wanted places lies
+  -- A unit without any of the wanted offsets.
   pub named_same : (str_offsets : List ℕ) (wanted : BTreeSet ℕ) (q : ℕ) (ws : List Walked) (n : ℕ) (w : Walked) (found : Option Naming) →
       n < length ws → slice_get ws n ≡ Some w → w ≡ get_or ws n w → AreReadable abbrevs addr ws → LacksPlaces wanted w →
       IsNamed str_offsets (contains nat_cmp wanted q) q ws n found → IsNamed str_offsets (contains nat_cmp wanted q) q ws (n + 1) found

@@ -1,4 +1,4 @@
--- The unit of each entry is found by the place that the entry names.
+-- The unit of each entry is found by the offset of a unit that the entry has.
 use Rattle.std.proofs.Common.{◌≡◌, ◌∙◌, ◌≤◌, ◌+◌, ◌-◌, ◌==◌, ℕ, zero, suc, Bool, true, false, List, [], ◌∷◌, Some, Ok, Err, Result, refl}
 use Rattle.std.proofs.Common.{sym, ap, subst, arith, length}
 use Rattle.std.specs.Prelude.{if◌then◌else◌}
@@ -23,7 +23,7 @@ use Rattle.dw_unit.proofs.UnitsRead.{IsGoodUnit, unit_read}
 use Rattle.inline_frames.specs.Names.{NameSections, unit_of_entry}
 use Rattle.inline_frames.proofs.Pairs.{AllOf, map_all}
 
--- Entries name the unit that they are read in.
+-- Entries have the offset of the unit that they are read in.
 
 abbrev Entries : Type 0
 Entries = Result (List Entry) Trouble
@@ -78,7 +78,7 @@ entries_filed u (suc n) depth (b ∷ left) es e =
     by_entry u (entries_within u n) (λ depth rest es f. entries_filed u n depth rest es f) (u.end - length (b ∷ left)) depth
     (uleb_at (b ∷ left)) es e
 
--- Units stand at places of their own.
+-- Units have different offsets.
 
 abbrev Ascend : ℕ → List Unit → Type 0
 Ascend lo [] = Prim.Unit {0}

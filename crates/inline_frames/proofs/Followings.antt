@@ -23,7 +23,7 @@ module _ (str_offsets : List ℕ) (es : List ListedEntry) (q : ℕ) where
   abbrev from : ℕ → Option Naming
   from i = option_map (listed_naming str_offsets es) (find (λ (e : ListedEntry). e.place == q) (drop i es))
 
-  -- what was found, with what the entries behind an index give
+  -- The namings found, with those of the entries from an index on.
   abbrev pub WithRest : Bool → ℕ → Option Naming → Option Naming → Type 0
   WithRest wanted i old found =
       option_or found (if wanted then option_map (listed_naming str_offsets es) (find (λ (e : ListedEntry). e.place == q) (drop i es)) else
@@ -55,13 +55,13 @@ module _ (str_offsets : List ℕ) (es : List ListedEntry) (q : ℕ) where
         ≡ option_or old (if wanted then unit_naming str_offsets es q else None)
     step = sym (ap (λ (o : Option Naming). option_or found (if wanted then o else None)) (opened i d h)) ∙ inv
 
-    -- another entry
+    -- Another entry.
     pub other_place : (here.place == q) ≡ false → WithRest wanted (i + 1) old found
     other_place e =
         sym (ap (λ (b : Bool). option_or found (if wanted then (if b then Some (listed_naming str_offsets es here) else next) else None)) e)
         ∙ step
 
-    -- one that isn't wanted, or was found before
+    -- An entry that isn't wanted, or was found before.
     pub not_wanted : wanted ≡ false → WithRest wanted (i + 1) old found
     not_wanted e =
         ap (λ (b : Bool). option_or found (if b then next else None)) e
@@ -78,7 +78,7 @@ module _ (str_offsets : List ℕ) (es : List ListedEntry) (q : ℕ) where
       by None e f = absurd (cc)
       by (Some n) e f = f
 
-    -- one that is found now
+    -- An entry that is found now.
     pub found_now : (here.place == q) ≡ true → wanted ≡ true → found ≡ None →
         WithRest wanted (i + 1) old (Some (listed_naming str_offsets es here))
     found_now e w none =
@@ -101,7 +101,7 @@ module _ (str_offsets : List ℕ) (es : List ListedEntry) (q : ℕ) where
       nothing false None = refl
       nothing false (Some n) = refl
 
--- Those of all offsets, with one entry more
+-- All offsets, with one more entry
 
 module _ (str_offsets : List ℕ) (es : List ListedEntry) (wanted : BTreeSet ℕ) (first : BTreeMap ℕ Naming) where
   abbrev pub AreWith : ℕ → BTreeMap ℕ Naming → Type 0
@@ -173,7 +173,7 @@ named_stays str_offsets units zero n e = refl
 named_stays str_offsets units (suc k) n e =
     ap (followed_times str_offsets units k) (no_more_by (file_naming str_offsets units) n e) ∙ named_stays str_offsets units k n e
 
--- none of them is left to follow
+-- No reference is left to follow.
 pub all_stay : (str_offsets : List ℕ) (units : List (List ListedEntry)) (k : ℕ) (ns : List Naming) →
     list_any (λ (n : Naming). is_some (target_of n)) ns ≡ false → ns ≡ map (followed_times str_offsets units k) ns
 all_stay str_offsets units k [] e = refl
@@ -184,7 +184,7 @@ all_stay str_offsets units k (n ∷ ns) e = by (is_some (target_of n)) refl e (a
   by true t e more = absurd (cc)
   by false t e more = λ i. sym (named_stays str_offsets units k n t) i ∷ more e i
 
--- once for all of them, where what they refer to was found
+-- One reference of each, if its target was found.
 followed_same : (f g : ℕ → Option Naming) (n : Naming) → ((q : ℕ) → refers_to q n ≡ true → f q ≡ g q) → followed_by f n ≡ followed_by g n
 followed_same f g (Named t) same = refl
 followed_same f g (Refers place) same =
@@ -210,7 +210,7 @@ map_twice : (f g h : Naming → Naming) → ((n : Naming) → f (g n) ≡ h n) �
 map_twice f g h e [] = refl
 map_twice f g h e (n ∷ ns) = λ i. e n i ∷ map_twice f g h e ns i
 
--- a round more
+-- One more round.
 pub round_more : (str_offsets : List ℕ) (units : List (List ListedEntry)) (k : ℕ) (now new : List Naming) (found : ℕ → Option Naming) →
     ((q : ℕ) → found q ≡ (if list_any (refers_to q) now then file_naming str_offsets units q else None)) →
     new ≡ map (followed_by found) now →

@@ -1,5 +1,5 @@
--- What a written file keeps of debug data, as far as chains of inlined calls depend on it: units and entries pair by pair,
--- the texts that names are, and the files that line units name.
+-- The debug data on which chains of inlined calls depend, and which a written file keeps: units and entries pair by pair, the texts of
+-- names, and the files of line number programs.
 use Rattle.std.specs.Prelude.{◌≡◌, ◌==◌, ◌&&◌, ℕ, false, true, not, List, [], ◌∷◌, Option, option_map}
 use Rattle.std.specs.List.{AllZip, list_any}
 use Rattle.std.proofs.lemmas.Bool.{or_parts}
@@ -19,7 +19,7 @@ use Rattle.range_loc_rewrite.specs.Tables.{list_sections}
 use Rattle.inline_frames.specs.Names.{name_sections}
 use Rattle.inline_frames.specs.Chains.{is_function_at}
 
--- a name that no rewrite changes or gives
+-- A name that no rewrite changes or adds.
 pub record IsStable (name : ℕ) : Type 0 where
   pub low : (at.DW_AT_low_pc == name) ≡ false
   pub high : (at.DW_AT_high_pc == name) ≡ false
@@ -31,7 +31,7 @@ pub record IsStable (name : ℕ) : Type 0 where
   pub unused_low : (at.DW_AT_unused_low == name) ≡ false
   pub unused_table : (at.DW_AT_unused_table == name) ≡ false
 
--- such a name that gets no list
+-- Such a name whose attribute gets no list.
 pub record IsPlain (name : ℕ) : Type 0 where
   pub stable : IsStable name
   pub stmt : (DW_AT_stmt_list == name) ≡ false
@@ -40,7 +40,7 @@ pub record IsPlain (name : ℕ) : Type 0 where
   pub rnglists : (at.DW_AT_rnglists_base == name) ≡ false
   pub loclists : (at.DW_AT_loclists_base == name) ≡ false
 
--- the names that a rewrite changes or gives, and those whose attributes get lists
+-- The names that a rewrite changes or adds, and those whose attributes get lists.
 abbrev pub changed_names : List ℕ
 changed_names = at.DW_AT_low_pc ∷ at.DW_AT_high_pc ∷ at.DW_AT_entry_pc ∷ at.DW_AT_ranges ∷ at.DW_AT_macros ∷ at.DW_AT_GNU_locviews
     ∷ at.DW_AT_unused_high ∷ at.DW_AT_unused_low ∷ at.DW_AT_unused_table ∷ []
@@ -88,8 +88,8 @@ plain_name name other unlisted =
       loclists = loclists.0;
     }
 
--- An attribute of such a name is kept, but for an address that is one of code. A text that stands in the entry is kept
--- too: `i` and `f` are the bytes of `.debug_info`.
+-- An attribute with such a name is kept, unless it is the address of an instruction. A text in the entry is kept too: `i` and `f` are the
+-- bytes of `.debug_info`.
 pub record IsKeptAttr (i f : List ℕ) (a b : Attr) : Type 0 where
   pub form : b.form ≡ a.form
   pub len : b.len ≡ a.len
@@ -103,16 +103,16 @@ pub record IsKeptEntry (i f : List ℕ) (old new : Entry) : Type 0 where
   pub tag : new.declaration.tag ≡ old.declaration.tag
   pub attrs : (name : ℕ) → IsPlain name → Agree (IsKeptAttr i f) (attr name old) (attr name new)
 
--- the files of the line unit at an offset
+-- The files of the line number program at an offset.
 abbrev pub files_at : Elf → ℕ → Option Files
 files_at elf offset = option_map files_of (line_unit_at (line_sections elf) offset)
 
--- it names line units of the same files
+-- They refer to line number programs with the same files.
 pub record NamesSameFiles (i f : Elf) (a b : Attr) : Type 0 where
   pub form : b.form ≡ a.form
   pub files : (a.form == DW_FORM_sec_offset) ≡ true → files_at f b.value ≡ files_at i a.value
 
--- what its own entry says of a unit
+-- The fields of a unit's own entry are kept.
 pub record IsKeptOwn (i f : Elf) (old new : Entry) : Type 0 where
   pub line : Agree (NamesSameFiles i f) (attr DW_AT_stmt_list old) (attr DW_AT_stmt_list new)
 
@@ -122,7 +122,7 @@ pub record IsKeptUnit (i f : Elf) (u v : Unit) : Type 0 where
   pub own : Agree (IsKeptOwn i f) (own_entry u) (own_entry v)
   pub entries : AllZip (IsKeptEntry (name_sections i).units.info (name_sections f).units.info) u.entries v.entries
 
--- an entry holds the byte p in the written file where it held the owner o in the input
+-- An entry contains the byte `p` in the written file if it contained the owner `o` in the input.
 pub record IsCarriedEntry (i f : Elf) (p o : ℕ) (u v : Unit) (old new : Entry) : Type 0 where
   pub kept : IsKeptEntry (name_sections i).units.info (name_sections f).units.info old new
   pub held : is_function_at (list_sections f) p v new ≡ is_function_at (list_sections i) o u old
@@ -131,7 +131,7 @@ pub record IsCarriedUnit (i f : Elf) (p o : ℕ) (u v : Unit) : Type 0 where
   pub kept : IsKeptUnit i f u v
   pub entries : AllZip (IsCarriedEntry i f p o u v) u.entries v.entries
 
--- All that a chain at p depends on.
+-- All that a chain at `p` depends on.
 pub record IsChainKept (i f : Elf) (p o : ℕ) : Type 0 where
   pub units : AllZip (IsCarriedUnit i f p o) (units (name_sections i).units) (units (name_sections f).units)
   pub str : (name_sections f).str ≡ (name_sections i).str

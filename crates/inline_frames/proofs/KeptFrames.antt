@@ -30,7 +30,7 @@ use Rattle.inline_frames.proofs.KeptNames.{AreNamesKept, name_each, unit_each, v
 abbrev Infos : Elf → Elf → Entry → Entry → Type 0
 Infos i f = IsKeptEntry (name_sections i).units.info (name_sections f).units.info
 
--- Numbers of calls.
+-- Numbers of calls
 
 abbrev number_by : ℕ → ℕ → Option ℕ
 number_by form value = if form == DW_FORM_addr || is_address_index form then None else Some value
@@ -44,7 +44,7 @@ number_kept form n m same = by (form == DW_FORM_addr) (is_address_index form) sa
     by false true e = refl
     by false false e = ap Some (e refl)
 
--- Frames of what they are made of.
+-- Frames, made from equal parts
 
 abbrev made_at_row : Option (List ℕ) → Option RowSaid → Frame
 made_at_row n r = record {
@@ -65,7 +65,7 @@ module _ (i f : Elf) (p o : ℕ) (kept : IsChainKept i f p o) where
   names_kept : AreNamesKept i f
   names_kept = record { units_are = units_kept; str = kept.str; line_str = kept.line_str; str_offsets = kept.str_offsets }
 
-  -- a number of a call
+  -- A number of a call.
   unsigned_each : (name : ℕ) (x y : Entry) →
       Agree (IsKeptAttr (name_sections i).units.info (name_sections f).units.info) (attr name x) (attr name y) →
       unsigned_of name y ≡ unsigned_of name x
@@ -129,7 +129,7 @@ module _ (i f : Elf) (p o : ℕ) (kept : IsChainKept i f p o) where
   entry_files_each x y h = then_each (IsKeptUnit i f) (unit_files i) (unit_files f) unit_files_each
       (unit_of_entry (name_sections i) x) (unit_of_entry (name_sections f) y) (unit_each i f names_kept x y h.unit)
 
-  -- the path of a call goes by these files alone
+  -- The path of a call only depends on these files.
   abbrev path_by : Option Files → Option ℕ → Option (List ℕ)
   path_by u index = option_and_then (λ (u : Files). option_and_then (λ n. option_and_then (path_of u.directories)
       (slice_get u.files n)) index) u

@@ -19,11 +19,11 @@ use Rattle.inline_frames.specs.Names.{name_or, name_within, name_of, own_name_or
 use Rattle.inline_frames.proofs.KeptChains.{IsKeptAttr, IsKeptEntry, IsKeptUnit, plain_name}
 use Rattle.inline_frames.proofs.Pairs.{find_each, then_each, flat_each}
 
--- a form that is another one isn't that of addresses
+-- A form that is another one isn't an address.
 no_address : (form other : ℕ) → (form == other) ≡ true → (other == DW_FORM_addr) ≡ false → (form == DW_FORM_addr) ≡ false
 no_address form other is apart = ap (λ n. n == DW_FORM_addr) (eqb-true form other is) ∙ apart
 
--- a value that is no address
+-- A value that is no address.
 pub value_of : (i f : List ℕ) (a b : Attr) → IsKeptAttr i f a b → (a.form == DW_FORM_addr) ≡ false → b.value ≡ a.value
 value_of i f a b h other = h.value (ap (λ t. t && not (names_base a.name)) other)
 
@@ -106,7 +106,7 @@ module _ (i f : Elf) (kept : AreNamesKept i f) where
       ∙ ap (λ t. text_with (name_sections i).str t n (base DW_AT_str_offsets_base u)) kept.str_offsets)
       (unit_of_entry (name_sections i) x) (unit_of_entry (name_sections f) y) (unit_each x y same)
 
-  -- the text of an attribute that is kept
+  -- The text of an attribute that is kept.
   pub text_kept : (x y : Entry) → y.unit ≡ x.unit → (a b : Attr) → KeptIn i f a b →
       text_of (name_sections f) y b ≡ text_of (name_sections i) x a
   text_kept x y same a b h =
@@ -124,7 +124,7 @@ module _ (i f : Elf) (kept : AreNamesKept i f) where
       ∙ ap (λ t. text_in t a.value) kept.line_str)
       (λ is. index_text x y same a.value b.value (value a b h (index_no_address a.form is)))
 
-  -- the place that a reference names
+  -- The offset that a reference gives.
   pub target_kept : (x y : Entry) → y.unit ≡ x.unit → (a b : Attr) → KeptIn i f a b → target_of y b ≡ target_of x a
   target_kept x y same a b h =
       ap (λ n. if n == DW_FORM_ref_addr then Some b.value
@@ -139,7 +139,7 @@ module _ (i f : Elf) (kept : AreNamesKept i f) where
       by false true e1 e2 = ap (λ n. Some (n + b.value)) same ∙ ap (λ n. Some (x.unit + n)) (e2 refl)
       by false false e1 e2 = refl
 
-  -- the first of two attributes that are kept
+  -- The first of two attributes that are kept.
   or_kept : (a b c d : Option Attr) → Agree (KeptIn i f) a b → Agree (KeptIn i f) c d →
       Agree (KeptIn i f) (option_or a c) (option_or b d)
   or_kept None None c d h more = more

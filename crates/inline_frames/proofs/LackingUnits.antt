@@ -1,4 +1,4 @@
--- Units in which none of some places lies have no link, and no naming, of an entry at one of these.
+-- Units without any of some offsets have no link, and no naming, of an entry at one of these.
 use Rattle.std.proofs.Common.{◌≡◌, ◌∙◌, ◌≤◌, ◌+◌, ℕ, Bool, true, false, cond, List, [], ◌∷◌, Some, None, Ok, Err, Result, refl, sym, ap}
 use Rattle.std.proofs.Common.{arith, map}
 use Rattle.std.specs.Prelude.{◌==◌, ◌&&◌, ◌||◌, if◌then◌else◌, option_map}
@@ -38,7 +38,7 @@ no_chain test before (e ∷ es) h =
     ap (λ (b : Bool). chain_in test (if b then outward test (e ∷ enclosing e.depth before) else []) (e ∷ before) es) h.0
     ∙ no_chain test (e ∷ before) es h.1
 
--- entries at none of some places
+-- Entries at none of some offsets.
 module _ (places : BTreeSet ℕ) where
   abbrev pub AreElsewhere : List Entry → Type 0
   AreElsewhere es = AllOf (λ (e : Entry). contains nat_cmp places e.place ≡ false) es
@@ -71,7 +71,7 @@ module _ (places : BTreeSet ℕ) where
       unit_naming str_offsets (map listed es) q ≡ None
   no_naming str_offsets q es wanted h = ap (option_map (listed_naming str_offsets (map listed es))) (none_at q es wanted h)
 
-  -- the entries of a unit in which none of the places lies
+  -- The entries of a unit without any of the offsets.
   module _ (w : Walked) (lacks : LacksPlaces places w) where
     all_elsewhere : (from : ℕ) (es : List Entry) → w.place ≤ from → Rise from (end_of w) es → AreElsewhere es
     all_elsewhere from [] h r = tt

@@ -1,5 +1,4 @@
--- Where debug data is kept and answers are carried, the frames of a byte of the written file are those of its owner in the
--- input.
+-- If debug data is kept and answers are carried, the frames of a byte of the written file are those of its owner in the input.
 use Rattle.std.proofs.Common.{◌≡◌, ◌≢◌, ◌∙◌, ℕ, Bool, true, false, List, [], ◌∷◌, Option, Some, None, refl, sym, ap, subst, arith}
 use Rattle.std.specs.Prelude.{◌==◌, ◌&&◌, ◌||◌, not, codes, if◌then◌else◌, option_map, option_and_then, unwrap_or}
 use Rattle.std.specs.List.{Contains, find}
@@ -39,7 +38,7 @@ use Rattle.inline_frames.proofs.KeptFrames.{frames_are_kept}
 use Rattle.inline_frames.proofs.LineFiles.{same_files}
 use Rattle.inline_frames.proofs.Pairs.{AllOf, agree_to, first_each, map_each, with_all}
 
--- a text that stands in an entry gets no new value
+-- A text in an entry gets no new value.
 no_new : (m : Moves) (own first : Bool) (e : Entry) (a : Attr) → (a.form == DW_FORM_string) ≡ true → new_value m own first e a ≡ None
 no_new m own first e a is =
     ap (λ (form : ℕ). if form == DW_FORM_addr then new_address m own e a
@@ -52,7 +51,7 @@ all_among : {A : Type 0} (P : A → Type 0) (xs : List A) → ((x : A) → Conta
 all_among P [] h = tt
 all_among P (x ∷ xs) h = (h x (0, omega arith, refl), all_among P xs (λ y c. h y (Contains-there x xs y c)))
 
--- the offset of a line unit
+-- The offset of a line number program.
 named_value : (m : Moves) (own first : Bool) (e : Entry) (a : Attr) → (a.name == DW_AT_stmt_list) ≡ true →
     (a.form == DW_FORM_sec_offset) ≡ true → unwrap_or (new_value m own first e a) a.value ≡ new_line_offset m.lists a.value
 named_value m own first e a named is =
@@ -131,7 +130,7 @@ module _ (spans : List Span) (lists : List ListAt) (i f : Elf) (kept : IsDebugKe
       by (Some x) (Some y) k = base_of (attr DW_AT_str_offsets_base x) (attr DW_AT_str_offsets_base y)
           ((entry_kept u x y k).attrs DW_AT_str_offsets_base (plain_name DW_AT_str_offsets_base refl refl)) (is_base x)
 
-  -- what the own entry of a unit names
+  -- The line number program of a unit's own entry.
   names_same : (own first : Bool) (e : Entry) (a b : Attr) →
       IsChanged kept.units.changed.moves own first e (sections_of i).info (sections_of f).info DW_AT_stmt_list a b → NamesSameFiles i f a b
   names_same own first e a b h = record {
@@ -187,7 +186,7 @@ module _ (spans : List Span) (lists : List ListAt) (i f : Elf) (kept : IsDebugKe
           (IsCarriedEntry i f p o u v) (entry_carried u v) u.entries v.entries h.entries old new;
     }
 
-    -- the frames at a byte of the written file are those at its owner
+    -- The frames at a byte of the written file are those at its owner.
     chain_law : line f p ≡ line i o → frames f p ≡ frames i o
     chain_law same = frames_are_kept i f p o (record {
       units = with_all ChangedUnit (Covered (list_sections i) o) (Covered (list_sections f) p)
@@ -199,8 +198,8 @@ module _ (spans : List Span) (lists : List ListAt) (i f : Elf) (kept : IsDebugKe
       line_is = same;
     })
 
--- Where debug data is kept, units and lines of both files have no fault, and the answers of a byte are those of its owner,
--- the frames of the byte are those of its owner.
+-- If debug data is kept, units and lines of both files have no fault, and the answers at a byte are those at its owner, then the frames of
+-- the byte are the owner's frames.
 pub frames_carried : (spans : List Span) (lists : List ListAt) (i f : Elf) → IsDebugKept spans lists i f →
     IsFree (HasDwarfFault (unit_fault_places (sections_of i))) → IsFree (HasDwarfFault (unit_fault_places (sections_of f))) →
     line_fault (line_sections i) ≡ None → line_fault (line_sections f) ≡ None →

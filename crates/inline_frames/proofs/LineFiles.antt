@@ -1,4 +1,4 @@
--- The files of the line unit of a number.
+-- The files of the line number program with an index.
 use Rattle.std.proofs.Common.{◌≡◌, ◌∙◌, ℕ, zero, suc, ◌+◌, Bool, true, false, List, [], ◌∷◌, Option, Some, None, refl, sym, ap, arith}
 use Rattle.std.specs.Prelude.{◌==◌, not, is_some, option_map, option_and_then, map, filter_map, slice_get, cond, if◌then◌else◌}
 use Rattle.std.specs.List.{find, position_or_len, cons_option}
@@ -11,7 +11,7 @@ use Rattle.line_rewrite.specs.FilePaths.{line_unit_at}
 use Rattle.line_rewrite.specs.KeptLineUnits.{files_of, unit_files, unit_number}
 use Rattle.inline_frames.proofs.KeptChains.{files_at}
 
--- Where every unit can be read, the unit at an offset is the one of that offset's number.
+-- If every line number program can be read, the one at an offset has that offset's index.
 
 module _ (g : Walked → Option LineUnit) where
   tail_fine : (w : Walked) (ws : List Walked) → first_place (λ w. not (is_some (g w))) (w ∷ ws) ≡ None →
@@ -56,7 +56,7 @@ module _ (g : Walked → Option LineUnit) where
           ∙ sym (ap (λ o. slice_get (cons_option o (filter_map g ws))
           (1 + position_or_len (λ p. p == offset) (map (λ (w : Walked). w.place) ws))) is)
 
--- the same of what units are mapped to
+-- For the values that units are mapped to.
 pub map-slice_get : {A B : Type 0} (h : A → B) (xs : List A) (k : ℕ) → option_map h (slice_get xs k) ≡ slice_get (map h xs) k
 map-slice_get h [] k = refl
 map-slice_get h (x ∷ xs) zero = refl
@@ -71,7 +71,7 @@ files_by_number s offset fine =
     ap (λ o. option_map files_of o) (at_number (read_unit s) offset (walked 5 s.line) fine)
     ∙ map-slice_get files_of (filter_map (read_unit s) (walked 5 s.line)) (unit_number s offset)
 
--- Offsets of one number name units of the same files.
+-- Offsets with the same index are of line number programs with the same files.
 pub same_files : (i f : Elf) → line_fault (line_sections i) ≡ None → line_fault (line_sections f) ≡ None →
     unit_files (line_sections f) ≡ unit_files (line_sections i) → (old new : ℕ) →
     unit_number (line_sections f) new ≡ unit_number (line_sections i) old → files_at f new ≡ files_at i old

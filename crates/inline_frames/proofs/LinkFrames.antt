@@ -1,4 +1,4 @@
--- The frames of some links, one after another.
+-- The frames of links, one after another.
 use Rattle.std.proofs.Common.{◌≡◌, ◌∙◌, ◌<◌, ◌≤◌, ◌+◌, ◌++◌, ℕ, List, [], ◌∷◌, sym, ap, subst, arith, append_assoc, drop, get_or, length}
 use Rattle.std.proofs.lemmas.Grind.{common_steps}
 use Rattle.std.proofs.lemmas.List.{append-nil, drop_more}
@@ -10,7 +10,7 @@ use Rattle.inline_frames.specs.declared.link.Link.{Link}
 use Rattle.inline_frames.specs.declared.naming.Naming.{Naming}
 
 module _ (lines : LineSections) (s : NameSections) (links : List Link) (namings : List Naming) (all : List Frame) where
-  -- the frames that are made, and those of the links from a number on
+  -- The frames made so far, and those of the links from a number on.
   abbrev pub AreFramed : ℕ → Position → List Frame → Type 0
   AreFramed n p frames = frames ++ link_frames lines s p (drop n links) (drop n namings) ≡ all
 

@@ -5,7 +5,7 @@ use Rattle.std.specs.List.{AllZip, find}
 use Rattle.answer_runs.specs.CarriedAnswers.{Agree}
 use Rattle.answer_runs.specs.Choices.{first_of}
 
--- each of a list
+-- For each element of a list.
 abbrev pub AllOf : {A : Type 0} → (A → Type 0) → List A → Type 0
 AllOf P [] = Unit {0}
 AllOf P (x ∷ xs) = P x × AllOf P xs
@@ -36,7 +36,7 @@ flat_each R S g to (x ∷ xs) [] h = absurd h
 flat_each R S g to (x ∷ xs) (y ∷ ys) h =
     append_each S (g x) (g y) (flat_map g xs) (flat_map g ys) (to x y h.0) (flat_each R S g to xs ys h.1)
 
--- what two tests that agree find
+-- The results of two tests that agree.
 pub find_each : {A : Type 0} (R : A → A → Type 0) (s t : A → Bool) → ((x y : A) → R x y → t y ≡ s x) → (xs ys : List A) →
     AllZip R xs ys → Agree R (find s xs) (find t ys)
 find_each R s t same [] [] h = tt
@@ -51,7 +51,7 @@ find_each R s t same (x ∷ xs) (y ∷ ys) h = by (s x) (t y) (same x y h.0) (fi
     by true false e more = absurd (cc)
     by false true e more = absurd (cc)
 
--- what is made of options that agree
+-- The results of a function on options that agree.
 pub then_each : {A B : Type 0} (R : A → A → Type 0) (g k : A → Option B) → ((x y : A) → R x y → k y ≡ g x) →
     (x y : Option A) → Agree R x y → option_and_then k y ≡ option_and_then g x
 then_each R g k same None None h = refl

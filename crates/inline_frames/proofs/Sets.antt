@@ -1,4 +1,4 @@
--- Sets of numbers, with one more.
+-- Sets of numbers, with one more number.
 use Rattle.std.proofs.Common.{◌≡◌, ◌∙◌, ◌<◌, ◌≤◌, ◌+◌, ℕ, Bool, true, false, cond, List, refl, sym, ap, arith, get_or, length, nat_cmp}
 use Rattle.std.proofs.Common.{take}
 use Rattle.std.specs.Prelude.{◌==◌, ◌||◌}
@@ -16,7 +16,7 @@ module _ {X : Type 0} (test : X → Bool) (xs : List X) (i : ℕ) (d : X) (old :
   more : list_any test (take (i + 1) xs) ≡ (old || test here)
   more = list_any_more test xs i d h ∙ sym (ap (λ (b : Bool). b || test here) inv)
 
-  -- whether a number is in a set, which got another
+  -- Whether a number is in a set with one more number.
   pub has_more : (q k : ℕ) (new : Bool) → test here ≡ (k == q) → new ≡ cond (is_at (nat_cmp k) q) true old →
       new ≡ list_any test (take (i + 1) xs)
   has_more q k new t e = e ∙ ap (λ (b : Bool). cond b true old) (at_key k q ∙ sym t) ∙ or_is (test here) old ∙ sym more where

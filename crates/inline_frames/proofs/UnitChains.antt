@@ -1,4 +1,4 @@
--- The chain of a unit, found by the numbers of its entries.
+-- The chain of a unit, found by the indexes of its entries.
 use Rattle.std.proofs.Common.{◌≡◌, ◌∙◌, ◌<◌, ◌≤◌, ◌+◌, ◌-◌, ◌++◌, ℕ, Bool, true, false, List, [], ◌∷◌, Option, Some, None, refl, sym, ap}
 use Rattle.std.proofs.Common.{subst, arith, append_assoc, drop, get_or, length, map, reverse, take}
 use Rattle.std.specs.Prelude.{◌==◌, IfSome, nat_lt, if◌then◌else◌}
@@ -15,7 +15,7 @@ use Rattle.inline_frames.specs.UnitChains.{chain_from, function_test, is_functio
 use Rattle.inline_frames.specs.declared.link.Link.{Link}
 use Rattle.inline_frames.specs.declared.tag.TheConstants.{DW_TAG_subprogram}
 
--- stands where no entry is needed
+-- A placeholder, for an index past the end.
 pub no_entry : ListedEntry
 no_entry = record { place = 0; unit = 0; depth = 0; tag = 0; attrs = [] }
 
@@ -26,7 +26,7 @@ within_more es i counts found new h inv e = subst (λ (o : Option ℕ). IfSome o
   by true = h
   by false = inv
 
--- entries from the last on, with one more
+-- Entries in reverse order, with one more.
 pub backward_more : (es : List Entry) (i : ℕ) (d : Entry) → i < length es → reverse (take (i + 1) es) ≡ get_or es i d ∷ reverse (take i es)
 backward_more es i d h = ap reverse (take_more es i d h) ∙ reverse-append (take i es) (get_or es i d ∷ [])
 
@@ -77,13 +77,13 @@ module _ (covering : BTreeSet ℕ) (es : List ListedEntry) where
       let none : drop i plains ≡ [] = grind (arith, common_steps) in
       sym (ap (chain_in test (chain_from covering es found) (reverse (take i plains))) none) ∙ inv
 
-  -- From it out
+  -- Outward from it
 
   module _ (str_offsets : List ℕ) where
     abbrev link : Entry → Link
     link e = link_in str_offsets es e
 
-    -- links that were kept, and those of the entries that are left
+    -- The links kept so far, and those of the entries that are left.
     abbrev pub AreLinks : ℕ → ℕ → List Link → Type 0
     AreLinks depth number links =
         links ++ map (link_in str_offsets es) (outward (function_test covering) (enclosing depth (reverse (take number (map plain es)))))
@@ -166,7 +166,7 @@ module _ (covering : BTreeSet ℕ) (es : List ListedEntry) where
     pub links_end : (depth : ℕ) (links : List Link) → AreLinks depth 0 links → links ≡ map link (unit_chain covering es)
     links_end depth links inv = sym (append-nil links) ∙ inv
 
-    -- the same of an entry before a number
+    -- For an entry before a number.
     module _ (depth number at : ℕ) (e : ListedEntry) (links : List Link) (some : 0 < number) (within : number ≤ length es)
         (is : e ≡ get_or es (number - 1) e) (here : at ≡ e.depth) (inv : AreLinks depth number links) where
       below : number - 1 < length es

@@ -7,25 +7,25 @@ use Rattle.range_loc_rewrite.specs.Ranges.{ranges_of}
 use Rattle.range_loc_rewrite.specs.Located.{hold}
 use Rattle.inline_frames.specs.declared.tag.TheConstants.{DW_TAG_subprogram, DW_TAG_inlined_subroutine}
 
--- a function, or an inlined instance of one, that holds the address `a`
+-- A function, or an inlined instance of one, whose ranges contain the address `a`.
 abbrev pub is_function_at : ListSections → ℕ → Unit → Entry → Bool
 is_function_at s a u e =
     (e.declaration.tag == DW_TAG_subprogram || e.declaration.tag == DW_TAG_inlined_subroutine)
     && hold (ranges_of s u e) a
 
--- of the entries, those that pass `test`, up to and with the first one that isn't inlined
+-- The entries that pass `test`, up to and including the first one that isn't inlined.
 abbrev pub outward : (Entry → Bool) → List Entry → List Entry
 outward test [] = []
 outward test (e ∷ es) =
     if test e then (if e.declaration.tag == DW_TAG_subprogram then e ∷ [] else e ∷ outward test es) else outward test es
 
--- The innermost entry is the last one that holds the address; `before` has those before, from the last on.
+-- The innermost entry is the last one that contains the address. `before` has the entries before it, the last first.
 abbrev pub chain_in : (Entry → Bool) → List Entry → List Entry → List Entry → List Entry
 chain_in test found before [] = found
 chain_in test found before (e ∷ es) =
     chain_in test (if test e then outward test (e ∷ enclosing e.depth before) else found) (e ∷ before) es
 
--- the chain of the last unit that has an entry with the address
+-- The chain in the last unit that has an entry with the address.
 abbrev pub last_chain : ListSections → ℕ → List Entry → List Unit → List Entry
 last_chain s a found [] = found
 last_chain s a found (u ∷ us) = last_chain s a (chain_in (is_function_at s a u) found [] u.entries) us

@@ -10,16 +10,16 @@ use Rattle.dw_unit.specs.ListedEntries.{ListedEntry, listed}
 use Rattle.inline_frames.specs.UnitChains.{link_in, unit_chain}
 use Rattle.inline_frames.specs.declared.link.Link.{Link}
 
--- each unit can be read, and is sound
+-- Each unit can be read, and is sound.
 abbrev pub AreReadable : (abbrevs addr : List ℕ) → List Walked → Type 0
 AreReadable abbrevs addr ws = (n : ℕ) (w : Walked) → slice_get ws n ≡ Some w →
     fails (is_sound_unit addr) (unit_of abbrevs w) ≡ false
 
--- none of `places` lies in the unit `w`
+-- No offset in `places` is in the unit `w`.
 abbrev pub LacksPlaces : BTreeSet ℕ → Walked → Type 0
 LacksPlaces places w = (q : ℕ) → w.place ≤ q → q < end_of w → contains nat_cmp places q ≡ false
 
--- the entries of each unit
+-- The entries of each unit.
 abbrev pub listed_units : List ℕ → List Walked → List (List ListedEntry)
 listed_units abbrevs ws = map (λ (u : Unit). map listed u.entries) (oks (map (unit_of abbrevs) ws))
 
@@ -30,7 +30,7 @@ abbrev pub or_before : List Link → List Link → List Link
 or_before [] before = before
 or_before (l ∷ ls) before = l ∷ ls
 
--- the links of the last unit that has some
+-- The links of the last unit that has any.
 abbrev pub file_links : List ℕ → BTreeSet ℕ → List Link → List (List ListedEntry) → List Link
 file_links str_offsets covering found [] = found
 file_links str_offsets covering found (es ∷ units) =

@@ -18,7 +18,7 @@ refers_to q n = option_map_or (λ place. place == q) (target_of n) false
 abbrev pub listed_naming : List ℕ → List ListedEntry → ListedEntry → Naming
 listed_naming str_offsets es e = naming_in str_offsets (own_says es).text_base e.unit e.attrs
 
--- how the name of the entry at `q` is found
+-- How the name of the entry at offset `q` is found.
 abbrev pub unit_naming : List ℕ → List ListedEntry → ℕ → Option Naming
 unit_naming str_offsets es q = option_map (listed_naming str_offsets es) (find (λ (e : ListedEntry). e.place == q) es)
 

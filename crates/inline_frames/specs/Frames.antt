@@ -23,11 +23,11 @@ pub record Frame : Type 0 where
   pub line : ℕ
   pub column : ℕ
 
--- what stands for a name or a path that there isn't
+-- A name or a path, or `?` if there is none.
 abbrev pub or_unknown : Option (List ℕ) → List ℕ
 or_unknown text = unwrap_or text (codes "?")
 
--- Where control is in the innermost function: the last row in force.
+-- The position in the innermost function: the last row in force.
 
 abbrev pub last_row : List RowSaid → Option RowSaid
 last_row [] = None
@@ -37,14 +37,14 @@ last_row (r ∷ (s ∷ rows)) = last_row (s ∷ rows)
 abbrev pub row_of : Elf → ℕ → Option RowSaid
 row_of elf a = option_and_then (λ (l : LineSaid). last_row l.rows) (line elf a)
 
--- Where control is in the function around an inlined one: at its call. A number in a form of addresses is none.
+-- An attribute's number, unless its form is an address. The position in a function with an inlined call is that call.
 
 abbrev pub unsigned_of : ℕ → Entry → Option ℕ
 unsigned_of name e =
     option_and_then (λ (a : Attr). if a.form == DW_FORM_addr || is_address_index a.form then None else Some a.value)
     (attr name e)
 
--- the offset of the line unit that its unit's own entry names
+-- The offset of the line number program that the unit's own entry refers to.
 abbrev pub named_line_unit : NameSections → Entry → Option ℕ
 named_line_unit s e =
     option_and_then (λ (a : Attr). if a.form == DW_FORM_sec_offset then Some a.value else None)
@@ -63,7 +63,7 @@ frame_at_row elf a e = record {
   column = unwrap_or (option_map (λ (r : RowSaid). r.column) (row_of elf a)) 0;
 }
 
--- the frame of an entry, at the call of the inlined one in it
+-- The frame of an entry, at the call of the function inlined in it.
 abbrev pub frame_at_call : Elf → Entry → Entry → Frame
 frame_at_call elf inlined e = record {
   name = or_unknown (name_of (name_sections elf) e);
@@ -87,6 +87,6 @@ abbrev pub frame_line : Frame → List ℕ
 frame_line f = f.name ++ codes " " ++ f.path ++ codes ":" ++ decimal f.line ++ codes ":" ++ decimal f.column
     ++ codes "\n"
 
--- a line for each, or one that says that there is none
+-- A line for each frame, or a line that says that there is none.
 abbrev pub frames_text : Elf → ℕ → List ℕ
 frames_text elf a = or_none (flat_map frame_line (frames elf a))

@@ -1,4 +1,4 @@
--- What is kept of the entries of functions.
+-- The fields that are kept of the entries of functions.
 use Rattle.std.specs.Prelude.{◌==◌, ◌||◌, ℕ, List, if◌then◌else◌, Option, Some, None, option_and_then, option_map}
 use Rattle.answer_runs.specs.Choices.{first_of}
 use Rattle.table_core.specs.declared.form.TheConstants.{DW_FORM_addr, DW_FORM_sec_offset}
@@ -44,7 +44,7 @@ listed_link str_offsets own e = record {
   line_unit = own.line_unit;
 }
 
--- the same of an entry of a file
+-- The fields of an entry of a file.
 abbrev pub link_of : NameSections → Entry → Link
 link_of s e = record {
   naming = naming_of s e;

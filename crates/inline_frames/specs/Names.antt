@@ -15,7 +15,7 @@ use Rattle.dw_unit.specs.declared.entry.Attr.{Attr}
 use Rattle.dw_unit.specs.CompUnits.{Entry, Unit, Sections, units, entries, attr, base, number_in, value_bytes}
 use Rattle.dw_unit.specs.Tables.{sections_of}
 
--- the sections that names are read from
+-- The sections that names are read from.
 pub record NameSections : Type 0 where
   pub units : Sections
   pub str : List ℕ
@@ -30,11 +30,11 @@ name_sections elf = record {
   str_offsets = bytes_of elf (codes ".debug_str_offsets");
 }
 
--- the unit of an entry
+-- The unit of an entry.
 abbrev pub unit_of_entry : NameSections → Entry → Option Unit
 unit_of_entry s e = find (λ (u : Unit). u.place == e.unit) (units s.units)
 
--- an index counts offsets of four bytes from the unit's base on
+-- The text with an index: the table of four-byte offsets begins at the unit's base.
 abbrev pub text_of_index : NameSections → Entry → ℕ → Option (List ℕ)
 text_of_index s e index =
     option_and_then
@@ -42,7 +42,7 @@ text_of_index s e index =
     (base DW_AT_str_offsets_base u))
     (unit_of_entry s e)
 
--- a text that stands in the entry ends with a zero byte
+-- A text in the entry itself ends with a zero byte.
 abbrev pub text_of : NameSections → Entry → Attr → Option (List ℕ)
 text_of s e a =
     if a.form == DW_FORM_string then Some (take (a.len - 1) (value_bytes s.units.info a))
@@ -50,19 +50,18 @@ text_of s e a =
     else (if a.form == DW_FORM_line_strp then text_in s.line_str a.value
     else (if is_text_index a.form then text_of_index s e a.value else None)))
 
--- a reference is an offset in the section, or one in its unit
+-- The offset that a reference gives: in the section, or from the unit's begin.
 abbrev pub target_of : Entry → Attr → Option ℕ
 target_of e a =
     if a.form == DW_FORM_ref_addr then Some a.value
     else (if nat_le DW_FORM_ref_addr a.form && nat_le a.form DW_FORM_ref_udata then Some (e.unit + a.value) else None)
 
--- the entry that an entry names as the one that it is an instance of, or that it completes
+-- The entry that this one is an instance of (DW_AT_abstract_origin), or that it completes (DW_AT_specification).
 abbrev pub referred : NameSections → Entry → Option Entry
 referred s e = option_and_then (λ place. find (λ (x : Entry). x.place == place) (entries s.units))
     (option_and_then (target_of e) (option_or (attr DW_AT_abstract_origin e) (attr DW_AT_specification e)))
 
--- Its own name, or else that of the entry which it names, as `more` finds it. A name of its own that can't be read is
--- none.
+-- The entry's own name, or `more`, the name of the entry that it refers to. An own name that can't be read is none.
 abbrev pub own_name_or : NameSections → Entry → Option Attr → Option (List ℕ) → Option (List ℕ)
 own_name_or s e (Some a) more = text_of s e a
 own_name_or s e None more = more
@@ -70,12 +69,12 @@ own_name_or s e None more = more
 abbrev pub name_or : NameSections → Entry → Option (List ℕ) → Option (List ℕ)
 name_or s e more = own_name_or s e (attr DW_AT_name e) more
 
--- the name of an entry, found through at most n references
+-- The name of an entry, found through at most `n` references.
 abbrev pub name_within : NameSections → ℕ → Entry → Option (List ℕ)
 name_within s zero e = name_or s e None
 name_within s (suc n) e = name_or s e (option_and_then (name_within s n) (referred s e))
 
--- how many references in a row are followed
+-- The limit of references in a row.
 abbrev pub reference_limit : ℕ
 reference_limit = 16
 

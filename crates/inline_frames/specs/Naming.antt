@@ -20,7 +20,7 @@ use Rattle.inline_frames.specs.declared.naming.TextPlace.TheVariants.{InInfo, In
 abbrev pub attr_in : ℕ → List Attr → Option Attr
 attr_in name attrs = find (λ (a : Attr). a.name == name) attrs
 
--- where the text of an attribute stands, by the base of its unit's indices
+-- Where the text of an attribute is, by the base of its unit's string offsets.
 abbrev pub index_place : List ℕ → Option ℕ → ℕ → Option TextPlace
 index_place str_offsets base index =
     option_map InStr (option_and_then (λ b. number_in 4 (b + 4 * index) str_offsets) base)
@@ -32,7 +32,7 @@ text_place str_offsets base a =
     else (if a.form == DW_FORM_line_strp then Some (InLineStr a.value)
     else (if is_text_index a.form then index_place str_offsets base a.value else None)))
 
--- the place of the entry that the attribute `a` refers to, of an entry of the unit at `unit`
+-- The offset of the entry to which the attribute `a` refers, in an entry of the unit at offset `unit`.
 abbrev pub target_by : ℕ → Attr → Option ℕ
 target_by unit a =
     if a.form == DW_FORM_ref_addr then Some a.value
@@ -41,7 +41,7 @@ target_by unit a =
 abbrev pub reference_in : List Attr → Option Attr
 reference_in attrs = option_or (attr_in DW_AT_abstract_origin attrs) (attr_in DW_AT_specification attrs)
 
--- a name of its own, or the entry that is referred to
+-- The entry's own name, or the entry that it refers to.
 abbrev pub naming_by : List ℕ → Option ℕ → Option Attr → Option ℕ → Naming
 naming_by str_offsets base (Some a) target = Named (text_place str_offsets base a)
 naming_by str_offsets base None (Some place) = Refers place
@@ -57,7 +57,7 @@ abbrev pub naming_of : NameSections → Entry → Naming
 naming_of s e =
     naming_in s.str_offsets (option_and_then (base DW_AT_str_offsets_base) (unit_of_entry s e)) e.unit e.attrs
 
--- the text at a place
+-- The text at a place.
 abbrev pub text_at_place : NameSections → TextPlace → Option (List ℕ)
 text_at_place s (InInfo place len) = Some (take len (drop place s.units.info))
 text_at_place s (InStr offset) = text_in s.str offset
@@ -70,17 +70,17 @@ naming_or_none None = Named None
 abbrev pub entry_at : NameSections → ℕ → Option Entry
 entry_at s place = find (λ (x : Entry). x.place == place) (entries s.units)
 
--- a naming with its reference followed once
+-- A naming with its reference followed once.
 abbrev pub followed : NameSections → Naming → Naming
 followed s (Named t) = Named t
 followed s (Refers place) = naming_or_none (option_map (naming_of s) (entry_at s place))
 
--- the text of a naming, where no reference is followed
+-- The text of a naming that isn't a reference.
 abbrev pub text_named : NameSections → Naming → Option (List ℕ)
 text_named s (Named t) = option_and_then (text_at_place s) t
 text_named s (Refers place) = None
 
--- a naming with as many references followed as the number says
+-- A naming with `k` references followed.
 abbrev pub followed_times : NameSections → ℕ → Naming → Naming
 followed_times s zero n = n
 followed_times s (suc k) n = followed_times s k (followed s n)

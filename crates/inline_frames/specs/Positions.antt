@@ -1,4 +1,4 @@
--- Where control is in the functions of a chain, and their frames.
+-- The positions in the functions of a chain, and their frames.
 use Rattle.std.specs.Prelude.{ℕ, List, [], ◌∷◌, codes, Option, Some, None, option_and_then, unwrap_or}
 use Rattle.line_rewrite.specs.FilePaths.{path_at}
 use Rattle.line_rewrite.specs.LineAnswers.{LineSaid, RowSaid}
@@ -39,7 +39,7 @@ call_position s l = record { path = or_unknown (call_path s l); line = or_zero l
 abbrev pub frame_at : NameSections → Position → Naming → Frame
 frame_at s p n = record { name = or_unknown (text_named s n); path = p.path; line = p.line; column = p.column }
 
--- the frames of a chain, from that at a position out
+-- The frames of a chain, outward from the position `p` in its first function.
 abbrev pub link_frames : LineSections → NameSections → Position → List Link → List Naming → List Frame
 link_frames lines s p [] ns = []
 link_frames lines s p (l ∷ ls) [] = []

@@ -1,4 +1,4 @@
--- The chain of a unit, by the places of the entries that hold an address.
+-- The chain of a unit, by the offsets of the entries that contain an address.
 use Rattle.std.specs.Prelude.{◌+◌, ◌==◌, ◌&&◌, ◌||◌, ℕ, Bool, List, [], ◌∷◌, map, reverse, take, Option, Some, None}
 use Rattle.std.specs.BTreeSet.{BTreeSet, contains}
 use Rattle.std.specs.Ordering.{nat_cmp}
@@ -10,7 +10,7 @@ use Rattle.inline_frames.specs.Links.{listed_link, own_says}
 use Rattle.inline_frames.specs.declared.link.Link.{Link}
 use Rattle.inline_frames.specs.declared.tag.TheConstants.{DW_TAG_subprogram, DW_TAG_inlined_subroutine}
 
--- a function, or an inlined instance of one, at one of the places `covering`
+-- A function, or an inlined instance of one, at one of the offsets `covering`.
 abbrev pub is_function : BTreeSet ℕ → ListedEntry → Bool
 is_function covering e = (e.tag == DW_TAG_subprogram || e.tag == DW_TAG_inlined_subroutine)
     && contains nat_cmp covering e.place
@@ -21,12 +21,12 @@ function_test covering e = is_function covering (listed e)
 abbrev pub unit_chain : BTreeSet ℕ → List ListedEntry → List Entry
 unit_chain covering es = chain_in (function_test covering) [] [] (map plain es)
 
--- the first of some entries, which stand from the last on, and those that it lies in
+-- The first of the entries, and its ancestors. The entries are listed from the last back.
 abbrev pub with_enclosing : List Entry → List Entry
 with_enclosing [] = []
 with_enclosing (e ∷ before) = e ∷ enclosing e.depth before
 
--- the chain from the entry at the index n out
+-- The chain outward from the entry with index `n`.
 abbrev pub chain_from : BTreeSet ℕ → List ListedEntry → Option ℕ → List Entry
 chain_from covering es None = []
 chain_from covering es (Some n) = outward (function_test covering)

@@ -22,16 +22,16 @@ use std::marker::Model;
 use table_core::section::contents_of;
 use table_set::{DebugAt, read_debug_at};
 
-/// A function, and where control is in it.
+/// A function, and the current position in it.
 #[derive(Drop)]
 pub struct Frame {
     /// The function's name, or `?`.
     pub name: Vec<u8>,
-    /// The path of the file in which control is, or `?`.
+    /// The path of the source file, or `?`.
     pub path: Vec<u8>,
-    /// The line, or 0 where none is known.
+    /// The line, or 0 if none is known.
     pub line: u64,
-    /// The column, or 0 where none is known.
+    /// The column, or 0 if none is known.
     pub column: u64,
 }
 
@@ -72,12 +72,12 @@ fn frame_of(
     })
 }
 
-// How many bytes names and paths of all frames may have together. Each frame has copies of its own, and names may be
-// ends of one long text, so that a small file can ask for very many.
+// The limit of bytes of names and paths of all frames. Each frame has its own copies, and names may be suffixes of one
+// long text, so a small file can ask for very many bytes.
 const MOST_BYTES: usize = 1 << 27;
 
-// How many bytes of a section of names may be looked through in vain for the end of one: all, if it doesn't end in a
-// zero byte.
+// The bytes of a section of names that a search for the end of a name may pass in vain: all, if the section doesn't end
+// with a zero byte.
 fn open_size(section: &[u8]) -> usize {
     match section.last() {
         Some(0) | None => 0,
@@ -85,9 +85,9 @@ fn open_size(section: &[u8]) -> usize {
     }
 }
 
-// The frames of `links`, from the innermost out. Control is at `first` in the first of them, and in each other one at
-// the call of the one before. `namings` say how their names are found. Want of memory is answered where names and paths
-// are too long.
+// The frames of `links`, from the innermost out. The position in the first one is `first`, and in each other one it is
+// the call of the function before. `namings` says how their names are found. Names and paths over the limit give
+// `NoMemory`.
 fn frames_from(
     alloc: Global,
     lines: &Lines,
@@ -144,8 +144,8 @@ fn frames_in(alloc: Global, elf: &Elf<'_>, debug: &DebugAt, a: u64) -> Result<Ve
     frames_from(alloc, &debug.lines, texts, first, &links, &namings)
 }
 
-/// The functions that the address `a` belongs to, from the innermost inlined one out to one that isn't inlined, or the
-/// fault of debug data with the lowest number.
+/// The functions that the address `a` belongs to, from the innermost inlined one out to one that isn't inlined; or the
+/// debug data's fault with the lowest number.
 pub fn frames(alloc: Global, elf: &Elf<'_>, a: u64) -> Result<Vec<Frame>, Refusal>
     ensures frames { IfOk result (λ fs. fs.items ≡ spec.frames elf.now a) }
     ensures sound { OnOk result (IsFree (HasDebugFault elf.now)) }

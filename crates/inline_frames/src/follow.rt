@@ -1,4 +1,4 @@
-// Names found by following references through a file: a walk over its units follows one reference of each naming.
+// Names found by following references through a file. One walk over the units follows one reference of each naming.
 ghost use Rattle.std.specs.Prelude.{◌≡◌, None, ℕ, IfOk, OnOk, if◌then◌else◌, is_some, map};
 ghost use Rattle.std.specs.List.{list_any};
 ghost use Rattle.std.specs.Option.{option_or};
@@ -16,10 +16,10 @@ use rb_bytes::fault::NoMemory;
 use std::alloc::Global;
 use std::collections::{BTreeMap, BTreeSet};
 
-// How many references in a row are followed. A naming that refers on after them, as in a cycle, has no name.
+// The limit of references in a row. A naming that still refers to an entry after them, as in a cycle, has no name.
 const REFERENCE_LIMIT: u8 = 16;
 
-// The offset of the entry that `naming` refers to, if it does.
+// The offset of the entry that `naming` refers to, if it does so.
 fn target_of(naming: Naming) -> Option<u128>
     ensures { result ≡ spec.target_of naming }
 {
@@ -49,7 +49,7 @@ fn targets(alloc: Global, namings: &[Naming]) -> Result<BTreeSet<u128>, NoMemory
     Ok(set)
 }
 
-// Adds to `found` how the names of a unit's entries at the offsets `wanted` are found, but for those that it has.
+// Adds to `found` how the names of a unit's entries at the offsets `wanted` are found, except those that it has.
 fn add_namings(
     str_offsets: &[u8],
     entries: &[Entry],
@@ -77,7 +77,7 @@ fn add_namings(
     Ok(())
 }
 
-// How the names of the entries at the offsets `wanted` are found. Units that hold none of them aren't read.
+// How the names of the entries at the offsets `wanted` are found. Units without any of them aren't read.
 fn namings_at(
     alloc: Global,
     reader: &UnitReader<'_, '_>,
@@ -105,7 +105,7 @@ fn namings_at(
     Ok(found)
 }
 
-// `naming` with its reference followed, if it has one. An offset at which no entry stands has no name.
+// `naming` with its reference followed, if it is one. An offset without an entry gives no name.
 fn followed(naming: Naming, found: &BTreeMap<u128, Naming>) -> Naming
     ensures { result ≡ spec.followed_by (get nat_cmp found.now) naming }
 {

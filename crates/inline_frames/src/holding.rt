@@ -1,4 +1,4 @@
-// Whether a unit holds one of some places, and so has to be read for them.
+// Whether a unit contains one of some offsets, and so has to be read.
 ghost use Rattle.std.specs.Prelude.{◌≡◌, ◌+◌, false, length};
 ghost use Rattle.dw_unit.specs.CompUnits as spec;
 ghost use Rattle.inline_frames.specs.FileChains.{LacksPlaces};
@@ -12,7 +12,7 @@ fn start_of(unit: &DebugUnit<'_>) -> u128
     unit.place as u128
 }
 
-// Where `bytes` end that stand behind a unit's length of 4 bytes, which stands at `place`.
+// The end of `bytes`, which follow a unit's length of 4 bytes at offset `place`.
 fn end_behind(place: u64, bytes: &[u8]) -> u128
     ensures { result ≡ place + 4 + length bytes.now }
 {
@@ -28,7 +28,7 @@ fn end_of(unit: &DebugUnit<'_>) -> u128
     }
 }
 
-/// Whether one of `places` lies in `unit`.
+/// Whether one of `places` is an offset in `unit`.
 pub fn has_place(places: &BTreeSet<u128>, unit: &DebugUnit<'_>) -> bool
     ensures { result ≡ false → LacksPlaces places.now unit.now }
 {

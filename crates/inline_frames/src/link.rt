@@ -1,4 +1,4 @@
-// What is kept of the entries of functions. DWARF 5, section 3.3.8.
+// The fields that are kept of the entries of functions. DWARF 5, section 3.3.8.
 ghost use Rattle.std.specs.Prelude.{◌≡◌, option_map};
 ghost use Rattle.table_core.specs.AttributeForms.{is_address_index};
 ghost use Rattle.inline_frames.specs.Links as spec;
@@ -11,31 +11,30 @@ use dw_unit::{Attr, Entry, is_address_index};
 use table_core::form::{DW_FORM_addr, DW_FORM_sec_offset};
 use table_core::written::DW_AT_stmt_list;
 
-/// What a unit's own entry, the first one, says for all of its entries.
+/// What a unit's own entry, its first, gives for all of its entries.
 #[derive(Clone, Copy)]
 pub struct OwnSays {
-    /// Where in `.debug_str_offsets` the offsets begin by which the unit's indices of texts count
-    /// (DW_AT_str_offsets_base).
+    /// The offset in `.debug_str_offsets` of the unit's string offsets (DW_AT_str_offsets_base).
     pub text_base: Option<u64>,
-    /// The offset of the unit's line program in `.debug_line` (DW_AT_stmt_list).
+    /// The offset of the unit's line number program in `.debug_line` (DW_AT_stmt_list).
     pub line_unit: Option<u64>,
 }
 
-/// An entry of a function, as far as frames need it.
+/// An entry of a function: the fields that frames need.
 #[derive(Clone, Copy)]
 pub struct Link {
     pub naming: Naming,
-    /// Where the function is called, if it is inlined: the number of a file in the unit's line program.
+    /// Of the call, if the function is inlined: the number of its file in the unit's line number program.
     pub file: Option<u64>,
-    /// The line of that call.
+    /// The line of this call.
     pub line: Option<u64>,
-    /// The column of that call.
+    /// The column of this call.
     pub column: Option<u64>,
-    /// The offset of the unit's line program in `.debug_line`.
+    /// The offset of the unit's line number program in `.debug_line`.
     pub line_unit: Option<u64>,
 }
 
-// The number that the attribute `name` holds, unless it is an address.
+// The number that the attribute `name` has, unless it is an address.
 fn unsigned_of(name: u64, attrs: &[Attr]) -> Option<u64>
     ensures { result ≡ spec.unsigned_in name attrs.now }
 {
@@ -65,7 +64,7 @@ fn line_unit_of(attrs: &[Attr]) -> Option<u64>
     }
 }
 
-/// What the first of a unit's entries says for all of them.
+/// The fields of the first of a unit's entries, for all of them.
 pub fn own_says(entries: &[Entry]) -> OwnSays
     ensures { result ≡ spec.own_says entries.now }
 {
@@ -81,7 +80,7 @@ pub fn own_says(entries: &[Entry]) -> OwnSays
     }
 }
 
-/// What is kept of an entry of a unit.
+/// The fields that are kept of an entry of a unit.
 pub fn link_of(str_offsets: &[u8], own: OwnSays, entry: &Entry) -> Link
     ensures { result ≡ spec.listed_link str_offsets.now own entry.now }
 {

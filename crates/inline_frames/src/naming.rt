@@ -11,10 +11,10 @@ use table_core::form::{
 };
 use table_core::shape::is_text_index;
 
-/// Where a text stands, by offsets in its section.
+/// Where a text is, by offsets in its section.
 #[derive(Clone, Copy)]
 pub enum TextPlace {
-    /// In `.debug_info`: its offset, and how many bytes it has.
+    /// In `.debug_info`: the text's offset and its number of bytes.
     InInfo(u64, u64),
     /// In `.debug_str`, up to a zero byte.
     InStr(u64),
@@ -25,9 +25,9 @@ pub enum TextPlace {
 /// How the name of an entry is found.
 #[derive(Clone, Copy)]
 pub enum Naming {
-    /// It is this text; None where the entry has no name.
+    /// It is this text; `None` if the entry has no name.
     Named(Option<TextPlace>),
-    /// It is that of the entry at this offset in `.debug_info`. The offset is a sum that may pass 2^64.
+    /// It is the name of the entry at this offset in `.debug_info`. The offset is a sum that may pass 2^64.
     Refers(u128),
 }
 
@@ -38,8 +38,8 @@ pub fn attr_named(name: u64, attrs: &[Attr]) -> Option<Attr>
     dw_unit::attr_named(name, attrs).copied()
 }
 
-// Where the text with the index `index` stands: `base` is where the unit's offsets begin in `.debug_str_offsets`, of
-// four bytes each. DWARF 5, section 7.26.
+// Where the text with index `index` is. The unit's offsets, of four bytes each, begin at `base` in
+// `.debug_str_offsets`. DWARF 5, section 7.26.
 fn index_place(str_offsets: &[u8], base: Option<u64>, index: u64) -> Option<TextPlace>
     ensures { result ≡ spec.index_place str_offsets.now base index }
 {
@@ -70,8 +70,8 @@ fn text_place(str_offsets: &[u8], base: Option<u64>, attr: Attr) -> Option<TextP
     None
 }
 
-// The offset of the entry that the attribute `attr` refers to: within the section, or within the unit at `unit`. DWARF
-// 5, section 7.5.5.
+// The offset of the entry to which the attribute `attr` refers: an offset in the section, or from `unit`, the offset of
+// the unit. DWARF 5, section 7.5.5.
 fn target_of(unit: u64, attr: Attr) -> Option<u128>
     ensures { result ≡ spec.target_by unit attr }
 {
@@ -84,8 +84,8 @@ fn target_of(unit: u64, attr: Attr) -> Option<u128>
     None
 }
 
-// The attribute that refers to the entry of which this one is an instance (DW_AT_abstract_origin), or else to the one
-// that it completes (DW_AT_specification).
+// The reference to the entry of which this one is an instance (DW_AT_abstract_origin); without one, the reference to
+// the entry that this one completes (DW_AT_specification).
 fn reference(attrs: &[Attr]) -> Option<Attr>
     ensures { result ≡ spec.reference_in attrs.now }
 {
@@ -101,8 +101,8 @@ fn referred(unit: u64, attrs: &[Attr]) -> Option<u128>
     target_of(unit, attr)
 }
 
-/// How the name of an entry of the unit at `unit` is found, which has the attributes `attrs`. `base` is where the
-/// unit's offsets begin in `str_offsets`.
+/// How the name of an entry is found that has the attributes `attrs`, in the unit at offset `unit`. The unit's string
+/// offsets begin at `base` in `str_offsets`.
 pub fn naming_of(str_offsets: &[u8], base: Option<u64>, unit: u64, attrs: &[Attr]) -> Naming
     ensures { result ≡ spec.naming_in str_offsets.now base unit attrs.now }
 {

@@ -1,4 +1,4 @@
-// Where control is in a function.
+// The current position in a function.
 ghost use Rattle.std.specs.Prelude.{◌≡◌, IfOk, option_map};
 ghost use Rattle.inline_frames.specs.Frames.{last_row, or_unknown};
 ghost use Rattle.inline_frames.specs.Positions as spec;
@@ -15,9 +15,9 @@ use table_core::ByAddress;
 pub struct Position {
     /// The path of the file, or `?`.
     pub path: Vec<u8>,
-    /// The line, or 0 where none is known.
+    /// The line, or 0 if none is known.
     pub line: u64,
-    /// The column, or 0 where none is known.
+    /// The column, or 0 if none is known.
     pub column: u64,
 }
 
@@ -29,7 +29,7 @@ impl Model for Position {
     ghost view = { λ p. record { path = p.path.items; line = p.line; column = p.column } };
 }
 
-/// `text`, or `?` where there is none.
+/// `text`, or `?` if it is `None`.
 pub fn or_unknown(alloc: Global, text: Option<Vec<u8>>) -> Result<Vec<u8>, NoMemory>
     ensures { IfOk result (λ bytes. bytes.items ≡ or_unknown (option_map (λ t. t.items) text)) }
 {
@@ -70,7 +70,7 @@ fn position_of(alloc: Global, row: &LineRow) -> Result<Position, NoMemory>
     })
 }
 
-/// Where control is in the innermost function of the address `a`: at the last of the rows in force there.
+/// The position in the innermost function of the address `a`: the last of the rows in force there.
 pub fn row_position(alloc: Global, lines: &Lines, a: u64) -> Result<Position, NoMemory>
     ensures { IfOk result (λ p. p ≡ spec.row_position lines.now a) }
 {
@@ -95,7 +95,7 @@ fn call_path(alloc: Global, lines: &Lines, link: Link) -> Result<Option<Vec<u8>>
     lines.path(alloc, unit, file)
 }
 
-/// Where control is in the function around the inlined one `link`: at its call.
+/// The position in the function around the inlined one `link`: the call.
 pub fn call_position(alloc: Global, lines: &Lines, link: Link) -> Result<Position, NoMemory>
     ensures { IfOk result (λ p. p ≡ spec.call_position lines.now link) }
 {

@@ -9,7 +9,7 @@ use rb_bytes::cursor::Cursor;
 use rb_bytes::fault::NoMemory;
 use std::alloc::Global;
 
-/// The sections in which names stand.
+/// The sections that have names.
 #[derive(Clone, Copy)]
 pub struct Texts<'s> {
     /// `.debug_info`.
@@ -20,7 +20,7 @@ pub struct Texts<'s> {
     pub line_str: &'s [u8],
 }
 
-// What stands in `section` from `offset` on; no bytes past the end.
+// The bytes of `section` from `offset` on; none past the end.
 fn from_offset(section: &[u8], offset: u64) -> &[u8]
     ensures { result.now ≡ drop offset section.now }
 {
@@ -64,7 +64,7 @@ fn text_at(alloc: Global, texts: Texts<'_>, place: TextPlace) -> Result<Option<V
     }
 }
 
-/// The text of `naming`; None where there is none, or it refers to another entry.
+/// The text of `naming`; `None` if there is none, or if it refers to another entry.
 pub fn text_named(
     alloc: Global,
     texts: Texts<'_>,

@@ -1,4 +1,4 @@
-// The functions of a unit that hold an address. DWARF 5, sections 3.3.1 and 3.3.8.
+// The functions of a unit that contain an address. DWARF 5, sections 3.3.1 and 3.3.8.
 ghost use Rattle.std.specs.Prelude.{◌≡◌, ◌<◌, ◌^◌, IfOk, IfSome, if◌then◌else◌, length, map, slice_index_or};
 ghost use Rattle.dw_unit.specs.ListedEntries.{ListedEntry};
 ghost use Rattle.inline_frames.specs.UnitChains as spec;
@@ -18,7 +18,7 @@ fn is_function(entry: &Entry, covering: &BTreeSet<u128>) -> bool
         && covering.contains(&(entry.place as u128))
 }
 
-// `number`, if it `counts`; else `before`.
+// `number` if it `counts`, and otherwise `before`.
 fn later(counts: bool, number: usize, before: Option<usize>) -> Option<usize>
     ensures { result ≡ (if counts then Some number else before) }
 {
@@ -47,8 +47,8 @@ fn depth_of(entries: &[Entry], number: usize) -> u64
     entry.depth as u64
 }
 
-/// The functions of a unit that hold the address, from the last one out to one that isn't inlined. `covering` has the
-/// offsets of the entries that cover the address.
+/// The functions of a unit that contain the address, from the last one out to one that isn't inlined. `covering` has
+/// the offsets of the entries that cover the address.
 pub fn links_in(
     alloc: Global,
     str_offsets: &[u8],
@@ -63,7 +63,8 @@ pub fn links_in(
         return Ok(links);
     };
     let own = own_says(entries);
-    // Entries stand in the order of their tree: going back, one that is less deep than all before it is around them.
+    // Entries are in preorder: going back, each entry that is less deep than all before is the parent of the last such
+    // one.
     let mut depth = depth_of(entries, inner) + 1;
     for number in (0..inner + 1).rev() {
         let entry = &entries[number];

@@ -1,4 +1,4 @@
-// The functions of a file that hold an address.
+// The functions of a file that contain an address.
 ghost use Rattle.std.specs.Prelude.{◌≡◌, ◌==◌, [], ℕ, IfOk};
 ghost use Rattle.std.specs.List.{list_any};
 ghost use Rattle.std.specs.Ordering.{nat_cmp};
@@ -24,15 +24,15 @@ pub fn place_set(alloc: Global, places: &[u64]) -> Result<BTreeSet<u128>, NoMemo
     Ok(set)
 }
 
-// `links`, or `before` where there are none.
+// `links`, or `before` if there are none.
 fn or_before(links: Vec<Link>, before: Vec<Link>) -> Vec<Link>
     ensures { result.items ≡ spec.or_before links.items before.items }
 {
     if links.is_empty() { before } else { links }
 }
 
-/// The functions of a file that hold the address, from the innermost out to one that isn't inlined: those of the last
-/// unit that has any. `covering` has the offsets of the entries that cover the address.
+/// The functions of a file that contain the address, from the innermost out to one that isn't inlined, in the last unit
+/// that has any. `covering` has the offsets of the entries that cover the address.
 pub fn file_links(
     alloc: Global,
     reader: &UnitReader<'_, '_>,

@@ -17,7 +17,7 @@ use Rattle.range_loc_rewrite.specs.Locations.{PlaceSaid, places_said}
 use Rattle.range_loc_rewrite.specs.Tables.{list_sections}
 use Rattle.lookup_core.specs.Texts.{bytes_text, offset_text, register_text, if_set, unless_zero}
 
--- A row: path, line and column, the flags that are set, and what isn't 0.
+-- A row: path, line and column, the flags that are set, and the numbers that aren't 0.
 
 abbrev pub position_text : List ℕ → ℕ → ℕ → List ℕ
 position_text path line column = codes "line " ++ path ++ codes ":" ++ decimal line ++ codes ":" ++ decimal column
@@ -37,7 +37,7 @@ line_lines said = option_map_or (λ (l : LineSaid). flat_map row_line l.rows) sa
 abbrev pub covers_line : ℕ → List ℕ
 covers_line place = codes "covers " ++ hexadecimal place ++ codes "\n"
 
--- an expression in two digits a byte, or `-` for an empty one
+-- An expression in two hexadecimal digits a byte, or `-` for an empty one.
 abbrev pub expression_text : List ℕ → List ℕ
 expression_text [] = codes "-"
 expression_text (b ∷ bs) = bytes_text (b ∷ bs)
@@ -50,8 +50,8 @@ place_line entry attr x =
 abbrev pub places_lines : PlaceSaid → List ℕ
 places_lines p = flat_map (place_line p.entry p.attr) p.expressions
 
--- How to unwind: the canonical frame address, the return address' column, the rules of registers, and what the entry
--- has besides.
+-- How to unwind: the canonical frame address, the return address' column, the rules of registers, and then the handler,
+-- the LSDA and the signal flag of the entry.
 
 abbrev pub cfa_text : Cfa → List ℕ
 cfa_text (cfa.Reg reg offset) = register_text reg ++ offset_text offset
@@ -83,17 +83,17 @@ unwind_line x =
     ++ handler_text x.handler x.indirect
     ++ unless_zero x.table (codes " table " ++ hexadecimal x.table) ++ if_set x.signal (codes " signal") ++ codes "\n"
 
--- the lines of answers
+-- The lines of all answers.
 abbrev pub lines_of : Option LineSaid → List ℕ → List PlaceSaid → Option FrameAnswer → List ℕ
 lines_of line covers places unwind =
     line_lines line ++ flat_map covers_line covers ++ flat_map places_lines places
     ++ option_map_or unwind_line unwind []
 
--- all lines that there are, or one that says that there is none
+-- All lines, or a line that says that there is none.
 abbrev pub report_of : Option LineSaid → List ℕ → List PlaceSaid → Option FrameAnswer → List ℕ
 report_of line covers places unwind = or_none (lines_of line covers places unwind)
 
--- the report on an address of a file
+-- The report on an address of a file.
 abbrev pub report : Elf → ℕ → List ℕ
 report elf a =
     report_of (line elf a) (covering (list_sections elf) a) (places_said (list_sections elf) a) (unwind elf a)

@@ -3,7 +3,7 @@ use Rattle.std.specs.Prelude.{ℕ, ℤ, pos, negsuc, suc, ◌/◌, ◌%◌, ◌=
 use Rattle.std.specs.Prelude.{if◌then◌else◌, codes, decimal}
 use Rattle.rb_bytes.specs.Text.{hexadecimal}
 
--- a byte in two hexadecimal digits
+-- A byte in two hexadecimal digits.
 abbrev pub digit : ℕ → List ℕ
 digit n = hexadecimal n
 
@@ -13,12 +13,12 @@ byte_text b = digit (b / 16) ++ digit (b % 16)
 abbrev pub bytes_text : List ℕ → List ℕ
 bytes_text bytes = flat_map byte_text bytes
 
--- a number with its sign, as a distance
+-- A number with its sign, as a distance.
 abbrev pub offset_text : ℤ → List ℕ
 offset_text (pos n) = codes "+" ++ decimal n
 offset_text (negsuc n) = codes "-" ++ decimal (suc n)
 
--- a register by its number
+-- A register by its number.
 abbrev pub register_text : ℕ → List ℕ
 register_text r = codes "r" ++ decimal r
 

@@ -7,7 +7,7 @@ use line_rewrite::{LineAt, LineRow};
 use rb_bytes::fault::NoMemory;
 use rb_bytes::text::put_decimal;
 
-// Appends the flags of `row` that are set, and its numbers `isa` and `disc` (the discriminator) where they aren't 0.
+// Appends the flags of `row` that are set, and its numbers `isa` and `disc` (the discriminator) unless they are 0.
 // DWARF 5, section 6.2.2.
 fn put_flags(text: &mut Vec<u8>, row: &LineRow) -> Result<(), NoMemory>
     ensures { OnOk result (text.new.items ≡ text.old.items ++ flags_text row.now) }
@@ -21,7 +21,7 @@ fn put_flags(text: &mut Vec<u8>, row: &LineRow) -> Result<(), NoMemory>
     Ok(())
 }
 
-// Appends the place of a row in its source: `line PATH:LINE:COLUMN`.
+// Appends the position of a row in its source: `line PATH:LINE:COLUMN`.
 fn put_position(text: &mut Vec<u8>, path: &[u8], line: u64, column: u64) -> Result<(), NoMemory>
     ensures { OnOk result (text.new.items ≡ text.old.items ++ position_text path.now line column) }
 {
@@ -54,7 +54,7 @@ fn put_rows(text: &mut Vec<u8>, rows: &[LineRow]) -> Result<(), NoMemory>
     Ok(())
 }
 
-/// Appends the lines of the rows that a line table says are in force, if it says something.
+/// Appends the lines of the rows in force, if the line table has an answer.
 pub fn put_line(text: &mut Vec<u8>, said: &Option<LineAt>) -> Result<(), NoMemory>
     ensures { OnOk result (text.new.items ≡ text.old.items ++ line_lines said.now) }
 {

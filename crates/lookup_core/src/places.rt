@@ -32,7 +32,7 @@ fn put_place_line(text: &mut Vec<u8>, entry: u64, attr: u64, x: &[u8]) -> Result
 }
 
 // Appends a line for each expression of one attribute: `places`, the offset of the entry, the attribute's number, and
-// the bytes of the expression, or `-` where it has none.
+// the bytes of the expression, or `-` if it has none.
 fn put_place(text: &mut Vec<u8>, place: &PlaceAt) -> Result<(), NoMemory>
     ensures { OnOk result (text.new.items ≡ text.old.items ++ places_lines (place_said place.now)) }
 {

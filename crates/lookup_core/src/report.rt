@@ -35,7 +35,7 @@ impl Report {
         &self.text
     }
 
-    /// The same, without a copy.
+    /// The report, without a copy.
     pub fn into_text(self) -> Vec<u8>
         ensures { result.items ≡ self.text.items }
     {
@@ -43,7 +43,7 @@ impl Report {
     }
 }
 
-// The report, by what each table says: lines first, then entries, expressions and how to unwind.
+// Joins the report from the answer of each table: lines first, then entries, expressions and how to unwind.
 fn report_text(
     alloc: Global,
     line: &Option<LineAt>,
@@ -64,7 +64,7 @@ fn report_text(
     Ok(text)
 }
 
-// The report on the address `a`, by the tables that were read for it.
+// The report on the address `a`, from the tables that were read for it.
 fn text_of(alloc: Global, tables: &TablesAt, a: u64) -> Result<Vec<u8>, NoMemory>
     ensures { IfOk result (λ text. (elf : Elf) → AreReadAt tables.now elf a → text.items ≡ report elf a) }
 {
@@ -75,7 +75,7 @@ fn text_of(alloc: Global, tables: &TablesAt, a: u64) -> Result<Vec<u8>, NoMemory
     report_text(alloc, &line, &lists.covers, &lists.places, &unwind)
 }
 
-/// The report on the address `a`, or the fault of the file's tables with the lowest number.
+/// The report on the address `a`, or the table fault of the file with the lowest number.
 pub fn look(alloc: Global, elf: &Elf<'_>, a: u64) -> Result<Report, Refusal>
     ensures report { IfOk result (λ r. r.text.items ≡ report elf.now a) }
     ensures sound { OnOk result (IsFree (HasTableFault elf.now)) }

@@ -67,7 +67,7 @@ fn put_word(text: &mut Vec<u8>, word: &[u8]) -> Result<(), NoMemory>
     Ok(())
 }
 
-// Appends how the value that a register had in the caller is found, in brackets where that value stands in memory.
+// Appends the rule of a register's value in the caller, in brackets if the value is in memory.
 fn put_rule(text: &mut Vec<u8>, rule: &Rule) -> Result<(), NoMemory>
     ensures { OnOk result (text.new.items ≡ text.old.items ++ rule_text rule.now) }
 {
@@ -115,8 +115,8 @@ fn put_cfi_row(text: &mut Vec<u8>, row: &Row, ra: u64) -> Result<(), NoMemory>
     Ok(())
 }
 
-// Appends `handler`, unless it is 0, which is none: the address of the personality routine, or, with a `*` before it,
-// an address at which that address stands.
+// Appends `handler`, the address of the personality routine, or with a `*` the address of a pointer to it. 0 means
+// none.
 fn put_handler(text: &mut Vec<u8>, handler: u64, indirect: bool) -> Result<(), NoMemory>
     ensures { OnOk result (text.new.items ≡ text.old.items ++ handler_text handler indirect) }
 {
@@ -129,7 +129,7 @@ fn put_handler(text: &mut Vec<u8>, handler: u64, indirect: bool) -> Result<(), N
     Ok(())
 }
 
-// Appends the line of what an unwind table says.
+// Appends the line of an unwind table's answer.
 fn put_unwind(text: &mut Vec<u8>, x: &FrameAt) -> Result<(), NoMemory>
     ensures { OnOk result (text.new.items ≡ text.old.items ++ unwind_line x.now) }
 {
@@ -142,7 +142,7 @@ fn put_unwind(text: &mut Vec<u8>, x: &FrameAt) -> Result<(), NoMemory>
     Ok(())
 }
 
-/// Appends the line of what an unwind table says, if it says something.
+/// Appends the line of an unwind table's answer, if there is one.
 pub fn put_frame(text: &mut Vec<u8>, said: &Option<FrameAt>) -> Result<(), NoMemory>
     ensures { OnOk result (text.new.items ≡ text.old.items ++ option_map_or unwind_line said.now []) }
 {

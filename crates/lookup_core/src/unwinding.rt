@@ -8,7 +8,7 @@ use rb_bytes::fault::NoMemory;
 use std::alloc::Global;
 use table_core::ByAddress;
 
-/// How to unwind from the address `a`. `.eh_frame` is asked first, and `.debug_frame` where that says nothing.
+/// How to unwind from the address `a`. `.eh_frame` is asked first, and `.debug_frame` if that has no answer.
 pub fn unwind_at(
     alloc: Global,
     eh: &EhFrames,
