@@ -13,7 +13,7 @@ use Rattle.line_rewrite.specs.LineMachine.{Sequence, start, after_op, after_row,
 use Rattle.line_rewrite.specs.LineMachine.{sequences_from, sequences_behind, sound_from, sound_behind, follows}
 use Rattle.line_rewrite.specs.Walks.{Ascends}
 
--- rows that may follow a last address, in a unit with so many files
+-- Rows that may follow a last address, in a unit with a number of files.
 abbrev pub Follow : ℕ → Option ℕ → List Registers → Type 0
 Follow files last [] = Unit {0}
 Follow files last (r ∷ rows) = (follows last r.address ≡ true) × (nat_lt r.file files ≡ true) × Follow files (Some r.address) rows
@@ -40,7 +40,7 @@ rows_follow coding files last r (op ∷ ops) h =
     (λ r. rows_from coding r ops) last
     (effect_of op) (after_op coding op r) (λ last r. rows_follow coding files last r ops) h
 
--- sequences whose rows do
+-- Sequences with such rows.
 abbrev pub AllFollow : ℕ → List Sequence → Type 0
 AllFollow files ss = All (λ s. Follow files None s.rows) ss
 
@@ -70,7 +70,7 @@ from_follow coding files rows last r (op ∷ ops) up h =
     (λ sound. from_follow coding files (rows_from coding (start coding) ops) None (start coding) ops
     (rows_follow coding files None (start coding) ops sound) sound) h
 
--- those of a program whose operations meet what is asked of them
+-- The sequences of a sound program.
 pub sequences_follow : (coding : Coding) (files : ℕ) (ops : List LineOp) → sound_from coding files None (start coding) ops ≡ true
     → AllFollow files (sequences coding ops)
 sequences_follow coding files ops h =

@@ -1,4 +1,4 @@
--- Two addresses between which no row lies: the same rows are in force at both.
+-- Two addresses without a row between them: the same rows are in force at both.
 use Rattle.std.proofs.Common.{◌≡◌, ◌<◌, ◌≤◌, ◌+◌, ◌-◌, ◌++◌, take, ℕ, List, [], ◌∷◌, zero, suc, refl, arith, sym, ◌∙◌, ap, subst}
 use Rattle.std.proofs.Common.{length, drop, get_or, nat_le, Bool, true, false, cond, ◌⊎◌, inl, inr}
 use Rattle.std.specs.Prelude.{nat_lt}
@@ -16,7 +16,7 @@ use Rattle.line_rewrite.proofs.InForce.{at_address, none_reached}
 use Rattle.line_rewrite.proofs.Lookups.{Before, kept_get, from_below, drop_none, row_rises, next_past}
 use Rattle.line_rewrite.proofs.Steps.{take_none}
 
--- Of rows that ascend, those up to either address.
+-- Of ascending rows, those up to either address
 
 abbrev Row : ℕ → ℕ → ℕ → Type 0
 Row a b x = ((b < x) × (nat_lt b x ≡ true) × (nat_le x a ≡ false) × (nat_le x b ≡ false))
@@ -52,7 +52,7 @@ reached_alike from a b (r ∷ rows) h up none =
 at_or_below : (x a b : ℕ) → x ≤ a → a ≤ b → (nat_le x a ≡ true) × (nat_le x b ≡ true)
 at_or_below x a b h k = grind (arith, nat_tests)
 
--- also where rows before these are none of them looked at
+-- The rows before these don't matter.
 front_alike : (n from a b : ℕ) (rows : List Registers) (first : Registers) (others : List Registers) → a ≤ b → Ascends from rows
     → drop n rows ≡ first ∷ others
     → first.address ≤ a → none_between a b (first ∷ others) ≡ true → reached a rows ≡ reached b rows
@@ -77,7 +77,7 @@ found_alike coding lengths bytes rows kept i a b d are up h low ordered none =
     force_alike a b rows (front_alike n 0 a b rows s.first s.others ordered up s.are (subst (λ (n : ℕ). n ≤ a) (sym s.address) low)
     (sym (ap (none_between a b) s.are) ∙ none))
 
--- None between, also behind: of rows of which the first is past both, none is.
+-- If the first of some rows is past both addresses, none is between them.
 
 past_both : (a b : ℕ) (rows : List Registers) → b < first_address rows (b + 1) → none_between a b rows ≡ true
 unfolding none_between
@@ -90,7 +90,7 @@ none_append a b [] ys e = e
 none_append a b (x ∷ xs) ys e =
     ap (λ (t : Bool). cond (nat_lt b x.address) true (cond (nat_lt a x.address) false t)) (none_append a b xs ys e)
 
--- rows up to that of the next state tell of all, where that one is past both
+-- The rows up to the next state's row decide, if that row is past both addresses.
 pub none_behind : (coding : Coding) (lengths bytes from : List ℕ) (rows : List Registers) (kept : List Kept) (i after count n a b : ℕ)
     (d : Kept) (result : Bool)
     → AreKept coding lengths bytes rows kept → count ≡ length rows → i < length kept
@@ -115,7 +115,7 @@ none_behind coding lengths bytes from rows kept i after count n a b d result are
     ap (none_between a b) (sym (take-append-drop n (drop first rows)))
     ∙ none_append a b (take n (drop first rows)) (drop n (drop first rows)) (ap (none_between a b) there ∙ behind) ∙ walked
 
--- One row more, where `whole` is what is sought.
+-- One more row; `whole` is the result.
 
 module _ (a b n : ℕ) (rows : List Registers) (whole : Bool) (inv : none_between a b (take n rows) ≡ whole) where
   pub between_done : n ≡ 0 → true ≡ whole
@@ -128,7 +128,7 @@ module _ (a b n : ℕ) (rows : List Registers) (whole : Bool) (inv : none_betwee
       sym (ap (λ (l : List Registers). none_between a b (take n l)) none ∙ ap (none_between a b) (take_none n)) ∙ inv
 
   module _ (next : Registers) (more : List Registers) (some : 0 < n) (are : rows ≡ next ∷ more) where
-    -- by what the two tests say of it
+    -- By the two tests of the row.
     row_more : (p q : Bool) → nat_lt b next.address ≡ p → nat_lt a next.address ≡ q
         → cond p true (cond q false (none_between a b (take (n - 1) more))) ≡ whole
     unfolding none_between

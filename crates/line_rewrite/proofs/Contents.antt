@@ -1,4 +1,4 @@
--- What the contents of an entry say, taken one at a time or together.
+-- The contents of an entry, taken one at a time or together.
 use Rattle.std.proofs.Common.{◌≡◌, ◌∙◌, ℕ, Bool, true, false, List, [], ◌∷◌, refl, sym, ap, Option, Some, None, is_some, arith}
 use Rattle.std.specs.Prelude.{◌==◌, ◌&&◌, if◌then◌else◌, option_map}
 use Rattle.std.specs.List.{list_all}
@@ -13,7 +13,7 @@ use Rattle.line_rewrite.specs.Entries.{contents_at, named, last_of, is_sound_con
 use Rattle.line_rewrite.specs.KeptEntries.{told_name}
 use Rattle.line_rewrite.specs.EntrySteps.{entry_at, Found, nothing_found, with_path, with_directory, found_more, found_at, found_named}
 
--- contents taken one at a time
+-- The contents, taken one at a time.
 abbrev over : Strings → Found → Contents → Option Found
 over strings f [] = Some f
 over strings f (c ∷ cs) = found_more strings c.0 c.1 f >>= (λ g. over strings g cs)
@@ -27,7 +27,7 @@ with_left left g = Some (g, left)
 abbrev taken : Strings → Found → Contents × List ℕ → Option (Found × List ℕ)
 taken strings f c = over strings f c.0 >>= with_left c.1
 
--- as one reads
+-- Reading them one at a time.
 abbrev found_over : Strings → Format → Found → List ℕ → Option (Found × List ℕ)
 found_over strings format f left = contents_at format left >>= taken strings f
 
@@ -49,7 +49,7 @@ found_after strings type format f value = found_more strings type value.0 f >>= 
 abbrev found_from : Strings → ℕ → Format → Found → ℕ × List ℕ → Option (Found × List ℕ)
 found_from strings type format f form = read_value form.0 form.1 >>= found_after strings type format f
 
--- the contents behind one, where it says g
+-- The contents after one that gives `g`.
 behind_some : (strings : Strings) (type : ℕ) (v : Value) (f g : Found) (r : Option (Contents × List ℕ)) →
     found_more strings type v f ≡ Some g
     → (r >>= taken strings g) ≡ ((r >>= put_content type v) >>= taken strings f)
@@ -89,7 +89,7 @@ unfolding found_at
 found_is strings [] f left = refl
 found_is strings (field ∷ format) f left = form_then strings field.0 format f (form_here field.1 left) (found_is strings format)
 
--- what contents say together, where each is sound
+-- All contents together, if each is sound
 
 abbrev path_or : Strings → Option (List ℕ) → Option Value → Option (List ℕ)
 path_or strings name None = name
@@ -105,7 +105,7 @@ found_of strings f path directory = record { path = path_or strings f.path path;
 abbrev together : Strings → Found → Contents → Found
 together strings f cs = found_of strings f (last_of DW_LNCT_path cs) (last_of DW_LNCT_directory_index cs)
 
--- the last value of a type, and one before it
+-- The last value of a type, and one before it.
 path_more : (strings : Strings) (name text : Option (List ℕ)) (v : Value) (last : Option Value) → text_of strings v ≡ text
     → path_or strings name (option_or last (Some v)) ≡ path_or strings text last
 path_more strings name text v None e = e
@@ -119,7 +119,7 @@ directory_more n m v (Some w) e = refl
 abbrev Joins : Strings → Contents → Type 0
 Joins strings cs = (f : Found) → over strings f cs ≡ only_if (list_all (is_sound_content strings) cs) (together strings f cs)
 
--- what all contents say, by the last values but for one before them
+-- The result of all contents: the last values, or those from before.
 abbrev all_say : Strings → Contents → Found → Option Value → Option Value → Bool → Option Found
 all_say strings cs f path directory sound = only_if (sound && list_all (is_sound_content strings) cs)
     (found_of strings f (option_or (last_of DW_LNCT_path cs) path) (option_or (last_of DW_LNCT_directory_index cs) directory))
@@ -152,7 +152,7 @@ other_content strings f cs j =
       directory = ap (directory_or f.directory) (sym (or_none (last_of DW_LNCT_directory_index cs))) i;
     })
 
--- by the two tests of a type
+-- By the two tests of a type.
 abbrev one_more : Strings → Value → Found → Bool → Bool → Option Found
 one_more strings v f p d = if p then with_path f (text_of strings v) else (if d then with_directory f (index_of (Some v)) else Some f)
 
@@ -174,7 +174,7 @@ joins strings [] f = refl
 joins strings (c ∷ cs) f = one_content strings c.1 f cs (c.0 == DW_LNCT_path) (c.0 == DW_LNCT_directory_index) (apart c.0)
     (joins strings cs)
 
--- the definition's last steps
+-- The last steps of the definition.
 abbrev with_index : List ℕ → ℕ → Option Named
 with_index name n = Some (record { name = name; directory = n })
 
@@ -199,7 +199,7 @@ named_is strings cs =
     ap (λ (o : Option Found). o >>= found_named) (joins strings cs nothing_found)
     ∙ named_by strings cs (list_all (is_sound_content strings) cs) (last_of DW_LNCT_path cs) (last_of DW_LNCT_directory_index cs)
 
--- an entry, by what its contents say one at a time
+-- An entry, from its contents one at a time
 
 abbrev with_rest : List ℕ → Named → Option (Named × List ℕ)
 with_rest left e = Some (e, left)
@@ -226,7 +226,7 @@ entry_is strings format left =
     ap (λ (o : Option (Found × List ℕ)). o >>= as_entry) (found_is strings format nothing_found left)
     ∙ entry_by strings (contents_at format left)
 
--- where the contents can be read, and where they say a path
+-- If the contents can be read and have a path.
 pub entry_of : (strings : Strings) (format : Format) (left rest : List ℕ) (f : Found) →
     found_at strings format nothing_found left ≡ Some (f, rest)
     → entry_at strings format left ≡ (found_named f >>= with_rest rest)

@@ -1,4 +1,4 @@
--- What operations that are written do.
+-- The effect of written operations.
 use Rattle.std.proofs.Common.{◌≡◌, ◌<◌, ◌≤◌, ◌-◌, ◌+◌, ◌*◌, ◌/◌, ◌%◌, ◌^◌, ◌==◌, ◌++◌, ◌&&◌, ℕ, pos, List, [], ◌∷◌, refl}
 use Rattle.std.specs.Bool.{beq}
 use Rattle.std.proofs.Common.{arith, sym, ◌∙◌, ap, subst, append_assoc, Bool, true, false, not, cond, nat_lt, nat_le, Option, Some, None}
@@ -22,7 +22,7 @@ use Rattle.line_rewrite.specs.WrittenPrograms.{after_rows}
 use Rattle.line_rewrite.proofs.Ascending.{Follow}
 use Rattle.line_rewrite.specs.Written.{IsRow, written_coding, unless, line_distance, above_base, step_ops, row_ops, rows_ops}
 
--- operations that append rows and make t of r
+-- Operations that append `rows` and change the registers from `r` to `t`.
 pub data Does (coding : Coding) : Registers → List LineOp → List Registers → Registers → Type 0 where
   stays : {r : Registers} → Does coding r [] [] r
   sets : {r s t : Registers} {op : LineOp} {ops : List LineOp} {rows : List Registers} → effect_of op ≡ Sets → after_op coding op r ≡ Some s
@@ -97,7 +97,7 @@ does_sound coding files last r (op ∷ ops) (x ∷ rows) t more (appends is afte
 
 -- The operations of a row
 
--- registers as a sequence or the last row leaves them
+-- Registers at the begin of a sequence, or after a row.
 pub record IsFresh (r : Registers) : Type 0 where
   pub block : r.basic_block ≡ false
   pub prologue : r.prologue_end ≡ false
@@ -108,7 +108,7 @@ pub record IsFresh (r : Registers) : Type 0 where
 pub after_fresh : (row : Registers) → IsRow row → IsFresh (after_row row)
 after_fresh row fits = record { block = refl; prologue = refl; epilogue = refl; discriminator = refl; line = fits.line }
 
--- one register set, where it differs
+-- One register set, if it differs.
 unless_does : (coding : Coding) (same : Bool) (op : LineOp) (r s : Registers) → effect_of op ≡ Sets
     → (same ≡ false → after_op coding op r ≡ Some s)
     → (same ≡ true → r ≡ s) → Does coding r (unless same op) [] s
@@ -138,7 +138,7 @@ special_line : (from to : ℕ) → from < 2 ^ 64 → to < 2 ^ 64 → above_base 
     → (from + cast_unsigned w64 (negsuc 4 +ℤ pos (above_base from to))) % 2 ^ 64 ≡ to
 special_line from to h k small = omega (arith, ints)
 
--- what is set before the row is appended
+-- The registers set before the row is appended.
 abbrev settings : Registers → Registers → List LineOp
 settings r row =
     unless (r.file == row.file) (SetFile row.file)
@@ -150,7 +150,7 @@ settings r row =
     ++ (unless (r.isa == row.isa) (SetIsa row.isa)
     ++ unless (row.discriminator == 0) (SetDiscriminator row.discriminator)))))))
 
--- the row, at the line and address of r
+-- The row, at the line and address of `r`.
 abbrev placed : Registers → Registers → Registers
 placed r row = record row { line = r.line; address = r.address }
 
@@ -190,7 +190,7 @@ settings_do coding r row fresh =
     (unless_does coding (row.discriminator == 0) (SetDiscriminator row.discriminator) s7 s8 refl (λ _. refl)
     (λ t. let z : row.discriminator ≡ 0 = grind (arith, nat_tests) in ap f8 (fresh.discriminator ∙ sym z)))))))))
 
--- an address advanced to that of the row
+-- An address advanced to the row's.
 there : (n : ℕ) (s row : Registers) → s.address + n ≡ row.address → row.address < 2 ^ 64
     → advanced n s ≡ Some (record s { address = row.address })
 there n s row e h =
@@ -254,7 +254,7 @@ row_does stmt r row fresh fits up =
     (settings_do (written_coding stmt) r row fresh)
     (step_by stmt r row (nat_lt (above_base r.line row.line) 14) (nat_le (row.address - r.address) 16) refl fresh fits up))
 
--- rows that ascend
+-- Rows that ascend.
 abbrev pub AreRows : ℕ → List Registers → Type 0
 AreRows from [] = Unit {0}
 AreRows from (row ∷ rows) = IsRow row × (from ≤ row.address) × AreRows row.address rows

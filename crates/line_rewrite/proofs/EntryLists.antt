@@ -18,12 +18,12 @@ use Rattle.line_rewrite.specs.Entries.{table_at, contents_at, named}
 use Rattle.line_rewrite.specs.KeptEntries.{told_field, told_format}
 use Rattle.line_rewrite.specs.EntrySteps.{times, field_at, entry_at, Found, found_more, found_at}
 
--- what was read, and then what is read
+-- The elements read, followed by those still to be read.
 abbrev pub with_front : {X : Type 0} → List X → Option (List X × List ℕ) → Option (List X × List ℕ)
 with_front xs None = None
 with_front xs (Some read) = Some (xs ++ read.0, read.1)
 
--- what a failed reading tells, and what follows from it
+-- A consequence of a failed reading.
 pub tells_map : (e : Trouble) (P Q : Type 0) → (P → Q) → Tells e P → Tells e Q
 tells_map Malformed P Q f t = f t
 tells_map Memory P Q f t = tt
@@ -55,7 +55,7 @@ nothing_more (Some x) = refl
 abbrev put : {X : Type 0} → X → List X × List ℕ → Option (List X × List ℕ)
 put x more = Some (x ∷ more.0, more.1)
 
--- one, and so many more
+-- One, and `n` more.
 abbrev then_times : {X : Type 0} → (List ℕ → Option (X × List ℕ)) → ℕ → X × List ℕ → Option (List X × List ℕ)
 then_times step n x = times step n x.1 >>= put x.0
 

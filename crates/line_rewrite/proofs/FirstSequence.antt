@@ -1,4 +1,4 @@
--- The first sequence of many units that holds an address.
+-- The first sequence of many units that covers an address.
 use Rattle.std.proofs.Common.{◌≡◌, ◌∙◌, ◌≤◌, ◌+◌, ◌-◌, ℕ, zero, suc, Bool, true, false, cond, List, [], ◌∷◌, Option, Some, refl}
 use Rattle.std.proofs.Common.{sym, ap, arith, map, drop, add-one, option_map, subst}
 use Rattle.std.specs.Prelude.{All, find, slice_get}
@@ -19,7 +19,7 @@ use Rattle.line_rewrite.specs.SequenceIndex.{Numbered, numbered, unit_numbered, 
 abbrev pub IsUnitKept : kept.Unit → KeptSequence → Type 0
 IsUnitKept u k = IsKept u.header.coding u.header.lengths.items u.program.items k
 
--- what a sequence says at an address
+-- The answer of a sequence at an address.
 abbrev pub numbered_said : Strings → ℕ → Numbered → LineSaid
 numbered_said strings a x = record { unit = x.number; rows = rows_said (told_unit strings x.unit) a (unit_sequence x.unit x.sequence) }
 
@@ -73,7 +73,7 @@ said_found strings a n (u ∷ us) =
     ∙ sym (ap (option_map (numbered_said strings a)) (find-append (λ x. holds_address a (kept_range x)) (unit_numbered n u)
     (all_numbered (n + 1) us)))
 
--- where a numbered sequence stands
+-- The place of a numbered sequence
 
 pub record Stands (us : List kept.Unit) (n : ℕ) (x : Numbered) : Type 0 where
   pub from : n ≤ x.number

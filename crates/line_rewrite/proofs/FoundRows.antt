@@ -1,4 +1,4 @@
--- The rows in force that a kept line table finds: there are some, their files are entries of the table, and each is said.
+-- The rows in force that a kept line table finds: there are some, their files are entries of the table, and each has an answer.
 use Rattle.std.proofs.Common.{◌≡◌, ◌∙◌, ◌≤◌, ◌<◌, ◌-◌, ◌==◌, ◌&&◌, ◌++◌, ℕ, zero, suc, Bool, true, false, cond, List, [], ◌∷◌, Option}
 use Rattle.std.proofs.Common.{Some, None, refl, sym, ap, subst, arith, length, nat_le, nat_lt, max}
 use Rattle.std.specs.Prelude.{All, filter, filter_map, find, slice_get}
@@ -23,7 +23,7 @@ use Rattle.line_rewrite.proofs.Headers.{told_count, filed_is}
 use Rattle.line_rewrite.proofs.LineLookups.{sequence_kept, sequence_follows}
 use Rattle.line_rewrite.proofs.Strands.{ArePieceRows}
 
--- rows whose files are among so many
+-- Rows whose files are below a number.
 abbrev pub Filed : ℕ → List Registers → Type 0
 Filed files [] = Unit {0}
 Filed files (r ∷ rows) = (r.file < files) × Filed files rows
@@ -49,7 +49,7 @@ force_filed files a rows f =
     filter_filed files (λ r. r.address == greatest_address (reached a rows)) (reached a rows)
     (filter_filed files (λ r. nat_le r.address a) rows f)
 
--- the greatest address is that of a row
+-- The greatest address is a row's
 
 abbrev at_greatest : ℕ → List Registers → List Registers
 at_greatest m rows = filter (λ r. r.address == m) rows
@@ -89,7 +89,7 @@ unfolding in_force
 some_in_force a end [] low high = absurd (omega arith)
 some_in_force a end (r ∷ rows) low high = some_force (reached a (r ∷ rows)) (some_reached a (r ∷ rows) (omega arith) low)
 
--- a sequence that was found
+-- A sequence that was found
 
 found_passes : {X : Type 0} (p : X → Bool) (xs : List X) (x : X) → find p xs ≡ Some x → p x ≡ true
 found_passes p [] x e = absurd (cc)
@@ -122,7 +122,7 @@ module _ (us : List kept.Unit) (a : ℕ) (x : Numbered) (found : numbered_at us 
       let to : a < x.sequence.end = grind (arith, nat_tests) in
       some_in_force a x.sequence.end (unit_sequence x.unit x.sequence).rows (subst (λ (n : ℕ). n ≤ a) low from) to
 
--- as the rows of a piece
+-- The rows of a piece
 
 pub piece_rows : (files a : ℕ) (rows : List Registers) → Filed files rows → All IsRow (moved a rows) → ArePieceRows files a (moved a rows)
 piece_rows files a [] f are = tt
@@ -137,7 +137,7 @@ pub moved_count : (a : ℕ) (rows : List Registers) → length (moved a rows) �
 moved_count a [] = refl
 moved_count a (r ∷ rows) = ap suc (moved_count a rows)
 
--- each row is said
+-- Each row has an answer
 
 record IsThere {X : Type 0} (o : Option X) : Type 0 where
   x : X
@@ -221,7 +221,7 @@ rows_said_count strings u rows has f =
     all_said (told_unit strings u) rows (subst (λ (n : ℕ). Filed n rows) (sym (told_count strings u.header.files.items)) f)
     (filed_is strings u.header.directories.items u.header.files.items ∙ has.filed)
 
--- the address of a row isn't said
+-- The answer of a row doesn't depend on its address.
 pub moved_said : (u : LineUnit) (a : ℕ) (rows : List Registers) → filter_map (row_said u) (moved a rows) ≡ filter_map (row_said u) rows
 moved_said u a [] = refl
 moved_said u a (r ∷ rows) = ap (cons_option (row_said u r)) (moved_said u a rows)

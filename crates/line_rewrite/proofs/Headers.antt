@@ -22,7 +22,7 @@ use Rattle.line_rewrite.specs.KeptEntries.{told_entry, told_entries}
 use Rattle.line_rewrite.specs.KeptUnits.{are_filed, told_header, tables_at, Outer, outer_at, unit_with}
 use Rattle.line_rewrite.specs.SoundPrograms.{is_sound}
 
--- what is read first, in a part of its own
+-- The first part of a reading, as a part of its own.
 split : {A B C : Type 0} (o : Option A) (f : A → Option B) (k : B → Option C) (h : A → Option C) → ((a : A) → (f a >>= k) ≡ h a) →
     ((o >>= f) >>= k) ≡ (o >>= h)
 split None f k h e = refl
@@ -48,7 +48,7 @@ unit_split strings bytes =
     split (ok (number_read 4 segment_size.1)) _ (unit_then strings) _ (λ size.
     split (ok (bytes_at size.0 size.1)) _ (unit_then strings) _ (λ fields. refl)))))
 
--- the directories of files, over what is kept of them
+-- The directories of files, by what is kept of them.
 told_filed : (strings : Strings) (n m : ℕ) (files : List Entry) → n ≡ m
     → list_all (λ f. nat_lt f.directory n) (told_entries strings files) ≡ are_filed m files
 told_filed strings n m [] e = refl
@@ -65,7 +65,7 @@ pub filed_is : (strings : Strings) (directories files : List Entry)
 filed_is strings directories files = told_filed strings (length (told_entries strings directories)) (length directories) files
     (told_count strings directories)
 
--- a header, by the parts that were read
+-- A header, by the parts that were read
 
 module _ (strings : Strings) (bytes : List ℕ) where
   pub header_from : (coding : Coding) (maximum : ℕ) (left : List ℕ) → coding_at bytes ≡ Some ((coding, maximum), left)
@@ -86,7 +86,7 @@ fails : {A B : Type 0} (o : Option A) (f : A → Option B) → ((a : A) → f a 
 fails None f e = refl
 fails (Some a) f e = e a
 
--- the numbers that are asked for
+-- The conditions on the numbers.
 abbrev pub are_numbers : Coding → ℕ → Bool
 are_numbers coding maximum = maximum == 1 && nat_lt 0 coding.line_range && nat_lt 0 coding.opcode_base
 
@@ -126,7 +126,7 @@ module _ (strings : Strings) (coding : Coding) (maximum : ℕ) (left : List ℕ)
       unfolding tables_at
       tables_are = rw (d, f) refl
 
--- all that is left, taken
+-- Taking all bytes left
 
 abbrev read_as : List ℕ → List ℕ → Result (List ℕ × List ℕ) Gap
 read_as xs ys = Ok (xs, ys)
@@ -144,7 +144,7 @@ all_taken n left taken after is e =
     first : {xs ys : List ℕ} → read_as xs ys ≡ Ok (taken, after) → taken ≡ xs
     first f = sym (ap front f)
 
--- what is kept of a header, by its fields
+-- A kept header, by its fields.
 pub header_made : (strings : Strings) (bytes left lengths ls behind rest l m : List ℕ) (coding : Coding) (maximum n : ℕ)
     (ds fs : List Entry)
     → coding_at bytes ≡ Some ((coding, maximum), left) → are_numbers coding maximum ≡ true →
@@ -223,7 +223,7 @@ module _ (strings : Strings) (bytes : List ℕ) (o : Outer) (outer : outer_at by
     unit_made program a b s e =
         by_tests true true (rw (a, b) refl) s ∙ ap (λ (p : List ℕ). Some (unit_with (told_header strings h) p)) (sym e)
 
--- what the tests of the numbers and sizes tell
+-- The tests of the numbers and sizes
 
 pub numbers_true : (coding : Coding) (maximum : ℕ) → maximum ≡ 1 → 0 < coding.line_range → 0 < coding.opcode_base →
     are_numbers coding maximum ≡ true
@@ -272,7 +272,7 @@ sizes_false a b (inr f) = and_right (a == 8) (b == 0) (not_nothing b f.1)
 clash : (xs ys : List ℕ) (gap : Gap) → read_as xs ys ≡ Err gap → ⊥
 clash xs ys gap e = cc
 
--- all that is left can be taken
+-- All bytes left can be taken.
 pub no_gap : (n : ℕ) (left : List ℕ) (gap : Gap) → n ≡ length left → bytes_at n left ≡ Err gap → ⊥
 no_gap n left gap is e =
     let t : nat_lt (length left) n ≡ false = grind (arith, nat_tests) in

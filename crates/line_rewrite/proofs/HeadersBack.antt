@@ -1,4 +1,4 @@
--- Headers and units that are written are read again.
+-- Written headers and units are read back.
 use Rattle.std.proofs.Common.{◌≡◌, ◌∙◌, ◌<◌, ◌-◌, ◌^◌, ◌&&◌, ◌++◌, ℕ, Bool, true, false, List, [], ◌∷◌, Option, Some}
 use Rattle.std.proofs.Common.{None, Ok, refl, sym, ap, arith, length, take, append-nil, nat_lt, negsuc, drop}
 use Rattle.std.proofs.lemmas.Bool.Decides.{nat_tests}
@@ -24,7 +24,7 @@ use Rattle.line_rewrite.proofs.Steps.{operations_end}
 use Rattle.line_rewrite.proofs.ProgramsBack.{ops_whole, program_written}
 use Rattle.line_rewrite.proofs.Strands.{ArePieces, program_sequences, program_sound}
 
--- some bytes that stand before others
+-- Bytes before others.
 bytes_back : (xs rest : List ℕ) (n : ℕ) → n ≡ length xs → bytes_at n (xs ++ rest) ≡ Ok (xs, rest)
 bytes_back xs rest n e =
     let t : nat_lt (length (xs ++ rest)) n ≡ false = grind (arith, nat_tests, common_steps) in
@@ -36,7 +36,7 @@ flag_back : (b : Bool) → nat_lt 0 (flag_byte b) ≡ b
 flag_back true = refl
 flag_back false = refl
 
--- the numbers that operations depend on
+-- The numbers that operations depend on.
 coding_back : (stmt : Bool) (left : List ℕ)
     → coding_at (1 ∷ 1 ∷ flag_byte stmt ∷ 251 ∷ 14 ∷ 13 ∷ left) ≡ Some ((written_coding stmt, 1), left)
 coding_back stmt left =
@@ -97,7 +97,7 @@ tables_of strings left directories files n e = by (table_at strings left) refl e
         middle_of ds f None s g = absurd (cc)
         middle_of ds f (Some read) s g = last ds.0 ds.1 f (Some read) s g
 
--- what is read of a header that is written
+-- The result of reading a written header.
 abbrev pub written_header : Strings → code.Header → Header
 written_header strings h = record {
   coding = written_coding h.coding.default_is_stmt;
@@ -132,7 +132,7 @@ outer_back h program small =
       bytes_back (header_fields h) program size refl,
     ) refl
 
--- a unit that is written of pieces
+-- A unit that is written from pieces.
 abbrev pub written_unit : Strings → code.Header → List Piece → LineUnit
 written_unit strings h us = record {
   tables = take h.table_size h.rest.items;

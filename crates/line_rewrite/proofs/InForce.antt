@@ -1,4 +1,4 @@
--- The rows in force, of rows that ascend.
+-- The rows in force, for rows that ascend.
 use Rattle.std.proofs.Common.{◌≡◌, ◌<◌, ◌≤◌, ◌==◌, ◌++◌, ℕ, List, [], ◌∷◌, refl, arith, sym, ◌∙◌, ap, append_assoc, Bool, true, false, cond}
 use Rattle.std.proofs.Common.{nat_le, max, subst, ◌⊎◌, inl, inr}
 use Rattle.std.specs.Prelude.{filter}
@@ -9,7 +9,7 @@ use Rattle.line_rewrite.specs.declared.registers.Registers.{Registers}
 use Rattle.line_rewrite.specs.LineMachine.{in_force, reached, greatest_address}
 use Rattle.line_rewrite.specs.Walks.{latest, Ascends}
 
--- every address is below m
+-- Every address is below `m`.
 abbrev pub AllBelow : ℕ → List Registers → Type 0
 AllBelow m [] = Unit {0}
 AllBelow m (r ∷ rows) = (r.address < m) × AllBelow m rows
@@ -45,7 +45,7 @@ reached_below : (m a : ℕ) (xs : List Registers) → AllBelow m xs → AllBelow
 reached_below m a [] b = tt
 reached_below m a (x ∷ xs) b = below_kept m (nat_le x.address a) x (reached a xs) b.0 (reached_below m a xs b.1)
 
--- rows before all that are in force don't matter
+-- Rows before all those in force don't matter.
 pub front_drop : (m a : ℕ) (front rows : List Registers) → AllBelow m front → m ≤ greatest_address (reached a rows) →
     in_force a (front ++ rows) ≡ in_force a rows
 unfolding in_force
@@ -87,7 +87,7 @@ all_at m (r ∷ rows) w =
     let t : (r.address == m) ≡ true = grind (arith, nat_tests) in
     rw t (ap (λ (l : List Registers). r ∷ l) (all_at m rows w.1))
 
--- rows at one address are in force together, also before others that aren't reached
+-- Rows at one address are in force together, even if rows that aren't reached follow them.
 pub found_stay : (m a : ℕ) (f : Registers) (found rows : List Registers) → AllAt m (f ∷ found) → m ≤ a → reached a rows ≡ [] →
     in_force a ((f ∷ found) ++ rows) ≡ f ∷ found
 unfolding in_force

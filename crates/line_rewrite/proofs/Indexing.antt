@@ -58,7 +58,7 @@ ranges_more ws i w v rs new h e vw wi n =
     ∙ ap (λ (x : Walked). map place_range (take i ws) ++ place_range x ∷ []) (vw ∙ wi)
     ∙ sym (ap (map place_range) (take_more ws i w h) ∙ map-append place_range (take i ws) (get_or ws i w ∷ []))
 
--- what is there is said, one item after another
+-- One more element at its index
 
 after_option : {Y : Type 0} (o : Option Y) (xs rest : List Y) → (xs ++ option_to_list o) ++ rest ≡ xs ++ cons_option o rest
 after_option None xs rest = ap (λ (l : List _). l ++ rest) (append-nil xs)

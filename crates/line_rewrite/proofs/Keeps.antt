@@ -1,4 +1,4 @@
--- The walk over a sequence whose states are kept.
+-- The walk over a sequence, of which states are kept.
 use Rattle.std.proofs.Common.{◌≡◌, ◌<◌, ◌≤◌, ◌-◌, ◌+◌, ◌||◌, ◌++◌, nat_le, get_or, ℕ, List, [], ◌∷◌, refl, arith, sym, ◌∙◌, ap, subst, Ok}
 use Rattle.std.proofs.Common.{Err, map, append_assoc, length, drop, length-drop, length-append, Option, Some, None, Bool, true, false}
 use Rattle.std.proofs.Common.{cond, ⊎_elim}
@@ -39,12 +39,12 @@ pub sequences_none : (coding : Coding) (rows : List Registers) (r : Registers) (
 unfolding sequences_from
 sequences_none coding rows r ops e = ap (sequences_from coding rows r) e
 
--- while no state is kept, one is due
+-- While no state is kept, one is due.
 abbrev pub FirstDue : Due → List Kept → Type 0
 FirstDue due [] = due.row ≡ 0
 FirstDue due (k ∷ kept) = Unit {0}
 
--- what is so on the way over the sequence that begins at a place
+-- The invariant of the walk over the sequence that begins at `place`.
 pub record OnWay (coding : Coding) (lengths bytes : List ℕ) (place : ℕ) (whole : List Registers) (left : List ℕ) (r : Registers) (count : ℕ)
     (due : Due) (kept : List Kept) : Type 0 where
   pub on : length left + place ≤ length bytes
@@ -88,7 +88,7 @@ way_sets coding lengths bytes place whole left r count due kept rest op next w r
       first = w.first;
     }
 
--- one state more, whose row isn't before that of another
+-- One more state, whose row isn't before another's.
 kept_snoc : (coding : Coding) (lengths bytes : List ℕ) (rows : List Registers) (kept : List Kept) (k : Kept)
     → AreKept coding lengths bytes rows kept
     → IsBefore coding lengths bytes rows k.index k → ((j : ℕ) (d : Kept) → j < length kept → (get_or kept j d).index < k.index)
@@ -124,7 +124,7 @@ kept_snoc coding lengths bytes rows kept k a b low = record {
 next_of : (n : ℕ) (l : List Registers) (x : Registers) (xs : List Registers) → drop n l ≡ x ∷ xs → (n < length l) × (xs ≡ drop (n + 1) l)
 next_of n l x xs e = grind (arith, common_steps, length-drop n l, drop-drop 1 n l)
 
--- a state more, where one is due
+-- One more state, if one is due.
 pub record KeptMore (coding : Coding) (lengths bytes : List ℕ) (whole : List Registers) (count : ℕ) (due : Due)
     (new : List Kept) : Type 0 where
   pub states : AreKept coding lengths bytes whole new
@@ -228,7 +228,7 @@ way_appends coding lengths bytes place whole left r count due kept rest op next 
       first = kept_now.first;
     }
 
--- the sequence ends here
+-- The sequence ends here.
 pub record Ended (coding : Coding) (lengths bytes : List ℕ) (place : ℕ) (whole : List Registers) (end next count : ℕ)
     (kept : List Kept) : Type 0 where
   pub sequence : sequences coding
@@ -296,7 +296,7 @@ pub way_out : (coding : Coding) (lengths bytes : List ℕ) (place : ℕ) (whole 
 way_out coding lengths bytes place whole left r count due kept w e =
     sym w.others ∙ sequences_none coding whole r _ (operations_end coding.opcode_base lengths left e)
 
--- the address of the first row, from the states
+-- The address of the first row, by the states.
 pub low_is : (coding : Coding) (lengths bytes : List ℕ) (rows : List Registers) (kept : List Kept) (end : ℕ)
     → AreKept coding lengths bytes rows kept
     → Begins (length rows) kept → low_of kept end ≡ first_address rows end
@@ -321,7 +321,7 @@ is_kept coding lengths bytes place end next low count kept k w p e l m n s =
           ∙ sym (ap (λ (p : ℕ). first_address (rows p) end) p) ∙ sym (ap (first_address (rows k.place)) e);
     }
 
--- the sequences from a place on, one at a time
+-- The sequences from an offset on, one at a time
 
 module _ (coding : Coding) (lengths bytes : List ℕ) where
   abbrev from : ℕ → List Sequence

@@ -1,4 +1,4 @@
--- The paths of files, over what is kept of them.
+-- The paths of files, by what is kept of them.
 use Rattle.std.proofs.Common.{◌≡◌, ◌∙◌, ◌++◌, ℕ, List, [], ◌∷◌, Some, false, refl, sym, ap, append_assoc}
 use Rattle.std.specs.Prelude.{slice_get, option_map}
 use Rattle.std.proofs.lemmas.Option.{slice_get-map}
@@ -6,7 +6,7 @@ use Rattle.line_rewrite.specs.declared.entry.Entry.{Entry}
 use Rattle.line_rewrite.specs.Entries.{Strings, slash, is_absolute, directory_path, path_of}
 use Rattle.line_rewrite.specs.KeptEntries.{told_name, told_entry, told_entries}
 
--- a relative path
+-- A relative path.
 pub path_is : (strings : Strings) (ds : List Entry) (file root d : Entry) (made path : List ℕ) →
     is_absolute (told_name strings file.text) ≡ false
     → slice_get ds 0 ≡ Some root → slice_get ds file.directory ≡ Some d

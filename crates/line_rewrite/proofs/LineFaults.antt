@@ -1,4 +1,4 @@
--- Line units that are read, and the first that can't be.
+-- Line units that are read, and the first one that can't be read.
 use Rattle.std.proofs.Common.{◌≡◌, ◌∙◌, ◌≤◌, ◌<◌, ◌+◌, ◌++◌, ℕ, zero, suc, List, [], ◌∷◌, Option, Some, None, refl, sym, ap, arith, map}
 use Rattle.std.proofs.Common.{length, take, get_or, subst, inl, inr, option_map, Result, Ok, Err}
 use Rattle.std.specs.Prelude.{MatchResult, sum_by, not, is_some, find, filter_map, slice_get, option_and_then}
@@ -26,7 +26,7 @@ use Rattle.line_rewrite.specs.Tables.{LineSections, HasLineFault, line_version, 
 use Rattle.line_rewrite.specs.Troubles.{Tells}
 use Rattle.line_rewrite.specs.UnitLists.{kept_size, walked_size, AreUnits, IsLineFault}
 
--- lists whose values are all there
+-- Lists whose values are all present
 
 module _ {X U Y : Type 0} (f : X → Option Y) (g : U → Y) where
   head_is : (x : X) (xs : List X) (u : U) (us : List U) → map f (x ∷ xs) ≡ map (λ u. Some (g u)) (u ∷ us) → f x ≡ Some (g u)
@@ -76,7 +76,7 @@ pub line_free : (s : LineSections) → line_version s ≡ None → line_fault s 
 line_free s v l kind place (inl has) = absurd (cc (v, has.1))
 line_free s v l kind place (inr has) = absurd (cc (l, has.1))
 
--- refusals
+-- Refusals
 
 some_same : (n m : ℕ) (o : Option ℕ) → o ≡ Some n → o ≡ Some m → n ≤ m
 some_same n m o e f = let same : n ≡ m = cc in omega arith
@@ -128,7 +128,7 @@ pub refusal_is : (s : LineSections) (r : Refusal) → line_version s ≡ None �
 refusal_is s (refusal.Fault fault) v e = subst (IsAnswered (HasLineFault s)) (sym e.0) (line_refusal s fault.place v e.1)
 refusal_is s refusal.Memory v e = tt
 
--- one unit more
+-- One more unit
 
 pub units_more : (strings : Strings) (ws : List Walked) (us new : List kept.Unit) (u : kept.Unit) (i : ℕ) (d : Walked) → i < length ws →
     AreUnits strings (take i ws) us
@@ -161,7 +161,7 @@ pub units_fail : (strings : Strings) (ws : List Walked) (us : List kept.Unit) (i
 units_fail strings ws us i d h a e =
     (refl, ap (option_map (λ (w : Walked). w.place)) (first_fails (unit_in strings) (told_unit strings) i ws us d a.are h e))
 
--- a section without a fault says what its units do
+-- The answers of a section without a fault are those of its units.
 pub says_all : (s : LineSections) (us : List kept.Unit) → line_version s ≡ None → AreUnits s.strings (walked 5 s.line) us
     → (unless_any (line_version s ∷ line_fault s ∷ []) (line_at s) ≡ Some (line_at s)) × IsFree (HasLineFault s)
 says_all s us v a =
@@ -172,7 +172,7 @@ pub units_nothing : (strings : Strings) (us : List kept.Unit) → us ≡ [] → 
 units_nothing strings us e = subst (AreUnits strings []) (sym e)
     (record { are = refl; tables = All-nil (λ (u : kept.Unit). HasTables strings u.header); sizes = omega arith })
 
--- the fault of a unit that was looked at
+-- The fault of a unit that was looked at.
 pub units_fault : (strings : Strings) (ws : List Walked) (us : List kept.Unit) (i : ℕ) (w : Walked) (trouble : Trouble) (fault : Fault) →
     i < length ws
     → AreUnits strings (take i ws) us → w ≡ get_or ws i w → trouble ≡ Malformed → Tells trouble (unit_in strings w ≡ None) →

@@ -1,4 +1,4 @@
--- What a kept line table finds at an address, and the unit at an offset.
+-- The answers of a kept line table at an address, and the unit at an offset.
 use Rattle.std.proofs.Common.{◌≡◌, ◌∙◌, ◌≤◌, ◌<◌, ◌-◌, ◌==◌, ℕ, zero, suc, Bool, true, List, [], ◌∷◌, Option, Some, None, refl, sym, ap}
 use Rattle.std.proofs.Common.{arith, map, option_map, subst, length, get_or}
 use Rattle.std.specs.Prelude.{All, find, slice_get, option_and_then, filter_map, nat_lt}
@@ -86,7 +86,7 @@ some_of f (Some x) y e = record { x = x; is = refl; gives = cc }
 zero_off : (n : ℕ) → n - 0 ≡ n
 zero_off n = omega arith
 
--- the sequence that an index finds
+-- The sequence that the index finds
 
 module _ (us : List kept.Unit) (index : SequenceIndex) (is : IsIndexOf us index) (a : ℕ) where
   abbrev place_at : Option Place
@@ -169,7 +169,7 @@ same_there us index is a b o r p q u k oa op rb rq n m at on same =
       rows = (λ i. in_force a (unit_sequence (xu i) (xk i)).rows) ∙ same ∙ (λ i. in_force b (unit_sequence (sym xu i) (sym xk i)).rows);
     }
 
--- items of lists, as they are looked up
+-- Elements of lists, as they are looked up
 
 below : (i n : ℕ) → true ≡ nat_lt i n → i < n
 below i n t = grind (arith, nat_tests)
@@ -181,7 +181,7 @@ item_at xs kept i x t e f = ap (λ ys. slice_get ys i) (sym f) ∙ slice_get_rea
 pub none_at : {X : Type 0} (xs kept : List X) (i : ℕ) → length xs ≤ i → xs ≡ kept → slice_get kept i ≡ None
 none_at xs kept i h f = ap (λ ys. slice_get ys i) (sym f) ∙ slice_get_past xs i h
 
--- what is kept of a sequence of a unit, as a view shows it
+-- A kept sequence of a unit, and the view of it
 
 module _ (u : kept.Unit) (k : KeptSequence) (i : ℕ) (at : slice_get u.sequences.items i ≡ Some k) (lengths program : List ℕ)
     (states : List Kept)

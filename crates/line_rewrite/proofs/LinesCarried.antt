@@ -1,4 +1,4 @@
--- From the law of a line table that stands in a file: its answers at new code are the input's at the owners.
+-- The law of a line table in a file: its answers at new code are the input's at the owners.
 use Rattle.std.proofs.Common.{◌≡◌, ◌∙◌, ap, sym, subst, refl, ℕ, List, [], ◌∷◌, Option, Some, None, length}
 use Rattle.std.specs.Prelude.{IsSome, option_and_then}
 use Rattle.elf_image.specs.declared.elf.Elf.{Elf}
@@ -34,7 +34,7 @@ line_carried spans t i f comes law p o e =
     (subst (λ (x : Option ℕ). IsSome x) (sym e) refl)
     ∙ ap (option_and_then (line_at t)) e ∙ ap (λ (s : LineSections). line_at s o) comes
 
--- a table without units is written without any
+-- A table without units is written without units.
 empty_walked : (section : List ℕ) → length (places_in section) ≡ 0 → section ≡ []
 unfolding units_from
 empty_walked [] e = refl

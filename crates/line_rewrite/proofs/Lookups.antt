@@ -1,4 +1,4 @@
--- From which kept state the rows in force are found.
+-- The kept state from which the rows in force are found.
 use Rattle.std.proofs.Common.{◌≡◌, ◌<◌, ◌≤◌, ◌-◌, ◌+◌, ◌++◌, ⊎_elim, ℕ, List, [], ◌∷◌, zero, suc, refl, arith, sym, ◌∙◌, ap, subst}
 use Rattle.std.proofs.Common.{length, drop, take, get_or, length-take, length-drop, nat_le, nat_lt, Bool, true, false, cond}
 use Rattle.std.proofs.lemmas.Bool.Decides.{nat_tests}
@@ -17,7 +17,7 @@ use Rattle.line_rewrite.specs.LineAnswers.{first_address}
 use Rattle.line_rewrite.specs.Keeping.{IsBefore, AreKept, Begins, are_past, row_at, rows_at_place}
 use Rattle.line_rewrite.proofs.InForce.{AllBelow, front_drop, latest_is}
 
--- the row that a state stands before, and those after it
+-- The row of a state, and the rows after it.
 pub record Before (coding : Coding) (lengths bytes : List ℕ) (rows : List Registers) (i : ℕ) (k : Kept) : Type 0 where
   pub within : k.place ≤ length bytes
   pub first : Registers
@@ -55,7 +55,7 @@ below_nothing : (m : ℕ) (rows : List Registers) → AllBelow m (take zero rows
 below_nothing m [] = tt
 below_nothing m (x ∷ rows) = tt
 
--- a row is at or past where rows begin to ascend
+-- A row is at or past the address from which rows ascend.
 pub from_below : (n from : ℕ) (rows : List Registers) (r : Registers) (others : List Registers) → Ascends from rows
     → drop n rows ≡ r ∷ others → from ≤ r.address
 from_below n from [] r others up e = absurd (cc (drop_none n))
@@ -63,7 +63,7 @@ from_below zero from (x ∷ rows) r others up e = let f : x ≡ r = cc in subst 
 from_below (suc n) from (x ∷ rows) r others up e = let h : x.address ≤ r.address =
     from_below n x.address rows r others up.1 e in let i : from ≤ x.address = up.0 in omega arith
 
--- the rows before one are no further on
+-- The rows before a row aren't further on.
 before_below : (n from m : ℕ) (rows : List Registers) (r : Registers) (others : List Registers) → Ascends from rows
     → drop n rows ≡ r ∷ others → r.address < m → AllBelow m (take n rows)
 before_below zero from m rows r others up e h = below_nothing m rows
@@ -77,7 +77,7 @@ kept_reach : (t : Bool) (x r : Registers) (rows : List Registers) → r.address 
 kept_reach true x r rows h = grind (arith, nat_tests)
 kept_reach false x r rows h = h
 
--- a row that is reached
+-- A row that is reached.
 row_reached : (n a : ℕ) (rows : List Registers) (r : Registers) (others : List Registers) → drop n rows ≡ r ∷ others → r.address ≤ a
     → r.address ≤ greatest_address (reached a rows)
 row_reached n a [] r others e h = absurd (cc (drop_none n))
@@ -88,7 +88,7 @@ row_reached zero a (x ∷ rows) r others e h =
     subst (λ (q : Registers). q.address ≤ greatest_address (reached a (x ∷ rows))) f (rw t (grind (arith, nat_tests)))
 row_reached (suc n) a (x ∷ rows) r others e h = kept_reach (nat_le x.address a) x r (reached a rows) (row_reached n a rows r others e h)
 
--- from a state on whose row is before one that is reached, all rows in force are found
+-- From a state whose row is before one that is reached, all rows in force are found.
 pub found_from : (coding : Coding) (lengths bytes : List ℕ) (rows : List Registers) (kept : List Kept) (f j a : ℕ) (d : Kept)
     → AreKept coding lengths bytes rows kept → Ascends 0 rows → f ≤ j → j < length kept
     → (get_or kept f d).address < (get_or kept j d).address
@@ -109,7 +109,7 @@ found_from coding lengths bytes rows kept f j a d are up h k less low =
     row_reached (m - n) a (drop n rows) t.first t.others tj (omega arith) in
     sym (ap (in_force a) (sym (take-append-drop n rows)) ∙ front_drop t.first.address a (take n rows) (drop n rows) below high)
 
--- the rows of states, and behind them how many rows there are
+-- The indexes of the rows of states; after the last state, the number of rows
 
 row_get : (kept : List Kept) (count j : ℕ) (d : Kept) → j < length kept → row_at kept count j ≡ (get_or kept j d).index
 row_get [] count j d h = absurd (omega arith)
@@ -175,7 +175,7 @@ state_found coding lengths bytes rows kept before up_to below a d are up u in_ke
     ap (λ (n : ℕ). in_force a (drop n rows)) (row_get kept (length rows) (below - 1) d (omega arith))
     ∙ found_from coding lengths bytes rows kept (below - 1) (up_to - 1) a d are up (omega arith) (omega arith) (omega arith) low
 
--- the first row in force has the greatest address that is reached
+-- The first row in force has the greatest address that is reached.
 first_greatest : (a : ℕ) (rows : List Registers) (r : Registers) (found : List Registers) → in_force a rows ≡ r ∷ found
     → r.address ≡ greatest_address (reached a rows)
 unfolding in_force
@@ -196,7 +196,7 @@ first_greatest a rows r found e = at_greatest (reached a rows) r found e
         → filter (λ (x : Registers). x.address == greatest_address xs) xs ≡ r ∷ found → r.address ≡ greatest_address xs
     at_greatest xs r found e = kept_first (greatest_address xs) xs r found e
 
--- Rows in force that stand past a state's row are all.
+-- If the rows found are past a state's row, they are all rows in force.
 pub near_found : (coding : Coding) (lengths bytes : List ℕ) (rows : List Registers) (kept : List Kept) (f a : ℕ) (d : Kept)
     → AreKept coding lengths bytes rows kept → Ascends 0 rows → f < length kept → (found : List Registers)
     → found ≡ in_force a (drop (row_at kept (length rows) f) rows) → are_past found (get_or kept f d) ≡ true
@@ -214,14 +214,14 @@ near_found coding lengths bytes rows kept f a d are up h (r ∷ found) is past =
     sym here ∙ sym (front_drop r.address a (take n rows) (drop n rows) below (omega (arith, great)))
     ∙ ap (in_force a) (take-append-drop n rows)
 
--- the first state stands before all rows
+-- The first state is before all rows.
 pub first_found : (rows : List Registers) (kept : List Kept) (a : ℕ) → Begins (length rows) kept
     → in_force a (drop (row_at kept (length rows) 0) rows) ≡ in_force a rows
 first_found [] [] a b = refl
 first_found (r ∷ rows) [] a b = let none : length (r ∷ rows) ≡ 0 = b.none refl in absurd (omega arith)
 first_found rows (k ∷ kept) a b = ap (λ (n : ℕ). in_force a (drop n rows)) (b.first k (omega arith))
 
--- rows that ascend, found part by part
+-- Ascending rows, found part by part
 
 none_latest : (found : List Registers) (from a : ℕ) (rows : List Registers) → Ascends from rows → a < from → latest found a rows ≡ found
 unfolding latest
@@ -258,7 +258,7 @@ ascends_past (suc n) from [] up = (from, tt)
 ascends_past zero from (r ∷ rows) up = (from, up)
 ascends_past (suc n) from (r ∷ rows) up = ascends_past n r.address rows up.1
 
--- the addresses of states don't fall
+-- The addresses of states don't fall.
 pub kept_rise : (coding : Coding) (lengths bytes : List ℕ) (rows : List Registers) (kept : List Kept)
     → AreKept coding lengths bytes rows kept → Ascends 0 rows → IsNonDecreasingBy (λ (k : Kept). k.address) kept
 kept_rise coding lengths bytes rows kept are up i j d le within =
@@ -286,7 +286,7 @@ start_found rows kept state a up =
 
 module _ (coding : Coding) (lengths bytes : List ℕ) (rows : List Registers) (kept : List Kept) (i a : ℕ) (d : Kept)
     (are : AreKept coding lengths bytes rows kept) where
-  -- a state past the address
+  -- A state past the address.
   pub state_past : (found whole : List Registers) → i < length kept → a < (get_or kept i d).address
       → latest found a (drop (row_at kept (length rows) i) rows) ≡ whole → found ≡ whole
   unfolding latest
@@ -297,7 +297,7 @@ module _ (coding : Coding) (lengths bytes : List ℕ) (rows : List Registers) (k
       ap (λ (b : Bool). cond b (latest (joined found s.first) a s.others) found) (sym t)
       ∙ sym (ap (latest found a) (ap (λ (n : ℕ). drop n rows) (row_get kept (length rows) i d h) ∙ s.are)) ∙ inv
 
-  -- the rows up to that of the next state
+  -- The rows up to the next state's row.
   pub state_more : (count n : ℕ) (from : List ℕ) (found new whole : List Registers) → Ascends 0 rows → count ≡ length rows → i < length kept
       → from ≡ drop (get_or kept i d).place bytes → n ≡ row_at kept count (i + 1) - (get_or kept i d).index
       → new ≡ latest found a (take n (rows_from coding (get_or kept i d).registers (operations coding.opcode_base lengths from)))
@@ -326,7 +326,7 @@ module _ (coding : Coding) (lengths bytes : List ℕ) (rows : List Registers) (k
   pub place_within : i < length kept → (get_or kept i d).place ≤ length bytes
   place_within h = (kept_get coding lengths bytes rows kept i d are h).within
 
--- behind the last state
+-- After the last state.
 pub states_end : (rows found whole : List Registers) (kept : List Kept) (i a : ℕ) → length kept ≤ i
     → latest found a (drop (row_at kept (length rows) i) rows) ≡ whole → found ≡ whole
 unfolding latest
@@ -336,7 +336,7 @@ states_end rows found whole kept i a h inv =
     drop_whole : (l : List Registers) → drop (length l) l ≡ []
     drop_whole l = grind (arith, common_steps)
 
--- what stands in a list's place past its end
+-- A placeholder, for an index past the end of a list.
 abbrev pub no_state : Kept
 no_state = record {
   place = 0;

@@ -1,4 +1,4 @@
--- Operands that are passed, one at a time.
+-- Operands that are skipped, one at a time.
 use Rattle.std.proofs.Common.{◌≡◌, ◌<◌, ◌-◌, ◌+◌, ℕ, List, suc, refl, arith}
 use Rattle.rb_bytes.specs.Readers.{and_then}
 use Rattle.rb_bytes.specs.Leb.{uleb_at}

@@ -1,4 +1,4 @@
--- The operations and the sequences of a program that is written of pieces.
+-- The operations and the sequences of a program that is written from pieces.
 use Rattle.std.specs.Prelude.{◌==◌, ◌++◌, ℕ, List, [], ◌∷◌, if◌then◌else◌, Option, Some}
 use Rattle.line_rewrite.specs.declared.coding.Coding.{Coding}
 use Rattle.line_rewrite.specs.declared.registers.Registers.{Registers}
@@ -7,14 +7,14 @@ use Rattle.line_rewrite.specs.declared.operation.LineOp.{LineOp}
 use Rattle.line_rewrite.specs.LineMachine.{Sequence}
 use Rattle.line_rewrite.specs.WrittenPrograms.{Piece, piece_end, piece_ops, going_after, closing_ops}
 
--- the operations of a program, with those that close the last sequence
+-- The operations of a program, with those that close the last sequence.
 unfoldable pub program_ops : Coding → Option Going → List Piece → List LineOp
 program_ops coding o [] = closing_ops o
 program_ops coding o (u ∷ us) = piece_ops coding o u ++ program_ops coding (Some (going_after coding o u)) us
 
--- its sequences
+-- Its sequences
 
--- the rows and the end of a sequence that goes on from an address, and the sequences behind it
+-- The rows and the end of a sequence that goes on from an address, and the sequences after it.
 unfoldable pub rows_on : ℕ → List Piece → List Registers
 rows_on e [] = []
 rows_on e (u ∷ us) = if e == u.start then u.rows ++ rows_on (piece_end u) us else []
@@ -30,7 +30,7 @@ unfoldable pub others_on : ℕ → List Piece → List Sequence
 others_on e [] = []
 others_on e (u ∷ us) = if e == u.start then others_on (piece_end u) us else strand_at u us ∷ others_on (piece_end u) us
 
--- a sequence that a piece opens, and those behind it
+-- A sequence that a piece opens, and those after it.
 abbrev pub strand : Piece → List Piece → List Sequence
 strand u us = strand_at u us ∷ others_on (piece_end u) us
 

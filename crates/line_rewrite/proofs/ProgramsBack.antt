@@ -1,4 +1,4 @@
--- Programs that are written for pieces: their operations are read again, take all of the bytes, and have few.
+-- Programs that are written for pieces: their operations are read back, take all bytes, and are bounded in size.
 use Rattle.std.proofs.Common.{◌≡◌, ◌<◌, ◌≤◌, ◌-◌, ◌+◌, ◌*◌, ◌^◌, ◌==◌, ◌++◌, ◌&&◌, ℕ, List, [], ◌∷◌, refl, arith, ◌∙◌, ap}
 use Rattle.std.specs.Bool.{beq}
 use Rattle.std.proofs.Common.{Bool, true, false, cond, not, nat_le, nat_lt, length, length-append, Option, Some, None, FitsSigned}
@@ -103,7 +103,7 @@ rows_written files a r [] are = tt
 rows_written files a r (row ∷ rows) are =
     are_append (row_ops r row) (rows_ops (after_row row) rows) (row_written r row are.0) (rows_written files a (after_row row) rows are.3)
 
--- an open sequence ends at an address
+-- An open sequence ends below 2^64.
 abbrev pub EndsLow : Option Going → Type 0
 EndsLow None = Unit {0}
 EndsLow (Some g) = g.end < 2 ^ 64
@@ -144,7 +144,7 @@ program_written coding files lo o (u ∷ us) low are =
     (run_written coding files o u.start u.rows low (omega arith) piece.rows)
     (program_written coding files (piece_end u) (Some (going_after coding o u)) us end are.2)
 
--- How many bytes they have.
+-- The number of their bytes
 
 abbrev size : List LineOp → ℕ
 size ops = length (all_spelled ops)
@@ -193,7 +193,7 @@ both_sizes xs ys m n h k = omega (arith, size_append xs ys, h, k)
 both_within : (xs ys : List LineOp) (m n k : ℕ) → m + n ≤ k → size xs ≤ m → size ys ≤ n → size (xs ++ ys) ≤ k
 both_within xs ys m n k e h l = omega (arith, size_append xs ys, e, h, l)
 
--- of which naming the file takes n
+-- With at most `n` bytes for setting the file.
 row_size_by : (r row : Registers) (n : ℕ) → size (unless (r.file == row.file) (SetFile row.file)) ≤ n → size (row_ops r row) ≤ n + 62
 row_size_by r row n h =
     both_within (first8 r row) (step_ops r row) (n + 39) 23 (n + 62) (omega arith)
@@ -219,7 +219,7 @@ file_size row = omega (arith, length-uleb-le row.file)
 row_size : (r row : Registers) → size (row_ops r row) ≤ 73
 row_size r row = row_size_by r row 11 (unless_size (r.file == row.file) (SetFile row.file) 11 (file_size row))
 
--- a row of the file that is named already
+-- A row of the file that is set already.
 filed_size : (r row : Registers) → r.file ≡ row.file → size (row_ops r row) ≤ 62
 filed_size r row same =
     let t : (r.file == row.file) ≡ true = eq-eqb r.file row.file same in
@@ -239,7 +239,7 @@ close_size g =
     let a : size (close_ops g) ≡ length (spelled (AdvancePc by)) + 3 = length-append (spelled (AdvancePc by)) (spelled EndSequence ++ []) in
     omega (arith, a, length-uleb-le by)
 
--- Where a sequence is opened, its first row names no file.
+-- The first row of an opened sequence doesn't set the file.
 open_size : (coding : Coding) (a : ℕ) (rows : List Registers) → size (open_ops coding a rows) ≤ 13 + 73 * length rows
 open_size coding a rows =
     let file : LineOp = SetFile (first_file rows) in
@@ -260,7 +260,7 @@ open_size coding a rows =
         (rows_size (after_row row) rows) in
         omega (arith, both, file_size row)
 
--- what closing an open sequence takes
+-- The bytes that close an open sequence.
 abbrev closing_size : Option Going → ℕ
 closing_size None = 0
 closing_size (Some g) = 14
@@ -274,7 +274,7 @@ run_size coding (Some g) a rows = by (g.end == a)
     by true = omega (arith, rows_size g.registers rows)
     by false = both_sizes (close_ops g) (open_ops coding a rows) 14 (13 + 73 * length rows) (close_size g) (open_size coding a rows)
 
--- the most bytes that a piece takes
+-- The most bytes that a piece takes.
 abbrev pub piece_size : Piece → ℕ
 piece_size u = 27 + 73 * length u.rows
 

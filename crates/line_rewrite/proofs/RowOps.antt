@@ -1,4 +1,4 @@
--- What is written for a row, register by register.
+-- The operations for a row, register by register.
 use Rattle.std.proofs.Common.{◌≡◌, ◌==◌, ◌++◌, ℕ, List, [], ◌∷◌, refl, sym, ◌∙◌, ap, append_assoc, not}
 use Rattle.std.specs.Bool.{beq}
 use Rattle.line_rewrite.specs.declared.registers.Registers.{Registers}
@@ -12,7 +12,7 @@ spelled_append [] ys = refl
 spelled_append (x ∷ xs) ys =
     ap (λ (l : List ℕ). spelled x ++ l) (spelled_append xs ys) ∙ sym (append_assoc (spelled x) (all_spelled xs) (all_spelled ys))
 
--- bytes that grew by some operations, and then by others
+-- Bytes that grew by some operations, and then by others.
 pub spelled_more : (out middle new : List ℕ) (xs ys : List LineOp) → middle ≡ out ++ all_spelled xs → new ≡ middle ++ all_spelled ys
     → new ≡ out ++ all_spelled (xs ++ ys)
 spelled_more out middle new xs ys e f =
@@ -20,7 +20,7 @@ spelled_more out middle new xs ys e f =
     ∙ append_assoc out (all_spelled xs) (all_spelled ys)
     ∙ sym (ap (λ (l : List ℕ). out ++ l) (spelled_append xs ys))
 
--- what is set before a row, as far as each register
+-- The operations before a row, up to each register.
 abbrev pub first2 : Registers → Registers → List LineOp
 first2 r row = unless (r.file == row.file) (SetFile row.file) ++ unless (r.column == row.column) (SetColumn row.column)
 

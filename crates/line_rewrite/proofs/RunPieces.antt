@@ -1,4 +1,4 @@
--- The pieces that runs give the program of each unit, and the programs that are written of them.
+-- The pieces that runs give to the program of each unit, and the programs written from them.
 use Rattle.std.proofs.Common.{◌≡◌, ◌≢◌, ◌<◌, ◌≤◌, ◌+◌, ◌==◌, ◌++◌, ◌&&◌, ◌^◌, ℕ, zero, suc, List, [], ◌∷◌, refl, arith, sym, ◌∙◌, ap}
 use Rattle.std.proofs.Common.{append_assoc, Bool, true, false, cond, nat_le, nat_lt, length, Option, Some, None, option_map}
 use Rattle.std.proofs.Common.{get_or, set, length-set, inl, inr}
@@ -24,7 +24,7 @@ use Rattle.line_rewrite.proofs.RowOps.{spelled_append}
 use Rattle.line_rewrite.proofs.Strands.{ArePieceRows, ArePieces}
 use Rattle.line_rewrite.proofs.StrandsFound.{has_address}
 
--- a program with some pieces more
+-- A program with more pieces
 
 abbrev pub with_pieces : Coding → Begun → List Piece → Begun
 with_pieces coding b [] = b
@@ -53,7 +53,7 @@ same_number a b t = grind (arith, nat_tests)
 other_number : (a b : ℕ) → (a == b) ≡ false → a ≢ b
 other_number a b t = grind (arith, nat_tests)
 
--- a run is written as a piece of the same bytes
+-- A run is written as a piece of the same bytes.
 pub record IsAt (r : Run LineSaid) (q : Placed) : Type 0 where
   pub start : q.piece.start ≡ r.start
   pub len : q.piece.len ≡ r.len
@@ -77,7 +77,7 @@ owned_at units r (Some a) q e = placed_of r a (numbered_at units a) q e
 abbrev pub has_run : ℕ → Run LineSaid → Bool
 has_run p r = nat_le r.start p && nat_lt p (r.start + r.len)
 
--- the piece that a run is for a unit
+-- The piece that a run gives to a unit.
 abbrev pub one_of : ℕ → Option Placed → Option Piece
 one_of k None = None
 one_of k (Some q) = cond (q.unit == k) (Some q.piece) None
@@ -91,7 +91,7 @@ module _ (units : List kept.Unit) (spans : List Span) where
   pieces k [] = []
   pieces k (r ∷ rs) = with_piece_of k (placed units spans r) (pieces k rs)
 
-  -- the program of a unit whose flag all of its runs have
+  -- The program of a unit. All its runs have the unit's flag.
   module _ (k : ℕ) (coding : Coding) where
     abbrev pub Codes : Option Placed → Type 0
     Codes None = Unit {0}
@@ -139,7 +139,7 @@ module _ (units : List kept.Unit) (spans : List Span) where
                 (with_piece (written_coding q.stmt) (get_or programs q.unit nothing_begun) q.piece) nothing_begun
                 (λ e. other_number q.unit k t (sym e)))
 
-  -- the piece that has an address
+  -- The piece that contains an address
 
   is_at : (r : Run LineSaid) (q : Placed) → placed units spans r ≡ Some q → IsAt r q
   is_at r q e = owned_at units r (owner spans r.start) q e
@@ -149,7 +149,7 @@ module _ (units : List kept.Unit) (spans : List Span) where
       ap (λ (n : ℕ). nat_le n p && nat_lt p (n + q.piece.len)) at.start
       ∙ ap (λ (n : ℕ). nat_le r.start p && nat_lt p (r.start + n)) at.len
 
-  -- none of the runs behind an address
+  -- No run after an address has it.
   pub none_behind : (k p lo hi : ℕ) (rs : List (Run LineSaid)) → IsWithin lo rs hi → p < lo → find (has_address p) (pieces k rs) ≡ None
   none_behind k p lo hi [] w h = refl
   none_behind k p lo hi (r ∷ rs) w h =
@@ -206,7 +206,7 @@ module _ (units : List kept.Unit) (spans : List Span) where
           on true = rw apart rest
           on false = rest
 
-  -- pieces as they have to be
+  -- The conditions on pieces
 
   abbrev pub Fits : ℕ → ℕ → Option Placed → Type 0
   Fits k files None = Unit {0}
@@ -252,7 +252,7 @@ module _ (units : List kept.Unit) (spans : List Span) where
               )
           on false t = let a : lo ≤ r.start = w.0 in lower files lo (r.start + r.len) (pieces k rs) (omega arith) rest
 
-  -- the bytes of all units' pieces, of which each run gives one at most
+  -- The bytes of all units' pieces: each run gives at most one piece.
 
   unfoldable pub pieces_size : ℕ → ℕ → List (Run LineSaid) → ℕ
   pieces_size k zero rs = 0
@@ -271,7 +271,7 @@ module _ (units : List kept.Unit) (spans : List Span) where
           on true = omega (arith, sum_by-cons piece_size q.piece (pieces k rs))
           on false = omega arith
 
-  -- a run of a unit below these gives them nothing
+  -- A run of a unit below these gives them nothing.
   abbrev Below : ℕ → Option Placed → Type 0
   Below k None = Unit {0}
   Below k (Some q) = q.unit < k

@@ -51,7 +51,7 @@ fits_all a i rows h all = subst (λ (l : List Registers). All IsRow (moved a l))
     whole : take i rows ≡ rows
     whole = grind (arith, common_steps)
 
--- a run that doesn't begin where the sequence ends
+-- A run that doesn't begin at the end of the sequence.
 pub written_apart : (coding : Coding) (g : Going) (a : ℕ) (rows : List Registers) (out middle new : List ℕ) → (g.end ≡ a → ⊥)
     → middle ≡ out ++ all_spelled (close_ops g) → new ≡ middle ++ all_spelled (open_ops coding a rows)
     → new ≡ out ++ all_spelled (run_ops coding (Some g) a rows)

@@ -1,4 +1,4 @@
--- No address is in two sequences of the written table: at most one holds it, that of the run that has it.
+-- No address is in two sequences of the written table: at most one covers it, that of the run with the address.
 use Rattle.std.proofs.Common.{◌≡◌, ◌∙◌, ◌<◌, ◌≤◌, ◌+◌, ◌==◌, ◌++◌, ◌^◌, ℕ, suc, Bool, true, false, cond, List, [], ◌∷◌, Option, Some, None}
 use Rattle.std.proofs.Common.{refl, sym, ap, arith, length, length-append, map, option_map}
 use Rattle.std.specs.Prelude.{AllPairs, All, find, filter, flat_map, option_and_then, slice_get}
@@ -25,7 +25,7 @@ use Rattle.line_rewrite.proofs.StrandsFound.{holds, ends_later, not_above, passe
 use Rattle.line_rewrite.proofs.TableBack.{unit_pieces, new_units, AreFrom, first_from, next_from}
 
 module _ (p : ℕ) where
-  -- how many sequences hold an address
+  -- The number of sequences that cover an address.
   abbrev holding : List Sequence → ℕ
   holding ss = length (filter (holds p) ss)
 
@@ -48,7 +48,7 @@ module _ (p : ℕ) where
       by true e = let t = takes s ss e in omega (arith, t, h)
       by false e = let t = skips s ss e in omega (arith, t, h)
 
-  -- where no rows are found, no sequence holds the address
+  -- If no rows are found, no sequence covers the address.
   none_holds : (ss : List Sequence) → strand_rows p ss ≡ None → holding ss ≡ 0
   none_holds [] e = refl
   none_holds (s ∷ ss) e = by (holds p s) refl (none_holds ss)
@@ -58,7 +58,7 @@ module _ (p : ℕ) where
       by false t more = skips s ss t ∙ more (sym (passed p s ss t) ∙ e)
 
   module _ (files : ℕ) where
-    -- the sequences behind one that goes on begin where that ends or later
+    -- The sequences after one that goes on begin at its end or later.
     none_behind : (e : ℕ) (us : List Piece) → ArePieces files e us → p < end_on e us → holding (others_on e us) ≡ 0
     unfolding end_on others_on
     none_behind e [] are h = refl
@@ -101,7 +101,7 @@ module _ (p : ℕ) where
     strands_once lo [] are = omega arith
     strands_once lo (u ∷ us) are = opened_once u us are.2 (others_once (piece_end u) us are.2)
 
--- Sequences of which at most one holds each address share none.
+-- Sequences of which at most one covers each address share none
 
 abbrev Apart : Sequence → Sequence → Type 0
 Apart s t = ShareNoAddress (range_of s) (range_of t)
@@ -118,7 +118,7 @@ once_apart : (ss : List Sequence) → Once ss → AllPairs Apart ss
 once_apart [] once = λ i j d less inside. absurd (omega arith)
 once_apart (s ∷ ss) once = AllPairs-cons Apart s ss (first_apart s ss once) (once_apart ss (λ p. fewer p s ss (once p)))
 
--- The units that are written
+-- The written units
 
 module _ (strings : Strings) (us : List kept.Unit) (spans : List Span) (rs : List (Run LineSaid)) (hi : ℕ) (w : IsWithin 0 rs hi)
     (h : hi < 2 ^ 64)
@@ -127,7 +127,7 @@ module _ (strings : Strings) (us : List kept.Unit) (spans : List Span) (rs : Lis
   all_of_units units = flat_map (λ (u : LineUnit). u.sequences) units
 
   module _ (p : ℕ) where
-    -- where the run that has the address is written
+    -- The place of the run with the address.
     abbrev place : Option Placed
     place = option_and_then (placed us spans) (find (has_run p) rs)
 
@@ -150,7 +150,7 @@ module _ (strings : Strings) (us : List kept.Unit) (spans : List Span) (rs : Lis
     unfolding new_units from
     first_of k u more = both p (strands (pieces us spans k rs)) (all_of_units (new_units strings us spans rs (k + 1) more))
 
-    -- none of the units behind the one in which the run is written
+    -- No unit after the one in which the run is written.
     past_unit : (q : Placed) → place ≡ Some q → (k : ℕ) (more : List kept.Unit) → AreFrom strings us spans rs k more → q.unit < k
         → from k more ≡ 0
     unfolding new_units from

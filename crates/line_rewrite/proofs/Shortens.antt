@@ -13,12 +13,12 @@ use Rattle.rb_bytes.specs.Leb.{uleb_at, sleb_at, leb_length}
 use Rattle.line_rewrite.specs.declared.operation.LineOp.{LineOp}
 use Rattle.line_rewrite.specs.Operations.{op_at, taking, standard_at, extended_at, extended_in, followed, unknown_at}
 
--- what a reading leaves
+-- The bytes after a reading.
 abbrev pub left_by : {X : Type 0} → Result (X × List ℕ) Gap → List ℕ
 left_by (Ok read) = read.1
 left_by (Err gap) = []
 
--- a reading takes at least k bytes
+-- A reading takes at least `k` bytes.
 pub record Shortens {X : Type 0} (k : ℕ) (bytes : List ℕ) (found : Result (X × List ℕ) Gap) : Type 0 where
   pub shorter : (x : X) (rest : List ℕ) → found ≡ Ok (x, rest) → length rest + k ≤ length bytes
   pub behind : (x : X) (rest : List ℕ) → found ≡ Ok (x, rest) → rest ≡ drop (length bytes - length rest) bytes
@@ -50,7 +50,7 @@ pub cond_shortens : {X : Type 0} (k : ℕ) (bytes : List ℕ) (test : Bool) (a b
 cond_shortens k bytes true a b s t = s
 cond_shortens k bytes false a b s t = t
 
--- a reading that tests for n bytes and leaves those after them
+-- A reading that tests for `n` bytes and takes them.
 pub dropped_shortens : {X : Type 0} (n : ℕ) (bytes : List ℕ) (test : Bool) (gap : Gap) (x : X) → (test ≡ false → n ≤ length bytes) →
     Shortens n bytes (cond test (Err gap) (Ok (x, drop n bytes)))
 dropped_shortens n bytes true gap x h = record { shorter = λ y rest e. absurd (cc); behind = λ y rest e. absurd (cc) }
@@ -93,7 +93,7 @@ less_shortens k bytes found s = record {
   behind = s.behind;
 }
 
--- a reading of a LEB128 number, or of one that must fit
+-- A reading of a LEB128 number, or of one that must fit.
 pub leb_shortens : {X : Type 0} (bytes : List ℕ) (n : ℕ) (short fits : Bool) (x : X) (d e : Gap) → 0 < n →
     (short ≡ false → n ≤ length bytes)
     → Shortens 0 bytes (cond short (Err d) (cond fits (Ok (x, drop n bytes)) (Err e)))

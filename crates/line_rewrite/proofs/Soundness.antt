@@ -1,4 +1,4 @@
--- Whether a program is as it should be, over one operation more.
+-- Whether a program is sound, with one more operation.
 use Rattle.std.proofs.Common.{◌≡◌, ◌<◌, ◌≤◌, ◌+◌, ◌&&◌, ℕ, List, [], ◌∷◌, zero, suc, refl, arith, sym, ◌∙◌, ap, Ok, Err, length, Option}
 use Rattle.std.proofs.Common.{Some, None, is_none, is_some, not, Bool, true, false, nat_lt}
 use Rattle.std.proofs.lemmas.Bool.Decides.{nat_tests}

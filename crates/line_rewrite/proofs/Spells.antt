@@ -1,4 +1,4 @@
--- What is written is read again.
+-- Written operations are read back.
 use Rattle.std.proofs.Common.{◌≡◌, ◌<◌, ◌≤◌, ◌-◌, ◌+◌, ◌^◌, ◌==◌, ◌++◌, ℕ, ℤ, List, [], ◌∷◌, refl, arith, sym, ◌∙◌, ap, append_assoc}
 use Rattle.std.proofs.Common.{length, length-append, drop, take, true, false, nat_lt, nat_le, Result, Ok, FitsSigned}
 use Rattle.std.specs.Int.{w64}
@@ -42,13 +42,13 @@ uleb_back n rest h = (IsShortestUleb-uleb n h).reads_back rest
 pub sleb_back : (z : ℤ) (rest : List ℕ) → FitsSigned w64 z → sleb_at (sleb z ++ rest) ≡ Ok (z, rest)
 sleb_back z rest h = (IsShortestSleb-sleb z h).reads_back rest
 
--- a byte below 128 is a LEB128 number
+-- A byte below 128 is a LEB128 number.
 pub small_back : (n : ℕ) (rest : List ℕ) → n < 128 → uleb_at (n ∷ rest) ≡ Ok (n, rest)
 small_back n rest h =
     let e : uleb n ≡ n ∷ [] = uleb-last n h in
     sym (ap (λ (l : List ℕ). uleb_at (l ++ rest)) e) ∙ uleb_back n rest (omega arith)
 
--- the operation behind an opcode
+-- The operation after an opcode.
 behind_opcode : (lengths : List ℕ) (opcode : ℕ) (left : List ℕ) (found : Found) → opcode < 13 → (opcode == 0) ≡ false
     → standard_at lengths opcode left ≡ found → op_at 13 lengths (opcode ∷ left) ≡ found
 unfolding op_at
@@ -64,7 +64,7 @@ operand_back : {X : Type 0} (make : X → LineOp) (x : X) (rest : List ℕ) (fou
     → taking make found ≡ Ok (make x, rest)
 operand_back make x rest found e = ap (taking make) e
 
--- an extended operation of so many bytes
+-- An extended operation of `n` bytes.
 extended_back : (n : ℕ) (bytes rest : List ℕ) (op : LineOp) → n ≡ length bytes → n < 128 → extended_in bytes ≡ Ok op
     → extended_at (n ∷ (bytes ++ rest)) ≡ Ok (op, rest)
 extended_back n bytes rest op e h is =
@@ -87,7 +87,7 @@ discriminator_in n h =
 end_in : extended_in (1 ∷ []) ≡ Ok EndSequence
 end_in = refl
 
--- operations that are written
+-- Operations that are written.
 abbrev pub IsWritten : LineOp → Type 0
 IsWritten (Special v) = v < 243
 IsWritten ConstAddPc = ⊥

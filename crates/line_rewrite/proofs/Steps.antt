@@ -21,12 +21,12 @@ behind_same base n m lengths bytes (Ok read) e same =
     let h : length read.1 + 1 ≤ length bytes = (op_shortens base lengths bytes).shorter read.0 read.1 e in
     ap (λ (l : List LineOp). read.0 ∷ l) (same read.1 (omega arith))
 
--- no bytes are no operation
+-- No bytes give no operation.
 op_of_none : (base n : ℕ) (lengths : List ℕ) → [] ≡ ops_behind (ops_within n base lengths) (op_at base lengths [])
 unfolding op_at
 op_of_none base n lengths = refl
 
--- a clock that reaches the count of bytes is as good as another
+-- Any limit that is at least the number of bytes gives the same result.
 pub enough : (base n m : ℕ) (lengths bytes : List ℕ) → length bytes ≤ n → length bytes ≤ m
     → ops_within n base lengths bytes ≡ ops_within m base lengths bytes
 unfolding ops_within
@@ -76,7 +76,7 @@ pub rows_end : (coding : Coding) (r : Registers) (lengths bytes : List ℕ) → 
 unfolding rows_from
 rows_end coding r lengths bytes e = ap (rows_from coding r) (operations_end coding.opcode_base lengths bytes e)
 
--- The rows over one operation more, where those from here on are `whole`.
+-- The rows with one more operation. `whole` are the rows from here on
 
 module _ (coding : Coding) (r : Registers) (lengths bytes : List ℕ) (whole : List Registers)
     (inv : rows_from coding r (operations coding.opcode_base lengths bytes) ≡ whole) where
@@ -107,7 +107,7 @@ module _ (coding : Coding) (r : Registers) (lengths bytes : List ℕ) (whole : L
         → whole ≡ next ∷ rows_from coding (after_row next) (operations coding.opcode_base lengths rest)
     row_appends next is after = step_is Appends (Some next) is after
 
--- The rows in force, over one row more: `found` is what was reached, n how many rows are still to be, `whole` what is sought.
+-- The rows in force with one more row: `found` are those reached, `n` is the number of rows to come, `whole` is the result
 
 pub take_none : (n : ℕ) → take {A = Registers} n [] ≡ []
 take_none zero = refl

@@ -1,4 +1,4 @@
--- The program that is written for runs, read again.
+-- The program that is written for runs is read back.
 use Rattle.std.proofs.Common.{◌≡◌, ◌<◌, ◌≤◌, ◌-◌, ◌+◌, ◌*◌, ◌^◌, ◌==◌, ◌++◌, ℕ, List, [], ◌∷◌, refl, arith, sym, ◌∙◌, ap}
 use Rattle.std.proofs.Common.{append_assoc, append-nil, Bool, true, false, cond, nat_lt, length, Option, Some, None}
 use Rattle.std.proofs.lemmas.Bool.Decides.{nat_tests}
@@ -13,7 +13,7 @@ use Rattle.line_rewrite.proofs.PieceSequences.{program_ops, rows_on, end_on, str
 use Rattle.line_rewrite.proofs.Ascending.{Follow}
 use Rattle.line_rewrite.proofs.Does.{Does, does_rows, does_sequences, does_sound, last_after, IsFresh, after_fresh, AreRows, rows_do}
 
--- rows of a unit with so many files, at an address
+-- Rows at an address, with files below a number.
 abbrev pub ArePieceRows : ℕ → ℕ → List Registers → Type 0
 ArePieceRows files a [] = Unit {0}
 ArePieceRows files a (row ∷ rows) = IsRow row × (row.address ≡ a) × (row.file < files) × ArePieceRows files a rows
@@ -24,7 +24,7 @@ pub record IsPiece (files : ℕ) (u : Piece) : Type 0 where
   pub rows : ArePieceRows files u.start u.rows
   pub any : 0 < length u.rows
 
--- pieces ascend, from an address on
+-- Pieces ascend, from an address on.
 abbrev pub ArePieces : ℕ → ℕ → List Piece → Type 0
 ArePieces files lo [] = Unit {0}
 ArePieces files lo (u ∷ us) = IsPiece files u × (lo ≤ u.start) × ArePieces files (piece_end u) us
@@ -62,7 +62,7 @@ piece_does : (stmt : Bool) (files : ℕ) (r : Registers) (u : Piece) → IsFresh
     → Does (written_coding stmt) r (rows_ops r u.rows) u.rows (after_rows r u.rows)
 piece_does stmt files r u fresh low piece = rows_do stmt r u.rows fresh (are_rows files u.start r.address u.rows low piece.rows)
 
--- what closes a sequence
+-- The operations that close a sequence
 
 close_rows : (stmt : Bool) (g : Going) (more : List LineOp) → IsGoing g
     → rows_from (written_coding stmt) g.registers (close_ops g ++ more) ≡ []
@@ -98,13 +98,13 @@ close_sound stmt files last g more is f =
     let e : g.registers.address + (g.end - g.registers.address) ≡ g.end = omega arith in
     rw (n, t, e, f) refl
 
--- An open sequence, and the pieces behind it
+-- An open sequence, and the pieces after it
 
 module _ (stmt : Bool) (files : ℕ) where
   coding : Coding
   coding = written_coding stmt
 
-  -- the rows of an open sequence
+  -- The rows of an open sequence.
   pub going_rows : (g : Going) (us : List Piece) (more : List LineOp) → IsGoing g → ArePieces files g.end us
       → rows_from (written_coding stmt) g.registers (program_ops (written_coding stmt) (Some g) us ++ more) ≡ rows_on g.end us
   unfolding program_ops rows_on
@@ -145,7 +145,7 @@ module _ (stmt : Bool) (files : ℕ) where
           ∙ append_assoc (close_ops g) (open_ops (written_coding stmt) u.start u.rows ++ tail) more)
           ∙ close_rows stmt g ((open_ops (written_coding stmt) u.start u.rows ++ tail) ++ more) is
 
-  -- the rows of a sequence that a piece opens
+  -- The rows of a sequence that a piece opens.
   opened_rows : (u : Piece) (us : List Piece) → IsPiece files u → ArePieces files (piece_end u) us
       → rows_from (written_coding stmt) (opened (written_coding stmt) u.start u.rows)
       (rows_ops (opened (written_coding stmt) u.start u.rows) u.rows
@@ -165,7 +165,7 @@ module _ (stmt : Bool) (files : ℕ) where
   abbrev after_piece : Registers → Piece → Going
   after_piece r u = record { registers = after_rows r u.rows; end = piece_end u }
 
-  -- what is known of the pieces behind one
+  -- The hypothesis for the pieces after one.
   abbrev Others : Piece → List Piece → Type 0
   Others u us = (whole : List Registers) (r : Registers) → IsGoing (after_piece r u) → ArePieces files (piece_end u) us
       → sequences_from (written_coding stmt) whole (after_rows r u.rows) (program_ops (written_coding stmt) (Some (after_piece r u)) us)
@@ -186,7 +186,7 @@ module _ (stmt : Bool) (files : ℕ) where
       (piece_does stmt files r u (opened_fresh stmt u.start u.rows) low piece)
       ∙ others whole r (going_on stmt files r u (opened_fresh stmt u.start u.rows) low piece) are
 
-  -- the sequences of an open one, whose rows are known, and of those behind it
+  -- The sequences of an open one, whose rows are known, and of the pieces after it.
   pub going_sequences : (whole : List Registers) (g : Going) (us : List Piece) → IsGoing g → ArePieces files g.end us
       → sequences_from (written_coding stmt) whole g.registers (program_ops (written_coding stmt) (Some g) us)
       ≡ record { rows = whole; end = end_on g.end us } ∷ others_on g.end us

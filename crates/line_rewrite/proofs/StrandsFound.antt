@@ -1,4 +1,4 @@
--- What the sequences of written pieces say at an address: the rows of the piece that has it.
+-- The answers of the sequences of written pieces at an address: the rows of the piece that contains it.
 use Rattle.std.proofs.Common.{◌≡◌, ◌<◌, ◌≤◌, ◌==◌, ◌++◌, ◌&&◌, ℕ, List, [], ◌∷◌, refl, arith, sym, ◌∙◌, ap}
 use Rattle.std.proofs.Common.{Bool, true, false, cond, nat_le, nat_lt, length, Option, Some, None, option_map, ◌⊎◌, inl, inr}
 use Rattle.std.specs.Prelude.{find}
@@ -29,7 +29,7 @@ first_is : (files a end : ℕ) (rows more : List Registers) → ArePieceRows fil
 first_is files a end [] more are some = absurd (omega arith)
 first_is files a end (row ∷ rows) more are some = are.1
 
--- a strand ends no sooner than its first piece
+-- A strand doesn't end before its first piece does.
 pub ends_later : (files e : ℕ) (us : List Piece) → ArePieces files e us → e ≤ end_on e us
 unfolding end_on
 ends_later files e [] are = omega arith
@@ -39,7 +39,7 @@ ends_later files e (u ∷ us) are = by (e == u.start) (ends_later files (piece_e
     by true more = let low : e ≤ u.start = are.1 in omega arith
     by false more = omega arith
 
--- rows at an address above another aren't reached there
+-- Rows above an address aren't reached there.
 above_reached : (files a p : ℕ) (rows more : List Registers) → ArePieceRows files a rows → p < a → reached p more ≡ []
     → reached p (rows ++ more) ≡ []
 above_reached files a p [] more are h none = none
@@ -61,11 +61,11 @@ none_on files e p (u ∷ us) are h =
         above_reached files u.start p u.rows (rows_on (piece_end u) us) are.0.rows (omega arith) more
     by false more = refl
 
--- the first address of a strand
+-- The first address of a strand.
 strand_low : (files : ℕ) (u : Piece) (us : List Piece) → IsPiece files u → (range_of (strand_at u us)).low ≡ u.start
 strand_low files u us piece = first_is files u.start (end_on (piece_end u) us) u.rows (rows_on (piece_end u) us) piece.rows piece.any
 
--- none of those behind an address
+-- No strand after an address covers it.
 pub not_above : (files p : ℕ) (u : Piece) (us : List Piece) → IsPiece files u → p < u.start → holds p (strand_at u us) ≡ false
 not_above files p u us piece h =
     let low : (range_of (strand_at u us)).low ≡ u.start = strand_low files u us piece in
@@ -103,15 +103,15 @@ strand_rows p ss = option_map (λ s. in_force p s.rows) (find (holds p) ss)
 abbrev pub piece_rows : ℕ → List Piece → Option (List Registers)
 piece_rows p us = option_map (λ u. u.rows) (find (has_address p) us)
 
--- a first strand that doesn't hold the address
+-- A first strand that doesn't cover the address.
 pub passed : (p : ℕ) (s : Sequence) (ss : List Sequence) → holds p s ≡ false → strand_rows p (s ∷ ss) ≡ strand_rows p ss
 passed p s ss e = rw e refl
 
--- one that does
+-- A first strand that covers it.
 pub taken : (p : ℕ) (s : Sequence) (ss : List Sequence) → holds p s ≡ true → strand_rows p (s ∷ ss) ≡ Some (in_force p s.rows)
 taken p s ss e = rw e refl
 
--- two that agree in whether they do, and in their rows in force
+-- Two strands that agree in whether they cover it, and in their rows in force.
 same_front : (p : ℕ) (s t : Sequence) (ss : List Sequence) → holds p s ≡ holds p t → in_force p s.rows ≡ in_force p t.rows
     → strand_rows p (s ∷ ss) ≡ strand_rows p (t ∷ ss)
 same_front p s t ss h f =
@@ -142,7 +142,7 @@ and_none true = refl
 and_none false = refl
 
 module _ (files p : ℕ) where
-  -- the piece that opens a strand has the address
+  -- The piece that opens a strand contains the address.
   first_has : (u : Piece) (us : List Piece) → IsPiece files u → ArePieces files (piece_end u) us → u.start ≤ p → p < piece_end u
       → strand_rows p (strand u us) ≡ Some u.rows
   first_has u us piece are low high =
@@ -160,7 +160,7 @@ module _ (files p : ℕ) where
           found_stay u.start p row rows (rows_on (piece_end u) us) (all_at files u.start (row ∷ rows) at) low
           (none_on files (piece_end u) p us are high)
 
-  -- a piece before the address, in a strand that goes on
+  -- A piece before the address, in a strand that goes on.
   goes_on : (u v : Piece) (us : List Piece) → IsPiece files u → IsPiece files v → u.start ≤ p → piece_end u ≡ v.start → v.start ≤ p
       → strand_rows p (record { rows = u.rows ++ (v.rows ++ rows_on (piece_end v) us); end = end_on (piece_end v) us } ∷ others_on
       (piece_end v) us)
@@ -196,7 +196,7 @@ module _ (files p : ℕ) where
           ∙ ap (λ (b : Bool). b && nat_lt p (end_on (piece_end v) us)) (s ∙ sym t)
           ∙ sym (ap (λ (n : ℕ). nat_le n p && nat_lt p (end_on (piece_end v) us)) b)
 
-  -- a piece that ends before the address doesn't have it
+  -- A piece that ends before the address doesn't contain it.
   behind_piece : (u : Piece) (us : List Piece) → piece_end u ≤ p → piece_rows p (u ∷ us) ≡ piece_rows p us
   behind_piece u us h =
       let t : nat_lt p (piece_end u) ≡ false = grind (arith, nat_tests) in

@@ -1,4 +1,4 @@
--- The written table, read again: it has no fault, and says what its runs do.
+-- The written table is read back: it has no fault, and has the answers of its runs.
 use Rattle.std.proofs.Common.{◌≡◌, ◌∙◌, ◌<◌, ◌+◌, ◌^◌, ℕ, zero, suc, Bool, true, false, cond, List, [], ◌∷◌, Option, Some, None, refl, sym}
 use Rattle.std.proofs.Common.{ap, subst, arith, length, option_map, get_or}
 use Rattle.std.proofs.lemmas.Option.{same_Some}
@@ -24,7 +24,7 @@ use Rattle.line_rewrite.proofs.RunPieces.{with_pieces, pieces_closed, pieces, ha
 use Rattle.line_rewrite.proofs.Strands.{ArePieceRows, ArePieces}
 use Rattle.line_rewrite.proofs.UnitSizes.{placed_count, begun_count}
 
--- the run that has an address
+-- The run that contains an address.
 pub run_found : (p : ℕ) (rs : List (Run LineSaid)) → run_at rs p ≡ option_map (λ r. r.answer) (find (has_run p) rs)
 run_found p [] = refl
 run_found p (r ∷ rs) = by (has_run p r) (run_found p rs)
@@ -35,7 +35,7 @@ run_found p (r ∷ rs) = by (has_run p r) (run_found p rs)
     by true e = refl
     by false e = e
 
--- what is known of where a run is placed
+-- Facts on the place of a run
 
 module _ (us : List kept.Unit) (spans : List Span) (r : Run LineSaid) (P : Option Placed → Type 0) (none : P None)
     (some : (a : ℕ) (x : Numbered) → numbered_at us a ≡ Some x → P (Some (placed_by r a x))) where
@@ -102,7 +102,7 @@ runs_count us spans programs (r ∷ rs) = runs_count us spans (with_placed progr
     ∙ placed_count programs (placed us spans r)
 
 module _ (strings : Strings) (us : List kept.Unit) (spans : List Span) (rs : List (Run LineSaid)) where
-  -- the units that are written, numbered from one on
+  -- The written units, numbered from an index on
 
   unfoldable pub new_units : ℕ → List kept.Unit → List LineUnit
   new_units k [] = []
@@ -113,7 +113,7 @@ module _ (strings : Strings) (us : List kept.Unit) (spans : List Span) (rs : Lis
   new_bytes k (u ∷ more) =
       unit.unit_bytes u.header (piece_program u.header.coding.default_is_stmt (pieces us spans k rs)) ∷ new_bytes (k + 1) more
 
-  -- some units are those from a number on
+  -- Units are those from an index on.
   abbrev pub AreFrom : ℕ → List kept.Unit → Type 0
   AreFrom k more = (j : ℕ) (u : kept.Unit) → slice_get more j ≡ Some u → slice_get us (k + j) ≡ Some u
 

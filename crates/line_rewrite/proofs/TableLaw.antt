@@ -1,4 +1,4 @@
--- The law of the written table: it has no fault, says what its runs do, and keeps units.
+-- The law of the written table: it has no fault, has the answers of its runs, and keeps units.
 use Rattle.std.proofs.Common.{◌≡◌, ◌∙◌, ◌<◌, ◌-◌, ◌+◌, ◌^◌, ℕ, suc, List, [], ◌∷◌, Option, Some, None, refl, sym, ap, subst}
 use Rattle.std.proofs.Common.{arith, length, map, option_map, Bool, true, false, cond}
 use Rattle.std.specs.Prelude.{All, find, filter_map, flat_map, option_and_then, slice_get, not, is_some}
@@ -41,7 +41,7 @@ use Rattle.line_rewrite.proofs.TableSays.{said_rows, says_none, says_some, units
 use Rattle.line_rewrite.proofs.TableSays.{walked_count, bytes_same, tables_kept, files_kept}
 use Rattle.line_rewrite.proofs.TableSizes.{AllStart, answered, all_start, table_small, all_small}
 
--- the run that has an address begins with its answer
+-- The run that contains an address begins with its answer.
 found_starts : (wanted : ℕ → Option LineSaid) (p : ℕ) (rs : List (Run LineSaid)) (r : Run LineSaid) → AllStart wanted rs
     → find (has_run p) rs ≡ Some r
     → wanted r.start ≡ Some r.answer
@@ -72,7 +72,7 @@ module _ (s : LineSections) (us : List kept.Unit) (index : SequenceIndex) (offse
   small : All (λ b. length b < 2 ^ 32 - 1) (new_bytes s.strings us spans rs 0 us)
   small = all_small (2 ^ 32 - 1) (new_bytes s.strings us spans rs 0 us) (table_small s us index offsets are spans rs within answers fits)
 
-  -- what the writer asks
+  -- The condition of the writer.
   pub writes_small : All (λ b. length b < 2 ^ 32 - 1) (written_units us (with_runs us spans (begun us) rs))
   writes_small = subst (All (λ b. length b < 2 ^ 32 - 1)) (sym (all_written s.strings us spans rs)) small
 
@@ -146,7 +146,7 @@ module _ (s : LineSections) (us : List kept.Unit) (index : SequenceIndex) (offse
         ap (map files_of) new_units_are ∙ files_kept s.strings us spans rs (2 ^ 64 - 1) within low fit 0 us
         ∙ sym (ap (map files_of) old_units_are)
 
-    -- a section in which the table stands
+    -- A section with the bytes of the table.
     record Stands (t : LineSections) : Type 0 where
       carried_at : IsCarried (λ (x y : LineSaid). x ≡ y) spans (run_at rs) (unless_any (line_version t ∷ line_fault t ∷ []) (line_at t))
       free : IsFree (HasLineFault t)
@@ -205,7 +205,7 @@ module _ (s : LineSections) (us : List kept.Unit) (index : SequenceIndex) (offse
           omega (arith, ap length (e ∙ bytes_are), size);
     }
 
--- As the trait asks for it, where a run's answer is what it says.
+-- In the form that the trait needs, if a run's answer is the right one.
 
 same_runs : (rs : List (Run LineSaid)) → said_runs (λ x. x) rs ≡ rs
 same_runs [] = refl

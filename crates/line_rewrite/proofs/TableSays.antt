@@ -1,4 +1,4 @@
--- The written table, read again: its units, and what they say at each address.
+-- The units of the written table, and their answers at each address.
 use Rattle.std.proofs.Common.{◌≡◌, ◌∙◌, ◌<◌, ◌-◌, ◌+◌, ◌^◌, ◌==◌, ◌++◌, ℕ, zero, suc, Bool, true, false, cond, List, [], ◌∷◌, Option, Some}
 use Rattle.std.proofs.Common.{None, refl, sym, ap, arith, length, option_map, append_assoc, map}
 use Rattle.std.specs.Prelude.{All, find, filter_map, slice_get, option_and_then, is_some, not}
@@ -33,7 +33,7 @@ use Rattle.line_rewrite.proofs.UnitSizes.{fields_length, unit_length}
 use Rattle.line_rewrite.proofs.StrandsFound.{strands_say}
 use Rattle.line_rewrite.proofs.TableBack.{unit_pieces, new_units, new_bytes, AreFrom, first_from, next_from}
 
--- rows of a unit, said
+-- The answer made of rows of a unit.
 abbrev pub said_rows : ℕ → List RowSaid → Option LineSaid
 said_rows k rows = Some (record { unit = k; rows = rows })
 
@@ -52,7 +52,7 @@ unit_says : (k p : ℕ) (u : LineUnit) (o : Option Sequence)
 unit_says k p u None = refl
 unit_says k p u (Some s) = refl
 
--- rows are said by directories and files alone
+-- The answers of rows only depend on directories and files.
 rows_by : (u v : LineUnit) (rows : List Registers) → u.files ≡ v.files → u.directories ≡ v.directories
     → filter_map (row_said u) rows ≡ filter_map (row_said v) rows
 rows_by u v rows f d = λ i. filter_map (row_said (record { tables = []; directories = d i; files = f i; sequences = [] })) rows
@@ -68,11 +68,11 @@ version_back h program = refl
 module _ (strings : Strings) (us : List kept.Unit) (spans : List Span) (rs : List (Run LineSaid)) (hi : ℕ) (w : IsWithin 0 rs hi)
     (h : hi < 2 ^ 64)
     (fit : AllRowsFit us spans rs) where
-  -- the unit of a number
+  -- The unit with an index.
   abbrev unit_new : ℕ → kept.Unit → LineUnit
   unit_new k u = written_unit strings u.header (pieces us spans k rs)
 
-  -- what the unit of a number says at an address
+  -- The answer at an address of the unit with an index.
   says_here : (p k : ℕ) → kept.Unit → Option LineSaid
   says_here p k u = option_map (said_by (unit_new k u) k p) (find (λ s. holds_address p (range_of s)) (strands (pieces us spans k rs)))
 
@@ -122,7 +122,7 @@ module _ (strings : Strings) (us : List kept.Unit) (spans : List Span) (rs : Lis
       ∙ ap (λ (b : Bool). says_of k (unit_new k u) (option_map (λ (v : Piece). v.rows) (cond b (Some q.piece) None)))
       (other_number q.unit k j n)
 
-  -- where no run has the address
+  -- If no run contains the address.
   pub says_none : (p k : ℕ) (more : List kept.Unit) → AreFrom strings us spans rs k more
       → option_and_then (placed us spans) (find (has_run p) rs) ≡ None
       → said_at k (new_units strings us spans rs k more) p ≡ None
@@ -134,7 +134,7 @@ module _ (strings : Strings) (us : List kept.Unit) (spans : List Span) (rs : Lis
       (none_here p k u (first_from strings us spans rs k u more from) e)
       ∙ says_none p (k + 1) more (next_from strings us spans rs k u more from) e
 
-  -- where a run has it
+  -- If a run contains it.
   pub says_some : (p k j : ℕ) (more : List kept.Unit) (q : Placed) (u : kept.Unit) → AreFrom strings us spans rs k more
       → option_and_then (placed us spans) (find (has_run p) rs) ≡ Some q → q.unit ≡ k + j → slice_get more j ≡ Some u
       → said_at k (new_units strings us spans rs k more) p ≡ said q.unit (told_unit strings u) q.piece.rows
@@ -152,7 +152,7 @@ module _ (strings : Strings) (us : List kept.Unit) (spans : List Span) (rs : Lis
       (apart_says p k j q v (first_from strings us spans rs k v more from) e n)
       ∙ says_some p (k + 1) j more q u (next_from strings us spans rs k v more from) e (omega (arith, n)) at
 
-  -- the units, walked to and read
+  -- The units, found and read
 
   abbrev Small : List (List ℕ) → Type 0
   Small bs = All (λ b. length b < 2 ^ 32 - 1) bs
@@ -219,7 +219,7 @@ module _ (strings : Strings) (us : List kept.Unit) (spans : List Span) (rs : Lis
       (All-tail (λ (u : kept.Unit). HasTables strings u.header) u more has)
       (All-tail Bytes b bs small))
 
-  -- what is kept of units
+  -- The units that are kept
 
   pub tables_kept : (k : ℕ) (more : List kept.Unit)
       → map (λ (u : LineUnit). u.tables) (new_units strings us spans rs k more) ≡ map (λ (u : LineUnit). u.tables)

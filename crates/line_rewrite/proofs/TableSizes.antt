@@ -41,7 +41,7 @@ use Rattle.line_rewrite.proofs.TableBack.{new_bytes}
 use Rattle.line_rewrite.proofs.UnitSizes.{unit_length as unit_bytes_length}
 use Rattle.line_rewrite.specs.Written.{written_coding}
 
--- the units of a section take no more than it has
+-- The units of a section take no more bytes than it has
 
 whole_size : (left : List ℕ) (whole some : Bool) (n : ℕ) → is_whole_unit left ≡ whole → nat_le 2 (unit_length left) ≡ some
     → (whole ≡ true → n + (unit_length left + 4) ≤ length left)
@@ -82,7 +82,7 @@ walked_sizes (suc n) version place (b ∷ rest) =
         pick true = refl
         pick false = refl
 
--- what a run says where it begins
+-- The answer of a run at its start
 
 abbrev pub AllStart : (ℕ → Option LineSaid) → List (Run LineSaid) → Type 0
 AllStart wanted [] = Unit {0}
@@ -110,7 +110,7 @@ starts wanted lo hi (r ∷ rs) w is =
     and_none true = refl
     and_none false = refl
 
--- where a run's answer comes from
+-- The source of a run's answer.
 pub record IsAnswered (s : LineSections) (us : List kept.Unit) (spans : List Span) (r : Run LineSaid) : Type 0 where
   pub a : ℕ
   pub x : Numbered

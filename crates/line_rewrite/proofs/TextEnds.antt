@@ -1,4 +1,4 @@
--- Where the texts of a section end.
+-- The ends of the texts of a section.
 use Rattle.std.proofs.Common.{◌≡◌, ◌≤◌, ◌<◌, ◌+◌, ◌-◌, ◌==◌, ◌∙◌, ℕ, Bool, true, false, List, refl, sym, arith, length, drop, get_or}
 use Rattle.std.proofs.Common.{length-drop, ⊎_elim}
 use Rattle.std.specs.Prelude.{is_some, nat_lt}
@@ -12,7 +12,7 @@ use Rattle.table_core.specs.Texts.{text_in}
 abbrev first_zero : List ℕ → ℕ
 first_zero xs = position_or_len (λ b. b == 0) xs
 
--- whether a text is there, by where the first zero byte stands
+-- Whether a text is there, by the first zero byte.
 text_some : (xs : List ℕ) (offset : ℕ) → is_some (text_in xs offset) ≡ nat_lt (first_zero (drop offset xs)) (length (drop offset xs))
 text_some xs offset = split (nat_lt (first_zero (drop offset xs)) (length (drop offset xs))) refl
   where
@@ -56,7 +56,7 @@ a_zero xs offset i le lt zero =
         differ (get_or (drop offset xs) (i - offset) 0 == 0) (eq-eqb _ _ here)
         (fails_before_first (λ b. b == 0) (drop offset xs) (i - offset) 0 (omega arith))
 
--- the last zero byte ends the last text
+-- The last zero byte ends the last text.
 pub ends_some : (xs : List ℕ) (i : ℕ) → i < length xs → get_or xs i 0 ≡ 0 → ((k : ℕ) → i < k → k < length xs → get_or xs k 0 ≡ 0 → ⊥)
     → (offset : ℕ) → is_some (text_in xs offset) ≡ nat_lt offset (i + 1)
 ends_some xs i lt zero after offset =

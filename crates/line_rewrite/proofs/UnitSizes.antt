@@ -1,4 +1,4 @@
--- How many bytes units that are written have, and how they are written part by part.
+-- The size of written units in bytes, and how they are written part by part.
 use Rattle.std.proofs.Common.{◌≡◌, ◌≤◌, ◌<◌, ◌+◌, ◌-◌, ◌^◌, ◌++◌, ℕ, List, [], ◌∷◌, refl, sym, ◌∙◌, ap, arith, append_assoc, length}
 use Rattle.std.proofs.Common.{length-append, length-drop, length-set, drop, get_or, zero, suc, append-nil, subst, Option, Some, None}
 use Rattle.std.specs.Prelude.{All}
@@ -30,7 +30,7 @@ unit_length h program =
     let c : length (little_bytes 4 (length (header_fields h))) ≡ 4 = length-bytes_low_first 0 4 (length (header_fields h)) in
     omega (arith, fields, a, b, c)
 
--- bytes that grew by one part after another
+-- Bytes that grew by one part after another.
 pub three_parts : (a b c out o1 o2 new : List ℕ) → o1 ≡ out ++ a → o2 ≡ o1 ++ b → new ≡ o2 ++ c → new ≡ out ++ ((a ++ b) ++ c)
 three_parts a b c out o1 o2 new e f g =
     g ∙ ap (λ (l : List ℕ). l ++ c) (f ∙ ap (λ (l : List ℕ). l ++ b) e ∙ append_assoc out a b) ∙ append_assoc out (a ++ b) c
@@ -54,13 +54,13 @@ unit_parts h program out o1 o2 o3 o4 new size fields s f e1 e2 e3 e4 e5 =
     (header_fields h) program out o1 o2 o3 o4 new
     (e1 ∙ ap (λ (n : ℕ). out ++ little_bytes 4 n) a) e2 (e3 ∙ ap (λ (n : ℕ). o2 ++ little_bytes 4 n) b) e4 e5
 
--- one program more
+-- One more program
 
 pub begun_count : (us : List kept.Unit) → length (begun us) ≡ length us
 begun_count [] = refl
 begun_count (u ∷ us) = ap suc (begun_count us)
 
--- one unit more
+-- One more unit
 
 module _ (units : List kept.Unit) (rest behind : List Begun) (i : ℕ) (u : kept.Unit) (p : Begun) (bytes : List ℕ) (h : i < length units)
     (is : u ≡ get_or units i u)
@@ -116,7 +116,7 @@ units_end units i rest out want h inv =
     let none : length (drop i units) ≡ 0 = omega (arith, length-drop i units) in
     done out want (written_units (drop i units) rest) (no_unit (drop i units) rest none) inv
 
--- one run more
+-- One more run
 
 pub placed_count : (programs : List Begun) (o : Option Placed) → length (with_placed programs o) ≡ length programs
 placed_count programs None = refl

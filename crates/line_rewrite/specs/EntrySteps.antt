@@ -1,4 +1,4 @@
--- Steps in which tables of directories and files are read.
+-- Steps of reading the tables of directories and files.
 use Rattle.std.specs.Prelude.{◌==◌, ◌&&◌, ℕ, zero, suc, List, [], ◌∷◌, nat_le, if◌then◌else◌, Option, Some, None}
 use Rattle.std.specs.Prelude.{option_map}
 use Rattle.rb_bytes.specs.Leb.{uleb_at}
@@ -9,7 +9,7 @@ use Rattle.line_rewrite.specs.Entries.{◌>>=◌, ok, Value, Format, Named, Stri
 use Rattle.line_rewrite.specs.Entries.{read_value, contents_at, named}
 use Rattle.line_rewrite.specs.KeptEntries.{told_name}
 
--- as many as are counted, one after another
+-- A step, done `n` times.
 abbrev pub times : {X : Type 0} → (List ℕ → Option (X × List ℕ)) → ℕ → List ℕ → Option (List X × List ℕ)
 times step zero left = Some ([], left)
 times step (suc n) left = do
@@ -29,7 +29,7 @@ entry_at strings format left = do
   entry ← named strings contents.0
   Some (entry, contents.1)
 
--- what contents say so far
+-- The path and the directory in the contents so far.
 pub record Found : Type 0 where
   pub path : Option (List ℕ)
   pub directory : Option ℕ
@@ -46,13 +46,13 @@ with_path f name = option_map (λ name. record { path = Some name; directory = f
 abbrev pub with_directory : Found → Option ℕ → Option Found
 with_directory f index = option_map (λ n. record { path = f.path; directory = Some n }) index
 
--- one content more
+-- One more content.
 abbrev pub found_more : Strings → ℕ → Value → Found → Option Found
 found_more strings type v f =
     if type == DW_LNCT_path then with_path f (text_of strings v)
     else (if type == DW_LNCT_directory_index then with_directory f (index_of (Some v)) else Some f)
 
--- the contents of an entry
+-- The contents of an entry.
 unfoldable pub found_at : Strings → Format → Found → List ℕ → Option (Found × List ℕ)
 found_at strings [] f left = Some (f, left)
 found_at strings (field ∷ format) f left = do

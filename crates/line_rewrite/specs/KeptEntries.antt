@@ -1,4 +1,4 @@
--- What is kept of directories and files.
+-- The contents of the directories and files that the code keeps.
 use Rattle.std.specs.Prelude.{ℕ, List, [], map, Option, Some, None}
 use Rattle.line_rewrite.specs.declared.text.Texts.{Texts}
 use Rattle.line_rewrite.specs.declared.entry.Text.{Text}

@@ -1,4 +1,4 @@
--- Sequences that are kept by some states of the walks over them.
+-- Sequences that are kept as some states of the walks over them.
 use Rattle.std.specs.Prelude.{◌≡◌, ℕ, All, List, drop, length, map}
 use Rattle.line_rewrite.specs.declared.coding.Coding.{Coding}
 use Rattle.line_rewrite.specs.declared.kept.KeptSequence.{KeptSequence}
@@ -8,12 +8,12 @@ use Rattle.line_rewrite.specs.LineMachine.{Sequence, sequences, start}
 use Rattle.line_rewrite.specs.LineAnswers.{first_address}
 use Rattle.line_rewrite.specs.Keeping.{rows_at_place, AreKept, Begins}
 
--- the sequence that begins at a place of a program
+-- The sequence that begins at an offset of a program.
 abbrev pub sequence_at : Coding → List ℕ → List ℕ → ℕ → ℕ → Sequence
 sequence_at coding lengths program place end =
     record { rows = rows_at_place coding lengths program (start coding) place; end = end }
 
--- the sequences from a place of a program on
+-- The sequences from an offset of a program on.
 abbrev pub sequences_at : LineProgram → ℕ → List Sequence
 sequences_at p place =
     sequences p.coding.now (operations p.coding.now.opcode_base p.lengths.now (drop place p.bytes.now))
@@ -21,14 +21,14 @@ sequences_at p place =
 abbrev pub told_sequence : Coding → List ℕ → List ℕ → KeptSequence → Sequence
 told_sequence coding lengths program k = sequence_at coding lengths program k.place k.end
 
--- It is kept by states of the walk over its rows, which are enough to find each row.
+-- A kept sequence: its states are of the walk over its rows, and are enough to find each row.
 pub record IsKept (coding : Coding) (lengths program : List ℕ) (k : KeptSequence) : Type 0 where
   pub states : AreKept coding lengths program (told_sequence coding lengths program k).rows k.kept.items
   pub begins : Begins (length (told_sequence coding lengths program k).rows) k.kept.items
   pub count : k.rows ≡ length (told_sequence coding lengths program k).rows
   pub low : k.low ≡ first_address (told_sequence coding lengths program k).rows k.end
 
--- the sequences of a program are kept
+-- The kept sequences of a program.
 pub record AreSequences (coding : Coding) (lengths program : List ℕ) (ks : List KeptSequence) : Type 0 where
   pub are : sequences coding (operations coding.opcode_base lengths program) ≡ map
       (told_sequence coding lengths program) ks

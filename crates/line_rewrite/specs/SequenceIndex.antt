@@ -13,14 +13,14 @@ use Rattle.line_rewrite.specs.declared.unit.Unit as kept
 use Rattle.line_rewrite.specs.LineMachine.{Sequence, in_force}
 use Rattle.line_rewrite.specs.KeptSequences.{told_sequence}
 
--- a sequence, with its unit, that one's number, and its own number there
+-- A sequence, with its unit, the unit's index, and its own index in the unit.
 pub record Numbered : Type 0 where
   pub number : ℕ
   pub index : ℕ
   pub unit : kept.Unit
   pub sequence : KeptSequence
 
--- some sequences of a unit, which are numbered from an index on
+-- Sequences of a unit, numbered from an index on.
 unfoldable pub numbered : ℕ → kept.Unit → ℕ → List KeptSequence → List Numbered
 numbered number unit index [] = []
 numbered number unit index (k ∷ ks) =
@@ -29,7 +29,7 @@ numbered number unit index (k ∷ ks) =
 abbrev pub unit_numbered : ℕ → kept.Unit → List Numbered
 unit_numbered number u = numbered number u 0 u.sequences.items
 
--- those of units that are numbered from a number on
+-- The sequences of units that are numbered from an index on.
 unfoldable pub all_numbered : ℕ → List kept.Unit → List Numbered
 all_numbered number [] = []
 all_numbered number (u ∷ us) = unit_numbered number u ++ all_numbered (number + 1) us
@@ -40,19 +40,19 @@ kept_range x = record { low = x.sequence.low; high = x.sequence.end }
 abbrev pub place_of : Numbered → Place
 place_of x = record { unit = x.number; sequence = x.index }
 
--- the index of the sequences of some units
+-- The index of the units' sequences.
 pub record IsIndexOf (units : List kept.Unit) (index : code.SequenceIndex) : Type 0 where
   pub places : index.places.items ≡ map place_of (all_numbered 0 units)
   pub first : (a : ℕ) → first_range index.first a ≡ position (holds_address a) (map kept_range (all_numbered 0 units))
 
--- the first of them that holds an address
+-- The first sequence that covers an address.
 abbrev pub numbered_at : List kept.Unit → ℕ → Option Numbered
 numbered_at units a = find (λ x. holds_address a (kept_range x)) (all_numbered 0 units)
 
 abbrev pub unit_sequence : kept.Unit → KeptSequence → Sequence
 unit_sequence u k = told_sequence u.header.coding u.header.lengths.items u.program.items k
 
--- its rows in force
+-- Its rows in force.
 abbrev pub numbered_rows : Numbered → ℕ → List Registers
 numbered_rows x a = in_force a (unit_sequence x.unit x.sequence).rows
 
@@ -67,7 +67,7 @@ abbrev pub AreFound : List kept.Unit → ℕ → Option FoundRows → Type 0
 AreFound units a None = numbered_at units a ≡ None
 AreFound units a (Some f) = IsFound units a f
 
--- one sequence is the first that holds both of two addresses, and the same rows are in force there
+-- The same sequence is the first that covers each of two addresses, and the same rows are in force there.
 pub record IsSame (units : List kept.Unit) (a b : ℕ) : Type 0 where
   pub first : Numbered
   pub at : numbered_at units a ≡ Some first

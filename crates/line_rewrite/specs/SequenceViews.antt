@@ -1,4 +1,4 @@
--- Sequences of which states are kept, as they are looked up.
+-- Kept sequences, as they are looked up.
 use Rattle.std.specs.Prelude.{◌≡◌, List, Option, Some, length, option_and_then, slice_get}
 use Rattle.line_rewrite.specs.declared.kept.KeptSequence.{KeptSequence}
 use Rattle.line_rewrite.specs.declared.lookup.SequenceView.{SequenceView}
@@ -9,17 +9,17 @@ use Rattle.line_rewrite.specs.Keeping.{AreKept, Begins}
 use Rattle.line_rewrite.specs.SequenceIndex.{unit_sequence}
 use Rattle.line_rewrite.specs.Walks.{Ascends}
 
--- a sequence with these rows
+-- A sequence with these rows.
 pub record HasRows (rows : List Registers) (v : SequenceView) : Type 0 where
   pub kept : AreKept v.program.coding.now v.program.lengths.now v.program.bytes.now rows v.kept.now
   pub count : v.rows ≡ length rows
   pub ascend : Ascends 0 rows
 
--- what is kept at a place of some units, if there is a sequence
+-- The kept sequence at a place of the units, if there is one.
 abbrev pub kept_at : List kept.Unit → Place → Option KeptSequence
 kept_at units place = option_and_then (λ u. slice_get u.sequences.items place.sequence) (slice_get units place.unit)
 
--- the sequence there
+-- The view of the sequence at a place.
 pub record IsViewAt (units : List kept.Unit) (place : Place) (v : SequenceView) : Type 0 where
   pub unit : kept.Unit
   pub unit_is : slice_get units place.unit ≡ Some unit

@@ -1,4 +1,4 @@
--- The units of a line table, as they are kept.
+-- The units of a line table that are kept.
 use Rattle.std.specs.Prelude.{⊤, ◌≡◌, ◌≤◌, ◌+◌, ℕ, All, List, length, map, sum_by, Option, Some, None, position}
 use Rattle.rb_bytes.specs.declared.fault.FaultKind.TheVariants.{LineFault}
 use Rattle.rb_bytes.specs.declared.fault.Refusal.{Refusal}
@@ -17,7 +17,7 @@ use Rattle.line_rewrite.specs.SequenceIndex.{IsIndexOf}
 use Rattle.line_rewrite.specs.Tables.{LineSections, line_version}
 use Rattle.line_rewrite.specs.LineUnits.{unit_in, first_unread}
 
--- how many bytes a unit takes, with its length
+-- The size of a unit with its length, in bytes.
 abbrev pub bytes_size : Option (List ℕ) → ℕ
 bytes_size None = 0
 bytes_size (Some bytes) = 4 + length bytes
@@ -25,27 +25,27 @@ bytes_size (Some bytes) = 4 + length bytes
 abbrev pub walked_size : Walked → ℕ
 walked_size w = bytes_size w.bytes
 
--- no more than what is kept of its header, and the numbers before that
+-- A lower bound of it: the bytes that are kept of the header, and the numbers before them.
 abbrev pub kept_size : kept.Unit → ℕ
 kept_size u = length u.header.rest.items + 18
 
--- each unit that was walked to was read
+-- Each unit that the walk found was read.
 pub record AreUnits (strings : Strings) (ws : List Walked) (us : List kept.Unit) : Type 0 where
   pub are : map (unit_in strings) ws ≡ map (λ u. Some (told_unit strings u)) us
   pub tables : All (λ u. HasTables strings u.header) us
   pub sizes : sum_by kept_size us ≤ sum_by walked_size ws
 
--- a refusal names the first that can't be read; memory may be wanting at any time
+-- A refusal has the first unit that can't be read. Memory may run out at any time.
 abbrev pub IsLineFault : Strings → List Walked → Refusal → Type 0
 IsLineFault strings ws (refusal.Fault fault) =
     (fault ≡ fault_at LineFault fault.place) × (first_unread strings ws ≡ Some fault.place)
 IsLineFault strings ws refusal.Memory = ⊤
 
--- the offset of a unit, as a range
+-- The offset of a unit, as a range.
 abbrev pub place_range : Walked → Range
 place_range w = record { low = w.place; high = w.place + 1 }
 
--- what is kept of a section without a fault
+-- The units that are kept of a section without a fault.
 pub record AreLines (s : LineSections) (us : List kept.Unit) (sequences : SequenceIndex)
     (offsets : FirstRange) : Type 0 where
   pub version : line_version s ≡ None

@@ -15,20 +15,20 @@ use Rattle.line_rewrite.specs.declared.operation.LineOp.TheVariants.{SetIsa, End
 use Rattle.line_rewrite.specs.declared.operation.LineOp.TheVariants.{Unknown}
 use Rattle.line_rewrite.specs.LineMachine.{after_row}
 
--- an operation, unless it isn't needed
+-- An operation, unless it isn't needed.
 abbrev pub unless : Bool → LineOp → List LineOp
 unless true op = []
 unless false op = op ∷ []
 
--- how far a line is from another, modulo 2 ^ 64
+-- The difference of two lines, modulo 2^64.
 abbrev pub line_step : ℕ → ℕ → ℕ
 line_step from to = (to + (2 ^ 64 - from)) % 2 ^ 64
 
--- as a signed number
+-- The difference as a signed number.
 abbrev pub line_distance : ℕ → ℕ → ℤ
 line_distance from to = cast_signed w64 (line_step from to)
 
--- The header's numbers that are written: a special opcode advances the line by -5 to 8, and the address by at most 16.
+-- The numbers of a written header: a special opcode advances the line by -5 to 8, and the address by at most 16.
 abbrev pub written_coding : (default_is_stmt : Bool) → Coding
 written_coding default_is_stmt = record {
   minimum_instruction_length = 1;
@@ -38,14 +38,14 @@ written_coding default_is_stmt = record {
   opcode_base = 13;
 }
 
--- how far the line is above the line base
+-- The difference of two lines less the line base.
 abbrev pub above_base : ℕ → ℕ → ℕ
 above_base from to = (line_step from to + 5) % 2 ^ 64
 
 abbrev pub is_special : Registers → Registers → Bool
 is_special r row = nat_lt (above_base r.line row.line) 14 && nat_le (row.address - r.address) 16
 
--- what advances the line and the address, and appends the row: one special opcode, where that serves
+-- The operations that advance the line and the address, and append the row: one special opcode, if there is one for it.
 abbrev pub step_ops : Registers → Registers → List LineOp
 step_ops r row =
     if is_special r row then Special (above_base r.line row.line + 14 * (row.address - r.address)) ∷ []
@@ -53,7 +53,7 @@ step_ops r row =
     ++ unless (r.address == row.address) (AdvancePc (row.address - r.address))
     ++ Copy ∷ [])
 
--- what makes the registers a row, and appends it
+-- The operations that set the registers to a row, and append it.
 abbrev pub row_ops : Registers → Registers → List LineOp
 row_ops r row =
     unless (r.file == row.file) (SetFile row.file)
@@ -70,11 +70,11 @@ abbrev pub rows_ops : Registers → List Registers → List LineOp
 rows_ops r [] = []
 rows_ops r (row ∷ rows) = row_ops r row ++ rows_ops (after_row row) rows
 
--- rows at an address
+-- The rows, with their addresses set to `a`.
 abbrev pub moved : ℕ → List Registers → List Registers
 moved a rows = map (λ (r : Registers). record r { address = a }) rows
 
--- each register is a number of 64 bits
+-- Each register has 64 bits.
 pub record IsRow (row : Registers) : Type 0 where
   pub address : row.address < 2 ^ 64
   pub file : row.file < 2 ^ 64
@@ -83,7 +83,7 @@ pub record IsRow (row : Registers) : Type 0 where
   pub isa : row.isa < 2 ^ 64
   pub discriminator : row.discriminator < 2 ^ 64
 
--- the bytes of an operation that is written, where the opcode base is 13
+-- The bytes of a written operation, with the opcode base 13.
 abbrev pub spelled : LineOp → List ℕ
 spelled Copy = 1 ∷ []
 spelled (AdvancePc n) = 2 ∷ uleb n
@@ -107,7 +107,7 @@ abbrev pub all_spelled : List LineOp → List ℕ
 all_spelled [] = []
 all_spelled (op ∷ ops) = spelled op ++ all_spelled ops
 
--- special opcodes that have a spelling
+-- A special opcode fits in a byte.
 abbrev pub IsSpelled : LineOp → Type 0
 IsSpelled (Special v) = v < 243
 IsSpelled _ = Unit {0}

@@ -1,4 +1,4 @@
--- The program that is written for runs of a unit: a sequence goes on over runs that touch. DWARF 5, section 6.2.5.
+-- The program that is written for the runs of a unit. A sequence goes on over runs that touch. DWARF 5, section 6.2.5.
 use Rattle.std.specs.Prelude.{◌+◌, ◌-◌, ◌==◌, ◌++◌, ℕ, List, [], ◌∷◌, if◌then◌else◌, Option, Some, None}
 use Rattle.line_rewrite.specs.declared.coding.Coding.{Coding}
 use Rattle.line_rewrite.specs.declared.registers.Registers.{Registers}
@@ -8,7 +8,7 @@ use Rattle.line_rewrite.specs.declared.operation.LineOp.TheVariants.{AdvancePc, 
 use Rattle.line_rewrite.specs.LineMachine.{after_row, start}
 use Rattle.line_rewrite.specs.Written.{rows_ops, all_spelled}
 
--- the rows of a run, at its start
+-- The rows of a run, at its start.
 pub record Piece : Type 0 where
   pub start : ℕ
   pub len : ℕ
@@ -21,28 +21,28 @@ abbrev pub after_rows : Registers → List Registers → Registers
 after_rows r [] = r
 after_rows r (row ∷ rows) = after_rows (after_row row) rows
 
--- the file of the first row, and the one that DWARF begins with if there is no row
+-- The file of the first row; without rows, the initial file of DWARF.
 abbrev pub first_file : List Registers → ℕ
 first_file [] = 1
 first_file (row ∷ rows) = row.file
 
--- the registers before the first row of a sequence
+-- The registers before the first row of a sequence.
 abbrev pub opened : Coding → ℕ → List Registers → Registers
 opened coding address rows = record (start coding) { address = address; file = first_file rows }
 
 abbrev pub close_ops : Going → List LineOp
 close_ops g = AdvancePc (g.end - g.registers.address) ∷ EndSequence ∷ []
 
--- A sequence names its first file, also if that is file 1: some readers begin with file 0.
+-- A sequence sets its first file, even if that is file 1: some readers begin with file 0.
 abbrev pub open_ops : Coding → ℕ → List Registers → List LineOp
 open_ops coding a rows = SetAddress a ∷ SetFile (first_file rows) ∷ rows_ops (opened coding a rows) rows
 
--- rows at an address, in the sequence that goes on, where it ends there
+-- Rows at an address: in the open sequence if it ends there, and otherwise in a new one.
 abbrev pub run_ops : Coding → Option Going → ℕ → List Registers → List LineOp
 run_ops coding None a rows = open_ops coding a rows
 run_ops coding (Some g) a rows = if g.end == a then rows_ops g.registers rows else close_ops g ++ open_ops coding a rows
 
--- the registers behind them
+-- The registers after these rows.
 abbrev pub registers_after : Coding → Option Going → ℕ → List Registers → Registers
 registers_after coding None a rows = after_rows (opened coding a rows) rows
 registers_after coding (Some g) a rows = after_rows (if g.end == a then g.registers else opened coding a rows) rows
@@ -69,6 +69,6 @@ abbrev pub closing_ops : Option Going → List LineOp
 closing_ops None = []
 closing_ops (Some g) = close_ops g
 
--- the bytes of a program whose last sequence is closed
+-- The bytes of a program whose last sequence is closed.
 abbrev pub closed : Begun → List ℕ
 closed b = b.bytes ++ all_spelled (closing_ops b.going)

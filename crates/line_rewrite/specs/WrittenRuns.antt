@@ -1,4 +1,4 @@
--- Which rows are written for a run, and the programs of all units.
+-- The rows that are written for a run, and the programs of all units.
 use Rattle.std.specs.Prelude.{ℕ, All, Bool, List, [], ◌∷◌, slice_set, slice_index_or, Option, Some, None, option_map}
 use Rattle.addr_map.specs.declared.span.Span.{Span}
 use Rattle.addr_map.specs.Spans.{owner}
@@ -9,10 +9,10 @@ use Rattle.line_rewrite.specs.SequenceIndex.{Numbered, numbered_at, numbered_row
 use Rattle.line_rewrite.specs.Written.{IsRow, moved, written_coding}
 use Rattle.line_rewrite.specs.WrittenPrograms.{Piece, Begun, nothing_begun, with_piece}
 
--- Where a run is written: in the program of a unit, with the rows in force at the owner of its first byte.
+-- A run is written in the program of a unit, with the rows in force at the owner of its first byte.
 pub record Placed : Type 0 where
   pub unit : ℕ
-  -- the unit's flag with which sequences begin
+  -- The initial is_stmt of the unit's sequences.
   pub stmt : Bool
   pub piece : Piece
 
@@ -30,7 +30,7 @@ placed_at units r (Some a) = option_map (placed_by r a) (numbered_at units a)
 abbrev pub placed : List kept.Unit → List Span → Run LineSaid → Option Placed
 placed units spans r = placed_at units r (owner spans r.start)
 
--- one run more in the programs of all units
+-- One more run in the programs of all units.
 abbrev pub with_placed : List Begun → Option Placed → List Begun
 with_placed programs None = programs
 with_placed programs (Some q) =
@@ -41,7 +41,7 @@ unfoldable pub with_runs : List kept.Unit → List Span → List Begun → List 
 with_runs units spans programs [] = programs
 with_runs units spans programs (r ∷ rs) = with_runs units spans (with_placed programs (placed units spans r)) rs
 
--- registers of 64 bits
+-- The rows have registers of 64 bits.
 abbrev pub RowsFit : Option Placed → Type 0
 RowsFit None = Unit {0}
 RowsFit (Some q) = All IsRow q.piece.rows
@@ -50,7 +50,7 @@ abbrev pub AllRowsFit : List kept.Unit → List Span → List (Run LineSaid) →
 AllRowsFit units spans [] = Unit {0}
 AllRowsFit units spans (r ∷ rs) = RowsFit (placed units spans r) × AllRowsFit units spans rs
 
--- a program for each unit
+-- A program for each unit.
 abbrev pub begun : List kept.Unit → List Begun
 begun [] = []
 begun (u ∷ units) = nothing_begun ∷ begun units

@@ -15,7 +15,7 @@ use crate::value::{Value, form_here, read_value};
 use rb_bytes::cursor::Cursor;
 use std::alloc::Global;
 
-// The text at an offset of a section, or an empty one where none ends there.
+// The text at an offset of a section; empty, if no text ends there.
 fn text_from(section: &[u8], offset: u64) -> &[u8]
     ensures { result.now ≡ or_empty (text_in section.now offset) }
 {
@@ -27,7 +27,7 @@ fn text_from(section: &[u8], offset: u64) -> &[u8]
     }
 }
 
-/// A text, or where it stands. Texts of sections aren't copied.
+/// A text, or its offset. Texts of sections aren't copied.
 #[derive(Drop)]
 pub enum Text {
     Own(Vec<u8>),
@@ -38,7 +38,7 @@ pub enum Text {
 }
 
 impl Text {
-    /// Its bytes, by `.debug_str` and `.debug_line_str`; none where no text stands at its offset.
+    /// Its bytes, from `.debug_str` and `.debug_line_str`; none if no text is at its offset.
     pub fn bytes<'t>(&'t self, str: &'t [u8], line_str: &'t [u8]) -> &'t [u8]
         ensures { result.now ≡ told_name (strings_held str.now line_str.now) self.now }
     {
@@ -50,21 +50,21 @@ impl Text {
     }
 }
 
-/// A directory or a file: its path, and the index of the directory that a file is in (0 where none is given).
+/// A directory or a file: its path, and the index of the directory that a file is in (0 if none is given).
 #[derive(Drop)]
 pub struct Entry {
     pub text: Text,
     pub directory: u64,
 }
 
-/// What the contents of an entry say that were read so far.
+/// The path and the directory in the contents of an entry that were read so far.
 #[derive(Drop)]
 pub struct Found {
     pub path: Option<Text>,
     pub directory: u64,
 }
 
-// The text that a value is; numbers, and offsets at which no text stands, are malformed.
+// The text of a value. Numbers, and offsets without a text, are malformed.
 fn text_of<'a>(alloc: Global, texts: &Texts, value: Value<'a>) -> Result<Text, Trouble>
     ensures read { IfOk result (λ t. text_of (texts_strings texts.now) (told_value value.entry)
         ≡ Some (told_name (texts_strings texts.now) t)) }
@@ -89,7 +89,7 @@ fn text_of<'a>(alloc: Global, texts: &Texts, value: Value<'a>) -> Result<Text, T
     }
 }
 
-// Takes one more content: a path, the index of a directory, or something that is passed.
+// Takes one more content: a path, a directory index, or something that is skipped.
 fn take_content<'a>(
     alloc: Global,
     texts: &Texts,
@@ -125,7 +125,7 @@ fn take_content<'a>(
     Ok(found)
 }
 
-// What the contents of an entry say.
+// Reads the contents of an entry.
 fn read_contents<'a>(
     alloc: Global,
     texts: &Texts,
@@ -168,7 +168,7 @@ fn read_entry<'a>(
     }
 }
 
-// Reads so many entries of a format.
+// Reads `count` entries of a format.
 fn read_entries<'a>(
     alloc: Global,
     texts: &Texts,
@@ -183,7 +183,7 @@ fn read_entries<'a>(
         (entries_at (texts_strings texts.now) (told_format format.now) count cursor.old.left ≡ None) }
 {
     let mut entries = Vec::new(alloc);
-    // Each entry needs a path, which takes a byte at least; so a false count is found out by the end of the bytes.
+    // Each entry needs a path of at least one byte, so a false count ends with the bytes.
     for _ in 0..count {
         let entry = read_entry(alloc, texts, format, cursor)?;
         entries.push(entry)?;

@@ -10,7 +10,7 @@ use crate::trouble::Trouble;
 use rb_bytes::cursor::Cursor;
 use std::alloc::Global;
 
-/// A content that each entry of a table has: its type (DW_LNCT), and the form of its values.
+/// A field of a table's format: a content type (DW_LNCT), and the form of its values.
 #[derive(Clone, Copy)]
 pub struct Field {
     pub content: u64,
@@ -29,8 +29,8 @@ fn read_field<'a>(cursor: &mut Cursor<'a>) -> Result<Field, Trouble>
     Ok(Field { content, form })
 }
 
-/// Reads the format of entries, of `count` fields. Other types than the five of the standard are malformed, those of
-/// vendors too.
+/// Reads the format of entries, of `count` fields. Content types other than the five of the standard are malformed,
+/// also those of vendors.
 pub fn read_format<'a>(
     alloc: Global,
     cursor: &mut Cursor<'a>,

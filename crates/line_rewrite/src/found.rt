@@ -10,10 +10,10 @@ use crate::sequence_index::{Place, SequenceIndex};
 use crate::unit::Unit;
 use std::alloc::{AllocError, Global};
 
-/// The rows in force at an address, in the first sequence that holds it.
+/// The rows in force at an address, in the first sequence that covers it.
 #[derive(Drop)]
 pub struct FoundRows {
-    /// The number of its unit.
+    /// The index of its unit.
     pub unit: usize,
     pub rows: Vec<Registers>,
 }
@@ -36,7 +36,7 @@ fn view_at(units: &[Unit], place: Place) -> Option<SequenceView<'_>>
     })
 }
 
-/// The rows in force at an address; none where no sequence holds it.
+/// The rows in force at an address; none if no sequence covers it.
 pub fn found_rows(
     alloc: Global,
     units: &[Unit],
@@ -59,7 +59,7 @@ pub fn found_rows(
     }))
 }
 
-/// Whether the same rows of one sequence are certainly in force at `a` and at `b`; `false` says nothing.
+/// Whether the same rows of one sequence are certainly in force at `a` and at `b`. `false` has no meaning.
 pub fn is_same(units: &[Unit], index: &SequenceIndex, a: u64, b: u64) -> bool
     requires index { IsIndexOf units.now index.now }
     requires ordered { a ≤ b }

@@ -1,18 +1,18 @@
-// What is kept of the headers of line units. DWARF 5, section 6.2.4.
+// The fields that are kept of the headers of line units. DWARF 5, section 6.2.4.
 ghost use Rattle.std.specs.Prelude.{◌≡◌, ◌<◌, ◌+◌, length};
 
 use crate::coding::Coding;
 use crate::entry::Entry;
 
-/// What a header says behind its length.
+/// A header after its length.
 #[derive(Drop)]
 pub struct Header {
     pub coding: Coding,
-    /// How many operands each standard opcode has.
+    /// The number of operands of each standard opcode.
     pub lengths: Vec<u8>,
-    /// What stands behind the counts of operands: the tables of directories and of files, and bytes that are passed.
+    /// The bytes after the numbers of operands: the tables of directories and files, and bytes that are skipped.
     pub rest: Vec<u8>,
-    /// How many bytes of `rest` these two tables have.
+    /// The number of bytes of `rest` that these two tables take.
     pub table_size: usize,
     pub directories: Vec<Entry>,
     pub files: Vec<Entry>,

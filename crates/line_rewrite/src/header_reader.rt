@@ -13,8 +13,8 @@ use crate::trouble::Trouble;
 use rb_bytes::cursor::Cursor;
 use std::alloc::Global;
 
-// The numbers that operations depend on, and the greatest number of operations in an instruction, which is 1 on all
-// machines but VLIW ones.
+// The numbers that operations depend on, and the greatest number of operations in an instruction, which is 1 except on
+// VLIW machines.
 fn read_coding<'a>(cursor: &mut Cursor<'a>) -> Result<(Coding, u8), Trouble>
     ensures read { IfOk result (λ c. coding_at cursor.old.left ≡ Some ((c.0, c.1), cursor.new.left)) }
     ensures size { OnOk result (length cursor.new.left + 6 ≡ length cursor.old.left) }
@@ -36,7 +36,7 @@ fn read_coding<'a>(cursor: &mut Cursor<'a>) -> Result<(Coding, u8), Trouble>
     Ok((coding, maximum))
 }
 
-// Whether each file's directory is one of `directories`.
+// Whether each file's directory index is below `directories`.
 fn are_filed(files: &[Entry], directories: usize) -> bool
     ensures { result ≡ are_filed directories files.now }
 {
@@ -48,7 +48,7 @@ fn are_filed(files: &[Entry], directories: usize) -> bool
     true
 }
 
-/// Reads a header in the bytes behind its length.
+/// Reads a header in the bytes after its length.
 pub fn read_header(alloc: Global, texts: &Texts, bytes: &[u8]) -> Result<Header, Trouble>
     ensures read { IfOk result (λ h. header_in (texts_strings texts.now) bytes.now
         ≡ Some (told_header (texts_strings texts.now) h)) }

@@ -1,26 +1,26 @@
-// What is kept of sequences: not their rows, but some states of the walk over these.
+// Kept sequences: in place of their rows, some states of the walk over these.
 
 use crate::registers::Registers;
 
-/// After how many rows a state is kept again.
+/// The number of rows after which a state is kept again.
 pub const MAX_ROWS: usize = 16;
 
-/// After how many bytes of a program a state is kept again, at the next row.
+/// The number of bytes of a program after which a state is kept again, at the next row.
 pub const MAX_BYTES: usize = 128;
 
 /// The state of a walk before a row.
 #[derive(Clone, Copy)]
 pub struct Kept {
-    /// The offset in the program from which on it appends the row.
+    /// The offset in the program of the operations for this row.
     pub place: usize,
-    /// The number of the row, from 0.
+    /// The index of the row, from 0.
     pub index: usize,
     pub registers: Registers,
-    /// The address that the row gets.
+    /// The address of the row.
     pub address: u64,
 }
 
-/// From which row on, or from which place of the program on, the next state is kept, whichever comes first.
+/// The next state is kept from this row on, or from this offset in the program on, whichever comes first.
 #[derive(Clone, Copy)]
 pub struct Due {
     pub row: usize,
@@ -30,14 +30,14 @@ pub struct Due {
 /// A sequence of a program.
 #[derive(Drop)]
 pub struct KeptSequence {
-    /// The offset in the program at which it begins.
+    /// The offset in the program of its begin.
     pub place: usize,
-    /// The address of its first row; its end, where it has none.
+    /// The address of its first row; its end, if it has none.
     pub low: u64,
-    /// The address at which it ends.
+    /// The address of its end.
     pub end: u64,
-    /// How many rows it has.
+    /// The number of its rows.
     pub rows: usize,
-    /// The states before its first row, and before each row that is `MAX_ROWS` or `MAX_BYTES` behind the last state.
+    /// The states before its first row, and before each row that is `MAX_ROWS` or `MAX_BYTES` after the last state.
     pub kept: Vec<Kept>,
 }

@@ -21,11 +21,11 @@ pub struct SequenceView<'a> {
     pub program: LineProgram<'a>,
     /// The states that are kept of it.
     pub kept: &'a [Kept],
-    /// How many rows it has.
+    /// The number of its rows.
     pub rows: usize,
 }
 
-// How many states stand before a row at `a` or below it.
+// The number of states before a row at `a` or below it.
 fn count_up_to(kept: &[Kept], a: u64) -> usize
     ensures bound { result ≤ length kept.now }
     ensures last { IsNonDecreasingBy (λ k. k.address) kept.now → (k : Kept) → 0 < result →
@@ -34,8 +34,8 @@ fn count_up_to(kept: &[Kept], a: u64) -> usize
     kept.partition_point(|kept| kept.address <= a)
 }
 
-// The number of the last state that certainly stands before all rows in force at `a`. The last one that is reached may
-// stand between them, and so may those before it of the same address; so it is the last one below that address.
+// The index of the last state that is certainly before all rows in force at `a`. The last state reached may be between
+// them, and so may earlier ones with the same address, so the result is the last one below that address.
 fn state_for(kept: &[Kept], a: u64) -> usize
     ensures bound { 0 < result → result < length kept.now }
     ensures found { (coding : Coding) (lengths bytes : List ℕ) (rows : List Registers) →
@@ -58,7 +58,7 @@ fn state_for(kept: &[Kept], a: u64) -> usize
     below - 1
 }
 
-// The number of the row of a state; behind the last state, how many rows there are.
+// The index of the row of a state; after the last state, the number of rows.
 fn row_at(kept: &[Kept], rows: usize, state: usize) -> usize
     ensures { result ≡ row_at kept.now rows state }
 {
@@ -68,7 +68,7 @@ fn row_at(kept: &[Kept], rows: usize, state: usize) -> usize
     }
 }
 
-// Whether rows that were found are of a greater address than the row of a state.
+// Whether the rows found have a greater address than the row of a state.
 fn are_past(found: &[Registers], state: &Kept) -> bool
     ensures { result ≡ are_past found.now state.now }
 {
@@ -78,7 +78,7 @@ fn are_past(found: &[Registers], state: &Kept) -> bool
     }
 }
 
-// Whether the row of a state is past address `b`; true, too, where there is no such state.
+// Whether the row of a state is past address `b`; true also if there is no such state.
 fn is_past(kept: &[Kept], state: usize, b: u64) -> bool
     ensures { IsTrue result → (k : Kept) → state < length kept.now → b < (slice_index_or kept.now state k).address }
 {
@@ -89,7 +89,7 @@ fn is_past(kept: &[Kept], state: usize, b: u64) -> bool
 }
 
 impl<'a> SequenceView<'a> {
-    // The rows in force at `a` among those from the state of number `first` on.
+    // The rows in force at `a` among the rows from the state with index `first` on.
     fn in_force_from(
         &self,
         alloc: Global,
@@ -108,7 +108,7 @@ impl<'a> SequenceView<'a> {
             if from.place > self.program.bytes.len() {
                 return Ok(found);
             }
-            // Walk up to the row of the next state and no further: what stands before that row may be long.
+            // Walk up to the row of the next state and no further: the operations before that row may be long.
             let count = row_at(self.kept, self.rows, state + 1).saturating_sub(from.index);
             add_rows(&mut found, &self.program, &from, count, a)?;
         }
@@ -121,7 +121,7 @@ impl<'a> SequenceView<'a> {
             Begins (length list) self.now.kept.now → found.items ≡ in_force a list) }
     {
         let reached = count_up_to(self.kept, a);
-        // Mostly the rows in force are past the row of the last state that is reached. Else some may stand before it.
+        // Usually the rows in force are past the row of the last state reached. Otherwise some may be before it.
         if reached > 0 {
             let near = self.in_force_from(alloc, reached - 1, a)?;
             if are_past(&near, &self.kept[reached - 1]) {
@@ -132,7 +132,7 @@ impl<'a> SequenceView<'a> {
         Ok(found)
     }
 
-    /// Whether the same rows are certainly in force at `a` and at `b`; `false` says nothing.
+    /// Whether the same rows are certainly in force at `a` and at `b`. `false` has no meaning.
     pub fn is_same_at(&self, a: u64, b: u64) -> bool
         requires { a ≤ b }
         ensures { IsTrue result → (list : List Registers) → HasRows list self.now → in_force a list ≡ in_force b list }

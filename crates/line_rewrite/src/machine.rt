@@ -8,7 +8,7 @@ use crate::effect::Effect;
 use crate::operation::LineOp;
 use crate::registers::Registers;
 
-/// The registers where a sequence begins.
+/// The registers at the begin of a sequence.
 pub fn start(coding: &Coding) -> Registers
     ensures { result ≡ start coding.now }
 {
@@ -26,7 +26,7 @@ pub fn start(coding: &Coding) -> Registers
     }
 }
 
-// The address advanced by n bytes, where it stays in 64 bits.
+// The address advanced by `n` bytes, if it stays in 64 bits.
 fn advanced(n: u64, registers: Registers) -> Option<Registers>
     ensures { result ≡ advanced n registers }
 {
@@ -37,7 +37,7 @@ fn advanced(n: u64, registers: Registers) -> Option<Registers>
     })
 }
 
-// The line advanced, modulo 2 ^ 64.
+// The line advanced by `by`, modulo 2^64.
 fn lined(by: i64, registers: Registers) -> Registers
     ensures { result ≡ lined by registers }
 {
@@ -47,7 +47,7 @@ fn lined(by: i64, registers: Registers) -> Registers
     }
 }
 
-// By how much a special opcode advances the address.
+// The address advance of a special opcode.
 fn address_advance(coding: &Coding, adjusted: u8) -> u64
     requires { 0 < coding.now.line_range }
     ensures { result ≡ address_advance coding.now adjusted }
@@ -55,7 +55,7 @@ fn address_advance(coding: &Coding, adjusted: u8) -> u64
     (adjusted / coding.line_range) as u64 * coding.minimum_instruction_length as u64
 }
 
-// By how much a special opcode advances the line.
+// The line advance of a special opcode.
 fn line_advance(coding: &Coding, adjusted: u8) -> i64
     requires { 0 < coding.now.line_range }
     ensures { result ≡ line_advance coding.now adjusted }
@@ -63,7 +63,7 @@ fn line_advance(coding: &Coding, adjusted: u8) -> i64
     coding.line_base as i64 + (adjusted % coding.line_range) as i64
 }
 
-// The address advanced by n instructions of the least length, where it stays in 64 bits.
+// The address advanced by `n` instructions of the least length, if it stays in 64 bits.
 fn advanced_by(coding: &Coding, n: u64, registers: Registers) -> Option<Registers>
     ensures { result ≡ advanced (n * coding.now.minimum_instruction_length) registers }
 {
@@ -71,8 +71,7 @@ fn advanced_by(coding: &Coding, n: u64, registers: Registers) -> Option<Register
     advanced(by, registers)
 }
 
-/// The registers after an operation; where it appends a row, they are that row. None where the address would pass
-/// 64 bits.
+/// The registers after an operation. If it appends a row, they are that row. None if the address would pass 64 bits.
 pub fn after_op(coding: &Coding, op: LineOp, registers: Registers) -> Option<Registers>
     requires { 0 < coding.now.line_range }
     ensures { result ≡ after_op coding.now op registers }
@@ -103,7 +102,7 @@ pub fn after_op(coding: &Coding, op: LineOp, registers: Registers) -> Option<Reg
     Some(after)
 }
 
-/// What an operation does to the table.
+/// The effect of an operation on the table.
 pub fn effect_of(op: LineOp) -> Effect
     ensures { result ≡ effect_of op }
 {
@@ -114,7 +113,7 @@ pub fn effect_of(op: LineOp) -> Effect
     }
 }
 
-/// The registers after a row was appended: some flags and the discriminator hold for one row alone.
+/// The registers after a row was appended: some flags and the discriminator only hold for one row.
 pub fn after_row(registers: Registers) -> Registers
     ensures { result ≡ after_row registers }
 {

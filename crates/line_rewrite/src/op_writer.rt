@@ -12,7 +12,7 @@ use rb_bytes::leb::{put_sleb, put_uleb};
 /// The opcode base of units that are written: one more than the standard opcodes of version 5.
 pub const OPCODE_BASE: u8 = 13;
 
-// The extended opcode that version 5 reserves (DW_LNE_define_file before). It stands for unknown operations, none of
+// The extended opcode that version 5 reserves (DW_LNE_define_file before). It is used for unknown operations, none of
 // which is ever written.
 const RESERVED: u8 = 3;
 
@@ -39,7 +39,7 @@ fn put_line(out: &mut Vec<u8>, by: i64) -> Result<(), NoMemory>
     put_sleb(out, by)
 }
 
-// Appends DW_LNE_set_address: as for any extended opcode a zero, and how many bytes follow; then opcode and operand.
+// Appends DW_LNE_set_address. An extended opcode begins with a zero and the number of bytes that follow.
 fn put_address(out: &mut Vec<u8>, address: u64) -> Result<(), NoMemory>
     ensures { OnOk result (out.new.items ≡ out.old.items ++ 0 ∷ 9 ∷ 2 ∷ little_bytes 8 address) }
 {
@@ -49,7 +49,7 @@ fn put_address(out: &mut Vec<u8>, address: u64) -> Result<(), NoMemory>
     put_bytes(out, &field)
 }
 
-// How many bytes an unsigned number takes in LEB128.
+// The number of bytes of an unsigned LEB128.
 #[tactic(auto, using(rb_bytes::proofs::UnsignedLeb::spellings))]
 fn uleb_size(n: u64) -> u8
     ensures size { result ≡ length (uleb n) }

@@ -15,8 +15,8 @@ use std::alloc::{AllocError, Global};
 
 const SLASH: u8 = b'/';
 
-// How many bytes the paths of the rows in force at one address have at most: each row has its own copy of its path, and
-// one path may be as long as the file.
+// The limit of bytes of the paths of the rows in force at one address: each row has its own copy of its path, and one
+// path may be as long as the file.
 const MOST_BYTES: usize = 1 << 27;
 
 fn is_absolute(name: &[u8]) -> bool
@@ -28,8 +28,8 @@ fn is_absolute(name: &[u8]) -> bool
     }
 }
 
-// The path of the directory of an index, by its name and that of the directory of the compilation, entry 0. The text of
-// the latter, which may be long, is looked up only where the path begins with it.
+// The path of a directory, from its name, its index, and the directory of the compilation, entry 0. The text of entry 0
+// may be long, and is only looked up if the path begins with it.
 fn directory_path(
     alloc: Global,
     str: &[u8],
@@ -51,7 +51,7 @@ fn directory_path(
     Ok(path)
 }
 
-// The path of a file, with its directory's; none where that isn't there.
+// The path of a file, with its directory's path; none if the directory is missing.
 fn path_of(
     alloc: Global,
     str: &[u8],
@@ -105,7 +105,7 @@ pub fn file_path(
     }
 }
 
-// A row with its path, where it has one.
+// A row with its path, if it has one.
 fn row_said(
     alloc: Global,
     str: &[u8],
@@ -131,7 +131,7 @@ fn row_said(
     }
 }
 
-// Adds a row, if there is one, and the bytes of its path to those of all rows, `bytes`, which are bounded.
+// Adds a row, if there is one. `bytes` is the sum of the lengths of all paths, which is limited.
 fn push_row(
     said: &mut Vec<LineRow>,
     row: Option<LineRow>,
@@ -150,8 +150,7 @@ fn push_row(
     Ok(())
 }
 
-/// The rows whose files have paths, with these. Memory is said to be wanting, too, where the paths have more than 2^27
-/// bytes together.
+/// The rows whose files have paths, with these. Gives `NoMemory` also if the paths have more than 2^27 bytes together.
 pub fn rows_said(
     alloc: Global,
     str: &[u8],

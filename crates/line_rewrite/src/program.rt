@@ -11,7 +11,7 @@ use crate::reading::read_op;
 use rb_bytes::cursor::Cursor;
 use std::alloc::{AllocError, Global};
 
-// Keeps a state where one is due, and answers where the next one is.
+// Keeps a state if one is due, and returns when the next one is due.
 fn keep(kept: &mut Vec<Kept>, due: Due, state: Kept) -> Result<Due, AllocError>
     ensures { IfOk result (λ _. kept.new.items ≡ kept_more due state kept.old.items) }
 {
@@ -25,7 +25,7 @@ fn keep(kept: &mut Vec<Kept>, due: Due, state: Kept) -> Result<Due, AllocError>
     Ok(due)
 }
 
-// The address of a sequence's first row, before which the first state stands; its end, where it has no row.
+// The address of a sequence's first row, which the first state has; its end, if it has no row.
 fn low_of(kept: &[Kept], end: u64) -> u64
     ensures { result ≡ low_of kept.now end }
 {
@@ -35,7 +35,7 @@ fn low_of(kept: &[Kept], end: u64) -> u64
     }
 }
 
-// The sequence that begins at a place of a program, and where the next one begins; none where it doesn't end.
+// The sequence that begins at an offset of a program, and the offset of the next one; none if it doesn't end.
 fn sequence_at(
     alloc: Global,
     program: &LineProgram<'_>,
@@ -55,7 +55,7 @@ fn sequence_at(
     let mut present = start(program.coding);
     let mut count: usize = 0;
     let mut due = Due { row: 0, place: 0 };
-    // Most sequences are short: of these only the first state is kept.
+    // Most sequences are short, and only keep the first state.
     let mut kept = Vec::with_capacity(alloc, 1)?;
     'ops: while cursor.left() > 0 {
         let here = program.bytes.len() - cursor.left();

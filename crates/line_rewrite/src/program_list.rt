@@ -14,7 +14,7 @@ use answer_runs::Run;
 use rb_bytes::fault::NoMemory;
 use std::alloc::Global;
 
-// For each unit a program with no sequence.
+// A program without a sequence for each unit.
 fn begun(alloc: Global, units: &[Unit]) -> Result<Vec<Program>, NoMemory>
     ensures { IfOk result (λ programs. programs.items ≡ spec.begun units.now) }
 {
@@ -25,8 +25,8 @@ fn begun(alloc: Global, units: &[Unit]) -> Result<Vec<Program>, NoMemory>
     Ok(programs)
 }
 
-// Appends to its unit's program the rows in force at the owner of a run's first byte, of which the run's answer was
-// made. They are looked up again, since an answer has paths where a row has the index of a file.
+// Appends the rows in force at the owner of a run's first byte, from which the run's answer was made, to the program of
+// their unit. They are looked up again, since an answer has a path in place of a row's file index.
 fn add_run(
     alloc: Global,
     programs: &mut [Program],

@@ -8,7 +8,7 @@ use crate::operation::*;
 use rb_bytes::cursor::Cursor;
 use rb_bytes::gap::Gap;
 
-// Passes the operands of an operation that isn't known, which are numbers in LEB128.
+// Skips the operands of an unknown operation, which are LEB128 numbers.
 #[tactic(auto, using(crate::proofs::Operands::unknown_step))]
 fn unknown<'a>(cursor: &mut Cursor<'a>, operands: u8) -> Result<LineOp, Gap>
     ensures read { IfOk result (λ op. unknown_at operands cursor.old.left ≡ Ok (op, cursor.new.left)) }
@@ -21,7 +21,7 @@ fn unknown<'a>(cursor: &mut Cursor<'a>, operands: u8) -> Result<LineOp, Gap>
     Ok(LineOp::Unknown)
 }
 
-// The operation that the bytes of an extended one begin with; what stands behind its operand is passed.
+// The operation in the bytes of an extended one. Bytes after its operand are skipped.
 fn extended_in(bytes: &[u8]) -> Result<LineOp, Gap>
     ensures read { IfOk result (λ op. extended_in bytes.now ≡ Ok op) }
     ensures gap { IfErr result (λ gap. extended_in bytes.now ≡ Err gap) }
@@ -35,7 +35,7 @@ fn extended_in(bytes: &[u8]) -> Result<LineOp, Gap>
     }
 }
 
-// An extended operation, behind its zero: how many bytes it has, and these.
+// An extended operation, after its zero: the number of its bytes, and the bytes.
 fn extended<'a>(cursor: &mut Cursor<'a>) -> Result<LineOp, Gap>
     ensures read { IfOk result (λ op. extended_at cursor.old.left ≡ Ok (op, cursor.new.left)) }
     ensures gap { IfErr result (λ gap. extended_at cursor.old.left ≡ Err gap) }
@@ -46,7 +46,7 @@ fn extended<'a>(cursor: &mut Cursor<'a>) -> Result<LineOp, Gap>
     extended_in(bytes)
 }
 
-// A standard operation, behind its opcode; `lengths` has the count of operands of each opcode from 1 on.
+// A standard operation, after its opcode. `lengths` has the number of operands of each opcode from 1 on.
 fn standard<'a>(cursor: &mut Cursor<'a>, lengths: &[u8], opcode: u8) -> Result<LineOp, Gap>
     requires known { 0 < opcode }
     requires counted { opcode ≤ length lengths.now }
@@ -71,7 +71,7 @@ fn standard<'a>(cursor: &mut Cursor<'a>, lengths: &[u8], opcode: u8) -> Result<L
     }
 }
 
-/// Reads the operation at the front, which takes a byte at least.
+/// Reads the operation at the front, which has at least one byte.
 #[tactic(auto, unfolding(crate::specs::Operations::op_at))]
 pub fn read_op<'a>(cursor: &mut Cursor<'a>, opcode_base: u8, lengths: &[u8]) -> Result<LineOp, Gap>
     requires { opcode_base ≤ length lengths.now + 1 }

@@ -9,17 +9,17 @@ use crate::operation::LineOp;
 use crate::registers::Registers;
 use rb_bytes::fault::NoMemory;
 
-/// The least number of lines by which special opcodes advance: the line base of units that are written.
+/// The least line advance of special opcodes: the line base of units that are written.
 pub const LINE_BASE: i8 = -5;
 
-/// By how many different numbers of lines special opcodes advance, from the line base on: the line range.
+/// The number of different line advances of special opcodes: the line range of units that are written.
 pub const LINE_RANGE: u8 = 14;
 
-// How many lines special opcodes go back, at most.
+// The most lines that a special opcode goes back.
 const MAX_BACK: u64 = -(LINE_BASE as i64) as u64;
 
-// By how many bytes special opcodes advance the address, at most, so that the opcode fits a byte: 13 + 13 + 14 * 16 is
-// 250.
+// The most bytes by which a special opcode advances the address, so that the opcode fits in a byte: 13 + 13 + 14 * 16
+// is 250.
 const MAX_ADVANCE: u64 = 16;
 
 // Writes an operation, unless it is needless.
@@ -33,7 +33,7 @@ fn put_unless(out: &mut Vec<u8>, needless: bool, op: LineOp) -> Result<(), NoMem
     put_op(out, op)
 }
 
-// Writes a change of the flag is_stmt, if it changes.
+// Writes DW_LNS_negate_stmt if the flag is_stmt changes.
 fn put_stmt_change(out: &mut Vec<u8>, from: bool, to: bool) -> Result<(), NoMemory>
     ensures { OnOk result (out.new.items
         ≡ out.old.items ++ all_spelled (unless (beq from to) operation.NegateStmt)) }
@@ -44,11 +44,11 @@ fn put_stmt_change(out: &mut Vec<u8>, from: bool, to: bool) -> Result<(), NoMemo
     }
 }
 
-// Advances the line and the address, and appends the row: by one special opcode where one does both.
+// Advances the line and the address, and appends the row: by one special opcode if there is one for both.
 fn put_step(out: &mut Vec<u8>, from: Registers, row: Registers) -> Result<(), NoMemory>
     ensures { OnOk result (out.new.items ≡ out.old.items ++ all_spelled (step_ops from row)) }
 {
-    // Addresses of rows don't fall, so the difference isn't cut off at 0.
+    // Addresses of rows don't fall, so this difference isn't negative.
     let by = row.address.saturating_sub(from.address);
     let step = row.line.wrapping_sub(from.line);
     let above = step.wrapping_add(MAX_BACK);
@@ -64,7 +64,7 @@ fn put_step(out: &mut Vec<u8>, from: Registers, row: Registers) -> Result<(), No
     put_op(out, LineOp::Copy)
 }
 
-/// Writes the operations that make of the registers `from` those of `row`, and append it.
+/// Writes the operations that change the registers from `from` to `row`, and append that.
 pub fn put_row(out: &mut Vec<u8>, from: Registers, row: Registers) -> Result<(), NoMemory>
     ensures written { OnOk result (out.new.items ≡ out.old.items ++ all_spelled (row_ops from row)) }
     ensures fits { IsRow row }

@@ -16,9 +16,9 @@ use std::marker::Model;
 /// A sequence that was begun and hasn't ended yet.
 #[derive(Clone, Copy)]
 pub struct Going {
-    /// The registers behind its last row.
+    /// The registers after its last row.
     pub registers: Registers,
-    /// Where its last run ends.
+    /// The end of its last run.
     pub end: u64,
 }
 
@@ -29,7 +29,7 @@ fn at_address(row: Registers, address: u64) -> Registers
     Registers { address, ..row }
 }
 
-// Writes some rows, all at one address, and answers the registers behind them.
+// Writes some rows, all at one address, and returns the registers after them.
 fn put_rows(
     out: &mut Vec<u8>,
     from: Registers,
@@ -54,13 +54,13 @@ fn put_rows(
 fn close(out: &mut Vec<u8>, going: Going) -> Result<(), NoMemory>
     ensures { OnOk result (out.new.items ≡ out.old.items ++ all_spelled (spec.close_ops going)) }
 {
-    // A sequence doesn't end before its last row, so the difference isn't cut off at 0.
+    // A sequence doesn't end before its last row, so this difference isn't negative.
     let by = going.end.saturating_sub(going.registers.address);
     put_op(out, LineOp::AdvancePc(by))?;
     put_op(out, LineOp::EndSequence)
 }
 
-// What the headers of units that are written say of their operations.
+// The numbers of written headers for their operations.
 fn written_coding(default_is_stmt: bool) -> Coding
     ensures { result ≡ written_coding default_is_stmt }
 {
@@ -73,7 +73,7 @@ fn written_coding(default_is_stmt: bool) -> Coding
     }
 }
 
-// The registers before the first row of a sequence with rows at an address: those of its start, but for the file.
+// The registers before the first row of a sequence with rows at an address: the initial ones, except for the file.
 fn opened(address: u64, default_is_stmt: bool, rows: &[Registers]) -> Registers
     ensures { result ≡ spec.opened (written_coding default_is_stmt) address (moved address rows.now) }
 {
@@ -88,7 +88,7 @@ fn opened(address: u64, default_is_stmt: bool, rows: &[Registers]) -> Registers
     }
 }
 
-// Begins a sequence with rows at an address. Its file is always named: binutils 2.40 begins with file 0, where DWARF 5
+// Begins a sequence with rows at an address. Its file is always set: binutils 2.40 begins with file 0, though DWARF 5
 // (section 6.2.2) begins with 1.
 fn open(
     out: &mut Vec<u8>,
@@ -109,8 +109,8 @@ fn open(
     put_rows(out, begun, address, rows)
 }
 
-// Writes the rows of a run that starts at `address`, and answers the registers behind them. The sequence under way goes
-// on where it ends there; else it is ended, and another one begun.
+// Writes the rows of a run that starts at `address`, and returns the registers after them. If the open sequence ends at
+// `address`, it goes on; otherwise it is closed, and another one is begun.
 fn put_run(
     out: &mut Vec<u8>,
     going: Option<Going>,
@@ -136,7 +136,7 @@ fn put_run(
     }
 }
 
-/// The program of a unit, as far as it is written. Runs are added by ascending addresses.
+/// The program of a unit that is written so far. Runs are added by ascending addresses.
 #[derive(Drop)]
 pub struct Program {
     bytes: Vec<u8>,
@@ -152,7 +152,7 @@ impl Model for Program {
 }
 
 impl Program {
-    /// A program with no sequence.
+    /// A program without a sequence.
     pub fn new(alloc: Global) -> Program
         ensures { result ≡ spec.nothing_begun }
     {
@@ -193,7 +193,7 @@ impl Program {
         }
     }
 
-    /// What is written so far.
+    /// The bytes written so far.
     pub fn bytes(&self) -> &[u8]
         ensures { result.now ≡ self.now.bytes }
     {

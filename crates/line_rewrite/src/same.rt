@@ -1,4 +1,4 @@
-// Whether two answers say the same.
+// Whether two answers are equal.
 ghost use Rattle.std.specs.Prelude.{◌≡◌, ◌↔◌, IsTrue};
 
 use crate::answer::{LineAt, LineRow};
@@ -31,7 +31,7 @@ fn same_rows(x: &[LineRow], y: &[LineRow]) -> bool
     true
 }
 
-/// Whether two answers say the same.
+/// Whether two answers are equal.
 pub fn same_answer(x: &LineAt, y: &LineAt) -> bool
     ensures { IsTrue result ↔ (x.now ≡ y.now) }
 {

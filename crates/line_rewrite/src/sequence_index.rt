@@ -1,4 +1,4 @@
-// The first of the sequences of many units that holds an address.
+// The first sequence of many units that covers an address.
 ghost use Rattle.std.specs.Prelude.{◌≡◌, ◌++◌, IfOk, OnOk, map, slice_get, option_and_then};
 ghost use Rattle.answer_runs.specs.FirstRanges.{first_range};
 ghost use Rattle.line_rewrite.specs.SequenceIndex.{unit_numbered, kept_range, place_of, IsIndexOf};
@@ -8,21 +8,21 @@ use answer_runs::{FirstRange, Range};
 use rb_bytes::fault::NoMemory;
 use std::alloc::Global;
 
-/// A sequence, by the number of its unit and its own number there.
+/// A sequence, by the index of its unit and its own index there.
 #[derive(Clone, Copy)]
 pub struct Place {
     pub unit: usize,
     pub sequence: usize,
 }
 
-/// The sequences of some units in order, and which of them is the first that holds an address.
+/// The sequences of some units in order, and an index of the first one that covers an address.
 #[derive(Drop)]
 pub struct SequenceIndex {
     places: Vec<Place>,
     first: FirstRange,
 }
 
-// Adds the sequences of the unit of a number, and their ranges.
+// Adds the sequences of the unit with index `number`, and their ranges.
 fn add_unit(
     number: usize,
     unit: &Unit,
@@ -60,7 +60,7 @@ impl SequenceIndex {
         Ok(SequenceIndex { places, first })
     }
 
-    /// The first sequence that holds an address, if one does.
+    /// The first sequence that covers an address, if one does.
     pub fn find(&self, a: u64) -> Option<Place>
         ensures { result ≡ option_and_then (slice_get self.now.places.items) (first_range self.now.first a) }
     {

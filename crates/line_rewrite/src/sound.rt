@@ -1,5 +1,5 @@
-// Whether a program is sound: read to its end, with addresses that don't fall within a sequence, files that are there,
-// and an end of each sequence.
+// Whether a program is sound: it can be read to its end, addresses don't fall in a sequence, files are in the table,
+// and each sequence ends.
 ghost use Rattle.std.specs.Prelude.{◌≡◌};
 ghost use Rattle.line_rewrite.specs.LineMachine.{follows};
 ghost use Rattle.line_rewrite.specs.SoundPrograms.{is_sound};
@@ -10,7 +10,7 @@ use crate::machine::{after_op, after_row, effect_of, start};
 use crate::reading::read_op;
 use rb_bytes::cursor::Cursor;
 
-// Whether an address isn't below that of the last row, if there is one.
+// Whether an address isn't below the last row's, if there is a last row.
 fn follows(last: Option<u64>, address: u64) -> bool
     ensures { result ≡ follows last address }
 {
@@ -20,7 +20,7 @@ fn follows(last: Option<u64>, address: u64) -> bool
     }
 }
 
-/// Whether a program is sound, of a unit with `files` files.
+/// Whether the program of a unit with `files` files is sound.
 pub fn is_sound(program: &LineProgram<'_>, files: u64) -> bool
     ensures { result ≡ is_sound program.now.coding.now files program.now.lengths.now program.now.bytes.now }
 {

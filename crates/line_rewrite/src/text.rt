@@ -4,7 +4,7 @@ ghost use Rattle.table_core.specs.Texts.{text_in};
 
 use memchr::memrchr;
 
-/// The sections of texts, and where in each the last text ends: a text stands at each offset below that.
+/// The sections of texts, and the end of the last text in each: a text is at each offset below it.
 #[derive(Clone, Copy)]
 pub struct Texts<'s> {
     pub str: &'s [u8],
@@ -46,7 +46,7 @@ impl<'s> Texts<'s> {
     }
 }
 
-// The least offset from which on no text stands: a text ends with a zero byte.
+// The end of the last text. Texts end with a zero byte, so no text is at this offset or above.
 fn last_end(section: &[u8]) -> usize
     ensures { (offset : ℕ) → is_some (text_in section.now offset) ≡ nat_lt offset result }
 {

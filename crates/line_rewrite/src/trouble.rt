@@ -9,7 +9,7 @@ use std::alloc::{AllocError, AllocFailed};
 /// Why a line unit can't be read.
 #[derive(Clone, Copy)]
 pub enum Trouble {
-    /// It isn't as the format has it.
+    /// It violates the format.
     Malformed,
     Memory,
 }

@@ -1,4 +1,4 @@
-// What is kept of line units. DWARF 5, section 6.2.
+// Kept line units. DWARF 5, section 6.2.
 ghost use Rattle.std.specs.Prelude.{IsTrue, length};
 ghost use Rattle.line_rewrite.specs.SoundPrograms.{is_sound};
 ghost use Rattle.line_rewrite.specs.KeptSequences.{AreSequences};

@@ -20,7 +20,7 @@ use rb_bytes::fault::{Fault, FaultKind, NoMemory, Refusal};
 use std::alloc::Global;
 use table_core::{DWARF_VERSION, DebugUnit, debug_units};
 
-// The place of the first unit of another format or version.
+// The offset of the first unit of another format or version.
 fn first_other(units: &[DebugUnit]) -> Option<u64>
     ensures { result ≡ first_place (λ w. w.is_other) units.now }
 {
@@ -32,7 +32,7 @@ fn first_other(units: &[DebugUnit]) -> Option<u64>
     None
 }
 
-// Reads the unit that was walked to.
+// Reads the unit in `walked`.
 fn unit_in(alloc: Global, texts: &Texts, walked: &DebugUnit) -> Result<Unit, Trouble>
     ensures read { IfOk result (λ u. unit_in (texts_strings texts.now) walked.now
         ≡ Some (told_unit (texts_strings texts.now) u)) }
@@ -46,7 +46,7 @@ fn unit_in(alloc: Global, texts: &Texts, walked: &DebugUnit) -> Result<Unit, Tro
     }
 }
 
-// The units that were walked to, or the fault at the first that can't be read.
+// The units that the walk found, or the fault of the first that can't be read.
 fn units_in(alloc: Global, texts: &Texts, walked: &[DebugUnit]) -> Result<Vec<Unit>, Refusal>
     ensures { MatchResult result (λ us. AreUnits (texts_strings texts.now) walked.now us.items)
         (λ e. IsLineFault (texts_strings texts.now) walked.now e) }
@@ -64,8 +64,8 @@ fn units_in(alloc: Global, texts: &Texts, walked: &[DebugUnit]) -> Result<Vec<Un
     Ok(units)
 }
 
-/// Reads the line units of `.debug_line`, with the sections of their texts; or refuses it for the first unit of another
-/// version, and else for the first that can't be read.
+/// Reads the line units of `.debug_line`, with the sections of their texts. Refuses the section for the first unit of
+/// another version, or without one for the first that can't be read.
 pub fn read_units(
     alloc: Global,
     line: &[u8],
@@ -85,7 +85,7 @@ pub fn read_units(
     units_in(alloc, &texts, &walked)
 }
 
-/// An index of units by their offsets in `.debug_line`: the number of the unit that begins at one.
+/// An index of units by their offsets in `.debug_line`: the number of the unit that begins at an offset.
 pub fn offsets_of(alloc: Global, line: &[u8]) -> Result<FirstRange, NoMemory>
     ensures { IfOk result (λ index. (a : ℕ) → first_range index a
         ≡ position (holds_address a) (map place_range (walked 5 line.now))) }

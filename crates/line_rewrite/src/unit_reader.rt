@@ -15,12 +15,12 @@ use crate::unit::Unit;
 use rb_bytes::cursor::Cursor;
 use std::alloc::Global;
 
-// The parts of a unit behind its length and version.
+// The parts of a unit after its length and version.
 #[derive(Clone, Copy)]
 struct Outer<'a> {
     address_size: u8,
     segment_size: u8,
-    /// The bytes of the header behind its length.
+    /// The bytes of the header after its length.
     fields: &'a [u8],
     program: &'a [u8],
 }
@@ -51,7 +51,7 @@ fn read_outer<'a>(bytes: &'a [u8]) -> Result<Outer<'a>, Trouble>
     })
 }
 
-/// Reads the unit in the bytes behind its length. These begin with the version, which was looked at before.
+/// Reads the unit in the bytes after its length. They begin with the version, which was tested before.
 pub fn read_unit(alloc: Global, texts: &Texts, bytes: &[u8]) -> Result<Unit, Trouble>
     ensures read { IfOk result (λ u. unit_of (texts_strings texts.now) bytes.now
         ≡ Some (told_unit (texts_strings texts.now) u)) }

@@ -13,8 +13,8 @@ use rb_bytes::little::put_u32;
 // The version (5), in two bytes, and the sizes of addresses (8) and of segment selectors (0).
 const VERSION_AND_SIZES: [u8; 4] = [5, 0, 8, 0];
 
-// The least length of an instruction, and how many operations one has at most. With 1 for the former any distance can
-// be written.
+// The least length of an instruction, and the greatest number of operations in one. With 1 for the length any distance
+// can be written.
 const INSTRUCTION_LENGTH: u8 = 1;
 
 const OPERATIONS: u8 = 1;
@@ -22,14 +22,14 @@ const OPERATIONS: u8 = 1;
 // The line base, as a byte in two's complement.
 const LINE_BASE_BYTE: u8 = (256 + LINE_BASE as i16) as u8;
 
-// How many operands the standard opcodes have, from 1 to 12. DWARF 5, section 6.2.5.2.
+// The numbers of operands of the standard opcodes 1 to 12. DWARF 5, section 6.2.5.2.
 const OPERAND_COUNTS: [u8; 12] = [0, 1, 1, 1, 1, 0, 0, 0, 1, 0, 0, 1];
 
-// How many bytes a header has from behind its length to the tables: six numbers, and the counts of operands.
+// The number of bytes of a header between its length and the tables: six numbers, and the numbers of operands.
 const FIELDS_SIZE: usize = 18;
 
-// How many bytes a unit has behind its length, without the tables and the program: what stands up to the header's
-// length, that length, and these fields.
+// The number of bytes of a unit after its length, without the tables and the program: the fields up to the header's
+// length, that length, and the fields after it.
 const FIXED_SIZE: usize = 8 + FIELDS_SIZE;
 
 fn flag_byte(flag: bool) -> u8
@@ -38,7 +38,7 @@ fn flag_byte(flag: bool) -> u8
     if flag { 1 } else { 0 }
 }
 
-// The fields behind a header's length.
+// The fields after a header's length.
 fn put_fields(out: &mut Vec<u8>, header: &Header) -> Result<(), NoMemory>
     ensures { OnOk result (out.new.items ≡ out.old.items ++ spec.header_fields header.now) }
 {
@@ -74,7 +74,7 @@ fn put_unit(out: &mut Vec<u8>, header: &Header, program: &[u8]) -> Result<(), No
     Ok(())
 }
 
-/// Appends all units, each with its program, of which the last sequence is ended before.
+/// Appends all units, each with its program, whose last sequence is closed before.
 pub fn put_units(
     out: &mut Vec<u8>,
     units: &[Unit],

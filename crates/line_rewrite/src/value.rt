@@ -11,22 +11,22 @@ use table_core::form::*;
 use table_core::shape::{Shape, shape_of};
 use table_core::value::value;
 
-/// What a value of an entry's contents is.
+/// A value of an entry's contents.
 #[derive(Clone, Copy)]
 pub enum Value<'a> {
     /// An unsigned number.
     Number(u64),
-    /// A text that stands in the entry.
+    /// A text in the entry.
     Text(&'a [u8]),
     /// A text at an offset of `.debug_str`.
     AtStr(u64),
     /// A text at an offset of `.debug_line_str`.
     AtLineStr(u64),
-    /// Anything else, as a checksum, which is passed.
+    /// Anything else, such as a checksum, which is skipped.
     Other,
 }
 
-/// The form of the value at the front: `form`, or the one that stands before the value where that is DW_FORM_indirect.
+/// The form of the value at the front: `form`, or if that is DW_FORM_indirect, the form before the value.
 pub fn form_here<'a>(cursor: &mut Cursor<'a>, form: u64) -> Result<u64, Trouble>
     ensures read { IfOk result (λ x. form_here form cursor.old.left ≡ Some (x, cursor.new.left)) }
     ensures malformed { IfMalformed result (form_here form cursor.old.left ≡ None) }
@@ -38,7 +38,7 @@ pub fn form_here<'a>(cursor: &mut Cursor<'a>, form: u64) -> Result<u64, Trouble>
     Ok(form)
 }
 
-// What a value of a form is, other than a text in the entry, by the number that was read for it.
+// The value of a form, other than a text in the entry, by the number that was read for it.
 fn value_of<'a>(form: u64, number: u64) -> Value<'a>
     requires { (form == DW_FORM_string) ≡ false }
     ensures { (left : List ℕ) → told_value result ≡ form_value form number left }
@@ -53,8 +53,7 @@ fn value_of<'a>(form: u64, number: u64) -> Value<'a>
     }
 }
 
-/// Reads the value of a form at the front. Forms whose value stands in a declaration or behind another form are
-/// malformed.
+/// Reads the value of a form at the front. A form whose value is in a declaration, or after another form, is malformed.
 pub fn read_value<'a>(cursor: &mut Cursor<'a>, form: u64) -> Result<Value<'a>, Trouble>
     ensures read { IfOk result (λ v. read_value form cursor.old.left ≡ Some (told_value v, cursor.new.left)) }
     ensures malformed { IfMalformed result (read_value form cursor.old.left ≡ None) }

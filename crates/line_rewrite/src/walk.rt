@@ -13,11 +13,11 @@ use crate::registers::Registers;
 use rb_bytes::cursor::Cursor;
 use std::alloc::AllocError;
 
-// How many rows may be in force at one address: each byte of a program may append one more there.
+// The limit of rows in force at one address: each byte of a program may append one there.
 const MOST_ROWS: usize = 1 << 22;
 
-// Adds a row that was reached to the rows in force; rows of another address are in force no more. `AllocError`, too,
-// where there are too many of them.
+// Adds a row that was reached to the rows in force. Rows of another address are in force no more. Gives `AllocError`
+// also if there are too many rows.
 fn join(found: &mut Vec<Registers>, row: Registers) -> Result<(), AllocError>
     ensures { IfOk result (λ _. found.new.items ≡ joined found.old.items row) }
 {
@@ -33,7 +33,7 @@ fn join(found: &mut Vec<Registers>, row: Registers) -> Result<(), AllocError>
     Ok(())
 }
 
-// The next row that a program appends before the sequence ends, from `registers` on, by what is left of its bytes.
+// The next row that a program appends before the sequence ends, from `registers` on, in the bytes left.
 fn next_row(
     program: &LineProgram<'_>,
     cursor: &mut Cursor<'_>,
@@ -58,7 +58,7 @@ fn next_row(
     None
 }
 
-/// Goes over `count` rows from a state on, and makes of the rows in force so far, `found`, those in force at `a`.
+/// Walks over `count` rows from a state on, and changes `found`, the rows in force so far, to those in force at `a`.
 pub fn add_rows(
     found: &mut Vec<Registers>,
     program: &LineProgram<'_>,
@@ -86,7 +86,7 @@ pub fn add_rows(
     Ok(())
 }
 
-/// Whether none of `count` rows from a state on lies above address `a` and at or below `b`.
+/// Whether none of `count` rows from a state on is above address `a` and at or below `b`.
 pub fn none_between(program: &LineProgram<'_>, state: &Kept, count: usize, a: u64, b: u64) -> bool
     requires { state.now.place ≤ length program.now.bytes.now }
     ensures { result ≡ none_between a b (take count (rows_behind program.now state.now)) }

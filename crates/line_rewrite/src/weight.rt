@@ -6,10 +6,10 @@ ghost use Rattle.line_rewrite.specs.Tables.{row_weight};
 use crate::answer::LineAt;
 use answer_runs::{RUN_WEIGHT, Run};
 
-// What a row weighs: more than the bytes of all operations that it may need.
+// The weight of a row: more than the bytes of all operations that it may need.
 const ROW_WEIGHT: u64 = 96;
 
-/// The weight of some runs; where it is none of 64 bits, the greatest number.
+/// The weight of the runs, saturated at 2^64 - 1.
 pub fn weight_of(runs: &[Run<LineAt>]) -> u64
     ensures { result ≡ min (sum_by (λ r. run_weight + row_weight * length r.answer.rows) runs.now) (2 ^ 64 - 1) }
 {

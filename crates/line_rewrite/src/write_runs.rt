@@ -1,4 +1,4 @@
-// Line tables written anew, of runs. DWARF 5, section 6.2.
+// Writing line tables from runs. DWARF 5, section 6.2.
 ghost use Rattle.std.specs.Prelude.{◌≡◌, ◌<◌, ◌-◌, ◌^◌, All, IfOk, length, map};
 ghost use Rattle.answer_runs.specs.AnswerRuns.{IsWithin};
 ghost use Rattle.line_rewrite.specs.LineTable.{moved_units, places_in};
@@ -18,7 +18,7 @@ use std::alloc::Global;
 use table_core::written::DW_AT_stmt_list;
 use table_core::{DWARF_VERSION, DebugUnit, ListAt, Written, debug_units};
 
-// The old places of units with the new ones, pair by pair.
+// Pairs of the old and the new offset of each unit.
 fn paired(alloc: Global, olds: &[DebugUnit], news: &[DebugUnit]) -> Result<Vec<ListAt>, NoMemory>
     ensures { IfOk result (λ l. l.items ≡ moved_units (map (λ w. w.place) olds.now) (map (λ w. w.place) news.now)) }
 {
@@ -36,7 +36,7 @@ fn paired(alloc: Global, olds: &[DebugUnit], news: &[DebugUnit]) -> Result<Vec<L
     Ok(lists)
 }
 
-// Where the units of the old section stand, each with where it stands in the new one.
+// Pairs of the offset of each unit in the old section and in the new one.
 fn moved(alloc: Global, old: &[u8], new: &[u8]) -> Result<Vec<ListAt>, NoMemory>
     ensures { IfOk result (λ l. l.items ≡ moved_units (places_in old.now) (places_in new.now)) }
 {
@@ -45,8 +45,8 @@ fn moved(alloc: Global, old: &[u8], new: &[u8]) -> Result<Vec<ListAt>, NoMemory>
     paired(alloc, &olds, &news)
 }
 
-/// Writes `.debug_line` anew, with the same units in the same order, each with sequences for the runs whose answers are
-/// its rows. The lists of what is written have the old place of each unit with its new one.
+/// Writes a new `.debug_line` with the same units in the same order. Each unit has sequences for the runs whose answers
+/// are rows of that unit. The lists of the result have the old and the new offset of each unit.
 pub fn write_lines(
     alloc: Global,
     line: &[u8],

@@ -25,7 +25,7 @@ header c =
 behind : (c : After-new-tables) → c.in_ok-rest.rest.now ≡ c.take.new.self.left
 behind c = all_taken c.left-size.result c.take.new.self.left _ _ c.left-size.ensures c.in_ok-rest.ensures.read
 
--- the tables stand in what was taken last
+-- The tables are in the bytes taken last.
 tables : (c : After-new-tables) → table_at (texts_strings c.args.texts.now) c.new-tables.result.left
     ≡ table_at (texts_strings c.args.texts.now) c.take.new.self.left
 tables c =
