@@ -1,5 +1,5 @@
--- A unit covers 10078 to 10090 and a block in it 10080 to 10088, with a variable whose location is a list: one expression
--- from 10078 to 10084, and another one by default.
+-- A unit covers 10078 to 10090 and a block in it 10080 to 10088, with a variable whose location is a list: one expression from 10078 to
+-- 10084, and another one by default.
 use Rattle.std.proofs.Common.{◌≡◌, ℕ, List, [], ◌∷◌, None, false, refl}
 use Rattle.table_core.specs.DebugUnits.{units_from}
 use Rattle.dw_unit.specs.Declarations.{specs_within, table_within}
@@ -49,7 +49,7 @@ past_block : covers sections 25 0x10088 ≡ false
 unfolding abbrevs info lists units_from specs_within table_within entries_within items_within
 past_block = refl
 
--- The variable is asked where the block covers, which is the nearest entry with ranges.
+-- The variable has a location only in the block, which is its nearest entry with ranges.
 outside : places_said sections 0x10078 ≡ []
 unfolding abbrevs info lists units_from specs_within table_within entries_within items_within
 outside = refl

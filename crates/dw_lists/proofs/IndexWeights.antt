@@ -25,7 +25,7 @@ assoc : (x y z : List ℕ) → ((x ++ y) ++ z) ≡ x ++ (y ++ z)
 assoc [] y z = refl
 assoc (q ∷ x) y z = ap (λ (l : List ℕ). q ∷ l) (assoc x y z)
 
--- one attribute more
+-- One more attribute.
 pub noted_more : (form : ℕ) (before : List ℕ) (xs : List Attr) (i : ℕ) (d : Attr) (o : Option ℕ) → i < length xs →
     o ≡ greatest ((before ++ indexes_in form (take i xs)) ++ indexes_in form (get_or xs i d ∷ [])) →
     o ≡ greatest (before ++ indexes_in form (take (i + 1) xs))
@@ -34,7 +34,7 @@ noted_more form before xs i d o h e =
     ∙ ap (λ (l : List ℕ). before ++ l) (sym (ap (indexes_in form) (take_more xs i d h)
     ∙ indexes-append form (take i xs) (get_or xs i d ∷ []))))
 
--- one entry more
+-- One more entry.
 pub entries_more : (form : ℕ) (es : List ListedEntry) (i : ℕ) (x : ListedEntry) (o : Option ℕ) → i < length es → x ≡ get_or es i x →
     o ≡ greatest (indexes_in form (flat_map (λ (e : ListedEntry). e.attrs) (take i es)) ++ indexes_in form x.attrs) →
     o ≡ greatest (indexes_in form (flat_map (λ (e : ListedEntry). e.attrs) (take (i + 1) es)))
@@ -48,7 +48,7 @@ pub plain_attrs : (es : List ListedEntry) → flat_map (λ (e : ListedEntry). e.
 plain_attrs [] = refl
 plain_attrs (e ∷ es) = ap (λ (l : List Attr). e.attrs ++ l) (plain_attrs es)
 
--- What units weigh is what their tables do.
+-- The weight of units is that of their tables.
 
 by_greatest : (is : List ℕ) → option_map_or (λ (i : ℕ). 32 + 4 * (i + 1)) (greatest is) 0 ≡ offsets_weight is
 by_greatest [] = refl

@@ -18,7 +18,7 @@ use Rattle.dw_lists.specs.Lists.{resolved, bound_says, with_located, between}
 use Rattle.cover_lists.specs.Located.{Located}
 use Rattle.dw_lists.specs.ListReading.{item_of, said_from, step_says, StepSays, prefixed, flow_says, FlowSays}
 
--- where the entries behind one aren't sound, neither is the list
+-- If the entries after one aren't sound, the list isn't either.
 none_says : (look : ℕ → Option ℕ) (base : ℕ) (x : List ℕ) (b : Bound) → bound_says look (λ _. None) base x b ≡ None
 none_says look base x (Base a) = one (resolved look a)
   where
@@ -86,7 +86,7 @@ module _ (list : ListKind) (look : ℕ → Option ℕ) (base : ℕ) (left : List
       ∙ said_head look base i (items_within (item_of list) n rest)
       ∙ says (λ b. said_from look b (items_within (item_of list) n rest))
 
--- what was read so far, and a step more
+-- The entries read so far, and one more step
 
 module _ (list : ListKind) (look : ℕ →
     Option ℕ) (base base' : ℕ) (left rest : List ℕ) (out out' : List Located) (m k : ℕ) (want : Option (List Located))
@@ -100,7 +100,7 @@ module _ (list : ListKind) (look : ℕ →
       → flow_says (λ b. said_from look b (items_within (item_of list) k rest)) base' out' g ≡ want
   goes_as f g says is = ap (flow_says (λ b. said_from look b (items_within (item_of list) k rest)) base' out') (sym is) ∙ goes f says
 
--- at no fuel nothing is said
+-- Without fuel there is no result.
 pub never_ends : (list : ListKind) (look : ℕ →
     Option ℕ) (base : ℕ) (left : List ℕ) (out : List Located) (m : ℕ) (want : Option (List Located))
     → prefixed out (said_from look base (items_within (item_of list) m left)) ≡ want → m ≡ 0 → None ≡ want

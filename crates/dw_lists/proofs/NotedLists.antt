@@ -1,4 +1,4 @@
--- What is wrong with lists that attributes name, one attribute more.
+-- The faults of attributes' lists, with one more attribute.
 use Rattle.std.proofs.Common.{◌≡◌, ◌∙◌, ◌||◌, ◌&&◌, ◌++◌, ◌∷◌, [], ℕ, Bool, true, false, List, Option, Some, sym, ap}
 use Rattle.std.proofs.Common.{◌+◌, ◌<◌, append-nil, append_assoc, length, get_or, take, refl, map, filter}
 use Rattle.std.proofs.lemmas.List.{take_more}
@@ -57,7 +57,7 @@ pub one_more : (before ats : List Attr) (i : ℕ) (d : Attr) → i < length ats 
 one_more before ats i d h =
     append_assoc before (take i ats) (get_or ats i d ∷ []) ∙ ap (λ (l : List Attr). before ++ l) (sym (take_more ats i d h))
 
--- all attributes of a unit, and those that name lists
+-- All attributes of a unit, and those that refer to lists
 
 any_filtered : (h t : Attr → Bool) (ats : List Attr) → list_any (λ a. h a && t a) ats ≡ list_any t (filter h ats)
 any_filtered h t [] = refl

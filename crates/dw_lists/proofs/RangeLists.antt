@@ -1,4 +1,4 @@
--- Lists of a unit as they are read and kept.
+-- Lists of a unit, read and kept.
 use Rattle.std.proofs.Common.{◌≡◌, ◌≢◌, ◌∙◌, ◌+◌, ◌-◌, ◌++◌, ℕ, Bool, true, List, Option, Some, None, Result, Ok}
 use Rattle.std.proofs.Common.{Err, BTreeMap, nat_cmp, refl, sym, ap, subst, arith, length, take, drop, cond, ⊎_elim}
 use Rattle.std.specs.Prelude.{option_map}
@@ -34,7 +34,7 @@ said_is : (addr : List ℕ) (u : Unit) (r : Result (List Item) Trouble) →
 said_is addr u (Ok items) = refl
 said_is addr u (Err e) = refl
 
--- what is read of the bytes up to the end of its table is what a list says
+-- Reading the bytes up to the end of the list's table gives the list's contents.
 pub list_is : (k : ListKind) (section addr bytes : List ℕ) (u : Unit) (l : UnitLists) (at : ℕ) → ReadsLists (kind_of k) addr u l →
     bytes ≡ take (list_end section at - at) (drop at section) →
     said_from (looked_up l.addresses.section.now l.addresses.base) l.base (items_within (item_of k) (length bytes) bytes)
@@ -43,7 +43,7 @@ list_is k section addr bytes u l at r e =
     (λ i. said_from (looked_up (r.section i) (r.addresses i)) (r.address i) (items_within (item_is k i) (length (e i)) (e i)))
     ∙ said_is addr u (items_at (kind_of k) section at)
 
--- a list more is known
+-- One more list is known
 
 pub at_same : (k : ℕ) → is_at (nat_cmp k) k ≡ true
 at_same k = grind (arith, common_steps)
@@ -57,7 +57,7 @@ pub still_known : (says : ℕ → Option (List Located)) (old new : Groups) (kno
     AreKnown says new known
 still_known says old new known grow are = λ at o e. still_group old new o (says at) grow (are at o e)
 
--- of lists that are known, whatever is said of them
+-- For lists that are known, and any property of them.
 pub known_with : (Is : ℕ → Option ℕ → Type 0) (known more : BTreeMap ℕ (Option ℕ)) (at : ℕ) (o : Option ℕ) →
     ((q : ℕ) (p : Option ℕ) → get nat_cmp known q ≡ Some p → Is q p) → Is at o →
     ((q : ℕ) → get nat_cmp more q ≡ cond (is_at (nat_cmp at) q) (Some o) (get nat_cmp known q)) →
@@ -77,7 +77,7 @@ pub known_more : (says : ℕ → Option (List Located)) (old new : Groups) (know
 known_more says old new known more at o grow are is made =
     known_with (λ (q : ℕ) (p : Option ℕ). IsGroupOf new p (says q)) known more at o (still_known says old new known grow are) is made
 
--- a group that is added for a list that can be read
+-- A group that is added for a list that can be read.
 pub new_group : (s : ListSections) (u : Unit) (section : List ℕ) (at : ℕ) (old new : Groups) (n : ℕ) (ls : List Located) →
     section ≡ s.ranges →
     Some ls ≡ list_at ranges_kind section s.units.addr u at → AreNumbered old → n ≡ old.count → new.count ≡ old.count + 1 →
@@ -91,7 +91,7 @@ new_group s u section at old new n ls b said numbered number count covers =
       }),
     )
 
--- nothing is known yet
+-- Nothing is known yet
 
 pub none_with : (Is : ℕ → Option ℕ → Type 0) (m : BTreeMap ℕ (Option ℕ)) → IsEmpty m → (at : ℕ) (o : Option ℕ) → get nat_cmp m at ≡ Some o →
     Is at o

@@ -1,4 +1,4 @@
--- The last table that starts at or below an offset, by how many do.
+-- The last table that begins at or below an offset, by the number of tables that do.
 use Rattle.std.proofs.Common.{◌≡◌, ◌∙◌, ◌+◌, ◌<◌, ◌≤◌, ℕ, zero, suc, Bool, true, false, List, [], ◌∷◌, Option, Some, None, refl, sym}
 use Rattle.std.proofs.Common.{ap, arith, length, get_or, drop}
 use Rattle.std.specs.Prelude.{if◌then◌else◌, nat_le, slice_get}
@@ -9,7 +9,7 @@ use Rattle.table_core.specs.DebugUnits.{Walked, walked, units_from, unit_length,
 use Rattle.table_core.proofs.UnitsWalk.{behind_front}
 use Rattle.dw_lists.specs.Lists.{table_below}
 
--- the last of so many first ones
+-- The last of the first `n` tables.
 abbrev pub last_of : ℕ → List Walked → Option Walked
 last_of zero ws = None
 last_of (suc n) ws = slice_get ws n
@@ -37,7 +37,7 @@ below_is at (w ∷ ws) (suc (suc n)) le low high =
     let there : slice_get ws n ≡ Some (get_or ws n w) = slice_get-get_or ws n w (omega arith) in
     ap (λ (o : Option Walked). option_or o (if nat_le w.place at then Some w else None)) (more ∙ there) ∙ sym there
 
--- places of units ascend
+-- The offsets of units ascend
 
 module _ (n version place : ℕ) (left : List ℕ) where
   abbrev to : ℕ

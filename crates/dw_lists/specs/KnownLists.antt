@@ -14,15 +14,15 @@ use Rattle.cover_lists.specs.Groups.{HasRanges, Grow}
 use Rattle.cover_lists.specs.Located.{ranges_in, Located}
 use Rattle.dw_lists.specs.Lists.{Kind, ranges_kind, has_list, list_at, list_offset, locations_kind}
 
--- what the list of ranges at an offset says
+-- The contents of the range list at an offset.
 abbrev pub range_list : ListSections → Unit → ℕ → Option (List Located)
 range_list s u at = list_at ranges_kind s.ranges s.units.addr u at
 
--- what the location list at an offset says
+-- The contents of the location list at an offset.
 abbrev pub location_list : ListSections → Unit → ℕ → Option (List Located)
 location_list s u at = list_at locations_kind s.locations s.units.addr u at
 
--- the group of the ranges of a list, or none of one that can't be read
+-- The group of a list's ranges; none if the list can't be read.
 pub record IsGroupOf (g : Groups) (group : Option ℕ) (said : Option (List Located)) : Type 0 where
   pub some : is_some group ≡ is_some said
   pub ranges : HasRanges g group (option_map ranges_in said)
@@ -30,14 +30,14 @@ pub record IsGroupOf (g : Groups) (group : Option ℕ) (said : Option (List Loca
 abbrev pub AreKnown : (ℕ → Option (List Located)) → Groups → BTreeMap ℕ (Option ℕ) → Type 0
 AreKnown says g known = (at : ℕ) (o : Option ℕ) → get nat_cmp known at ≡ Some o → IsGroupOf g o (says at)
 
--- a list was looked up, or read
+-- The result of looking a list up, or reading it.
 pub record IsLookedUp (says : ℕ → Option (List Located)) (old new : Groups) (known : BTreeMap ℕ (Option ℕ)) (at : ℕ)
     (group : Option ℕ) : Type 0 where
   pub grow : Grow old new
   pub known_are : AreKnown says new known
   pub is : IsGroupOf new group (says at)
 
--- what is wrong with the lists of a kind that attributes name, one by one
+-- The faults of an attribute's list.
 
 abbrev pub lacks_list : Kind → List ℕ → Unit → Attr → Bool
 lacks_list k section u a = has_list k a && not (is_some (list_offset k section u a))
@@ -53,6 +53,6 @@ pub record AreNoted (k : Kind) (section addr : List ℕ) (u : Unit) (attrs : Lis
   pub lacks : f.lacks_offset ≡ list_any (lacks_list k section u) attrs
   pub bad : f.bad ≡ least (flat_map (bad_list k section addr u) attrs)
 
--- with the lists of ranges
+-- For range lists.
 abbrev pub IsNoted : ListSections → Unit → List Attr → ListFaults → Type 0
 IsNoted s u attrs f = AreNoted ranges_kind s.ranges s.units.addr u attrs f

@@ -18,7 +18,7 @@ use Rattle.dw_lists.specs.declared.list_entry.TheConstants.{DW_LLE_startx_endx, 
 use Rattle.dw_lists.specs.declared.list_entry.TheConstants.{DW_LLE_offset_pair, DW_LLE_default_location}
 use Rattle.dw_lists.specs.declared.list_entry.TheConstants.{DW_LLE_base_address, DW_LLE_start_end, DW_LLE_start_length}
 
--- an entry; its expression is empty where it has none
+-- An entry. Its expression is empty if it has none.
 pub record Item : Type 0 where
   pub bound : Bound
   pub expression : List ℕ
@@ -70,7 +70,7 @@ location_bound kind left =
 abbrev pub range_item : ℕ → List ℕ → Read Item
 range_item kind left = and_then (range_bound kind left) (λ b rest. Ok (record { bound = b; expression = [] }, rest))
 
--- an expression behind its length; a new base has none
+-- An expression, after its length. An entry that sets the base address has none.
 abbrev pub expression_at : Bound → List ℕ → Read (List ℕ)
 expression_at (Base a) left = Ok ([], left)
 expression_at _ left = leb_bytes_at Unsound left
@@ -80,13 +80,13 @@ location_item kind left =
     and_then (location_bound kind left) (λ b left1.
     and_then (expression_at b left1) (λ x rest. Ok (record { bound = b; expression = x }, rest)))
 
--- The entry of a kind, and then more. Lists of both kinds end with the same byte.
+-- The entry of a kind, and then the entries after it, by `more`. Lists of both kinds end with the same byte.
 abbrev pub item_behind : (ℕ → List ℕ → Read Item) → (List ℕ → Result (List Item) Trouble) → ℕ → List ℕ →
     Result (List Item) Trouble
 item_behind item more kind left =
     if kind == DW_RLE_end_of_list then Ok [] else and_then (item kind left) (λ i rest. with_head i (more rest))
 
--- the entries up to the end of the list; at most n
+-- The entries up to the end of the list; at most `n`, with the end.
 unfoldable pub items_within : (ℕ → List ℕ → Read Item) → ℕ → List ℕ → Result (List Item) Trouble
 items_within item zero left = Err Unsound
 items_within item (suc n) left = and_then (whole (number_read 1 left)) (item_behind item (items_within item n))

@@ -1,4 +1,4 @@
--- How lists are read: entry by entry, with the base address that is in force.
+-- How lists are read: entry by entry, with the current base address.
 use Rattle.std.specs.Prelude.{◌≡◌, ◌+◌, ◌*◌, ℕ, suc, List, [], ◌∷◌, ◌++◌, Option, Some, None, option_map}
 use Rattle.std.specs.Prelude.{option_and_then, Result, Ok, Err}
 use Rattle.dw_unit.specs.declared.trouble.Trouble.{Trouble}
@@ -23,7 +23,7 @@ abbrev pub item_of : ListKind → ℕ → List ℕ → Read Item
 item_of Ranges = range_item
 item_of Locations = location_item
 
--- the address of an index, in a table of addresses that begins at a base
+-- The address with an index, in an address table that begins at a base.
 abbrev pub looked_up : List ℕ → Option ℕ → ℕ → Option ℕ
 looked_up section base index = option_and_then (λ b. number_in 8 (b + 8 * index) section) base
 
@@ -31,14 +31,14 @@ abbrev pub said_from : (ℕ → Option ℕ) → ℕ → Result (List Item) Troub
 said_from look base (Ok items) = items_say look items base
 said_from look base (Err e) = None
 
--- what an entry comes to, and `more` what those behind it say by the base address
+-- The contents of a list from an entry on. `more` gives those of the entries after it, by the base address.
 abbrev pub step_says : (ℕ → Option (List Located)) → ℕ → Option Step → Option (List Located)
 step_says more base None = None
 step_says more base (Some step.End) = Some []
 step_says more base (Some (step.Base b)) = more b
 step_says more base (Some (step.Placed p)) = option_map (λ ls. located_of p ∷ ls) (more base)
 
--- one entry more, whatever is behind it
+-- Reading one more entry, whatever follows it.
 abbrev pub StepSays : ListKind → (ℕ → Option ℕ) → ℕ → List ℕ → List ℕ → Option Step → Type 0
 StepSays list look base left rest result =
     (n : ℕ) → said_from look base (items_within (item_of list) (suc n) left)
@@ -47,7 +47,7 @@ StepSays list look base left rest result =
 abbrev pub prefixed : List Located → Option (List Located) → Option (List Located)
 prefixed out o = option_map (λ ls. out ++ ls) o
 
--- what a list says in all, by what was read of it
+-- The contents of a whole list, by what was read so far.
 abbrev pub flow_says : (ℕ → Option (List Located)) → ℕ → List Located → Flow → Option (List Located)
 flow_says more base out More = prefixed out (more base)
 flow_says more base out End = Some out

@@ -1,4 +1,4 @@
--- The two tables of lists as the code keeps them, and what is said of those that were written anew.
+-- The two tables of lists as tables of answers by address, and properties of written ones.
 use Rattle.std.specs.Prelude.{◌≡◌, ◌||◌, ◌==◌, ◌^◌, ◌<◌, ◌≤◌, ℕ, Bool, IsTrue, List, [], All, Contains, length, Option}
 use Rattle.std.specs.Prelude.{Some}
 use Rattle.addr_map.specs.declared.span.Span.{Span}
@@ -15,31 +15,31 @@ use Rattle.dw_lists.specs.Faults.{ListSections}
 use Rattle.dw_lists.specs.Ranges.{covering}
 use Rattle.dw_lists.specs.Locations.{places_said, PlaceSaid}
 
--- no answer is empty
+-- No answer is empty.
 abbrev pub range_says : ListSections → ℕ → Option (List ℕ)
 range_says s a = unless_empty (covering s a)
 
 abbrev pub place_says : ListSections → ℕ → Option (List PlaceSaid)
 place_says s a = unless_empty (places_said s a)
 
--- the attributes for which each table has lists or bases
+-- The attributes for which each table has lists or bases.
 abbrev pub is_of_ranges : ℕ → Bool
 is_of_ranges name = name == DW_AT_ranges || name == DW_AT_rnglists_base
 
 abbrev pub is_of_locations : ℕ → Bool
 is_of_locations name = name == DW_AT_location || name == DW_AT_frame_base || name == DW_AT_loclists_base
 
--- Lists of some attributes, each once, below 2 ^ 32.
+-- Offsets for attributes of this kind, one for each, below 2^32.
 pub record AreLists (is_attr : ℕ → Bool) (lists : List ListAt) : Type 0 where
   pub attrs : All (λ l. IsTrue (is_attr l.attr)) lists
   pub once : (l : ListAt) → Contains lists l → new_list_offset lists l.entry l.attr ≡ Some l.offset
   pub low : All (λ l. l.offset < 2 ^ 32) lists
 
--- no entry has ranges by a high address, which would need a list
+-- No entry has a high address, which would need a range list.
 abbrev pub AreWithoutHighAddresses : Sections → Type 0
 AreWithoutHighAddresses s = All (λ e. attr DW_AT_high_pc e ≡ Option.None) (entries s)
 
--- Without a section of its own and without a need for one, a table is empty.
+-- A table is empty if the input has no such section and nothing needs it.
 pub record RangesMade (s : ListSections) (w : Written) : Type 0 where
   pub lists : AreLists is_of_ranges w.lists.items
   pub nothing : s.ranges ≡ [] → AreWithoutHighAddresses s.units → w.bytes.items ≡ []
@@ -48,7 +48,7 @@ pub record PlacesMade (s : ListSections) (w : Written) : Type 0 where
   pub lists : AreLists is_of_locations w.lists.items
   pub nothing : s.locations ≡ [] → w.bytes.items ≡ []
 
--- no section is longer than a file may be, and the table isn't too heavy
+-- No section is longer than a file may be, and the table isn't too heavy.
 pub record ListFits (IsWeight : ListSections → List Span → ℕ → Type 0) (s : ListSections)
     (spans : List Span) : Type 0 where
   pub info : length s.units.info ≤ section_limit

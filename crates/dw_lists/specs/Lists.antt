@@ -1,4 +1,4 @@
--- What range lists and location lists say. DWARF 5, sections 2.6.2, 2.17.3, 7.28 and 7.29.
+-- The contents of range lists and location lists. DWARF 5, sections 2.6.2, 2.17.3, 7.28 and 7.29.
 use Rattle.std.specs.Prelude.{◌+◌, ◌-◌, ◌*◌, ◌==◌, ◌&&◌, ◌||◌, ℕ, Bool, List, [], ◌∷◌, nat_le, nat_lt, if◌then◌else◌}
 use Rattle.std.specs.Prelude.{length}
 use Rattle.std.specs.Prelude.{drop, take, Option, Some, None, option_map, option_and_then, unwrap_or, Result, Ok, Err}
@@ -29,8 +29,8 @@ between low high = Some (record { low = low; high = high })
 abbrev pub with_located : List ℕ → Option Range → Option (List Located) → Option (List Located)
 with_located x range more = option_map (λ ls. record { range = range; expression = x } ∷ ls) more
 
--- what an entry says, and what those behind it say, which `more` gives for a base address; `look` finds the address at
--- an index
+-- The contents of a list from an entry on. `more` gives those of the entries after it, by the base address; `look`
+-- finds the address with an index.
 abbrev pub bound_says : (ℕ → Option ℕ) → (ℕ → Option (List Located)) → ℕ → List ℕ → Bound → Option (List Located)
 bound_says look more base x (Base a) = option_and_then more (resolved look a)
 bound_says look more base x (Between a b) =
@@ -41,13 +41,13 @@ bound_says look more base x (Onward a n) =
 bound_says look more base x (Offsets m n) = with_located x (between (base + m) (base + n)) (more base)
 bound_says look more base x Default = with_located x None (more base)
 
--- what entries say under a base address; None where an index is one of no address
+-- The contents of entries, by the base address. None if an index has no address.
 abbrev pub items_say : (ℕ → Option ℕ) → List Item → ℕ → Option (List Located)
 items_say look [] base = Some []
 items_say look (i ∷ items) base = bound_says look (items_say look items) base i.expression i.bound
 
--- The two kinds of sections of lists: how entries are read, the attribute of a unit's base, the form of indexes, and
--- which attributes name lists.
+-- The two kinds of sections of lists: how entries are read, the attribute with a unit's base, the form of indexes, and
+-- the attributes that refer to lists.
 pub record Kind : Type 0 where
   pub item : ℕ → List ℕ → Read Item
   pub base_name : ℕ
@@ -75,19 +75,19 @@ locations_kind =
 abbrev pub has_list : Kind → Attr → Bool
 has_list k a = k.names_list a.name && (a.form == DW_FORM_sec_offset || a.form == k.index_form)
 
--- the last table of a section that starts at or below an offset
+-- The last table of a section that begins at or below an offset.
 abbrev pub table_below : ℕ → List Walked → Option Walked
 table_below at [] = None
 table_below at (w ∷ ws) = option_or (table_below at ws) (if nat_le w.place at then Some w else None)
 
--- A list ends within its table or, where the table isn't whole, within the section.
+-- A list ends inside its table, or if the table isn't whole, inside the section.
 abbrev pub end_of_table : Walked → Option ℕ
 end_of_table w = option_map (λ bytes. w.place + 4 + length bytes) w.bytes
 
 abbrev pub list_end : List ℕ → ℕ → ℕ
 list_end section at = unwrap_or (option_and_then end_of_table (table_below at (walked 5 section))) (length section)
 
--- an index counts offsets in a table, which count from the first of them
+-- The offset in the table of offsets with this index. It counts from the begin of the offsets.
 abbrev pub offset_of_index : Kind → List ℕ → Unit → ℕ → Option ℕ
 offset_of_index k section u index =
     option_and_then (λ b. option_map (λ n. b + n) (number_in 4 (b + 4 * index) section)) (base k.base_name u)
@@ -95,7 +95,7 @@ offset_of_index k section u index =
 abbrev pub only_within : List ℕ → ℕ → Option ℕ
 only_within section at = if nat_lt at (length section) then Some at else None
 
--- the offset of an attribute's list, where it can be read and lies in the section
+-- The offset of an attribute's list, if it can be read and is in the section.
 abbrev pub list_offset : Kind → List ℕ → Unit → Attr → Option ℕ
 list_offset k section u a =
     option_and_then (only_within section)
@@ -105,16 +105,16 @@ abbrev pub items_at : Kind → List ℕ → ℕ → Result (List Item) Trouble
 items_at k section at =
     let left = take (list_end section at - at) (drop at section) in items_within k.item (length left) left
 
--- the base address of a unit's lists is its own low address, or 0
+-- The base address of a unit's lists: the low address of its own entry, or 0.
 abbrev pub base_address : List ℕ → Unit → ℕ
 base_address addr u = unwrap_or (option_and_then (low_pc addr u) (own_entry u)) 0
 
--- what entries say, as a unit reads them; None where they aren't sound
+-- The contents of entries, as a unit reads them. None if they aren't sound.
 abbrev pub items_said : List ℕ → Unit → Result (List Item) Trouble → Option (List Located)
 items_said addr u (Ok items) = items_say (address_at addr u) items (base_address addr u)
 items_said addr u (Err e) = None
 
--- what the list at an offset says
+-- The contents of the list at an offset.
 abbrev pub list_at : Kind → List ℕ → List ℕ → Unit → ℕ → Option (List Located)
 list_at k section addr u at = items_said addr u (items_at k section at)
 

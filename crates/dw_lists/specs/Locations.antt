@@ -1,4 +1,4 @@
--- Which expressions are in force at an address. DWARF 5, section 2.6.
+-- The expressions in force at an address. DWARF 5, section 2.6.
 use Rattle.std.specs.Prelude.{ℕ, List, [], ◌∷◌, ◌++◌, if◌then◌else◌, map, Ok, Err, flat_map}
 use Rattle.std.specs.Global.{Vec}
 use Rattle.std.specs.Option.{option_map_or}
@@ -17,7 +17,7 @@ use Rattle.cover_lists.specs.Located.{hold, in_force}
 use Rattle.dw_lists.specs.Faults.{ListSections}
 use Rattle.dw_lists.specs.Ranges.{Ranged, ranged_in}
 
--- the content of a block, behind its length
+-- The content of a block, after its length.
 abbrev pub content_at : Shape → List ℕ → Read (List ℕ)
 content_at (Block n) left = and_then (whole (number_read n left)) (λ count rest. whole (bytes_at count rest))
 content_at LebBlock left = leb_bytes_at Unsound left
@@ -30,23 +30,25 @@ content_read (Err e) = []
 abbrev pub block_of : List ℕ → Attr → List ℕ
 block_of info a = content_read (and_so (sound_if (shape_of a.form)) (λ shape. content_at shape (value_bytes info a)))
 
--- the expressions of an attribute that are in force at an address; one that stands in it is in force everywhere
+-- The expressions of an attribute that are in force at an address. A single expression in the attribute itself is in
+-- force everywhere.
 abbrev pub expressions_of : ListSections → Unit → Attr → ℕ → List (List ℕ)
 expressions_of s u x a =
     if is_block x.form then block_of s.units.info x ∷ []
     else option_map_or (λ ls. in_force ls a) (list_of locations_kind s.locations s.units.addr u x) []
 
--- those of an entry's attribute, where the entry's nearest ranges hold the address
+-- The expressions in force of an entry's attribute. There are none unless the entry's nearest ranges contain the
+-- address.
 abbrev pub located : ListSections → Unit → Ranged → ℕ → ℕ → List (List ℕ)
 located s u r x a = if hold r.nearest a then option_map_or (λ v. expressions_of s u v a) (attr x r.entry) [] else []
 
--- an entry by its place, an attribute of it, and its expressions in force
+-- An entry, by its offset, one of its attributes, and the expressions of that in force.
 pub record PlaceSaid : Type 0 where
   pub entry : ℕ
   pub attr : ℕ
   pub expressions : List (List ℕ)
 
--- what is said of an attribute of an entry, where it has expressions in force
+-- The answer for an attribute of an entry, if it has expressions in force.
 abbrev pub attr_says : ℕ → ℕ → List (List ℕ) → List PlaceSaid
 attr_says d x [] = []
 attr_says d x (b ∷ bs) = record { entry = d; attr = x; expressions = b ∷ bs } ∷ []
@@ -56,11 +58,11 @@ entry_says s u a r =
     attr_says r.entry.place DW_AT_location (located s u r DW_AT_location a)
     ++ attr_says r.entry.place DW_AT_frame_base (located s u r DW_AT_frame_base a)
 
--- all that is said of locations at an address, ascending by entry and attribute
+-- All locations at an address, ascending by entry and attribute.
 abbrev pub places_said : ListSections → ℕ → List PlaceSaid
 places_said s a = flat_map (λ u. flat_map (entry_says s u a) (ranged_in s u)) (units s.units)
 
--- what an answer says, whatever memory it owns
+-- The contents of an answer, without the memory that it owns.
 abbrev pub place_said : ℕ × ℕ × Vec (Vec ℕ) → PlaceSaid
 place_said p = record { entry = p.0; attr = p.1; expressions = map (λ x. x.items) p.2.items }
 

@@ -1,4 +1,4 @@
--- Which entries cover an address. DWARF 5, section 2.17.
+-- The entries that cover an address. DWARF 5, section 2.17.
 use Rattle.std.specs.Prelude.{◌+◌, ◌==◌, ◌&&◌, ℕ, Bool, List, [], ◌∷◌, if◌then◌else◌, map, filter, filter_map}
 use Rattle.std.specs.Prelude.{Option, option_map, option_and_then, flat_map}
 use Rattle.std.specs.List.{list_any}
@@ -13,11 +13,11 @@ use Rattle.dw_lists.specs.Lists.{ranges_kind, list_of}
 use Rattle.cover_lists.specs.Located.{Located, hold}
 use Rattle.dw_lists.specs.Faults.{ListSections}
 
--- a high address is an address, or a distance from the low one
+-- A high address is an address, or the distance from the low address.
 abbrev pub up_to : ℕ → Attr → Range
 up_to low a = record { low = low; high = if a.form == DW_FORM_addr then a.value else low + a.value }
 
--- the ranges of an entry by its high address or by its list; a low address alone gives none
+-- The ranges of an entry, by its high address or its list. A low address without a high one gives none.
 abbrev pub ranges_of : ListSections → Unit → Entry → Option (List Range)
 ranges_of s u e = option_or
     (option_and_then (λ high. option_map (λ low. up_to low high ∷ []) (low_pc s.units.addr u e)) (attr DW_AT_high_pc e))
@@ -25,13 +25,13 @@ ranges_of s u e = option_or
     (λ a. option_map (filter_map (λ (l : Located). l.range)) (list_of ranges_kind s.ranges s.units.addr u a))
     (attr DW_AT_ranges e))
 
--- an entry with its own ranges, and those of the nearest entry that has some: itself or one that it lies in
+-- An entry with its own ranges, and with the nearest ranges: its own, or those of the innermost ancestor that has some.
 pub record Ranged : Type 0 where
   pub entry : Entry
   pub own : Option (List Range)
   pub nearest : Option (List Range)
 
--- `before` has the entries that stand before, from the last on
+-- `before` has the entries before, the last first.
 abbrev pub ranged_from : (Entry → Option (List Range)) → (before : List Entry) → List Entry → List Ranged
 ranged_from own before [] = []
 ranged_from own before (e ∷ es) =
@@ -44,10 +44,10 @@ ranged_in s u = ranged_from (ranges_of s u) [] u.entries
 abbrev pub ranged : ListSections → List Ranged
 ranged s = flat_map (ranged_in s) (units s.units)
 
--- the ranges of the entry at a place hold an address
+-- The ranges of the entry at offset `d` contain the address `a`.
 abbrev pub covers : ListSections → ℕ → ℕ → Bool
 covers s d a = list_any (λ (r : Ranged). hold r.own a && r.entry.place == d) (ranged s)
 
--- the places of all entries that do, ascending
+-- The offsets of all entries whose ranges contain the address, ascending.
 abbrev pub covering : ListSections → ℕ → List ℕ
 covering s a = map (λ (r : Ranged). r.entry.place) (filter (λ (r : Ranged). hold r.own a) (ranged s))

@@ -20,21 +20,23 @@ list_sections elf = record {
   locations = bytes_of elf (codes ".debug_loclists");
 }
 
--- what they say, where the file has none of their faults
+-- The answers, if the file has no fault of these tables.
 abbrev pub range_answers : Elf → Option (ℕ → Option (List ℕ))
 range_answers elf = answers_if_free (range_places (list_sections elf)) (range_says (list_sections elf))
 
 abbrev pub place_answers : Elf → Option (ℕ → Option (List PlaceSaid))
 place_answers elf = answers_if_free (location_places (list_sections elf)) (place_says (list_sections elf))
 
--- Where written tables stand: the section holds the bytes, the units were changed by the table's lists and can be read.
+-- The file `f` has the written table: its section has the bytes, its units are changed with the table's lists, and they
+-- can be read.
 
 pub record StandsRanges (i : Elf) (spans : List Span) (written : Written) (f : Elf) : Type 0 where
   pub table : bytes_of f (codes ".debug_rnglists") ≡ written.bytes.items
   pub changed : AreChangedBy spans written.lists.items i f
   pub units : IsFree (HasDwarfFault (unit_fault_places (sections_of f)))
 
--- Locations stand only beside ranges: these can be read, and each byte of the new code is covered as its owner was.
+-- A table of locations also needs the ranges: these can be read, and each byte of new code is covered by the entries
+-- that cover its owner.
 pub record StandsPlaces (i : Elf) (spans : List Span) (written : Written) (f : Elf) : Type 0 where
   pub table : bytes_of f (codes ".debug_loclists") ≡ written.bytes.items
   pub changed : AreChangedBy spans written.lists.items i f

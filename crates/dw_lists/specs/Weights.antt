@@ -14,7 +14,7 @@ use Rattle.dw_lists.specs.Faults.{ListSections, list_offsets}
 use Rattle.dw_lists.specs.Ranges.{Ranged, ranged}
 use Rattle.cover_lists.specs.ListWeights.{IsSumOf, expressions_weight}
 
--- the indexes that attributes of a form have
+-- The indexes in attributes of a form.
 abbrev pub indexes_in : ℕ → List Attr → List ℕ
 indexes_in form attrs = map (λ (a : Attr). a.value) (filter (λ (a : Attr). a.form == form) attrs)
 
@@ -25,7 +25,7 @@ abbrev pub greatest : List ℕ → Option ℕ
 greatest [] = None
 greatest (i ∷ is) = Some (fold max i is)
 
--- a unit that uses indexes needs a table with an offset for each one up to the greatest
+-- A unit that uses indexes needs a table with an offset for each one up to the greatest.
 abbrev pub offsets_weight : List ℕ → ℕ
 offsets_weight [] = 0
 offsets_weight (i ∷ is) = 32 + 4 * (fold max i is + 1)
@@ -36,7 +36,7 @@ index_weight form u = offsets_weight (indexes form u)
 abbrev pub index_weights : ℕ → ListSections → ℕ
 index_weights form s = sum_by (index_weight form) (units s.units)
 
--- Ranges: each entry that has ranges has the runs of the bytes that they hold.
+-- Ranges: each entry with ranges has the runs of the bytes in them.
 
 abbrev pub covered_by : Ranged → ℕ → Option Bool
 covered_by r a = if hold r.own a then Some Bool.true else None
@@ -46,7 +46,7 @@ pub record IsRangesWeight (s : ListSections) (spans : List Span) (weight : ℕ) 
   pub of_runs : IsSumOf (λ r. IsWeightOf (λ _. 0) (carried (covered_by r) spans)) (ranged s) runs
   pub sum : weight ≡ index_weights ranges_kind.index_form s + runs
 
--- Locations: each list, as one unit reads it, has the runs of the expressions that are in force.
+-- Locations: each list, as one unit reads it, has the runs of the expressions in force.
 
 abbrev pub expressions_at : List Located → ℕ → Option (List (List ℕ))
 expressions_at ls a = unless_empty (in_force ls a)
@@ -58,7 +58,7 @@ IsListWeight s spans u at =
     None)
     spans)
 
--- the lists of a unit, each once
+-- The lists of a unit, each once.
 abbrev pub IsUnitWeight : ListSections → List Span → Unit → ℕ → Type 0
 IsUnitWeight s spans u = IsSumOf (IsListWeight s spans u) (distinct (list_offsets locations_kind s.locations u))
 

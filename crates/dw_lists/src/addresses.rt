@@ -6,16 +6,16 @@ ghost use Rattle.dw_lists.specs.ListReading.{looked_up};
 use crate::list_bound::Address;
 use byteorder::{ByteOrder, LittleEndian};
 
-/// The section of addresses as a unit reads it.
+/// `.debug_addr` as a unit reads it.
 #[derive(Clone, Copy)]
 pub struct Addresses<'a> {
     pub section: &'a [u8],
-    /// The offset of the first address of the unit's table, DW_AT_addr_base.
+    /// The offset of the first address of the unit's table (DW_AT_addr_base).
     pub base: Option<u64>,
 }
 
 impl<'a> Addresses<'a> {
-    /// The address at an index, if the unit has a base and a whole address stands there.
+    /// The address with an index, if the unit has a base and the section a whole address there.
     pub fn at(&self, index: u64) -> Option<u64>
         ensures { result ≡ looked_up self.now.section.now self.now.base index }
     {
@@ -27,7 +27,7 @@ impl<'a> Addresses<'a> {
         Some(LittleEndian::read_u64(&self.section[place as usize..]))
     }
 
-    /// The address that is meant, if it can be found.
+    /// The address itself, or the one with the index, if it can be found.
     pub fn resolve(&self, address: Address) -> Option<u64>
         ensures { result ≡ resolved (looked_up self.now.section.now self.now.base) address }
     {

@@ -1,4 +1,4 @@
-// Expressions that stand in attributes. DWARF 5, section 7.5.5.
+// Expressions in attributes. DWARF 5, section 7.5.5.
 ghost use Rattle.std.specs.Prelude.{◌≡◌, Ok, Err, IfOk, IfErr, IsTrue};
 ghost use Rattle.table_core.specs.AttributeForms as forms;
 ghost use Rattle.table_core.specs.AttributeForms.{is_size, is_readable};
@@ -13,7 +13,7 @@ use rb_bytes::cursor::Cursor;
 use table_core::shape::{Shape, shape_of};
 use table_core::value::number;
 
-// Bytes behind their count, which has `size` bytes.
+// A block of bytes, after their count of `size` bytes.
 fn counted<'a>(cursor: &mut Cursor<'a>, size: u8) -> Result<&'a [u8], Trouble>
     requires { IsTrue (is_size size) }
     ensures read { IfOk result (λ x. content_at (shape.Block size) cursor.old.left ≡ Ok (x.now, cursor.new.left)) }
@@ -24,7 +24,7 @@ fn counted<'a>(cursor: &mut Cursor<'a>, size: u8) -> Result<&'a [u8], Trouble>
     Ok(bytes)
 }
 
-// The bytes of a block, behind its count; other shapes have none.
+// The bytes of a block, after its count. Other shapes have none.
 fn content<'a>(cursor: &mut Cursor<'a>, shape: Shape) -> Result<&'a [u8], Trouble>
     requires { IsTrue (is_readable shape) }
     ensures read { IfOk result (λ x. content_at shape cursor.old.left ≡ Ok (x.now, cursor.new.left)) }
@@ -37,7 +37,7 @@ fn content<'a>(cursor: &mut Cursor<'a>, shape: Shape) -> Result<&'a [u8], Troubl
     }
 }
 
-/// The expression that stands in an attribute, by `.debug_info`; empty where its form is no block.
+/// The expression in an attribute, from `.debug_info`; empty if the form is no block.
 pub fn expression_in<'a>(info: &'a [u8], attr: Attr) -> &'a [u8]
     ensures { result.now ≡ block_of info.now attr }
 {

@@ -1,5 +1,4 @@
-// Which indexes of lists units use, and how much the tables of offsets weigh that they need. DWARF 5, sections 7.28 and
-// 7.29.
+// The list indexes that units use, and the weight of the offset tables that they need. DWARF 5, sections 7.28 and 7.29.
 ghost use Rattle.std.specs.Prelude.{◌≡◌, ◌++◌, ◌∷◌, [], ◌-◌, ◌+◌, ◌*◌, ◌^◌, ℕ, List, OnOk, min, sum_by};
 ghost use Rattle.dw_unit.specs.ListedUnits.{plain_unit};
 ghost use Rattle.dw_lists.specs.IndexedUnits as indexed;
@@ -12,24 +11,24 @@ use crate::unit_lists::lists_base;
 use dw_unit::{Attr, Entry};
 use rb_bytes::fault::NoMemory;
 
-/// The indexes of lists of a kind that a unit uses.
+/// The list indexes of a kind that a unit uses.
 #[derive(Clone, Copy)]
 pub struct IndexedUnit {
     /// The offset of its own entry in `.debug_info`.
     pub own: u64,
-    /// The base of its indexes, if it has one.
+    /// The base of its list offsets, if it has one.
     pub base: Option<u64>,
-    /// The greatest of its indexes, whichever attributes they are of.
+    /// The greatest of its indexes, in any attribute.
     pub greatest: Option<u64>,
 }
 
-// What a table weighs beside its offsets and lists.
+// The weight of a table without its offsets and lists.
 const TABLE_WEIGHT: u64 = 32;
 
-// What an offset weighs.
+// The weight of an offset.
 const OFFSET_WEIGHT: u64 = 4;
 
-// The greatest of some indexes and of `index`; `greatest` is that of the others.
+// The greatest of some indexes and `index`, by the greatest of the others.
 fn greater(greatest: Option<u64>, index: u64) -> Option<u64>
     ensures { (before : List ℕ) → greatest ≡ spec.greatest before → result ≡ spec.greatest (before ++ index ∷ []) }
 {
@@ -57,7 +56,7 @@ fn noted(form: u64, attr: Attr, greatest: Option<u64>) -> Option<u64>
     }
 }
 
-// The greatest of some indexes, `others`, and those of the attributes that have the form.
+// The greatest of some indexes, `others`, and those of the attributes with the form.
 fn greatest_in(form: u64, attrs: &[Attr], others: Option<u64>) -> Option<u64>
     ensures { (before : List ℕ) → others ≡ spec.greatest before →
         result ≡ spec.greatest (before ++ spec.indexes_in form attrs.now) }
@@ -77,7 +76,7 @@ fn greatest_of(form: u64, entry: &Entry, others: Option<u64>) -> Option<u64>
     greatest_in(form, &entry.attrs, others)
 }
 
-// The greatest index that the attributes of a unit's entries have by a form, if one has the form.
+// The greatest index in attributes of a unit's entries with the form, if one has the form.
 fn greatest_index(form: u64, entries: &[Entry]) -> Option<u64>
     ensures { result ≡ spec.greatest (spec.indexes form (plain_unit entries.now)) }
 {
@@ -88,7 +87,7 @@ fn greatest_index(form: u64, entries: &[Entry]) -> Option<u64>
     greatest
 }
 
-/// Adds the indexes of lists of a kind that the unit of some entries uses, if it has an entry.
+/// Adds the list indexes of a kind that the unit of some entries uses, if it has an entry.
 pub fn put_indexed(
     units: &mut Vec<IndexedUnit>,
     kind: ListKind,
@@ -112,7 +111,7 @@ pub fn put_indexed(
     }
 }
 
-// What a table with offsets for all indexes up to the greatest weighs, without its lists; 0 if there is no index.
+// The weight of a table with an offset for each index up to the greatest, without its lists; 0 if there is no index.
 fn table_weight(unit: IndexedUnit) -> u64
     ensures { result ≡ min (indexed.table_weight unit) (2 ^ 64 - 1) }
 {
@@ -125,8 +124,7 @@ fn table_weight(unit: IndexedUnit) -> u64
     }
 }
 
-/// What the tables of offsets weigh that units need for their indexes, or the greatest number where that is none of 64
-/// bits.
+/// The weight of the offset tables that units need for their indexes, saturated at 2^64 - 1.
 pub fn tables_weight(units: &[IndexedUnit]) -> u64
     ensures { result ≡ min (sum_by indexed.table_weight units.now) (2 ^ 64 - 1) }
 {

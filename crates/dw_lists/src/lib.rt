@@ -1,4 +1,4 @@
-//! What range lists and location lists say, as units read them.
+//! The contents of range lists and location lists, as units read them.
 #![tactic(auto)]
 
 pub mod addresses;

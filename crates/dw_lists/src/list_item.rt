@@ -93,7 +93,7 @@ fn location_bound<'a>(cursor: &mut Cursor<'a>, kind: u64) -> Result<Bound, Troub
     }
 }
 
-/// Bytes behind their count in LEB128.
+/// Reads bytes after their count in LEB128.
 pub fn block<'a>(cursor: &mut Cursor<'a>) -> Result<&'a [u8], Trouble>
     ensures read { IfOk result (λ x. leb_bytes_at Unsound cursor.old.left ≡ Ok (x.now, cursor.new.left)) }
     ensures trouble { IfErr result (λ e. leb_bytes_at Unsound cursor.old.left ≡ Err e) }
@@ -103,7 +103,7 @@ pub fn block<'a>(cursor: &mut Cursor<'a>) -> Result<&'a [u8], Trouble>
     Ok(bytes)
 }
 
-// The expression of an entry, which stands behind its bound; a new base has none.
+// The expression of an entry, after its bounds. An entry that sets the base address has none.
 fn expression<'a>(cursor: &mut Cursor<'a>, bound: Bound) -> Result<&'a [u8], Trouble>
     ensures read { IfOk result (λ x. spec.expression_at bound cursor.old.left ≡ Ok (x.now, cursor.new.left)) }
     ensures trouble { IfErr result (λ e. spec.expression_at bound cursor.old.left ≡ Err e) }
@@ -121,11 +121,11 @@ fn expression<'a>(cursor: &mut Cursor<'a>, bound: Bound) -> Result<&'a [u8], Tro
 #[derive(Clone, Copy)]
 pub struct ListItem<'a> {
     pub bound: Bound,
-    /// Empty where the entry has none.
+    /// Empty if the entry has none.
     pub expression: &'a [u8],
 }
 
-/// Reads the entry behind its kind. `Unsound` where no entry is of that kind, or it doesn't stand whole in the bytes.
+/// Reads the entry after its kind. Gives `Unsound` if the kind is unknown, or the bytes end inside the entry.
 pub fn item<'a>(cursor: &mut Cursor<'a>, list: ListKind, kind: u64) -> Result<ListItem<'a>, Trouble>
     ensures read { IfOk result (λ i. item_of list kind cursor.old.left
         ≡ Ok (record { bound = i.bound; expression = i.expression.now }, cursor.new.left)) }

@@ -16,7 +16,7 @@ use rb_bytes::cursor::Cursor;
 use rb_bytes::fault::NoMemory;
 use std::alloc::Global;
 
-// What an entry comes to: the end of its list, a new base address, or a place.
+// The effect of an entry: the end of its list, a new base address, or a range with its expression.
 #[derive(Clone, Copy)]
 enum Step<'a> {
     End,
@@ -35,7 +35,7 @@ fn placed(low: u128, high: u128, expression: &[u8]) -> Step<'_>
     })
 }
 
-// What an entry comes to under a base address; none where it uses an index of no address.
+// The effect of an entry, by the base address; none if it uses an index without an address.
 fn step_of<'a>(item: ListItem<'a>, base: u64, addresses: &Addresses) -> Option<Step<'a>>
     ensures { (more : ℕ → Option (List Located)) →
         bound_says (looked_up addresses.now.section.now addresses.now.base) more base item.entry.expression.now
@@ -68,7 +68,7 @@ fn step_of<'a>(item: ListItem<'a>, base: u64, addresses: &Addresses) -> Option<S
     }
 }
 
-// Reads the next entry; none where it can't be read.
+// Reads the next entry; none if it can't be read.
 fn read_step<'a>(
     list: ListKind,
     base: u64,
@@ -91,7 +91,7 @@ fn read_step<'a>(
     }
 }
 
-// Whether a list goes on behind an entry, ends with it, or can't be read.
+// Whether a list goes on after an entry, ends with it, or can't be read.
 #[derive(Clone, Copy)]
 enum Flow {
     More,
@@ -99,7 +99,7 @@ enum Flow {
     Bad,
 }
 
-// Reads the next entry of a list, and changes the base address or adds a place by it.
+// Reads the next entry of a list, and changes the base address or adds a place.
 fn take_step<'a>(
     list: ListKind,
     addresses: &Addresses,
@@ -127,26 +127,26 @@ fn take_step<'a>(
     }
 }
 
-// These bound lists that are long and say little. `ListSection::most` counts only what is kept of a list, but each unit
-// that names it reads it again.
+// Limits for lists that are long and have few places. `ListSection::most` only counts what is kept of a list, but each
+// unit that refers to the list reads it again.
 //
-// How many entries a list may have for each place that it gives, and how many beside these.
+// The number of entries that a list may have for each of its places, with `MOST_BESIDE` places more.
 const MOST_TIMES: usize = 4;
 
 const MOST_BESIDE: usize = 8;
 
-// How many bytes an entry may have without its expression.
+// The limit of bytes of an entry without its expression.
 const MOST_NUMBERS: usize = 64;
 
-// How many bytes may be read of a list that turns out to be bad.
+// The limit of bytes read of a list that turns out to be bad.
 const MOST_BAD: usize = 1 << 9;
 
-// How many bytes below 0x80 an entry has at most, without its expression: its kind, two addresses of eight bytes, and
-// the last byte of each of three numbers in LEB128.
+// The most bytes below 0x80 in an entry without its expression: its kind, two addresses of eight bytes, and the last
+// byte of each of three LEB128 numbers.
 const MOST_ENDS: usize = 20;
 
-// How many bytes an entry of `size` bytes has without its expression. It has none where it gave no place: then there
-// are as many places as `before`.
+// The bytes of an entry of `size` bytes without its expression. An entry without a place has no expression: then there
+// are still `before` places.
 fn own_size(places: &[Place<'_>], before: usize, size: usize) -> usize {
     if places.len() == before {
         return size;
@@ -157,13 +157,13 @@ fn own_size(places: &[Place<'_>], before: usize, size: usize) -> usize {
     }
 }
 
-// Whether a list has too many entries that give no place, or an entry has too many bytes of its own.
+// Whether a list has too many entries without a place, or an entry has too many bytes without its expression.
 fn is_dear(entries: usize, places: &[Place<'_>], own: usize) -> bool {
     entries / MOST_TIMES > places.len().saturating_add(MOST_BESIDE) || own > MOST_NUMBERS
 }
 
-// Whether a number of the entry at the front may have more than `MOST_BAD` bytes: few of these are below 0x80, as the
-// last one of a number in LEB128 is.
+// Whether a number of the entry at the front may have more than `MOST_BAD` bytes: few of these are below 0x80, as only
+// the last byte of a LEB128 number is.
 fn may_be_long(bytes: &[u8]) -> bool {
     if bytes.len() <= MOST_BAD {
         return false;
@@ -178,18 +178,18 @@ fn may_be_long(bytes: &[u8]) -> bool {
     ends < MOST_ENDS
 }
 
-// Whether it may have taken long to find that a list is bad; `left` bytes are left from the bad entry on.
+// Whether finding that a list is bad may have taken long. `left` bytes are left from the bad entry on.
 fn was_dear(bytes: &[u8], left: usize) -> bool {
     let read = bytes.len().saturating_sub(left).min(bytes.len());
     let (_, rest) = bytes.split_at(read);
     read > MOST_BAD || may_be_long(rest)
 }
 
-/// What the list at the front of some bytes says, by a unit's base address and addresses; none where it isn't as the
-/// format has it, doesn't end in these bytes, or uses an index of no address.
+/// The contents of the list at the front of some bytes, by a unit's base address and addresses; none if the list is
+/// malformed, doesn't end in these bytes, or uses an index without an address.
 ///
-/// `NoMemory` is answered, too, for a list that is long and says little or can't be read: compilers make none, and
-/// each of many entries could name it.
+/// Gives `NoMemory` also for a list that is long and has few places or can't be read: compilers make none, and each of
+/// many entries could refer to it.
 pub fn read_list<'a>(
     alloc: Global,
     list: ListKind,

@@ -25,30 +25,30 @@ use std::alloc::Global;
 use table_core::DebugUnit;
 use table_core::form::{DW_FORM_loclistx, DW_FORM_rnglistx};
 
-/// A section of lists, with the tables that it consists of.
+/// A section of lists, and its tables.
 #[derive(Clone, Copy)]
 pub struct ListSection<'a, 't> {
     pub bytes: &'a [u8],
     pub tables: &'t [DebugUnit<'a>],
-    /// How much of the file's lists is kept at most (`most_kept`).
+    /// The limit of what is kept of the file's lists (`most_kept`).
     pub most: usize,
 }
 
-// For how many bytes of a file one of these is kept. Files of compilers have 320 bytes for each, and 78 where they have
-// no relocations.
+// The bytes of a file for each range or entry that is kept. Files of compilers have 320 bytes for each, and 78 if they
+// have no relocations.
 const BYTES_OF_EACH: usize = 32;
 
-// How many are kept beside, so that no small file meets the bound.
+// The number kept of any file, so that no small file meets the limit.
 const KEPT_BESIDE: usize = 1 << 17;
 
-/// How many ranges are kept at most of a file of so many bytes; and how many entries with ranges, items of location
-/// lists, and attributes that say where something is, of each of these as many. An entry or item of a few bytes takes
-/// up to a KiB of memory until it is written, and lists may overlap, so few bytes could name any number.
+/// The limit of ranges that are kept of a file with `file_size` bytes. The same limit holds for each of entries with
+/// ranges, entries of location lists, and attributes with a location. An entry of a few bytes takes up to a KiB of
+/// memory until it is written, and lists may overlap, so few bytes could refer to any number of entries.
 pub fn most_kept(file_size: usize) -> usize {
     (file_size / BYTES_OF_EACH).saturating_add(KEPT_BESIDE)
 }
 
-// Whether a table starts at or below an offset.
+// Whether a table begins at or below an offset.
 fn starts_by(at: u64, table: &DebugUnit<'_>) -> bool
     ensures { result ≡ nat_le table.now.place at }
 {
@@ -61,7 +61,7 @@ fn table_of<'a, 't>(tables: &'t [DebugUnit<'a>], number: usize) -> Option<&'t De
     tables.get(number)
 }
 
-// The last table that starts at or below an offset.
+// The last table that begins at or below an offset.
 fn table_below<'a, 't>(tables: &'t [DebugUnit<'a>], at: u64) -> Option<&'t DebugUnit<'a>>
     requires { IsNonDecreasingBy (λ w. w.place) tables.now }
     ensures { option_map (λ w. w.now) result ≡ table_below at tables.now }
@@ -73,14 +73,14 @@ fn table_below<'a, 't>(tables: &'t [DebugUnit<'a>], at: u64) -> Option<&'t Debug
     table_of(tables, started - 1)
 }
 
-// The offset of the end of `bytes`, which stand behind a length of four bytes at `place`.
+// The offset of the end of `bytes`, which follow a length of four bytes at `place`.
 fn end_at(place: u64, bytes: &[u8]) -> u128
     ensures { result ≡ place + 4 + length bytes.now }
 {
     place as u128 + 4 + bytes.len() as u128
 }
 
-// Where a table ends, if it is whole.
+// The offset of a table's end, if it is whole.
 fn end_of_table(table: &DebugUnit<'_>) -> Option<u128>
     ensures { result ≡ end_of_table table.now }
 {
@@ -88,7 +88,7 @@ fn end_of_table(table: &DebugUnit<'_>) -> Option<u128>
     Some(end_at(table.place, bytes))
 }
 
-// Where a list at offset `at` has to end: with its table, or with the section where that isn't whole.
+// The offset at which a list at `at` has to end: the end of its table, or of the section if the table isn't whole.
 fn list_end<'a>(section: &'a [u8], tables: &[DebugUnit<'a>], at: u64) -> u128
     requires rising { IsNonDecreasingBy (λ w. w.place) tables.now }
     requires walked { tables.now ≡ walked 5 section.now }
@@ -98,7 +98,7 @@ fn list_end<'a>(section: &'a [u8], tables: &[DebugUnit<'a>], at: u64) -> u128
     end.unwrap_or(section.len() as u128)
 }
 
-/// The bytes of a section from offset `at` to before `end`, or those of them that it has.
+/// The bytes of a section from offset `at` up to `end`, as far as the section has them.
 pub fn bytes_between(section: &[u8], at: u64, end: u128) -> &[u8]
     ensures { result.now ≡ take (end - at) (drop at section.now) }
 {
@@ -113,8 +113,8 @@ pub fn bytes_between(section: &[u8], at: u64, end: u128) -> &[u8]
     bytes
 }
 
-// The offset of the list that an index names: the one that stands at the index among those from `begin` on, the base
-// of the unit, and counts from there. DWARF 5, sections 7.28 and 7.29.
+// The offset of the list with an index: the table of offsets is at `begin`, the base of the unit, and the offsets count
+// from there. DWARF 5, sections 7.28 and 7.29.
 fn offset_of_index(section: &[u8], begin: Option<u64>, index: u64) -> Option<u64>
     ensures { (k : Kind) (u : Unit) → begin ≡ base k.base_name u → result ≡ spec.offset_of_index k section.now u index }
 {
@@ -126,7 +126,7 @@ fn offset_of_index(section: &[u8], begin: Option<u64>, index: u64) -> Option<u64
     Some(begin + LittleEndian::read_u32(&section[place as usize..]) as u64)
 }
 
-/// The form of attributes that name lists by an index.
+/// The form of attributes that refer to lists by an index.
 pub fn index_form(kind: ListKind) -> u64
     ensures { result ≡ (kind_of kind).index_form }
 {
@@ -136,8 +136,8 @@ pub fn index_form(kind: ListKind) -> u64
     }
 }
 
-/// The offset of the list that an attribute names, by its value or by an index, where it can be read and lies in the
-/// section. `lists` is the base of the unit's indexes.
+/// The offset of the list to which an attribute refers, directly or by an index, if it can be read and is in the
+/// section. `lists` is the base of the unit's list offsets.
 pub fn list_offset(kind: ListKind, section: &[u8], lists: Option<u64>, attr: Attr) -> Option<u64>
     ensures { (u : Unit) → lists ≡ base (kind_of kind).base_name u →
         result ≡ spec.list_offset (kind_of kind) section.now u attr }
@@ -155,7 +155,8 @@ pub fn list_offset(kind: ListKind, section: &[u8], lists: Option<u64>, attr: Att
     }
 }
 
-/// What the list at offset `at` says, as a unit reads it; none where it can't be read (`read_list`, which has bounds).
+/// The contents of the list at offset `at`, as a unit reads it; none if it can't be read (`read_list`, which has
+/// limits).
 pub fn list_at<'a>(
     alloc: Global,
     kind: ListKind,
@@ -174,7 +175,7 @@ pub fn list_at<'a>(
     read_list(alloc, kind, bytes, unit.base, &unit.addresses)
 }
 
-/// The place at which a fault of the list at an offset is answered: that of its table, or 0 where it lies in none.
+/// The place to report for a fault in the list at an offset: its table, or 0 if it is in none.
 pub fn table_place(section: &[u8], tables: &[DebugUnit<'_>], at: u64) -> u64
     requires rising { IsNonDecreasingBy (λ w. w.place) tables.now }
     requires walked { tables.now ≡ walked 5 section.now }
@@ -186,8 +187,8 @@ pub fn table_place(section: &[u8], tables: &[DebugUnit<'_>], at: u64) -> u64
     }
 }
 
-// Whether a table has a header, with an address size of 8 and a segment selector size of 0, and as many offsets of
-// four bytes as this says.
+// Whether a table has a header with an address size of 8 and a segment selector size of 0, and the number of offsets,
+// of four bytes each, that the header has.
 fn is_list_table(bytes: &[u8]) -> bool
     ensures { result ≡ faults.is_list_table bytes.now }
 {
@@ -209,7 +210,7 @@ fn is_bad(table: &DebugUnit<'_>) -> bool
     }
 }
 
-/// The lowest place of a table that isn't as the format has it. Versions and lists aren't looked at.
+/// The lowest offset of a malformed table. Versions and lists aren't tested.
 pub fn bad_table(tables: &[DebugUnit<'_>]) -> Option<u64>
     ensures { result ≡ least (map (λ w. w.place) (filter (λ w. not (option_map_or faults.is_list_table w.bytes false))
         tables.now)) }

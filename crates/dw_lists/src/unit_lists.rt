@@ -19,7 +19,7 @@ use table_core::form::DW_FORM_addr;
 #[derive(Clone, Copy)]
 pub struct UnitLists<'a> {
     pub addresses: Addresses<'a>,
-    /// The base of its indexes of lists: the offset at which the offsets of its lists begin, if it has one.
+    /// The base of its list indexes: the offset of its table of offsets, if it has one.
     pub lists: Option<u64>,
     /// The base address of its lists: its low address, or 0.
     pub base: u64,
@@ -68,7 +68,7 @@ fn own_place(entries: &[Entry]) -> u64
     }
 }
 
-/// The base of the indexes of lists of a kind in the unit of some entries, if it has one.
+/// The base of the list indexes of a kind in the unit of some entries, if it has one.
 pub fn lists_base(kind: ListKind, entries: &[Entry]) -> Option<u64>
     ensures { result ≡ units.base (kind_of kind).base_name (plain_unit entries.now) }
 {

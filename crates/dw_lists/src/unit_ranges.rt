@@ -1,4 +1,4 @@
-// The ranges that the entries of a unit have. DWARF 5, section 2.17.
+// The ranges of a unit's entries. DWARF 5, section 2.17.
 ghost use Rattle.std.specs.Prelude.{◌≡◌, ◌+◌, ◌++◌, ◌∷◌, [], List, ℕ, IfOk, OnOk, map, option_map, option_and_then};
 ghost use Rattle.std.specs.List.Sorted.{IsNonDecreasingBy};
 ghost use Rattle.std.specs.Ordering.{nat_cmp};
@@ -32,19 +32,19 @@ use std::alloc::Global;
 use std::collections::BTreeMap;
 use table_core::form::{DW_FORM_addr, DW_FORM_rnglistx, DW_FORM_sec_offset};
 
-/// The lists of a unit that were read, by their offsets: of each its number (that of the group of its ranges, or of a
-/// location list), and none where it can't be read.
+/// The lists of a unit that were read, by their offsets: the number of each (of the group of its ranges, or of a
+/// location list), or none if it can't be read.
 pub type KnownLists = BTreeMap<u64, Option<usize>>;
 
-/// What is known of the list at an offset: nothing, that it can't be read, or its number.
+/// The entry of `known` for the list at an offset: none if the list isn't known; none inside if it can't be read.
 pub fn known_number(known: &KnownLists, at: u64) -> Option<Option<usize>>
     ensures { result ≡ get nat_cmp known.now at }
 {
     known.get(&at).copied()
 }
 
-// Adds a group of the ranges of a list, and answers its number; `NoMemory`, too, where more than `most` ranges would be
-// kept in all.
+// Adds a group of the ranges of a list, and returns its number. Gives `NoMemory` also if more than `most` ranges would
+// be kept in all.
 fn keep_group(groups: &mut Groups, places: &[Place<'_>], most: usize) -> Result<usize, NoMemory>
     ensures number { IfOk result (λ n. n ≡ groups.old.count) }
     ensures count { OnOk result (groups.new.count ≡ groups.old.count + 1) }
@@ -58,7 +58,7 @@ fn keep_group(groups: &mut Groups, places: &[Place<'_>], most: usize) -> Result<
     Ok(group)
 }
 
-// Reads the list at an offset, and adds a group of its ranges; answers the group's number, or none if the list can't be
+// Reads the list at an offset, and adds a group of its ranges. Returns the group's number, or none if the list can't be
 // read.
 fn read_group(
     alloc: Global,
@@ -83,8 +83,8 @@ fn read_group(
     }
 }
 
-// The number of the group of the ranges of the list at an offset, which is read unless it is known; none if it can't be
-// read.
+// The number of the group of the ranges of the list at an offset. The list is read unless it is known. None if it can't
+// be read.
 fn group_at(
     alloc: Global,
     section: ListSection<'_, '_>,
@@ -108,8 +108,8 @@ fn group_at(
     Ok(group)
 }
 
-// The range between the low address and the high address of an entry, if it has both. A high address of another form
-// than DW_FORM_addr is a distance from the low one. DWARF 5, section 2.17.2.
+// The range between the low and the high address of an entry, if it has both. A high address of another form than
+// DW_FORM_addr is a distance from the low address. DWARF 5, section 2.17.2.
 fn bounds(addresses: &Addresses, attrs: &[Attr]) -> Option<Bounds>
     ensures { (u : Unit) (e : units.Entry) → addresses.now.base ≡ units.base DW_AT_addr_base u → e.attrs ≡ attrs.now →
         option_map (λ b. record { low = b.low; high = b.high }) result
@@ -171,16 +171,16 @@ fn has_list(attr: Attr) -> bool
     attr.name == DW_AT_ranges && (attr.form == DW_FORM_sec_offset || attr.form == DW_FORM_rnglistx)
 }
 
-/// What is wrong with the lists that a unit names.
+/// The faults of the lists to which a unit refers.
 #[derive(Clone, Copy)]
 pub struct ListFaults {
-    /// Whether the offset of some list can't be read, or lies past the section.
+    /// Whether the offset of some list can't be read, or is past the section's end.
     pub lacks_offset: bool,
     /// The lowest place of a table with a list that can't be read.
     pub bad: Option<u64>,
 }
 
-// Adds to `others` what is wrong with the list that an attribute names, if it names one.
+// Adds the faults of the list to which an attribute refers, if it does so, to `others`.
 fn note_list(
     alloc: Global,
     section: ListSection<'_, '_>,
@@ -220,7 +220,7 @@ fn note_list(
     }
 }
 
-/// Adds to `others` what is wrong with the range lists that some attributes name.
+/// Adds the faults of the range lists to which some attributes refer to `others`.
 pub fn note_lists(
     alloc: Global,
     section: ListSection<'_, '_>,

@@ -1,4 +1,4 @@
--- A base that is written is that of a table of the section, and its offsets are those of lists in full.
+-- A base that is written is a table's of the section, and its offsets are those of lists with full addresses.
 use Rattle.std.proofs.Common.{◌≡◌, ◌∙◌, ◌+◌, ◌++◌, ◌∷◌, [], ℕ, List, All, refl, sym, ap, subst, arith, length, length-append, map}
 use Rattle.std.specs.Prelude.{Contains, IsTrue}
 use Rattle.std.proofs.lemmas.List.Elements.{All-cons, All-nil}

@@ -1,4 +1,4 @@
--- What is in force of a location list that was written of runs.
+-- The expressions in force of a location list that was written from runs.
 use Rattle.std.proofs.Common.{◌≡◌, ◌∙◌, ◌+◌, ◌<◌, ◌&&◌, ◌++◌, ◌∷◌, [], ℕ, Bool, true, false, List, Option, Some, None, refl, sym, ap, arith}
 use Rattle.std.proofs.Common.{map, filter}
 use Rattle.std.specs.Prelude.{if◌then◌else◌, nat_le, nat_lt, unwrap_or}
@@ -40,7 +40,7 @@ held_over p start len false e (x ∷ xs) =
     else filter (is_bounded_at p) (map located_at (over start len xs)))) e
     ∙ held_over p start len false e xs
 
--- before all runs there is nothing
+-- There is no run before the first one.
 none_before : {A : Type 0} (lo : ℕ) (rs : List (Run A)) (hi p : ℕ) → IsWithin lo rs hi → p < lo → run_at rs p ≡ None
 none_before lo [] hi p w h = refl
 none_before lo (r ∷ rs) hi p w h =

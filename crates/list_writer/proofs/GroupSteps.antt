@@ -1,4 +1,4 @@
--- Units join those that share a table.
+-- A unit joins those that share a table.
 use Rattle.std.proofs.Common.{◌≡◌, ◌∙◌, ◌+◌, ◌<◌, ◌≤◌, ◌≢◌, ◌++◌, ◌∷◌, [], ℕ, zero, suc, Bool, true, false, List, Option, Some, None}
 use Rattle.std.proofs.Common.{BTreeMap, nat_cmp, refl}
 use Rattle.std.proofs.Common.{zero-add, sym, ap, subst, arith, length, take, drop, get_or, ⊎_elim}
@@ -18,7 +18,7 @@ use Rattle.list_writer.proofs.UnitSteps.{Next, next_own, one_group, order_back, 
 
 -- Claims
 
--- what was claimed of some attributes
+-- The claims for some of the attributes.
 pub record AreClaimedSoFar (own : ℕ) (entries : List NamedList) (old new : BTreeMap ℕ ℕ) : Type 0 where
   pub stay : StayUsed old new
   pub claimed : (r : NamedList) (i : ℕ) → Contains entries r → r.index ≡ Some i → get nat_cmp new i ≡ Some own
@@ -85,7 +85,7 @@ module _ (kind : ListKind) (lo bound : ℕ) (front mine behind : List NamedList)
     apart = apart;
   }
 
--- no index is of two units, if each is claimed for one
+-- No index is of two units, if each is claimed for one.
 abbrev pub AreUsed : List NamedList → BTreeMap ℕ ℕ → Type 0
 AreUsed entries used = (r : NamedList) (i : ℕ) → Contains entries r → r.index ≡ Some i → get nat_cmp used i ≡ Some r.own
 
@@ -119,7 +119,7 @@ drop_plus n k xs = grind (arith, common_steps)
 drop_one : {X : Type 0} (n : ℕ) (xs : List X) (d : X) → n < length xs → drop n xs ≡ get_or xs n d ∷ drop (n + 1) xs
 drop_one n xs d h = grind (arith, common_steps)
 
--- some units at the front share a table
+-- Units at the front share a table.
 pub record IsShared (units : List IndexedUnit) (entries : List NamedList) (n taken : ℕ) (used : BTreeMap ℕ ℕ) : Type 0 where
   pub within : taken ≤ length entries
   pub used_are : AreUsed (take taken entries) used
@@ -140,7 +140,7 @@ none_shared units entries used empty = record {
   };
 }
 
--- one unit more
+-- One more unit.
 module _ (units : List IndexedUnit) (entries : List NamedList) (n taken len : ℕ) (old new : BTreeMap ℕ ℕ) (d : IndexedUnit)
     (rest mine : List NamedList) (s : IsShared units entries n taken old) (h : n < length units) (rest_is : rest ≡ drop taken entries)
     (mine_is : mine ≡ take len rest) (fits : len ≤ length rest)
@@ -202,7 +202,7 @@ module _ (units : List IndexedUnit) (entries : List NamedList) (n taken len : �
         (subst (λ (l : List NamedList). IsGroup (front ++ mine) l (take n units ++ x ∷ []) (drop (n + 1) units)) (sym behind_are) more));
   }
 
--- the first unit claims all of its indexes
+-- The first unit claims all of its indexes.
 pub not_first : (units : List IndexedUnit) (entries mine : List NamedList) (n taken own : ℕ) (old new : BTreeMap ℕ ℕ) (free : Bool) →
     IsShared units entries n taken old → AreClaimed own mine old new free → free ≡ false → 0 < n
 not_first units entries mine zero taken own old new free s c is =

@@ -1,4 +1,4 @@
--- Ranges that are written of runs hold just the bytes of these.
+-- Ranges that are written from runs contain just the bytes of these.
 use Rattle.std.proofs.Common.{ℕ, ◌+◌, ◌-◌, ◌^◌, ◌≤◌, ◌≡◌, ◌&&◌, ◌||◌, List, [], ◌∷◌, Option, Some, None, Bool, true, false, refl, arith}
 use Rattle.std.proofs.Common.{map, All, nat_le, nat_lt}
 use Rattle.std.specs.Prelude.{is_some, if◌then◌else◌}

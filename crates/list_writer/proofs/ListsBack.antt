@@ -1,4 +1,4 @@
--- Lists that are written are read back.
+-- Written lists are read back.
 use Rattle.std.proofs.Common.{ℕ, zero, suc, ◌≤◌, ◌≡◌, ◌==◌, List, [], ◌∷◌, ◌++◌, Option, Some, Result, Ok, cond, Bool, false, refl, ◌∙◌, ap}
 use Rattle.std.proofs.Common.{subst, arith, length, append_assoc, length-append, map, option_map}
 use Rattle.std.specs.Prelude.{All}
@@ -15,7 +15,7 @@ use Rattle.dw_lists.specs.ListReading.{item_of}
 use Rattle.dw_lists.specs.Lists.{items_say}
 use Rattle.list_writer.proofs.SpelledEntries.{byte-back, entry-back, entry_kind, entry_parts, entry_rest, item_at}
 
--- one entry more, at any fuel
+-- One more entry, at any fuel.
 opens : (item : ℕ → List ℕ → Read Item) (n kind : ℕ) (left rest : List ℕ) (i : Item) (is : List Item) → (kind == 0) ≡ false →
     item kind left ≡ Ok (i, rest) → items_within item n rest ≡ Ok is → items_within item (suc n) (kind ∷ left) ≡ Ok (i ∷ is)
 unfolding items_within
@@ -34,7 +34,7 @@ some_kind : (kind : ListKind) → (entry_kind kind == 0) ≡ false
 some_kind Ranges = refl
 some_kind Locations = refl
 
--- a list behind the bytes of one entry is shorter
+-- The rest of a list after one entry is shorter.
 shorter : (kind n : ℕ) (xs ys rest : List ℕ) → length ((kind ∷ xs) ++ (ys ++ rest)) ≤ suc n → length (ys ++ rest) ≤ n
 shorter kind n xs ys rest f = let a = length-append xs (ys ++ rest) in omega (arith, a, f)
 

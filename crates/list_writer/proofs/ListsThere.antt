@@ -1,4 +1,4 @@
--- A list that stands in a table of a section is read there, and so is an offset.
+-- A list in a table of a section is read there, and so is an offset.
 use Rattle.std.proofs.Common.{ℕ, ◌+◌, ◌-◌, ◌*◌, ◌^◌, ◌≤◌, ◌<◌, ◌≡◌, List, [], ◌∷◌, ◌++◌, Option, Some, None, Ok, cond, leb, Bool, true}
 use Rattle.std.proofs.Common.{false, refl}
 use Rattle.std.proofs.Common.{◌∙◌, ap, subst, arith, length, take, drop, append_assoc, length-append, map}
@@ -33,7 +33,7 @@ none-below at place (b ∷ bs) lt =
 abbrev pub table_of : ℕ → List ℕ → Walked
 table_of place b = record { place = place; bytes = Some b; is_other = false }
 
--- the table that has a place
+-- The table that contains an offset.
 table-below : (at place : ℕ) (bs : List (List ℕ)) (b : List ℕ) (cs : List (List ℕ)) → place + length (units_bytes bs) ≤ at →
     at < place + length (units_bytes bs) + (length b + 4) →
     table_below at (walked_units place (bs ++ b ∷ cs)) ≡ Some (table_of (place + length (units_bytes bs)) b)
@@ -56,7 +56,7 @@ table-below at place (x ∷ bs) b cs le lt =
     sized : (h y z : List ℕ) → length h ≡ 4 → length (h ++ (y ++ z)) ≡ 4 + (length y + length z)
     sized h y z four = let a = length-append h (y ++ z) in let b = length-append y z in omega (arith, a, b, four)
 
--- bytes in the middle of a section
+-- Bytes in the middle of a section.
 middle : (front h head left back : List ℕ) (at : ℕ) → at ≡ length front + (length h + length head) →
     drop at (front ++ (h ++ ((head ++ left) ++ back))) ≡ left ++ back
 middle front h head left back at e = ap (drop at) (assoc front h head left back) ∙ gone ((front ++ h) ++ head) (left ++ back) at (e ∙ size)
@@ -73,7 +73,7 @@ middle front h head left back at e = ap (drop at) (assoc front h head left back)
 taken : (xs ys : List ℕ) (n : ℕ) → n ≡ length xs → take n (xs ++ ys) ≡ xs
 taken xs ys n e = grind (arith, common_steps)
 
--- some bytes in one of some tables, and what stands behind them
+-- Bytes in one of the tables, and the bytes after them.
 module _ (tables : List (List ℕ)) (at : ℕ) (part : List ℕ) (s : StandsAt tables at part) (units : All (IsUnit 5) tables) where
   abbrev section : List ℕ
   section = units_bytes tables
@@ -131,7 +131,7 @@ module _ (tables : List (List ℕ)) (at : ℕ) (part : List ℕ) (s : StandsAt t
         ∙ ap (take (length front + 4 + length (s.head ++ left) - at)) drop_at
         ∙ taken left (units_bytes s.after) (length front + 4 + length (s.head ++ left) - at) (let h = s.at_is in omega (arith, h, size))
 
--- what a unit reads where a list stands
+-- The reading of a unit at the offset of a list.
 item_is : (k : ListKind) → (kind_of k).item ≡ item_of k
 item_is kind.Ranges = refl
 item_is kind.Locations = refl
@@ -161,7 +161,7 @@ pub list_inside : (k : ListKind) (tables : List (List ℕ)) (at : ℕ) (bs : Lis
 list_inside k tables at bs s units = let a = part_inside tables at (list_bytes k bs) s units in let b = list_some k bs in
     omega (arith, a, b)
 
--- the base of an index whose offset stands in a table
+-- The base of an index whose offset is in a table.
 pub base_inside : (tables : List (List ℕ)) (base i o : ℕ) → StandsAt tables (base + 4 * i) (little_bytes 4 o) → All (IsUnit 5) tables →
     base < length (units_bytes tables)
 base_inside tables base i o s units =

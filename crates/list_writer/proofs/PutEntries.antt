@@ -1,4 +1,4 @@
--- Attributes whose lists are written get names, one after another.
+-- Attributes whose lists are written get offsets, one after another.
 use Rattle.std.proofs.Common.{◌≡◌, ◌≢◌, ◌∙◌, ◌+◌, ◌-◌, ◌^◌, ◌<◌, ◌≤◌, ◌==◌, ◌&&◌, ◌||◌, ◌*◌, ◌⊎◌, inl, inr, ◌++◌, ◌∷◌, [], ℕ, zero, suc}
 use Rattle.std.proofs.Common.{Bool}
 use Rattle.std.proofs.Common.{true, false, List, Option, Some, None, BTreeMap, nat_cmp}
@@ -29,7 +29,7 @@ use Rattle.list_writer.specs.WrittenTables.{base_at, IsOffsetGiven, IsEntryPut, 
 use Rattle.list_writer.specs.WrittenTables.{UnitsRise, bases_at, units_end}
 use Rattle.list_writer.proofs.WrittenLists.{longer_begins}
 
--- a member of a list with one more
+-- An element of a list with one more.
 pub contains_more : {X : Type 0} (xs : List X) (x y : X) → Contains (xs ++ x ∷ []) y → (Contains xs y) ⊎ (x ≡ y)
 contains_more [] x y c = ⊎_elim (λ (e : x ≡ y). inr e) (λ (there : Contains [] y). absurd (Contains-nil y there))
     (Contains-cons_cases x [] y c)
@@ -61,7 +61,7 @@ contains_split (z ∷ xs) ys y c = ⊎_elim
     (contains_split xs ys y there))
     (Contains-cons_cases z (xs ++ ys) y c)
 
--- Members of lists that were made item by item
+-- Elements of lists that are made one by one
 
 pub flat_has : {X Y : Type 0} (f : X → List Y) (xs : List X) (x : X) (y : Y) → Contains xs x → Contains (f x) y → Contains (flat_map f xs) y
 flat_has f [] x y c d = absurd (Contains-nil x c)
@@ -245,7 +245,7 @@ module _ (lists : List (Vec ℕ)) (start : ℕ) (r : NamedList) (ps : List Named
   abbrev all : List NamedList
   all = ps ++ r ∷ []
 
-  -- one before
+  -- An attribute before this one.
   still_put : (index : Option ℕ) → r.index ≡ index → IsOffsetGiven start o r names more indexes now index → Keeps names more →
       (k : NamedList) (by : Option ℕ) →
       IsPut lists start old indexes names ps k by → IsPut lists start new now more all k by
@@ -283,7 +283,7 @@ module _ (lists : List (Vec ℕ)) (start : ℕ) (r : NamedList) (ps : List Named
       ))
       (cases_eq j i)
 
-  -- the one itself
+  -- This attribute.
   itself_put : (kind : ListKind) (lo own : ℕ) (index : Option ℕ) → r.index ≡ index → AreNames kind lo own names → lo ≤ key r.place r.attr →
       IsNaming kind r.attr →
       IsOffsetGiven start o r names more indexes now index →
@@ -379,7 +379,7 @@ put_taken kind lists start lo own rs i d old new known indexes now was names mor
     (put_by lists start (get_or rs i d) (take i rs) old new known indexes now names more e.offset e.listed kind lo own was p k.0 k.1
     (get_or rs i d).index refl e.given)
 
--- Nothing is put
+-- Nothing is added
 
 pub none_there : (m : BTreeMap ℕ ℕ) (n : ℕ) → IsEmpty m → get nat_cmp m n ≡ None
 none_there m n empty = ap (λ (es : List (ℕ × ℕ)). lookup (is_at (nat_cmp n)) es) empty

@@ -1,4 +1,4 @@
--- What is written is read back: numbers and entries.
+-- Written numbers and entries are read back.
 use Rattle.std.proofs.Common.{ℕ, ◌^◌, ◌<◌, ◌≡◌, List, [], ◌∷◌, ◌++◌, Ok, Result, ltb, false, refl, sym, ◌∙◌, ap, arith, length, take, drop}
 use Rattle.std.proofs.Common.{append_assoc, length-append}
 use Rattle.std.proofs.lemmas.Bool.Decides.{nat_tests}
@@ -52,7 +52,7 @@ bytes-back b rest =
     let t : ltb (length (b ++ rest)) (length b) ≡ false = grind (arith, nat_tests, length-append {A = ℕ}) in
     rw t (read_pair _ b _ rest (take_all b rest (length b) refl) (drop_all b rest (length b) refl))
 
--- a stretch, behind the kind of its entry
+-- Addresses, after the kind of their entry.
 stretch-back : (start len : ℕ) (rest : List ℕ) → start < 2 ^ 64 → len < 2 ^ 64 →
     onward_at false (stretch_bytes start len ++ rest) ≡ Ok (Onward (Here start) len, rest)
 stretch-back start len rest s l =
@@ -62,7 +62,7 @@ stretch-back start len rest s l =
     (number-back 8 start (uleb len ++ rest) s)
     ∙ uleb-back len rest _ l
 
--- what an entry is, and what follows its kind
+-- An entry, and the bytes after its kind.
 abbrev pub item_at : Bounded → Item
 item_at b = record { bound = Onward (Here b.start) b.len; expression = b.expression }
 

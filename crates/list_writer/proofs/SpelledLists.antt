@@ -1,4 +1,4 @@
--- Lists are spelled item by item.
+-- Lists are spelled one element after another.
 use Rattle.std.proofs.Common.{◌≡◌, ◌∙◌, ◌+◌, ◌<◌, ◌++◌, ◌∷◌, [], ℕ, List, refl, sym, ap, length, take, get_or, append_assoc, append-nil}
 use Rattle.std.specs.Prelude.{flat_map}
 use Rattle.std.proofs.lemmas.List.{take_more}
@@ -6,7 +6,7 @@ use Rattle.std.proofs.lemmas.List.Concat.{flat_map-append}
 use Rattle.dw_lists.specs.declared.list_kind.ListKind.{ListKind}
 use Rattle.list_writer.specs.ListBytes.{Bounded, entry_bytes, list_bytes}
 
--- the bytes of one item more
+-- The bytes of one more element.
 pub spelled_more : {X : Type 0} (f : X → List ℕ) (xs : List X) (i : ℕ) (d : X) (before old new : List ℕ) → i < length xs →
     old ≡ before ++ flat_map f (take i xs) → new ≡ old ++ f (get_or xs i d) → new ≡ before ++ flat_map f (take (i + 1) xs)
 spelled_more f xs i d before old new h e made =
@@ -15,7 +15,7 @@ spelled_more f xs i d before old new h e made =
     (ap (λ (l : List ℕ). flat_map f (take i xs) ++ l) (sym (append-nil (f (get_or xs i d))))
     ∙ sym (flat_map-append f (take i xs) (get_or xs i d ∷ [])) ∙ sym (ap (flat_map f) (take_more xs i d h)))
 
--- and the end of the list
+-- With the end of the list.
 pub ended : (kind : ListKind) (bs : List Bounded) → flat_map (entry_bytes kind) bs ++ 0 ∷ [] ≡ list_bytes kind bs
 unfolding list_bytes
 ended kind [] = refl

@@ -39,7 +39,7 @@ pub order_back : (kind : ListKind) (lo : ℕ) (xs ys : List NamedList) → AreIn
 order_back kind lo [] ys up = up
 order_back kind lo (x ∷ xs) ys up = order_back kind (key x.place x.attr + 1) xs ys up.2
 
--- the next entry is of another unit
+-- The next entry is of another unit.
 abbrev pub Next : ℕ → List NamedList → Type 0
 Next own [] = ⊤
 Next own (r ∷ rs) = r.own ≢ own
@@ -61,7 +61,7 @@ owns_least lo (x ∷ rs) r rise c = ⊎_elim
     (λ (there : Contains rs r). let h = owns_least x.own rs r rise.1 there in let k = rise.0 in omega (arith, h, k))
     (Contains-cons_cases x rs r c)
 
--- behind the attributes of a unit all are of later ones
+-- After the attributes of a unit all are of later units.
 owns_above : (lo own : ℕ) (behind : List NamedList) (r : NamedList) → OwnsRise lo behind → Next own behind →
     ((q : NamedList) → Contains behind q → own ≤ q.own) → Contains behind r → own + 1 ≤ r.own
 owns_above lo own [] r rise next low c = absurd (Contains-nil r c)
@@ -100,7 +100,7 @@ pub units_back : (lo : ℕ) (xs ys : List IndexedUnit) → UnitsRise lo (xs ++ y
 units_back lo [] ys rise = rise
 units_back lo (x ∷ xs) ys rise = units_back (x.own + 1) xs ys rise.1
 
--- one unit
+-- One unit.
 module _ (kind : ListKind) (lo bound : ℕ) (entries behind : List NamedList) (x : IndexedUnit) (later : List IndexedUnit)
     (left : AreLeft kind lo bound (entries ++ behind) (x ∷ later))
     (own : (r : NamedList) → Contains entries r → r.own ≡ x.own) (next : Next x.own behind) where
@@ -131,7 +131,7 @@ module _ (kind : ListKind) (lo bound : ℕ) (entries behind : List NamedList) (x
   pub one_group : IsGroup entries behind (x ∷ []) later
   one_group = record { owned = of_first; later_owned = of_later; apart = λ r q i c d e f. own r c ∙ sym (own q d) }
 
--- Of a unit's length
+-- The attributes of a unit
 
 pub taken_own : (rest : List NamedList) (n own : ℕ) → ((k : ℕ) (d : NamedList) → k < n → (get_or rest k d).own ≡ own) → n ≤ length rest →
     (r : NamedList) → Contains (take n rest) r → r.own ≡ own
@@ -149,7 +149,7 @@ next_own [] (suc n) own next = tt
 next_own (x ∷ rest) zero own next = next x (omega arith)
 next_own (x ∷ rest) (suc n) own next = next_own rest n own (λ d h. next d (omega arith))
 
--- What stands in tables stands in more of them.
+-- Bytes in tables are still there in more tables.
 
 tables_assoc : (x y z : List (List ℕ)) → ((x ++ y) ++ z) ≡ x ++ (y ++ z)
 tables_assoc x y z = append_assoc x y z
@@ -204,7 +204,7 @@ table_still tables ys base count t = record {
   low = t.low;
 }
 
--- a base with more attributes
+-- A base, with more attributes.
 base_of : (kind : ListKind) (lists : List (Vec ℕ)) (tables : List (List ℕ)) (names : List ListAt) (unit all : List NamedList)
     (x : IndexedUnit) → ((r : NamedList) → Contains unit r → Contains all r) → HasBase kind lists tables names unit x →
     HasBase kind lists tables names all x
@@ -223,7 +223,7 @@ base_of kind lists tables names unit all x within b = record {
     by i at (inl p) = inl (p.0, within p.0 p.1, p.2, p.3, p.4)
     by i at (inr p) = inr p
 
--- and with more tables
+-- A base, with more tables.
 base_still : (kind : ListKind) (lists : List (Vec ℕ)) (tables ys : List (List ℕ)) (names more : List ListAt) (all : List NamedList)
     (x : IndexedUnit) → Keeps names more → HasBase kind lists tables names all x → HasBase kind lists (tables ++ ys) more all x
 base_still kind lists tables ys names more all x keeps b = record {
@@ -245,7 +245,7 @@ base_still kind lists tables ys names more all x keeps b = record {
     by i at (inl p) = inl (p.0, p.1, p.2, keeps p.0.own (base_name kind) b.base p.3, stands_still tables ys at _ p.4)
     by i at (inr p) = inr (stands_still tables ys at _ p)
 
--- A group more.
+-- One more group.
 module _ (kind : ListKind) (lists : List (Vec ℕ)) (done unit behind : List NamedList) (before group later : List IndexedUnit)
     (bytes new : List ℕ) (names more : List ListAt) (w : AreWritten kind lists done before bytes names)
     (left : AreLeft kind (keys_end 0 done) (units_end 0 before) (unit ++ behind) (group ++ later)) where
@@ -320,7 +320,7 @@ split_is xs zero = refl
 split_is [] (suc n) = refl
 split_is (x ∷ xs) (suc n) = ap (λ l. x ∷ l) (split_is xs n)
 
--- What was written of units and attributes, and what is left.
+-- The units and attributes written so far, and those left.
 pub record IsAt (kind : ListKind) (lists : List (Vec ℕ)) (all : List NamedList) (units : List IndexedUnit) (rest : List NamedList)
     (left : List IndexedUnit) (number : ℕ) (bytes : List ℕ) (names : List ListAt) : Type 0 where
   pub done : List NamedList
@@ -331,7 +331,7 @@ pub record IsAt (kind : ListKind) (lists : List (Vec ℕ)) (all : List NamedList
   pub written : AreWritten kind lists done before bytes names
   pub are_left : AreLeft kind (keys_end 0 done) (units_end 0 before) rest left
 
--- nothing is left
+-- Nothing is left.
 pub all_written : (kind : ListKind) (lists : List (Vec ℕ)) (all : List NamedList) (units : List IndexedUnit) (rest : List NamedList)
     (left : List IndexedUnit) (number : ℕ) (bytes : List ℕ) (names : List ListAt) → IsAt kind lists all units rest left number bytes names →
     length left ≡ 0 → AreWritten kind lists all units bytes names
@@ -342,7 +342,7 @@ all_written kind lists all units [] [] number bytes names at e =
     (subst (λ (rs : List NamedList). AreWritten kind lists rs at.before bytes names) (sym (at.entries_are ∙ append-nil at.done)) at.written)
 all_written kind lists all units rest (x ∷ left) number bytes names at e = absurd (omega (arith, e))
 
--- Units at the front are written, which share a table.
+-- The units at the front are written; they share a table.
 pub next_group : (kind : ListKind) (lists : List (Vec ℕ)) (all : List NamedList) (units : List IndexedUnit) (rest : List NamedList)
     (left : List IndexedUnit) (number : ℕ) (bytes new : List ℕ) (names more : List ListAt) (unit behind : List NamedList)
     (group later : List IndexedUnit) (m n : ℕ) → IsAt kind lists all units rest left number bytes names →
@@ -382,14 +382,14 @@ next_group kind lists all units rest left number bytes new names more unit behin
     units_dropped : (xs : List IndexedUnit) (n : ℕ) → length (drop n xs) ≡ length xs - n
     units_dropped xs n = grind (arith, common_steps)
 
--- nothing is written yet
+-- Nothing is written yet.
 pub at_start : (kind : ListKind) (lists : List (Vec ℕ)) (all : List NamedList) (units : List IndexedUnit) (bytes : List ℕ)
     (names : List ListAt) → AreLeft kind 0 0 all units → AreWritten kind lists [] [] bytes names →
     IsAt kind lists all units all units 0 bytes names
 at_start kind lists all units bytes names left w =
     record { done = []; before = []; entries_are = refl; units_are = refl; fits = omega arith; written = w; are_left = left }
 
--- Which units need a table
+-- The units that need a table
 
 pub own_more : (o : ℕ) (named : List NamedList) (i : ℕ) (d : NamedList) (old new : Bool) → i < length named →
     new ≡ cond (is_at (nat_cmp (get_or named i d).own) o) true old → old ≡ list_any (λ (r : NamedList). r.own == o) (take i named) →
@@ -429,7 +429,7 @@ units_filtered p lo (x ∷ xs) rise = by (p x) (units_filtered p (x.own + 1) xs 
     by true more = (rise.0, more)
     by false more = let h = rise.0 in units_less lo (x.own + 1) (filter p xs) (omega (arith, h)) more
 
--- an attribute's unit needs one
+-- An attribute's unit needs one.
 pub needs_one : (named : List NamedList) (x : IndexedUnit) (r : NamedList) → Contains named r → x.own ≡ r.own → needs_table named x ≡ true
 needs_one named x r c own = or_right (is_some x.greatest) (any named c)
   where

@@ -1,4 +1,4 @@
--- A table that is written holds the lists of its unit.
+-- A written table has the lists of its unit.
 use Rattle.std.proofs.Common.{◌≡◌, ◌∙◌, ◌+◌, ◌-◌, ◌*◌, ◌^◌, ◌<◌, ◌≤◌, ◌==◌, ◌&&◌, ◌++◌, ◌∷◌, [], ℕ, zero, suc, Bool, true, false, List}
 use Rattle.std.proofs.Common.{Option, Some, None, BTreeMap, nat_cmp, inl, inr}
 use Rattle.std.specs.BTreeMap.{get}
@@ -24,7 +24,7 @@ use Rattle.list_writer.specs.ListBytes.{list_bytes}
 use Rattle.list_writer.proofs.PutEntries.{bases_put}
 use Rattle.list_writer.proofs.SpelledEntries.{length-little}
 
--- the list without entries
+-- The list without entries.
 pub no_entries : (kind : ListKind) → list_bytes kind [] ≡ DW_RLE_end_of_list ∷ []
 unfolding list_bytes
 no_entries kind = refl
@@ -168,7 +168,7 @@ pub one_unit_more : (b : List ℕ) (cs : List (List ℕ)) → units_bytes (b ∷
 unfolding units_bytes
 one_unit_more b cs = refl
 
--- Where attributes find their lists
+-- How attributes find their lists
 
 module _ (lists : List (Vec ℕ)) (tables : List (List ℕ)) (count base : ℕ) (m : BTreeMap ℕ ℕ) (body : List ℕ)
     (low : (i : ℕ) → i < count → offset_of (4 * count) m i < 2 ^ 32) (based : base ≡ length (units_bytes tables) + 12) where
@@ -257,7 +257,7 @@ module _ (lists : List (Vec ℕ)) (tables : List (List ℕ)) (count base : ℕ) 
           subst (λ (n : ℕ). StandsAt with_table n (bytes_in lists p.1.list)) at (list_stands p.0 (bytes_in lists p.1.list) p.5),
         )
 
-    -- an index that no attribute uses
+    -- An index that no attribute uses.
     module _ (used : (i o : ℕ) → get nat_cmp m i ≡ Some o →
         (r : NamedList) × Contains entries r × (r.index ≡ Some i) × Begins body o (bytes_in lists r.list))
         (first : IsLonger (first_list count) body) where
@@ -300,7 +300,7 @@ module _ (lists : List (Vec ℕ)) (tables : List (List ℕ)) (count base : ℕ) 
         };
       }
 
--- A table of some units is written, and their bases named.
+-- A table of some units is written, and their bases are added.
 module _ (kind : ListKind) (lists : List (Vec ℕ)) (lo bound count base : ℕ) (entries : List NamedList) (units : List IndexedUnit)
     (tables : List (List ℕ)) (old new : List ℕ) (body : List ℕ) (m : BTreeMap ℕ ℕ) (was names more : List ListAt)
     (before : old ≡ units_bytes tables) (based : base ≡ length old + 12) (small : base < 2 ^ 32) (fits : 4 * count < 2 ^ 32)
@@ -331,7 +331,7 @@ module _ (kind : ListKind) (lists : List (Vec ℕ)) (lo bound count base : ℕ) 
             b.named put.used first fits;
       }
 
--- a table's bytes, one part behind another
+-- A table's bytes, one part after another.
 pub joined_table : (count : ℕ) (m : BTreeMap ℕ ℕ) (body old a b d new : List ℕ) (len : ℕ) → len ≡ 8 + 4 * count + length body →
     a ≡ old ++ little_bytes 4 len →
     b ≡ a ++ list_header count → d ≡ b ++ list_offsets (4 * count) m count → new ≡ d ++ body →

@@ -57,7 +57,7 @@ module _ (lists : List (Vec ℕ)) (old new : List ℕ) (known more : BTreeMap �
           (listed g o (sym (inserted g ∙ ap (λ (b : Bool). cond b (Some (length old)) (get nat_cmp known g)) (at_key number g ne)) ∙ e)))
           (cases_eq number g)
 
--- the bytes of a list, of lists that were spelled one by one
+-- The bytes of a list, from lists that were spelled one by one.
 pub bytes_at : {X : Type 0} (f : X → List ℕ) (bs : List (Vec ℕ)) (xs : List X) (n : ℕ) → map (λ (b : Vec ℕ). b.items) bs ≡ map f xs →
     bytes_in bs n ≡ option_map_or f (slice_get xs n) []
 bytes_at f [] [] n e = refl

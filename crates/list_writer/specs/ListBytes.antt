@@ -1,5 +1,5 @@
--- Lists as they are written anew: each entry has its addresses in full, so no base is needed. DWARF 5, sections
--- 7.7.3, 7.25, 7.28 and 7.29.
+-- Lists as they are written: each entry has full addresses, so no base address is needed. DWARF 5, sections 7.7.3,
+-- 7.25, 7.28 and 7.29.
 use Rattle.std.specs.Prelude.{◌+◌, ◌≡◌, ◌<◌, ◌^◌, ℕ, List, [], ◌∷◌, ◌++◌, length, Some}
 use Rattle.byteorder.specs.Endian.{little_bytes}
 use Rattle.rb_bytes.specs.Leb.{uleb}
@@ -9,7 +9,7 @@ use Rattle.dw_lists.specs.declared.list_entry.TheConstants.{DW_RLE_end_of_list, 
 use Rattle.dw_lists.specs.declared.list_entry.TheConstants.{DW_LLE_start_length}
 use Rattle.cover_lists.specs.Located.{Located}
 
--- an expression that is in force over a stretch of addresses; ranges have an empty one
+-- An expression that is in force over `len` addresses from `start` on. For ranges it is empty.
 pub record Bounded : Type 0 where
   pub start : ℕ
   pub len : ℕ
@@ -28,11 +28,11 @@ unfoldable pub list_bytes : ListKind → List Bounded → List ℕ
 list_bytes kind [] = DW_RLE_end_of_list ∷ []
 list_bytes kind (b ∷ bs) = entry_bytes kind b ++ list_bytes kind bs
 
--- what such an entry says
+-- The contents of such an entry.
 abbrev pub located_at : Bounded → Located
 located_at b = record { range = Some (record { low = b.start; high = b.start + b.len }); expression = b.expression }
 
--- Numbers are of 64 bits, and ranges have no expression.
+-- Numbers have 64 bits, and ranges no expression.
 abbrev pub HasExpression : ListKind → List ℕ → Type 0
 HasExpression Ranges x = x ≡ []
 HasExpression Locations x = length x < 2 ^ 64

@@ -1,4 +1,4 @@
--- Range lists that are written anew: those of groups, and the attributes that name them. DWARF 5, section 7.28.
+-- Range lists that are written for groups, and the attributes that refer to them. DWARF 5, section 7.28.
 use Rattle.std.specs.Prelude.{ℕ, Bool, List, [], map}
 use Rattle.std.specs.Global.{Vec}
 use Rattle.answer_runs.specs.declared.run.Run.{Run}
@@ -14,10 +14,10 @@ bounded r = record { start = r.start; len = r.len; expression = [] }
 abbrev pub run_bytes : Run Bool → List ℕ
 run_bytes r = entry_bytes Ranges (bounded r)
 
--- the list of a group's runs
+-- The list of a group's runs.
 abbrev pub group_bytes : Vec (Run Bool) → List ℕ
 group_bytes runs = list_bytes Ranges (map bounded runs.items)
 
--- the attribute that names the list of an entry's ranges
+-- The attribute that refers to the list of an entry's ranges.
 abbrev pub named_of : RangedEntry → NamedList
 named_of r = record { place = r.place; attr = DW_AT_ranges; own = r.own; index = r.index; list = r.group }

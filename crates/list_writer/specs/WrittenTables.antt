@@ -1,4 +1,4 @@
--- Tables of lists that are written anew, and where the attributes of units' entries find their lists in them. DWARF 5,
+-- Tables of lists that are written, and how the attributes of units' entries find their lists in them. DWARF 5,
 -- sections 7.28 and 7.29.
 use Rattle.std.specs.Prelude.{◌≡◌, ◌<◌, ◌≤◌, ◌+◌, ◌-◌, ◌*◌, ◌^◌, ℕ, zero, suc, Bool, true, IsTrue, List, [], ◌∷◌, ◌++◌}
 use Rattle.std.specs.Prelude.{All, Contains, length, unwrap_or, slice_get, Option, Some, None, if◌then◌else◌}
@@ -25,15 +25,15 @@ abbrev pub bytes_of : Option (Vec ℕ) → List ℕ
 bytes_of None = []
 bytes_of (Some v) = v.items
 
--- the bytes of the list of a number
+-- The bytes of the list with number `n`.
 abbrev pub bytes_in : List (Vec ℕ) → ℕ → List ℕ
 bytes_in lists n = bytes_of (slice_get lists n)
 
--- the attribute that holds the base of indexes
+-- The attribute with the base of indexes.
 abbrev pub base_name : ListKind → ℕ
 base_name kind = (kind_of kind).base_name
 
--- the attributes that get offsets
+-- The attributes that get offsets.
 abbrev pub is_of : ListKind → ℕ → Bool
 is_of Ranges = is_of_ranges
 is_of Locations = is_of_locations
@@ -41,39 +41,39 @@ is_of Locations = is_of_locations
 abbrev pub IsNaming : ListKind → ℕ → Type 0
 IsNaming kind attr = (kind_of kind).names_list attr ≡ true
 
--- Attributes in the order of entries, and in that of their numbers, which are below 128.
+-- A key for the order of attributes: first by entry, then by the attribute's number, which is below 128.
 abbrev pub key : ℕ → ℕ → ℕ
 key place attr = 128 * place + attr
 
--- Attributes that name lists, each once, in order.
+-- Attributes that refer to lists, in order, none twice.
 abbrev pub AreInOrder : ListKind → ℕ → List NamedList → Type 0
 AreInOrder kind lo [] = Unit {0}
 AreInOrder kind lo (r ∷ rs) = (lo ≤ key r.place r.attr) × IsNaming kind r.attr
     × AreInOrder kind (key r.place r.attr + 1) rs
 
--- some bytes begin at an offset of others
+-- The bytes `part` are in `bytes` at an offset.
 pub record Begins (bytes : List ℕ) (offset : ℕ) (part : List ℕ) : Type 0 where
   pub before : List ℕ
   pub more : List ℕ
   pub is : bytes ≡ before ++ (part ++ more)
   pub at : offset ≡ length before
 
--- where the lists of numbers begin that stand in the body of a table
+-- `known` has the offsets of lists in the body of a table.
 abbrev pub AreListed : List (Vec ℕ) → List ℕ → BTreeMap ℕ ℕ → Type 0
 AreListed lists body known = (n o : ℕ) → get nat_cmp known n ≡ Some o → Begins body o (bytes_in lists n)
 
--- bytes that were appended
+-- Bytes were appended.
 pub record IsLonger (old new : List ℕ) : Type 0 where
   pub more : List ℕ
   pub is : new ≡ old ++ more
 
--- the list of a number stands in a body, which had it or got it
+-- The list with number `n` is in the body, old or new.
 pub record IsListed (lists : List (Vec ℕ)) (n offset : ℕ) (old new : List ℕ) (known : BTreeMap ℕ ℕ) : Type 0 where
   pub longer : IsLonger old new
   pub listed : AreListed lists new known
   pub begins : Begins new offset (bytes_in lists n)
 
--- Lists of attributes below a key, and bases of units below a place, each once, below 2 ^ 32.
+-- Offsets for attributes below a key, and bases for units below an offset, one for each, below 2^32.
 pub record AreNames (kind : ListKind) (lo own : ℕ) (names : List ListAt) : Type 0 where
   pub attrs : All (λ l. IsTrue (is_of kind l.attr)) names
   pub once : (l : ListAt) → Contains names l → new_list_offset names l.entry l.attr ≡ Some l.offset
@@ -81,7 +81,7 @@ pub record AreNames (kind : ListKind) (lo own : ℕ) (names : List ListAt) : Typ
   pub lists : (e attr : ℕ) → IsNaming kind attr → lo ≤ key e attr → new_list_offset names e attr ≡ None
   pub bases : (e : ℕ) → own ≤ e → new_list_offset names e (base_name kind) ≡ None
 
--- No name is lost.
+-- No offset is lost.
 abbrev pub Keeps : List ListAt → List ListAt → Type 0
 Keeps old new = (e attr o : ℕ) → new_list_offset old e attr ≡ Some o → new_list_offset new e attr ≡ Some o
 
@@ -91,7 +91,7 @@ name_at r offset = record { entry = r.place; attr = r.attr; offset = offset }
 abbrev pub base_at : ListKind → ℕ → ℕ → ListAt
 base_at kind own offset = record { entry = own; attr = base_name kind; offset = offset }
 
--- An attribute got the offset of its list in a body that begins at a place: by a name, or by its index.
+-- An attribute got the offset of its list in a body that begins at `start`: an offset of its own, or one for its index.
 abbrev pub IsOffsetGiven : ℕ → ℕ → NamedList → List ListAt → List ListAt → BTreeMap ℕ ℕ → BTreeMap ℕ ℕ → Option ℕ →
     Type 0
 IsOffsetGiven start o r names more indexes now None =
@@ -105,8 +105,8 @@ pub record IsEntryPut (lists : List (Vec ℕ)) (start : ℕ) (r : NamedList) (ol
   pub listed : IsListed lists r.list offset old new known
   pub given : IsOffsetGiven start offset r names more indexes now r.index
 
--- One of some attributes whose lists stand in a body that begins at a place: its list is named by its offset, or its
--- index has that of an attribute with the same index.
+-- An attribute whose list is in a body that begins at `start`: the attribute has the list's offset, or its index has
+-- the offset of the list of an attribute with the same index.
 abbrev pub IsPut : List (Vec ℕ) → ℕ → List ℕ → BTreeMap ℕ ℕ → List ListAt → List NamedList → NamedList →
     Option ℕ → Type 0
 IsPut lists start body indexes names all r None =
@@ -115,7 +115,7 @@ IsPut lists start body indexes names all r (Some i) =
     (o : ℕ) × (like : NamedList) × (get nat_cmp indexes i ≡ Some o) × (like.index ≡ Some i) × Contains all like
     × Begins body o (bytes_in lists like.list)
 
--- the least key behind those of some attributes
+-- The least key after those of some attributes.
 abbrev pub keys_end : ℕ → List NamedList → ℕ
 keys_end lo [] = lo
 keys_end lo (r ∷ rs) = keys_end (key r.place r.attr + 1) rs
@@ -124,25 +124,25 @@ pub record ArePut (kind : ListKind) (lists : List (Vec ℕ)) (start lo own : ℕ
     (old names : List ListAt) (entries : List NamedList) : Type 0 where
   pub names_are : AreNames kind (keys_end lo entries) own names
   pub keeps : Keeps old names
-  -- No base is named.
+  -- No base is added.
   pub bases : (e : ℕ) → new_list_offset names e (base_name kind) ≡ new_list_offset old e (base_name kind)
   pub each : (r : NamedList) → Contains entries r → IsPut lists start body indexes names entries r r.index
-  -- An index that has an offset is one of them.
+  -- An index that has an offset is used by one of them.
   pub used : (i o : ℕ) → get nat_cmp indexes i ≡ Some o →
       (r : NamedList) × Contains entries r × (r.index ≡ Some i) × Begins body o (bytes_in lists r.list)
 
 -- Tables
 
--- version, size of addresses, and how many offsets there are
+-- The version, the size of addresses, and the number of offsets.
 abbrev pub list_header : ℕ → List ℕ
 list_header count = little_bytes 2 5 ++ 8 ∷ 0 ∷ little_bytes 4 count
 
--- Where a table has offsets, a list without entries is its first.
+-- If a table has offsets, its first list has no entries.
 abbrev pub first_list : ℕ → List ℕ
 first_list zero = []
 first_list (suc n) = DW_RLE_end_of_list ∷ []
 
--- Offsets count from the first of them, and lists begin behind them; an index that isn't used has the first list.
+-- Offsets count from the first of them, and lists follow them. An index that isn't used has the first list.
 abbrev pub offset_of : ℕ → BTreeMap ℕ ℕ → ℕ → ℕ
 offset_of size indexes i = size + unwrap_or (get nat_cmp indexes i) 0
 
@@ -153,13 +153,13 @@ list_offsets size indexes (suc n) = list_offsets size indexes n ++ little_bytes 
 abbrev pub list_table : ℕ → BTreeMap ℕ ℕ → List ℕ → List ℕ
 list_table count indexes body = list_header count ++ (list_offsets (4 * count) indexes count ++ body)
 
--- a table was appended behind its length
+-- A table was appended, after its length.
 pub record IsTablePut (count : ℕ) (indexes : BTreeMap ℕ ℕ) (body old new : List ℕ) : Type 0 where
   pub bytes : new ≡ old ++ (little_bytes 4 (8 + 4 * count + length body) ++ list_table count indexes body)
   pub small : 8 + 4 * count + length body < 2 ^ 32 - 1
   pub low : (i : ℕ) → i < count → offset_of (4 * count) indexes i < 2 ^ 32
 
--- bytes stand in one of some tables, at an offset of their section
+-- The bytes `part` are in one of the tables, at offset `at` of the section.
 pub record StandsAt (tables : List (List ℕ)) (at : ℕ) (part : List ℕ) : Type 0 where
   pub before : List (List ℕ)
   pub after : List (List ℕ)
@@ -168,8 +168,8 @@ pub record StandsAt (tables : List (List ℕ)) (at : ℕ) (part : List ℕ) : Ty
   pub are : tables ≡ before ++ (head ++ (part ++ more)) ∷ after
   pub at_is : at ≡ length (units_bytes before) + 4 + length head
 
--- An attribute's list is named by its offset, or by its index and the base of its unit, where that of an attribute
--- with the same index stands.
+-- An attribute finds its list by the list's offset; or by its index and the base of its unit, at which the list of an
+-- attribute with the same index is found.
 abbrev pub IsNamed : ListKind → List (Vec ℕ) → List (List ℕ) → List ListAt → List NamedList → NamedList → Option ℕ →
     Type 0
 IsNamed kind lists tables names all r None =
@@ -181,7 +181,7 @@ IsNamed kind lists tables names all r (Some i) =
 
 -- Bases
 
--- A table stands whose offsets begin at a base.
+-- There is a table whose offsets begin at a base.
 pub record IsTableAt (tables : List (List ℕ)) (base count : ℕ) : Type 0 where
   pub before : List (List ℕ)
   pub after : List (List ℕ)
@@ -191,7 +191,7 @@ pub record IsTableAt (tables : List (List ℕ)) (base count : ℕ) : Type 0 wher
   pub at : base ≡ length (units_bytes before) + 12
   pub low : 4 * count < 2 ^ 32
 
--- a list that an index of a base names: that of an attribute which uses it in a unit with the base, or the empty one
+-- The list of an index at a base: that of an attribute with the index in a unit with the base, or the empty list.
 abbrev pub IsListOf : ListKind → List (Vec ℕ) → List (List ℕ) → List ListAt → List NamedList → (base i at : ℕ) → Type 0
 IsListOf kind lists tables names entries base i at =
     ((r : NamedList) × Contains entries r × (r.index ≡ Some i)
@@ -205,7 +205,7 @@ pub record HasSlot (kind : ListKind) (lists : List (Vec ℕ)) (tables : List (Li
   pub low : offset < 2 ^ 32
   pub list : IsListOf kind lists tables names entries base i (base + offset)
 
--- A unit's base is named, at which a table has an offset for each index up to the unit's greatest one.
+-- A unit has a base. The table there has an offset for each index up to the unit's greatest one.
 pub record HasBase (kind : ListKind) (lists : List (Vec ℕ)) (tables : List (List ℕ)) (names : List ListAt)
     (entries : List NamedList) (x : IndexedUnit) : Type 0 where
   pub base : ℕ
@@ -215,20 +215,20 @@ pub record HasBase (kind : ListKind) (lists : List (Vec ℕ)) (tables : List (Li
   pub above : (i : ℕ) → x.greatest ≡ Some i → i < count
   pub slots : (i : ℕ) → i < count → HasSlot kind lists tables names entries base i
 
--- How many offsets units need: one for each index up to the greatest.
+-- The number of offsets that units need: one for each index up to the greatest.
 pub record IsCountOf (units : List IndexedUnit) (count : ℕ) : Type 0 where
   pub above : (x : IndexedUnit) (i : ℕ) → Contains units x → x.greatest ≡ Some i → i < count
   pub used : 0 < count → (x : IndexedUnit) × Contains units x × (x.greatest ≡ Some (count - 1))
 
--- the bases of units that share a table
+-- The bases of units that share a table.
 abbrev pub bases_at : ListKind → ℕ → List IndexedUnit → List ListAt
 bases_at kind base units = map (λ (x : IndexedUnit). base_at kind x.own base) units
 
--- no unit has one of some places
+-- No unit's own entry is at offset `e`.
 abbrev pub IsNoOwn : List IndexedUnit → ℕ → Type 0
 IsNoOwn units e = (x : IndexedUnit) → Contains units x → x.own ≡ e → ⊥
 
--- Units, by their own entries, in order.
+-- Units, in the order of their own entries.
 abbrev pub UnitsRise : ℕ → List IndexedUnit → Type 0
 UnitsRise lo [] = Unit {0}
 UnitsRise lo (x ∷ xs) = (lo ≤ x.own) × UnitsRise (x.own + 1) xs
@@ -237,7 +237,7 @@ abbrev pub units_end : ℕ → List IndexedUnit → ℕ
 units_end lo [] = lo
 units_end lo (x ∷ xs) = units_end (x.own + 1) xs
 
--- An attribute is of one of some units, whose indexes it doesn't pass.
+-- The attribute's unit is one of these, and its index isn't above that unit's greatest one.
 pub record IsOwned (units : List IndexedUnit) (r : NamedList) : Type 0 where
   pub x : IndexedUnit
   pub there : Contains units x
@@ -249,7 +249,7 @@ abbrev pub AreApart : List NamedList → Type 0
 AreApart entries = (r q : NamedList) (i : ℕ) → Contains entries r → Contains entries q → r.index ≡ Some i →
     q.index ≡ Some i → r.own ≡ q.own
 
--- A table more, in which the attributes of some units' entries find their lists.
+-- One more table, in which the attributes of some units' entries find their lists.
 pub record IsGroupWritten (kind : ListKind) (lists : List (Vec ℕ)) (lo own : ℕ) (entries : List NamedList)
     (units : List IndexedUnit) (tables : List (List ℕ)) (bytes : List ℕ) (old names : List ListAt) : Type 0 where
   pub table : List ℕ
@@ -258,13 +258,13 @@ pub record IsGroupWritten (kind : ListKind) (lists : List (Vec ℕ)) (lo own : �
   pub is_table : is_list_table table ≡ true
   pub names_are : AreNames kind (keys_end lo entries) (units_end own units) names
   pub keeps : Keeps old names
-  -- No base is named but those of the units.
+  -- No bases are added except for these units.
   pub bases : (e : ℕ) → IsNoOwn units e →
       new_list_offset names e (base_name kind) ≡ new_list_offset old e (base_name kind)
   pub each : (r : NamedList) → Contains entries r → IsNamed kind lists (tables ++ table ∷ []) names entries r r.index
   pub based : (x : IndexedUnit) → Contains units x → HasBase kind lists (tables ++ table ∷ []) names entries x
 
--- Own entries of units stand at places that don't fall.
+-- The offsets of the own entries of attributes' units don't fall.
 abbrev pub OwnsRise : ℕ → List NamedList → Type 0
 OwnsRise lo [] = Unit {0}
 OwnsRise lo (r ∷ rs) = (lo ≤ r.own) × OwnsRise r.own rs
@@ -276,13 +276,13 @@ pub record AreLeft (kind : ListKind) (lo own : ℕ) (entries : List NamedList) (
   pub rise : UnitsRise own units
   pub owned : (r : NamedList) → Contains entries r → IsOwned units r
 
--- The units that may get tables: no section is added for indexes alone.
+-- The units that may get tables. A section isn't added only for indexes.
 abbrev pub indexed_in : (section : List ℕ) → List NamedList → List IndexedUnit → List IndexedUnit
 indexed_in [] [] units = []
 indexed_in [] (r ∷ rs) units = units
 indexed_in (b ∷ bs) named units = units
 
--- The units that need a table: those that use an index, and those whose attributes name lists.
+-- The units that need a table: those that use an index, and those whose attributes refer to lists.
 abbrev pub needs_table : List NamedList → IndexedUnit → Bool
 needs_table entries x = is_some x.greatest || list_any (λ (r : NamedList). r.own == x.own) entries
 

@@ -1,4 +1,4 @@
-//! Range lists and location lists written anew, in tables.
+//! Range lists and location lists, written in tables.
 #![tactic(auto)]
 
 pub mod list_tables;

@@ -1,4 +1,4 @@
-// Tables of lists written anew. DWARF 5, sections 7.28 and 7.29.
+// Writing tables of lists. DWARF 5, sections 7.28 and 7.29.
 ghost use Rattle.std.specs.Prelude.{◌≡◌, ◌++◌, [], ◌+◌, ◌*◌, ◌<◌, ◌≤◌, ◌^◌, ℕ, List, Contains, Some, IfOk, OnOk, ◌∷◌};
 ghost use Rattle.std.specs.Prelude.{length, ◌-◌, ◌||◌, ◌==◌, unwrap_or, filter, is_some};
 ghost use Rattle.std.specs.List.{list_any};
@@ -27,20 +27,20 @@ use std::alloc::Global;
 use std::collections::{BTreeMap, BTreeSet};
 use table_core::{ListAt, Written};
 
-// The version of tables, and the sizes of addresses and of segment selectors that they give.
+// The version of tables, and their sizes of addresses and of segment selectors.
 const VERSION: u8 = 5;
 
 const ADDRESS_SIZE: u8 = 8;
 
 const SELECTOR_SIZE: u8 = 0;
 
-// How many bytes a table's header has behind its length.
+// The number of bytes of a table's header after its length.
 const HEADER_SIZE: u64 = 8;
 
-// How many bytes stand before a table's offsets: its length, and the header.
+// The number of bytes before a table's offsets: its length, and the header.
 const FRONT_SIZE: u64 = 4 + HEADER_SIZE;
 
-// The bytes of the list of a number.
+// The bytes of the list with a number.
 fn list_in(lists: &[Vec<u8>], number: usize) -> &[u8]
     ensures { result.now ≡ bytes_in lists.now number }
 {
@@ -56,7 +56,7 @@ fn known_offset(known: &BTreeMap<usize, u64>, number: usize) -> Option<u64>
     known.get(&number).copied()
 }
 
-// Where the list of a number begins in the body of a table; one that isn't there yet is appended.
+// The offset of the list with a number in the body of a table. A list that isn't there yet is appended.
 fn list_offset(
     body: &mut Vec<u8>,
     known: &mut BTreeMap<usize, u64>,
@@ -77,7 +77,7 @@ fn list_offset(
     Ok(offset)
 }
 
-// A sum that fits an offset of 32 bits.
+// A sum that fits in an offset of 32 bits.
 fn offset_sum(a: u64, b: u64) -> Result<u64, NoMemory>
     ensures { IfOk result (λ n. (n ≡ a + b) × (n < 2 ^ 32)) }
 {
@@ -89,8 +89,8 @@ fn offset_sum(a: u64, b: u64) -> Result<u64, NoMemory>
     }
 }
 
-// Adds the list of an attribute to the body of a table, which begins at offset `start` of the section. Notes the list's
-// place among the indexes, by its offset in the body, or among the names, by its offset in the section.
+// Adds the list of an attribute to the body of a table, which begins at offset `start` of the section. The list's
+// offset is kept for its index (counted in the body), or for the attribute (counted in the section).
 fn add_entry(
     body: &mut Vec<u8>,
     known: &mut BTreeMap<usize, u64>,
@@ -123,17 +123,17 @@ fn add_entry(
     }
 }
 
-// The lists of some units, as the body of their table: what stands behind the offsets.
+// The lists of some units, as the body of their table: the bytes after the offsets.
 #[derive(Drop)]
 struct TableBody {
-    /// The lists, one behind another.
+    /// The lists, one after another.
     bytes: Vec<u8>,
-    /// Where in these the list of each index begins that is used.
+    /// For each index that is used, the offset of its list in the body.
     indexes: BTreeMap<u64, u64>,
 }
 
-// The list that stands first in the body of a table with `count` offsets, if it has some: one without entries, which
-// all indexes name that no attribute uses.
+// The first list in the body of a table with `count` offsets, if it has any: a list without entries, for all indexes
+// that no attribute uses.
 fn first_list(alloc: Global, count: u64) -> Result<Vec<u8>, NoMemory>
     ensures { IfOk result (λ b. b.items ≡ spec.first_list count) }
 {
@@ -144,8 +144,8 @@ fn first_list(alloc: Global, count: u64) -> Result<Vec<u8>, NoMemory>
     Ok(bytes)
 }
 
-// The body of a table with `count` offsets, which begins at offset `start` of the section. Attributes that name their
-// list by its offset are added to `names`.
+// The body of a table with `count` offsets, which begins at offset `start` of the section. Attributes that refer to
+// their list by its offset are added to `names`.
 fn table_body(
     alloc: Global,
     names: &mut Vec<ListAt>,
@@ -176,7 +176,7 @@ fn table_body(
     Ok(TableBody { bytes, indexes })
 }
 
-// The least number that is at least `count` and above the index, if there is one.
+// The least number that is at least `count` and above `index`, if there is an index.
 fn above(count: u64, index: Option<u64>) -> Result<u64, NoMemory>
     ensures least { IfOk result (λ n. count ≤ n) }
     ensures more { IfOk result (λ n. (i : ℕ) → index ≡ Some i → i < n) }
@@ -193,7 +193,7 @@ fn above(count: u64, index: Option<u64>) -> Result<u64, NoMemory>
     }
 }
 
-// How many offsets units need: one for each index up to the greatest.
+// The number of offsets that units need: one for each index up to the greatest.
 fn offset_count(units: &[IndexedUnit]) -> Result<u64, NoMemory>
     ensures { IfOk result (IsCountOf units.now) }
 {
@@ -242,8 +242,8 @@ fn put_offsets(
     Ok(())
 }
 
-// Appends the header behind a table's length: version, size of addresses, size of segment selectors, and how many
-// offsets there are. DWARF 5, section 7.28.
+// Appends the header after a table's length: version, size of addresses, size of segment selectors, and the number of
+// offsets. DWARF 5, section 7.28.
 fn put_header(out: &mut Vec<u8>, count: u32) -> Result<(), NoMemory>
     ensures { OnOk result (out.new.items ≡ out.old.items ++ spec.list_header count) }
 {
@@ -252,7 +252,7 @@ fn put_header(out: &mut Vec<u8>, count: u32) -> Result<(), NoMemory>
     Ok(())
 }
 
-// How many bytes so many offsets have.
+// The number of bytes of `count` offsets.
 fn offsets_size(count: u64) -> Result<u64, NoMemory>
     ensures { IfOk result (λ n. (n ≡ 4 * count) × (n < 2 ^ 32)) }
 {
@@ -263,8 +263,8 @@ fn offsets_size(count: u64) -> Result<u64, NoMemory>
     }
 }
 
-// How many bytes a table has behind its length, whose offsets have `size`. The greatest number of 32 bits would say
-// that a length of 64 bits follows.
+// The number of bytes of a table after its length. Its offsets take `size` bytes. 2^32 - 1 would mean that a length of
+// 64 bits follows.
 fn table_len(size: u64, body: &[u8]) -> Result<u32, NoMemory>
     requires { size < 2 ^ 32 }
     ensures { IfOk result (λ n. (n ≡ 8 + size + length body.now) × (n < 2 ^ 32 - 1)) }
@@ -296,7 +296,7 @@ fn put_table(
     Ok(())
 }
 
-// The attribute that holds the base of a unit's indexes.
+// The attribute with the base of a unit's indexes.
 fn base_name(kind: ListKind) -> u64
     ensures { result ≡ base_name kind }
 {
@@ -306,7 +306,7 @@ fn base_name(kind: ListKind) -> u64
     }
 }
 
-// Adds the bases of units to the names.
+// Adds the bases of units to `names`.
 fn name_bases(
     names: &mut Vec<ListAt>,
     kind: ListKind,
@@ -351,7 +351,7 @@ fn put_group(
     Ok(())
 }
 
-// Appends tables with the lists that attributes name, for units that share one and the next ones.
+// Appends tables with the lists to which attributes refer, for the units that share one and the units after them.
 fn put_groups(
     alloc: Global,
     out: &mut Vec<u8>,
@@ -382,7 +382,7 @@ fn put_groups(
     Ok(())
 }
 
-// Where the own entries of the units stand whose attributes name lists.
+// The offsets of the own entries of the units whose attributes refer to lists.
 fn owns_of(alloc: Global, named: &[NamedList]) -> Result<BTreeSet<u64>, NoMemory>
     ensures { IfOk result (λ owns. (o : ℕ) → contains nat_cmp owns o ≡ list_any (λ r. r.own == o) named.now) }
 {
@@ -408,7 +408,7 @@ fn put_needing(
     Ok(())
 }
 
-// The units that need a table, since they use an index or their own entries stand at one of `owns`.
+// The units that need a table: those that use an index, and those whose own entry's offset is in `owns`.
 fn needing(
     alloc: Global,
     all: &[IndexedUnit],
@@ -424,8 +424,8 @@ fn needing(
     Ok(needing)
 }
 
-/// The units of a file that may get tables. Where the file has no section of lists, and no attribute names one, there
-/// are none: no section is added for indexes alone.
+/// The units of a file that may get tables. There are none if the file has no section of lists and no attribute refers
+/// to one: a section isn't added only for indexes.
 pub fn indexed_in<'a>(
     section: &[u8],
     named: &[NamedList],
@@ -439,12 +439,12 @@ pub fn indexed_in<'a>(
     units
 }
 
-/// Writes tables of the lists that attributes name, for each unit that has such attributes or uses an index. `lists` has
-/// the bytes of each list, by its number; `named` the attributes, and `units` their units, in the order of entries.
-/// Units that had one base share a table (`shared_len`). It has an offset for each index up to the greatest of its
-/// units; one that none of the attributes uses names a list without entries. What is written has the offset of each
-/// attribute that names its list by one, and the base of each unit that has a table. `NoMemory` is answered, too, where
-/// an offset or a length doesn't fit 32 bits.
+/// Writes tables of the lists to which attributes refer, for each unit that has such attributes or uses an index.
+/// `lists` has the bytes of each list, by its number; `named` has the attributes, and `units` their units, in the order
+/// of entries. Units that had the same base share a table (`shared_len`). It has an offset for each index up to the
+/// greatest of its units; an index that no attribute uses gets a list without entries. The result has the offset for
+/// each attribute that refers to its list by an offset, and the base of each unit that has a table. Gives `NoMemory`
+/// also if an offset or a length doesn't fit in 32 bits.
 pub fn write_tables(
     alloc: Global,
     kind: ListKind,

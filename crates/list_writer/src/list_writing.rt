@@ -1,4 +1,4 @@
-// Lists written anew. DWARF 5, sections 7.7.3 and 7.25.
+// Writing lists. DWARF 5, sections 7.7.3 and 7.25.
 ghost use Rattle.std.specs.Prelude.{◌≡◌, ◌++◌, ◌∷◌, [], ◌<◌, ◌^◌, OnOk, length};
 ghost use Rattle.list_writer.specs.ListBytes.{stretch_bytes, entry_bytes};
 ghost use Rattle.rb_bytes.specs.Leb.{uleb};
@@ -10,7 +10,7 @@ use rb_bytes::fault::NoMemory;
 use rb_bytes::leb::put_uleb;
 use rb_bytes::little::put_u64;
 
-// Appends the kind of an entry, and a stretch of addresses: the first one, and how many there are.
+// Appends the kind of an entry, and its addresses: the first one, and their number.
 fn put_stretch(out: &mut Vec<u8>, kind: u64, start: u64, len: u64) -> Result<(), NoMemory>
     requires { kind < 2 ^ 8 }
     ensures { OnOk result (out.new.items ≡ out.old.items ++ kind ∷ stretch_bytes start len) }
@@ -20,7 +20,7 @@ fn put_stretch(out: &mut Vec<u8>, kind: u64, start: u64, len: u64) -> Result<(),
     put_uleb(out, len)
 }
 
-// Appends bytes behind their count in LEB128.
+// Appends bytes, after their count in LEB128.
 fn put_block(out: &mut Vec<u8>, bytes: &[u8]) -> Result<(), NoMemory>
     ensures { OnOk result (out.new.items ≡ out.old.items ++ (uleb (length bytes.now) ++ bytes.now)) }
 {
@@ -29,8 +29,8 @@ fn put_block(out: &mut Vec<u8>, bytes: &[u8]) -> Result<(), NoMemory>
     Ok(())
 }
 
-/// Appends an entry of a list for the `len` addresses from `start` on, with whole addresses, so that no base is needed.
-/// Only an entry of a location list has an expression.
+/// Appends an entry of a list for the `len` addresses from `start` on, with full addresses, so no base address is
+/// needed. Only an entry of a location list has an expression.
 pub fn put_entry(
     out: &mut Vec<u8>,
     list: ListKind,

@@ -1,4 +1,4 @@
-// Location lists written anew. DWARF 5, sections 2.6.2 and 7.29.
+// Writing location lists. DWARF 5, sections 2.6.2 and 7.29.
 ghost use Rattle.std.specs.Prelude.{◌≡◌, ◌++◌, ◌∷◌, [], IfOk, OnOk, All, map};
 ghost use Rattle.answer_runs.specs.AnswerRuns.{said_runs};
 ghost use Rattle.dw_lists.specs.declared.list_kind.ListKind.TheVariants as kind;
@@ -26,7 +26,7 @@ fn put_expression(
     put_entry(out, ListKind::Locations, start, len, expression)
 }
 
-// Appends an entry for each of some expressions, all over one stretch of addresses.
+// Appends an entry for each expression, all over the `len` addresses from `start` on.
 fn put_expressions(
     out: &mut Vec<u8>,
     start: u64,
@@ -75,7 +75,7 @@ fn put_spelled(alloc: Global, all: &mut Vec<Vec<u8>>, runs: &Vec<ListRun>) -> Re
     Ok(())
 }
 
-/// The bytes of location lists, by the runs of new code at whose owners each says the same.
+/// The bytes of location lists, by the runs of new code. A list's expressions are the same at all owners of a run.
 pub fn spelled_locations(alloc: Global, lists: &[Vec<ListRun>]) -> Result<Vec<Vec<u8>>, NoMemory>
     ensures written { IfOk result (λ bs. items_in bs.items ≡ map spec.runs_bytes lists.now) }
     ensures fits { OnOk result (All spec.CanBeWritten lists.now) }

@@ -1,4 +1,4 @@
-// Range lists written anew. DWARF 5, sections 2.17.3 and 7.28.
+// Writing range lists. DWARF 5, sections 2.17.3 and 7.28.
 ghost use Rattle.std.specs.Prelude.{◌≡◌, ◌++◌, ◌∷◌, [], IfOk, OnOk, map};
 ghost use Rattle.dw_lists.specs.declared.list_kind.ListKind.TheVariants as kind;
 ghost use Rattle.cover_lists.specs.KeptLists.{items_in};
@@ -40,7 +40,7 @@ fn put_spelled(alloc: Global, all: &mut Vec<Vec<u8>>, runs: &Vec<Run<bool>>) -> 
     Ok(())
 }
 
-/// The bytes of the range lists of groups, by the runs of new code whose owners each holds.
+/// The bytes of the range lists of groups, by the runs of new code whose owners are in the group.
 pub fn spelled_groups(alloc: Global, lists: &[Vec<Run<bool>>]) -> Result<Vec<Vec<u8>>, NoMemory>
     ensures { IfOk result (λ bs. items_in bs.items ≡ map spec.group_bytes lists.now) }
 {
@@ -51,8 +51,8 @@ pub fn spelled_groups(alloc: Global, lists: &[Vec<Run<bool>>]) -> Result<Vec<Vec
     Ok(all)
 }
 
-/// The attributes that name the range lists of entries: DW_AT_ranges, also of entries that had DW_AT_high_pc. A list
-/// has the number of its group.
+/// The attributes that refer to the range lists of entries: DW_AT_ranges, also of entries that had DW_AT_high_pc. A
+/// list has the number of its group.
 pub fn range_names(alloc: Global, ranged: &[RangedEntry]) -> Result<Vec<NamedList>, NoMemory>
     ensures { IfOk result (λ ns. ns.items ≡ map spec.named_of ranged.now) }
 {

@@ -11,7 +11,7 @@ use rb_bytes::fault::NoMemory;
 use std::alloc::Global;
 use std::collections::BTreeMap;
 
-// How many attributes at the front are of the unit whose own entry stands at `own`.
+// The number of attributes at the front that are of the unit whose own entry is at offset `own`.
 fn unit_len(entries: &[NamedList], own: u64) -> usize
     ensures within { result ≤ length entries.now }
     ensures same { (k : ℕ) (d : code.NamedList) → k < result → (slice_index_or entries.now k d).own ≡ own }
@@ -28,8 +28,8 @@ fn unit_len(entries: &[NamedList], own: u64) -> usize
     count
 }
 
-// Whether a unit may share the table of one before it, which has a base: it has the same, or it uses no index. That no
-// index is used by both is told by `claim`; a reader finds lists alike in a table of its own and in a shared one.
+// Whether a unit may share the table of one before it, which has a base: it must have the same base, or use no index.
+// `claim` tests that no index is used by both. A reader finds lists alike in a table of its own and in a shared one.
 fn may_share(first: IndexedUnit, unit: IndexedUnit) -> bool {
     match (first.base, unit.base) {
         (Some(one), Some(other)) => one == other || unit.greatest.is_none(),
@@ -38,7 +38,7 @@ fn may_share(first: IndexedUnit, unit: IndexedUnit) -> bool {
     }
 }
 
-// Claims an index for the unit whose own entry stands at `own`. Answers whether no other unit has it. `used` has the
+// Claims an index for the unit whose own entry is at offset `own`. Returns whether no other unit has it. `used` has the
 // unit of each index.
 fn claim_index(
     used: &mut BTreeMap<u64, u64>,
@@ -57,7 +57,7 @@ fn claim_index(
     Ok(true)
 }
 
-// Claims the indexes of the attributes of a unit. Answers whether no other unit has one of them.
+// Claims the indexes of the attributes of a unit. Returns whether no other unit has one of them.
 fn claim(used: &mut BTreeMap<u64, u64>, own: u64, entries: &[NamedList]) -> Result<bool, NoMemory>
     ensures { IfOk result (AreClaimed own entries.now used.old used.new) }
 {
@@ -69,8 +69,9 @@ fn claim(used: &mut BTreeMap<u64, u64>, own: u64, entries: &[NamedList]) -> Resu
     Ok(true)
 }
 
-/// How many units at the front share a table, and how many attributes at the front are of these units. Units share one
-/// that had one base, or that use no index, as long as attributes of no two of them use one index.
+/// The number of units at the front that share a table, and the number of attributes at the front that are of these
+/// units. Units share a table if they had the same base, or use no index, as long as no index is used by attributes of
+/// two of them.
 pub fn shared_len(
     alloc: Global,
     units: &[IndexedUnit],
