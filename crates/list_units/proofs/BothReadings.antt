@@ -1,4 +1,4 @@
--- What is read of ranges beside locations.
+-- Reading ranges together with locations.
 use Rattle.std.proofs.Common.{◌≡◌, ◌||◌, ℕ, Bool, true, false, Option, refl}
 use Rattle.std.specs.Option.{option_or}
 use Rattle.rb_bytes.specs.FirstFault.{IsFree}
@@ -18,13 +18,13 @@ more_bad true b c e = refl
 more_bad false true c e = refl
 more_bad false false c e = absurd (cc)
 
--- a unit with a fault of ranges is one with a fault of locations
+-- A unit with a fault of ranges has a fault of locations.
 bad_before : (s : ListSections) (w : Walked) → is_bad_unit s w ≡ true → places.is_bad_unit s w ≡ true
 bad_before s w e =
     more_bad (is_bad s.units w) (has_bad_offset ranges_kind s.ranges (unit_of s.units.abbrevs w))
     (has_bad_offset locations_kind s.locations (unit_of s.units.abbrevs w)) e
 
--- where locations have no fault, ranges have none
+-- If locations have no fault, ranges have none.
 pub ranges_free : (s : ListSections) → IsFree (HasDwarfFault (location_places s)) → IsFree (HasDwarfFault (range_places s))
 ranges_free s free =
     let none : AreAbsent (location_places s) = absent (location_places s) free in

@@ -1,4 +1,4 @@
--- Which entries cover an address, unit by unit.
+-- The entries that cover an address, unit by unit.
 use Rattle.std.proofs.Common.{◌≡◌, ◌∙◌, ◌++◌, ◌∷◌, [], ℕ, Bool, true, false, List, Option, Some, None, refl, sym, ap, map, filter}
 use Rattle.std.specs.Prelude.{if◌then◌else◌, flat_map, filter_map}
 use Rattle.std.specs.List.{list_any}
@@ -21,7 +21,7 @@ use Rattle.dw_lists.specs.UnitLists.{own_place}
 abbrev covered_by : List Ranged → ℕ → List ℕ
 covered_by rs a = map (λ (r : Ranged). r.entry.place) (filter (λ (r : Ranged). hold r.own a) rs)
 
--- the places of those that hold the address
+-- The offsets of the entries whose ranges contain the address.
 abbrev places_held : List SeenEntry → List ℕ
 places_held xs = map (λ (x : SeenEntry). x.place) (filter (λ (x : SeenEntry). x.held) xs)
 
@@ -84,7 +84,7 @@ places_kept covers (r ∷ rs) a = step (group_holds covers r.group a) (places_ke
     step true e = ap (λ (l : List ℕ). r.place ∷ l) e
     step false e = e
 
--- those kept that hold an address stand at the places that cover it
+-- The kept entries whose ranges contain an address are those that cover it.
 pub held_are : (s : ListSections) (covers : List Cover) (kept : List RangedEntry) (a : ℕ) → seen_kept covers kept a ≡ all_seen s a →
     held_places covers kept a ≡ covering s a
 held_are s covers kept a e = places_kept covers kept a ∙ ap places_held e ∙ sym (units_covered s (units s.units) a)

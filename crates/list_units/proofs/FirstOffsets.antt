@@ -47,7 +47,7 @@ filter_front p x xs e = ap (λ (b : Bool). if b then x ∷ filter p xs else filt
 filter_past : (p : ℕ → Bool) (x : ℕ) (xs : List ℕ) → p x ≡ false → filter p (x ∷ xs) ≡ filter p xs
 filter_past p x xs e = ap (λ (b : Bool). if b then x ∷ filter p xs else filter p xs) e
 
--- one number more
+-- One more number.
 pub firsts_more : (ns : List ℕ) (n : ℕ) → firsts (ns ++ n ∷ []) ≡ firsts ns ++ (if is_among n ns then [] else n ∷ [])
 firsts_more [] n = refl
 firsts_more (k ∷ ns) n =
@@ -61,7 +61,7 @@ firsts_more (k ∷ ns) n =
     tail true false e = ap (λ (b : Bool). if not b then n ∷ [] else []) e
     tail false false e = ap (λ (b : Bool). if not b then n ∷ [] else []) e
 
--- a number that isn't there is left out of nothing
+-- Leaving out a number that isn't there changes nothing.
 pub absent : (ns : List ℕ) (n : ℕ) → is_among n ns ≡ false → filter (other n) (firsts ns) ≡ firsts ns
 absent [] n e = refl
 absent (k ∷ ns) n e = step (k == n) (is_among n ns) refl refl e (absent ns n)
@@ -74,7 +74,7 @@ absent (k ∷ ns) n e = step (k == n) (is_among n ns) refl refl e (absent ns n)
         filter_front (other n) k (filter (other k) (firsts ns)) (ap (λ (b : Bool). not b) (turned k n f))
         ∙ ap (λ (l : List ℕ). k ∷ l) (filter_swap (other n) (other k) (firsts ns) ∙ ap (filter (other k)) (ih g))
 
--- a number that is there stands there once
+-- A number that is there is there once.
 pub record IsOnce (n : ℕ) (ns : List ℕ) : Type 0 where
   pub before : List ℕ
   pub behind : List ℕ
@@ -111,7 +111,7 @@ once (k ∷ ns) n e = step (k == n) (is_among n ns) refl refl e (once ns n)
               (filter_swap (other n) (other k) (firsts ns) ∙ ap (filter (other k)) o.others ∙ filter-append (other k) o.before o.behind);
         }
 
--- what all numbers pass
+-- A test that all numbers pass.
 pub all_pass : (p : ℕ → Bool) (ns : List ℕ) → filter (λ n. not (p n)) ns ≡ [] → filter p (firsts ns) ≡ firsts ns
 all_pass p [] e = refl
 all_pass p (n ∷ ns) e = step (p n) refl e (all_pass p ns)

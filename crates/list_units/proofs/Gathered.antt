@@ -24,7 +24,7 @@ use Rattle.dw_lists.specs.UnitLists.{own_place}
 use Rattle.cover_lists.proofs.GroupFacts.{grow_none, grow_more}
 use Rattle.dw_lists.proofs.NotedLists.{lacks_all, bad_all}
 
--- what is seen of entries stays where groups grow
+-- The answers of entries don't change when groups are added.
 seen_same : (old new : Groups) (rs : List RangedEntry) (a : ℕ) → Grow old new → AreWithin old.count rs →
     seen_kept new.covers.items rs a ≡ seen_kept old.covers.items rs a
 seen_same old new [] a grow within = refl
@@ -37,7 +37,7 @@ seen_same old new (r ∷ rs) a grow within =
 abbrev seen_entry : List Cover → ℕ → RangedEntry → SeenEntry
 seen_entry cs a r = record { place = r.place; own = r.own; index = r.index; held = group_holds cs r.group a }
 
--- an entry more, with the ranges of a group or without ranges
+-- One more entry, with the ranges of a group or without ranges.
 module _ (s : ListSections) (u : Unit) (e : Entry) (new : Groups) where
   abbrev entry : Option ℕ → List RangedEntry
   entry o = entry_of e.place (own_place u) (ranges_index e.attrs) o
@@ -72,7 +72,7 @@ module _ (s : ListSections) (u : Unit) (e : Entry) (new : Groups) where
         (sym (append-nil (seen_of e.place (own_place u) (ranges_index e.attrs) (ranges_of s u e) a)));
   }
 
--- and all those before
+-- With all entries before.
 pub gathered_more : (s : ListSections) (u : Unit) (old mid new : Groups) (olds mids news : List RangedEntry) (was known : BTreeMap ℕ
     (Option ℕ))
     (es ds : List Entry) (before attrs : List Attr) (f g : ListFaults) → IsGathering s u old olds mid mids was es before f →
@@ -91,7 +91,7 @@ gathered_more s u old mid new olds mids news was known es ds before attrs f g x 
   noted = y.noted;
 }
 
--- nothing is gathered yet
+-- Nothing is gathered yet.
 pub gathered_none : (s : ListSections) (u : Unit) (old : Groups) (olds : List RangedEntry) (known : BTreeMap ℕ (Option ℕ)) →
     AreNumbered old →
     AreWithin old.count olds → AreKnown (range_list s u) old known →
@@ -106,7 +106,7 @@ pub plain_attrs : (es : List ListedEntry) → flat_map (λ (e : Entry). e.attrs)
 plain_attrs [] = refl
 plain_attrs (e ∷ es) = ap (λ (l : List Attr). e.attrs ++ l) (plain_attrs es)
 
--- all of a unit was gathered
+-- All of a unit was gathered.
 pub unit_gathered : (s : ListSections) (es : List ListedEntry) (old new : Groups) (olds news : List RangedEntry) (known : BTreeMap ℕ
     (Option ℕ))
     (f : ListFaults) → IsGathering s (plain_unit es) old olds new news known (map plain es) (flat_map (λ (e : ListedEntry). e.attrs) es) f →
@@ -120,7 +120,7 @@ unit_gathered s es old new olds news known f g =
           (plain_attrs es) g.noted;
     }
 
--- one entry more
+-- One more entry.
 pub gathered_next : (s : ListSections) (u : Unit) (old new : Groups) (olds news : List RangedEntry) (known : BTreeMap ℕ (Option ℕ)) (f :
     ListFaults)
     (ts next : List ListedEntry) (x : ListedEntry) → next ≡ ts ++ x ∷ [] →

@@ -1,4 +1,4 @@
--- Attributes that name location lists, one after another.
+-- Attributes that refer to location lists, one after another.
 use Rattle.std.proofs.Common.{◌≡◌, ◌∙◌, ◌++◌, ◌∷◌, [], ℕ, Bool, true, false, List, Option, Some, None, refl, sym, ap, subst, arith}
 use Rattle.std.proofs.Common.{map, append-nil, append_assoc}
 use Rattle.std.specs.Prelude.{◌==◌, ◌&&◌, ◌||◌, if◌then◌else◌, flat_map, option_and_then}
@@ -41,7 +41,7 @@ pub lacks_offset : (s : ListSections) (u : Unit) (a : Attr) → list_offset loca
 lacks_offset s u a e =
     none_if (has_list locations_kind a) (list_of locations_kind s.locations s.units.addr u a) (ap (option_and_then (location_list s u)) e)
 
--- an expression that stands in an attribute is in no list
+-- An expression in an attribute is in no list.
 block_listed : (form : ℕ) → is_block form ≡ true → (form == DW_FORM_sec_offset || form == DW_FORM_loclistx) ≡ false
 block_listed form block = step (form == DW_FORM_sec_offset) (form == DW_FORM_loclistx) refl refl
   where
@@ -86,7 +86,7 @@ module _ (lists : List KeptList) (place attr own : ℕ) (index : Option ℕ) (na
       (record { place = place; attr = attr; own = own; index = index; list = ls }) z
       (record { place = refl; attr = refl; own = refl; index = refl; within = is.within n refl; says = is.says })
 
--- One attribute more, and one list of names behind another
+-- One more attribute, and one more list of kept attributes
 
 pub named_one : (s : ListSections) (u : Unit) (e : Entry) (name : ℕ) (olds lists : List KeptList) (before named : List NamedList)
     (number : Option ℕ) →
@@ -112,7 +112,7 @@ names_joined olds now next lists before mid named xs ys more a b = λ others z.
     subst (AreNamesOf lists named) (append_assoc others xs ys)
     (b (others ++ xs) (a others (zip_each (IsNameOf olds) (IsNameOf now) before others z (λ n x. name_still olds now n x more))))
 
--- The names of a unit, by what is listed of its entries
+-- The kept attributes of a unit, by its listed entries
 
 items_rest : (s : ListSections) (place offset : ℕ) (e : Entry) (ds xs : List Entry) →
     flat_map (entry_items s (plain_unit (map listed (e ∷ ds)))) (map plain (map listed xs)) ≡ flat_map

@@ -1,4 +1,4 @@
--- Location lists that were read, and the attributes that name them.
+-- Location lists that were read, and the attributes that refer to them.
 use Rattle.std.proofs.Common.{◌≡◌, ◌∙◌, ◌==◌, ◌<◌, ◌≤◌, ◌++◌, ◌∷◌, [], ℕ, Bool, true, false, List, Option, Some, None, BTreeMap, refl, sym}
 use Rattle.std.proofs.Common.{ap, subst, arith, length, filter, append-nil, append_assoc, cond, nat_cmp}
 use Rattle.std.specs.Prelude.{All, if◌then◌else◌, flat_map, option_and_then}
@@ -29,7 +29,7 @@ use Rattle.list_units.specs.UnitLocations.{source_says, IsListed, IsSourceOf, Is
 use Rattle.list_units.specs.UnitLocations.{IsHeld, IsNear, attr_said, AreLocated}
 use Rattle.dw_lists.proofs.RangeLists.{known_with}
 
--- more lists are kept
+-- More lists are kept
 
 pub more_none : (xs : List KeptList) → AreMore xs xs
 more_none xs = record { count = omega arith; same = λ n h. refl }
@@ -65,7 +65,7 @@ module _ (s : ListSections) (u : Unit) where
       AreRead s u olds news known
   read_more olds mids news was known x y = record { more = more_more olds mids news x.more y.more; known_are = y.known_are }
 
-  -- a list more is known
+  -- One more list is known.
   pub read_list : (olds news : List KeptList) (was known : BTreeMap ℕ (Option ℕ)) (at : ℕ) (o : Option ℕ) →
       AreNumbersOf (location_list s u) olds was →
       AreMore olds news → IsNumberOf news o (location_list s u at) →
@@ -76,7 +76,7 @@ module _ (s : ListSections) (u : Unit) where
         (numbers_still (location_list s u) olds news was more are) is made;
   }
 
-  -- where expressions are
+  -- The sources of expressions
 
   same_source : (x y : Source) → Some x ≡ Some y → x ≡ y
   same_source x y e = cc
@@ -163,7 +163,7 @@ all_same covers groups p olds news (l ∷ ls) more held =
     step true here rest = (λ i. here i ++ rest i)
     step false here rest = rest
 
--- and where groups grow
+-- With more groups.
 pub grown_same : (old new : Groups) (lists : List KeptList) (ls : List LocatedAttr) (n p : ℕ) → Grow old new → All (IsHeld old.count n) ls →
     all_located new.covers.items lists ls p ≡ all_located old.covers.items lists ls p
 grown_same old new lists [] n p grow held = refl
@@ -215,7 +215,7 @@ module _ (s : ListSections) (u : Unit) (e : Entry) (name : ℕ) where
       All-cons (IsHeld groups lists) (record { place = e.place; attr = name; group = g; source = x }) [] (near g refl, listed x refl)
       (All-nil (IsHeld groups lists))
 
-  -- the attribute of a name was added
+  -- The attribute with a name was added.
   pub located_one : (nearest : Option ℕ) (old new : Locations) (known : BTreeMap ℕ (Option ℕ)) (x : Option Source) →
       AreRead s u old.lists.items new.lists.items known → IsNamedSource s u new.lists.items (attr name e) x →
       new.located.items ≡ old.located.items ++ located_of e.place name nearest x →
@@ -234,7 +234,7 @@ module _ (s : ListSections) (u : Unit) (e : Entry) (name : ℕ) where
         ++ one_says covers new.lists.items nearest x p (is.says p) i);
   }
 
--- no attribute was added
+-- No attribute was added.
 pub located_none : (s : ListSections) (u : Unit) (nearest : Option ℕ) (old new : Locations) (known : BTreeMap ℕ (Option ℕ)) →
     AreRead s u old.lists.items new.lists.items known → new.located.items ≡ old.located.items →
     AreLocated s u nearest old new known (λ covers p. [])

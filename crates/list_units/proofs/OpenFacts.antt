@@ -1,4 +1,4 @@
--- Entries that are open: what stays so, and the nearest ranges.
+-- Open entries: what doesn't change, and the nearest ranges.
 use Rattle.std.proofs.Common.{◌≡◌, ◌∙◌, ◌+◌, ◌-◌, ◌<◌, ◌≤◌, ◌++◌, ◌∷◌, [], ℕ, Bool, true, false, List, Option, Some, None, refl, sym, ap}
 use Rattle.std.proofs.Common.{subst, arith, length, get_or, reverse}
 use Rattle.std.specs.Prelude.{if◌then◌else◌, filter_map, is_some, not, nat_le, nat_lt, slice_get}
@@ -16,7 +16,7 @@ use Rattle.cover_lists.specs.Groups.{Grow, HasRanges}
 use Rattle.list_units.specs.OpenEntries.{ends, closed, nearest, chain, AreOpen}
 use Rattle.cover_lists.proofs.GroupFacts.{none_has, has_still}
 
--- the last of a list is the first of it from its end
+-- The last of a list is the first of the reversed list
 
 first_there : {X : Type 0} (ys : List X) (x : X) → 0 < length ys → Some (get_or ys 0 x) ≡ first_of ys
 first_there [] x h = absurd (omega arith)
@@ -30,7 +30,7 @@ last_is {X} (x ∷ xs) =
     ∙ ap (λ (y : X). Some y) (ap (λ (n : ℕ). get_or (x ∷ xs) n x) place ∙ sym (get_or-reverse (x ∷ xs) 0 x (omega arith)))
     ∙ first_there (reverse (x ∷ xs)) x (omega (arith, length-reverse (x ∷ xs)))
 
--- what is seen of the first one
+-- The first entry
 
 pub ends_is : (depth : ℕ) (os : List OpenEntry) (o : OpenEntry) → first_of os ≡ Some o → nat_le depth o.depth ≡ ends depth os
 ends_is depth [] o e = absurd (cc)
@@ -81,7 +81,7 @@ some_left : (depth : ℕ) (os : List OpenEntry) → ends depth (reverse os) ≡ 
 some_left depth [] e = absurd (cc)
 some_left depth (o ∷ os) e = omega arith
 
--- the last one is closed
+-- The last one is closed.
 pub closed_next : (depth : ℕ) (old new : List OpenEntry) (o : Option OpenEntry) → old ≡ new ++ option_to_list o →
     length new + length (option_to_list o) ≡ length old → (0 < length old → is_some o ≡ true) → ends depth (reverse old) ≡ true →
     (closed depth (reverse new) ≡ closed depth (reverse old)) × (length new + 1 ≡ length old)
@@ -96,7 +96,7 @@ pub none_open : (depth : ℕ) (os : List OpenEntry) → length os ≡ 0 → reve
 none_open depth [] e = refl
 none_open depth (o ∷ os) e = absurd (omega arith)
 
--- Entries in which others lie
+-- Ancestors of entries
 
 abbrev left_open : ℕ → List Entry → List Entry
 left_open depth [] = []
@@ -161,7 +161,7 @@ module _ (own : Entry → Option (List Range)) where
   still_open old new (e ∷ es) (o ∷ os) grow are =
       (are.0, has_still old new o.nearest (first_of (filter_map own (e ∷ es))) grow are.1, still_open old new es os grow are.2)
 
-  -- an entry more is open, with its own ranges or those of the first one that it lies in
+  -- One more entry is open, with its own ranges or those of its parent.
   own_or : (g : Groups) (o p : Option ℕ) (x : Option (List Range)) (xs : List (List Range)) → HasRanges g o x →
       HasRanges g p (first_of xs) →
       HasRanges g (option_or o p) (first_of (cons_option x xs))

@@ -1,4 +1,4 @@
--- Which fault of the sections of locations is answered, and what is read where there is none.
+-- The fault of the sections of locations that is reported, and the result if there is none.
 use Rattle.std.proofs.Common.{◌≡◌, ◌∙◌, ℕ, List, Option, Some, None, refl, sym, ap, map, filter}
 use Rattle.std.specs.Prelude.{flat_map, not, false}
 use Rattle.std.specs.Option.{option_or, option_map_or}
@@ -22,7 +22,7 @@ of_tables section = map (λ (w : Walked). w.place) (filter (λ (w : Walked). not
 abbrev of_units : ListSections → Option ℕ
 of_units s = first_place (is_bad_unit s) (walked 5 s.units.info)
 
--- units first, then tables of addresses, then tables of lists
+-- Units come first, then address tables, then tables of lists.
 pub bad_is : (s : ListSections) (p : PlaceProgress) (o q : Option ℕ) → IsProgress s (walked 5 s.units.info) p → o
     ≡ least (of_tables s.ranges) →
     q ≡ least (of_tables s.locations) →
@@ -48,7 +48,7 @@ bad_is s p o q are ranges locations = by_bad p.bad refl
         ∙ ap (λ (x : Option ℕ). option_or x (option_or (bad_address_table s.units.addr)
         (option_or (bad_table ranges_kind s.ranges s.units) (bad_table locations_kind s.locations s.units)))) (sym e ∙ are.bad)
 
--- without a fault all entries were read
+-- Without a fault all entries were read.
 pub places_read : (s : ListSections) (p : PlaceProgress) → IsProgress s (walked 5 s.units.info) p →
     IsFree (HasDwarfFault (location_places s)) →
     ArePlacesOf s p.groups p.kept p.named.items p.indexed.items

@@ -1,4 +1,4 @@
--- What was read of the locations of some units, with what is read of the next one.
+-- The locations of some units, with the result for the next one.
 use Rattle.std.proofs.Common.{◌≡◌, ◌∙◌, ◌||◌, ◌&&◌, ◌==◌, ◌++◌, ◌∷◌, [], ℕ, Bool, true, false, List, Option, Some, None, Ok}
 use Rattle.std.proofs.Common.{refl, sym, ap, subst, not}
 use Rattle.std.specs.Prelude.{if◌then◌else◌, flat_map, is_some}
@@ -39,7 +39,7 @@ use Rattle.list_units.proofs.PlainPlaces.{unit_of_listed}
 use Rattle.list_units.proofs.PlainUnits.{unit_indexed}
 use Rattle.list_units.proofs.ReadProgress.{units_more, read_unit, entries_by, indexes_more}
 
--- of a sound unit all attributes that say where something is are formed
+-- All location attributes of a sound unit have a form that is read
 
 not_false : (b : Bool) → not b ≡ false → b ≡ true
 not_false true e = refl
@@ -80,7 +80,7 @@ entries_formed addr u (x ∷ es) e =
 unit_formed : (addr : List ℕ) (u : Unit) → is_sound_unit addr u ≡ true → are_formed (flat_map (λ (e : Entry). e.attrs) u.entries) ≡ true
 unit_formed addr u sound = entries_formed addr u u.entries sound
 
--- the lowest tables of one unit more
+-- The lowest tables, with one more unit.
 bad_more : (s : ListSections) (k : Kind) (section : List ℕ) (ws : List Walked) (w : Walked) (u : Unit) (old new now : Option ℕ) →
     unit_of s.units.abbrevs w ≡ Ok u → new ≡ lower old now → old
     ≡ least (flat_map (bad_list_tables k section s.units.addr) (units_of s ws)) →
@@ -109,7 +109,7 @@ module _ (s : ListSections) (ws : List Walked) (w : Walked) (old new : PlaceProg
   none_bad : (place : ℕ) → new.bad ≡ Some place → new.bad ≡ None → AreGathered s (ws ++ w ∷ []) new
   none_bad place now none = let e : None ≡ Some place = sym none ∙ now in absurd (cc)
 
-  -- one was bad before
+  -- A unit before was bad.
   pub bad_kept : AreNumbered new.groups → is_some old.bad ≡ true → new.bad ≡ old.bad → IsProgress s (ws ++ w ∷ []) new
   bad_kept numbered some same = by_bad old.bad refl some
     where
@@ -118,13 +118,13 @@ module _ (s : ListSections) (ws : List Walked) (w : Walked) (old new : PlaceProg
       by_bad (Some place) e some =
           with_bad numbered (same ∙ e ∙ sym (bad_before (is_bad_unit s) ws w place (sym are.bad ∙ e))) (none_bad place (same ∙ e))
 
-  -- this one can't be read
+  -- This unit can't be read.
   pub bad_first : AreNumbered new.groups → old.bad ≡ None → r.entries ≡ None → new.bad ≡ Some w.place → IsProgress s (ws ++ w ∷ []) new
   bad_first numbered before none now =
       let bad : is_bad_unit s w ≡ true = ap (λ (b : Bool). b || has_bad_offsets s w) (entries_by s w r None is none) in
       with_bad numbered (now ∙ sym (bad_now (is_bad_unit s) ws w (sym are.bad ∙ before) bad)) (none_bad w.place now)
 
-  -- this one was read
+  -- This unit was read.
   module _ (f : UnitFaults) (before : old.bad ≡ None) (good : fails (is_sound_unit s.units.addr) (unit_of s.units.abbrevs w)
       ≡ false) (u : Unit)
       (read : unit_of s.units.abbrevs w ≡ Ok u) (x : IsUnitPlaced s u old.groups old.kept old.named.items new.groups new.kept
@@ -164,7 +164,7 @@ module _ (s : ListSections) (ws : List Walked) (w : Walked) (old new : PlaceProg
           indexes = indexes_more s locations_kind ws w u old.indexed.items new.indexed.items read indexes was.indexes;
         })
 
--- a unit whose entries can be read
+-- A unit whose entries can be read.
 pub unit_added : (s : ListSections) (ws : List Walked) (w : Walked) (old mid new : PlaceProgress) (r : UnitReading) (es : Vec ListedEntry) →
     IsProgress s ws old → IsReading s.units.abbrevs s.units.addr w r → mid.bad_form ≡ lower old.bad_form r.bad_form →
     mid.bad_high ≡ lower old.bad_high r.bad_high → mid.unformed ≡ lower old.unformed r.unformed → mid.groups ≡ old.groups →

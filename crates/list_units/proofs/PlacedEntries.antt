@@ -1,4 +1,4 @@
--- Entries of a unit with their ranges and locations, one entry more.
+-- Entries of a unit with their ranges and locations, with one more entry.
 use Rattle.std.proofs.Common.{◌≡◌, ◌∙◌, ◌+◌, ◌<◌, ◌≤◌, ◌++◌, ◌∷◌, [], ℕ, true, false, List, Option, None, BTreeMap, refl, sym, ap, subst}
 use Rattle.std.proofs.Common.{arith, length, reverse, append-nil, append_assoc, map, get_or, take, drop}
 use Rattle.std.proofs.lemmas.Bool.{and_parts}
@@ -46,7 +46,7 @@ module _ (s : ListSections) (u : Unit) (e : Entry) (before : List Entry) where
   abbrev nearest_ranges : Option (List Range)
   nearest_ranges = first_of (filter_map (ranges_of s u) (e ∷ enclosing e.depth before))
 
-  -- what is said where the nearest ranges are a group's
+  -- The answer if the nearest ranges are a group's.
   said_here : (g : Groups) (n : Option ℕ) (p : ℕ) → HasRanges g n nearest_ranges → entry_said s u g.covers.items n e p
       ≡ entry_says s u p (record { entry = e; own = ranges_of s u e; nearest = nearest_ranges })
   said_here g n p has =
@@ -109,7 +109,7 @@ module _ (s : ListSections) (u : Unit) (first : Groups) (old : Locations) (befor
         locations_noted = located.1;
       }
 
--- nothing is placed yet
+-- Nothing is added yet.
 pub placed_none : (s : ListSections) (u : Unit) (first : Groups) (old : Locations) (before : List NamedList) (state : UnitState)
     (f : UnitFaults) →
     AreNumbered first →
@@ -132,7 +132,7 @@ placed_none s u first old before state f numbered held no_ranges no_locations no
       (record { lacks = refl; bad = refl });
 }
 
--- all of a unit is
+-- All entries of a unit are added.
 pub unit_placed : (s : ListSections) (es : List ListedEntry) (first g : Groups) (old kept : Locations) (before named : List NamedList)
     (state : UnitState)
     (done : List Entry)
@@ -159,7 +159,7 @@ unit_placed s es first g old kept before named state done f x =
       bad_locations = bad_all locations_kind s.locations s.units.addr (plain_unit es) attrs f.locations (plain_attrs es) x.locations_noted;
     }
 
--- the next of some listed entries
+-- The next of the listed entries
 
 module _ (s : ListSections) (u : Unit) (first : Groups) (old : Locations) (before : List NamedList) (g : Groups) (kept : Locations)
     (named : List NamedList) (state : UnitState) (f : UnitFaults)

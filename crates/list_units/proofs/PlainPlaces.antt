@@ -1,4 +1,4 @@
--- What is placed of a unit goes by what is listed of its entries.
+-- The locations of a unit depend on its listed entries only.
 use Rattle.std.proofs.Common.{◌≡◌, ◌∙◌, ◌++◌, ◌∷◌, [], ℕ, Bool, true, false, List, Option, refl, sym, ap, subst, map}
 use Rattle.std.specs.Prelude.{if◌then◌else◌, nat_lt, flat_map, filter_map}
 use Rattle.std.specs.List.{cons_option}
@@ -97,7 +97,7 @@ lists_listed s place offset (e ∷ es) =
     ap (λ (l : List Attr). read_at s (whole s place offset (e ∷ es)) (firsts (offsets_in s (whole s place offset (e ∷ es)) l)))
     (attrs_listed (e ∷ es))
 
--- the unit that was read is placed
+-- The unit that was read.
 pub unit_of_listed : (s : ListSections) (u : Unit) (es : List ListedEntry) (first g : Groups) (old kept : Locations)
     (before named : List NamedList) (f : UnitFaults) →
     map listed u.entries ≡ es → IsUnitPlaced s (plain_unit es) first old before g kept named f →

@@ -1,4 +1,4 @@
--- What is gathered of a unit goes by what is listed of its entries.
+-- The ranges of a unit depend on its listed entries only.
 use Rattle.std.proofs.Common.{◌≡◌, ◌∙◌, ◌++◌, ◌∷◌, [], ℕ, List, refl, sym, ap, map, filter, subst}
 use Rattle.std.specs.Prelude.{not, is_some, flat_map, filter_map, option_map}
 use Rattle.std.specs.List.{list_any}
@@ -36,7 +36,7 @@ module _ (s : ListSections) (place offset : ℕ) where
   seen_listed [] a = refl
   seen_listed (e ∷ ds) a = seen_rest e ds (e ∷ ds) a
 
-  -- and what is wrong with its lists of a kind
+  -- The faults of its lists of a kind.
   pub lacks_listed : (k : Kind) (section : List ℕ) (es : List Entry) →
       lacks_offset k section (plain_unit (map listed es)) ≡ lacks_offset k section (whole es)
   lacks_listed k section [] = refl
@@ -51,7 +51,7 @@ module _ (s : ListSections) (place offset : ℕ) where
       ap (λ (l : List Attr). map (table_place section) (filter (λ at. not (is_some (list_at k section s.units.addr (whole (e ∷ ds)) at)))
       (filter_map (list_offset k section (whole (e ∷ ds))) (filter (has_list k) l)))) (attrs_listed (e ∷ ds))
 
--- and so are the indexes that it uses
+-- The indexes that it uses.
 pub unit_indexed : (k : Kind) (u : Unit) (es : List ListedEntry) → map listed u.entries ≡ es →
     indexed_of k (plain_unit es) ≡ indexed_of k u
 unit_indexed k u es is = ap (λ (l : List ListedEntry). indexed_of k (plain_unit l)) (sym is) ∙ by u.place u.abbrev_offset u.entries
@@ -67,7 +67,7 @@ unit_indexed k u es is = ap (λ (l : List ListedEntry). indexed_of k (plain_unit
         }
         ∷ []) (attrs_listed (e ∷ es))
 
--- the unit that was read is gathered
+-- The unit that was read.
 pub unit_of_listed : (s : ListSections) (u : Unit) (es : List ListedEntry) (old new : Groups) (olds news : List RangedEntry)
     (f : ListFaults) →
     map listed u.entries ≡ es → IsUnitGathered s (plain_unit es) old olds new news f → IsUnitGathered s u old olds new news f

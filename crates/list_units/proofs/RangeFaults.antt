@@ -1,4 +1,4 @@
--- Which fault of the sections of ranges is answered, and what is read where there is none.
+-- The fault of the sections of ranges that is reported, and the result if there is none.
 use Rattle.std.proofs.Common.{◌≡◌, ◌∙◌, ℕ, Bool, true, false, cond, List, [], ◌∷◌, Option, Some, None, refl, sym, ap, map, filter}
 use Rattle.std.specs.Prelude.{find, flat_map, not, option_map}
 use Rattle.std.specs.Option.{option_or, option_map_or}
@@ -15,7 +15,7 @@ use Rattle.dw_lists.specs.Lists.{ranges_kind}
 use Rattle.list_units.specs.RangeReading.{IsProgress, is_bad_unit, AreRangesOf}
 use Rattle.list_units.proofs.CoveringEntries.{held_are}
 
--- what passes a test passes one that asks less
+-- If nothing passes a test, nothing passes a stronger one.
 pub place_none : (p q : Walked → Bool) → ((w : Walked) → p w ≡ true → q w ≡ true) → (ws : List Walked) →
     first_place q ws ≡ None → first_place p ws ≡ None
 place_none p q weaker [] e = refl
@@ -36,7 +36,7 @@ of_tables s = map (λ (w : Walked). w.place) (filter (λ (w : Walked). not (opti
 abbrev of_units : ListSections → Option ℕ
 of_units s = first_place (is_bad_unit s) (walked 5 s.units.info)
 
--- units first, then tables of addresses, then tables of lists
+-- Units come first, then address tables, then tables of lists.
 pub bad_is : (s : ListSections) (p : Progress) (o : Option ℕ) → IsProgress s (walked 5 s.units.info) p → o ≡ least (of_tables s) →
     option_or p.bad (option_or (bad_address_table s.units.addr) (lower o p.bad_table)) ≡ (range_places s).bad
 bad_is s p o are tables = by_bad p.bad refl
@@ -56,7 +56,7 @@ pub left_none : (a b : Option ℕ) → option_or a b ≡ None → a ≡ None
 left_none None b e = refl
 left_none (Some n) b e = absurd (cc)
 
--- without a fault all entries were read
+-- Without a fault all entries were read.
 pub ranges_read : (s : ListSections) (p : Progress) → IsProgress s (walked 5 s.units.info) p → IsFree (HasDwarfFault (range_places s)) →
     AreRangesOf s p.groups p.ranged.items p.indexed.items
 ranges_read s p are free =

@@ -29,7 +29,7 @@ use Rattle.list_units.proofs.FirstOffsets.{same_of, itself, firsts_more}
 use Rattle.dw_lists.proofs.RangeLists.{at_same}
 use Rattle.cover_lists.proofs.SmallSteps.{or_false, or_true}
 
--- a number more, by whether it was there
+-- One more number, by whether it was there
 
 other_is : (n m : ℕ) → n == m ≡ false → n ≢ m
 other_is n m e = grind (arith, nat_tests)
@@ -57,7 +57,7 @@ module _ (s : ListSections) (u : Unit) where
       ap (map (said_at s u)) (filter-append (can_read s u) xs ys)
       ∙ map-append (said_at s u) (filter (can_read s u) xs) (filter (can_read s u) ys)
 
-  -- one list is read
+  -- One list is read
 
   pub read_one : (olds : List KeptList) (l : KeptList) (ls : List Located) (at : ℕ) → location_list s u at ≡ Some ls → Says l ls →
       all_say (olds ++ l ∷ []) ≡ all_say olds ++ read_at s u (at ∷ [])
@@ -73,14 +73,14 @@ module _ (s : ListSections) (u : Unit) where
       sym (ap (λ (o : Option (List Located)). all_say olds ++ map (said_at s u) (if is_some o then at ∷ [] else [])) is
       ∙ append-nil (all_say olds))
 
-  -- nothing is known yet
+  -- Nothing is known yet.
   pub listed_none : (lists : List KeptList) (known : BTreeMap ℕ (Option ℕ)) → IsEmpty known → AreListed s u [] lists lists known
   listed_none lists known empty = record {
     keys = λ at. ap (λ (es : List (ℕ × Option ℕ)). is_some (lookup (is_at (nat_cmp at)) es)) empty;
     kept = sym (append-nil (all_say lists));
   }
 
-  -- a list that is known
+  -- A list that is known.
   pub listed_again : (offsets : List ℕ) (first lists : List KeptList) (known : BTreeMap ℕ (Option ℕ)) (at : ℕ) →
       is_some (get nat_cmp known at) ≡ true → AreListed s u offsets first lists known → AreListed s u (offsets ++ at ∷ []) first lists known
   listed_again offsets first lists known at there x =
@@ -90,7 +90,7 @@ module _ (s : ListSections) (u : Unit) where
         kept = x.kept ∙ ap (λ (l : List ℕ). all_say first ++ read_at s u l) (sym (firsts_again offsets at among));
       }
 
-  -- a list that was named before
+  -- A list that was referred to before.
   pub listed_still : (offsets : List ℕ) (first lists : List KeptList) (known : BTreeMap ℕ (Option ℕ)) (at : ℕ) →
       is_among offsets at ≡ true → AreListed s u (offsets ++ at ∷ []) first lists known → AreListed s u offsets first lists known
   listed_still offsets first lists known at among x = record {
@@ -98,7 +98,7 @@ module _ (s : ListSections) (u : Unit) where
     kept = x.kept ∙ ap (λ (l : List ℕ). all_say first ++ read_at s u l) (firsts_again offsets at among);
   }
 
-  -- a list that is read
+  -- A list that is read.
   pub listed_new : (offsets : List ℕ) (first olds news : List KeptList) (was known : BTreeMap ℕ (Option ℕ)) (at : ℕ) (o : Option ℕ) →
       get nat_cmp was at ≡ None → ((q : ℕ) → get nat_cmp known q ≡ cond (is_at (nat_cmp at) q) (Some o) (get nat_cmp was q)) →
       all_say news ≡ all_say olds ++ read_at s u (at ∷ []) → AreListed s u offsets first olds was →
@@ -153,7 +153,7 @@ module _ (s : ListSections) (u : Unit) where
         offsets_in s u (attrs ++ a ∷ []) ≡ offsets_in s u attrs ++ at ∷ []
     offsets_one at names offset = one_offset (Some at) names offset
 
-  -- the list of an attribute of an entry is noted with the others
+  -- The list of an attribute is counted with the others.
 
   pub names_list : (a : Attr) → is_located a.name ≡ true → is_formed a ≡ true → is_block a.form ≡ false → has_list locations_kind a ≡ true
   names_list a name formed block =
@@ -202,7 +202,7 @@ module _ (s : ListSections) (u : Unit) where
           (ap (λ (y : Attr). list_offset locations_kind s.locations u y) same ∙ offset)
       step false e f ih good = λ block at offset. among_behind x attrs at (ih f block at offset)
 
-  -- an attribute that is found says where something is, and is formed
+  -- An attribute that is found is a location, in a form that is read.
   pub found_formed : (name : ℕ) (attrs : List Attr) (a : Attr) → is_located name ≡ true → are_formed attrs ≡ true →
       find (λ (x : Attr). x.name == name) attrs ≡ Some a → (is_located a.name ≡ true) × (is_formed a ≡ true)
   found_formed name [] a located formed found = absurd (cc)

@@ -1,4 +1,4 @@
--- What was read of some units, with what is read of the next one.
+-- The ranges of some units, with the result for the next one.
 use Rattle.std.proofs.Common.{◌≡◌, ◌∙◌, ◌||◌, ◌++◌, ◌∷◌, [], ℕ, Bool, true, false, List, Option, Some, None, Result, Ok, Err, refl, sym, ap}
 use Rattle.std.proofs.Common.{subst, map}
 use Rattle.std.specs.Prelude.{if◌then◌else◌, flat_map, is_some, MatchOption}
@@ -49,7 +49,7 @@ read_unit (Ok u) es e = (u, refl, same_ok e)
     same_ok e = cc
 read_unit (Err t) es e = absurd (cc)
 
--- what is known of a unit by whether its entries were read
+-- The result for a unit, by whether its entries were read.
 pub entries_by : (s : ListSections) (w : Walked) (r : UnitReading) (o : Option (Vec ListedEntry)) →
     IsReading s.units.abbrevs s.units.addr w r →
     r.entries ≡ o → MatchOption o (fails (is_sound_unit s.units.addr) (unit_of s.units.abbrevs w) ≡ true)
@@ -60,7 +60,7 @@ entries_by s w r o is e = subst (λ o. MatchOption o (fails (is_sound_unit s.uni
     × (listed_unit (unit_of s.units.abbrevs w) ≡ Ok es.items)))
     e is.behind.entries
 
--- the indexes of one unit more
+-- The indexes of one more unit.
 pub indexes_more : (s : ListSections) (k : Kind) (ws : List Walked) (w : Walked) (u : Unit) (old new : List IndexedUnit) →
     unit_of s.units.abbrevs w ≡ Ok u → new ≡ old ++ indexed_of k u → old ≡ flat_map (indexed_of k) (units_of s ws) →
     new ≡ flat_map (indexed_of k) (units_of s (ws ++ w ∷ []))
@@ -86,7 +86,7 @@ module _ (s : ListSections) (ws : List Walked) (w : Walked) (old new : Progress)
   none_bad : (place : ℕ) → new.bad ≡ Some place → new.bad ≡ None → AreGathered s (ws ++ w ∷ []) new
   none_bad place now none = let e : None ≡ Some place = sym none ∙ now in absurd (cc)
 
-  -- one was bad before
+  -- A unit before was bad.
   pub bad_stays : (place : ℕ) → AreNumbered new.groups → AreWithin new.groups.count new.ranged.items → old.bad ≡ Some place →
       new.bad ≡ Some place → IsProgress s (ws ++ w ∷ []) new
   bad_stays place numbered within before now =
@@ -100,7 +100,7 @@ module _ (s : ListSections) (ws : List Walked) (w : Walked) (old new : Progress)
       by_bad None e some = absurd (cc)
       by_bad (Some place) e some = bad_stays place numbered within e (same ∙ e)
 
-  -- this one can't be read
+  -- This unit can't be read.
   pub bad_first : AreNumbered new.groups → AreWithin new.groups.count new.ranged.items → old.bad ≡ None → r.entries ≡ None →
       new.bad ≡ Some w.place → IsProgress s (ws ++ w ∷ []) new
   bad_first numbered within before none now =
@@ -108,7 +108,7 @@ module _ (s : ListSections) (ws : List Walked) (w : Walked) (old new : Progress)
       ap (λ (b : Bool). b || has_bad_offset ranges_kind s.ranges (unit_of s.units.abbrevs w)) (entries_by s w r None is none) in
       with_bad numbered within (now ∙ sym (bad_now (is_bad_unit s) ws w (sym are.bad ∙ before) bad)) (none_bad w.place now)
 
-  -- this one was read
+  -- This unit was read.
   module _ (es : List ListedEntry) (f : ListFaults) (before : old.bad ≡ None)
       (good : fails (is_sound_unit s.units.addr) (unit_of s.units.abbrevs w) ≡ false) (u : Unit) (read : unit_of s.units.abbrevs w ≡ Ok u)
       (g : IsUnitGathered s u old.groups old.ranged.items new.groups new.ranged.items f)
@@ -138,7 +138,7 @@ module _ (s : ListSections) (ws : List Walked) (w : Walked) (old new : Progress)
           indexes = indexes_more s ranges_kind ws w u old.indexed.items new.indexed.items read indexes was.indexes;
         })
 
--- a unit whose entries can be read
+-- A unit whose entries can be read.
 pub unit_added : (s : ListSections) (ws : List Walked) (w : Walked) (old mid new : Progress) (r : UnitReading) (es : Vec ListedEntry) →
     IsProgress s ws old → IsReading s.units.abbrevs s.units.addr w r → mid.bad_form ≡ lower old.bad_form r.bad_form →
     mid.bad_high ≡ lower old.bad_high r.bad_high → mid.unformed ≡ lower old.unformed r.unformed → mid.groups ≡ old.groups →

@@ -1,4 +1,4 @@
--- Ranges of the entries of units, one after another.
+-- The ranges of the entries of units, one after another.
 use Rattle.std.specs.Prelude.{◌≡◌, ◌++◌, ◌==◌, ℕ, Bool, List, [], ◌∷◌, map, if◌then◌else◌, flat_map, Option, Some, None}
 use Rattle.std.specs.Prelude.{option_and_then}
 use Rattle.std.specs.BTreeMap.{BTreeMap}
@@ -21,12 +21,12 @@ use Rattle.dw_lists.specs.Lists.{ranges_kind}
 use Rattle.dw_lists.specs.Ranges.{ranges_of}
 use Rattle.dw_lists.specs.UnitLists.{own_place}
 
--- what is kept of an entry that has ranges, and whether these hold an address
+-- The fields that are kept of an entry with ranges, and whether the ranges contain an address.
 pub record SeenEntry : Type 0 where
   pub place : ℕ
-  -- the place of its unit's own entry
+  -- The offset of its unit's own entry.
   pub own : ℕ
-  -- where its ranges are named by an index
+  -- The index of its range list, if it refers to the list by an index.
   pub index : Option ℕ
   pub held : Bool
 
@@ -40,12 +40,12 @@ seen_of place own index None a = []
 seen_of place own index (Some ranges) a =
     record { place = place; own = own; index = index; held = list_any (holds_address a) ranges } ∷ []
 
--- of the entries of a unit
+-- For the entries of a unit.
 abbrev pub seen_in : ListSections → Unit → List Entry → ℕ → List SeenEntry
 seen_in s u es a =
     flat_map (λ (e : Entry). seen_of e.place (own_place u) (ranges_index e.attrs) (ranges_of s u e) a) es
 
--- of those that were kept
+-- For the entries that were kept.
 abbrev pub seen_kept : List Cover → List RangedEntry → ℕ → List SeenEntry
 seen_kept covers kept a =
     map (λ (r : RangedEntry). record {
@@ -56,14 +56,14 @@ seen_kept covers kept a =
     })
     kept
 
--- Entries with ranges are added, and no other changes what it holds.
+-- Entries with ranges are added, and the ranges of the others don't change.
 pub record AreAdded (old : Groups) (olds : List RangedEntry) (new : Groups) (news : List RangedEntry)
     (seen : ℕ → List SeenEntry) : Type 0 where
   pub grow : Grow old new
   pub within : AreWithin new.count news
   pub seen_are : (a : ℕ) → seen_kept new.covers.items news a ≡ seen_kept old.covers.items olds a ++ seen a
 
--- some entries of a unit were added, and their lists looked up
+-- Some entries of a unit were added, and their lists looked up.
 pub record IsGathering (s : ListSections) (u : Unit) (old : Groups) (olds : List RangedEntry) (new : Groups)
     (news : List RangedEntry) (known : BTreeMap ℕ (Option ℕ)) (es : List Entry) (attrs : List Attr) (f : ListFaults) :
     Type 0 where
@@ -71,7 +71,7 @@ pub record IsGathering (s : ListSections) (u : Unit) (old : Groups) (olds : List
   pub known_are : AreKnown (range_list s u) new known
   pub noted : IsNoted s u attrs f
 
--- all of a unit, with what is wrong with its lists
+-- All entries of a unit were added, with the faults of its lists.
 pub record IsUnitGathered (s : ListSections) (u : Unit) (old : Groups) (olds : List RangedEntry) (new : Groups)
     (news : List RangedEntry) (f : ListFaults) : Type 0 where
   pub added : AreAdded old olds new news (seen_in s u u.entries)

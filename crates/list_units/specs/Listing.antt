@@ -1,4 +1,4 @@
--- Which attributes of which entries name location lists, and what these say. DWARF 5, section 7.29.
+-- The attributes of entries that refer to location lists, and the contents of these. DWARF 5, section 7.29.
 use Rattle.std.specs.Prelude.{◌≡◌, ◌<◌, ◌==◌, ◌++◌, ℕ, List, [], ◌∷◌, if◌then◌else◌, length, flat_map, option_and_then}
 use Rattle.std.specs.Prelude.{Option, Some, None}
 use Rattle.std.specs.List.{AllZip}
@@ -14,13 +14,13 @@ use Rattle.dw_lists.specs.Lists.{locations_kind, has_list, list_of}
 use Rattle.cover_lists.specs.Located.{Located, in_force}
 use Rattle.dw_lists.specs.UnitLists.{own_place}
 
--- an attribute that names a list, and what the list says
+-- An attribute that refers to a list, and the list's contents.
 pub record ListItem : Type 0 where
   pub place : ℕ
   pub attr : ℕ
-  -- the place of its unit's own entry
+  -- The offset of its unit's own entry.
   pub own : ℕ
-  -- where the list is named by an index
+  -- The index of the list, if the attribute refers to it by an index.
   pub index : Option ℕ
   pub list : List Located
 
@@ -35,7 +35,7 @@ item_of place attr own index None = []
 item_of place attr own index (Some ls) =
     record { place = place; attr = attr; own = own; index = index; list = ls } ∷ []
 
--- of the attribute of a name that an entry at a place may have
+-- For the attribute with a name, if the entry at an offset has it.
 abbrev pub attr_items : ListSections → Unit → (place name : ℕ) → Option Attr → List ListItem
 attr_items s u place name None = []
 attr_items s u place name (Some a) = item_of place name (own_place u) (list_index a) (list_named s u a)
@@ -50,7 +50,7 @@ unit_items s u = flat_map (entry_items s u) u.entries
 abbrev pub all_items : ListSections → List ListItem
 all_items s = flat_map (unit_items s) (units s.units)
 
--- what is kept of such an attribute
+-- The fields that are kept of such an attribute.
 pub record IsNameOf (lists : List KeptList) (n : NamedList) (x : ListItem) : Type 0 where
   pub place : n.place ≡ x.place
   pub attr : n.attr ≡ x.attr
@@ -62,19 +62,19 @@ pub record IsNameOf (lists : List KeptList) (n : NamedList) (x : ListItem) : Typ
 abbrev pub AreNamesOf : List KeptList → List NamedList → List ListItem → Type 0
 AreNamesOf lists named items = AllZip (IsNameOf lists) named items
 
--- behind the names of other attributes those of some were added
+-- The kept attributes of some entries are added after others.
 abbrev pub HasMore : (olds lists : List KeptList) → (before named : List NamedList) → List ListItem → Type 0
 HasMore olds lists before named items =
     (others : List ListItem) → AreNamesOf olds before others → AreNamesOf lists named (others ++ items)
 
--- the list that the attribute of a name names, if an entry has it
+-- The contents of the list to which the attribute with a name refers, if an entry has it.
 abbrev pub list_found : ListSections → Unit → ℕ → Entry → Option (List Located)
 list_found s u name e = option_and_then (list_named s u) (attr name e)
 
 abbrev pub index_found : ℕ → Entry → Option ℕ
 index_found name e = option_and_then list_index (attr name e)
 
--- a name of a list of a number, if there is one
+-- The kept attribute for a list with a number, if there is a number.
 abbrev pub name_of : (place attr own : ℕ) → Option ℕ → Option ℕ → List NamedList
 name_of place attr own index None = []
 name_of place attr own index (Some n) =

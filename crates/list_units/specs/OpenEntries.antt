@@ -1,4 +1,4 @@
--- The entries that the next one may lie in, the innermost first.
+-- The entries that the next one may be nested in, the innermost first.
 use Rattle.std.specs.Prelude.{◌≡◌, ℕ, Bool, false, not, List, [], ◌∷◌, nat_lt, if◌then◌else◌, filter_map, Option, None}
 use Rattle.answer_runs.specs.declared.range.Range.{Range}
 use Rattle.answer_runs.specs.Choices.{first_of}
@@ -7,12 +7,12 @@ use Rattle.cover_lists.specs.declared.groups.Groups.{Groups}
 use Rattle.list_units.specs.declared.open_entries.OpenEntry.{OpenEntry}
 use Rattle.cover_lists.specs.Groups.{HasRanges}
 
--- an entry of a depth ends the first one
+-- An entry of depth `depth` isn't nested in the first one.
 abbrev pub ends : ℕ → List OpenEntry → Bool
 ends depth [] = false
 ends depth (o ∷ os) = not (nat_lt o.depth depth)
 
--- those that it leaves open
+-- The entries that stay open.
 abbrev pub closed : ℕ → List OpenEntry → List OpenEntry
 closed depth [] = []
 closed depth (o ∷ os) = if nat_lt o.depth depth then o ∷ os else closed depth os
@@ -21,12 +21,12 @@ abbrev pub nearest : List OpenEntry → Option ℕ
 nearest [] = None
 nearest (o ∷ os) = o.nearest
 
--- the last of some entries, with those that it lies in; `before` has them from the last on
+-- The last of some entries, and its ancestors. The entries are listed from the last back.
 abbrev pub chain : List Entry → List Entry
 chain [] = []
 chain (e ∷ before) = e ∷ enclosing e.depth before
 
--- Some entries, each of which lies in the next, are open.
+-- These entries are open, each nested in the next.
 abbrev pub AreOpen : (Entry → Option (List Range)) → Groups → List Entry → List OpenEntry → Type 0
 AreOpen own g [] [] = Unit {0}
 AreOpen own g [] (o ∷ os) = ⊥

@@ -1,4 +1,4 @@
--- What was read of the locations of some units.
+-- The result of reading the locations of some units.
 use Rattle.std.specs.Prelude.{◌≡◌, ◌||◌, ◌++◌, ℕ, Bool, List, if◌then◌else◌, flat_map, Some, None}
 use Rattle.rb_bytes.specs.FirstFault.{IsFree}
 use Rattle.answer_runs.specs.Choices.{lower, least}
@@ -27,14 +27,14 @@ use Rattle.list_units.specs.UnitLocations.{AreHeld, all_located}
 use Rattle.dw_lists.specs.declared.indexed_unit.IndexedUnit.{IndexedUnit}
 use Rattle.dw_lists.specs.IndexedUnits.{indexed_of, indexed_units}
 
--- a unit that can't be read, or names a list of either kind that isn't there
+-- A unit that can't be read, or an attribute of it has a bad offset of a list of either kind.
 abbrev pub is_bad_unit : ListSections → Walked → Bool
 is_bad_unit s w = is_bad s.units w || has_bad_offsets s w
 
 abbrev pub unit_says : ListSections → ℕ → Unit → List PlaceSaid
 unit_says s p u = flat_map (entry_says s u p) (ranged_in s u)
 
--- all units were read: what they say of locations, and the lowest tables whose lists can't be read
+-- All units were read: their locations, and the lowest tables with lists that can't be read.
 pub record AreGathered (s : ListSections) (ws : List Walked) (p : PlaceProgress) : Type 0 where
   pub held : AreHeld p.groups.count p.kept
   pub says : (a : ℕ) → all_located p.groups.covers.items p.kept.lists.items p.kept.located.items a
@@ -54,7 +54,7 @@ pub record IsProgress (s : ListSections) (ws : List Walked) (p : PlaceProgress) 
   pub bad : p.bad ≡ first_place (is_bad_unit s) ws
   pub gathered : p.bad ≡ None → AreGathered s ws p
 
--- the entries of a unit at a place were added, and what is wrong with its lists noted
+-- The entries of the unit at an offset were added, with the faults of its lists.
 pub record IsUnitAdded (s : ListSections) (es : List ListedEntry) (place : ℕ) (old new : PlaceProgress) : Type 0 where
   pub faults : UnitFaults
   pub placed : IsUnitPlaced s (plain_unit es) old.groups old.kept old.named.items new.groups new.kept new.named.items
@@ -67,7 +67,7 @@ pub record IsUnitAdded (s : ListSections) (es : List ListedEntry) (place : ℕ) 
   pub high : new.bad_high ≡ old.bad_high
   pub unformed_is : new.unformed ≡ old.unformed
 
--- What sections without a fault say of locations, and the indexes that units use.
+-- The locations of sections without a fault, and the indexes that units use.
 pub record ArePlacesOf (s : ListSections) (groups : Groups) (kept : Locations) (named : List NamedList)
     (indexed : List IndexedUnit) : Type 0 where
   pub free : IsFree (HasDwarfFault (location_places s))

@@ -22,14 +22,14 @@ use Rattle.cover_lists.specs.KeptLists.{all_say}
 use Rattle.dw_lists.specs.UnitLists.{ReadsLists}
 use Rattle.list_units.specs.UnitLocations.{ReadsLocations, AreRead, AreHeld, all_located}
 
--- what a unit needs to read its ranges and locations
+-- What a unit needs to read its ranges and locations.
 pub record ReadsUnit (s : ListSections) (u : Unit) (c : UnitContext) : Type 0 where
   pub section : c.ranges.bytes.now ≡ s.ranges
   pub lists : ReadsLists ranges_kind s.units.addr u c.lists
   pub locations : ReadsLocations s u c.locations
 
--- Entries of a unit were placed, the last one first, and the others of it aren't yet. What was said before is said
--- still, and lists that were named before have their names.
+-- The entries `done` of a unit were added, the last one first, and the entries `rest` are left. Locations that were
+-- there before, and attributes that refer to lists, are kept.
 pub record ArePlaced (s : ListSections) (u : Unit) (first : Groups) (old : Locations) (before : List NamedList)
     (g : Groups)
     (kept : Locations) (named : List NamedList) (state : UnitState) (done rest : List Entry) (attrs : List Attr)
@@ -52,7 +52,7 @@ pub record ArePlaced (s : ListSections) (u : Unit) (first : Groups) (old : Locat
   pub ranges_noted : AreNoted ranges_kind s.ranges s.units.addr u attrs f.ranges
   pub locations_noted : AreNoted locations_kind s.locations s.units.addr u attrs f.locations
 
--- all of a unit, with what is wrong with its lists
+-- All entries of a unit were added, with the faults of its lists.
 pub record IsUnitPlaced (s : ListSections) (u : Unit) (first : Groups) (old : Locations) (before : List NamedList)
     (g : Groups)
     (kept : Locations) (named : List NamedList) (f : UnitFaults) : Type 0 where

@@ -1,4 +1,4 @@
--- What was read of the ranges of some units.
+-- The result of reading the ranges of some units.
 use Rattle.std.specs.Prelude.{◌≡◌, ◌||◌, ◌++◌, ℕ, Bool, List, if◌then◌else◌, flat_map, map, Some, None}
 use Rattle.answer_runs.specs.Choices.{lower, least}
 use Rattle.table_core.specs.DebugUnits.{Walked, first_place}
@@ -22,14 +22,14 @@ use Rattle.dw_lists.specs.Lists.{ranges_kind}
 use Rattle.dw_lists.specs.declared.indexed_unit.IndexedUnit.{IndexedUnit}
 use Rattle.dw_lists.specs.IndexedUnits.{indexed_of, indexed_units}
 
--- a unit that can't be read, or names a list that isn't there
+-- A unit that can't be read, or an attribute of it has a bad offset of a list.
 abbrev pub is_bad_unit : ListSections → Walked → Bool
 is_bad_unit s w = is_bad s.units w || has_bad_offset ranges_kind s.ranges (unit_of s.units.abbrevs w)
 
 abbrev pub units_of : ListSections → List Walked → List Unit
 units_of s ws = oks (map (unit_of s.units.abbrevs) ws)
 
--- all units were read: what their entries hold, and the lowest table whose list can't be read
+-- All units were read: the addresses in their entries' ranges, and the lowest table with a list that can't be read.
 pub record AreGathered (s : ListSections) (ws : List Walked) (p : Progress) : Type 0 where
   pub seen : (a : ℕ) → seen_kept p.groups.covers.items p.ranged.items a
       ≡ flat_map (λ (u : Unit). seen_in s u u.entries a) (units_of s ws)
@@ -45,7 +45,7 @@ pub record IsProgress (s : ListSections) (ws : List Walked) (p : Progress) : Typ
   pub bad : p.bad ≡ first_place (is_bad_unit s) ws
   pub gathered : p.bad ≡ None → AreGathered s ws p
 
--- the entries of a unit at a place were added, and what is wrong with its lists noted
+-- The entries of the unit at an offset were added, with the faults of its lists.
 pub record IsUnitAdded (s : ListSections) (es : List ListedEntry) (place : ℕ) (old new : Progress) : Type 0 where
   pub faults : ListFaults
   pub gathered : IsUnitGathered s (plain_unit es) old.groups old.ranged.items new.groups new.ranged.items faults
@@ -59,7 +59,7 @@ pub record IsUnitAdded (s : ListSections) (es : List ListedEntry) (place : ℕ) 
 abbrev pub all_seen : ListSections → ℕ → List SeenEntry
 all_seen s a = flat_map (λ (u : Unit). seen_in s u u.entries a) (units s.units)
 
--- The entries that have ranges, and the indexes that units use, of sections without a fault.
+-- The entries with ranges, and the indexes that units use, of sections without a fault.
 pub record AreRangesOf (s : ListSections) (groups : Groups) (ranged : List RangedEntry)
     (indexed : List IndexedUnit) : Type 0 where
   pub free : IsFree (HasDwarfFault (range_places s))

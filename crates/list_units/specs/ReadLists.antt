@@ -18,43 +18,43 @@ use Rattle.dw_lists.specs.Lists.{locations_kind, has_list, list_offset}
 use Rattle.cover_lists.specs.ListRuns.{is_among}
 use Rattle.cover_lists.specs.Located.{in_force}
 
--- each number of a list once, where it stands first
+-- Each number of a list once, at its first occurrence.
 abbrev pub firsts : List ℕ → List ℕ
 firsts [] = []
 firsts (n ∷ ns) = n ∷ filter (λ m. not (n == m)) (firsts ns)
 
--- what the list at an offset says, and nothing if it can't be read
+-- The expressions in force of the list at an offset; none if it can't be read.
 abbrev pub said_at : ListSections → Unit → ℕ → ℕ → List (List ℕ)
 said_at s u at a = option_map_or (λ ls. in_force ls a) (location_list s u at) []
 
 abbrev pub can_read : ListSections → Unit → ℕ → Bool
 can_read s u at = is_some (location_list s u at)
 
--- what the lists at some offsets say, of those that can be read
+-- The expressions of the lists at some offsets, for those that can be read.
 abbrev pub read_at : ListSections → Unit → List ℕ → List (ℕ → List (List ℕ))
 read_at s u offsets = map (said_at s u) (filter (can_read s u) offsets)
 
--- the offsets of the lists that some attributes name
+-- The offsets of the lists to which some attributes refer.
 abbrev pub offsets_in : ListSections → Unit → List Attr → List ℕ
 offsets_in s u attrs = filter_map (list_offset locations_kind s.locations u) (filter (has_list locations_kind) attrs)
 
--- the lists that a unit names
+-- The lists to which a unit refers.
 abbrev pub unit_lists : ListSections → Unit → List (ℕ → List (List ℕ))
 unit_lists s u = read_at s u (firsts (list_offsets locations_kind s.locations u))
 
--- The lists at some offsets are known, and those that can be read are kept, each once, behind others.
+-- The lists at these offsets are known, and those that can be read are kept, each once, after others.
 pub record AreListed (s : ListSections) (u : Unit) (offsets : List ℕ) (first lists : List KeptList)
     (known : BTreeMap ℕ (Option ℕ)) : Type 0 where
   pub keys : (at : ℕ) → is_some (get nat_cmp known at) ≡ is_among offsets at
   pub kept : all_say lists ≡ all_say first ++ read_at s u (firsts offsets)
 
--- the list of an attribute, if it names one, is at one of some offsets
+-- The list of an attribute, if it refers to one, is at one of these offsets.
 abbrev pub IsOffsetAmong : ListSections → Unit → List ℕ → Attr → Type 0
 IsOffsetAmong s u offsets a =
     is_block a.form ≡ false → (at : ℕ) → list_offset locations_kind s.locations u a ≡ Some at →
     is_among offsets at ≡ true
 
--- an attribute that says where something is holds an expression or names a list
+-- A location attribute has an expression or refers to a list.
 abbrev pub is_formed : Attr → Bool
 is_formed a = implies (is_located a.name) (is_block a.form || a.form == DW_FORM_sec_offset
     || a.form == DW_FORM_loclistx)

@@ -21,55 +21,55 @@ use Rattle.dw_lists.specs.Lists.{locations_kind}
 use Rattle.dw_lists.specs.Locations.{expressions_of, PlaceSaid, attr_says}
 use Rattle.dw_lists.specs.UnitLists.{ReadsLists}
 
--- what a unit needs to read its locations
+-- What a unit needs to read its locations.
 pub record ReadsLocations (s : ListSections) (u : Unit) (l : code.UnitLocations) : Type 0 where
   pub info : l.info.now ≡ s.units.info
   pub section : l.section.bytes.now ≡ s.locations
   pub lists : ReadsLists locations_kind s.units.addr u l.lists
 
--- the expressions of an attribute that are in force at an address
+-- The expressions of an attribute that are in force at an address.
 abbrev pub source_says : List KeptList → ℕ → Source → List (List ℕ)
 source_says lists a (Direct x) = x.items ∷ []
 source_says lists a (Listed n) = number_says lists n a
 
--- the number of a list, if it is one
+-- The number of the list, if the expressions are in a list.
 abbrev pub number_in : Source → Option ℕ
 number_in (Direct x) = None
 number_in (Listed n) = Some n
 
--- the number of a list, if a source is one, is below the count of lists
+-- The number of the list, if there is one, is below `count`.
 abbrev pub IsListed : ℕ → Source → Type 0
 IsListed count (Direct x) = Prim.Unit {0}
 IsListed count (Listed n) = n < count
 
--- where the expressions of an attribute are, or of none
+-- The source of an attribute's expressions, if there is one.
 pub record IsSourceOf (s : ListSections) (u : Unit) (lists : List KeptList) (a : Attr)
     (source : Option Source) : Type 0 where
   pub listed : (x : Source) → source ≡ Some x → IsListed (length lists) x
   pub says : (p : ℕ) → option_map_or (source_says lists p) source [] ≡ expressions_of s u a p
 
--- where the expressions are of an attribute that an entry may have
+-- The source of the expressions of an attribute that an entry may have.
 pub record IsNamedSource (s : ListSections) (u : Unit) (lists : List KeptList) (a : Option Attr)
     (source : Option Source) : Type 0 where
   pub listed : (x : Source) → source ≡ Some x → IsListed (length lists) x
   pub says : (p : ℕ) → option_map_or (source_says lists p) source [] ≡ option_map_or (λ v. expressions_of s u v p) a []
 
--- more lists were read, and none was forgotten
+-- More lists were read, and none was forgotten.
 pub record AreRead (s : ListSections) (u : Unit) (olds news : List KeptList)
     (known : BTreeMap ℕ (Option ℕ)) : Type 0 where
   pub more : AreMore olds news
   pub known_are : AreNumbersOf (location_list s u) news known
 
--- what is said of an attribute that is kept
+-- The answer of a kept attribute.
 abbrev pub located_says : List KeptList → ℕ → LocatedAttr → List PlaceSaid
 located_says lists p l = attr_says l.place l.attr (source_says lists p l.source)
 
--- what is said of all attributes whose ranges hold an address
+-- The answers of all attributes whose ranges contain an address.
 abbrev pub all_located : List Cover → List KeptList → List LocatedAttr → ℕ → List PlaceSaid
 all_located covers lists located p =
     flat_map (located_says lists p) (filter (λ (l : LocatedAttr). group_holds covers l.group p) located)
 
--- the attribute of an entry, if it is kept
+-- The attribute of an entry, if it is kept.
 abbrev pub located_of : ℕ → ℕ → Option ℕ → Option Source → List LocatedAttr
 located_of place name None source = []
 located_of place name (Some group) None = []
@@ -78,11 +78,11 @@ located_of place name (Some group) (Some x) = record { place = place; attr = nam
 abbrev pub IsHeld : ℕ → ℕ → LocatedAttr → Type 0
 IsHeld groups lists l = (l.group < groups) × IsListed lists l.source
 
--- the numbers of groups and of lists are below their counts
+-- The numbers of groups and of lists are below their counts.
 abbrev pub AreHeld : ℕ → Locations → Type 0
 AreHeld groups l = All (IsHeld groups (length l.lists.items)) l.located.items
 
--- the nearest ranges of an entry hold an address
+-- The nearest ranges of an entry contain an address.
 abbrev pub nearest_holds : List Cover → Option ℕ → ℕ → Bool
 nearest_holds covers nearest p = option_map_or (λ n. group_holds covers n p) nearest false
 
@@ -95,11 +95,11 @@ abbrev pub entry_said : ListSections → Unit → List Cover → Option ℕ → 
 entry_said s u covers nearest e p =
     attr_said s u covers nearest e DW_AT_location p ++ attr_said s u covers nearest e DW_AT_frame_base p
 
--- the number of a group, if there is one, is below the count of groups
+-- The number of a group, if there is one, is below the number of groups.
 abbrev pub IsNear : ℕ → Option ℕ → Type 0
 IsNear groups nearest = (n : ℕ) → nearest ≡ Some n → n < groups
 
--- some attributes were added, of which something is said where there are groups of some ranges
+-- Attributes were added; `said` gives their answers, for any groups of ranges.
 pub record AreLocated (s : ListSections) (u : Unit) (nearest : Option ℕ) (old new : Locations)
     (known : BTreeMap ℕ (Option ℕ))
     (said : List Cover → ℕ → List PlaceSaid) : Type 0 where

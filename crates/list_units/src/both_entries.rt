@@ -1,4 +1,4 @@
-// What the sections of a file say of ranges and of locations, read in one walk of its units, or their first fault.
+// The ranges and the locations of a file's entries, read in one walk of its units, or the first fault.
 ghost use Rattle.std.specs.Prelude.{◌≡◌, ◌++◌, ◌∷◌, [], List, IfOk, IfErr, OnOk};
 ghost use Rattle.std.specs.List.Sorted.{IsNonDecreasingBy};
 ghost use Rattle.rb_bytes.specs.FirstFault.{IsRefusalBy};
@@ -23,14 +23,14 @@ use rb_bytes::fault::{NoMemory, Refusal};
 use std::alloc::Global;
 use table_core::{DWARF_VERSION, debug_units, place_of};
 
-/// The entries that have ranges, and what all entries say of locations.
+/// The entries with ranges, and the locations of all entries.
 #[derive(Drop)]
 pub struct BothEntries {
     pub ranges: RangedEntries,
     pub places: PlacedEntries,
 }
 
-// Adds what is read of the next unit, which stands at offset `place`, to both.
+// Adds the result for the next unit, at offset `place`, to both.
 fn add_both(
     alloc: Global,
     sections: &PlaceSections<'_, '_>,
@@ -88,8 +88,8 @@ fn read_all(
     Ok((ranged, placed))
 }
 
-/// What all entries say of ranges and of locations, or the first fault of the sections that they are read from.
-/// `NoMemory` is answered, too, where more than `most` would be kept (`most_kept` of `dw_lists`).
+/// The ranges and locations of all entries, or the first fault of the sections that they are read from. Gives
+/// `NoMemory` also if more than `most` would be kept (`most_kept` of `dw_lists`).
 pub fn read_both(
     alloc: Global,
     info: &[u8],

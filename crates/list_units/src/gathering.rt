@@ -1,4 +1,4 @@
-// Ranges of the entries of a unit.
+// The ranges of the entries of a unit.
 ghost use Rattle.std.specs.Prelude.{◌≡◌, ◌++◌, ◌∷◌, [], ℕ, List, IfOk, OnOk, map, flat_map};
 ghost use Rattle.std.specs.List.Sorted.{IsNonDecreasingBy};
 ghost use Rattle.table_core.specs.DebugUnits.{walked};
@@ -25,7 +25,7 @@ use std::alloc::Global;
 use std::collections::BTreeMap;
 use table_core::form::DW_FORM_rnglistx;
 
-// The index by which an entry names its range list, where it does so by one.
+// The index of an entry's range list, if the entry refers to the list by an index.
 fn ranges_index(attrs: &[Attr]) -> Option<u64>
     ensures { result ≡ ranges_index attrs.now }
 {
@@ -60,7 +60,7 @@ fn put_ranged(
     }
 }
 
-// Adds the ranges of an entry, and to `others` what is wrong with the lists that it names.
+// Adds the ranges of an entry, and adds the faults of its lists to `others`.
 fn add_entry(
     alloc: Global,
     section: ListSection<'_, '_>,
@@ -90,8 +90,8 @@ fn add_entry(
     Ok(faults)
 }
 
-/// Adds the ranges of the entries of a unit: groups of ranges, and the entries that have them. Answers what is wrong
-/// with the lists that the unit names.
+/// Adds the ranges of the entries of a unit: groups of ranges, and the entries with these. Returns the faults of the
+/// unit's lists.
 pub fn add_unit(
     alloc: Global,
     section: ListSection<'_, '_>,

@@ -1,4 +1,4 @@
-// The attributes of entries that name location lists. DWARF 5, section 7.29.
+// The attributes of entries that refer to location lists. DWARF 5, section 7.29.
 ghost use Rattle.std.specs.Prelude.{◌≡◌, ◌++◌, OnOk, option_and_then};
 ghost use Rattle.dw_unit.specs.CompUnits as units;
 ghost use Rattle.list_units.specs.Listing as spec;
@@ -10,7 +10,7 @@ use dw_unit::{Attr, attr_named};
 use rb_bytes::fault::NoMemory;
 use table_core::form::DW_FORM_loclistx;
 
-// The index by which an attribute names its list, where it does so by one.
+// The index by which an attribute refers to its list, if it does so.
 fn list_index(attr: Attr) -> Option<u64>
     ensures { result ≡ spec.list_index attr }
 {
@@ -21,7 +21,7 @@ fn list_index(attr: Attr) -> Option<u64>
     }
 }
 
-/// The index by which the attribute `name` names its list, where there is one and does so.
+/// The index by which the attribute `name` refers to its list, if it is present and does so.
 pub fn index_of(attrs: &[Attr], name: u64) -> Option<u64>
     ensures { (e : units.Entry) → e.attrs ≡ attrs.now → result ≡ spec.index_found name e }
 {
@@ -29,7 +29,7 @@ pub fn index_of(attrs: &[Attr], name: u64) -> Option<u64>
     list_index(*attr)
 }
 
-/// The number of the list that has an attribute's expressions, where they are in a list.
+/// The number of the list with an attribute's expressions, if they are in a list.
 pub fn number_of(source: &Option<Source>) -> Option<usize>
     ensures { result ≡ option_and_then number_in source.now }
 {
@@ -39,7 +39,8 @@ pub fn number_of(source: &Option<Source>) -> Option<usize>
     }
 }
 
-/// Adds an attribute of the entry at `place` to those that name lists, if it names one that was read: `number`.
+/// Adds an attribute of the entry at `place` to those that refer to lists, if the list that it refers to was read:
+/// `number`.
 pub fn put_name(
     named: &mut Vec<NamedList>,
     place: u64,

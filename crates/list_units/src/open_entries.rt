@@ -8,13 +8,13 @@ use rb_bytes::fault::NoMemory;
 /// An entry that later ones may be nested in.
 #[derive(Clone, Copy)]
 pub struct OpenEntry {
-    /// How many entries it is nested in.
+    /// The number of entries that it is nested in.
     pub depth: u32,
-    /// The group of its nearest ranges: its own, or those of the innermost entry around it that has some.
+    /// The group of its nearest ranges: its own, or those of the innermost ancestor that has some.
     pub nearest: Option<usize>,
 }
 
-// Whether an entry at `depth` ends the last open one, so that it isn't nested in it.
+// Whether an entry at `depth` isn't nested in the last open one.
 fn ends(entries: &[OpenEntry], depth: u32) -> bool
     ensures { result ≡ spec.ends depth (reverse entries.now) }
 {
@@ -43,8 +43,8 @@ fn close(entries: &mut Vec<OpenEntry>, depth: u32)
     }
 }
 
-/// Opens the next entry, at `depth`, whose own ranges are the group `own`, and answers the group of its nearest ranges:
-/// its own, or else the nearest ones of the entry that it is nested in.
+/// Opens the next entry, at `depth`, with its own ranges as group `own`. Returns the group of its nearest ranges: its
+/// own, or the nearest ranges of its parent.
 pub fn enter(
     entries: &mut Vec<OpenEntry>,
     depth: u32,

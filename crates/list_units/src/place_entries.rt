@@ -1,4 +1,4 @@
-// What the sections of a file say of locations, and the faults of the sections that they are read from.
+// The locations of a file's entries, and the faults of the sections that they are read from.
 ghost use Rattle.std.specs.Prelude.{◌≡◌, []};
 ghost use Rattle.table_core.specs.DebugUnits.{walked};
 ghost use Rattle.dw_lists.specs.Faults.{ListSections, location_places};
@@ -17,19 +17,20 @@ use dw_unit::lowest::lower;
 use std::alloc::Global;
 use table_core::DebugUnit;
 
-/// What the entries of a file say of locations: the attributes with expressions, the lists that these name, and the
-/// groups of ranges.
+/// The locations of a file's entries: the attributes with expressions, the lists to which these refer, and the groups
+/// of ranges.
 #[derive(Drop)]
 pub struct PlacedEntries {
     pub groups: Groups,
     pub kept: Locations,
-    /// The attributes that name location lists, in the order of their entries, DW_AT_location before DW_AT_frame_base.
+    /// The attributes that refer to location lists, in the order of their entries, DW_AT_location before
+    /// DW_AT_frame_base.
     pub named: Vec<NamedList>,
-    /// The indexes of lists that units use, one after another.
+    /// The list indexes that units use, unit by unit.
     pub indexed: Vec<IndexedUnit>,
 }
 
-/// What was read before the first unit: nothing.
+/// The result before the first unit.
 pub(crate) fn nothing(alloc: Global) -> PlaceProgress
     ensures { (s : ListSections) → IsProgress s [] result }
 {
@@ -53,8 +54,7 @@ pub(crate) fn nothing(alloc: Global) -> PlaceProgress
     }
 }
 
-/// Of each fault the place that is answered: units first, then tables of addresses, then lists, ranges before
-/// locations.
+/// The place to report for each fault: units come first, then address tables, then lists, ranges before locations.
 pub(crate) fn fault_places(
     progress: &PlaceProgress,
     units: &[DebugUnit<'_>],

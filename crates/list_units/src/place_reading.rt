@@ -20,37 +20,38 @@ use dw_unit::unit_reading::UnitReading;
 use rb_bytes::fault::NoMemory;
 use std::alloc::Global;
 
-/// What was read so far: of the locations of some units, and of their faults.
+/// The result so far: the locations of some units, and their faults.
 #[derive(Drop)]
 pub struct PlaceProgress {
     pub groups: Groups,
     pub kept: Locations,
-    /// The attributes that name location lists, in the order of their entries, DW_AT_location before DW_AT_frame_base.
+    /// The attributes that refer to location lists, in the order of their entries, DW_AT_location before
+    /// DW_AT_frame_base.
     pub named: Vec<NamedList>,
-    /// The lowest place of a declaration with a bad form.
+    /// The lowest offset of a declaration with an unknown form.
     pub bad_form: Option<u64>,
-    /// The lowest place of a declaration with a high address that can't be changed in place.
+    /// The lowest offset of a declaration with a high address that can't be changed in place.
     pub bad_high: Option<u64>,
-    /// The lowest place of a declaration with a value that names no form.
+    /// The lowest offset of a declaration with a value of an unknown form.
     pub unformed: Option<u64>,
-    /// The first unit that can't be read, or names a list that isn't there.
+    /// The offset of the first unit that can't be read, or that has a bad offset of a list.
     pub bad: Option<u64>,
-    /// The lowest table with a range list that can't be read; it counts where no unit is bad.
+    /// The lowest table with a range list that can't be read. It counts if no unit is bad.
     pub bad_ranges: Option<u64>,
-    /// The lowest table with a location list that can't be read; it counts where no unit is bad.
+    /// The lowest table with a location list that can't be read. It counts if no unit is bad.
     pub bad_locations: Option<u64>,
-    /// The indexes of lists that units use, one after another.
+    /// The list indexes that units use, unit by unit.
     pub indexed: Vec<IndexedUnit>,
 }
 
-// Whether a unit names a list whose offset can't be read or is past the section.
+// Whether the offset of some list of a unit can't be read, or is past the section's end.
 fn lacks_offset(faults: &UnitFaults) -> bool
     ensures { result ≡ (faults.now.ranges.lacks_offset || faults.now.locations.lacks_offset) }
 {
     faults.ranges.lacks_offset || faults.locations.lacks_offset
 }
 
-// Adds the entries of a unit that can be read, and notes what is wrong with its lists.
+// Adds the entries of a unit that can be read, with the faults of its lists.
 fn add_entries(
     alloc: Global,
     sections: &PlaceSections<'_, '_>,
@@ -87,8 +88,8 @@ fn add_entries(
     Ok(())
 }
 
-/// Adds what is read of the next unit, which stands at offset `place`. Behind a unit that is bad only the faults of
-/// declarations and forms are noted, since these come first.
+/// Adds the result for the next unit, at offset `place`. After a bad unit only the faults of declarations and forms are
+/// added, since these come first.
 pub fn add_reading(
     alloc: Global,
     sections: &PlaceSections<'_, '_>,

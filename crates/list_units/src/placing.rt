@@ -32,7 +32,7 @@ use std::collections::BTreeMap;
 /// The sections that ranges and locations are read from.
 #[derive(Clone, Copy)]
 pub struct PlaceSections<'a, 't> {
-    /// `.debug_info`, in which expressions stand.
+    /// `.debug_info`, which has expressions.
     pub info: &'a [u8],
     /// `.debug_addr`.
     pub addr: &'a [u8],
@@ -48,7 +48,7 @@ pub struct UnitContext<'a, 't> {
     locations: UnitLocations<'a, 't>,
 }
 
-/// What is known of a unit while its entries are read, one after another.
+/// The state while the entries of a unit are read, one after another.
 #[derive(Drop)]
 pub struct UnitState {
     /// The range lists that were read.
@@ -59,14 +59,14 @@ pub struct UnitState {
     entries: Vec<OpenEntry>,
 }
 
-/// What is wrong with the lists that a unit names.
+/// The faults of a unit's lists.
 #[derive(Clone, Copy)]
 pub struct UnitFaults {
     pub ranges: ListFaults,
     pub locations: ListFaults,
 }
 
-// Adds the ranges and locations of an entry, and to `others` what is wrong with the lists that it names.
+// Adds the ranges and locations of an entry, and adds the faults of its lists to `others`.
 fn place_entry(
     alloc: Global,
     context: &UnitContext<'_, '_>,
@@ -129,8 +129,8 @@ fn nothing_known(alloc: Global) -> UnitState
     }
 }
 
-/// Adds the ranges and locations of the entries of a unit, and to `named` the attributes that name location lists.
-/// Answers what is wrong with the lists that the unit names.
+/// Adds the ranges and locations of the entries of a unit, and adds the attributes that refer to location lists to
+/// `named`. Returns the faults of the unit's lists.
 pub fn place_unit(
     alloc: Global,
     sections: &PlaceSections<'_, '_>,

@@ -1,4 +1,4 @@
-// The entries of a file that have ranges, or the first fault of the sections that they are read from.
+// The entries of a file with ranges, or the first fault of the sections that they are read from.
 ghost use Rattle.std.specs.Prelude.{◌≡◌, [], ℕ, List, IfOk, IfErr};
 ghost use Rattle.std.specs.List.Sorted.{IsNonDecreasingBy};
 ghost use Rattle.rb_bytes.specs.FirstFault.{IsRefusalBy};
@@ -19,18 +19,18 @@ use rb_bytes::fault::{NoMemory, Refusal};
 use std::alloc::Global;
 use table_core::{DWARF_VERSION, DebugUnit, debug_units, place_of};
 
-/// The entries of a file that have ranges.
+/// The entries of a file with ranges.
 #[derive(Drop)]
 pub struct RangedEntries {
     /// The groups of ranges.
     pub groups: Groups,
     /// The entries in order, each with its group.
     pub ranged: Vec<RangedEntry>,
-    /// The indexes of lists that units use, one after another.
+    /// The list indexes that units use, unit by unit.
     pub indexed: Vec<IndexedUnit>,
 }
 
-/// What was read before the first unit: nothing.
+/// The result before the first unit.
 pub(crate) fn nothing(alloc: Global) -> Progress
     ensures { (s : ListSections) → IsProgress s [] result }
 {
@@ -71,7 +71,7 @@ fn read_all(
     Ok(progress)
 }
 
-// Of each fault the place that is answered: units first, then tables of addresses, then lists.
+// The place to report for each fault: units come first, then address tables, then lists.
 fn fault_places(
     progress: &Progress,
     units: &[DebugUnit<'_>],
@@ -101,8 +101,8 @@ fn fault_places(
     }
 }
 
-/// The entries that have ranges, or the first fault of the sections that they are read from. `NoMemory` is answered,
-/// too, where more than `most` would be kept (`most_kept` of `dw_lists`).
+/// The entries with ranges, or the first fault of the sections that they are read from. Gives `NoMemory` also if more
+/// than `most` would be kept (`most_kept` of `dw_lists`).
 pub fn read_ranges(
     alloc: Global,
     info: &[u8],

@@ -18,26 +18,26 @@ use dw_unit::unit_reading::UnitReading;
 use rb_bytes::fault::NoMemory;
 use std::alloc::Global;
 
-/// What was read so far: of the ranges of some units, and of their faults.
+/// The result so far: the ranges of some units, and their faults.
 #[derive(Drop)]
 pub struct Progress {
     pub groups: Groups,
     pub ranged: Vec<RangedEntry>,
-    /// The lowest place of a declaration with a bad form.
+    /// The lowest offset of a declaration with an unknown form.
     pub bad_form: Option<u64>,
-    /// The lowest place of a declaration with a high address that can't be changed in place.
+    /// The lowest offset of a declaration with a high address that can't be changed in place.
     pub bad_high: Option<u64>,
-    /// The lowest place of a declaration with a value that names no form.
+    /// The lowest offset of a declaration with a value of an unknown form.
     pub unformed: Option<u64>,
-    /// The first unit that can't be read, or names a list that isn't there.
+    /// The offset of the first unit that can't be read, or that has a bad offset of a list.
     pub bad: Option<u64>,
-    /// The lowest table with a list that can't be read; it counts where no unit is bad.
+    /// The lowest table with a list that can't be read. It counts if no unit is bad.
     pub bad_table: Option<u64>,
-    /// The indexes of lists that units use, one after another.
+    /// The list indexes that units use, unit by unit.
     pub indexed: Vec<IndexedUnit>,
 }
 
-// Adds the entries of a unit that can be read, and notes what is wrong with its lists.
+// Adds the entries of a unit that can be read, with the faults of its lists.
 fn add_entries(
     alloc: Global,
     section: ListSection<'_, '_>,
@@ -68,8 +68,8 @@ fn add_entries(
     Ok(())
 }
 
-/// Adds what is read of the next unit, which stands at offset `place`. Behind a unit that is bad only the faults of
-/// declarations and forms are noted, since these come first.
+/// Adds the result for the next unit, at offset `place`. After a bad unit only the faults of declarations and forms are
+/// added, since these come first.
 pub fn add_reading(
     alloc: Global,
     section: ListSection<'_, '_>,

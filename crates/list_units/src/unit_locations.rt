@@ -40,7 +40,7 @@ use table_core::shape::is_block;
 /// What a unit needs to read its locations.
 #[derive(Clone, Copy)]
 pub struct UnitLocations<'a, 't> {
-    /// `.debug_info`, in which expressions stand.
+    /// `.debug_info`, which has expressions.
     pub info: &'a [u8],
     /// `.debug_loclists`.
     pub section: ListSection<'a, 't>,
@@ -48,7 +48,7 @@ pub struct UnitLocations<'a, 't> {
     pub lists: UnitLists<'a>,
 }
 
-// The size of all lists that are kept, which the last one has.
+// The size of all lists that are kept, which is a field of the last one.
 fn kept_size(lists: &[KeptList]) -> usize {
     match lists.last() {
         Some(list) => list.size,
@@ -56,8 +56,8 @@ fn kept_size(lists: &[KeptList]) -> usize {
     }
 }
 
-// Reads the list at offset `at`, keeps it, and answers its number; none if it can't be read. `NoMemory`, too, where too
-// much would be kept.
+// Reads the list at offset `at`, keeps it, and returns its number; none if it can't be read. Gives `NoMemory` also if
+// too much would be kept.
 fn read_number(
     alloc: Global,
     unit: &UnitLocations<'_, '_>,
@@ -87,7 +87,7 @@ fn read_number(
     }
 }
 
-/// The number of the list at offset `at`, which is read and kept unless it is known; none if it can't be read.
+/// The number of the list at offset `at`. The list is read and kept unless it is known. None if it can't be read.
 pub fn number_at(
     alloc: Global,
     unit: &UnitLocations<'_, '_>,
@@ -114,7 +114,7 @@ pub fn number_at(
     Ok(number)
 }
 
-/// Whether an attribute names a location list.
+/// Whether an attribute refers to a location list.
 pub fn has_list(attr: Attr) -> bool
     ensures { result ≡ lists.has_list locations_kind attr }
 {
@@ -122,7 +122,7 @@ pub fn has_list(attr: Attr) -> bool
         && (attr.form == DW_FORM_sec_offset || attr.form == DW_FORM_loclistx)
 }
 
-// Adds to `others` what is wrong with the location list that an attribute names, if it names one.
+// Adds the faults of the location list to which an attribute refers, if it does so, to `others`.
 fn note_list(
     alloc: Global,
     unit: &UnitLocations<'_, '_>,
@@ -165,7 +165,7 @@ fn note_list(
     }
 }
 
-// Adds to `others` what is wrong with the location lists that some attributes name.
+// Adds the faults of the location lists to which some attributes refer to `others`.
 fn note_lists(
     alloc: Global,
     unit: &UnitLocations<'_, '_>,
@@ -193,7 +193,7 @@ fn note_lists(
     Ok(faults)
 }
 
-// Where the expressions of an attribute are: in it, or in a list. None where the list can't be read.
+// The source of an attribute's expressions: the attribute, or a list. None if the list can't be read.
 fn source_of(
     alloc: Global,
     unit: &UnitLocations<'_, '_>,
@@ -229,7 +229,7 @@ fn source_of(
     }
 }
 
-// Where the expressions of the attribute `name` are, if there is one.
+// The source of the expressions of the attribute `name`, if it is present.
 fn named_source(
     alloc: Global,
     unit: &UnitLocations<'_, '_>,
@@ -287,8 +287,8 @@ fn put_located(
     Ok(())
 }
 
-// Adds the attribute `name` of an entry, if it has it, to the attributes with expressions where the entry has nearest
-// ranges; and to those that name lists where it names one.
+// Adds the attribute `name` of an entry, if present, to the attributes with expressions, if the entry has nearest
+// ranges; and to those that refer to lists, if it does so.
 fn locate(
     alloc: Global,
     unit: &UnitLocations<'_, '_>,
@@ -326,8 +326,8 @@ fn locate(
     Ok(())
 }
 
-/// Adds the attributes of an entry that say where something is, with the group of its nearest ranges, and to `named`
-/// those of them that name lists. Adds to `others` what is wrong with these lists.
+/// Adds the location attributes of an entry, with the group of its nearest ranges, and adds those that refer to lists
+/// to `named`. Adds the faults of these lists to `others`.
 pub fn locate_entry(
     alloc: Global,
     unit: &UnitLocations<'_, '_>,

@@ -18,7 +18,7 @@ use Rattle.range_loc_rewrite.proofs.ChangedAttrs.{IsOther, changed, from_other}
 use Rattle.range_loc_rewrite.proofs.KeptLookups.{own_at}
 use Rattle.range_loc_rewrite.proofs.RangesStay.{found_name, SoundTests, tests_of, new_base}
 
--- the first of entries one by one
+-- The first of a list of entries, pair by pair.
 record OwnPair (R : Entry → Entry → Type 0) (xs ys : List Entry) : Type 0 where
   pub d : Entry
   pub e : Entry

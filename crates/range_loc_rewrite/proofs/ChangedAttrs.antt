@@ -1,4 +1,4 @@
--- The attributes that name ranges, and the bases of units, in entries that were changed in place.
+-- The attributes that refer to ranges, and the bases of units, in entries that were changed in place.
 use Rattle.std.proofs.Common.{◌≡◌, ◌∙◌, ◌+◌, ◌==◌, ◌&&◌, ◌||◌, ◌∷◌, [], ℕ, Bool, true, false, not, List, Option, Some, None, refl, sym, ap}
 use Rattle.std.proofs.Common.{option_map}
 use Rattle.std.specs.Prelude.{flat_map, unwrap_or, if◌then◌else◌}
@@ -16,7 +16,7 @@ use Rattle.dw_unit.specs.ChangedEntries.{IsChangedEntry}
 abbrev pub named : ℕ → Attr → Bool
 named k a = a.name == k
 
--- a name that no change takes or gives
+-- A name that no change adds or removes.
 pub record IsKept (k : ℕ) : Type 0 where
   pub high : (0x12 == k) ≡ false
   pub low : (0x11 == k) ≡ false
@@ -29,7 +29,7 @@ pub record IsKept (k : ℕ) : Type 0 where
 ranges_kept : IsKept 0x55
 ranges_kept = record { high = refl; low = refl; entry = refl; unused_low = refl; macros = refl; views = refl; unused_table = refl }
 
--- and that none of the attributes has that stand for a high address
+-- A name that no attribute has which replaces a high address.
 pub record IsOther (k : ℕ) : Type 0 where
   pub kept : IsKept k
   pub ranges : (0x55 == k) ≡ false
@@ -87,7 +87,7 @@ same_name own d n k i =
     name_by n k (has_spec 0x12 d) (not (keeps_low own d)) (n == 0x11 && has_spec 0x12 d && not (keeps_low own d)) (has_spec 0x52 d)
     (n == 0x79 || n == 0x2137) i refl refl
 
--- no new name is that of a high address, but of one
+-- Only a high address has its name after the change.
 high_by : (n : ℕ) (m e t : Bool) → (n == 0x12) ≡ false → ((if m then (if e then 0x3f11 else 0x52) else (if t then 0x3f12 else n)) == 0x12) ≡
     false
 high_by n true true t f = refl
@@ -99,7 +99,7 @@ module _ (m : Moves) (own first : Bool) (e : Entry) where
   abbrev pub change : Attr → List Attr
   change a = changed_attr m own first e a
 
-  -- an attribute but a high address
+  -- An attribute other than a high address.
   abbrev pub changed : Attr → Attr
   changed a = record {
     name = new_name own e.declaration a.name;
@@ -109,7 +109,7 @@ module _ (m : Moves) (own first : Bool) (e : Entry) where
     value = unwrap_or (new_value m own first e a) a.value;
   }
 
-  -- the ranges that stand for a high address, and what its other bytes do
+  -- The ranges that replace a high address, and its other bytes.
   abbrev pub for_high : Attr → Attr
   for_high h = record { name = 0x55; form = 0x17; place = h.place; len = 4; value = unwrap_or (new_list_offset m.lists e.place 0x55) 0 }
 
@@ -125,7 +125,7 @@ module _ (m : Moves) (own first : Bool) (e : Entry) where
   high : (a : Attr) → (a.name == 0x12) ≡ true → change a ≡ ranges_attrs m e a
   high a f = ap (λ (b : Bool). if b then ranges_attrs m e a else changed a ∷ []) f
 
-  -- afterwards there is no high address
+  -- After the change there is no high address.
   spare_high : (a : Attr) (b : Bool) → find (named 0x12) (if b then record
       { name = 0x3f10; form = 0x06; place = a.place + 4; len = 4; value = 0 } ∷ [] else []) ≡ None
   spare_high a true = refl
@@ -143,7 +143,7 @@ module _ (m : Moves) (own first : Bool) (e : Entry) where
   no_high (a ∷ xs) = find-append (named 0x12) (change a) (flat_map change xs)
       ∙ ap (λ (o : Option Attr). option_or o (find (named 0x12) (flat_map change xs))) (one_high a (a.name == 0x12) refl) ∙ no_high xs
 
-  -- an attribute of a kept name, where what stands for a high address hasn't that name or there is none
+  -- An attribute with a kept name, if what replaces a high address hasn't that name, or there is none.
   module _ (k : ℕ) (i : IsKept k) where
     join : (b : Bool) (x y : Attr) (o p : Option Attr) → o ≡ option_map changed p → y ≡ changed x →
         option_or (if b then Some y else None) o ≡ option_map changed (if b then Some x else p)
@@ -165,7 +165,7 @@ module _ (m : Moves) (own first : Bool) (e : Entry) where
   not_there k a xs true f g = absurd (cc)
   not_there k a xs false f g = (refl, g)
 
-  -- ranges that were named by a list, where there is no high address
+  -- Ranges that had a list, if there is no high address.
   same_ranges : (xs : List Attr) → find (named 0x12) xs ≡ None →
       find (named 0x55) (flat_map change xs) ≡ option_map changed (find (named 0x55) xs)
   same_ranges [] none = refl
@@ -173,7 +173,7 @@ module _ (m : Moves) (own first : Bool) (e : Entry) where
       let p = not_there 0x12 a xs (a.name == 0x12) refl none in
       plain_step 0x55 ranges_kept a xs p.0 (same_ranges xs p.1)
 
-  -- an attribute that has nothing to do with ranges
+  -- An attribute that has nothing to do with ranges.
   spare_other : (k : ℕ) → IsOther k → (a : Attr) → find (named k) (ranges_attrs m e a) ≡ None
   spare_other k i a =
       ap (λ (b : Bool). if b then Some (for_high a) else find (named k) (unused a (a.len == 8))) i.ranges ∙ unused_other (a.len == 8)
@@ -196,7 +196,7 @@ module _ (m : Moves) (own first : Bool) (e : Entry) where
           ∙ more ∙ sym (ap (λ (b : Bool). option_map changed (if b then Some a else find (named k) xs))
           (named_not a.name 0x12 k f i.kept.high))
 
-  -- the ranges that stand for a high address
+  -- The ranges that replace a high address.
   high_ranges : (xs : List Attr) (h : Attr) → find (named 0x12) xs ≡ Some h → find (named 0x55) xs ≡ None →
       find (named 0x55) (flat_map change xs) ≡ Some (for_high h)
   high_ranges [] h is none = absurd (cc)
@@ -217,7 +217,7 @@ module _ (m : Moves) (own first : Bool) (e : Entry) where
           (same_name own e.declaration a.name 0x55 ranges_kept ∙ p.0)
           ∙ more is p.1
 
--- Of a changed entry
+-- For a changed entry
 
 module _ (s : Sections) (info : List ℕ) (m : Moves) (first : Bool) (old new : Entry) (c : IsChangedEntry s info m first old new) where
   abbrev own : Bool

@@ -1,4 +1,4 @@
--- Each entry of a written file has ranges where the entry that it was made of has them, and names a list that can be read.
+-- Each entry of a written file has ranges if its original has some, and refers to a list that can be read.
 use Rattle.std.proofs.Common.{◌≡◌, ◌∙◌, ◌+◌, ◌*◌, ◌<◌, ◌==◌, ◌&&◌, ◌||◌, ◌∷◌, [], ℕ, Bool, true, false, List, Option, Some, None}
 use Rattle.std.proofs.Common.{refl, sym, ap, subst, length, map, All, ⊎_elim}
 use Rattle.std.specs.Prelude.{flat_map, Contains, option_and_then, option_map, if◌then◌else◌, is_some, unwrap_or}
@@ -54,7 +54,7 @@ some_if : (b : Bool) → is_some (if_held b) ≡ b
 some_if true = refl
 some_if false = refl
 
--- an entry with a high address has ranges
+-- An entry with a high address has ranges.
 pub high_some : (s : ListSections) (u : Unit) (d : Entry) (h : Attr) → attr 0x12 d ≡ Some h → is_some (low_pc s.units.addr u d) ≡ true →
     ranges_of s u d ≡ None → ⊥
 high_some s u d h is some none = by_low (low_pc s.units.addr u d) refl some
@@ -68,7 +68,7 @@ high_some s u d h is some none = by_low (low_pc s.units.addr u d) refl some
         clash (up_to l h ∷ []) (sym (own_bounds s u d (up_to l h)
         (λ i. option_and_then (λ high. option_map (λ low. up_to low high) (f i)) (is i))) ∙ none)
 
--- and so has one with a list that can be read
+-- An entry with a list that can be read has ranges.
 pub list_some : (s : ListSections) (u : Unit) (d : Entry) (a : Attr) → attr 0x12 d ≡ None → attr 0x55 d ≡ Some a → IsFine s u a →
     ranges_of s u d ≡ None → ⊥
 list_some s u d a high is fine none =
@@ -93,7 +93,7 @@ module _ (s t : ListSections) (tables : List (List ℕ)) (tables_are : All (IsUn
     (fine_old : (u : Unit) → Contains us u → AreFine s u (flat_map (λ (e : Entry). e.attrs) u.entries))
     (u v : Unit) (uc : Contains us u)
     (zip : AllZip (λ x y. IsChangedEntry s.units t.units.info m (is_first_of u x) x y) u.entries v.entries) where
-  -- the new base of indexes
+  -- The new base of indexes.
   base_by : (d : Entry) → Contains u.entries d → (r : RangedEntry) → r.own ≡ own_place u → is_some (base 0x74 u) ≡ true → (b : ℕ) →
       new_list_offset m.lists r.own 0x74 ≡ Some b → base 0x74 v ≡ Some b
   base_by d dc r own some b offset =
@@ -108,7 +108,7 @@ module _ (s t : ListSections) (tables : List (List ℕ)) (tables_are : All (IsUn
     none_high : attr 0x12 e ≡ None
     none_high = new_high s.units t.units.info m (is_first_of u d) d e c
 
-    -- its list stands in a table
+    -- Its list is in a table.
     stays_by : (a : Attr) → attr 0x55 e ≡ Some a → (at : ℕ) → list_offset ranges_kind t.ranges v a ≡ Some at → (r : RangedEntry) →
         Contains kept r →
         StandsAt tables at (group_list lists r.group) → ((x : ℕ) → group_holds covers r.group x ≡ hold (ranges_of s u d) x) →
@@ -125,7 +125,7 @@ module _ (s t : ListSections) (tables : List (List ℕ)) (tables_are : All (IsUn
         subst (λ (l : List ℕ). at < length l) (sym ranges_are) (list_inside kind.Ranges tables at (map bounded (runs_in lists g)) stands
         tables_are)
 
-    -- it had a high address
+    -- It had a high address.
     stays_high : (h : Attr) → attr 0x12 d ≡ Some h → IsFound s covers u d kept → Stays s t spans u v d e
     stays_high h is f =
         let old = sound_at s.units.addr us u d sound_old uc dc in
@@ -150,7 +150,7 @@ module _ (s t : ListSections) (tables : List (List ℕ)) (tables_are : All (IsUn
       new_is : attr 0x55 e ≡ Some new
       new_is = from_ranges s.units t.units.info m (is_first_of u d) d e c high ∙ ap (option_map (changed m own (is_first_of u d) d)) is
 
-      -- it had a list that was named by its offset
+      -- It referred to its list by an offset.
       stays_offset : a.form ≡ 0x17 → IsFound s covers u d kept → Stays s t spans u v d e
       stays_offset form f =
           let index : f.r.index ≡ None =
@@ -163,7 +163,7 @@ module _ (s t : ListSections) (tables : List (List ℕ)) (tables_are : All (IsUn
           (plain_offset ranges_kind t.ranges v new n.0 (ap (λ (n : ℕ). n == 0x23) form)
           (new_offset m own (is_first_of u d) d a n.0 name form offset) (inside n.0 f.r.group n.2)) f.r f.there n.2 f.kept_as.held
 
-      -- it had one that was named by an index
+      -- It referred to its list by an index.
       stays_index : a.form ≡ 0x23 → IsFound s covers u d kept → Stays s t spans u v d e
       stays_index form f =
           let old = sound_at s.units.addr us u d sound_old uc dc in
@@ -206,7 +206,7 @@ module _ (s t : ListSections) (tables : List (List ℕ)) (tables_are : All (IsUn
           by_form false true f g h k = stays_index (eqb-true a.form 0x23 g) k
           by_form false false f g h k = absurd (cc)
 
-    -- it has no ranges
+    -- It has no ranges.
     stays_none : attr 0x12 d ≡ None → attr 0x55 d ≡ None → Stays s t spans u v d e
     stays_none high none =
         let new : attr 0x55 e ≡ None = from_ranges s.units t.units.info m (is_first_of u d) d e c high

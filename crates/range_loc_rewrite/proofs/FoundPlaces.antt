@@ -1,4 +1,4 @@
--- What is kept of locations answers what is said of them.
+-- The kept locations give the answers of the definition.
 use Rattle.std.proofs.Common.{◌≡◌, ◌∙◌, ◌++◌, ℕ, false, List, Option, Some, None, refl, sym, ap, subst, length, map, filter, nat_le, All}
 use Rattle.std.specs.Prelude.{flat_map, option_map, slice_get}
 use Rattle.std.specs.List.{range_with_len}
@@ -37,7 +37,7 @@ use Rattle.cover_lists.proofs.AlikeLists.{All-left, All-right, numbered_alike}
 use Rattle.cover_lists.proofs.ByNumbers.{listed_by_number}
 use Rattle.range_loc_rewrite.proofs.FreeRanges.{answers_free}
 
--- the numbers of those whose ranges hold an address
+-- The numbers of the attributes whose ranges contain an address.
 numbers_are : (covers : List Cover) (located : List LocatedAttr) (a : ℕ) → held_numbers covers (map ranged_of located) a
     ≡ filter (λ k. option_map_or (λ (l : LocatedAttr). group_holds covers l.group a) (slice_get located k) false)
     (range_with_len 0 (length located))
@@ -63,7 +63,7 @@ found_places s kept named index bounds indexed a numbers are e =
     ∙ listed_by_number (located_says kept.lists.items a) (λ (l : LocatedAttr). group_holds index.tree l.group a) kept.located.items
     ∙ are.says a
 
--- no range of an entry or of a list starts or ends between two addresses
+-- No range of an entry or of a list begins or ends between two addresses
 
 source_alike : (lists : List KeptList) (x : Source) (a b : ℕ) → All (λ x. nat_le x a ≡ nat_le x b) (list_bounds lists) →
     source_says lists a x ≡ source_says lists b x

@@ -1,4 +1,4 @@
--- What sections of ranges without a fault answer.
+-- The answers of sections of ranges without a fault.
 use Rattle.std.proofs.Common.{◌≡◌, ◌∷◌, [], ℕ, Option, Some, None, refl, sym, subst}
 use Rattle.rb_bytes.specs.FirstFault.{IsFree}
 use Rattle.rb_bytes.specs.declared.fault.FaultKind.TheVariants as fault

@@ -1,4 +1,4 @@
--- The places of the entries that hold an address, by their numbers.
+-- The offsets of the entries that cover an address, by their numbers.
 use Rattle.std.proofs.Common.{sym, All, nat_le, ◌≡◌, ◌∙◌, ◌∷◌, [], ℕ, Bool, true, false, List, refl, ap, map, filter}
 use Rattle.std.specs.Prelude.{if◌then◌else◌, filter_map}
 use Rattle.cover_lists.specs.declared.cover_tree.Cover.{Cover}
@@ -23,7 +23,7 @@ pub places_are : (covers : List Cover) (ranged : List RangedEntry) (a : ℕ) →
     filter_map (place_at ranged) (held_numbers covers ranged a) ≡ held_places covers ranged a
 places_are covers ranged a = mapped_by_number (λ (r : RangedEntry). r.place) (λ (r : RangedEntry). group_holds covers r.group a) ranged
 
--- the same, where groups hold the same addresses
+-- For groups that contain the same addresses.
 held_alike : (cs ds : List Cover) (rs : List RangedEntry) (a : ℕ) → ((g : ℕ) → group_holds cs g a ≡ group_holds ds g a) →
     held_places cs rs a ≡ held_places ds rs a
 held_alike cs ds [] a same = refl
@@ -65,7 +65,7 @@ kept_are s groups ranged index bounds indexed are is rising all = record {
       ∙ sym (is.held g b);
 }
 
--- what is found by numbers is what covers an address
+-- The entries found by numbers are those that cover an address.
 pub found_are : (s : ListSections) (ranged : List RangedEntry) (count : ℕ) (index : CoverIndex) (bounds : List ℕ)
     (indexed : List IndexedUnit) (a : ℕ)
     (numbers : List ℕ) →
@@ -74,7 +74,7 @@ pub found_are : (s : ListSections) (ranged : List RangedEntry) (count : ℕ) (in
 found_are s ranged count index bounds indexed a numbers are e =
     ap (filter_map (place_at ranged)) e ∙ places_are index.tree ranged a ∙ are.held a
 
--- no range starts or ends between two addresses
+-- No range begins or ends between two addresses.
 pub covered_alike : (s : ListSections) (ranged : List RangedEntry) (count : ℕ) (index : CoverIndex) (bounds : List ℕ)
     (indexed : List IndexedUnit) (a b : ℕ) →
     AreKept s ranged count index bounds indexed → All (λ x. nat_le x a ≡ nat_le x b) bounds → covering s a ≡ covering s b

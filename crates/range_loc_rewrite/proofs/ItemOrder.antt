@@ -1,4 +1,4 @@
--- Attributes that name location lists stand in the order of their entries, and there are none without a section.
+-- Attributes that refer to location lists are in the order of their entries, and there are none without a section.
 use Rattle.std.proofs.Common.{◌≡◌, ◌∙◌, ◌+◌, ◌*◌, ◌≤◌, ◌==◌, ◌++◌, ◌∷◌, [], ℕ, List, Option, Some, None, refl, sym, ap, subst, arith, map}
 use Rattle.std.specs.Prelude.{flat_map, Contains, option_and_then, if◌then◌else◌}
 use Rattle.std.specs.List.{AllZip}
@@ -18,7 +18,7 @@ use Rattle.range_loc_rewrite.proofs.KeptLookups.{place_of, all_of, entries_end, 
 use Rattle.range_loc_rewrite.proofs.KeptOrder.{nowhere}
 use Rattle.list_units.proofs.ListingFacts.{lacks_offset}
 
--- by their keys
+-- By their keys
 
 abbrev KeysRise : ℕ → List ListItem → Type 0
 KeysRise lo [] = Prim.Unit {0}
@@ -63,7 +63,7 @@ module _ (s : ListSections) where
   units_rise [] lo up = tt
   units_rise (u ∷ us) lo up = entries_rise u u.entries (all_of us) lo (flat_map (unit_items s) us) up (λ lo up. units_rise us lo up)
 
--- by the own entries of their units
+-- By the own entries of their units
 
 abbrev OwnRise : ℕ → List ListItem → Type 0
 OwnRise lo [] = Prim.Unit {0}
@@ -111,7 +111,7 @@ module _ (s : ListSections) where
           (entries_own u u.entries (flat_map (unit_items s) us) (own_less (own_place u) (entries_end lo u.entries)
           (flat_map (unit_items s) us) (omega (arith, below)) rest))
 
--- and so do their names
+-- Their kept attributes
 
 module _ (lists : List KeptList) where
   named_rise : (lo : ℕ) (named : List NamedList) (items : List ListItem) → AllZip (IsNameOf lists) named items → KeysRise lo items →
@@ -145,7 +145,7 @@ module _ (lists : List KeptList) where
       OwnsRise 0 named
   names_own s named z up = named_own 0 named (all_items s) z (units_own s (units s.units) 0 up)
 
--- Without a section there are none.
+-- Without a section there are none
 
 module _ (s : ListSections) (empty : s.locations ≡ []) where
   no_list : (u : Unit) (a : Attr) → list_named s u a ≡ None

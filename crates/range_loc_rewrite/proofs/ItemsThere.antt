@@ -1,4 +1,4 @@
--- Each attribute that names a location list is listed, in sections without a fault.
+-- Each attribute that refers to a location list is listed, in sections without a fault.
 use Rattle.std.proofs.Common.{◌≡◌, ◌∙◌, ◌==◌, ◌||◌, ℕ, Bool, true, List, Option, Some, None, refl, sym, ap, subst, arith}
 use Rattle.std.specs.Prelude.{flat_map, Contains, option_and_then, if◌then◌else◌, is_some}
 use Rattle.dw_unit.specs.declared.entry.Attr.{Attr}
@@ -12,14 +12,14 @@ use Rattle.list_writer.proofs.PutEntries.{by_either, contains_still, contains_be
 use Rattle.range_loc_rewrite.proofs.RangesStay.{found_there}
 use Rattle.range_loc_rewrite.proofs.SoundLists.{IsThere, AreThere}
 
--- one of the two names
+-- One of the two names.
 abbrev pub IsPlaceName : ℕ → Type 0
 IsPlaceName k = (k == 0x02 || k == 0x40) ≡ true
 
 pub by_name : (P : ℕ → Type 0) (k : ℕ) → IsPlaceName k → P 0x02 → P 0x40 → P k
 by_name P k is x y = by_either P k (k == 0x02) (k == 0x40) refl refl is x y
 
--- the items of an entry have those of each name
+-- The items of an entry have those of each name.
 abbrev HasItems : ListSections → Unit → Entry → ℕ → Type 0
 HasItems s u e k = (a : Attr) → attr k e ≡ Some a → (x : ListItem) → Contains (attr_items s u e.place k (Some a)) x →
     Contains (entry_items s u e) x

@@ -1,4 +1,4 @@
--- Entries and what is kept of them, found by each other; those of one unit with one index have the same ranges.
+-- Entries and what is kept of them, found from each other. Entries of one unit with the same index have the same ranges.
 use Rattle.std.proofs.Common.{◌≡◌, ◌∙◌, ◌+◌, ◌<◌, ◌≤◌, ◌==◌, ◌⊎◌, inl, inr, ◌++◌, ◌∷◌, [], ℕ, Bool, true, false, List, Option, Some, None}
 use Rattle.std.proofs.Common.{refl, sym, ap, subst, arith, map, ⊎_elim}
 use Rattle.std.specs.Prelude.{flat_map, Contains, option_and_then, option_map, if◌then◌else◌}
@@ -45,7 +45,7 @@ sound_at addr (x ∷ us) u e s c d = ⊎_elim
     (Contains-cons_cases x us u c)
 
 module _ (s : ListSections) (covers : List Cover) where
-  -- an entry that is kept, or has no ranges
+  -- An entry is kept, or has no ranges.
   pub record IsFound (u : Unit) (e : Entry) (kept : List RangedEntry) : Type 0 where
     pub r : RangedEntry
     pub there : Contains kept r
@@ -84,7 +84,7 @@ module _ (s : ListSections) (covers : List Cover) where
       (kept_entry us back u e more there d))
       (Contains-cons_cases x us u c)
 
-  -- what is kept, by its entry
+  -- The entry of what is kept.
   pub record IsEntryOf (us : List Unit) (r : RangedEntry) : Type 0 where
     pub u : Unit
     pub unit : Contains us u
@@ -119,7 +119,7 @@ module _ (s : ListSections) (covers : List Cover) where
       })
       (contains_split front back r c)
 
--- Own entries of units stand at places of their own.
+-- Own entries of units have different offsets.
 
 pub first_there : (es : List Entry) (d : Entry) → first_of es ≡ Some d → Contains es d
 first_there [] d e = absurd (cc)
@@ -191,7 +191,7 @@ own_unique lo (x ∷ us) u v e d up c ec vc dc own = ⊎_elim
     (Contains-cons_cases x us v vc))
     (Contains-cons_cases x us u c)
 
--- Ranges that are named by an index
+-- Ranges with an index
 
 pub record IsIndexed (o : Option Attr) (i : ℕ) : Type 0 where
   pub a : Attr
@@ -235,7 +235,7 @@ indexed_ranges s u e i sound index =
     no_high None is a f = is
     no_high (Some h) is a f = let g : None ≡ Some a = sym (sound.ranges h is) ∙ f in absurd (cc)
 
--- entries of one unit with one index hold the same addresses
+-- Entries of one unit with the same index contain the same addresses.
 pub same_index : (s : ListSections) (covers : List Cover) (us : List Unit) (kept : List RangedEntry) (r like : RangedEntry) (i : ℕ) →
     AllPaired s covers us kept →
     AreSoundUnits s.units.addr us → Ascends 0 (map place_of (all_of us)) → Contains kept r → Contains kept like → r.own ≡ like.own →

@@ -1,5 +1,4 @@
--- Own entries of units stand at places that don't fall, as entries are kept; and nothing is kept without a section and high
--- addresses.
+-- The offsets of units' own entries don't fall, in the order of the kept entries; and nothing is kept without a section and high addresses.
 use Rattle.std.proofs.Common.{◌≡◌, ◌∙◌, ◌≤◌, ◌==◌, ◌++◌, ◌∷◌, [], ℕ, Bool, false, List, Option, Some, None, refl, sym, ap, subst, arith}
 use Rattle.std.proofs.Common.{map, All}
 use Rattle.std.specs.Prelude.{flat_map, Contains, option_map, option_and_then, if◌then◌else◌, nat_lt}

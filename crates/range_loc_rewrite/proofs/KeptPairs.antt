@@ -1,4 +1,4 @@
--- Which entry of the sections is kept as what, and that entries of one unit with one index have the same ranges.
+-- The entry of each kept one; and entries of one unit with the same index have the same ranges.
 use Rattle.std.proofs.Common.{◌≡◌, ◌∙◌, ◌++◌, ◌∷◌, [], ℕ, List, Option, Some, None, true, refl, sym, ap, subst}
 use Rattle.std.specs.Prelude.{flat_map, is_some}
 use Rattle.std.specs.List.{list_any}
@@ -14,7 +14,7 @@ use Rattle.dw_lists.specs.Ranges.{ranges_of}
 use Rattle.cover_lists.specs.Located.{hold}
 use Rattle.dw_lists.specs.UnitLists.{own_place}
 
--- an entry is kept as another
+-- An entry is kept as `r`.
 pub record IsKeptAs (s : ListSections) (covers : List Cover) (u : Unit) (e : Entry) (r : RangedEntry) : Type 0 where
   pub place : r.place ≡ e.place
   pub own : r.own ≡ own_place u
@@ -31,7 +31,7 @@ same_rest x y xs ys e = cc
 no_head : {X : Type 0} (y : X) (ys : List X) → [] ≡ y ∷ ys → ⊥
 no_head y ys e = cc
 
--- each entry that has ranges is kept as one, and the others as none
+-- Each entry with ranges is kept once, and the others aren't.
 pub data Paired (s : ListSections) (covers : List Cover) (u : Unit) : List Entry → List RangedEntry → Type 0 where
   none : Paired s covers u [] []
   skip : (e : Entry) (es : List Entry) (rs : List RangedEntry) → ranges_of s u e ≡ None → Paired s covers u es rs →
@@ -98,7 +98,7 @@ module _ (s : ListSections) (covers : List Cover) where
                   rest = p.rest;
                 }
 
-  -- unit by unit
+  -- Unit by unit.
   pub data AllPaired : List Unit → List RangedEntry → Type 0 where
     no_unit : AllPaired [] []
     unit_more : (u : Unit) (us : List Unit) (front back : List RangedEntry) → Paired s covers u u.entries front → AllPaired us back →

@@ -1,4 +1,4 @@
--- The offsets that attributes get by some lists they get by more lists too.
+-- The offsets that attributes get from some lists are the same with more lists.
 use Rattle.std.proofs.Common.{◌≡◌, ℕ, List, Some, None}
 use Rattle.std.specs.Prelude.{Contains}
 use Rattle.table_core.specs.declared.written.ListAt.{ListAt}

@@ -1,4 +1,4 @@
--- Where the lists of entries stand whose ranges were written, by the lists of their groups.
+-- The offsets of the lists of entries whose ranges were written, by the lists of their groups.
 use Rattle.std.proofs.Common.{◌≡◌, ◌∙◌, ◌+◌, ◌*◌, ◌^◌, ◌<◌, ◌≤◌, ◌∷◌, [], ℕ, zero, suc, Bool, true, List, Option, Some, None, refl, sym, ap}
 use Rattle.std.proofs.Common.{subst, arith, length, map, All, ⊎_elim}
 use Rattle.std.specs.Prelude.{Contains, slice_get}
@@ -24,12 +24,12 @@ use Rattle.list_writer.specs.WrittenTables as tables
 use Rattle.range_loc_rewrite.proofs.KeptEntries.{kept_place}
 use Rattle.list_writer.proofs.WrittenLists.{bytes_at}
 
--- the list of the group of a number
+-- The list of the group with a number.
 abbrev pub group_list : List (Vec (Run Bool)) → ℕ → List ℕ
 group_list lists g = list_bytes Ranges (map bounded (runs_in lists g))
 
--- An entry's list is named by its offset, or by its index and the base of its unit, where that of an entry with the same
--- index stands.
+-- An entry finds its list by the list's offset; or by its index and the base of its unit, at which the list of an entry with the same index
+-- is found.
 abbrev pub IsNamed : List (Vec (Run Bool)) → List (List ℕ) → List ListAt → List RangedEntry → RangedEntry → Option ℕ → Type 0
 IsNamed lists tables names all r None =
     (at : ℕ) × (new_list_offset names r.place 0x55 ≡ Some at) × StandsAt tables at (group_list lists r.group)
@@ -60,7 +60,7 @@ map_contains (x ∷ kept) n c = ⊎_elim
     (λ (there : Contains (map named_of kept) n). let p = map_contains kept n there in (p.0, Contains-there x kept p.0 p.1, p.2))
     (Contains-cons_cases (named_of x) (map named_of kept) n c)
 
--- the bytes of a group's list
+-- The bytes of a group's list.
 pub group_at : (bs : List (Vec ℕ)) (lists : List (Vec (Run Bool))) (g : ℕ) → map (λ (b : Vec ℕ). b.items) bs ≡ map group_bytes lists →
     g < length lists →
     bytes_in bs g ≡ group_list lists g
@@ -102,7 +102,7 @@ module _ (bs : List (Vec ℕ)) (lists : List (Vec (Run Bool))) (kept : List Rang
     each = λ r c. named_by r c r.index (w.each (named_of r) (contains_map kept r c));
   }
 
--- the attributes of entries are in their order
+-- The attributes of entries are in order.
 pub ranges_in_order : (lo k : ℕ) (kept : List RangedEntry) → Ascends lo (map kept_place kept) → k ≤ key lo 0x55 →
     AreInOrder Ranges k (map named_of kept)
 ranges_in_order lo k [] up h = tt

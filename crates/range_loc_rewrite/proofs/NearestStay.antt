@@ -1,4 +1,4 @@
--- Entries that cover two addresses alike have nearest ranges that hold them alike.
+-- If the same entries cover two addresses, an entry's nearest ranges contain both or none.
 use Rattle.std.proofs.Common.{◌≡◌, ◌∙◌, ◌+◌, ◌≤◌, ◌++◌, ◌∷◌, [], ℕ, Bool, true, false, List, Option, Some, None, refl, sym, subst, arith}
 use Rattle.std.proofs.Common.{map, filter, length}
 use Rattle.std.specs.Prelude.{if◌then◌else◌, is_some, nat_lt, filter_map}
@@ -13,7 +13,7 @@ use Rattle.cover_lists.specs.Located.{hold}
 abbrev pub place_in : Ranged → ℕ
 place_in r = r.entry.place
 
--- the places of those that hold an address
+-- The offsets of the entries that cover an address.
 abbrev pub covered : List Ranged → ℕ → List ℕ
 covered rs a = map place_in (filter (λ (r : Ranged). hold r.own a) rs)
 
@@ -26,7 +26,7 @@ same_rest x y xs ys e = cc
 no_head : (y : ℕ) (ys : List ℕ) → y ∷ ys ≡ [] → ⊥
 no_head y ys e = cc
 
--- all that are covered stand at or behind a place
+-- All that cover it are at or after an offset.
 behind : (lo : ℕ) (rs : List Ranged) (a n : ℕ) (ns : List ℕ) → Ascends lo (map place_in rs) → covered rs a ≡ n ∷ ns → lo ≤ n
 behind lo [] a n ns up e = absurd (no_head n ns (sym e))
 behind lo (r ∷ rs) a n ns up e = step (hold r.own a) e (λ f. behind (r.entry.place + 1) rs a n ns up.1 f)
@@ -41,7 +41,7 @@ pub record HoldAlike (a p : ℕ) (x y : Ranged) : Type 0 where
   pub place : y.entry.place ≡ x.entry.place
   pub held : hold y.own p ≡ hold x.own a
 
--- Of entries at the same places, the same are covered only if each is alike.
+-- If entries at the same offsets cover the same, each pair agrees.
 pub hold_alike : (lo a p : ℕ) (xs ys : List Ranged) → Ascends lo (map place_in xs) → map place_in ys ≡ map place_in xs →
     covered ys p ≡ covered xs a →
     AllZip (HoldAlike a p) xs ys
@@ -116,7 +116,7 @@ module _ (own new : Entry → Option (List Range)) (a p : ℕ) where
       by None (Some ys) q h more = absurd (cc)
       by (Some xs) None q h more = absurd (cc)
 
-  -- entry by entry
+  -- Entry by entry.
   pub record IsRangedAlike (R : Entry → Entry → Type 0) (x y : Ranged) : Type 0 where
     pub entries : R x.entry y.entry
     pub held : hold y.nearest p ≡ hold x.nearest a

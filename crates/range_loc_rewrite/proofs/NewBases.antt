@@ -33,13 +33,13 @@ use Rattle.range_loc_rewrite.proofs.KeptLookups.{all_of, first_there, own_at, ow
 use Rattle.range_loc_rewrite.proofs.UsedIndexes.{HasOrigin, all_below, from_unit, has_unit, indexed_at, some_own}
 use Rattle.range_loc_rewrite.proofs.UsedIndexes.{some_used}
 
--- the bytes of a list that can be read
+-- The bytes of a list that can be read.
 pub record IsSpelled (k : ListKind) (bytes : List ℕ) : Type 0 where
   pub entries : List Bounded
   pub are : bytes ≡ list_bytes k entries
   pub writable : All (IsWritable k) entries
 
--- what a filter keeps passes, and of some that one passes there is such
+-- Elements of a filtered list pass the test
 
 filter_passes : {X : Type 0} (p : X → Bool) (xs : List X) (x : X) → Contains (filter p xs) x → p x ≡ true
 filter_passes p [] x c = absurd (Contains-nil x c)
@@ -58,14 +58,14 @@ any_is {X} p (x ∷ xs) e = by (p x) refl e (any_is p xs)
     by true is e more = (x, (0, omega arith, refl), is)
     by false is e more = let m = more e in (m.0, Contains-there x xs m.0 m.1, m.2)
 
--- where a section is there, all units may get tables
+-- If there is a section, all units may get tables.
 pub all_in : (section table : List ℕ) (named : List NamedList) (all : List IndexedUnit) → (section ≡ [] → table ≢ []) →
     (length named ≡ 0 → length (indexed_in section named all) ≡ 0 → table ≡ []) → indexed_in section named all ≡ all
 all_in [] table [] all some none = absurd (some refl (none refl refl))
 all_in [] table (r ∷ named) all some none = refl
 all_in (b ∷ section) table named all some none = refl
 
--- and where it isn't, and nothing is listed, none does
+-- If there is none, and nothing is listed, no unit gets one.
 pub no_units : (section : List ℕ) (named : List NamedList) (all : List IndexedUnit) → section ≡ [] → length named ≡ 0 →
     length (indexed_in section named all) ≡ 0
 no_units [] [] all e f = refl
@@ -83,7 +83,7 @@ module _ (k : ListKind) (gets_list : Entry → Type 0) (s : Sections) (section :
     (w : AreWritten k bs named (with_tables named (indexed_in section named (indexed_units (kind_of k) s))) bytes names)
     (origin : (r : NamedList) → Contains named r → HasOrigin (kind_of k) gets_list (units s) r)
     (up : Ascends 0 (map place_of (all_of (units s)))) where
-  -- a list of a number is one in full
+  -- The list with a number has full addresses.
   pub in_full : (at : ℕ) (part : List ℕ) → IsSpelled k part → StandsAt w.tables at part → IsFullList (kind_of k) bytes at
   in_full at part sp stands =
       subst (λ (l : List ℕ). IsFullList (kind_of k) l at) (sym w.bytes_are)
@@ -145,7 +145,7 @@ module _ (k : ListKind) (gets_list : Entry → Type 0) (s : Sections) (section :
       each = λ i h. has_index b.base i (b.slots i h);
     }
 
-    -- a unit that needs a table has one
+    -- A unit that needs a table has one.
     pub new_base : (section ≡ [] → bytes ≢ []) →
         (length named ≡ 0 → length (indexed_in section named (indexed_units (kind_of k) s)) ≡ 0 → bytes ≡ []) →
         (u : Unit) → Contains (units s) u → (e : Entry) → Contains u.entries e →
@@ -166,7 +166,7 @@ module _ (k : ListKind) (gets_list : Entry → Type 0) (s : Sections) (section :
         needs in
         base_got u d.0 d.1 (w.based x (Contains-filter (needs_table named) (indexed_in section named all) x there passes))
 
-  -- a unit that needs none keeps its base
+  -- A unit that needs none keeps its base.
   pub kept_base : (u : Unit) → Contains (units s) u → (d : Entry) → own_entry u ≡ Some d → (NeedsTable (kind_of k) gets_list u → ⊥) →
       new_list_offset names d.place (base_name k) ≡ None
   kept_base u uc d is none = w.unbased d.place (λ x c own.

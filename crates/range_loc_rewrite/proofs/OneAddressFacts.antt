@@ -1,4 +1,4 @@
--- What is said by the groups of ranges that hold an address is what is said at the address.
+-- The answers by the groups of ranges that contain an address are the answers at the address.
 use Rattle.std.proofs.Common.{◌≡◌, ◌∙◌, ◌++◌, ℕ, Bool, true, false, List, [], ◌∷◌, refl, ap, filter, map}
 use Rattle.std.specs.Prelude.{flat_map, if◌then◌else◌}
 use Rattle.std.specs.BTreeSet.{BTreeSet, contains}
@@ -12,7 +12,7 @@ use Rattle.list_units.specs.UnitLocations.{all_located, located_says}
 use Rattle.list_units.specs.declared.located_attr.LocatedAttr.{LocatedAttr}
 use Rattle.range_loc_rewrite.specs.OneAddress.{place_if, said_if}
 
--- what is listed of those that pass a test
+-- The elements that pass a test.
 flat_if : {X A : Type 0} (test : X → Bool) (f : X → List A) (xs : List X) →
     flat_map (λ (x : X). if test x then f x else []) xs ≡ flat_map f (filter test xs)
 flat_if test f [] = refl

@@ -1,4 +1,4 @@
--- Each attribute that names a location list gets an offset in a table that was written, or its unit a base.
+-- Each attribute that refers to a location list gets an offset in a written table, or its unit gets a base.
 use Rattle.std.proofs.Common.{◌≡◌, ◌<◌, ◌==◌, ◌&&◌, ◌||◌, ◌∙◌, [], ℕ, Bool, true, false, List, Some, None, sym, ap, subst}
 use Rattle.std.proofs.Common.{length, map, inl, inr, ◌≢◌}
 use Rattle.std.specs.Prelude.{flat_map, Contains, if◌then◌else◌, is_some}
@@ -46,7 +46,7 @@ module _ (s : ListSections) (fine : (u : Unit) → Contains (units s.units) u �
     (up : Ascends 0 (map place_of (all_of (units s.units)))) where
   module _ (u : Unit) (uc : Contains (units s.units) u) (e : Entry) (ec : Contains u.entries e) (k : ℕ) (a : Attr)
       (is : attr k e ≡ Some a) (name : IsPlaceName k) where
-    -- the name that the attribute's list has
+    -- The kept attribute of the attribute's list.
     record Name : Type 0 where
       pub n : NamedList
       pub there : Contains named n

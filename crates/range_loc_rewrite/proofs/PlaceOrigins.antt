@@ -1,4 +1,4 @@
--- Attributes that name location lists belong to units that need a table.
+-- Attributes that refer to location lists are of units that need a table.
 use Rattle.std.proofs.Common.{◌≡◌, ◌∙◌, ◌==◌, ◌&&◌, ◌||◌, ℕ, Bool, true, false, List, Option, Some, None, refl, sym}
 use Rattle.std.specs.Prelude.{Contains, if◌then◌else◌}
 use Rattle.std.proofs.lemmas.Bool.{eqb-true}
@@ -25,7 +25,7 @@ module _ (s : ListSections) (lists : List KeptList) (named : List NamedList) (it
       NeedsTable.uses_index a.value (used_index 0x22 u e a ec (found_there k e.attrs a is) (eqb-true a.form 0x22 g))
   name_by u e ec k a is name false false f g h = absurd (cc)
 
-  -- what is kept of an attribute
+  -- The origin of a kept attribute.
   pub origin : (r : NamedList) → Contains named r → HasOrigin locations_kind (λ _. ⊥) (units s.units) r
   origin r there =
       let x = zip_left (IsNameOf lists) named (all_items s) r items there in

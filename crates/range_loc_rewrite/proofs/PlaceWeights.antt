@@ -1,4 +1,4 @@
--- The weight of locations is that of the lists that are kept.
+-- The weight of locations is that of the kept lists.
 use Rattle.std.proofs.Common.{◌≡◌, ◌||◌, ◌+◌, ◌++◌, ◌∷◌, [], ℕ, List, Option, Some, None, refl, sym, subst, map, filter, not}
 use Rattle.std.specs.Prelude.{flat_map}
 use Rattle.std.specs.Option.{option_or, option_map_or}
@@ -29,7 +29,7 @@ use Rattle.list_units.proofs.FirstOffsets.{all_pass}
 use Rattle.list_units.proofs.PlaceFaults.{of_tables}
 use Rattle.range_loc_rewrite.proofs.WeightSums.{of_two, sum_map, by_firsts}
 
--- sections without a fault have lists that can be read
+-- Sections without a fault have lists that can be read.
 
 abbrev bad_lists : ListSections → Unit → List ℕ
 bad_lists s u = bad_list_tables locations_kind s.locations s.units.addr u

@@ -1,5 +1,4 @@
--- In each file in which written tables of locations stand, beside ranges that cover as before, all that is said of locations is
--- said as before, and no list is bad.
+-- In each file with the written tables of locations, and ranges that cover as before, all answers are as before, and no list is bad.
 use Rattle.std.proofs.Common.{◌≡◌, ◌∙◌, ◌==◌, ◌&&◌, ◌||◌, ◌++◌, ◌∷◌, [], ℕ, Bool, true, false, List, Option, Some, None}
 use Rattle.std.proofs.Common.{refl, sym, ap, subst, arith, length, map}
 use Rattle.std.specs.Prelude.{flat_map, Contains, option_map, if◌then◌else◌, is_some}
@@ -50,7 +49,7 @@ use Rattle.range_loc_rewrite.proofs.TableFaults.{no_other, no_bad}
 use Rattle.range_loc_rewrite.proofs.UnitsFree.{units_free}
 use Rattle.list_units.proofs.Zips.{zip_with, zip_right}
 
--- Entries have ranges where they had some.
+-- Entries have ranges if they had some
 
 is_some_by : {X : Type 0} (o : Option X) → (o ≡ None → ⊥) → is_some o ≡ true
 is_some_by None none = absurd (none refl)
@@ -104,7 +103,7 @@ module _ (s t : ListSections) (m : Moves) (u v : Unit) (d e : Entry) (c : IsChan
           (from_high s.units t.units.info m (is_first_of u d) d e c h is none) refl
           ∙ sym (is_some_by (ranges_of s u d) (high_some s u d h is (old.low h is)))
 
--- Places of entries, as those of what has ranges
+-- Offsets of entries and of ranged entries
 
 places_from : (own : Entry → Option (List Range)) (before es : List Entry) → map place_in (ranged_from own before es) ≡ map place_of es
 places_from own before [] = refl
@@ -185,7 +184,7 @@ module _ (s t : ListSections) (spans : List Span) (m : Moves) (lists : List Kept
   -- At an address
 
   module _ (p o : ℕ) (owned : owner spans p ≡ Some o) where
-    -- entries hold alike
+    -- Entries contain the addresses alike.
     held_from : (u v : Unit) (before after ds es : List Entry) →
         AllZip (HoldAlike o p) (ranged_from (ranges_of s u) before ds) (ranged_from (ranges_of t v) after es) →
         AllZip (EntryStays u v) ds es →
@@ -196,7 +195,7 @@ module _ (s t : ListSections) (spans : List Span) (m : Moves) (lists : List Kept
     held_from u v before after (d ∷ ds) (e ∷ es) h z =
         (record { depth = z.0.depth; some = z.0.some; held = h.0.held }, held_from u v (d ∷ before) (e ∷ after) ds es h.1 z.1)
 
-    -- and say alike
+    -- Entries give the same answers.
     says_alike : (u v : Unit) (xs ys : List Ranged) → AllZip (IsRangedAlike (ranges_of s u) (ranges_of t v) o p (EntryStays u v)) xs ys →
         flat_map (entry_says t v p) ys ≡ flat_map (entry_says s u o) xs
     says_alike u v [] [] z = refl
@@ -253,7 +252,7 @@ module _ (s t : ListSections) (spans : List Span) (m : Moves) (lists : List Kept
         (hold_alike 0 o p (ranged s) (ranged t) (subst (Ascends 0) (sym here) up)
         (places_all t (units t.units) ∙ all_same (units s.units) (units t.units) all_stay ∙ sym here) (covered p o owned))
 
-  -- Each list is there.
+  -- Each list can be read
 
   there : (v : Unit) → Contains (units t.units) v → (e : Entry) → Contains v.entries e →
       AreThere locations_kind t.locations t.units.addr v e.attrs

@@ -1,4 +1,4 @@
--- The locations of an entry of a written file are those of the entry that it was made of, and each list that it names is there.
+-- The locations of an entry of a written file are those of its original, and each list to which it refers can be read.
 use Rattle.std.proofs.Common.{◌≡◌, ◌∙◌, ◌+◌, ◌*◌, ◌<◌, ◌==◌, ◌&&◌, ◌||◌, ◌∷◌, [], ℕ, Bool, true, false, List, Option, Some, None}
 use Rattle.std.proofs.Common.{refl, sym, ap, subst, arith, length, map, All, ⊎_elim}
 use Rattle.std.specs.Prelude.{flat_map, Contains, option_and_then, option_map, if◌then◌else◌, is_some, unwrap_or}
@@ -50,7 +50,7 @@ use Rattle.range_loc_rewrite.proofs.RangesStay.{found_name, found_there, SoundTe
 use Rattle.range_loc_rewrite.proofs.SoundLists.{IsThere, AreThere}
 use Rattle.list_units.proofs.Zips.{zip_left, zip_right}
 
--- What an item is of
+-- The origin of an item
 
 pub record IsItem (s : ListSections) (x : ListItem) : Type 0 where
   pub u : Unit
@@ -130,7 +130,7 @@ other_form f g e h = step (f == g) refl
     step true is = absurd (clash e (ap is_block (eqb-true f g is) ∙ h))
     step false is = refl
 
--- A list that stands in the tables
+-- A list in the tables
 
 pub record IsIndexed (o : Option ℕ) (i : ℕ) (a : Attr) : Type 0 where
   pub form : (a.form == 0x22) ≡ true
@@ -174,7 +174,7 @@ module _ (s t : ListSections) (spans : List Span) (m : Moves) (tables : List (Li
     (sound_old : AreSoundUnits s.units.addr (units s.units)) (up : Ascends 0 (map place_of (all_of (units s.units))))
     (fine_old : (u : Unit) → Contains (units s.units) u → AreThere locations_kind s.locations s.units.addr u
     (flat_map (λ (e : Entry). e.attrs) u.entries)) where
-  -- a list of a number, where it stands
+  -- The list with a number, at its offset.
   module _ (q : NamedList) (qc : Contains named q) (at : ℕ) (there : StandsAt tables at (bytes_in bs q.list)) where
     placed : StandsAt tables at (list_bytes Locations (bounded (runs q.list)))
     placed = subst (StandsAt tables at) (spelled.bytes q qc) there
@@ -195,7 +195,7 @@ module _ (s t : ListSections) (spans : List Span) (m : Moves) (tables : List (Li
         ∙ ap (option_and_then (list_answer lists q.list)) owned)
         ∙ unwrapped (number_says lists q.list o)
 
-  -- an attribute of a name, and the same attribute of the written file
+  -- An attribute with a name, and the same attribute of the written file.
   pub record Same (u v : Unit) (d e : Entry) (k : ℕ) : Type 0 where
     pub said : (p o : ℕ) → owner spans p ≡ Some o →
         option_map_or (λ (x : Attr). expressions_of t v x p) (attr k e) [] ≡ option_map_or (λ (x : Attr). expressions_of s u x o)
@@ -218,7 +218,7 @@ module _ (s t : ListSections) (spans : List Span) (m : Moves) (tables : List (Li
     sound : (x : Entry) → Contains u.entries x → IsSoundEntry s.units.addr u x
     sound x xc = sound_at s.units.addr (units s.units) u x sound_old uc xc
 
-    -- the entry hasn't it
+    -- The entry hasn't it.
     same_none : attr k d ≡ None → Same u v d e k
     same_none is =
         let none : attr k e ≡ None = from ∙ ap (option_map new) is in
@@ -244,7 +244,7 @@ module _ (s t : ListSections) (spans : List Span) (m : Moves) (tables : List (Li
           same : Some (new a) ≡ Some x → new a ≡ x
           same f = cc
 
-      -- it has an expression in it
+      -- It has an expression.
       same_block : is_block a.form ≡ true → Same u v d e k
       same_block block =
           let kept : new_value m own (is_first_of u d) d a ≡ None =
@@ -285,7 +285,7 @@ module _ (s t : ListSections) (spans : List Span) (m : Moves) (tables : List (Li
               neither (a.form == 0x17) (a.form == 0x22) (other_form a.form 0x17 block refl) (other_form a.form 0x22 block refl)
               (second ((new a).name == 0x02 || (new a).name == 0x40) (a.form == 0x17 || a.form == 0x22) h)
 
-      -- it names a list
+      -- It refers to a list.
       module _ (block : is_block a.form ≡ false) (lists_it : has_list locations_kind a ≡ true) where
         found : HasItem s u d k a
         found = has_item s fine_old u uc d dc k name a is lists_it
@@ -293,7 +293,7 @@ module _ (s t : ListSections) (spans : List Span) (m : Moves) (tables : List (Li
         abbrev item : ListItem
         item = record { place = d.place; attr = k; own = own_place u; index = list_index a; list = found.list }
 
-        -- by the place of its list
+        -- By the offset of its list.
         same_by : (q : NamedList) → Contains named q → (at : ℕ) → StandsAt tables at (bytes_in bs q.list) →
             list_offset locations_kind t.locations v (new a) ≡ Some at →
             ((o : ℕ) → number_says lists q.list o ≡ in_force found.list o) → Same u v d e k

@@ -1,4 +1,4 @@
--- The law of written locations, of a file in which they stand.
+-- The law of written locations, for a file with the written table.
 use Rattle.std.proofs.Common.{◌≡◌, ◌∙◌, ◌<◌, ℕ, zero, suc, [], ◌∷◌, List, Option, refl, sym, ap, subst, arith, map, All, length}
 use Rattle.std.specs.Prelude.{Contains, slice_get}
 use Rattle.std.specs.Global.{Vec}
@@ -37,7 +37,7 @@ use Rattle.list_units.proofs.Zips.{zip_left}
 abbrev AllRuns : Type 0
 AllRuns = List (Vec (Run (Vec (Vec ℕ))))
 
--- the runs of a number
+-- The runs with a number.
 bytes_there : (rs : AllRuns) (n : ℕ) → n < length rs → option_map_or runs_bytes (slice_get rs n) [] ≡ list_bytes Locations
     (bounded (said_in rs n))
 bytes_there [] n h = absurd (omega arith)

@@ -1,4 +1,4 @@
--- Each entry that has ranges gets the offset of its list in a table that was written, or its unit a base.
+-- Each entry with ranges gets the offset of its list in a written table, or its unit gets a base.
 use Rattle.std.proofs.Common.{◌≡◌, ◌∙◌, ◌<◌, ◌==◌, ◌&&◌, ◌||◌, ◌∷◌, [], ℕ, Bool, true, false, List, Option, Some, None, refl, sym, ap}
 use Rattle.std.proofs.Common.{subst}
 use Rattle.std.proofs.Common.{All, length, map, ⊎_elim, inl, inr, ◌≢◌}
@@ -73,7 +73,7 @@ module _ (s : ListSections) (free : IsFree (HasDwarfFault (range_places s))) (co
               (list_full kind.Ranges w.tables x.0 (map bounded (runs_in lists f.r.group)) x.2 w.units (writable f.r f.there));
         }
 
-    -- an entry whose ranges a list gives
+    -- An entry whose ranges are in a list.
     module _ (a : Attr) (is : attr 0x55 e ≡ Some a) (form : (a.form == 0x17 || a.form == 0x23) ≡ true) where
       fine : IsFine s u a
       fine = lists_fine s free u uc a (flat_has (λ (e : Entry). e.attrs) u.entries e a ec (found_there 0x55 e.attrs a is))
@@ -98,7 +98,7 @@ module _ (s : ListSections) (free : IsFree (HasDwarfFault (range_places s))) (co
               (no_bounds s u e (no_high (attr 0x12 e) refl) ∙ ap (listed_ranges s u) is ∙ of_offset s u a (Some fine.at) fine.offset
               ∙ ap (option_map ranges_in) f)
 
-    -- an entry that has a high address
+    -- An entry with a high address.
     module _ (h : HasHigh e) where
       bounded_by : (low : Option ℕ) → low_pc s.units.addr u e ≡ low → is_some low ≡ true → IsFound s covers u e kept
       bounded_by None f g = absurd (cc)

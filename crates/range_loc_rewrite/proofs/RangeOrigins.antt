@@ -1,4 +1,4 @@
--- Entries whose ranges are kept belong to units that need a table.
+-- Entries whose ranges are kept are of units that need a table.
 use Rattle.std.proofs.Common.{◌≡◌, ◌∙◌, ◌==◌, ◌||◌, ℕ, Bool, true, false, List, Option, Some, None, refl, sym, ap, subst, map}
 use Rattle.std.specs.Prelude.{Contains, is_some}
 use Rattle.std.proofs.lemmas.Bool.{eq-eqb, eqb-true}
@@ -30,7 +30,7 @@ module _ (s : ListSections) (free : IsFree (HasDwarfFault (range_places s))) (co
   pairs : AllPaired s covers (units s.units) kept
   pairs = all_paired s covers (units s.units) kept seen
 
-  -- what is kept of an entry
+  -- The origin of a kept entry.
   entry_origin : (r : RangedEntry) → Contains kept r → HasOrigin ranges_kind HasHigh (units s.units) (named_of r)
   entry_origin r there =
       let y = kept_from s covers (units s.units) kept r pairs there in

@@ -36,7 +36,7 @@ use Rattle.dw_lists.specs.Weights.{IsRangesWeight, covered_by, index_weight, ind
 use Rattle.dw_lists.proofs.IndexWeights.{all_weights}
 use Rattle.cover_lists.specs.ListWeights.{IsSumOf}
 
--- which of the entries that have ranges hold an address
+-- The entries whose ranges contain an address
 
 abbrev held_of : Option (List Range) → ℕ → List Bool
 held_of None a = []
@@ -91,7 +91,7 @@ not_nil x xs e = cc
 zero_plus : (n : ℕ) → 0 + n ≡ n
 zero_plus n = omega arith
 
--- the weight of each
+-- The weight of each.
 run_sum : (xs : List (Run Bool)) → run_weight * length xs ≡ sum_by (λ (r : Run Bool). run_weight + 0) xs
 run_sum [] = refl
 run_sum (x ∷ xs) =
@@ -173,7 +173,7 @@ module _ (s : ListSections) (spans : List Span) (covers : List Cover) (lists : L
         sums (ranged s) kept (λ r c. c)
         (λ a. sym (kept_held covers kept a) ∙ ap (map (λ (x : SeenEntry). x.held)) (seen a) ∙ all_held s a (units s.units))
 
--- a group holds an address, if there is one
+-- A group contains an address, if there is a group.
 abbrev pub holds_some : List Cover → ℕ → Option ℕ → Bool
 holds_some covers g o = option_map_or (group_holds covers g) o false
 
@@ -188,7 +188,7 @@ within_there n (x ∷ xs) r w c = ⊎_elim
     (λ (there : Contains xs r). within_there n xs r (All-tail (λ (r : RangedEntry). r.group < n) x xs w) there)
     (Contains-cons_cases x xs r c)
 
--- What is kept, and the runs of its groups.
+-- The kept entries, and the runs of their groups.
 module _ (s : ListSections) (spans : List Span) (kept : List RangedEntry) (count : ℕ) (index : CoverIndex) (bounds : List ℕ)
     (indexed : List IndexedUnit)
     (are : AreKept s kept count index bounds indexed) (lists : List (Vec (Run Bool)))
@@ -206,7 +206,7 @@ module _ (s : ListSections) (spans : List Span) (kept : List RangedEntry) (count
     sum = refl;
   }
 
--- what is kept of the indexes of units weighs what these do
+-- The weight of the kept indexes is that of the units' indexes.
 pub indexes_weight : (k : Kind) (s : Sections) (indexed : List IndexedUnit) (weight : ℕ) → indexed ≡ indexed_units k s →
     weight ≡ min (sum_by table_weight indexed) (2 ^ 64 - 1) → weight ≡ min (sum_by (index_weight k.index_form) (units s)) (2 ^ 64 - 1)
 indexes_weight k s indexed weight are is =

@@ -1,4 +1,4 @@
--- In each file in which written tables stand, entries cover the new code as they covered the old, and no list is bad.
+-- In each file with the written tables, entries cover the new code as they covered the old, and no list is bad.
 use Rattle.std.proofs.Common.{◌≡◌, ◌∙◌, ◌==◌, ◌&&◌, ◌++◌, ◌∷◌, [], ℕ, Bool, true, false, List, Option, Some, None, refl, sym, ap}
 use Rattle.std.proofs.Common.{subst, arith, map, filter, All}
 use Rattle.std.specs.Prelude.{flat_map, Contains, option_map, option_and_then, if◌then◌else◌, IsSome, not, filter_map}
@@ -48,7 +48,7 @@ use Rattle.range_loc_rewrite.proofs.UnitsFree.{units_free}
 use Rattle.list_units.proofs.Zips.{zip_with, zip_right}
 use Rattle.range_loc_rewrite.proofs.RangeWeights.{holds_some}
 
--- Entries that hold two addresses alike cover them at the same places.
+-- Entries that contain two addresses alike cover them alike
 
 abbrev covered : List Ranged → ℕ → List ℕ
 covered rs a = map (λ (r : Ranged). r.entry.place) (filter (λ (r : Ranged). hold r.own a) rs)
@@ -193,7 +193,7 @@ agree_same : {X : Type 0} (o : Option (List X)) → Agree (λ x y. x ≡ y) o o
 agree_same None = tt
 agree_same (Some x) = refl
 
--- what is carried
+-- The carried answers.
 pub is_carried : {X : Type 0} (old new : ℕ → List X) (spans : List Span) (wanted : ℕ → Option (List X)) →
     ((p : ℕ) → wanted p ≡ carried (λ a. unless_empty (old a)) spans p) → ((p o : ℕ) → owner spans p ≡ Some o → new p ≡ old o) →
     IsCarried (λ x y. x ≡ y) spans wanted (Some (λ p. unless_empty (new p)))

@@ -1,4 +1,4 @@
--- The ranges of an entry whose list was written anew.
+-- The ranges of an entry whose list was written.
 use Rattle.std.proofs.Common.{◌≡◌, ◌∙◌, ◌+◌, ◌*◌, ◌<◌, ◌==◌, ◌&&◌, ◌||◌, ◌∷◌, [], ℕ, Bool, true, false, not, List, Option, Some, None}
 use Rattle.std.proofs.Common.{refl, sym, ap, subst, arith, length, map, All, ⊎_elim}
 use Rattle.std.specs.Prelude.{Contains, option_and_then, option_map, if◌then◌else◌, is_some, nat_lt, unwrap_or}
@@ -35,7 +35,7 @@ use Rattle.list_writer.proofs.ListsThere.{list_there}
 use Rattle.dw_lists.proofs.OwnRanges.{listed_ranges, of_offset}
 use Rattle.range_loc_rewrite.proofs.SoundLists.{IsFine, AreFine}
 
--- what an attribute that names ranges is
+-- An attribute that refers to ranges.
 abbrev ranges_attr : (form place len value : ℕ) → Attr
 ranges_attr form place len value = record { name = 0x55; form = form; place = place; len = len; value = value }
 
@@ -46,7 +46,7 @@ inside_is : (section : List ℕ) (at : ℕ) → at < length section → only_wit
 inside_is section at h = let t : nat_lt at (length section) ≡ true = grind (arith, nat_tests) in
     ap (λ (b : Bool). if b then Some at else None) t
 
--- the attribute that is found has the name
+-- The attribute that is found has the name.
 pub found_name : (k : ℕ) (xs : List Attr) (a : Attr) → find (named k) xs ≡ Some a → a.name ≡ k
 found_name k [] a e = absurd (cc)
 found_name k (x ∷ xs) a e = step (x.name == k) refl e (λ e. found_name k xs a e)
@@ -93,7 +93,7 @@ module _ (t : ListSections) (v : Unit) (e : Entry) (tables : List (List ℕ)) (u
   pub held_by : (p : ℕ) → hold (ranges_of t v e) p ≡ is_some (run_at (runs_in lists g) p)
   held_by p = ap (λ (o : Option (List Range)). hold o p) ranges_by ∙ ranges_hold (runs_in lists g) p
 
-  -- the attribute is the only one that names ranges
+  -- It is the only attribute that refers to ranges.
   only : (x : Attr) → Contains e.attrs x → has_list ranges_kind x ≡ true → a ≡ x
   only x c h =
       let name : x.name ≡ 0x55 = eqb-true x.name 0x55 (first (x.name == 0x55) _ h) in
@@ -109,7 +109,7 @@ module _ (t : ListSections) (v : Unit) (e : Entry) (tables : List (List ℕ)) (u
   pub fine_by : AreFine t v e.attrs
   fine_by x c h = subst (IsFine t v) (only x c h) (record { at = at; offset = offset; read = ap is_some listed })
 
--- what the tests of a sound attribute say of lists
+-- The tests of a sound attribute, for lists.
 pub record SoundTests (addr : List ℕ) (u : Unit) (a : Attr) : Type 0 where
   pub location : (a.form == 0x22) ≡ true → is_some (base 0x8c u) ≡ true
   pub index : (a.form == 0x23) ≡ true → is_some (base 0x74 u) ≡ true

@@ -1,4 +1,4 @@
--- Sections of ranges without a fault: all lists that entries name are there, and can be read.
+-- In sections of ranges without a fault, all lists to which entries refer can be read.
 use Rattle.std.proofs.Common.{◌≡◌, ◌∙◌, ◌||◌, ◌++◌, ◌∷◌, [], ℕ, Bool, true, false, not, List, Option, Some, None, Result, Ok, refl, sym, ap}
 use Rattle.std.proofs.Common.{subst, arith, map, filter, ⊎_elim}
 use Rattle.std.specs.Prelude.{if◌then◌else◌, flat_map, filter_map, is_some, option_map, Contains}
@@ -22,7 +22,7 @@ use Rattle.list_writer.proofs.PutEntries.{flat_from}
 use Rattle.list_units.proofs.RangeFaults.{of_tables}
 use Rattle.range_loc_rewrite.proofs.UnitsFree.{units_free}
 
--- an attribute names a list that can be read
+-- An attribute refers to a list that can be read.
 pub record IsThere (k : Kind) (section addr : List ℕ) (u : Unit) (a : Attr) : Type 0 where
   pub at : ℕ
   pub offset : list_offset k section u a ≡ Some at
@@ -49,7 +49,7 @@ not_false : (b : Bool) → not b ≡ false → b ≡ true
 not_false true e = refl
 not_false false e = absurd (cc)
 
--- From lists of attributes to their members, and back
+-- From lists of attributes to their elements, and back
 
 module _ (k : Kind) (section addr : List ℕ) (u : Unit) where
   abbrev offset_of : Attr → Option ℕ
@@ -117,7 +117,7 @@ module _ (k : Kind) (section addr : List ℕ) (u : Unit) where
                 ∙ ap (λ (b : Bool). if not b then f.at ∷ unread xs else unread xs) f.read ∙ more.1,
           )
 
--- Of all units
+-- For all units
 
 map_nil : (section : List ℕ) (xs : List ℕ) → map (table_place section) xs ≡ [] → xs ≡ []
 map_nil section [] e = refl
@@ -135,7 +135,7 @@ nil_flat f [] none = refl
 nil_flat f (u ∷ us) none = (λ i. none u (0, omega arith, refl) i ++ flat_map f us) ∙ nil_flat f us (λ v c. none v (Contains-there u us v c))
 
 module _ (s : ListSections) (bad_by : Walked → Bool) where
-  -- no unit has what is looked for besides
+  -- No unit has the other faults.
   pub none_found : (ws : List Walked) (us : List Unit) → AllZip (IsGoodUnit s.units.abbrevs (is_sound_unit s.units.addr)) ws us →
       find (λ w. is_bad s.units w || bad_by w) ws ≡ None → (u : Unit) → Contains us u → (w : Walked) × (unit_of s.units.abbrevs w ≡ Ok u)
       × (bad_by w ≡ false)
@@ -165,7 +165,7 @@ module _ (s : ListSections) (bad_by : Walked → Bool) where
       (λ i. if good i || there i then Some w else find (λ w. is_bad s.units w || bad_by w) ws)
       ∙ found_none ws us z.1 (λ w u c is. none w u (Contains-there v us u c) is)
 
--- the lists of a kind, of all units
+-- The lists of a kind, for all units.
 pub units_there : (k : Kind) (section addr : List ℕ) (us : List Unit) → ((u : Unit) → Contains us u → lacks_offset k section u ≡ false) →
     flat_map (bad_list_tables k section addr) us ≡ [] → (u : Unit) → Contains us u →
     AreThere k section addr u (flat_map (λ (e : Entry). e.attrs) u.entries)
@@ -205,7 +205,7 @@ module _ (s : ListSections) where
       sym (ap (has_bad_offset ranges_kind s.ranges) p.1) ∙ p.2)
       tables.1
 
-  -- and the other way
+  -- The converse.
   pub fine_free : IsFree (HasDwarfFault (unit_fault_places s.units)) → other_version 5 s.ranges ≡ None → of_tables s ≡ [] →
       ((u : Unit) → Contains (units s.units) u → (e : Entry) → Contains u.entries e → AreFine s u e.attrs) →
       IsFree (HasDwarfFault (range_places s))

@@ -1,4 +1,4 @@
--- Sections of locations without a fault: all lists of both kinds that entries name are there, and can be read.
+-- In sections of locations without a fault, all lists of both kinds to which entries refer can be read.
 use Rattle.std.proofs.Common.{◌≡◌, ◌∙◌, ◌||◌, ◌++◌, [], ℕ, Bool, true, false, not, List, None, refl, sym, ap, map, filter}
 use Rattle.std.specs.Prelude.{flat_map, option_map, Contains}
 use Rattle.std.specs.List.{find}
@@ -21,7 +21,7 @@ or_parts : (a b : Bool) → (a || b) ≡ false → (a ≡ false) × (b ≡ false
 or_parts true b e = absurd (cc)
 or_parts false b e = (refl, e)
 
--- the tables of a section that have a fault of their own
+-- The tables of a section with a fault of their own.
 abbrev pub bad_of : List ℕ → List ℕ
 bad_of section = map (λ (w : Walked). w.place) (filter (λ (w : Walked). not (option_map_or is_list_table w.bytes false)) (walked 5 section))
 
@@ -83,7 +83,7 @@ module _ (s : ListSections) where
         there = units_there locations_kind s.locations s.units.addr (units s.units) (λ u c. (lacks u c).1) of_locations.1;
       }
 
-  -- and the other way
+  -- The converse.
   pub fine_places : IsFree (HasDwarfFault (range_places s)) → other_version 5 s.locations ≡ None → bad_of s.locations ≡ [] →
       ((u : Unit) → Contains (units s.units) u → (e : Entry) → Contains u.entries e →
       AreThere locations_kind s.locations s.units.addr u e.attrs) →

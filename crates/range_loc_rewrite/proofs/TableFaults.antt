@@ -1,4 +1,4 @@
--- A section of tables that were written has no fault of its own.
+-- A section of written tables has no fault of its own.
 use Rattle.std.proofs.Common.{ℕ, ◌+◌, ◌≡◌, List, [], ◌∷◌, Some, None, option_map, Bool, true, false, not, refl, ◌∙◌, ap, arith, length}
 use Rattle.std.proofs.Common.{filter, map, All}
 use Rattle.std.specs.Prelude.{if◌then◌else◌}

@@ -1,4 +1,4 @@
--- Which indexes of lists units use, and what is kept of them.
+-- The list indexes that units use, and what is kept of them.
 use Rattle.std.proofs.Common.{◌≡◌, ◌∙◌, ◌+◌, ◌<◌, ◌≤◌, ◌==◌, ◌++◌, ◌∷◌, [], ℕ, true, List, Option, Some, None, All, refl, sym, ap}
 use Rattle.std.proofs.Common.{subst, arith}
 use Rattle.std.proofs.Common.{filter, map, ⊎_elim}
@@ -34,7 +34,7 @@ contains_map f (y ∷ xs) x c = ⊎_elim
 
 -- Indexes
 
--- an attribute of the form uses its value
+-- An attribute of the form uses its value.
 pub used_index : (form : ℕ) (u : Unit) (e : Entry) (a : Attr) → Contains u.entries e → Contains e.attrs a → a.form ≡ form →
     Contains (indexes form u) a.value
 used_index form u e a ec ac f =
@@ -59,7 +59,7 @@ fold_most a (j ∷ is) =
           (Contains-cons_cases j is i c);
     }
 
--- no index is above the greatest
+-- No index is above the greatest.
 pub greatest_is : (is : List ℕ) (i : ℕ) → Contains is i → (g : ℕ) × (greatest is ≡ Some g) × (i ≤ g)
 greatest_is [] i c = absurd (Contains-nil i c)
 greatest_is (j ∷ is) i c =
@@ -82,7 +82,7 @@ all_below (j ∷ is) count above =
     rest [] low = All-nil (λ i. i < count)
     rest (k ∷ ks) low = All-cons (λ i. i < count) k ks (low k (0, omega arith, refl)) (rest ks (λ i c. low i (Contains-there k ks i c)))
 
--- what uses an index has an entry
+-- A unit that uses an index has an entry.
 pub used_entry : (form : ℕ) (u : Unit) (i : ℕ) → Contains (indexes form u) i → (e : Entry) × Contains u.entries e
 used_entry form u i c = by u.entries refl
   where
@@ -95,7 +95,7 @@ pub some_used : (is : List ℕ) → is_some (greatest is) ≡ true → (i : ℕ)
 some_used [] e = absurd (cc)
 some_used (i ∷ is) e = (i, (0, omega arith, refl))
 
--- What is kept of a unit
+-- The kept fields of a unit
 
 abbrev pub indexed_at : Kind → Unit → Entry → IndexedUnit
 indexed_at k u d = record {
@@ -146,7 +146,7 @@ from_unit k us x c =
           (Contains-cons_cases (indexed_at k u d) [] x (subst (λ (l : List IndexedUnit). Contains l x) (kept_is k u d f) c));
     }
 
--- in the order of their own entries
+-- In the order of their own entries.
 pub units_rise : (k : Kind) (us : List Unit) (lo : ℕ) → Ascends lo (map place_of (all_of us)) → UnitsRise lo (flat_map (indexed_of k) us)
 units_rise k [] lo up = tt
 units_rise k (u ∷ us) lo up =
@@ -167,9 +167,9 @@ units_rise k (u ∷ us) lo up =
         subst (λ (l : List IndexedUnit). UnitsRise lo (l ++ rest)) (sym (kept_is k u e (ap first_of is)))
         (omega (arith, low, own), units_less (e.place + 1) (entries_end lo u.entries) rest (omega (arith, below, own)) more)
 
--- Attributes that name lists
+-- Attributes that refer to lists
 
--- an attribute that names a list by an index
+-- An attribute that refers to a list by an index.
 pub record IsNamedBy (k : Kind) (e : Entry) (i : ℕ) : Type 0 where
   pub name : ℕ
   pub a : Attr
@@ -179,7 +179,7 @@ pub record IsNamedBy (k : Kind) (e : Entry) (i : ℕ) : Type 0 where
   pub form : a.form ≡ k.index_form
   pub value : a.value ≡ i
 
--- what is kept of an attribute comes from an entry of a unit that needs a table
+-- A kept attribute is of an entry of a unit that needs a table.
 pub record HasOrigin (k : Kind) (gets_list : Entry → Type 0) (us : List Unit) (r : NamedList) : Type 0 where
   pub u : Unit
   pub unit : Contains us u
@@ -203,7 +203,7 @@ is_owned k gets_list us r o =
           (subst (Contains (indexes k.index_form o.u)) n.value (used_index k.index_form o.u o.e n.a o.entry n.there n.form));
     }
 
--- for all attributes and units, or without any
+-- For all attributes and units, or without any.
 pub left_in : (k : ListKind) (gets_list : Entry → Type 0) (us : List Unit) (section : List ℕ) (named : List NamedList) →
     AreInOrder k 0 named → OwnsRise 0 named → Ascends 0 (map place_of (all_of us)) →
     ((r : NamedList) → Contains named r → HasOrigin (kind_of k) gets_list us r) →

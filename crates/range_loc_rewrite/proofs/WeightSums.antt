@@ -8,7 +8,7 @@ use Rattle.cover_lists.specs.ListWeights.IsSumOf.{none, more}
 use Rattle.list_units.specs.ReadLists.{firsts}
 use Rattle.list_units.proofs.FirstOffsets.{once, absent}
 
--- a sum of two lists
+-- A sum over two lists.
 pub record IsSumOfTwo {X : Type 0} (W : X → ℕ → Type 0) (xs ys : List X) (n : ℕ) : Type 0 where
   pub first : ℕ
   pub second : ℕ
@@ -40,7 +40,7 @@ moved W (y ∷ xs) ys x _ (more _ _ n _ w (more _ _ k m v s)) =
     subst (IsSumOf W (y ∷ (xs ++ x ∷ ys))) same
     (more y (xs ++ x ∷ ys) k (n + m) v (moved W xs ys x (n + m) (more x (xs ++ ys) n m w s)))
 
--- each number once, whichever occurrence is taken
+-- Each number once, at any of its occurrences.
 pub by_firsts : (W : ℕ → ℕ → Type 0) (ns : List ℕ) (sum : ℕ) → IsSumOf W (firsts ns) sum → IsSumOf W (distinct ns) sum
 by_firsts W [] sum s = s
 by_firsts W (n ∷ ns) sum s = step (list_any (λ m. m == n) ns) refl (by_firsts W ns)

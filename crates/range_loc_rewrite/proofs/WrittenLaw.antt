@@ -1,4 +1,4 @@
--- The law of written ranges, of a file in which they stand.
+-- The law of written ranges, for a file with the written table.
 use Rattle.std.proofs.Common.{◌≡◌, ◌-◌, ◌^◌, ◌<◌, ℕ, Bool, [], List, Option, refl, sym, ap, subst, arith, map, All, length}
 use Rattle.std.specs.Prelude.{Contains}
 use Rattle.std.specs.Global.{Vec}
@@ -42,7 +42,7 @@ use Rattle.range_loc_rewrite.proofs.UsedIndexes.{left_in}
 
 module _ (s : ListSections) (kept : List RangedEntry) (count : ℕ) (index : CoverIndex) (bounds : List ℕ) (indexed : List IndexedUnit)
     (are : AreKept s kept count index bounds indexed) where
-  -- entries are kept in order
+  -- Entries are kept in order.
   pub kept_order : AreInOrder kind.Ranges 0 (map named_of kept)
   kept_order = ranges_in_order 0 0 kept (kept_ascend s index.tree kept are.seen (places_ascend s.units (units_free s are.free)))
       (omega arith)
@@ -58,7 +58,7 @@ module _ (s : ListSections) (kept : List RangedEntry) (count : ℕ) (index : Cov
       (left_in kind.Ranges HasHigh (units s.units) s.ranges (map named_of kept) kept_order kept_owns
       (places_ascend s.units (units_free s are.free)) (origin s are.free index.tree kept are.seen))
 
-  -- what is made
+  -- The written table.
   pub made_of : (bs : List (Vec ℕ)) (us : List IndexedUnit) (w : Written) →
       AreWritten kind.Ranges bs (map named_of kept) us w.bytes.items w.lists.items →
       (s.ranges ≡ [] → length (map named_of kept) ≡ 0 → w.bytes.items ≡ []) → RangesMade s w

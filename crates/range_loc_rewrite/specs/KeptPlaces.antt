@@ -1,4 +1,4 @@
--- What is kept of sections of locations without a fault.
+-- The fields that are kept of sections of locations without a fault.
 use Rattle.std.specs.Prelude.{◌≡◌, ℕ, List, [], All, map, nat_le, flat_map, slice_get, None}
 use Rattle.std.specs.List.Sorted.{IsNonDecreasing}
 use Rattle.std.specs.Option.{option_map_or}
@@ -24,13 +24,13 @@ use Rattle.dw_lists.specs.IndexedUnits.{indexed_units}
 abbrev pub ranged_of : LocatedAttr → RangedEntry
 ranged_of l = record { place = l.place; group = l.group; own = 0; index = None }
 
--- what is said of the attribute of a number
+-- The answer of the attribute with a number.
 abbrev pub said_by_number : Locations → ℕ → ℕ → List PlaceSaid
 said_by_number kept a k = option_map_or (located_says kept.lists.items a) (slice_get kept.located.items k) []
 
--- The attributes that say where something is, with the lists that each unit names and their names, the index by which
--- those are found whose ranges hold an address, numbers between which the same is said at all addresses, and the
--- indexes of lists that units use.
+-- The location attributes, with the lists to which each unit refers and the attributes that do so; the index that finds
+-- those whose ranges contain an address; `bounds`, such that all addresses between two of them have the same answer;
+-- and the list indexes that units use.
 pub record ArePlacesKept (s : ListSections) (kept : Locations) (named : List NamedList) (index : CoverIndex)
     (bounds : List ℕ) (indexed : List IndexedUnit) :
     Type 0 where

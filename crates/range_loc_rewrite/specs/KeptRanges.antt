@@ -1,4 +1,4 @@
--- What is kept of sections of ranges without a fault.
+-- The fields that are kept of sections of ranges without a fault.
 use Rattle.std.specs.Prelude.{◌≡◌, ℕ, List, All, nat_le}
 use Rattle.std.specs.List.Sorted.{IsNonDecreasing}
 use Rattle.rb_bytes.specs.FirstFault.{IsFree}
@@ -15,8 +15,8 @@ use Rattle.dw_lists.specs.Ranges.{covering}
 use Rattle.dw_lists.specs.declared.indexed_unit.IndexedUnit.{IndexedUnit}
 use Rattle.dw_lists.specs.IndexedUnits.{indexed_units}
 
--- The entries that have ranges, of so many groups, the index by which those are found that cover an address, numbers
--- between which the same cover all addresses, and the indexes of lists that units use.
+-- The entries with ranges, in `count` groups; the index that finds those that cover an address; `bounds`, such that all
+-- addresses between two of them are covered by the same entries; and the list indexes that units use.
 pub record AreKept (s : ListSections) (ranged : List RangedEntry) (count : ℕ) (index : CoverIndex) (bounds : List ℕ)
     (indexed : List IndexedUnit) :
     Type 0 where

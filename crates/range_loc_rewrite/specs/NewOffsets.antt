@@ -1,5 +1,5 @@
--- Where the attributes of a file's entries find their lists in tables that are written anew. DWARF 5, sections 2.6.2,
--- 2.17.3, 7.28 and 7.29.
+-- How the attributes of a file's entries find their lists in written tables. DWARF 5, sections 2.6.2, 2.17.3, 7.28 and
+-- 7.29.
 use Rattle.std.specs.Prelude.{◌≡◌, ◌≢◌, ◌<◌, ◌+◌, ◌*◌, ℕ, List, [], All, Contains, length, Some, None, IsTrue}
 use Rattle.table_core.specs.declared.form.TheConstants.{DW_FORM_sec_offset}
 use Rattle.table_core.specs.declared.written.ListAt.{ListAt}
@@ -12,14 +12,14 @@ use Rattle.dw_lists.specs.UnitLists.{own_place}
 use Rattle.dw_lists.specs.Weights.{indexes}
 use Rattle.list_writer.specs.FullLists.{IsFullList, IsTableBase}
 
--- an attribute of the entry at a place gets the offset of a list in the new table
+-- An attribute of the entry at offset `place` gets the offset of a list in the new table.
 pub record GetsOffset (k : Kind) (lists : List ListAt) (table : List ℕ) (place name : ℕ) : Type 0 where
   pub offset : ℕ
   pub is : new_list_offset lists place name ≡ Some offset
   pub within : offset < length table
   pub full : IsFullList k table offset
 
--- an attribute names a list by an index, in a unit with a base
+-- An attribute refers to a list by an index, in a unit with a base.
 pub record NamesIndex (k : Kind) (s : Sections) (lists : List ListAt) (base index : ℕ) : Type 0 where
   pub u : Unit
   pub unit : Contains (units s) u
@@ -33,14 +33,14 @@ pub record NamesIndex (k : Kind) (s : Sections) (lists : List ListAt) (base inde
   pub form : a.form ≡ k.index_form
   pub value : a.value ≡ index
 
--- An index of a base has the offset of a list. It is one without entries where no attribute names a list by the index.
+-- The index has the offset of a list. The list has no entries if no attribute refers to a list by this index.
 pub record HasIndex (k : Kind) (s : Sections) (lists : List ListAt) (table : List ℕ) (base index : ℕ) : Type 0 where
   pub offset : ℕ
   pub is : number_in 4 (base + 4 * index) table ≡ Some offset
   pub full : IsFullList k table (base + offset)
   pub unused : (NamesIndex k s lists base index → ⊥) → full.items ≡ []
 
--- A unit gets a new base, that of a table with an offset for each index that the unit uses, in whatever attribute.
+-- A unit gets a new base: that of a table with an offset for each index that the unit uses, in any attribute.
 pub record GetsBase (k : Kind) (s : Sections) (u : Unit) (lists : List ListAt) (table : List ℕ) : Type 0 where
   pub base : ℕ
   pub is : new_list_offset lists (own_place u) k.base_name ≡ Some base
@@ -49,15 +49,16 @@ pub record GetsBase (k : Kind) (s : Sections) (u : Unit) (lists : List ListAt) (
   pub below : All (λ i. i < count) (indexes k.index_form u)
   pub each : (i : ℕ) → i < count → HasIndex k s lists table base i
 
--- A unit needs a table: it uses an index, or it has an entry that names a list by its offset, or gets one otherwise.
+-- A unit needs a table: it uses an index, or it has an entry that refers to a list by its offset, or that gets one
+-- otherwise.
 pub data NeedsTable (k : Kind) (gets_list : Entry → Type 0) (u : Unit) : Type 0 where
   uses_index : (i : ℕ) → Contains (indexes k.index_form u) i → NeedsTable k gets_list u
   names_list : (e : Entry) (name : ℕ) (a : Attr) → Contains u.entries e → attr name e ≡ Some a →
       IsTrue (k.names_list name) → a.form ≡ DW_FORM_sec_offset → NeedsTable k gets_list u
   has_entry : (e : Entry) → Contains u.entries e → gets_list e → NeedsTable k gets_list u
 
--- Each attribute that names a list by its offset gets a new one. A unit that needs a table gets the base of one, if IN
--- or OUT has the section, and a unit that needs none keeps the base that it has.
+-- Each attribute that refers to a list by its offset gets a new offset. A unit that needs a table gets the base of one,
+-- if IN or OUT has the section. A unit that needs none keeps its base.
 pub record GetOffsets (k : Kind) (gets_list : Entry → Type 0) (s : Sections) (old : List ℕ) (lists : List ListAt)
     (table : List ℕ) : Type 0 where
   pub offsets : (u : Unit) → Contains (units s) u → (e : Entry) → Contains u.entries e → (name : ℕ) (a : Attr) →
@@ -68,12 +69,12 @@ pub record GetOffsets (k : Kind) (gets_list : Entry → Type 0) (s : Sections) (
   pub kept : (u : Unit) → Contains (units s) u → (own : Entry) → own_entry u ≡ Some own →
       (NeedsTable k gets_list u → ⊥) → new_list_offset lists own.place k.base_name ≡ None
 
--- an entry has ranges by a high address
+-- An entry has a high address.
 pub record HasHigh (e : Entry) : Type 0 where
   pub a : Attr
   pub is : attr DW_AT_high_pc e ≡ Some a
 
--- so do ranges, and a high address becomes the offset of a list
+-- Ranges get offsets too, and a high address becomes the offset of a list.
 pub record RangesGetOffsets (s : Sections) (old : List ℕ) (lists : List ListAt) (table : List ℕ) : Type 0 where
   pub listed : GetOffsets ranges_kind HasHigh s old lists table
   pub ends : (u : Unit) → Contains (units s) u → (e : Entry) → Contains u.entries e → HasHigh e →

@@ -1,4 +1,4 @@
-// What entries say of locations at an address, by the attributes and lists that are kept.
+// The locations of entries at an address, by the attributes and lists that are kept.
 ghost use Rattle.std.specs.Prelude.{◌≡◌, ◌++◌, ◌∷◌, [], IfOk, OnOk, flat_map, map, option_map, slice_get};
 ghost use Rattle.std.specs.Option.{option_copied};
 ghost use Rattle.answer_runs.specs.Choices as choices;
@@ -24,7 +24,7 @@ fn only(alloc: Global, expression: &[u8]) -> Result<Vec<Vec<u8>>, NoMemory>
     Ok(only)
 }
 
-/// Copies of the expressions of an attribute that are in force at an address, by where they are found.
+/// Copies of the expressions of an attribute that are in force at an address, from their source.
 pub fn expressions_at(
     alloc: Global,
     lists: &[KeptList],
@@ -42,7 +42,7 @@ pub fn expressions_at(
     }
 }
 
-/// Adds what an attribute of the entry at `place` says, unless it has no expressions in force.
+/// Adds the answer of an attribute of the entry at `place`, unless it has no expressions in force.
 pub fn put_place(
     places: &mut Vec<PlaceAt>,
     place: u64,
@@ -67,7 +67,7 @@ fn attr_of(kept: &Locations, number: usize) -> Option<&LocatedAttr>
     kept.located.get(number)
 }
 
-// Adds what the attribute of a number says at an address.
+// Adds the answer of the attribute with a number at an address.
 fn put_number(
     alloc: Global,
     kept: &Locations,
@@ -87,7 +87,7 @@ fn put_number(
     }
 }
 
-/// What the attributes of some numbers say at an address, in the order of the numbers.
+/// The answers of the attributes with some numbers at an address, in the order of the numbers.
 pub fn places_at(
     alloc: Global,
     kept: &Locations,
@@ -103,7 +103,7 @@ pub fn places_at(
     Ok(places)
 }
 
-/// What is said of locations, or none where nothing is.
+/// The answers, or none if the list is empty.
 pub fn unless_empty(places: Vec<PlaceAt>) -> Option<Vec<PlaceAt>>
     ensures { option_map all_said result ≡ choices.unless_empty (all_said places) }
 {
@@ -115,7 +115,7 @@ pub fn unless_empty(places: Vec<PlaceAt>) -> Option<Vec<PlaceAt>>
 }
 
 /// For each attribute its entry, with the group of the entry's nearest ranges. They are for an index by address, which
-/// needs no more of an entry: the other fields are left empty.
+/// needs no other fields of an entry: these are left empty.
 pub fn ranged_of(alloc: Global, located: &[LocatedAttr]) -> Result<Vec<RangedEntry>, NoMemory>
     ensures { IfOk result (λ rs. rs.items ≡ map ranged_of located.now) }
 {

@@ -1,4 +1,4 @@
-// What units say of one address. No table is kept by which other addresses could be looked up.
+// The answers of units at one address. No table is kept in which to look up other addresses.
 ghost use Rattle.std.specs.Prelude.{◌≡◌, ◌++◌, ◌||◌, ℕ, IfErr, IfOk, OnOk, flat_map};
 ghost use Rattle.std.specs.BTreeSet.{contains};
 ghost use Rattle.std.specs.Ordering.{nat_cmp};
@@ -23,16 +23,16 @@ use rb_bytes::fault::{NoMemory, Refusal};
 use std::alloc::Global;
 use std::collections::BTreeSet;
 
-/// What the entries of a file say of an address.
+/// The answers of a file's entries at an address.
 #[derive(Drop)]
 pub struct ListsAt {
-    /// The places of the entries whose ranges hold the address, ascending.
+    /// The offsets of the entries whose ranges contain the address, ascending.
     pub covers: Vec<u64>,
     /// The expressions in force at the address, by their entries and attributes.
     pub places: Vec<PlaceAt>,
 }
 
-// Adds the group of a range, if the range holds an address.
+// Adds the group of a range, if the range contains an address.
 fn put_group(found: &mut BTreeSet<usize>, cover: &Cover, a: u64) -> Result<(), NoMemory>
     ensures { OnOk result ((g : ℕ) →
         contains nat_cmp found.new g ≡ (contains nat_cmp found.old g || is_in_group g a cover.now)) }
@@ -44,7 +44,7 @@ fn put_group(found: &mut BTreeSet<usize>, cover: &Cover, a: u64) -> Result<(), N
     Ok(())
 }
 
-// The groups of ranges that hold an address.
+// The groups of ranges that contain an address.
 fn groups_at(alloc: Global, covers: &[Cover], a: u64) -> Result<BTreeSet<usize>, NoMemory>
     ensures { IfOk result (λ found. (g : ℕ) → contains nat_cmp found g ≡ group_holds covers.now g a) }
 {
@@ -55,7 +55,7 @@ fn groups_at(alloc: Global, covers: &[Cover], a: u64) -> Result<BTreeSet<usize>,
     Ok(found)
 }
 
-// Adds the place of an entry, if its group was found.
+// Adds the offset of an entry, if its group was found.
 fn put_covering(
     places: &mut Vec<u64>,
     entry: &RangedEntry,
@@ -70,7 +70,7 @@ fn put_covering(
     Ok(())
 }
 
-// The places of the entries whose groups were found.
+// The offsets of the entries whose groups were found.
 fn covering(
     alloc: Global,
     ranged: &[RangedEntry],
@@ -85,14 +85,14 @@ fn covering(
     Ok(places)
 }
 
-// How many bytes of memory may be taken by what is said of locations at an address. Each entry gets its own copy of
-// what a list says, and any number of entries may name one list.
+// The limit of memory for the locations at an address, in bytes. Each entry gets its own copy of a list's expressions,
+// and any number of entries may refer to one list.
 const MOST_SIZE: usize = 1 << 27;
 
-// How many bytes of memory an expression takes beside its bytes, or a few more.
+// The memory of an expression without its bytes, in bytes, or a few more.
 const EXPRESSION_SIZE: usize = 64;
 
-// About how many bytes of memory expressions take.
+// The memory of expressions, in bytes.
 fn size_of(expressions: &[Vec<u8>]) -> usize {
     let mut size: usize = 0;
     for expression in expressions {
@@ -103,8 +103,8 @@ fn size_of(expressions: &[Vec<u8>]) -> usize {
     size
 }
 
-// Adds what an attribute says at address `a`, if its group was found. `size` is how much memory all that is said takes;
-// `NoMemory` is answered, too, where that becomes too much.
+// Adds the answer of an attribute at address `a`, if its group was found. `size` is the memory of all answers. Gives
+// `NoMemory` also if that is over the limit.
 fn put_said(
     alloc: Global,
     places: &mut Vec<PlaceAt>,
@@ -128,7 +128,7 @@ fn put_said(
     Ok(())
 }
 
-// What the attributes whose groups were found say at an address.
+// The answers at an address of the attributes whose groups were found.
 fn said_at(
     alloc: Global,
     lists: &[KeptList],
@@ -146,8 +146,8 @@ fn said_at(
     Ok(places)
 }
 
-/// What the entries of a file say of an address, or the first fault of the sections that they are read from. Units are
-/// walked once. `NoMemory` is answered, too, where what is said of locations takes more than 2^27 bytes of memory.
+/// The answers of a file's entries at an address, or the first fault of the sections that they are read from. Units are
+/// walked once. Gives `NoMemory` also if the locations take more than 2^27 bytes of memory.
 pub fn lists_at(alloc: Global, elf: &Elf, a: u64) -> Result<ListsAt, Refusal>
     ensures covers { IfOk result (λ t. t.covers.items ≡ spec.covering (list_sections elf.now) a) }
     ensures places { IfOk result (λ t. all_said t.places ≡ places_said (list_sections elf.now) a) }

@@ -1,4 +1,4 @@
-// The places of entries by their numbers.
+// The offsets of entries by their numbers.
 ghost use Rattle.std.specs.Prelude.{◌≡◌, IfOk, filter_map, option_map};
 ghost use Rattle.answer_runs.specs.Choices.{unless_empty};
 ghost use Rattle.cover_lists.specs.CoverIndex.{place_at};
@@ -15,7 +15,7 @@ fn place_at(ranged: &[RangedEntry], number: usize) -> Option<u64>
     Some(entry.place)
 }
 
-/// The places of the entries of some numbers, in their order.
+/// The offsets of the entries with some numbers, in their order.
 pub fn places_of(
     alloc: Global,
     ranged: &[RangedEntry],
@@ -30,7 +30,7 @@ pub fn places_of(
     Ok(places)
 }
 
-/// Some places, or none where the list is empty.
+/// The offsets, or none if the list is empty.
 pub fn unless_empty(places: Vec<u64>) -> Option<Vec<u64>>
     ensures { option_map (λ ps. ps.items) result ≡ unless_empty places.items }
 {

@@ -16,8 +16,7 @@ use rb_bytes::fault::Refusal;
 use std::alloc::Global;
 use table_core::section::contents_of;
 
-/// What all entries of a file say of ranges and of locations, or the first fault of the sections that they are read
-/// from.
+/// The ranges and locations of all entries of a file, or the first fault of the sections that they are read from.
 pub fn read_entries(alloc: Global, elf: &Elf) -> Result<BothEntries, Refusal>
     ensures ranges { IfOk result (λ r.
         AreRangesOf (list_sections elf.now) r.ranges.groups r.ranges.ranged.items

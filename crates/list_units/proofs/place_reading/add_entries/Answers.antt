@@ -3,7 +3,7 @@ use Rattle.std.specs.Prelude.{if◌then◌else◌}
 use Rattle.list_units.proofs.place_reading.add_entries.Goals as goal
 use Rattle.list_units.proofs.place_reading.add_entries.Goals.{then-lacks_offset, else-lacks_offset}
 
--- where a unit that lacks an offset stands, else what was there before
+-- The offset of a unit with a bad offset of a list, or else the old value.
 abbrev kept_or : ℕ → Option ℕ → Bool → Option ℕ
 kept_or place bad lacks = if lacks then Some place else bad
 

@@ -4,7 +4,7 @@ use Rattle.std.specs.BTreeSet.{contains}
 use Rattle.range_loc_rewrite.proofs.NumberSets.{at_key}
 use Rattle.range_loc_rewrite.proofs.one_address.put_group.Goals as goal
 
--- a group that isn't found
+-- A group that isn't found.
 not_more : (old is held : Bool) → held ≡ false → old ≡ (old || (is && held))
 not_more true is held e = refl
 not_more false true held e = sym e

@@ -30,7 +30,7 @@ use Rattle.range_loc_rewrite.proofs.SoundPlaces.{places_fine}
 use Rattle.range_loc_rewrite.proofs.UnitsFree.{units_free}
 use Rattle.range_loc_rewrite.proofs.location_lists.Places.write.Goals as goal
 
--- attributes, units and lists as they are passed on
+-- Attributes, units and lists as they are passed on.
 module _ (s : ListSections) (kept : List NamedList) (indexed : List IndexedUnit) (bs ls : List (Vec ℕ)) (section : List ℕ)
     (named again : List NamedList) (units all : List IndexedUnit) (lists_are : ls ≡ bs) (section_is : section ≡ s.locations)
     (named_are : named ≡ kept) (again_are : again ≡ kept) (all_are : all ≡ indexed)

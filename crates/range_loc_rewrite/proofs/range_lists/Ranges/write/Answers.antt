@@ -31,7 +31,7 @@ carried_groups-requires-clause-apart c =
     subst (λ (cs : List Cover). AreApart c.deref.result.now cs) (sym c.tree.ensures)
     (subst (λ (bs : List ℕ). AreApart bs t.index.tree) (sym c.deref.ensures.value) c.self.invariant.apart)
 
--- attributes, units and lists as they are passed on
+-- Attributes, units and lists as they are passed on.
 module _ (s : ListSections) (kept : List RangedEntry) (indexed : List IndexedUnit) (bs ls : List (Vec ℕ)) (section : List ℕ)
     (named again : List NamedList) (units all : List IndexedUnit) (lists_are : ls ≡ bs) (section_is : section ≡ s.ranges)
     (named_are : named ≡ map named_of kept) (again_are : again ≡ map named_of kept) (all_are : all ≡ indexed)
