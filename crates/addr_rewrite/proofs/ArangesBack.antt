@@ -1,4 +1,4 @@
--- What is read of the tables that are written.
+-- The result of reading the written tables.
 use Rattle.std.proofs.Common.{◌≡◌, ◌∙◌, ◌<◌, ◌≤◌, ◌-◌, ◌+◌, ◌*◌, ◌^◌, ◌==◌, ◌++◌, ℕ, zero, suc, Bool, true, false, cond, List, [], ◌∷◌}
 use Rattle.std.proofs.Common.{Some, None, Ok, Err, Result, refl, sym, ap, arith, length, take, drop, map, append_assoc, option_map}
 use Rattle.std.specs.Prelude.{All, find, if◌then◌else◌, not}
@@ -63,7 +63,7 @@ none_bad (w ∷ ws) (t ∷ ts) e = by (table_of w) (head e) (none_bad ws ts (tai
   by (Ok x) is more = more
   by (Err e) is more = absurd (cc)
 
--- The ranges of what is read are the stretches.
+-- The ranges that are read are the stretches
 
 abbrev as_entries : ℕ → List Stretch → List UnitRange
 as_entries u l = map (λ (r : Range). record { range = r; unit = u }) (map range_of l)
@@ -92,7 +92,7 @@ all_flat (suc n) (s ∷ ss) h =
     ((λ i. same_unit s.unit ss i ++ all_flat n (drop k ss) less i)
     ∙ sym (map-append entry_of (take k ss) (drop k ss)) ∙ ap (map entry_of) (take-append-drop k ss))
 
--- What is written, read
+-- Written tables, read back
 
 module _ (n : ℕ) (ss : List Stretch) (few : 28 + 16 * length ss < 2 ^ 32 - 1) (are : All IsWritten ss) where
   abbrev bytes : List ℕ

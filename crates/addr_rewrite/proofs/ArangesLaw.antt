@@ -31,7 +31,7 @@ use Rattle.addr_rewrite.proofs.ArangesBack.{bad_none, tables_are, unit_written, 
 use Rattle.addr_rewrite.proofs.TablesBack.{IsWritten}
 use Rattle.addr_rewrite.proofs.RunUnits.{all_written, answers_small, no_runs, unit_said}
 
--- Answers are what they say, and runs of them too.
+-- Answers, and their runs
 
 said_same : (rs : List (Run ℕ)) → said_runs (λ (a : ℕ). a) rs ≡ rs
 said_same [] = refl
@@ -56,7 +56,7 @@ weight_is (r ∷ rs) =
     let one = sum_by-cons (λ (r : Run ℕ). run_weight + 0) r (said_runs (λ (a : ℕ). a) rs) in
     omega (arith, more, one)
 
--- Units that a section says are small, and none are said of an empty one.
+-- The units in a section are small, and an empty section has none
 
 carried_small : (section : List ℕ) (spans : List Span) (p u : ℕ) → ((a u : ℕ) → unit_at section a ≡ Some u → u < 2 ^ 32) →
     carried (unit_at section) spans p ≡ Some u → u < 2 ^ 32
@@ -85,7 +85,7 @@ module _ (section : List ℕ) (small : (a u : ℕ) → unit_at section a ≡ Som
   are_answered : (p : ℕ) → run_at rs p ≡ carried (unit_at section) spans p
   are_answered p = sym (option_same (run_at rs p)) ∙ answers p
 
-  -- what the writer asks
+  -- The condition of the writer.
   pub small_answers : All (λ (r : Run ℕ). r.answer < 2 ^ 32) rs
   small_answers = answers_small (carried (unit_at section) spans) (2 ^ 32) 0 (2 ^ 64 - 1) rs
       (λ p u. carried_small section spans p u small) within (λ p h. are_answered p)

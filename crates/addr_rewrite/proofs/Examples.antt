@@ -1,11 +1,11 @@
--- A section of one table, of one pair: what it says, and how it is written.
+-- A section of one table with one pair: its answers, and its bytes when written.
 use Rattle.std.proofs.Common.{◌≡◌, ℕ, List, [], ◌∷◌, Some, None, refl}
 use Rattle.table_core.specs.DebugUnits.{other_version, units_from}
 use Rattle.addr_rewrite.specs.Aranges.{bad_table, pairs_within, unit_at}
 use Rattle.addr_rewrite.specs.WrittenAranges.{pairs_bytes, spelled_tables, table_bytes, tables_of}
 use Rattle.addr_rewrite.specs.declared.stretch.Stretch.{Stretch}
 
--- behind the length: version 2, the unit at 7, an address size of 8, and padding; then 24 bytes at 65656, and the end
+-- After the length: version 2, the unit at 7, an address size of 8, and padding; then 24 bytes at 65656, and the end.
 section : List ℕ
 section =
     44 ∷ 0 ∷ 0 ∷ 0 ∷ 2 ∷ 0 ∷ 7 ∷ 0 ∷ 0 ∷ 0 ∷ 8 ∷ 0 ∷ 0 ∷ 0 ∷ 0 ∷ 0

@@ -1,4 +1,4 @@
--- The first of some units that passes a test, with one unit more.
+-- The first unit that passes a test, with one more unit.
 use Rattle.std.proofs.Common.{◌≡◌, ◌∙◌, ◌++◌, ◌∷◌, [], ℕ, Bool, true, false, List, Option, Some, None, sym, ap}
 use Rattle.std.specs.Prelude.{MatchOption, is_some, if◌then◌else◌}
 use Rattle.std.specs.Option.{option_or}
@@ -16,7 +16,7 @@ module _ (test : Walked → Bool) (ws : List Walked) (w : Walked) where
   first_found None e t = sym (bad_now test ws w (sym e) t)
   first_found (Some place) e t = sym (bad_before test ws w place (sym e))
 
-  -- what can be read of the unit tells whether it passes
+  -- The result of reading the unit decides whether it passes.
   pub first_read : {X : Type 0} (Q : X → Type 0) (entries : Option X) (o : Option ℕ) (place : ℕ) → w.place ≡ place →
       o ≡ first_place test ws → MatchOption entries (test w ≡ true) (λ x. (test w ≡ false) × Q x) →
       option_or o (if is_some entries then None else Some place) ≡ first_place test (ws ++ w ∷ [])

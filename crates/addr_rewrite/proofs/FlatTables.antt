@@ -1,4 +1,4 @@
--- The first table with a range that holds an address, among the ranges of all tables.
+-- The first table with a range that contains an address, among the ranges of all tables.
 use Rattle.std.proofs.Common.{◌≡◌, ◌∙◌, ◌++◌, ℕ, List, [], ◌∷◌, Bool, true, false, Option, Some, refl, map, option_map}
 use Rattle.std.specs.Prelude.{◌||◌, if◌then◌else◌, find}
 use Rattle.std.specs.List.{list_any}

@@ -1,4 +1,4 @@
--- What it says that none of some places of faults is there.
+-- What follows if none of the places of faults is present.
 use Rattle.std.proofs.Common.{◌≡◌, ◌∙◌, ℕ, List, [], ◌∷◌, Option, Some, None}
 use Rattle.std.specs.Option.{option_or}
 use Rattle.rb_bytes.specs.FirstFault.{IsFree}
@@ -25,7 +25,7 @@ places_free p section free version bad =
       bad = λ i. option_or (a.bad i) (bad i);
     })
 
--- the places that reading joins to those of units
+-- The places of faults of units, joined with those of the section.
 pub places_joined : (units read : FaultPlaces) (section : List ℕ) (version bad other bad_read : Option ℕ) → read ≡ units →
     version ≡ option_or read.version other → other ≡ other_version 2 section →
     bad ≡ option_or read.bad bad_read → bad_read ≡ bad_table section →

@@ -1,4 +1,4 @@
--- Loops that append what each item of a list gives.
+-- Loops that append the results for each element of a list.
 use Rattle.std.proofs.Common.{◌≡◌, ◌∙◌, ◌<◌, ◌≤◌, ◌+◌, ◌++◌, ◌∷◌, [], ℕ, List, sym, ap, get_or, length, map, take, append_assoc}
 use Rattle.std.proofs.lemmas.List.{map-append, take_all, take_more}
 

@@ -1,4 +1,4 @@
--- Pairs of a table of ranges of addresses, read one by one.
+-- Pairs of a table of `.debug_aranges`, read one by one.
 use Rattle.std.proofs.Common.{◌≡◌, ◌<◌, ◌≤◌, ◌+◌, ◌++◌, ◌∙◌, ℕ, zero, suc, List, [], ◌∷◌, Bool, true, false, cond, Option, Some, None}
 use Rattle.std.proofs.Common.{Ok, Err, Result, refl, ap, sym, arith, length, drop, nat_lt, length-drop, append_assoc}
 use Rattle.std.specs.Prelude.{◌==◌, ◌&&◌, if◌then◌else◌}
@@ -21,7 +21,7 @@ Ranges = Result (List Range) Trouble
 abbrev pub all_pairs : List ℕ → Ranges
 all_pairs left = pairs_within (length left) left
 
--- what follows a pair, or what ends there
+-- The pairs after one, or the end.
 abbrev pub by_pair : (List ℕ → Ranges) → Read (Option Range) → Ranges
 by_pair more (Err t) = Err t
 by_pair more (Ok (None, rest)) = Ok []
@@ -52,7 +52,7 @@ unfold_pairs n left = by_address (number_read 8 left) where
   by_address (Err gap) = refl
   by_address (Ok read) = by_size read.0 (number_read 8 read.1)
 
--- `pair_at` takes bytes: 16 of them
+-- `pair_at` takes 16 bytes.
 number_forward_by : (short : Bool) (v x : ℕ) (bytes rest : List ℕ) → nat_lt (length bytes) 8 ≡ short →
     ◌≡◌ {A = Result (ℕ × List ℕ) Gap} (cond short (Err Short) (Ok (v, drop 8 bytes))) (Ok (x, rest)) → length rest < length bytes
 number_forward_by true v x bytes rest is e = absurd (cc)
@@ -83,7 +83,7 @@ pair_forward left rest o e = by_address (number_read 8 left) refl e where
   by_address (Err gap) is f = absurd (cc)
   by_address (Ok read) is f = by_size read.0 read.1 (number_read 8 read.1) (number_forward read.0 left read.1 is) refl f
 
--- a count that reaches the bytes left is as good as another
+-- Any limit that is at least the number of bytes left gives the same result.
 none_there : (m : ℕ) (left : List ℕ) → length left ≤ 0 → pairs_within m left ≡ Err Unsound
 unfolding pairs_within
 none_there zero left h = refl
@@ -103,7 +103,7 @@ pairs_enough (suc n) (suc m) left h k =
       step (Ok (None, rest)) is ih = refl
       step (Ok (Some r, rest)) is ih = ap (with_head r) (ih rest (pair_forward left rest (Some r) is))
 
--- one step, at the bytes left themselves
+-- One step, with the number of bytes left as the limit.
 pairs_step : (left : List ℕ) (r : Read (Option Range)) → pair_at left ≡ r → all_pairs left ≡ by_pair all_pairs r
 pairs_step left r is = pairs_enough (length left) (suc (length left)) left (omega arith) (omega arith) ∙ unfold_pairs (length left) left
     ∙ enough r is where
@@ -115,7 +115,7 @@ pairs_step left r is = pairs_enough (length left) (suc (length left)) left (omeg
           ap (by_pair (pairs_within (length left))) is ∙ ap (with_head r)
           (pairs_enough (length left) (length rest) rest (omega arith) (omega arith))
 
--- pairs that were read, and then those that are left
+-- The pairs read, followed by those left.
 abbrev pub with_pairs : List Range → Ranges → Ranges
 with_pairs rs (Ok more) = Ok (rs ++ more)
 with_pairs rs (Err t) = Err t

@@ -21,7 +21,7 @@ use Rattle.addr_rewrite.proofs.TablesBack.{range_of, told_tables}
 abbrev pub ranges_in : List AddressTable → List Range
 ranges_in tables = flat_map (λ (t : AddressTable). t.ranges) tables
 
--- the pairs of all tables are those of the stretches
+-- The pairs of all tables are those of the stretches.
 pub all_ranges : (n : ℕ) (ss : List Stretch) → length ss ≤ n → ranges_in (told_tables n ss) ≡ map range_of ss
 unfolding told_tables
 all_ranges zero [] h = refl

@@ -1,4 +1,4 @@
--- The units that runs say, whatever order their stretches stand in.
+-- The units of runs, in any order of their stretches.
 use Rattle.std.proofs.Common.{◌≡◌, ◌∙◌, ◌<◌, ◌≤◌, ◌+◌, ◌^◌, ℕ, Bool, true, false, cond, List, [], ◌∷◌, Option, Some, None, refl}
 use Rattle.std.proofs.Common.{sym, ap, arith, map, nat_le, nat_lt}
 use Rattle.std.specs.Prelude.{◌&&◌, ◌||◌, All, find, if◌then◌else◌}
@@ -17,7 +17,7 @@ use Rattle.addr_rewrite.specs.declared.unit_range.UnitRange.{UnitRange}
 use Rattle.addr_rewrite.proofs.FlatTables.{holds, unit_of}
 use Rattle.addr_rewrite.proofs.TablesBack.{IsWritten, range_of}
 
--- a stretch as a range of its unit
+-- A stretch as a range of its unit.
 abbrev pub entry_of : Stretch → UnitRange
 entry_of s = record { range = range_of s; unit = s.unit }
 
@@ -33,7 +33,7 @@ ends_low lo hi (r ∷ rs) w =
     let b : r.start + r.len ≤ hi = ends_low (r.start + r.len) hi rs w.2 in
     omega arith
 
--- a run that has an address says its unit
+-- The run with an address gives its unit.
 abbrev Says : ℕ → ℕ → List (Run ℕ) → Run ℕ → Type 0
 Says lo a rs r = has a (stretch_of r) ≡ true → (lo ≤ a) × (run_at rs a ≡ Some r.answer)
 

@@ -23,7 +23,7 @@ rises_of lo (s ∷ ss) low up = (
   rises_of s.unit ss (λ k d h. up 0 (suc k) d (omega arith) (omega arith)) (λ i j d le h. up (suc i) (suc j) d (omega arith) (omega arith)),
 )
 
--- behind the stretches of a unit there are those of greater ones
+-- After the stretches of a unit there are those of greater units.
 behind_unit : (u : ℕ) (ss : List Stretch) → Rises u ss → Rises (suc u) (drop (count_of u ss) ss)
 behind_unit u [] up = tt
 behind_unit u (s ∷ ss) up = by (s.unit == u) refl (behind_unit u ss) where

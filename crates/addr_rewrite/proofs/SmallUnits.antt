@@ -1,4 +1,4 @@
--- Offsets of units in tables of ranges of addresses have 32 bits.
+-- Offsets of units in tables of `.debug_aranges` have 32 bits.
 use Rattle.std.proofs.Common.{◌≡◌, ◌<◌, ◌+◌, ◌^◌, ℕ, zero, suc, Bool, true, false, List, [], ◌∷◌, Option, Some, None, Ok, Err, Result}
 use Rattle.std.proofs.Common.{refl, sym, subst, arith, cond, get_or, length, drop, take, map, nat_lt, nat_le, option_map}
 use Rattle.std.specs.Prelude.{◌==◌, ◌&&◌, All, find, if◌then◌else◌}
@@ -31,7 +31,7 @@ front (suc n) [] bytes k = omega arith
 front (suc n) (b ∷ left) bytes zero = bytes 0
 front (suc n) (b ∷ left) bytes (suc k) = front n left (λ j. bytes (suc j)) k
 
--- the bytes of walked tables
+-- The bytes of tables that a walk finds
 
 abbrev HasBytes : Walked → Type 0
 HasBytes w = (b : List ℕ) → w.bytes ≡ Some b → Bytes b
@@ -58,7 +58,7 @@ all_have (suc n) version place (b ∷ rest) bytes =
           (behind (unit_length (b ∷ rest) + 4) (b ∷ rest) bytes)
       rest_has false ih = All-nil HasBytes
 
--- the unit of a table
+-- The unit of a table
 
 abbrev IsSmall : AddressTable → Type 0
 IsSmall t = t.unit < 2 ^ 32

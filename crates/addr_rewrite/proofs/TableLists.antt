@@ -1,4 +1,4 @@
--- What was read of some tables, with what is read of the next one.
+-- The result of reading some tables and the next one.
 use Rattle.std.proofs.Common.{◌≡◌, ◌∙◌, ◌++◌, ◌∷◌, [], Bool, List, Some, Result, Ok, Err, sym, ap, map}
 use Rattle.std.specs.Prelude.{not}
 use Rattle.std.specs.Option.{option_or}

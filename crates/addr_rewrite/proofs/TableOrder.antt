@@ -1,4 +1,4 @@
--- Tables that are walked to lie one behind another.
+-- Tables that a walk finds follow one another.
 use Rattle.std.proofs.Common.{◌≡◌, ◌≤◌, ◌+◌, ℕ, zero, suc, Bool, true, false, List, [], ◌∷◌, Option, Some, None, refl, arith}
 use Rattle.std.proofs.Common.{length, drop, take, nat_le}
 use Rattle.std.specs.Prelude.{◌&&◌, if◌then◌else◌}
@@ -20,7 +20,7 @@ order_within from to (w ∷ ws) o = by_bytes w.bytes o.1 where
   by_bytes None h = let g = o.0 in omega arith
   by_bytes (Some bytes) h = let g = o.0 in omega arith
 
--- of one table: no bytes, or those of a whole one
+-- For one table: no bytes, or those of a whole one.
 end_by : (n place : ℕ) (left : List ℕ) (b : Bool) →
     option_map_or (λ (bytes : List ℕ). place + 4 + length bytes) (if b then Some (take n left) else None) place ≤ place + (n + 4)
 end_by n place left true = let t = taken_less n left in omega arith

@@ -1,4 +1,4 @@
--- Steps of the functions that write tables of ranges of addresses.
+-- Steps of the functions that write tables of `.debug_aranges`.
 use Rattle.std.proofs.Common.{◌≡◌, ◌∙◌, ◌<◌, ◌≤◌, ◌-◌, ◌+◌, ◌*◌, ◌++◌, ℕ, zero, suc, List, [], ◌∷◌, refl, sym, ap, arith, append_assoc}
 use Rattle.std.proofs.Common.{append-nil, drop, get_or, length, take}
 use Rattle.std.proofs.lemmas.Grind.{common_steps}
@@ -85,7 +85,7 @@ tables_more n count s others rest out new whole h is e inv =
     ∙ append_assoc out (spelled_table (table_bytes s.unit (s ∷ take k others))) more
     ∙ sym ((λ i. out ++ spelled_tables (tables_of (left i) (is i)))) ∙ inv
 
--- the first of some stretches with those behind it that belong to its unit
+-- The first of the stretches, with those after it that are of its unit.
 pub taken : (k : ℕ) (s : Stretch) (others rest : List Stretch) → rest ≡ s ∷ others → take (k + 1) rest ≡ s ∷ take k others
 taken k s others rest e = let n : k + 1 ≡ suc k = omega arith in (λ i. take (n i) (e i))
 

@@ -1,4 +1,4 @@
--- Tables that are written are read back.
+-- Written tables are read back.
 use Rattle.std.proofs.Common.{◌≡◌, ◌∙◌, ◌<◌, ◌≤◌, ◌-◌, ◌+◌, ◌*◌, ◌^◌, ◌==◌, ◌&&◌, ◌++◌, ℕ, zero, suc, List, [], ◌∷◌, Bool, false}
 use Rattle.std.proofs.Common.{Some, None, Ok, Result, refl, sym, ap, arith, length, take, drop, map, nat_lt}
 use Rattle.std.proofs.Common.{length-append}
@@ -42,7 +42,7 @@ padding_back rest = bytes_back (little_bytes 4 0) rest
 
 -- Pairs
 
--- what is written as a pair that doesn't end a table
+-- A stretch whose pair doesn't end a table.
 pub record IsStretch (s : Stretch) : Type 0 where
   pub start : s.start < 2 ^ 64
   pub some : 0 < s.len
@@ -131,7 +131,7 @@ table_is_unit unit ss h = let n = table_size unit ss in record {
 
 -- All tables
 
--- the tables that are read of what is written
+-- The tables that are read from the written ones.
 unfoldable pub told_tables : ℕ → List Stretch → List AddressTable
 told_tables n [] = []
 told_tables zero (s ∷ ss) = []

@@ -1,4 +1,4 @@
--- How tables of ranges of addresses are read, and found by address.
+-- How tables of `.debug_aranges` are read, and their ranges found by address.
 use Rattle.std.specs.Prelude.{◌≡◌, ◌+◌, ◌==◌, ◌&&◌, ◌^◌, ◌<◌, ℕ, List, map, flat_map, not, if◌then◌else◌, Option, Some}
 use Rattle.std.specs.Prelude.{None, Ok, Err, option_and_then, slice_get}
 use Rattle.rb_bytes.specs.Readers.{bytes_at, number_read, and_then}
@@ -14,14 +14,14 @@ use Rattle.addr_rewrite.specs.declared.table_reader.Table.{Table}
 use Rattle.addr_rewrite.specs.declared.unit_index.UnitIndex.{UnitIndex}
 use Rattle.addr_rewrite.specs.declared.unit_range.UnitRange.{UnitRange}
 
--- the next pair as a range, and none at two zeros
+-- The next pair as a range, or none at two zeros.
 abbrev pub pair_at : List ℕ → Read (Option Range)
 pair_at left =
     and_then (whole (number_read 8 left)) (λ a left1.
     and_then (whole (number_read 8 left1)) (λ size rest.
     Ok ((if a == 0 && size == 0 then None else Some (record { low = a; high = a + size })), rest)))
 
--- the header of a table behind its length: the unit's offset, and the bytes of the pairs
+-- Reads the header of a table after its length: the unit's offset. The bytes of the pairs are left.
 abbrev pub table_header : List ℕ → Read ℕ
 table_header bytes =
     and_then (whole (number_read 2 bytes)) (λ version left1.
@@ -30,27 +30,27 @@ table_header bytes =
     and_then (whole (bytes_at 4 left3)) (λ _ left4.
     if sizes == 8 then Ok (unit, left4) else Err Unsound))))
 
--- a table that was read
+-- A table that was read.
 abbrev pub told : Table → AddressTable
 told t = record { unit = t.unit; ranges = t.ranges.items }
 
--- the ranges of tables, one behind another, each with the unit of its table
+-- The ranges of tables, one after another, each with the unit of its table.
 abbrev pub entries_of : AddressTable → List UnitRange
 entries_of t = map (λ (r : Range). record { range = r; unit = t.unit }) t.ranges
 
 abbrev pub all_entries : List AddressTable → List UnitRange
 all_entries ts = flat_map entries_of ts
 
--- some tables were read: the ranges of those that are as the format has it, and the place of the first that isn't
+-- Tables that were read: the ranges of the well-formed ones, and the place of the first malformed one.
 pub record AreTables (ws : List Walked) (r : ReadTables) : Type 0 where
   pub ranges : r.ranges.items ≡ all_entries (oks (map table_of ws))
   pub bad : r.bad ≡ first_place (λ w. not (is_ok (table_of w))) ws
 
--- the unit of the first range of an index that holds an address
+-- The unit of the first range of an index that contains an address.
 abbrev pub unit_found : UnitIndex → ℕ → Option ℕ
 unit_found index a = option_and_then (slice_get index.units.items) (first_range index.first a)
 
--- What is kept of a section: the unit of each address. Offsets of units have 32 bits.
+-- The index of a section: it gives the unit of each address. Offsets of units have 32 bits.
 pub record AreKept (section : List ℕ) (index : UnitIndex) : Type 0 where
   pub found : (a : ℕ) → unit_found index a ≡ unit_at section a
   pub small : (a u : ℕ) → unit_at section a ≡ Some u → u < 2 ^ 32

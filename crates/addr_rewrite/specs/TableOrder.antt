@@ -1,9 +1,9 @@
--- Tables lie one behind another in their section.
+-- Tables follow one another in their section.
 use Rattle.std.specs.Prelude.{◌≤◌, ◌+◌, ℕ, List, [], ◌∷◌, length}
 use Rattle.std.specs.Option.{option_map_or}
 use Rattle.table_core.specs.DebugUnits.{Walked}
 
--- where the bytes of a table end, or where it begins if it has none
+-- The end of the bytes of a table, or its start if it has none.
 abbrev pub bytes_end : Walked → ℕ
 bytes_end w = option_map_or (λ (bytes : List ℕ). w.place + 4 + length bytes) w.bytes w.place
 

@@ -37,7 +37,7 @@ fn next_pair<'a>(cursor: &mut Cursor<'a>) -> Result<Option<Range>, Trouble>
     }))
 }
 
-/// The ranges of a table, up to the two zeros that end it, which have to be there.
+/// The ranges of a table, up to the two zeros that end it. These must be present.
 pub fn read_pairs<'a>(alloc: Global, cursor: &mut Cursor<'a>) -> Result<Vec<Range>, Stop>
     ensures read { IfOk result (λ rs. pairs_within (length cursor.old.left) cursor.old.left ≡ Ok rs.items) }
     ensures trouble { IfTrouble result (λ e. pairs_within (length cursor.old.left) cursor.old.left ≡ Err e) }

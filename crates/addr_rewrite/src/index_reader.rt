@@ -13,7 +13,7 @@ use rb_bytes::fault::Refusal;
 use std::alloc::Global;
 use table_core::{ARANGES_VERSION, debug_units};
 
-/// Reads `.debug_aranges`, or refuses it for its first fault; `units` has the faults of units, which come first.
+/// Reads `.debug_aranges`, or refuses it for its first fault. `units` has the faults of units, which come first.
 pub fn read_index(alloc: Global, units: FaultPlaces, section: &[u8]) -> Result<UnitIndex, Refusal>
     ensures kept { IfOk result (AreKept section.now) }
     ensures free { OnOk result ((p : Places) →

@@ -1,4 +1,4 @@
-// Tables of ranges of addresses as bytes. DWARF 5, sections 6.1.2 and 7.21.
+// Tables of `.debug_aranges` as bytes. DWARF 5, sections 6.1.2 and 7.21.
 ghost use Rattle.std.specs.Prelude.{◌≡◌, ◌<◌, ◌≤◌, ◌-◌, ◌+◌, ◌*◌, ◌^◌, ◌++◌, OnOk, length};
 ghost use Rattle.byteorder.specs.Endian.{little_bytes};
 ghost use Rattle.addr_rewrite.specs.WrittenAranges as spec;
@@ -11,11 +11,11 @@ use table_core::ARANGES_VERSION;
 // An address size of 8 and a segment selector size of 0, as one number of 16 bits.
 const SIZES: u16 = 8;
 
-// How many bytes a table has behind its length, without its pairs: eight of the header, four that are passed, and the
-// two zeros that end the pairs.
+// The number of bytes of a table after its length, without its pairs: eight of the header, four of padding, and the two
+// zeros that end the pairs.
 const FIXED_SIZE: usize = 28;
 
-// How many bytes a pair has.
+// The number of bytes of a pair.
 const PAIR_SIZE: usize = 16;
 
 fn put_pair(out: &mut Vec<u8>, address: u64, len: u64) -> Result<(), NoMemory>
@@ -37,8 +37,8 @@ fn put_pairs(out: &mut Vec<u8>, stretches: &[Stretch]) -> Result<(), NoMemory>
     Ok(())
 }
 
-// Appends the table of a unit, with its length before it. The first pair stands at a multiple of 16 from the table's
-// start, behind four more bytes.
+// Appends the table of a unit, with its length. The first pair is at a multiple of 16 bytes from the table's start,
+// after four bytes of padding.
 fn put_table(out: &mut Vec<u8>, unit: u32, stretches: &[Stretch]) -> Result<(), NoMemory>
     requires { 28 + 16 * length stretches.now < 2 ^ 32 - 1 }
     ensures { OnOk result (out.new.items ≡ out.old.items ++ spec.spelled_table (spec.table_bytes unit stretches.now)) }
@@ -52,7 +52,7 @@ fn put_table(out: &mut Vec<u8>, unit: u32, stretches: &[Stretch]) -> Result<(), 
     Ok(())
 }
 
-// How many stretches at the front belong to a unit.
+// The number of stretches at the front that are of a unit.
 fn count_of(unit: u32, stretches: &[Stretch]) -> usize
     ensures count { result ≡ spec.count_of unit stretches.now }
     ensures within { result ≤ length stretches.now }
@@ -65,14 +65,14 @@ fn count_of(unit: u32, stretches: &[Stretch]) -> usize
     stretches.len()
 }
 
-/// Appends a table for each unit. Stretches of one unit have to follow one another.
+/// Appends a table for each unit. Stretches of a unit must follow one another.
 pub fn put_tables(out: &mut Vec<u8>, stretches: &[Stretch]) -> Result<(), NoMemory>
     requires { 28 + 16 * length stretches.now < 2 ^ 32 - 1 }
     ensures { OnOk result (out.new.items
         ≡ out.old.items ++ spec.spelled_tables (spec.tables_of (length stretches.now) stretches.now)) }
 {
     let mut rest = stretches;
-    // Each table has a stretch at least. `count` isn't read: it bounds the loop.
+    // Each table has at least one stretch. `count` isn't read: it bounds the loop.
     for count in 0..stretches.len() {
         match rest.split_first() {
             None => return Ok(()),

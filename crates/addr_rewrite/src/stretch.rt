@@ -1,4 +1,4 @@
-// Stretches of new code that belong to units.
+// Stretches of new code of units.
 ghost use Rattle.std.specs.Prelude.{◌≡◌, ◌<◌, ◌^◌, All, IfOk, map};
 ghost use Rattle.std.specs.List.Sorted.{IsNonDecreasingBy, IsPermutation};
 ghost use Rattle.addr_rewrite.specs.WrittenAranges.{stretch_of};
@@ -7,14 +7,14 @@ use answer_runs::Run;
 use rb_bytes::fault::NoMemory;
 use std::alloc::Global;
 
-/// A stretch of new code that belongs to one unit.
+/// A stretch of new code of one unit.
 #[derive(Clone, Copy)]
 pub struct Stretch {
     /// The offset of the unit in `.debug_info`.
     pub unit: u32,
     /// The address of the first byte.
     pub start: u64,
-    /// How many bytes it has.
+    /// The number of its bytes.
     pub len: u64,
 }
 
@@ -33,7 +33,7 @@ fn stretches_of(alloc: Global, runs: &[Run<u64>]) -> Result<Vec<Stretch>, NoMemo
     Ok(stretches)
 }
 
-/// The stretches of runs, sorted by their units; those of one unit stay in the order of the runs.
+/// The stretches of runs, sorted by their units. The stretches of one unit stay in the order of the runs.
 pub fn sorted(alloc: Global, runs: &[Run<u64>]) -> Result<Vec<Stretch>, NoMemory>
     requires { All (λ r. r.answer < 2 ^ 32) runs.now }
     ensures same { IfOk result (λ ss. IsPermutation (map stretch_of runs.now) ss.items) }

@@ -1,4 +1,4 @@
-// The tables of ranges of addresses of a section, one after another.
+// The tables of a `.debug_aranges`, one after another.
 ghost use Rattle.std.specs.Prelude.{◌≡◌, ◌++◌, ◌∷◌, [], List, IfOk, OnOk, Ok, Err};
 ghost use Rattle.table_core.specs.DebugUnits.{Walked};
 ghost use Rattle.dw_unit.specs.Stops.{IfTrouble};
@@ -12,12 +12,12 @@ use rb_bytes::fault::NoMemory;
 use std::alloc::Global;
 use table_core::DebugUnit;
 
-/// What was read of some tables.
+/// The result of reading some tables.
 #[derive(Drop)]
 pub struct ReadTables {
-    /// The ranges of those that are as the format has it, in order.
+    /// The ranges of the well-formed tables, in order.
     pub ranges: Vec<UnitRange>,
-    /// The offset of the first that isn't.
+    /// The offset of the first malformed table.
     pub bad: Option<u64>,
 }
 
@@ -43,7 +43,7 @@ fn add_ranges(ranges: &mut Vec<UnitRange>, table: &Table) -> Result<(), NoMemory
     Ok(())
 }
 
-// Adds what is read of the next table.
+// Adds the result for the next table.
 fn add_table(alloc: Global, read: &mut ReadTables, table: &DebugUnit) -> Result<(), NoMemory>
     ensures { OnOk result ((ws : List Walked) → AreTables ws read.old → AreTables (ws ++ table.now ∷ []) read.new) }
 {
@@ -60,7 +60,7 @@ fn add_table(alloc: Global, read: &mut ReadTables, table: &DebugUnit) -> Result<
     }
 }
 
-/// Reads tables that were walked to. One that can't be read is no error, but noted.
+/// Reads the tables that a walk found. A malformed one is no error, but its offset is kept.
 pub fn read_tables(alloc: Global, tables: &[DebugUnit]) -> Result<ReadTables, NoMemory>
     ensures { IfOk result (AreTables tables.now) }
 {

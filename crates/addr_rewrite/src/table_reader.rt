@@ -1,4 +1,4 @@
-// Tables of ranges of addresses. DWARF 5, section 6.1.2.
+// Tables of `.debug_aranges`. DWARF 5, section 6.1.2.
 ghost use Rattle.std.specs.Prelude.{◌≡◌, IfErr, IfOk, Ok, Err};
 ghost use Rattle.rb_bytes.specs.Readers.{bytes_at};
 ghost use Rattle.dw_unit.specs.Trouble.{whole};
@@ -13,7 +13,7 @@ use dw_unit::trouble::{Stop, Trouble};
 use rb_bytes::cursor::Cursor;
 use std::alloc::Global;
 
-/// A table: a unit, and the ranges of addresses that belong to it.
+/// A table: a unit, and its ranges of addresses.
 #[derive(Drop)]
 pub struct Table {
     /// The offset of the unit in `.debug_info`.
@@ -21,7 +21,7 @@ pub struct Table {
     pub ranges: Vec<Range>,
 }
 
-// Passes the four bytes behind the header: the first pair stands at a multiple of 16 from the table's start.
+// Skips the four bytes after the header: the first pair is at a multiple of 16 bytes from the table's start.
 fn padding<'a>(cursor: &mut Cursor<'a>) -> Result<&'a [u8], Trouble>
     ensures read { IfOk result (λ x. whole (bytes_at 4 cursor.old.left) ≡ Ok (x.now, cursor.new.left)) }
     ensures trouble { IfErr result (λ e. whole (bytes_at 4 cursor.old.left) ≡ Err e) }
@@ -30,8 +30,8 @@ fn padding<'a>(cursor: &mut Cursor<'a>) -> Result<&'a [u8], Trouble>
     Ok(bytes)
 }
 
-// Reads a table's header behind its length, and answers the unit's offset. The version isn't tested here: another one
-// is a fault of its own.
+// Reads a table's header after its length, and returns the unit's offset. The version isn't tested here: another
+// version is a fault of its own.
 fn header<'a>(cursor: &mut Cursor<'a>) -> Result<u64, Trouble>
     ensures read { IfOk result (λ x. table_header cursor.old.left ≡ Ok (x, cursor.new.left)) }
     ensures trouble { IfErr result (λ e. table_header cursor.old.left ≡ Err e) }
@@ -48,7 +48,7 @@ fn header<'a>(cursor: &mut Cursor<'a>) -> Result<u64, Trouble>
     }
 }
 
-/// Reads the table in the bytes behind its length.
+/// Reads the table in the bytes after its length.
 pub fn read_table(alloc: Global, bytes: &[u8]) -> Result<Table, Stop>
     ensures read { IfOk result (λ t. table_in bytes.now ≡ Ok (record { unit = t.unit; ranges = t.ranges.items })) }
     ensures trouble { IfTrouble result (λ e. table_in bytes.now ≡ Err e) }

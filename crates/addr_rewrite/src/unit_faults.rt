@@ -15,7 +15,7 @@ use rb_bytes::fault::NoMemory;
 use std::alloc::Global;
 use table_core::{DWARF_VERSION, debug_units, place_of};
 
-// The place of a unit, if it can't be read.
+// The offset of a unit, if it can't be read.
 fn bad_place(place: u64, reading: &UnitReading) -> Option<u64>
     ensures { result ≡ (if is_some reading.now.entries then None else Some place) }
 {
@@ -26,7 +26,7 @@ fn bad_place(place: u64, reading: &UnitReading) -> Option<u64>
     }
 }
 
-// The faults of some units and of the next one, which stands at offset `place`.
+// The faults of some units and of the next one, which is at offset `place`.
 fn with_unit(so_far: UnitFaults, place: u64, reading: &UnitReading) -> UnitFaults
     ensures { (abbrevs addr : List ℕ) (ws : List Walked) (w : Walked) → w.place ≡ place →
         AreNoted abbrevs addr ws so_far →
@@ -58,7 +58,7 @@ fn noted(alloc: Global, reader: &UnitReader<'_, '_>) -> Result<UnitFaults, NoMem
     Ok(faults)
 }
 
-/// Of each fault of units and of tables of addresses the place that is answered, by `.debug_info`, `.debug_abbrev` and
+/// The place to report for each fault of units and of address tables, from `.debug_info`, `.debug_abbrev` and
 /// `.debug_addr`. No entry is kept.
 pub fn unit_places(
     alloc: Global,

@@ -8,7 +8,7 @@ use answer_runs::{FirstRange, Range};
 use rb_bytes::fault::NoMemory;
 use std::alloc::Global;
 
-/// An index of ranges that belong to units: of the first one that holds an address, the unit.
+/// An index of ranges of units: the unit of the first range that contains an address.
 #[derive(Drop)]
 pub struct UnitIndex {
     /// The unit of each range.
@@ -31,7 +31,7 @@ fn bounds_of(alloc: Global, ranges: &[UnitRange]) -> Result<Vec<Range>, NoMemory
 impl UnitIndex {
     ghost use Rattle.addr_rewrite.specs.ArangesReading.{unit_found};
 
-    /// An index of some ranges, which may overlap: the first that holds an address counts.
+    /// An index of ranges, which may overlap: the first that contains an address counts.
     pub fn new(alloc: Global, ranges: &[UnitRange]) -> Result<UnitIndex, NoMemory>
         ensures { IfOk result (λ index. (a : ℕ) → unit_found index a
             ≡ option_map (λ r. r.unit) (find (λ r. holds_address a r.range) ranges.now)) }

@@ -1,4 +1,4 @@
-// Ranges of addresses that belong to units.
+// Ranges of addresses of units.
 use answer_runs::Range;
 
 /// A range of a table of `.debug_aranges`.

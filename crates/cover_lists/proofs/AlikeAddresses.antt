@@ -1,4 +1,4 @@
--- Addresses between which no range starts or ends.
+-- Addresses between which no range begins or ends.
 use Rattle.std.proofs.Common.{◌≡◌, ◌∙◌, ◌<◌, ◌≤◌, ◌==◌, ◌&&◌, ◌||◌, ◌∷◌, [], ℕ, Bool, not, List, All, refl, sym, ap, arith, length, get_or}
 use Rattle.std.proofs.Common.{map, filter, nat_le, nat_lt, ⊎_elim}
 use Rattle.std.proofs.lemmas.Bool.{cases_lt}
@@ -9,7 +9,7 @@ use Rattle.cover_lists.specs.declared.groups.RangedEntry.{RangedEntry}
 use Rattle.cover_lists.specs.Bounds.{bounds_in}
 use Rattle.cover_lists.specs.Groups.{group_holds, held_places}
 
--- as many bounds are at most the one as the other
+-- As many bounds are at most the one as at most the other.
 pub same_side : (bs : List ℕ) (m n a b : ℕ) → m ≡ n → ((k d : ℕ) → k < m → get_or bs k d ≤ a) →
     ((k d : ℕ) → m ≤ k → k < length bs → a < get_or bs k d) → ((k d : ℕ) → k < n → get_or bs k d ≤ b) →
     ((k d : ℕ) → n ≤ k → k < length bs → b < get_or bs k d) → All (λ x. nat_le x a ≡ nat_le x b) bs

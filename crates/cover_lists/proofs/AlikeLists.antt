@@ -1,4 +1,4 @@
--- What lists say at addresses between which no bounds of theirs lie.
+-- The expressions of lists at addresses between which there are none of their bounds.
 use Rattle.std.proofs.Common.{◌≡◌, ◌++◌, ◌∷◌, [], ℕ, zero, suc, Bool, List, refl, ap, arith, length, filter, nat_le, All}
 use Rattle.std.specs.Prelude.{filter_map, slice_get}
 use Rattle.std.specs.List.{range_with_len}

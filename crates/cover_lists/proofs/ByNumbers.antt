@@ -1,4 +1,4 @@
--- Items of a list by their numbers: those that pass a test.
+-- The elements of a list that pass a test, by their numbers.
 use Rattle.std.proofs.Common.{◌≡◌, ◌∙◌, ◌+◌, ◌∷◌, [], ℕ, zero, suc, Bool, true, false, List, Option, Some, refl, sym, ap, arith, drop}
 use Rattle.std.proofs.Common.{◌<◌, length, map, filter, take, get_or}
 use Rattle.std.proofs.lemmas.List.{take_more}
@@ -7,7 +7,7 @@ use Rattle.std.specs.Prelude.{if◌then◌else◌, filter_map, flat_map, option_
 use Rattle.std.specs.List.{cons_option, range_with_len}
 use Rattle.std.specs.Option.{option_map_or}
 
--- the first behind some
+-- The first element after some.
 first_behind : {X : Type 0} (xs : List X) (j : ℕ) (r : X) (rs : List X) → drop j xs ≡ r ∷ rs →
     (slice_get xs j ≡ Some r) × (drop (j + 1) xs ≡ rs)
 first_behind [] zero r rs e = absurd (cc)
@@ -48,7 +48,7 @@ module _ {X : Type 0} (test : X → Bool) (xs : List X) where
   pub passing : map (slice_get xs) (filter passes (range_with_len 0 (length xs))) ≡ map (λ (x : X). Some x) (filter test xs)
   passing = passing_from xs 0 refl
 
--- what is made of them
+-- The results for them
 
 fused_options : {A B C : Type 0} (g : A → B) (h : B → Option C) (xs : List A) → filter_map h (map g xs) ≡ filter_map (λ x. h (g x)) xs
 fused_options g h [] = refl
@@ -82,7 +82,7 @@ listed_by_number {X} {Y} f test xs =
     sym (fused_lists (slice_get xs) (λ (o : Option X). option_map_or f o []) (filter (passes test xs) (range_with_len 0 (length xs))))
     ∙ ap (flat_map (λ (o : Option X). option_map_or f o [])) (passing test xs) ∙ all_lists f (filter test xs)
 
--- those of a list of numbers, one number more
+-- For the elements with some numbers, with one more number.
 pub picked_more : {X Y : Type 0} (f : X → Option Y) (ns : List X) (i : ℕ) (d : X) (old new : List Y) → i < length ns →
     old ≡ filter_map f (take i ns) → new ≡ old ++ cons_option (f (get_or ns i d)) [] → new ≡ filter_map f (take (i + 1) ns)
 picked_more {X} {Y} f ns i d old new h before made =

@@ -1,4 +1,4 @@
--- What location lists say at the owners of new bytes, by stretches in which none changes.
+-- The expressions of location lists at the owners of new bytes, by stretches in which none changes.
 use Rattle.std.proofs.Common.{◌≡◌, ◌∙◌, ◌<◌, ◌≤◌, ◌∷◌, [], ℕ, Bool, true, false, List, Option, Some, None, refl, sym, ap, arith, length}
 use Rattle.std.proofs.Common.{filter, ⊎_elim}
 use Rattle.std.specs.Prelude.{All, if◌then◌else◌, nat_le, option_and_then, option_map}
@@ -19,7 +19,7 @@ use Rattle.cover_lists.specs.ListRuns.{list_answer}
 use Rattle.cover_lists.specs.Stretches.{bounds_before}
 use Rattle.cover_lists.proofs.AlikeLists.{numbered_alike}
 
--- between addresses with as many bounds before them there is no bound
+-- Between addresses with as many bounds below them there is no bound
 
 abbrev Same : ℕ → ℕ → ℕ → Type 0
 Same a b x = nat_le x a ≡ nat_le x b
@@ -53,7 +53,7 @@ up_sides (x ∷ bs) a b h e =
     (fewer bs a b h) e in
     All-cons (Same a b) x bs both.0 (up_sides bs a b h both.1)
 
--- what says the same between numbers between which there are none of some
+-- The same answers at addresses without bounds between them
 
 module _ {A : Type 0} (says : ℕ → Option A) (bounds : List ℕ) (alike : (a b : ℕ) → All (Same a b) bounds → says a ≡ says b) where
   alike_at : (a b : ℕ) → bounds_before bounds a ≡ bounds_before bounds b → says a ≡ says b

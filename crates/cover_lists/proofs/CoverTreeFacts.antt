@@ -1,4 +1,4 @@
--- What a search tree of ranges finds.
+-- The ranges found by a search tree.
 use Rattle.std.proofs.Common.{ℕ, ◌+◌, ◌≤◌, ◌<◌, ◌≡◌, ◌⊎◌, inl, inr, List, [], ◌∷◌, ◌++◌, false, cond, leb, ltb, ◌&&◌}
 use Rattle.std.proofs.Common.{refl, sym, ◌∙◌, ap, subst, arith, min, max, length, get_or, take, filter, append-nil}
 use Rattle.std.proofs.lemmas.List.{take_all}
@@ -21,7 +21,7 @@ reach_all xs i low high le reached = subst (AreReached low high) (take_all i xs 
 pub append_none : (xs ys : List ℕ) → ys ≡ [] → xs ≡ xs ++ ys
 append_none xs ys e = rw e (sym (append-nil xs))
 
--- outside of what ranges reach, none holds
+-- Outside of the reach of ranges, none contains the address.
 pub none_outside : (xs : List Cover) (low high a : ℕ) → AreReached low high xs → (a < low) ⊎ (high ≤ a) → filter (holds a) xs ≡ []
 none_outside [] low high a reached out = refl
 none_outside (x ∷ xs) low high a reached out =

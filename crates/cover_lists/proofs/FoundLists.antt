@@ -1,4 +1,4 @@
--- Which location lists are found at an address.
+-- The location lists that are found at an address.
 use Rattle.std.proofs.Common.{◌≡◌, ◌≢◌, ◌∙◌, ◌+◌, ◌<◌, ◌≤◌, ◌==◌, ◌&&◌, ◌||◌, ◌++◌, ◌∷◌, [], ℕ, zero, suc, Bool, true, false, List, Option}
 use Rattle.std.proofs.Common.{Some, None, refl, sym, ap, arith, length, map, filter, drop, get_or, append_assoc, append-nil}
 use Rattle.std.specs.Prelude.{All, if◌then◌else◌, filter_map, slice_get}
@@ -23,7 +23,7 @@ use Rattle.cover_lists.specs.ListRuns.{is_among, list_answer, AreCandidates}
 use Rattle.cover_lists.proofs.GroupFacts.{test_is, equal_self}
 use Rattle.cover_lists.proofs.SmallSteps.{or_false}
 
--- what is made of items by their numbers, one item more
+-- Results by number, with one more element
 
 module _ {X Y : Type 0} (f : ℕ → X → List Y) where
   pub numbered_more : (xs : List X) (n : ℕ) (d : X) (old new whole : List Y) → n < length xs → old ++ numbered f n (drop n xs) ≡ whole →
@@ -37,7 +37,7 @@ module _ {X Y : Type 0} (f : ℕ → X → List Y) where
   numbered_done xs n old whole h before =
       sym (append-nil old) ∙ sym (ap (λ (l : List X). old ++ numbered f n l) (drop_all n xs h)) ∙ before
 
--- and what of it is of a number
+-- The results for a number
 
 module _ {X Y : Type 0} (f : ℕ → X → List Y) (test : ℕ → Y → Bool) (g : X → Bool)
     (own : (n : ℕ) (x : X) → list_any (test n) (f n x) ≡ g x)
@@ -61,7 +61,7 @@ module _ {X Y : Type 0} (f : ℕ → X → List Y) (test : ℕ → Y → Bool) (
       list_any-append (test m) (f n x) (numbered f (n + 1) xs)
       ∙ (λ i. other m n x (λ s. absurd (omega arith)) i || of_number (n + 1) k m xs (omega arith) i)
 
--- of bounds
+-- For bounds
 
 module _ (a : ℕ) where
   own_covers : (n : ℕ) (cs : List Cover) → group_holds (map (regrouped n) cs) n a ≡ list_any (holds a) cs
@@ -80,7 +80,7 @@ module _ (a : ℕ) where
       ∙ of_number list_covers (λ m c. is_in_group m a c) (λ (l : KeptList). list_any (holds a) l.tree) (λ m l. own_covers m l.tree)
       (λ m k l ne. other_covers m k l.tree ne) 0 n n lists (omega arith)
 
--- of lists with expressions that have no bounds
+-- For lists with expressions without bounds
 
 own_number : (n : ℕ) (xs : List (Vec ℕ)) → is_among (numbers_if n xs) n ≡ is_some_list xs
 own_number n [] = refl
@@ -97,7 +97,7 @@ found_defaults lists ns n e =
     ∙ of_number default_numbers (λ m k. k == m) (λ (l : KeptList). is_some_list l.defaults.items) (λ m l. own_number m l.defaults.items)
     (λ m k l ne. other_number m k l.defaults.items ne) 0 n n lists (omega arith)
 
--- what isn't found says nothing
+-- Lists that aren't found have no answer
 
 left_false : (b c : Bool) → (b || c) ≡ false → b ≡ false
 left_false true c e = absurd (cc)

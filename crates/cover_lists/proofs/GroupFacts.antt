@@ -1,4 +1,4 @@
--- Groups of ranges: what a new group holds, and that others stay.
+-- Groups of ranges: the addresses in a new group, and that others don't change.
 use Rattle.std.proofs.Common.{◌≡◌, ◌∙◌, ◌+◌, ◌<◌, ◌==◌, ◌&&◌, ◌||◌, ◌++◌, ◌∷◌, [], ℕ, Bool, true, false, List, Option, Some, None}
 use Rattle.std.proofs.Common.{refl, sym, ap, subst, arith}
 use Rattle.std.specs.Prelude.{All}
@@ -25,7 +25,7 @@ equal_self n = grind (arith, nat_tests)
 pub differ : (n m : ℕ) → m < n → (n == m) ≡ false
 differ n m h = grind (arith, nat_tests)
 
--- the covers of a list are of its group alone
+-- The ranges of a list are only of its group
 
 abbrev here : ℕ → ℕ → List Cover → Bool
 here n a cs = list_any (is_in_group n a) cs
@@ -67,7 +67,7 @@ numbered_in n m (l ∷ ls) h = by_range l.range (numbered_in n m ls h) where
   by_range (Some r) more =
       All-cons (λ (c : Cover). c.group < m) (record { low = r.low; high = r.high; group = n }) (covers_in n ls) h more
 
--- a group that is added has the ranges of a list, and no other one changes
+-- A group that is added has the ranges of a list, and no other one changes.
 module _ (old new : Groups) (ls : List Located) (numbered : AreNumbered old) (count : new.count ≡ old.count + 1)
     (covers : new.covers.items ≡ old.covers.items ++ covers_in old.count ls) where
   both : (n a : ℕ) → here n a new.covers.items ≡ (here n a old.covers.items || here n a (covers_in old.count ls))
@@ -109,7 +109,7 @@ grow_more x y z g h = record {
   same = λ n a below. h.same n a (omega (arith, below, g.count)) ∙ g.same n a below;
 }
 
--- what a group holds stays
+-- The addresses in a group don't change.
 pub has_still : (old new : Groups) (group : Option ℕ) (ranges : Option (List Range)) → Grow old new → HasRanges old group ranges →
     HasRanges new group ranges
 has_still old new None ranges grow has = record { some = has.some; within = λ n e. absurd (cc); holds = has.holds }

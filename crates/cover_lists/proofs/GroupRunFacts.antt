@@ -67,7 +67,7 @@ pushes xs new start len h some e is = subst (λ (l : List (Run Bool)). IsStretch
     r : Run Bool
     r = record { start = start; len = len; answer = true }
 
--- Of some groups, one by one
+-- For groups, one by one
 
 module _ (start len : ℕ) (some : 0 < len) (old now : List (Run Bool)) (h : AreHeld start old) where
   pub still_within : (b : Bool) → IsStretchedIf b start len old now → IsWithin 0 now (start + len)
@@ -115,7 +115,7 @@ module _ (gs : List ℕ) (h start len : ℕ) (old now new : List (Vec (Run Bool)
         (cases_eq g h);
   }
 
-  -- a group that isn't there
+  -- A group that isn't there.
   pub stretched_none : length now ≤ h → AreStretched (gs ++ h ∷ []) start len old now
   stretched_none past = record {
     count = before.count;
@@ -124,7 +124,7 @@ module _ (gs : List ℕ) (h start len : ℕ) (old now new : List (Vec (Run Bool)
         (sym (among_other g (λ e. let c = before.count in omega (arith, e, past, below, c)))) (before.each g below);
   }
 
--- Of all runs, one by one
+-- For all runs, one by one
 
 find_group : (g a : ℕ) (cs : List Cover) → among g (map (λ (c : Cover). c.group) (filter (holds a) cs)) ≡ list_any (is_in_group g a) cs
 find_group g a [] = refl

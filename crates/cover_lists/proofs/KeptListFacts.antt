@@ -1,4 +1,4 @@
--- Lists that are kept: what they say.
+-- Lists that are kept: their expressions.
 use Rattle.std.proofs.Common.{◌≡◌, ◌∙◌, ◌+◌, ◌<◌, ◌≤◌, ◌==◌, ◌&&◌, ◌||◌, ◌++◌, ◌∷◌, [], ℕ, zero, suc, Bool, true, false, List, Option, Some}
 use Rattle.std.proofs.Common.{None, refl, sym, ap, arith, length, map, filter, take, drop, get_or, append_assoc, append-nil}
 use Rattle.std.specs.Prelude.{All, filter_map, option_map, slice_get}
@@ -26,7 +26,7 @@ use Rattle.cover_lists.proofs.GroupFacts.{test_is, equal_self, differ}
 use Rattle.cover_lists.proofs.MemberLists.{any_map, any_filter}
 use Rattle.cover_lists.proofs.SmallSteps.{or_false}
 
--- the ranges of items, one item more
+-- The ranges of items, with one more item.
 pub covers_more : (ls : List Located) (n : ℕ) (d : Located) (old new whole : List Cover) → n < length ls →
     old ++ numbered_covers n (drop n ls) ≡ whole → new ≡ old ++ covers_for n (get_or ls n d).range →
     new ++ numbered_covers (n + 1) (drop (n + 1) ls) ≡ whole
@@ -35,7 +35,7 @@ covers_more ls n d old new whole h before made =
     ∙ append_assoc old (covers_for n (get_or ls n d).range) (numbered_covers (n + 1) (drop (n + 1) ls))
     ∙ sym (ap (λ (l : List Located). old ++ numbered_covers n l) (drop_more ls n d h)) ∙ before
 
--- all of them are numbered
+-- All of them are numbered
 
 abbrev IsBelow : ℕ → Cover → Type 0
 IsBelow n c = c.group < n
@@ -49,7 +49,7 @@ below_from n m [] e = All-nil (IsBelow m)
 below_from n m (l ∷ ls) e = All-append (IsBelow m) (covers_for n l.range) (numbered_covers (n + 1) ls) (one_below n m l.range (omega arith))
     (below_from (n + 1) m ls (omega arith))
 
--- and hold what the items hold
+-- They contain the addresses in the items' ranges
 
 other_number : (n m a : ℕ) (ls : List Located) → m < n → group_holds (numbered_covers n ls) m a ≡ false
 other_number n m a [] h = refl
@@ -90,7 +90,7 @@ own_number n (suc k) m a (l ∷ ls) e = by_range l.range (own_number (n + 1) k m
     by_range (Some r) more =
         ap (λ (b : Bool). b || group_holds (numbered_covers (n + 1) ls) m a) (and_left (n == m) (holds_address a r) apart) ∙ more
 
--- what is kept of a list says what the list says
+-- A kept list has the expressions of the list
 
 chosen : (bounded defaults : List Located) → unless_none (expressions bounded) (expressions defaults) ≡ unless_bounded bounded defaults
 chosen [] defaults = refl
@@ -123,7 +123,7 @@ numbered ls tree xs permuted all =
     sym (length-map xs (λ (v : Vec ℕ). v.items)) ∙ ap length all ∙ length-map ls (λ (l : Located). l.expression) in
     All-permutation (λ (c : Cover). c.group < length xs) (numbered_covers 0 ls) tree permuted (below_from 0 (length xs) ls (omega arith))
 
--- only numbers of items are found
+-- Only numbers of items are found
 
 by_group : (tree : List Cover) (c : Cover) (n a k : ℕ) (b : Bool) → (c.group == k) ≡ b → c.group < n →
     (group_holds tree k a ≡ true → k < n) → ((b && holds a c) || group_holds tree k a) ≡ true → k < n
@@ -142,7 +142,7 @@ found_numbers tree a k groups found =
     ap (list_any (λ m. m == k)) found ∙ any_map (λ m. m == k) (λ (c : Cover). c.group) (filter (holds a) tree)
     ∙ any_filter (λ (c : Cover). c.group == k) (holds a) tree
 
--- copies of the expressions of items, one item more
+-- Copies of the expressions of items, with one more item
 
 pub copied_more : (ps : List Place) (i : ℕ) (d : Place) (old new : List (List ℕ)) → i < length ps →
     old ≡ expressions (map located_of (take i ps)) → new ≡ old ++ (get_or ps i d).expression.now ∷ [] →
@@ -165,7 +165,7 @@ defaults_more ps i d old new h before made =
     ∙ ap expressions (filter-append is_default (map located_of (take i ps)) (x ∷ []))
     ∙ map-append (λ (l : Located). l.expression) (filter is_default (map located_of (take i ps))) (filter is_default (x ∷ [])))
 
--- the ranges of items, one item more
+-- The ranges of items, with one more item
 
 pub covers_next : (ps : List Place) (i : ℕ) (d : Place) (old new : List Cover) → i < length ps →
     old ++ numbered_covers i (drop i (map located_of ps)) ≡ numbered_covers 0 (map located_of ps) →

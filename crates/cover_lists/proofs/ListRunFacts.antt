@@ -50,7 +50,7 @@ list_more lists n ss r old new within was more = record {
       ∙ said_more (list_answer lists n) ss r p within;
 }
 
--- of some lists, one by one
+-- For lists, one by one
 
 below_first : (lo : ℕ) (ns : List ℕ) (i d : ℕ) → Ascends lo ns → i < length ns →
     (lo ≤ get_or ns i d) × (is_among (take i ns) (get_or ns i d) ≡ false)
@@ -98,7 +98,7 @@ module _ (lists : List KeptList) (a : ℕ) (ns : List ℕ) (start len : ℕ) (ol
           list_any-append (λ k. k == n) ns (h ∷ []) ∙ ap (λ (b : Bool). is_among ns n || (b || false)) (ne_eqb h n (λ e. ne (sym e)))
           ∙ or_false (is_among ns n)
 
-  -- behind the last of the candidates
+  -- After the last of the candidates.
   pub extended_all : AreCandidates lists a ns → AreExtended lists a ns start len old now → (n : ℕ) → IsWithin 0 (said_in old n) start →
       AreLongest (said_in old n) → IsExtended start len (list_answer lists n a) (said_in old n) (said_in now n)
   extended_all all before n within longest = step (is_among ns n) refl (before.each n)
@@ -111,7 +111,7 @@ module _ (lists : List KeptList) (a : ℕ) (ns : List ℕ) (start len : ℕ) (ol
           (subst (λ (l : List (Run Said)). IsExtended start len None (said_in old n) l) (sym s)
           (none_extended start len (said_in old n) within longest))
 
--- of all stretches, one by one
+-- For all stretches, one by one
 
 pub list_next : (lists : List KeptList) (n : ℕ) (ss : List (Run ℕ)) (hi i : ℕ) (r : Run ℕ) (old new : List (Run Said)) → IsWithin 0 ss hi →
     runs_end 0 (take i ss) ≤ r.start → IsListRuns lists n (take i ss) (runs_end 0 (take i ss)) old →

@@ -1,4 +1,4 @@
--- The weight of the runs of a list is that of what it says at the owners of new bytes.
+-- The weight of the runs of a list is that of its expressions at the owners of new bytes.
 use Rattle.std.proofs.Common.{◌≡◌, ◌∙◌, ◌+◌, ◌∷◌, [], ℕ, suc, List, Option, refl, sym, ap, subst, arith, length}
 use Rattle.std.specs.Prelude.{sum_by}
 use Rattle.std.specs.Global.{Vec}

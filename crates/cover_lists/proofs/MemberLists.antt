@@ -1,4 +1,4 @@
--- The members of groups, and which numbers are found by the groups that hold an address.
+-- The members of groups, and the numbers found by the groups that contain an address.
 use Rattle.std.proofs.Common.{◌≡◌, ◌∙◌, ◌+◌, ◌<◌, ◌==◌, ◌||◌, ◌&&◌, ◌++◌, ◌∷◌, [], ℕ, zero, suc, Bool, true, false, List, Option, Some}
 use Rattle.std.proofs.Common.{None, refl, sym, ap, arith, length, map, filter}
 use Rattle.std.specs.Prelude.{if◌then◌else◌, flat_map, slice_get}
@@ -17,7 +17,7 @@ use Rattle.cover_lists.specs.CoverTree.{holds}
 use Rattle.cover_lists.specs.Groups.{group_holds}
 use Rattle.cover_lists.proofs.SmallSteps.{or_false, or_true, and_true, and_false}
 
--- an entry more
+-- One more entry
 
 zero_suc : (n : ℕ) → (zero == suc n) ≡ false
 zero_suc n = grind (arith, nat_tests)
@@ -56,7 +56,7 @@ members_more rs r old new i is before made g k =
         ∙ ap (λ (b : Bool). is_member rs g k || b) (or_false (i == k) ∙ ap (λ (n : ℕ). n == k) is)
     step false e = e ∙ sym (or_false (is_member rs g k))
 
--- which numbers are among the members of the groups that hold an address
+-- The members of the groups that contain an address
 
 any_flat : {X : Type 0} (p : ℕ → Bool) (f : X → List ℕ) (xs : List X) → list_any p (flat_map f xs) ≡ list_any (λ x. list_any p (f x)) xs
 any_flat p f [] = refl
@@ -100,7 +100,7 @@ among_found covers tree ranged members a k groups all held are found joined =
         ∙ any_map (λ g. g == r.group) (λ (c : Cover). c.group) (filter (holds a) tree)
         ∙ any_filter (λ (c : Cover). c.group == r.group) (holds a) tree ∙ held r.group a
 
--- Ascending numbers are those of a range that are among them.
+-- Ascending numbers are those of a range that are among them
 
 pub held_within : (covers : List Cover) (ranged : List RangedEntry) (a k : ℕ) → is_held covers ranged a k ≡ true → k < length ranged
 held_within covers ranged a k e = by_entry (slice_get ranged k) refl e

@@ -1,4 +1,4 @@
--- Two lists that say the same up to an index.
+-- Two lists that agree up to an index.
 use Rattle.std.proofs.Common.{ℕ, ◌+◌, ◌≤◌, ◌<◌, ◌≡◌, ◌∙◌, List, sym, ap, arith, length, get_or, drop, map}
 use Rattle.std.proofs.lemmas.List.{length-map, get_or-map}
 use Rattle.answer_runs.proofs.SameLists.{same-more, same-end}

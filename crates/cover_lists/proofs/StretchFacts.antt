@@ -12,7 +12,7 @@ at_most x a h = grind (arith, nat_tests)
 past : (x a : ℕ) → a < x → nat_le x a ≡ false
 past x a h = grind (arith, nat_tests)
 
--- those at most an address stand before the others
+-- The bounds that are at most an address are before the others.
 pub counted : (bs : List ℕ) (m a : ℕ) → ((k d : ℕ) → k < m → get_or bs k d ≤ a) → ((k d : ℕ) → m ≤ k → k < length bs → a < get_or bs k d) →
     m ≡ bounds_before bs a
 counted [] zero a low high = refl
@@ -26,7 +26,7 @@ counted (b ∷ bs) (suc m) a low high =
     ap suc (counted bs m a (λ k d l. low (suc k) d (omega arith)) (λ k d l g. high (suc k) d (omega arith) (omega arith)))
     ∙ sym (ap (λ (c : Bool). length (if c then b ∷ filter (λ x. nat_le x a) bs else filter (λ x. nat_le x a) bs)) (at_most b a l))
 
--- what is said of an answer over a stretch
+-- The result for an answer over a stretch.
 pub over_said : {A B : Type 0} (f : A → B) (start len : ℕ) (x : A) (p : ℕ) →
     answer_over start len (f x) p ≡ option_and_then (λ y. Some (f y)) (answer_over start len x p)
 over_said {A} {B} f start len x p = step (nat_le start p && nat_lt p (start + len))

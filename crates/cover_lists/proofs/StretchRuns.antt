@@ -1,4 +1,4 @@
--- Runs of what is said of old addresses that stand for stretches of new code, stretch by stretch.
+-- Runs of results for old addresses, one for each stretch of new code.
 use Rattle.std.proofs.Common.{◌≡◌, ◌∙◌, ◌+◌, ◌<◌, ◌≤◌, ◌&&◌, ◌++◌, ◌∷◌, [], ℕ, zero, suc, Bool, true, false, List, Option, Some, None}
 use Rattle.std.proofs.Common.{refl, sym, ap, arith, length, take, get_or}
 use Rattle.std.specs.Prelude.{if◌then◌else◌, option_and_then, nat_le, nat_lt}
@@ -9,7 +9,7 @@ use Rattle.answer_runs.specs.AnswerRuns.{answer_over, answer_in, run_at, IsWithi
 use Rattle.answer_runs.proofs.Grown.{or_none, run_at-more}
 use Rattle.cover_lists.specs.GroupRuns.{runs_end}
 
--- where runs end
+-- The end of runs
 
 pub runs_end_more : {A : Type 0} (lo : ℕ) (xs : List (Run A)) (r : Run A) → runs_end lo (xs ++ r ∷ []) ≡ r.start + r.len
 runs_end_more lo [] r = refl
@@ -37,7 +37,7 @@ taken_within lo [] hi (suc i) w = omega arith
 taken_within lo (r ∷ rs) hi zero w = omega arith
 taken_within lo (r ∷ rs) hi (suc i) w = (w.0, w.1, taken_within (r.start + r.len) rs hi i w.2)
 
--- a byte of runs lies before their end
+-- A byte of runs is before their end
 
 run_before : {A : Type 0} (lo : ℕ) (rs : List (Run A)) (hi p : ℕ) (x : A) → IsWithin lo rs hi → run_at rs p ≡ Some x → p < hi
 run_before lo [] hi p x w e = absurd (cc)
@@ -54,7 +54,7 @@ run_before {A} lo (r ∷ rs) hi p x w e = step (nat_le r.start p && nat_lt p (r.
     step true is f more = let h : r.start + r.len ≤ hi = ends_before (r.start + r.len) rs w.2 in grind (arith, nat_tests)
     step false is f more = more f
 
--- a stretch more
+-- One more stretch
 
 module _ {A : Type 0} (f : ℕ → Option A) (r : Run ℕ) (p : ℕ) where
   over : (b : Bool) (o : Option A) → option_and_then (λ x. if b then Some x else None) o
@@ -68,11 +68,11 @@ module _ {A : Type 0} (f : ℕ → Option A) (r : Run ℕ) (p : ℕ) where
   through true = refl
   through false = refl
 
-  -- where no run was before
+  -- No run was there before.
   fresh : option_and_then (λ x. answer_over r.start r.len x p) (f r.answer) ≡ option_and_then f (answer_in r p)
   fresh = over (nat_le r.start p && nat_lt p (r.start + r.len)) (f r.answer) ∙ through (nat_le r.start p && nat_lt p (r.start + r.len))
 
-  -- where one was
+  -- A run was there before.
   taken : p < r.start → option_and_then (λ x. answer_over r.start r.len x p) (f r.answer) ≡ None
   taken h =
       let no : (nat_le r.start p && nat_lt p (r.start + r.len)) ≡ false = grind (arith, nat_tests) in

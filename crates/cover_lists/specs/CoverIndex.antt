@@ -1,4 +1,4 @@
--- Which entries have ranges that hold an address, by their numbers.
+-- The entries whose ranges contain an address, by their numbers.
 use Rattle.std.specs.Prelude.{◌≡◌, ◌==◌, ℕ, Bool, false, List, [], filter, length, Option, Some, None, slice_get}
 use Rattle.std.specs.Prelude.{option_map}
 use Rattle.std.specs.Global.{Vec}
@@ -13,15 +13,15 @@ abbrev pub items_of : Option (Vec ℕ) → List ℕ
 items_of None = []
 items_of (Some v) = v.items
 
--- the numbers of the members of a group
+-- The numbers of the members of a group.
 abbrev pub members_in : List (Vec ℕ) → ℕ → List ℕ
 members_in members group = items_of (slice_get members group)
 
--- the entry of a number is of a group
+-- The entry with a number is in a group.
 abbrev pub is_member : List RangedEntry → ℕ → ℕ → Bool
 is_member ranged group k = option_map_or (λ (r : RangedEntry). group == r.group) (slice_get ranged k) false
 
--- the ranges of the entry of a number hold an address
+-- The ranges of the entry with a number contain an address.
 abbrev pub is_held : List Cover → List RangedEntry → ℕ → ℕ → Bool
 is_held covers ranged a k = option_map_or (λ (r : RangedEntry). group_holds covers r.group a) (slice_get ranged k) false
 
@@ -32,6 +32,6 @@ pub record IsCoverIndex (covers : List Cover) (ranged : List RangedEntry) (index
   pub held : (group a : ℕ) → group_holds index.tree group a ≡ group_holds covers group a
   pub members : (group k : ℕ) → list_any (λ m. m == k) (members_in index.members.items group) ≡ is_member ranged group k
 
--- the place of the entry of a number
+-- The offset of the entry with a number.
 abbrev pub place_at : List RangedEntry → ℕ → Option ℕ
 place_at ranged k = option_map (λ (r : RangedEntry). r.place) (slice_get ranged k)

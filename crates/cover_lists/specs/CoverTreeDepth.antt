@@ -6,7 +6,7 @@ use Rattle.cover_lists.specs.declared.cover_tree.Node.TheVariants.{Leaf, Fork}
 use Rattle.cover_lists.specs.declared.cover_tree.CoverTree.TheDeep.{deep-Node}
 use Rattle.cover_lists.specs.CoverTree.{covers_of}
 
--- no side is deeper than the node has ranges
+-- No side is deeper than the number of the node's ranges.
 pub depth_le-length : (n : Node) → max (deep-Node n) 0 ≤ length (covers_of n)
 depth_le-length Leaf = omega arith
 depth_le-length (Fork before cover behind low high) = omega (arith, length-append before.value (cover ∷ behind.value))

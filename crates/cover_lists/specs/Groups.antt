@@ -1,4 +1,4 @@
--- Groups of ranges that entries have.
+-- Groups of ranges of entries.
 use Rattle.std.specs.Prelude.{◌≡◌, ◌<◌, ◌≤◌, ◌==◌, ◌&&◌, ℕ, Bool, false, List, [], ◌∷◌, All, map, filter, flat_map}
 use Rattle.std.specs.Prelude.{is_some, Option, Some, None}
 use Rattle.std.specs.List.{list_any}
@@ -10,7 +10,7 @@ use Rattle.cover_lists.specs.declared.groups.RangedEntry as kept
 use Rattle.cover_lists.specs.CoverTree.{holds}
 use Rattle.cover_lists.specs.Located.{Located, hold}
 
--- a range, if there is one, as a range of a group
+-- A range, if there is one, as a range of a group.
 abbrev pub covers_for : ℕ → Option Range → List Cover
 covers_for group None = []
 covers_for group (Some r) = record { low = r.low; high = r.high; group = group } ∷ []
@@ -21,7 +21,7 @@ covers_in group ls = flat_map (λ (l : Located). covers_for group l.range) ls
 abbrev pub is_in_group : ℕ → ℕ → Cover → Bool
 is_in_group group a c = c.group == group && holds a c
 
--- the ranges of a group hold an address
+-- The ranges of a group contain an address.
 abbrev pub group_holds : List Cover → ℕ → ℕ → Bool
 group_holds covers group a = list_any (is_in_group group a) covers
 
@@ -29,29 +29,29 @@ group_holds covers group a = list_any (is_in_group group a) covers
 abbrev pub AreNumbered : code.Groups → Type 0
 AreNumbered g = All (λ (c : Cover). c.group < g.count) g.covers.items
 
--- No group changes, but there may be new ones.
+-- No group changes; there may be new ones.
 pub record Grow (old new : code.Groups) : Type 0 where
   pub numbered : AreNumbered new
   pub count : old.count ≤ new.count
   pub same : (group a : ℕ) → group < old.count → group_holds new.covers.items group a
       ≡ group_holds old.covers.items group a
 
--- a group, or none, holds just the addresses of some ranges, or of none
+-- A group contains exactly the addresses of the ranges; without ranges there is no group.
 pub record HasRanges (g : code.Groups) (group : Option ℕ) (ranges : Option (List Range)) : Type 0 where
   pub some : is_some group ≡ is_some ranges
   pub within : (n : ℕ) → group ≡ Some n → n < g.count
   pub holds : (a : ℕ) → option_map_or (λ n. group_holds g.covers.items n a) group false ≡ hold ranges a
 
--- each entry is of a group
+-- Each entry has a group.
 abbrev pub AreWithin : ℕ → List kept.RangedEntry → Type 0
 AreWithin n ranged = All (λ (r : kept.RangedEntry). r.group < n) ranged
 
--- the places of the entries whose ranges hold an address
+-- The offsets of the entries whose ranges contain an address.
 abbrev pub held_places : List Cover → List kept.RangedEntry → ℕ → List ℕ
 held_places covers ranged a = map (λ (r : kept.RangedEntry). r.place) (filter (λ (r : kept.RangedEntry). group_holds
     covers r.group a) ranged)
 
--- an entry, if it has a group
+-- An entry, if it has a group.
 abbrev pub entry_of : (place own : ℕ) → (index : Option ℕ) → Option ℕ → List kept.RangedEntry
 entry_of place own index None = []
 entry_of place own index (Some group) = record { place = place; group = group; own = own; index = index } ∷ []

@@ -1,4 +1,4 @@
--- Which location lists may say something at an address.
+-- The location lists that may have expressions in force at an address.
 use Rattle.std.specs.Prelude.{◌≡◌, ◌+◌, ◌++◌, ◌∷◌, [], ℕ, Bool, true, false, List, map, slice_get}
 use Rattle.std.specs.List.{list_any}
 use Rattle.std.specs.Option.{option_map_or}
@@ -9,12 +9,12 @@ use Rattle.cover_lists.specs.CoverTree.{holds, regrouped}
 use Rattle.cover_lists.specs.Groups.{group_holds}
 use Rattle.cover_lists.specs.ListRuns.{is_among}
 
--- what is made of each item and its number; items are numbered from a given number on
+-- The results of `f` for each element and its number. Elements are numbered from `n` on.
 abbrev pub numbered : {X Y : Type 0} → (ℕ → X → List Y) → ℕ → List X → List Y
 numbered f n [] = []
 numbered f n (x ∷ xs) = f n x ++ numbered f (n + 1) xs
 
--- the bounds of a list, with its number
+-- The bounds of a list, with its number.
 abbrev pub list_covers : ℕ → KeptList → List Cover
 list_covers n l = map (regrouped n) l.tree
 
@@ -26,14 +26,14 @@ abbrev pub numbers_if : {A : Type 0} → ℕ → List A → List ℕ
 numbers_if n [] = []
 numbers_if n (x ∷ xs) = n ∷ []
 
--- the number of a list, if it has expressions without bounds
+-- The number of a list, if it has expressions without bounds.
 abbrev pub default_numbers : ℕ → KeptList → List ℕ
 default_numbers n l = numbers_if n l.defaults.items
 
 abbrev pub has_default : List KeptList → ℕ → Bool
 has_default lists n = option_map_or (λ l. is_some_list l.defaults.items) (slice_get lists n) false
 
--- bounds of the list of a number hold an address
+-- Bounds of the list with a number contain an address.
 abbrev pub list_holds : List KeptList → ℕ → ℕ → Bool
 list_holds lists n a = option_map_or (λ l. list_any (holds a) l.tree) (slice_get lists n) false
 

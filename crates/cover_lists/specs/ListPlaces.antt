@@ -1,4 +1,4 @@
--- What the places of a list that was read say.
+-- The expressions and bounds of a list that was read.
 use Rattle.std.specs.Prelude.{option_map}
 use Rattle.cover_lists.specs.declared.list_place.Place.{Place}
 use Rattle.cover_lists.specs.Located.{Located}

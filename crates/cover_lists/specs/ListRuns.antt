@@ -1,4 +1,4 @@
--- The runs of new code at each of whose bytes a location list says the same.
+-- The runs of new code in each of which a location list has the same expressions in force.
 use Rattle.std.specs.Prelude.{◌≡◌, ◌+◌, ◌<◌, ◌==◌, ℕ, Bool, true, false, List, [], All, Option, Some, None, length}
 use Rattle.std.specs.Prelude.{option_and_then, slice_get}
 use Rattle.std.specs.Global.{Vec}
@@ -14,7 +14,7 @@ use Rattle.cover_lists.specs.KeptLists.{items_in, number_says}
 abbrev pub said : Vec (Vec ℕ) → List (List ℕ)
 said v = items_in v.items
 
--- what the list of a number says at an address, if anything
+-- The answer of the list with a number at an address, if it has one.
 abbrev pub list_answer : List KeptList → ℕ → ℕ → Option (List (List ℕ))
 list_answer lists n a = unless_empty (number_says lists n a)
 
@@ -22,18 +22,18 @@ abbrev pub runs_of : Option (Vec (Run (Vec (Vec ℕ)))) → List (Run (List (Lis
 runs_of None = []
 runs_of (Some v) = said_runs said v.items
 
--- the runs of the list of a number
+-- The runs of the list with a number.
 abbrev pub said_in : List (Vec (Run (Vec (Vec ℕ)))) → ℕ → List (Run (List (List ℕ)))
 said_in runs n = runs_of (slice_get runs n)
 
--- longest runs with a stretch more, if something is said there
+-- Longest runs with one more stretch, if there is an answer.
 pub record IsExtended {A : Type 0} (start len : ℕ) (answer : Option A) (old new : List (Run A)) : Type 0 where
   pub within : IsWithin 0 new (start + len)
   pub longest : AreLongest new
   pub answers : (p : ℕ) → run_at new p
       ≡ option_or (run_at old p) (option_and_then (λ x. answer_over start len x p) answer)
 
--- the longest runs of the list of a number, by old addresses that stand for stretches of new code
+-- The longest runs of the list with a number, by one old address for each stretch of new code.
 pub record IsListRuns (lists : List KeptList) (n : ℕ) (stretches : List (Run ℕ)) (end : ℕ)
     (runs : List (Run (List (List ℕ)))) :
     Type 0 where
@@ -44,7 +44,7 @@ pub record IsListRuns (lists : List KeptList) (n : ℕ) (stretches : List (Run �
 abbrev pub is_among : List ℕ → ℕ → Bool
 is_among ns n = list_any (λ m. m == n) ns
 
--- The numbers of lists, ascending, behind which no other says anything at an address.
+-- The numbers of lists, ascending. No other list has an answer at the address.
 pub record AreCandidates (lists : List KeptList) (a : ℕ) (numbers : List ℕ) : Type 0 where
   pub rising : IsStrictlyIncreasing numbers
   pub within : All (λ n. n < length lists) numbers
@@ -55,7 +55,7 @@ abbrev pub IsExtendedIf : Bool → (start len : ℕ) → Option (List (List ℕ)
 IsExtendedIf true start len answer old new = IsExtended start len answer old new
 IsExtendedIf false start len answer old new = new ≡ old
 
--- the runs of the lists of some numbers got a stretch more, and no other
+-- The runs of the lists with these numbers got one more stretch, and no other list's did.
 pub record AreExtended (lists : List KeptList) (a : ℕ) (numbers : List ℕ) (start len : ℕ)
     (old new : List (Vec (Run (Vec (Vec ℕ))))) : Type 0 where
   pub count : length new ≡ length old

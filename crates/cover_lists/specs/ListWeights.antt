@@ -9,12 +9,12 @@ use Rattle.answer_runs.specs.Weights.{run_weight, IsWeightOf}
 use Rattle.cover_lists.specs.declared.kept_list.KeptList.{KeptList}
 use Rattle.cover_lists.specs.KeptLists.{all_say}
 
--- a weight for each of some things, and their sum
+-- The sum of weights, one for each element.
 pub data IsSumOf {X : Type 0} (Weighs : X → ℕ → Type 0) : List X → ℕ → Type 0 where
   none : IsSumOf Weighs [] 0
   more : (x : X) (xs : List X) (n m : ℕ) → Weighs x n → IsSumOf Weighs xs m → IsSumOf Weighs (x ∷ xs) (n + m)
 
--- an expression weighs its length, and 16
+-- The weight of an expression is 16 plus its length.
 abbrev pub expressions_weight : List (List ℕ) → ℕ
 expressions_weight xs = sum_by (λ x. 16 + length x) xs
 
@@ -27,10 +27,10 @@ list_weight runs = sum_by (λ (r : Run (Vec (Vec ℕ))). run_weight + copies_wei
 abbrev pub total_weight : List (Vec (Run (Vec (Vec ℕ)))) → ℕ
 total_weight lists = sum_by (λ (v : Vec (Run (Vec (Vec ℕ)))). list_weight v.items) lists
 
--- the weight of what a list says at the owners of new bytes
+-- The weight of a list's expressions at the owners of new bytes.
 abbrev pub IsSaidWeight : List Span → (ℕ → List (List ℕ)) → ℕ → Type 0
 IsSaidWeight spans says weight = IsWeightOf expressions_weight (carried (λ a. unless_empty (says a)) spans) weight
 
--- the weight of what all lists say there
+-- The weight of the expressions of all lists there.
 abbrev pub IsListsWeight : List KeptList → List Span → ℕ → Type 0
 IsListsWeight lists spans weight = IsSumOf (IsSaidWeight spans) (all_say lists) weight

@@ -1,6 +1,6 @@
--- Stretches of new code between whose owners no range starts or ends.
+-- Stretches of new code between whose owners no range begins or ends.
 use Rattle.std.specs.Prelude.{ℕ, List, length, filter, nat_le}
 
--- how many of some bounds are at most an address
+-- The number of bounds that are at most an address.
 abbrev pub bounds_before : List ℕ → ℕ → ℕ
 bounds_before bounds a = length (filter (λ x. nat_le x a) bounds)

@@ -1,4 +1,4 @@
-// Bounds: the addresses at which ranges start or end, where other ranges hold from then on.
+// Bounds: the addresses at which ranges begin or end.
 ghost use Rattle.std.specs.Prelude.{◌≡◌, ◌<◌, ◌≤◌, ◌++◌, ◌∷◌, [], ℕ, All, IfOk, IfSome, OnOk, IsTrue};
 ghost use Rattle.std.specs.Prelude.{length, nat_le, slice_index_or};
 ghost use Rattle.std.specs.List.Sorted.{IsNonDecreasing, IsPermutation};
@@ -28,7 +28,7 @@ fn all_bounds(alloc: Global, covers: &[Cover]) -> Result<Vec<u128>, NoMemory>
     Ok(bounds)
 }
 
-/// The starts and ends of some ranges, ascending.
+/// The first addresses and the ends of ranges, ascending.
 pub fn bounds_of(alloc: Global, covers: &[Cover]) -> Result<Vec<u128>, NoMemory>
     ensures rising { IfOk result (λ bs. IsNonDecreasing bs.items) }
     ensures all { IfOk result (λ bs. IsPermutation (bounds_in covers.now) bs.items) }
@@ -48,7 +48,7 @@ fn put_list_bounds(bounds: &mut Vec<u128>, lists: &[KeptList]) -> Result<(), NoM
     Ok(())
 }
 
-/// The starts and ends of some ranges and of those of location lists, ascending.
+/// The first addresses and the ends of ranges and of the ranges in location lists, ascending.
 pub fn place_bounds(
     alloc: Global,
     covers: &[Cover],
@@ -63,7 +63,7 @@ pub fn place_bounds(
     Ok(bounds)
 }
 
-/// How many of ascending bounds are at most `a`.
+/// The number of the ascending bounds that are at most `a`.
 pub fn count_up_to(bounds: &[u128], a: u64) -> usize
     requires { IsNonDecreasing bounds.now }
     ensures below { (k d : ℕ) → k < result → slice_index_or bounds.now k d ≤ a }
@@ -72,11 +72,11 @@ pub fn count_up_to(bounds: &[u128], a: u64) -> usize
     bounds.partition_point(|bound| *bound <= a as u128)
 }
 
-// How many bounds from a guess on are looked at before all are searched.
+// The number of bounds after a guess that are tested before all are searched.
 const NEARBY: usize = 8;
 
-/// How many of ascending bounds are at most `a`, with `near` for a guess. It takes no search where they are as many, or
-/// a few more; any guess gives the right answer.
+/// The number of the ascending bounds that are at most `a`, with `near` as a guess (galloping search). No search is
+/// needed if the result is the guess, or a few more. Any guess gives the right result.
 pub fn count_near(bounds: &[u128], near: usize, a: u64) -> usize
     requires { IsNonDecreasing bounds.now }
     ensures below { (k d : ℕ) → k < result → slice_index_or bounds.now k d ≤ a }
@@ -88,7 +88,7 @@ pub fn count_near(bounds: &[u128], near: usize, a: u64) -> usize
     }
 }
 
-// How many bounds are at most `a`, if they are `near`, or a few more.
+// The number of bounds that are at most `a`, if it is `near` or a few more.
 fn count_beside(bounds: &[u128], near: usize, a: u64) -> Option<usize>
     requires { IsNonDecreasing bounds.now }
     ensures below { IfSome result (λ n. (k d : ℕ) → k < n → slice_index_or bounds.now k d ≤ a) }
@@ -107,7 +107,7 @@ fn count_beside(bounds: &[u128], near: usize, a: u64) -> Option<usize>
     None
 }
 
-// Whether there are `count` bounds at most `a`, or more.
+// Whether `count` bounds or more are at most `a`.
 fn are_up_to(bounds: &[u128], count: usize, a: u64) -> bool
     requires { IsNonDecreasing bounds.now }
     ensures { IsTrue result → (k d : ℕ) → k < count → slice_index_or bounds.now k d ≤ a }
@@ -121,7 +121,7 @@ fn are_up_to(bounds: &[u128], count: usize, a: u64) -> bool
     bounds[count - 1] <= a as u128
 }
 
-/// Whether no bound lies between two addresses: each of the ascending bounds is at most both, or neither.
+/// Whether no bound is between two addresses: each of the ascending bounds is at most both, or at most neither.
 pub fn are_alike(bounds: &[u128], a: u64, b: u64) -> bool
     requires { IsNonDecreasing bounds.now }
     ensures { IsTrue result → All (λ x. nat_le x a ≡ nat_le x b) bounds.now }

@@ -1,4 +1,4 @@
-// What location lists say at the owners of new bytes.
+// The expressions of location lists at the owners of new bytes.
 ghost use Rattle.std.specs.Prelude.{◌≡◌, ℕ, AllPairs, IfOk, length};
 ghost use Rattle.addr_map.specs.MapText.{IsLineBefore};
 ghost use Rattle.addr_map.specs.Spans.{ShareNoByte};
@@ -14,8 +14,8 @@ use addr_map::AddrMap;
 use rb_bytes::fault::NoMemory;
 use std::alloc::Global;
 
-/// Of each list, by its number, the longest runs of new code at the owners of whose bytes it says the same. A list is
-/// asked once for each stretch of new code in which no list changes, and only where bounds of it hold the stretch's
+/// For each list, by its number, the longest runs of new code with the same expressions in force at the owners. A list
+/// is asked once for each stretch of new code in which no list changes, and only if its bounds contain the stretch's
 /// owner or it has defaults.
 pub fn carried_lists(
     alloc: Global,

@@ -1,7 +1,8 @@
-// How much may be asked of groups of ranges and of lists.
+// The limit of questions to groups of ranges and to lists.
 
-// What all answers may cost together, and beside for each group or list. Few bytes can make any number of groups or
-// lists hold at any number of stretches of new code, and at each stretch all are asked that may hold there.
+// The limit of the cost of all answers, to which `MOST_OF_EACH` is added for each group or list. A few bytes can make
+// any number of groups or lists that contain any number of stretches of new code, and each group or list that may
+// contain a stretch is asked.
 const MOST: usize = 1 << 23;
 
 const MOST_OF_EACH: usize = 256;

@@ -1,4 +1,4 @@
-// Which entries have ranges that hold an address.
+// The entries whose ranges contain an address.
 ghost use Rattle.std.specs.Prelude.{◌≡◌, ◌++◌, ◌∷◌, [], ◌==◌, ◌<◌, ℕ, List, IfOk, OnOk};
 ghost use Rattle.std.specs.Prelude.{if◌then◌else◌, flat_map, length, slice_get, Some};
 ghost use Rattle.std.specs.List.{list_any};
@@ -13,7 +13,7 @@ use crate::groups::{Groups, RangedEntry};
 use rb_bytes::fault::NoMemory;
 use std::alloc::Global;
 
-/// Entries, which are numbered from 0, by the addresses that their ranges hold.
+/// Entries, numbered from 0, by the addresses in their ranges.
 #[derive(Drop)]
 pub struct CoverIndex {
     /// The ranges of all groups.
@@ -22,7 +22,7 @@ pub struct CoverIndex {
     members: Vec<Vec<usize>>,
 }
 
-/// Ranges sorted by their starts, so that a search in their tree is fast.
+/// Ranges sorted by their first addresses, so that a search in their tree is fast.
 pub fn sorted(alloc: Global, covers: &[Cover]) -> Result<Vec<Cover>, NoMemory>
     ensures { IfOk result (λ cs. IsPermutation covers.now cs.items) }
 {
@@ -109,7 +109,7 @@ impl CoverIndex {
         }
     }
 
-    // The numbers of the entries of some groups, one group behind another.
+    // The numbers of the entries of groups, one group after another.
     fn all_members(&self, alloc: Global, groups: &[usize]) -> Result<Vec<usize>, NoMemory>
         ensures { IfOk result (λ ks. ks.items ≡ flat_map (members_in self.now.members.items) groups.now) }
     {
@@ -120,7 +120,7 @@ impl CoverIndex {
         Ok(all)
     }
 
-    /// The numbers of the entries whose ranges hold an address, ascending.
+    /// The numbers of the entries whose ranges contain an address, ascending.
     pub fn find(&self, alloc: Global, a: u64) -> Result<Vec<usize>, NoMemory>
         ensures { (covers : List spec.Cover) (ranged : List entry.RangedEntry) → IsCoverIndex covers ranged self.now →
             IfOk result (λ ks. ks.items ≡ held_numbers covers ranged a) }

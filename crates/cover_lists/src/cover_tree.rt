@@ -1,4 +1,4 @@
-// Ranges of addresses as a search tree.
+// Ranges of addresses as a search tree (an interval tree).
 ghost use Rattle.std.specs.Prelude.{◌≡◌, ◌++◌, IfOk, OnOk, map, filter, min, max};
 ghost use Rattle.cover_lists.specs.Bounds.{bounds_in};
 ghost use Rattle.cover_lists.specs.CoverTree.{holds, regrouped, AreReached};
@@ -7,7 +7,7 @@ use rb_bytes::fault::NoMemory;
 use std::alloc::Global;
 use std::marker::Model;
 
-/// A range, from `low` to before `high`, neither cut to 64 bits; and the number of the group that it belongs to.
+/// A range from `low` up to `high`, which isn't included; neither is cut to 64 bits. And the number of its group.
 #[derive(Clone, Copy)]
 pub struct Cover {
     pub low: u128,
@@ -15,8 +15,8 @@ pub struct Cover {
     pub group: usize,
 }
 
-/// Ranges as a search tree, which contracts see as their list. Where they are sorted by their starts, a search takes
-/// the time of a descent for each range that it finds.
+/// Ranges as an interval tree; contracts see their list. If they are sorted by their first addresses, a search takes
+/// one descent for each range found.
 #[cycle(cover_tree)]
 #[derive(Drop)]
 pub struct CoverTree {
@@ -27,7 +27,8 @@ pub struct CoverTree {
 #[derive(Drop)]
 enum Node {
     Leaf,
-    // The ranges before one, this one, those behind it, and the least start and the greatest end of all of them.
+    // The ranges before one, this one, the ranges after it, and the least first address and the greatest end of all of
+    // them.
     Fork(Box<CoverTree>, Cover, Box<CoverTree>, u128, u128),
 }
 
@@ -62,7 +63,7 @@ fn greater(a: u128, b: u128) -> u128
     if a < b { b } else { a }
 }
 
-// The least start and the greatest end of some ranges.
+// The least first address and the greatest end of ranges.
 fn reach(covers: &[Cover]) -> (u128, u128)
     ensures { AreReached result.0 result.1 covers.now }
 {
@@ -75,7 +76,7 @@ fn reach(covers: &[Cover]) -> (u128, u128)
     (low, high)
 }
 
-/// Whether a range holds the address `a`.
+/// Whether a range contains the address `a`.
 pub fn holds(a: u64, cover: &Cover) -> bool
     ensures { result ≡ holds a cover.now }
 {
@@ -83,7 +84,7 @@ pub fn holds(a: u64, cover: &Cover) -> bool
 }
 
 impl CoverTree {
-    /// The tree of some ranges, in the order in which they are given.
+    /// The tree of ranges, in the given order.
     pub fn new(alloc: Global, covers: &[Cover]) -> Result<CoverTree, NoMemory>
         ensures { IfOk result (λ tree. tree ≡ covers.now) }
     {
@@ -99,7 +100,7 @@ impl CoverTree {
         })
     }
 
-    /// Appends the groups of the ranges that hold an address, in the order of the ranges.
+    /// Appends the groups of the ranges that contain an address, in the order of the ranges.
     pub fn find(&self, a: u64, groups: &mut Vec<usize>) -> Result<(), NoMemory>
         ensures { OnOk result (groups.new.items ≡ groups.old.items ++ map (λ c. c.group) (filter (holds a) self.now)) }
     {
@@ -118,7 +119,7 @@ impl CoverTree {
         }
     }
 
-    /// Appends the starts and the ends of all ranges.
+    /// Appends the first addresses and the ends of all ranges.
     pub fn put_bounds(&self, bounds: &mut Vec<u128>) -> Result<(), NoMemory>
         ensures { OnOk result (bounds.new.items ≡ bounds.old.items ++ bounds_in self.now) }
     {

@@ -1,4 +1,4 @@
-// The runs of new code whose owners a group of ranges holds.
+// The runs of new code whose owners are in a group of ranges.
 ghost use Rattle.std.specs.Prelude.{◌≡◌, ◌≢◌, ◌+◌, ◌<◌, ◌^◌, ◌-◌, [], ℕ, AllPairs, true, false, IfOk, OnOk, length};
 ghost use Rattle.std.specs.List.Sorted.{IsNonDecreasing};
 ghost use Rattle.addr_map.specs.MapText.{IsLineBefore};
@@ -17,7 +17,8 @@ use answer_runs::{Run, ends_at, lengthen};
 use rb_bytes::fault::NoMemory;
 use std::alloc::Global;
 
-/// Of each group, by its number, the longest runs of new bytes whose owners it holds; their answers are all `true`.
+/// For each group, by its number, the longest runs of new bytes whose owners are in its ranges. Their answers are all
+/// `true`.
 pub type GroupRuns = Vec<Vec<Run<bool>>>;
 
 fn no_runs(alloc: Global, count: usize) -> Result<GroupRuns, NoMemory>
@@ -32,7 +33,7 @@ fn no_runs(alloc: Global, count: usize) -> Result<GroupRuns, NoMemory>
 }
 
 // Adds a stretch of new code to runs, unless the last one ends with it: a group is found once for each of its ranges
-// that holds an address.
+// that contain an address.
 fn stretch(runs: &mut Vec<Run<bool>>, start: u64, len: u64) -> Result<(), NoMemory>
     requires some { 0 < len }
     requires low { start + len < 2 ^ 64 }
@@ -90,7 +91,7 @@ fn add_run(lists: &mut GroupRuns, groups: &[usize], start: u64, len: u64) -> Res
     Ok(())
 }
 
-// The groups that hold an address, once for each of their ranges that does.
+// The groups that contain an address, once for each of their ranges that does.
 fn holders(alloc: Global, tree: &CoverTree, a: u64) -> Result<Vec<usize>, NoMemory>
     ensures { IfOk result (λ gs. gs.items ≡ spec.holders tree.now a) }
 {
@@ -99,7 +100,7 @@ fn holders(alloc: Global, tree: &CoverTree, a: u64) -> Result<Vec<usize>, NoMemo
     Ok(groups)
 }
 
-/// The runs of a group; none where there is no such group.
+/// The runs of a group; none if there is no such group.
 pub fn runs_in(lists: &[Vec<Run<bool>>], group: usize) -> &[Run<bool>]
     ensures { result.now ≡ runs_in lists.now group }
 {
@@ -109,8 +110,8 @@ pub fn runs_in(lists: &[Vec<Run<bool>>], group: usize) -> &[Run<bool>]
     }
 }
 
-// The runs of `count` groups, by stretches of new code; the answer of a stretch is an old address that stands for it.
-// `NoMemory` is answered, too, where groups hold too many stretches.
+// The runs of `count` groups, by stretches of new code. The answer of a stretch is the owner of one of its bytes. Gives
+// `NoMemory` also if groups contain too many stretches.
 fn group_runs(
     alloc: Global,
     tree: &CoverTree,
@@ -134,8 +135,9 @@ fn group_runs(
     Ok(lists)
 }
 
-/// Of each of `count` groups, by its number, the longest runs of new code whose owners its ranges hold. `bounds` has
-/// all starts and ends of these ranges, ascending, so that between two of them each group holds all addresses or none.
+/// For each of `count` groups, by its number, the longest runs of new code whose owners are in its ranges. `bounds` has
+/// all first addresses and ends of these ranges, ascending, so that each group contains all or no addresses between two
+/// neighbours.
 pub fn carried_groups(
     alloc: Global,
     tree: &CoverTree,

@@ -1,4 +1,4 @@
-// Groups of ranges that entries have.
+// Groups of ranges of entries.
 ghost use Rattle.std.specs.Prelude.{◌≡◌, ◌++◌, ◌+◌, ◌<◌, ◌^◌, IfOk, OnOk, map};
 ghost use Rattle.cover_lists.specs.Groups.{covers_in};
 ghost use Rattle.cover_lists.specs.ListPlaces.{located_of};
@@ -7,16 +7,16 @@ use crate::cover_tree::Cover;
 use crate::list_place::Place;
 use rb_bytes::fault::NoMemory;
 
-/// Groups of ranges, which are numbered from 0. Entries that name one list share its group.
+/// Groups of ranges, numbered from 0. Entries that refer to the same list share its group.
 #[derive(Drop)]
 pub struct Groups {
     /// The ranges of all groups, each with its group's number.
     pub covers: Vec<Cover>,
-    /// How many groups there are.
+    /// The number of groups.
     pub count: usize,
 }
 
-/// An entry that has ranges, and their group.
+/// An entry with ranges, and their group.
 #[derive(Clone, Copy)]
 pub struct RangedEntry {
     /// The entry's offset in `.debug_info`.
@@ -24,11 +24,11 @@ pub struct RangedEntry {
     pub group: usize,
     /// The offset of the own entry of its unit.
     pub own: u64,
-    /// The index by which it names its list, where it does so by one.
+    /// The index by which it refers to its list, if it does so.
     pub index: Option<u64>,
 }
 
-// Appends the ranges of a list, as ranges of group `group`; expressions without bounds have none.
+// Appends the ranges of a list, as ranges of group `group`. Expressions without bounds have none.
 fn put_covers(covers: &mut Vec<Cover>, group: usize, places: &[Place<'_>]) -> Result<(), NoMemory>
     ensures { OnOk result (covers.new.items ≡ covers.old.items ++ covers_in group (map located_of places.now)) }
 {
@@ -44,7 +44,7 @@ fn put_covers(covers: &mut Vec<Cover>, group: usize, places: &[Place<'_>]) -> Re
     Ok(())
 }
 
-/// Adds a group of the ranges of a list, and answers its number.
+/// Adds a group of the ranges of a list, and returns its number.
 pub fn add_group(groups: &mut Groups, places: &[Place<'_>]) -> Result<usize, NoMemory>
     ensures number { IfOk result (λ n. n ≡ groups.old.count) }
     ensures count { OnOk result (groups.new.count ≡ groups.old.count + 1) }

@@ -4,17 +4,17 @@ ghost use Rattle.cover_lists.specs.declared.cover_tree.Cover as spec;
 
 use crate::cover_tree::CoverTree;
 
-/// A location list, kept so that the expressions in force at an address are found by the bounds of its items.
+/// A location list. The expressions in force at an address are found by the bounds of its items.
 #[derive(Drop)]
 pub struct KeptList {
-    /// The bounds of its items, each with its item's number for a group.
+    /// The bounds of its items, each with the item's number as its group.
     pub tree: CoverTree,
-    /// The expression of each item, by its number; also of items without bounds.
+    /// The expression of each item, by its number, also of items without bounds.
     pub expressions: Vec<Vec<u8>>,
-    /// The expressions that are in force where no bounds hold the address.
+    /// The expressions that are in force if no bounds contain the address.
     pub defaults: Vec<Vec<u8>>,
-    /// How many items this list and those that were kept before it have together. Each 64 bytes of an expression count
-    /// as one more.
+    /// The number of items of this list and of those kept before it, together. Each 64 bytes of an expression count as
+    /// one more.
     pub size: usize,
     ghost numbered: { All (λ (c : spec.Cover). c.group < length expressions.items) tree },
 }

@@ -1,4 +1,4 @@
-// Location lists as they are kept.
+// Location lists that are kept.
 ghost use Rattle.std.specs.Prelude.{◌≡◌, ◌++◌, ◌∷◌, [], ℕ, IfOk, OnOk, length, map, filter, filter_map, option_map};
 ghost use Rattle.std.specs.List.{cons_option};
 ghost use Rattle.cover_lists.specs.Groups.{covers_for};
@@ -53,7 +53,7 @@ fn put_option(
     }
 }
 
-// Copies of the expressions of the items of some numbers.
+// Copies of the expressions of the items with some numbers.
 fn numbered_copies(
     alloc: Global,
     expressions: &[Vec<u8>],
@@ -85,7 +85,7 @@ fn put_cover(covers: &mut Vec<Cover>, number: usize, place: Place<'_>) -> Result
     }
 }
 
-// The bounds of items, each with its item's number; of items without bounds none.
+// The bounds of items, each with its item's number. Items without bounds have none.
 fn covers_of(alloc: Global, places: &[Place<'_>]) -> Result<Vec<Cover>, NoMemory>
     ensures { IfOk result (λ cs. cs.items ≡ numbered_covers 0 (map located_of places.now)) }
 {
@@ -126,10 +126,10 @@ fn defaults_of(alloc: Global, places: &[Place<'_>]) -> Result<Vec<Vec<u8>>, NoMe
     Ok(copies)
 }
 
-// How many bytes of an expression count as one more item.
+// The number of bytes of an expression that count as one more item.
 const BYTES_OF_ITEM: usize = 64;
 
-// The size of what was kept before, with that of a list's items.
+// The size of the lists before, with that of a list's items.
 fn size_with(places: &[Place<'_>], before: usize) -> usize {
     let mut size = before;
     for place in places {
@@ -140,7 +140,7 @@ fn size_with(places: &[Place<'_>], before: usize) -> usize {
     size
 }
 
-/// Keeps a location list. `before` is the size of the lists that were kept before it, to which its own is added.
+/// Keeps a location list. `before` is the size of the lists that were kept before, to which its own is added.
 pub fn keep_list(alloc: Global, places: &[Place<'_>], before: usize) -> Result<KeptList, NoMemory>
     ensures { IfOk result (λ l. Says l (map located_of places.now)) }
 {
@@ -157,7 +157,7 @@ pub fn keep_list(alloc: Global, places: &[Place<'_>], before: usize) -> Result<K
     })
 }
 
-// The numbers of the items whose ranges hold an address, ascending.
+// The numbers of the items whose ranges contain an address, ascending.
 fn bounded(alloc: Global, list: &KeptList, a: u64) -> Result<Vec<usize>, NoMemory>
     ensures { IfOk result (λ ks. ks.items ≡ bounded_numbers list.now.tree (length list.now.expressions.items) a) }
 {
@@ -168,7 +168,7 @@ fn bounded(alloc: Global, list: &KeptList, a: u64) -> Result<Vec<usize>, NoMemor
     Ok(numbers)
 }
 
-// The expressions that were found, or copies of the defaults where none were.
+// The expressions that were found, or copies of the defaults if none were.
 fn or_defaults(
     alloc: Global,
     found: Vec<Vec<u8>>,

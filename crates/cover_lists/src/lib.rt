@@ -1,4 +1,4 @@
-//! Ranges and location lists by the addresses that they hold, and the runs of new code that they have.
+//! Ranges and location lists by the addresses in them, and their runs of new code.
 #![tactic(auto)]
 
 pub mod bounds;

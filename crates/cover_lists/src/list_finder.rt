@@ -1,4 +1,4 @@
-// Which location lists may say something at an address.
+// The location lists that may have expressions in force at an address.
 ghost use Rattle.std.specs.Prelude.{◌≡◌, ◌++◌, ℕ, List, IfOk, OnOk};
 ghost use Rattle.cover_lists.specs.ListFinder.{IsFinder, numbered, list_covers, has_default, default_numbers};
 ghost use Rattle.cover_lists.specs.ListRuns.{AreCandidates, is_among};
@@ -10,10 +10,10 @@ use crate::kept_list::KeptList;
 use rb_bytes::fault::NoMemory;
 use std::alloc::Global;
 
-/// Location lists by the addresses that the bounds of their items hold.
+/// Location lists by the addresses in the bounds of their items.
 #[derive(Drop)]
 pub struct ListFinder {
-    /// The bounds of the items of all lists, each with its list's number for a group.
+    /// The bounds of the items of all lists, each with the list's number as its group.
     tree: CoverTree,
     /// The numbers of the lists that have expressions without bounds.
     unbounded: Vec<usize>,
@@ -52,7 +52,7 @@ fn unbounded_of(alloc: Global, lists: &[KeptList]) -> Result<Vec<usize>, NoMemor
 }
 
 impl ListFinder {
-    /// A finder of some lists, which are numbered from 0.
+    /// A finder for lists, which are numbered from 0.
     pub fn new(alloc: Global, lists: &[KeptList]) -> Result<ListFinder, NoMemory>
         ensures { IfOk result (λ f. IsFinder lists.now f) }
     {
@@ -63,7 +63,7 @@ impl ListFinder {
         Ok(ListFinder { tree, unbounded })
     }
 
-    /// The numbers of the lists that may say something at an address, ascending.
+    /// The numbers of the lists that may have expressions in force at an address, ascending.
     pub fn find(&self, alloc: Global, a: u64) -> Result<Vec<usize>, NoMemory>
         ensures { (lists : List kept.KeptList) → IsFinder lists self.now →
             IfOk result (λ ns. AreCandidates lists a ns.items) }

@@ -1,4 +1,4 @@
-// The runs of new code at each of whose bytes a location list says the same.
+// The runs of new code in each of which a location list has the same expressions in force.
 ghost use Rattle.std.specs.Prelude.{◌≡◌, ◌≢◌, ◌+◌, ◌-◌, ◌<◌, ◌^◌, [], ℕ, Some, IsTrue, IsFalse, IfOk, OnOk, length};
 ghost use Rattle.answer_runs.specs.AnswerRuns.{said_runs, IsWithin, AreLongest};
 ghost use Rattle.answer_runs.specs.LastRuns as last;
@@ -18,10 +18,10 @@ use answer_runs::{Run, ends_at, lengthen};
 use rb_bytes::fault::NoMemory;
 use std::alloc::Global;
 
-/// A stretch of new code at each byte of which a list has the same expressions in force.
+/// A stretch of new code in which a list has the same expressions in force.
 pub type ListRun = Run<Vec<Vec<u8>>>;
 
-// Whether there is a last run, and it has the answer.
+// Whether there is a last run, and it has this answer.
 fn ends_with(runs: &[ListRun], answer: &[Vec<u8>]) -> bool
     ensures has { IsTrue result → last.IsAnswer (Some (items_in answer.now)) (said_runs spec.said runs.now) }
     ensures lacks { IsFalse result → last.IfLast (λ r. r.answer ≢ items_in answer.now) (said_runs spec.said runs.now) }
@@ -73,11 +73,10 @@ fn put_answer(
     }
 }
 
-// How many times as much as an answer each expression beside the first one costs. Each is copied, and mostly there is
-// one.
+// The cost of each expression after the first one, in answers. Each is copied, and usually there is one.
 const COST_OF_MORE: usize = 16;
 
-// How many bytes of an expression cost as much as an answer.
+// The number of bytes of an expression that cost as much as an answer.
 const BYTES_OF_COST: usize = 16;
 
 fn cost_of(answer: &[Vec<u8>]) -> usize {
@@ -89,8 +88,8 @@ fn cost_of(answer: &[Vec<u8>]) -> usize {
     cost
 }
 
-// Adds a stretch of bytes to the runs of a list, if the list says anything at `a`, the stretch's owner. `asked` is what
-// all answers cost so far; `NoMemory` is answered, too, where that becomes too much.
+// Adds a stretch of bytes to the runs of a list, if the list has an answer at `a`, the stretch's owner. `asked` is the
+// cost of all answers so far. Gives `NoMemory` also if that becomes too high.
 fn add_list(
     alloc: Global,
     lists: &[KeptList],
@@ -120,7 +119,7 @@ fn add_list(
     put_answer(&mut runs[number], start, len, answer)
 }
 
-// Adds a stretch of bytes to the runs of the lists of some numbers, which ascend.
+// Adds a stretch of bytes to the runs of the lists with these numbers, which ascend.
 fn add_lists(
     alloc: Global,
     lists: &[KeptList],
@@ -156,8 +155,8 @@ fn no_runs(alloc: Global, count: usize) -> Result<Vec<Vec<ListRun>>, NoMemory>
     Ok(runs)
 }
 
-/// Of each list, by its number, the longest runs at whose bytes it says the same, by stretches of new code; the answer
-/// of a stretch is an old address that stands for it.
+/// For each list, by its number, the longest runs with the same expressions in force, by stretches of new code. The
+/// answer of a stretch is the owner of one of its bytes.
 pub fn list_runs(
     alloc: Global,
     lists: &[KeptList],

@@ -13,10 +13,10 @@ use answer_runs::RUN_WEIGHT;
 use rb_bytes::fault::NoMemory;
 use std::alloc::Global;
 
-// What an expression weighs beside its bytes.
+// The weight of an expression without its bytes.
 const EXPRESSION_WEIGHT: u64 = 16;
 
-// The weight of some expressions, or the greatest number where it is none of 64 bits.
+// The weight of expressions, saturated at 2^64 - 1.
 fn copies_weight(copies: &[Vec<u8>]) -> u64
     ensures { result ≡ min (spec.copies_weight copies.now) (2 ^ 64 - 1) }
 {
@@ -27,7 +27,7 @@ fn copies_weight(copies: &[Vec<u8>]) -> u64
     weight
 }
 
-/// The weight of the runs of a list, or the greatest number where it is none of 64 bits.
+/// The weight of the runs of a list, saturated at 2^64 - 1.
 pub fn list_weight(runs: &[ListRun]) -> u64
     ensures { result ≡ min (spec.list_weight runs.now) (2 ^ 64 - 1) }
 {
@@ -38,7 +38,7 @@ pub fn list_weight(runs: &[ListRun]) -> u64
     weight
 }
 
-// The weight of the runs of some lists, or the greatest number where it is none of 64 bits.
+// The weight of the runs of lists, saturated at 2^64 - 1.
 fn total_weight(lists: &[Vec<ListRun>]) -> u64
     ensures { result ≡ min (spec.total_weight lists.now) (2 ^ 64 - 1) }
 {
@@ -49,7 +49,7 @@ fn total_weight(lists: &[Vec<ListRun>]) -> u64
     weight
 }
 
-/// The weight of what some lists say at the owners of new bytes, or the greatest number where it is none of 64 bits.
+/// The weight of the expressions of lists at the owners of new bytes, saturated at 2^64 - 1.
 pub fn lists_weight(alloc: Global, lists: &[KeptList], map: &AddrMap) -> Result<u64, NoMemory>
     requires ordered { AllPairs IsLineBefore map.now }
     requires disjoint { AllPairs ShareNoByte map.now }

@@ -1,4 +1,4 @@
-// The weight of the runs of entries that have ranges.
+// The weight of the runs of entries with ranges.
 ghost use Rattle.std.specs.Prelude.{◌≡◌, ◌*◌, ◌-◌, ◌^◌, length, min, sum_by};
 ghost use Rattle.answer_runs.specs.Weights.{run_weight};
 ghost use Rattle.cover_lists.specs.GroupRuns as spec;
@@ -15,7 +15,7 @@ fn entry_weight(entry: RangedEntry, lists: &[Vec<Run<bool>>]) -> u64
     (runs.len() as u64).saturating_mul(RUN_WEIGHT)
 }
 
-/// The weight of the runs of some entries, by those of their groups; the greatest number where it is none of 64 bits.
+/// The weight of the runs of entries, by the runs of their groups, saturated at 2^64 - 1.
 pub fn runs_weight(ranged: &[RangedEntry], lists: &[Vec<Run<bool>>]) -> u64
     ensures { result ≡ min (sum_by (λ r. run_weight * length (spec.runs_in lists.now r.group)) ranged.now)
         (2 ^ 64 - 1) }

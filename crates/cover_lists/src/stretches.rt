@@ -1,4 +1,4 @@
-// Stretches of new code between whose owners no range starts or ends, so that no group or list changes in one.
+// Stretches of new code between whose owners no range begins or ends, so that no group or list changes in one.
 ghost use Rattle.std.specs.Prelude.{◌≡◌, ◌≢◌, ◌<◌, ◌+◌, ◌-◌, ◌^◌, AllPairs, Some, IfOk, OnOk, IsTrue, IsFalse};
 ghost use Rattle.std.specs.List.Sorted.{IsNonDecreasing};
 ghost use Rattle.addr_map.specs.MapText.{IsLineBefore};
@@ -14,7 +14,7 @@ use answer_runs::{Run, ends_at, lengthen};
 use rb_bytes::fault::NoMemory;
 use std::alloc::Global;
 
-// How many bounds are at most `a`, with `near` for a guess: `count_near`, with the clause that callers need.
+// The number of bounds that are at most `a`, with `near` as a guess: `count_near`, with the clause that callers need.
 fn bounds_before(bounds: &[u128], near: usize, a: u64) -> usize
     requires { IsNonDecreasing bounds.now }
     ensures { result ≡ bounds_before bounds.now a }
@@ -22,8 +22,8 @@ fn bounds_before(bounds: &[u128], near: usize, a: u64) -> usize
     count_near(bounds, near, a)
 }
 
-// Whether no bound lies between `a` and the owner of the last stretch. `near` is a guess how many bounds are at most
-// that owner, and becomes how many are at most `a`.
+// Whether no bound is between `a` and the owner of the last stretch. `near` is a guess of the number of bounds that are
+// at most that owner, and becomes the number for `a`.
 fn goes_on(bounds: &[u128], stretches: &[Run<u64>], near: &mut usize, a: u64) -> bool
     requires { IsNonDecreasing bounds.now }
     ensures has { IsTrue result → last.IsAnswer (Some (bounds_before bounds.now a))
@@ -69,8 +69,8 @@ fn add_span(
     Ok(())
 }
 
-/// The longest stretches of new code between the owners of whose bytes no bound lies; the answer of each is the owner
-/// of one of its bytes, which stands for all.
+/// The longest stretches of new code between whose owners no bound is. The answer of each is the owner of one of its
+/// bytes.
 pub fn stretches_of(
     alloc: Global,
     bounds: &[u128],

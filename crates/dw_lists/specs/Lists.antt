@@ -87,7 +87,7 @@ end_of_table w = option_map (λ bytes. w.place + 4 + length bytes) w.bytes
 abbrev pub list_end : List ℕ → ℕ → ℕ
 list_end section at = unwrap_or (option_and_then end_of_table (table_below at (walked 5 section))) (length section)
 
--- The offset in the table of offsets with this index. It counts from the begin of the offsets.
+-- The offset in the table of offsets with this index. It counts from the start of the offsets.
 abbrev pub offset_of_index : Kind → List ℕ → Unit → ℕ → Option ℕ
 offset_of_index k section u index =
     option_and_then (λ b. option_map (λ n. b + n) (number_in 4 (b + 4 * index) section)) (base k.base_name u)

@@ -50,7 +50,7 @@ text_of s e a =
     else (if a.form == DW_FORM_line_strp then text_in s.line_str a.value
     else (if is_text_index a.form then text_of_index s e a.value else None)))
 
--- The offset that a reference gives: in the section, or from the unit's begin.
+-- The offset that a reference gives: in the section, or from the unit's start.
 abbrev pub target_of : Entry → Attr → Option ℕ
 target_of e a =
     if a.form == DW_FORM_ref_addr then Some a.value

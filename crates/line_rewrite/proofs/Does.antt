@@ -97,7 +97,7 @@ does_sound coding files last r (op ∷ ops) (x ∷ rows) t more (appends is afte
 
 -- The operations of a row
 
--- Registers at the begin of a sequence, or after a row.
+-- Registers at the start of a sequence, or after a row.
 pub record IsFresh (r : Registers) : Type 0 where
   pub block : r.basic_block ≡ false
   pub prologue : r.prologue_end ≡ false

@@ -30,7 +30,7 @@ pub struct Due {
 /// A sequence of a program.
 #[derive(Drop)]
 pub struct KeptSequence {
-    /// The offset in the program of its begin.
+    /// The offset in the program of its start.
     pub place: usize,
     /// The address of its first row; its end, if it has none.
     pub low: u64,

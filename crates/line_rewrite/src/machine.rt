@@ -8,7 +8,7 @@ use crate::effect::Effect;
 use crate::operation::LineOp;
 use crate::registers::Registers;
 
-/// The registers at the begin of a sequence.
+/// The registers at the start of a sequence.
 pub fn start(coding: &Coding) -> Registers
     ensures { result ≡ start coding.now }
 {

@@ -22,7 +22,7 @@ left_by : {X E : Type 0} → List ℕ → Result (X × List ℕ) E → List ℕ
 left_by d (Ok read) = read.1
 left_by d (Err e) = d
 
--- two readings that are equal gave the same and left the same
+-- Two equal readings gave the same value and left the same bytes.
 pub same_value : {X E : Type 0} (a c : X) (b d : List ℕ) → ◌≡◌ {A = Result (X × List ℕ) E} (Ok (a, b)) (Ok (c, d)) → a ≡ c
 unfolding value_by
 same_value {X = X} {E = E} a c b d e = ap (λ (r : Result (X × List ℕ) E). value_by a r) e

@@ -1,4 +1,4 @@
--- A unit that is written is walked to.
+-- A written unit is found by the walk.
 use Rattle.std.proofs.Common.{ℕ, zero, suc, ◌+◌, ◌-◌, ◌^◌, ◌≤◌, ◌<◌, ◌≡◌, ◌==◌, List, [], ◌∷◌, ◌++◌, Some, leb, ◌&&◌, ◌||◌, true, false}
 use Rattle.std.proofs.Common.{refl, sym, ◌∙◌, ap, arith, length, take, drop, append_assoc, length-append}
 use Rattle.std.specs.Prelude.{not, All}
@@ -11,7 +11,7 @@ use Rattle.byteorder.specs.Numbers.{little_number-reads_back, length-bytes_low_f
 use Rattle.table_core.specs.DebugUnits.{units_from}
 use Rattle.table_core.specs.WrittenUnits.{units_bytes, walked_units, IsUnit}
 
--- the tests of a unit at the front, by the numbers that they are of
+-- The tests of a unit at the front, by the numbers tested.
 tests_whole : (d size : ℕ) → d + 4 ≤ size → d < 2 ^ 32 - 1 → (leb 4 size && not (d == 2 ^ 32 - 1) && leb (d + 4) size) ≡ true
 tests_whole d size inside small = grind (arith, nat_tests, common_steps)
 
@@ -56,7 +56,7 @@ behind h b rest n version place four is other some small =
     (ap (take (length b)) d4 ∙ take_at b rest (length b) refl)
     ∙ ap (λ left. record { place = place; bytes = Some b; is_other = false } ∷ units_from n version (place + (length b + 4)) left) rest_is
 
--- a unit that is written behind its length
+-- A unit that is written after its length.
 pub unit-back : (b rest : List ℕ) (n version place : ℕ) → little_number 2 (b ++ rest) ≡ version → 2 ≤ length b → length b < 2 ^ 32 - 1
     → units_from (suc n) version place (little_bytes 4 (length b) ++ (b ++ rest))
     ≡ record { place = place; bytes = Some b; is_other = false } ∷ units_from n version (place + (length b + 4)) rest
@@ -69,7 +69,7 @@ two-front [] ys some = absurd (omega arith)
 two-front (x ∷ []) ys some = absurd (omega arith)
 two-front (x ∷ y ∷ xs) ys some = refl
 
--- lists that begin with the same four bytes begin with one number of two bytes
+-- Lists with the same first four bytes begin with the same number of two bytes.
 pub same-front : (lead xs ys : List ℕ) → length lead ≡ 4 → little_number 2 (lead ++ xs) ≡ little_number 2 (lead ++ ys)
 same-front lead xs ys e = two-front lead xs (omega (arith, e)) ∙ sym (two-front lead ys (omega (arith, e)))
 

@@ -1,4 +1,4 @@
--- Units that are walked one after another.
+-- Units that are found one after another.
 use Rattle.std.proofs.Common.{◌≡◌, ◌∙◌, ◌+◌, ◌-◌, ◌<◌, ◌≤◌, ◌++◌, ℕ, zero, suc, Bool, true, false, List, [], ◌∷◌, refl, sym, ap, arith}
 use Rattle.std.proofs.Common.{length, drop, append_assoc}
 use Rattle.std.specs.Prelude.{if◌then◌else◌, ◌&&◌, ◌==◌, not, nat_le}
@@ -7,7 +7,7 @@ use Rattle.std.proofs.lemmas.Bool.{leb-true}
 use Rattle.rb_bytes.proofs.Tests.{less_one, second_of}
 use Rattle.table_core.specs.DebugUnits.{Walked, units_from, unit_bytes, unit_length, is_other_version, is_whole_unit, DWARF64}
 
--- a unit that is whole is all there
+-- A whole unit is in the bytes.
 pub whole_fits : (left : List ℕ) → is_whole_unit left ≡ true → unit_length left + 4 ≤ length left
 whole_fits left e =
     leb-true (unit_length left + 4) (length left)

@@ -13,11 +13,11 @@ use std::marker::Model;
 pub struct DebugUnit<'a> {
     /// The offset of its length in the section.
     pub place: u64,
-    /// The bytes behind its length, from the version on; none where they don't lie whole in the section, or are too few
-    /// for a version.
+    /// The bytes after its length, from the version on; none if not all are in the section, or there are too few for a
+    /// version.
     pub bytes: Option<&'a [u8]>,
-    /// Whether it is of the 64-bit format or of another version than the one that is read. This is told by what stands
-    /// in the section, also where the unit isn't whole.
+    /// Whether it is of the 64-bit format or of another version than the one that is read. This depends on the bytes in
+    /// the section, even if the unit isn't whole.
     pub is_other: bool,
 }
 
@@ -30,10 +30,10 @@ impl<'a> Model for DebugUnit<'a> {
     ghost view = { λ u. record { place = u.place; bytes = option_map (λ b. b.now) u.bytes; is_other = u.is_other } };
 }
 
-// The length that says that a unit is of the 64-bit format.
+// The length that begins a unit of the 64-bit format.
 const DWARF64: u32 = 0xffff_ffff;
 
-// The bytes behind the length of the unit at the front, where they are whole and have room for a version.
+// The bytes after the length of the unit at the front, if they are whole and have room for a version.
 fn unit_bytes(left: &[u8]) -> Option<&[u8]>
     ensures { option_map (λ b. b.now) result ≡ unit_bytes left.now }
 {
@@ -67,7 +67,7 @@ fn is_other_version(version: u16, left: &[u8]) -> bool
     LittleEndian::read_u16(behind) != version
 }
 
-// What stands behind the unit at the front, where the unit is whole, be it too short for a version.
+// The bytes after the unit at the front, if the unit is whole; it may be too short for a version.
 fn behind_unit(left: &[u8]) -> Option<&[u8]>
     ensures is { MatchOption result (is_whole_unit left.now ≡ false)
         (λ rest. (is_whole_unit left.now ≡ true) × (rest.now ≡ drop (unit_length left.now + 4) left.now)) }
@@ -98,8 +98,8 @@ fn unit_at<'a>(version: u16, place: u64, left: &'a [u8]) -> DebugUnit<'a>
     }
 }
 
-/// The units of a section, in order, with what tells whether they are of `version`. The walk ends behind the first
-/// one that isn't whole, which is the last of the list.
+/// The units of a section, in order, each with whether it is of `version`. The walk ends after the first unit that
+/// isn't whole, which is the last of the list.
 pub fn debug_units<'a>(
     alloc: Global,
     version: u16,
@@ -110,7 +110,7 @@ pub fn debug_units<'a>(
     let mut units = Vec::new(alloc);
     let mut left = section;
     let mut place: u64 = 0;
-    // Each unit takes a byte at least. `count` isn't read: it bounds the loop.
+    // Each unit has at least one byte. `count` isn't read: it bounds the loop.
     for count in 0..section.len() {
         if left.is_empty() {
             return Ok(units);
@@ -125,7 +125,7 @@ pub fn debug_units<'a>(
     Ok(units)
 }
 
-/// The offset of the unit of a number, counted from 0.
+/// The offset of unit `number`, counted from 0.
 pub fn place_of(units: &[DebugUnit<'_>], number: usize) -> u64
     requires { number < length units.now }
     ensures { (w : Walked) → slice_get units.now number ≡ Some w → result ≡ w.place }

@@ -1,4 +1,4 @@
-// What the sections with tables hold. gABI, "Section Header".
+// The contents of sections with tables. gABI, "Section Header".
 ghost use Rattle.std.specs.Prelude.{◌≡◌, ◌==◌, if◌then◌else◌, [], take, drop};
 ghost use Rattle.elf_image.specs.declared.section.TheConstants.{SHT_NOBITS};
 ghost use Rattle.table_core.specs.Sections.{held, bytes_of};
@@ -13,7 +13,7 @@ pub struct Held<'a> {
     pub address: u64,
 }
 
-/// What the section that a name means holds; where there is none, nothing, at address 0.
+/// The contents of the section with a name; none, at address 0, if there is no such section.
 pub fn held_by<'a>(elf: &Elf<'a>, name: &[u8]) -> Held<'a>
     ensures { record { bytes = result.bytes.now; address = result.address } ≡ held elf.now name.now }
 {
@@ -29,7 +29,7 @@ pub fn held_by<'a>(elf: &Elf<'a>, name: &[u8]) -> Held<'a>
     }
 }
 
-// The contents of a section; one of type SHT_NOBITS has none in the file.
+// The contents of a section. A section of type SHT_NOBITS has none in the file.
 fn contents(file: &[u8], kind: u32, offset: u64, size: u64) -> &[u8]
     ensures { result.now ≡ (if kind == SHT_NOBITS then [] else take size (drop offset file.now)) }
 {
@@ -39,7 +39,7 @@ fn contents(file: &[u8], kind: u32, offset: u64, size: u64) -> &[u8]
     piece(file, offset, size)
 }
 
-// The `size` bytes from an offset on, or those of them that the file has.
+// The `size` bytes from an offset on, as far as the file has them.
 fn piece(file: &[u8], offset: u64, size: u64) -> &[u8]
     ensures { result.now ≡ take size (drop offset file.now) }
 {
@@ -48,7 +48,7 @@ fn piece(file: &[u8], offset: u64, size: u64) -> &[u8]
     bytes
 }
 
-/// The contents of the section that a name means, or no bytes where there is none.
+/// The contents of the section with a name; no bytes if there is no such section.
 pub fn contents_of<'a>(elf: &Elf<'a>, name: &[u8]) -> &'a [u8]
     ensures { result.now ≡ bytes_of elf.now name.now }
 {

@@ -19,33 +19,33 @@ use elf_image::elf::Elf;
 use rb_bytes::fault::{NoMemory, Refusal};
 use std::alloc::Global;
 
-/// What a table answers by address, and the terms in which its law speaks: they stand below the functions that write
-/// it, so that its weight can be found from runs of its own answers.
+/// The answers of a table by address, and the terms of its law. They are apart from the functions that write the table,
+/// so that its weight can be found from runs of its own answers.
 pub trait ByAddress: Drop {
     /// An answer, never an empty one.
     type Answer: Drop;
 
-    /// What an answer says, whatever memory it owns.
+    /// The contents of an answer, without the memory that it owns.
     ghost Meaning: { Type 0 };
 
     ghost said: { Self.Answer → Meaning };
 
-    /// What is said at an address.
+    /// The answer at an address.
     ghost says: { Self → ℕ → Option Meaning };
 
-    /// What the table in a file says at an address; none where the file has a fault of the table.
+    /// The answers of the table in a file, by address; none if the file has a fault of the table.
     ghost means: { Elf → Option (ℕ → Option Meaning) };
 
     /// The places of the faults that reading the table looks for, by their kind.
     ghost has: { Elf → FaultKind → ℕ → Type 0 };
 
-    /// The table may have been read from a file: the file has the same sections and, where these matter, the same cuts.
+    /// The table may have been read from a file: the file has the same sections and, if they matter, the same cuts.
     ghost comes_from: { Self → Elf → Type 0 };
 
-    /// The maps under which the table can be written anew.
+    /// The maps for which the table can be written.
     ghost allows: { Self → List Span → Type 0 };
 
-    /// A table that was written for an input and a map stands in a file.
+    /// The file contains the table that was written for an input and a map.
     ghost stands: { Elf → List Span → Written → Elf → Type 0 };
 
     /// The second answer, of the new table, is the first, of the old one, carried by a map.
@@ -54,18 +54,18 @@ pub trait ByAddress: Drop {
     /// A weight of the table that would be written for a map.
     ghost weighs: { Self → List Span → ℕ → Type 0 };
 
-    /// What has to hold for the table to be written with numbers of 32 bits: its sections are no larger than a file
-    /// may be, and its weight, or for a loaded table the end of what is written, is within its limit.
+    /// The conditions for writing the table with numbers of 32 bits: its sections are no larger than a file may be, and
+    /// its weight, or for a loaded table the end of the written bytes, is within its limit.
     ghost fits: { Self → List Span → List (Run Meaning) → Type 0 };
 
-    /// What is said of a table that was written of runs, whatever file it will stand in: how many bytes it has, which
-    /// lists are in it, and what is read of its bytes alone.
+    /// Properties of a table that was written from runs, in any file: the number of its bytes, the lists in it, and the
+    /// result of reading its bytes.
     ghost makes: { Self → List Span → List (Run Meaning) → Written → Type 0 };
 
-    /// What a file in which the table stands keeps of the input besides answers.
+    /// What a file that contains the table keeps of the input besides answers.
     ghost keeps: { Elf → Elf → Type 0 };
 
-    /// Whether two answers say the same.
+    /// Whether two answers are equal.
     fn same(x: &Self::Answer, y: &Self::Answer) -> bool
         ensures { IsTrue result ↔ (said x.now ≡ said y.now) };
 
@@ -73,36 +73,37 @@ pub trait ByAddress: Drop {
     fn at(&self, alloc: Global, a: u64) -> Result<Option<Self::Answer>, NoMemory>
         ensures { IfOk result (λ o. option_map said o ≡ says self.now a) };
 
-    /// About how many bytes of memory an answer takes, with its run and all that it owns; 0 where the table sets no
-    /// bound.
+    /// The memory of an answer, in bytes or a few more, with its run and all that it owns; 0 if the table has no limit.
     fn size(_answer: &Self::Answer) -> usize {
         0
     }
 
-    /// About how many bytes of memory the answers may take together that are asked for where the table is carried.
+    /// The limit of memory, in bytes, of all answers that are asked for when the table is carried.
     fn most_size(&self) -> usize {
         usize::MAX
     }
 
-    /// Whether two addresses certainly have the same answer. `false` says nothing: it is the answer, too, where telling
-    /// would take as long as looking both up.
+    /// Whether two addresses certainly have the same answer. `false` has no meaning: it is also the result if finding
+    /// out would take as long as looking both up.
     fn alike(&self, a: u64, b: u64) -> bool
         ensures { IsTrue result → says self.now a ≡ says self.now b };
 
-    /// Whether the table certainly answers at no address, as one that its file doesn't have. `false` says nothing.
+    /// Whether the table certainly has no answer at any address, such as a table that its file doesn't have. `false`
+    /// has no meaning.
     fn is_silent(&self) -> bool
         ensures { IsTrue result → (a : ℕ) → says self.now a ≡ None }
     {
         false
     }
 
-    /// A map that is allowed has no byte at the last address, so each run ends below 2 ^ 64.
+    /// A map that is allowed has no byte at the last address, so each run ends below 2^64.
     ghost is_low: { (t : Self) (spans : List Span) → allows t spans → AreLow spans };
 }
 
-/// A table of a file that answers by address, and that can be written anew for moved code.
+/// A table of a file that answers by address, and that can be written for moved code.
 ///
-/// The law is the clause `law` of `write_runs`. Whoever writes the file owes that the written table stands in it.
+/// The law is the clause `law` of `write_runs`. Code that writes the file must prove that the file contains the written
+/// table.
 pub trait AddrTable: ByAddress {
     /// Reads the table, or refuses the file for the table's first fault.
     fn read(alloc: Global, elf: &Elf) -> Result<Self, Refusal>
@@ -112,8 +113,7 @@ pub trait AddrTable: ByAddress {
             (λ e. IsRefusalBy (Self.has elf.now) e) }
         ensures comes { IfOk result (λ t. Self.comes_from t elf.now) };
 
-    /// The weight of the table that would be written for a map, by which its size is limited; or the greatest number,
-    /// where the weight is none of 64 bits.
+    /// The weight of the table that would be written for a map, which bounds its size, saturated at 2^64 - 1.
     fn weight(&self, alloc: Global, map: &AddrMap) -> Result<u64, NoMemory>
         requires ordered { AllPairs IsLineBefore map.now }
         requires disjoint { AllPairs ShareNoByte map.now }
@@ -121,7 +121,7 @@ pub trait AddrTable: ByAddress {
         ensures { IfOk result (λ n. (weight : ℕ) × Self.weighs self.now map.now weight
             × (n ≡ min weight (2 ^ 64 - 1))) };
 
-    /// Writes the table anew, of runs that have the old answers at the owners of their bytes.
+    /// Writes the table from runs that have the old answers at the owners of their bytes.
     fn write_runs(
         &self,
         alloc: Global,

@@ -22,7 +22,7 @@ pub fn number<'a>(cursor: &mut Cursor<'a>, size: u8) -> Result<u64, Gap>
     Ok(LittleEndian::read_uint(bytes, size as usize))
 }
 
-// A signed number, as one modulo 2 ^ 64.
+// A signed number, modulo 2^64.
 fn signed<'a>(cursor: &mut Cursor<'a>) -> Result<u64, Gap>
     ensures read { IfOk result (λ x. signed_at cursor.old.left ≡ Ok (x, cursor.new.left)) }
     ensures gap { IfErr result (λ gap. signed_at cursor.old.left ≡ Err gap) }
@@ -32,7 +32,7 @@ fn signed<'a>(cursor: &mut Cursor<'a>) -> Result<u64, Gap>
     Ok(number.cast_unsigned())
 }
 
-// Passes bytes behind their count, which has `size` bytes.
+// Skips bytes after their number, which has `size` bytes.
 fn block<'a>(cursor: &mut Cursor<'a>, size: u8) -> Result<u64, Gap>
     requires { IsTrue (is_size size) }
     ensures read { IfOk result (λ x. block_at size cursor.old.left ≡ Ok (x, cursor.new.left)) }
@@ -44,7 +44,7 @@ fn block<'a>(cursor: &mut Cursor<'a>, size: u8) -> Result<u64, Gap>
     Ok(0)
 }
 
-// Passes bytes behind their count in LEB128.
+// Skips bytes after their number in LEB128.
 fn leb_block<'a>(cursor: &mut Cursor<'a>) -> Result<u64, Gap>
     ensures read { IfOk result (λ x. leb_block_at cursor.old.left ≡ Ok (x, cursor.new.left)) }
     ensures gap { IfErr result (λ gap. leb_block_at cursor.old.left ≡ Err gap) }
@@ -55,8 +55,8 @@ fn leb_block<'a>(cursor: &mut Cursor<'a>) -> Result<u64, Gap>
     Ok(0)
 }
 
-/// Reads the value of a shape at the front. Text, blocks and bytes that are no number are passed, and count as 0; a
-/// signed number is taken modulo 2^64; `implicit` is the value that stands in the declaration.
+/// Reads the value of a shape at the front. Text, blocks and bytes that are no number are skipped, and give 0. A signed
+/// number is taken modulo 2^64. `implicit` is the value in the declaration.
 pub fn value<'a>(cursor: &mut Cursor<'a>, implicit: u64, shape: Shape) -> Result<u64, Gap>
     requires { IsTrue (is_readable shape) }
     ensures read { IfOk result (λ x. gap_value_at implicit shape cursor.old.left ≡ Ok (x, cursor.new.left)) }
@@ -78,7 +78,7 @@ pub fn value<'a>(cursor: &mut Cursor<'a>, implicit: u64, shape: Shape) -> Result
         Shape::Block(size) => block(cursor, size),
         Shape::LebBlock => leb_block(cursor),
         Shape::Implicit => Ok(implicit),
-        // The form stands before the value, and has to be looked up first.
+        // The form precedes the value, and has to be read first.
         Shape::Indirect => Err(Gap::Short),
     }
 }

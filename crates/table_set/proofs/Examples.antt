@@ -1,4 +1,4 @@
--- Two line units of no contents, at 0 and 6, of which the second one moves to 10.
+-- Two line units without contents, at 0 and 6. The second one moves to 10.
 use Rattle.std.proofs.Common.{◌≡◌, ℕ, List, [], ◌∷◌, refl}
 use Rattle.table_core.specs.declared.written.TheConstants.{DW_AT_stmt_list}
 use Rattle.table_core.specs.declared.written.ListAt.{ListAt}
@@ -27,7 +27,7 @@ second_unit : unit_number sections 6 ≡ 1
 unfolding section units_from
 second_unit = refl
 
--- the number of units is that of none
+-- The number of units means none.
 no_unit : unit_number sections 4 ≡ 2
 unfolding section units_from
 no_unit = refl
@@ -35,6 +35,6 @@ no_unit = refl
 moved_offset : new_line_offset lists 6 ≡ 10
 moved_offset = refl
 
--- what named none gets an offset that names none
+-- An offset of no unit becomes such an offset.
 no_offset : new_line_offset lists 4 ≡ 0xffffffff
 no_offset = refl

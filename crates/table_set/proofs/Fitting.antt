@@ -1,4 +1,4 @@
--- Tables of a file that isn't too long, and that wouldn't weigh too much, can be written anew.
+-- Tables of a file that isn't too long, and that wouldn't weigh too much, can be written.
 use Rattle.std.proofs.Common.{◌≡◌, ap, subst, sym, refl, ℕ, ◌+◌, ◌*◌, ◌≤◌, ◌<◌, List, [], ◌∷◌, Option, Some, None, Bool, true, false, cond}
 use Rattle.std.proofs.Common.{length, take, drop, arith, length-take, length-drop}
 use Rattle.std.specs.Prelude.{◌==◌, codes, sum_by}
@@ -27,7 +27,7 @@ use Rattle.table_set.specs.AllTables.{AllComeFrom}
 use Rattle.table_set.specs.TableLimits.{IsTooHeavy, aranges, lines, places, ranges}
 use Rattle.table_set.specs.declared.all.AllTables.{AllTables}
 
--- a section isn't longer than its file
+-- A section isn't longer than its file.
 held_length : (file : List ℕ) (o : Option Section) → length (held_by file o).bytes ≤ length file
 held_length file None = omega arith
 held_length file (Some s) = by (s.kind == SHT_NOBITS)
@@ -39,11 +39,11 @@ held_length file (Some s) = by (s.kind == SHT_NOBITS)
         let left = length-drop s.offset file in
         omega (arith, taken, left)
 
--- a weight that doesn't pass the limit is within it
+-- A weight that isn't above the limit is within it.
 within : (n : ℕ) → (weight_limit < n → ⊥) → n ≤ weight_limit
 within n none = omega (arith, none)
 
--- runs that weigh the same each
+-- Runs that weigh the same each.
 sum_same : {A : Type 0} (rs : List (Run A)) → sum_by (λ (r : Run A). run_weight + 0) rs ≡ run_weight * length rs
 sum_same {A} [] = refl
 sum_same {A} (r ∷ rs) =

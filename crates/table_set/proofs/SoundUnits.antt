@@ -1,4 +1,4 @@
--- Where no table has a fault, units have none.
+-- If no table has a fault, units have none.
 use Rattle.std.proofs.Common.{◌≡◌, ℕ, Option, Some, None, refl}
 use Rattle.std.specs.Option.{option_or}
 use Rattle.rb_bytes.specs.FirstFault.{IsFree}

@@ -1,4 +1,4 @@
--- A weight of a written table is one number, so a table whose weight was found to be within the limit has no other.
+-- A written table has only one weight, so if a weight is within the limit, no other is above it.
 use Rattle.std.proofs.Common.{◌≡◌, ℕ, ◌+◌, ◌-◌, ◌*◌, ◌^◌, ◌<◌, List, [], ◌∷◌, length, refl, subst, min, arith}
 use Rattle.addr_map.specs.declared.span.Span.{Span}
 use Rattle.answer_runs.specs.AnswerRuns.{carried}
@@ -17,7 +17,7 @@ use Rattle.range_loc_rewrite.specs.ListWeights.{expressions_weight, none, more}
 use Rattle.addr_rewrite.specs.Aranges.{unit_at}
 use Rattle.addr_rewrite.specs.Tables.{IsArangesWeight}
 
--- a sum is one number where each weight is
+-- There is only one sum, if there is only one weight of each element.
 only_sum : {X : Type 0} (Weighs : X → ℕ → Type 0) → ((x : X) (n m : ℕ) → Weighs x n → Weighs x m → n ≡ m) → (xs : List X) (n m : ℕ) →
     IsSumOf Weighs xs n → IsSumOf Weighs xs m → n ≡ m
 only_sum Weighs only [] n m none none = refl
@@ -52,7 +52,7 @@ only_aranges : (section : List ℕ) (spans : List Span) (n m : ℕ) → IsArange
     n ≡ m
 only_aranges section spans n m x y = only_weight (λ _. 0) (carried (unit_at section) spans) n m x y
 
--- What was found is a weight, cut to 64 bits.
+-- A weight that was found, saturated at 64 bits.
 abbrev pub IsFound : (ℕ → Type 0) → ℕ → Type 0
 IsFound Weighs found = (weight : ℕ) × Weighs weight × (found ≡ min weight (2 ^ 64 - 1))
 
@@ -62,7 +62,7 @@ found_over weight found e over = omega (arith, e, over)
 found_within : (weight found : ℕ) → found ≡ min weight (2 ^ 64 - 1) → (weight_limit < found → ⊥) → weight_limit < weight → ⊥
 found_within weight found e within over = within (omega (arith, e, over))
 
--- one that passes the limit
+-- A weight above the limit.
 pub heavy : (Weighs : ℕ → Type 0) (found : ℕ) → IsFound Weighs found → weight_limit < found →
     (n : ℕ) × Weighs n × (weight_limit < n)
 heavy Weighs found is over = (is.0, is.1, found_over is.0 found is.2 over)

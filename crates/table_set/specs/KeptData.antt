@@ -1,5 +1,5 @@
--- What is kept of the debug data of a file whose code moves: units and entries, line units, and the sections without
--- code addresses.
+-- The debug data that a file keeps when its code moves: units and entries, line units, and the sections without code
+-- addresses.
 use Rattle.std.specs.Prelude.{◌≡◌, ℕ, Bool, false, IsTrue, List, [], ◌∷◌, codes, length, unwrap_or}
 use Rattle.std.specs.List.{list_any}
 use Rattle.std.specs.Str.{bytes_eq}
@@ -16,27 +16,27 @@ use Rattle.line_rewrite.specs.KeptLineUnits.{AreKeptUnits, unit_number, unit_pla
 use Rattle.line_rewrite.specs.Tables.{line_sections}
 use Rattle.range_loc_rewrite.specs.NewOffsets.{RangesGetOffsets, PlacesGetOffsets}
 
--- the offset of a line unit that is written for another: that of the unit's list, or one that names none
+-- The new offset of a line unit; without one, an offset that means no unit.
 abbrev pub new_line_offset : List ListAt → ℕ → ℕ
 new_line_offset lists n = unwrap_or (new_list_offset lists n DW_AT_stmt_list) no_line_unit
 
 pub record AreUnitsKept (spans : List Span) (lists : List ListAt) (i f : Elf) : Type 0 where
-  -- entries stand where they stood, changed in place by these lists
+  -- Entries keep their offsets, and are changed in place by these lists.
   pub changed : AreChangedWith spans lists i f
   pub line_units : AreKeptUnits i f
-  -- An offset that named a line unit names the one of the same number, and one that named none names none: its number
-  -- is that of units, of which both files have as many.
+  -- The offset of a line unit becomes the offset of the unit with the same index. An offset of no unit becomes another
+  -- such offset: its index is the number of units, which is the same in both files.
   pub line_offsets : (n : ℕ) →
       unit_number (line_sections f) (new_line_offset lists n) ≡ unit_number (line_sections i) n
   pub other_offsets : (n : ℕ) → unit_number (line_sections i) n ≡ length (unit_places (line_sections i)) →
       new_line_offset lists n ≡ no_line_unit
-  -- attributes of entries find their lists in the new tables
+  -- Attributes of entries find their lists in the new tables.
   pub range_offsets : RangesGetOffsets (sections_of i) (bytes_of i (codes ".debug_rnglists")) lists
       (bytes_of f (codes ".debug_rnglists"))
   pub place_offsets : PlacesGetOffsets (sections_of i) (bytes_of i (codes ".debug_loclists")) lists
       (bytes_of f (codes ".debug_loclists"))
 
--- the debug sections that are written anew, and those that are left out
+-- The debug sections that are written, and those that are left out.
 abbrev pub written_names : List (List ℕ)
 written_names =
     codes ".debug_info" ∷ codes ".debug_abbrev" ∷ codes ".debug_addr" ∷ codes ".debug_line" ∷ codes ".debug_loclists"

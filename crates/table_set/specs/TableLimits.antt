@@ -10,7 +10,7 @@ use Rattle.range_loc_rewrite.specs.Tables.{list_sections}
 use Rattle.range_loc_rewrite.specs.Weights.{IsRangesWeight, IsPlacesWeight}
 use Rattle.addr_rewrite.specs.Tables.{aranges_of, IsArangesWeight}
 
--- A weight that passes the limit, under the map by which code moves; frame tables have none.
+-- A weight is above the limit, under the map by which code moves. Frame tables have no weight.
 pub data IsTooHeavy (elf : Elf) (spans : List Span) : Type 0 where
   lines : (n : ℕ) → IsLineWeight (line_sections elf) spans n → weight_limit < n → IsTooHeavy elf spans
   ranges : (n : ℕ) → IsRangesWeight (list_sections elf) spans n → weight_limit < n → IsTooHeavy elf spans

@@ -1,4 +1,4 @@
-// What the tables of a file say of one address, or the first fault of its tables.
+// The answers of a file's tables at one address, or the first fault of its tables.
 ghost use Rattle.std.specs.Prelude.{IfOk, IfErr, OnOk};
 ghost use Rattle.rb_bytes.specs.FirstFault.{IsFree, IsRefusalBy};
 ghost use Rattle.table_set.specs.AllTables.{AreReadAt, IsDebugReadAt};
@@ -14,16 +14,16 @@ use rb_bytes::fault::Refusal;
 use std::alloc::Global;
 use table_core::AddrTable;
 
-/// What debug data says of one address.
+/// The answers of debug data at one address.
 #[derive(Drop)]
 pub struct DebugAt {
-    /// The whole table of lines, since it tells the paths of files, too.
+    /// The whole table of lines, since it also has the paths of files.
     pub lines: Lines,
-    /// What the entries of units say of the address.
+    /// The answers of units' entries at the address.
     pub lists: ListsAt,
 }
 
-/// Both frame tables, and what debug data says of one address.
+/// Both frame tables, and the answers of debug data at one address.
 #[derive(Drop)]
 pub struct TablesAt {
     pub eh: EhFrames,
@@ -31,8 +31,8 @@ pub struct TablesAt {
     pub debug: DebugAt,
 }
 
-/// Reads what debug data says of an address, or refuses the file for the fault of its tables with the lowest number,
-/// at its lowest place. Units are walked once.
+/// Reads the answers of debug data at an address, or refuses the file for the fault of its tables with the lowest
+/// number, at its lowest place. Units are walked once.
 pub fn read_debug_at(alloc: Global, elf: &Elf<'_>, a: u64) -> Result<DebugAt, Refusal>
     ensures read { IfOk result (λ t. IsDebugReadAt t elf.now a) }
     ensures sound { OnOk result (IsFree (HasDebugFault elf.now)) }
@@ -48,8 +48,8 @@ pub fn read_debug_at(alloc: Global, elf: &Elf<'_>, a: u64) -> Result<DebugAt, Re
     })
 }
 
-/// Reads what all tables say of an address, or refuses the file for the fault of tables with the lowest number, at its
-/// lowest place.
+/// Reads the answers of all tables at an address, or refuses the file for the fault of tables with the lowest number,
+/// at its lowest place.
 pub fn read_all_at(alloc: Global, elf: &Elf<'_>, a: u64) -> Result<TablesAt, Refusal>
     ensures read { IfOk result (λ t. AreReadAt t elf.now a) }
     ensures sound { OnOk result (IsFree (HasTableFault elf.now)) }

@@ -18,14 +18,14 @@ use rb_bytes::fault::NoMemory;
 use std::alloc::Global;
 use table_core::AddrTable;
 
-// How much lists and the declarations of units may weigh for each byte of the file, and beside. A unit that uses one
-// index of a list gets an offset for each index below it, too; and units can begin their declarations at any one of a
-// long table, and each gets all that follow.
+// The limit of the weight of lists and of the declarations of units, for each byte of the file, with what is added to
+// it. A unit that uses one index of a list also gets an offset for each index below it; and units can begin their
+// declarations at any one of a long table, and each gets all that follow.
 const MOST_TIMES: u64 = 64;
 
 const MOST_BESIDE: u64 = 1 << 28;
 
-// Whether lists and declarations weigh so much beside the file that memory could run out while they are written.
+// Whether lists and declarations are so heavy for the file that memory could run out while they are written.
 fn is_much(weight: u64, file_size: u64) -> bool {
     weight
         > file_size
@@ -33,8 +33,8 @@ fn is_much(weight: u64, file_size: u64) -> bool {
             .saturating_add(MOST_BESIDE)
 }
 
-/// Whether a table written for a map would weigh more than `WEIGHT_LIMIT`, or the declarations of units would.
-/// `NoMemory` is answered, too, where none does, but lists and declarations together weigh much beside the file.
+/// Whether a table written for a map, or the declarations of units, would weigh more than `WEIGHT_LIMIT`. Gives
+/// `NoMemory` also if none would, but lists and declarations together weigh too much for the file.
 pub fn is_too_heavy(
     alloc: Global,
     elf: &Elf<'_>,
