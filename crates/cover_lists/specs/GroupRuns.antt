@@ -61,7 +61,7 @@ pub record IsGroupRuns (covers : List Cover) (g : ℕ) (stretches : List (Run �
   pub are : AreHeld (runs_end 0 stretches) held
   pub answers : (p : ℕ) → run_at held p ≡ option_and_then (held_by covers g) (run_at stretches p)
 
--- Two addresses with the same bounds below them are in the same groups.
+-- Two addresses with the same bounds at or below them are in the same groups.
 abbrev pub AreApart : List ℕ → List Cover → Type 0
 AreApart bounds covers = (a b : ℕ) → All (λ x. nat_le x a ≡ nat_le x b) bounds → (g : ℕ) →
     group_holds covers g a ≡ group_holds covers g b

@@ -67,7 +67,7 @@ pub record IsLonger (old new : List ℕ) : Type 0 where
   pub more : List ℕ
   pub is : new ≡ old ++ more
 
--- The list with number `n` is in the body, old or new.
+-- The list with number `n` is at an offset of the body, which had it or got it.
 pub record IsListed (lists : List (Vec ℕ)) (n offset : ℕ) (old new : List ℕ) (known : BTreeMap ℕ ℕ) : Type 0 where
   pub longer : IsLonger old new
   pub listed : AreListed lists new known
