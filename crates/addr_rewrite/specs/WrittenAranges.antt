@@ -4,6 +4,7 @@ use Rattle.byteorder.specs.Endian.{little_bytes}
 use Rattle.answer_runs.specs.declared.run.Run.{Run}
 use Rattle.addr_rewrite.specs.declared.stretch.Stretch.{Stretch}
 
+-- A run as a stretch of its unit.
 abbrev pub stretch_of : Run ℕ → Stretch
 stretch_of r = record { unit = r.answer; start = r.start; len = r.len }
 

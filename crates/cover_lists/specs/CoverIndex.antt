@@ -25,9 +25,11 @@ is_member ranged group k = option_map_or (λ (r : RangedEntry). group == r.group
 abbrev pub is_held : List Cover → List RangedEntry → ℕ → ℕ → Bool
 is_held covers ranged a k = option_map_or (λ (r : RangedEntry). group_holds covers r.group a) (slice_get ranged k) false
 
+-- The numbers of the entries whose ranges contain an address.
 abbrev pub held_numbers : List Cover → List RangedEntry → ℕ → List ℕ
 held_numbers covers ranged a = filter (is_held covers ranged a) (range_with_len 0 (length ranged))
 
+-- The index has these ranges and the members of each group.
 pub record IsCoverIndex (covers : List Cover) (ranged : List RangedEntry) (index : code.CoverIndex) : Type 0 where
   pub held : (group a : ℕ) → group_holds index.tree group a ≡ group_holds covers group a
   pub members : (group k : ℕ) → list_any (λ m. m == k) (members_in index.members.items group) ≡ is_member ranged group k

@@ -4,6 +4,7 @@ use Rattle.cover_lists.specs.declared.cover_tree.Cover.{Cover}
 use Rattle.cover_lists.specs.declared.cover_tree.Node.{Node}
 use Rattle.cover_lists.specs.declared.cover_tree.Node.TheVariants.{Leaf, Fork}
 
+-- The range contains the address.
 abbrev pub holds : ℕ → Cover → Bool
 holds a c = nat_le c.low a && nat_lt a c.high
 

@@ -48,6 +48,7 @@ holders covers a = map (λ (c : Cover). c.group) (filter (holds a) covers)
 abbrev pub if_held : Bool → Option Bool
 if_held b = if b then Some true else None
 
+-- `true` at the addresses in the group.
 abbrev pub held_by : List Cover → ℕ → ℕ → Option Bool
 held_by covers g a = if_held (group_holds covers g a)
 

@@ -15,9 +15,11 @@ abbrev pub covers_for : ℕ → Option Range → List Cover
 covers_for group None = []
 covers_for group (Some r) = record { low = r.low; high = r.high; group = group } ∷ []
 
+-- The ranges of a list, as ranges of a group.
 abbrev pub covers_in : ℕ → List Located → List Cover
 covers_in group ls = flat_map (λ (l : Located). covers_for group l.range) ls
 
+-- The range is of the group and contains the address.
 abbrev pub is_in_group : ℕ → ℕ → Cover → Bool
 is_in_group group a c = c.group == group && holds a c
 

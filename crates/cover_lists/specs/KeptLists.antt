@@ -38,6 +38,7 @@ list_says l a = unless_none (filter_map (expression_of l.expressions.items)
     (bounded_numbers l.tree (length l.expressions.items) a))
     (items_in l.defaults.items)
 
+-- The kept list has the expressions in force of the list `ls`.
 abbrev pub Says : KeptList → List Located → Type 0
 Says l ls = (a : ℕ) → list_says l a ≡ in_force ls a
 
@@ -65,5 +66,6 @@ pub record IsNumberOf (lists : List KeptList) (number : Option ℕ) (said : Opti
   pub says : (a : ℕ) → option_map_or (λ n. number_says lists n a) number []
       ≡ option_map_or (λ ls. in_force ls a) said []
 
+-- Each known list has its number.
 abbrev pub AreNumbersOf : (ℕ → Option (List Located)) → List KeptList → BTreeMap ℕ (Option ℕ) → Type 0
 AreNumbersOf says lists known = (at : ℕ) (o : Option ℕ) → get nat_cmp known at ≡ Some o → IsNumberOf lists o (says at)

@@ -30,6 +30,7 @@ numbers_if n (x ∷ xs) = n ∷ []
 abbrev pub default_numbers : ℕ → KeptList → List ℕ
 default_numbers n l = numbers_if n l.defaults.items
 
+-- The list with a number has expressions without bounds.
 abbrev pub has_default : List KeptList → ℕ → Bool
 has_default lists n = option_map_or (λ l. is_some_list l.defaults.items) (slice_get lists n) false
 
@@ -37,6 +38,7 @@ has_default lists n = option_map_or (λ l. is_some_list l.defaults.items) (slice
 abbrev pub list_holds : List KeptList → ℕ → ℕ → Bool
 list_holds lists n a = option_map_or (λ l. list_any (holds a) l.tree) (slice_get lists n) false
 
+-- The finder has the bounds of all lists, and the lists with defaults.
 pub record IsFinder (lists : List KeptList) (finder : code.ListFinder) : Type 0 where
   pub bounded : (n a : ℕ) → group_holds finder.tree n a ≡ list_holds lists n a
   pub unbounded : (n : ℕ) → is_among finder.unbounded.items n ≡ has_default lists n

@@ -41,6 +41,7 @@ pub record IsListRuns (lists : List KeptList) (n : ℕ) (stretches : List (Run �
   pub longest : AreLongest runs
   pub answers : (p : ℕ) → run_at runs p ≡ option_and_then (list_answer lists n) (run_at stretches p)
 
+-- The number is in the list.
 abbrev pub is_among : List ℕ → ℕ → Bool
 is_among ns n = list_any (λ m. m == n) ns
 

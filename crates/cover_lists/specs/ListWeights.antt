@@ -21,9 +21,11 @@ expressions_weight xs = sum_by (λ x. 16 + length x) xs
 abbrev pub copies_weight : List (Vec ℕ) → ℕ
 copies_weight xs = sum_by (λ (v : Vec ℕ). 16 + length v.items) xs
 
+-- The weight of the runs of a list.
 abbrev pub list_weight : List (Run (Vec (Vec ℕ))) → ℕ
 list_weight runs = sum_by (λ (r : Run (Vec (Vec ℕ))). run_weight + copies_weight r.answer.items) runs
 
+-- The weight of the runs of all lists.
 abbrev pub total_weight : List (Vec (Run (Vec (Vec ℕ)))) → ℕ
 total_weight lists = sum_by (λ (v : Vec (Run (Vec (Vec ℕ)))). list_weight v.items) lists
 

@@ -15,6 +15,7 @@ pub record Located : Type 0 where
 abbrev pub ranges_in : List Located → List Range
 ranges_in ls = filter_map (λ (l : Located). l.range) ls
 
+-- There are ranges, and one contains the address.
 abbrev pub hold : Option (List Range) → ℕ → Bool
 hold ranges a = option_map_or (list_any (holds_address a)) ranges false
 
@@ -32,5 +33,6 @@ abbrev pub unless_bounded : (bounded defaults : List Located) → List (List ℕ
 unless_bounded [] defaults = expressions defaults
 unless_bounded (l ∷ bounded) defaults = expressions (l ∷ bounded)
 
+-- The expressions of a list that are in force at an address.
 abbrev pub in_force : List Located → ℕ → List (List ℕ)
 in_force ls a = unless_bounded (filter (is_bounded_at a) ls) (filter is_default ls)

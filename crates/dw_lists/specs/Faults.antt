@@ -34,6 +34,7 @@ list_attrs k u = filter (has_list k) (flat_map (λ (e : Entry). e.attrs) u.entri
 abbrev pub lacks_offset : Kind → List ℕ → Unit → Bool
 lacks_offset k section u = list_any (λ a. not (is_some (list_offset k section u a))) (list_attrs k u)
 
+-- The unit can be read, and an attribute of it has a bad offset of a list.
 abbrev pub has_bad_offset : Kind → List ℕ → Result Unit Trouble → Bool
 has_bad_offset k section (Ok u) = lacks_offset k section u
 has_bad_offset k section (Err e) = false
@@ -53,6 +54,7 @@ table_place section at = unwrap_or (option_map (λ (w : Walked). w.place) (table
 abbrev pub list_offsets : Kind → List ℕ → Unit → List ℕ
 list_offsets k section u = filter_map (list_offset k section u) (list_attrs k u)
 
+-- The places of the lists to which a unit refers and that can't be read.
 abbrev pub bad_list_tables : Kind → List ℕ → List ℕ → Unit → List ℕ
 bad_list_tables k section addr u =
     map (table_place section) (filter (λ at. not (is_some (list_at k section addr u at))) (list_offsets k section u))
@@ -66,6 +68,7 @@ bad_table k section s = least
 
 -- Faults of units come first, then those of address tables, then those of lists.
 
+-- The places of faults of ranges.
 abbrev pub range_places : ListSections → FaultPlaces
 range_places s = let p = unit_fault_places s.units in record {
   version = option_or p.version (other_version 5 s.ranges);
@@ -78,11 +81,13 @@ range_places s = let p = unit_fault_places s.units in record {
       (option_or (bad_address_table s.units.addr) (bad_table ranges_kind s.ranges s.units));
 }
 
+-- An attribute of the unit has a bad offset of a list of either kind.
 abbrev pub has_bad_offsets : ListSections → Walked → Bool
 has_bad_offsets s w =
     has_bad_offset ranges_kind s.ranges (unit_of s.units.abbrevs w) || has_bad_offset locations_kind s.locations
     (unit_of s.units.abbrevs w)
 
+-- The places of faults of locations, with those of ranges.
 abbrev pub location_places : ListSections → FaultPlaces
 location_places s = let p = unit_fault_places s.units in record {
   version = option_or p.version (option_or (other_version 5 s.ranges) (other_version 5 s.locations));

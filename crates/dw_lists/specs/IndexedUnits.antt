@@ -13,6 +13,7 @@ indexed_by k u None = []
 indexed_by k u (Some e) =
     record { own = e.place; base = base k.base_name u; greatest = greatest (indexes k.index_form u) } ∷ []
 
+-- The indexes of a unit; none if it has no entry.
 abbrev pub indexed_of : Kind → Unit → List IndexedUnit
 indexed_of k u = indexed_by k u (own_entry u)
 

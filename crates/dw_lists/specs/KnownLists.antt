@@ -27,6 +27,7 @@ pub record IsGroupOf (g : Groups) (group : Option ℕ) (said : Option (List Loca
   pub some : is_some group ≡ is_some said
   pub ranges : HasRanges g group (option_map ranges_in said)
 
+-- Each known list has the group of its ranges.
 abbrev pub AreKnown : (ℕ → Option (List Located)) → Groups → BTreeMap ℕ (Option ℕ) → Type 0
 AreKnown says g known = (at : ℕ) (o : Option ℕ) → get nat_cmp known at ≡ Some o → IsGroupOf g o (says at)
 
@@ -39,16 +40,20 @@ pub record IsLookedUp (says : ℕ → Option (List Located)) (old new : Groups) 
 
 -- The faults of an attribute's list.
 
+-- The attribute refers to a list, and its offset is bad.
 abbrev pub lacks_list : Kind → List ℕ → Unit → Attr → Bool
 lacks_list k section u a = has_list k a && not (is_some (list_offset k section u a))
 
+-- The place of the list at an offset, if it can't be read.
 abbrev pub bad_at : Kind → (section addr : List ℕ) → Unit → Option ℕ → List ℕ
 bad_at k section addr u None = []
 bad_at k section addr u (Some at) = if is_some (list_at k section addr u at) then [] else table_place section at ∷ []
 
+-- The place of an attribute's list, if it can't be read.
 abbrev pub bad_list : Kind → (section addr : List ℕ) → Unit → Attr → List ℕ
 bad_list k section addr u a = if has_list k a then bad_at k section addr u (list_offset k section u a) else []
 
+-- `f` has the faults of the lists of these attributes.
 pub record AreNoted (k : Kind) (section addr : List ℕ) (u : Unit) (attrs : List Attr) (f : ListFaults) : Type 0 where
   pub lacks : f.lacks_offset ≡ list_any (lacks_list k section u) attrs
   pub bad : f.bad ≡ least (flat_map (bad_list k section addr u) attrs)

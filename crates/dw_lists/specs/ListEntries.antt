@@ -26,24 +26,30 @@ pub record Item : Type 0 where
 abbrev pub uleb_then : {X : Type 0} → List ℕ → (ℕ → List ℕ → Read X) → Read X
 uleb_then = steps.uleb_then Unsound
 
+-- Reads an address, or an index of one.
 abbrev pub bound_address_at : (is_index : Bool) → List ℕ → Read Address
 bound_address_at true left = uleb_then left (λ n rest. Ok (Index n, rest))
 bound_address_at false left = and_then (whole (number_read 8 left)) (λ n rest. Ok (Here n, rest))
 
+-- Reads a new base address.
 abbrev pub base_at : (is_index : Bool) → List ℕ → Read Bound
 base_at x left = and_then (bound_address_at x left) (λ a rest. Ok (Base a, rest))
 
+-- Reads a first address and an end.
 abbrev pub between_at : (is_index : Bool) → List ℕ → Read Bound
 between_at x left =
     and_then (bound_address_at x left) (λ a left1. and_then (bound_address_at x left1)
     (λ b rest. Ok (Between a b, rest)))
 
+-- Reads a first address and a length.
 abbrev pub onward_at : (is_index : Bool) → List ℕ → Read Bound
 onward_at x left = and_then (bound_address_at x left) (λ a left1. uleb_then left1 (λ n rest. Ok (Onward a n, rest)))
 
+-- Reads two offsets from the base address.
 abbrev pub offsets_at : List ℕ → Read Bound
 offsets_at left = uleb_then left (λ m left1. uleb_then left1 (λ n rest. Ok (Offsets m n, rest)))
 
+-- Reads the bounds of a range list entry of a kind (DW_RLE). DWARF 5, section 7.25.
 abbrev pub range_bound : ℕ → List ℕ → Read Bound
 range_bound kind left =
     if kind == DW_RLE_base_addressx then base_at true left
@@ -55,6 +61,7 @@ range_bound kind left =
     else (if kind == DW_RLE_start_length then onward_at false left
     else Err Unsound))))))
 
+-- Reads the bounds of a location list entry of a kind (DW_LLE). DWARF 5, section 7.7.3.
 abbrev pub location_bound : ℕ → List ℕ → Read Bound
 location_bound kind left =
     if kind == DW_LLE_base_addressx then base_at true left
@@ -67,6 +74,7 @@ location_bound kind left =
     else (if kind == DW_LLE_start_length then onward_at false left
     else Err Unsound)))))))
 
+-- Reads an entry of a range list.
 abbrev pub range_item : ℕ → List ℕ → Read Item
 range_item kind left = and_then (range_bound kind left) (λ b rest. Ok (record { bound = b; expression = [] }, rest))
 
@@ -75,6 +83,7 @@ abbrev pub expression_at : Bound → List ℕ → Read (List ℕ)
 expression_at (Base a) left = Ok ([], left)
 expression_at _ left = leb_bytes_at Unsound left
 
+-- Reads an entry of a location list.
 abbrev pub location_item : ℕ → List ℕ → Read Item
 location_item kind left =
     and_then (location_bound kind left) (λ b left1.

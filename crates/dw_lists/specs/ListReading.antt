@@ -15,10 +15,12 @@ use Rattle.cover_lists.specs.Located.{Located}
 use Rattle.dw_unit.specs.Trouble.{Read}
 use Rattle.cover_lists.specs.ListPlaces.{located_of}
 
+-- The definition of each kind of list.
 abbrev pub kind_of : ListKind → Kind
 kind_of Ranges = ranges_kind
 kind_of Locations = locations_kind
 
+-- How entries of each kind are read.
 abbrev pub item_of : ListKind → ℕ → List ℕ → Read Item
 item_of Ranges = range_item
 item_of Locations = location_item
@@ -27,6 +29,7 @@ item_of Locations = location_item
 abbrev pub looked_up : List ℕ → Option ℕ → ℕ → Option ℕ
 looked_up section base index = option_and_then (λ b. number_in 8 (b + 8 * index) section) base
 
+-- The contents of the entries, by a base address; none if they can't be read.
 abbrev pub said_from : (ℕ → Option ℕ) → ℕ → Result (List Item) Trouble → Option (List Located)
 said_from look base (Ok items) = items_say look items base
 said_from look base (Err e) = None
@@ -44,6 +47,7 @@ StepSays list look base left rest result =
     (n : ℕ) → said_from look base (items_within (item_of list) (suc n) left)
     ≡ step_says (λ b. said_from look b (items_within (item_of list) n rest)) base result
 
+-- More contents, after others.
 abbrev pub prefixed : List Located → Option (List Located) → Option (List Located)
 prefixed out o = option_map (λ ls. out ++ ls) o
 
@@ -53,6 +57,7 @@ flow_says more base out More = prefixed out (more base)
 flow_says more base out End = Some out
 flow_says more base out Bad = None
 
+-- Reading on from here gives the contents of the whole list.
 abbrev pub FlowSays : ListKind → (ℕ → Option ℕ) → (old_base base : ℕ) → (left rest : List ℕ) →
     (old_out out : List Located) →
     Flow → Type 0

@@ -15,17 +15,19 @@ use Rattle.dw_lists.specs.Faults.{ListSections}
 use Rattle.dw_lists.specs.Ranges.{covering}
 use Rattle.dw_lists.specs.Locations.{places_said, PlaceSaid}
 
--- No answer is empty.
+-- The answer of ranges at an address, the offsets of the entries that cover it; none if it would be empty.
 abbrev pub range_says : ListSections → ℕ → Option (List ℕ)
 range_says s a = unless_empty (covering s a)
 
+-- The answer of locations at an address; none if it would be empty.
 abbrev pub place_says : ListSections → ℕ → Option (List PlaceSaid)
 place_says s a = unless_empty (places_said s a)
 
--- The attributes for which each table has lists or bases.
+-- The attributes for which the table of range lists has lists or bases.
 abbrev pub is_of_ranges : ℕ → Bool
 is_of_ranges name = name == DW_AT_ranges || name == DW_AT_rnglists_base
 
+-- The attributes for which the table of location lists has lists or bases.
 abbrev pub is_of_locations : ℕ → Bool
 is_of_locations name = name == DW_AT_location || name == DW_AT_frame_base || name == DW_AT_loclists_base
 
@@ -39,11 +41,12 @@ pub record AreLists (is_attr : ℕ → Bool) (lists : List ListAt) : Type 0 wher
 abbrev pub AreWithoutHighAddresses : Sections → Type 0
 AreWithoutHighAddresses s = All (λ e. attr DW_AT_high_pc e ≡ Option.None) (entries s)
 
--- A table is empty if the input has no such section and nothing needs it.
+-- A written table of ranges. It is empty if the input has none and no high address needs a list.
 pub record RangesMade (s : ListSections) (w : Written) : Type 0 where
   pub lists : AreLists is_of_ranges w.lists.items
   pub nothing : s.ranges ≡ [] → AreWithoutHighAddresses s.units → w.bytes.items ≡ []
 
+-- A written table of locations. It is empty if the input has none.
 pub record PlacesMade (s : ListSections) (w : Written) : Type 0 where
   pub lists : AreLists is_of_locations w.lists.items
   pub nothing : s.locations ≡ [] → w.bytes.items ≡ []

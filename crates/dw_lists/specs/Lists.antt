@@ -19,13 +19,16 @@ use Rattle.dw_lists.specs.declared.list_bound.Bound.TheVariants.{Base, Between, 
 use Rattle.dw_lists.specs.ListEntries.{Item, range_item, location_item, items_within}
 use Rattle.cover_lists.specs.Located.{Located}
 
+-- The address itself, or the one that `look` finds for its index.
 abbrev pub resolved : (ℕ → Option ℕ) → Address → Option ℕ
 resolved look (Here a) = Some a
 resolved look (Index i) = look i
 
+-- A range.
 abbrev pub between : ℕ → ℕ → Option Range
 between low high = Some (record { low = low; high = high })
 
+-- One more expression with its range.
 abbrev pub with_located : List ℕ → Option Range → Option (List Located) → Option (List Located)
 with_located x range more = option_map (λ ls. record { range = range; expression = x } ∷ ls) more
 
@@ -54,6 +57,7 @@ pub record Kind : Type 0 where
   pub index_form : ℕ
   pub names_list : ℕ → Bool
 
+-- Range lists (`.debug_rnglists`).
 abbrev pub ranges_kind : Kind
 ranges_kind =
     record {
@@ -63,6 +67,7 @@ ranges_kind =
       names_list = λ name. name == DW_AT_ranges;
     }
 
+-- Location lists (`.debug_loclists`).
 abbrev pub locations_kind : Kind
 locations_kind =
     record {
@@ -72,6 +77,7 @@ locations_kind =
       names_list = is_located;
     }
 
+-- The attribute refers to a list of the kind.
 abbrev pub has_list : Kind → Attr → Bool
 has_list k a = k.names_list a.name && (a.form == DW_FORM_sec_offset || a.form == k.index_form)
 
@@ -84,6 +90,7 @@ table_below at (w ∷ ws) = option_or (table_below at ws) (if nat_le w.place at 
 abbrev pub end_of_table : Walked → Option ℕ
 end_of_table w = option_map (λ bytes. w.place + 4 + length bytes) w.bytes
 
+-- The offset at which a list at an offset has to end.
 abbrev pub list_end : List ℕ → ℕ → ℕ
 list_end section at = unwrap_or (option_and_then end_of_table (table_below at (walked 5 section))) (length section)
 
@@ -92,6 +99,7 @@ abbrev pub offset_of_index : Kind → List ℕ → Unit → ℕ → Option ℕ
 offset_of_index k section u index =
     option_and_then (λ b. option_map (λ n. b + n) (number_in 4 (b + 4 * index) section)) (base k.base_name u)
 
+-- The offset, if it is in the section.
 abbrev pub only_within : List ℕ → ℕ → Option ℕ
 only_within section at = if nat_lt at (length section) then Some at else None
 
@@ -101,6 +109,7 @@ list_offset k section u a =
     option_and_then (only_within section)
     (if a.form == k.index_form then offset_of_index k section u a.value else Some a.value)
 
+-- The entries of the list at an offset, up to its end.
 abbrev pub items_at : Kind → List ℕ → ℕ → Result (List Item) Trouble
 items_at k section at =
     let left = take (list_end section at - at) (drop at section) in items_within k.item (length left) left
@@ -118,5 +127,6 @@ items_said addr u (Err e) = None
 abbrev pub list_at : Kind → List ℕ → List ℕ → Unit → ℕ → Option (List Located)
 list_at k section addr u at = items_said addr u (items_at k section at)
 
+-- The contents of an attribute's list.
 abbrev pub list_of : Kind → List ℕ → List ℕ → Unit → Attr → Option (List Located)
 list_of k section addr u a = option_and_then (list_at k section addr u) (list_offset k section u a)

@@ -27,6 +27,7 @@ abbrev pub content_read : Read (List ℕ) → List ℕ
 content_read (Ok read) = read.0
 content_read (Err e) = []
 
+-- The block of bytes in an attribute; empty for other forms.
 abbrev pub block_of : List ℕ → Attr → List ℕ
 block_of info a = content_read (and_so (sound_if (shape_of a.form)) (λ shape. content_at shape (value_bytes info a)))
 
@@ -53,6 +54,7 @@ abbrev pub attr_says : ℕ → ℕ → List (List ℕ) → List PlaceSaid
 attr_says d x [] = []
 attr_says d x (b ∷ bs) = record { entry = d; attr = x; expressions = b ∷ bs } ∷ []
 
+-- The answers of an entry's location attributes.
 abbrev pub entry_says : ListSections → Unit → ℕ → Ranged → List PlaceSaid
 entry_says s u a r =
     attr_says r.entry.place DW_AT_location (located s u r DW_AT_location a)

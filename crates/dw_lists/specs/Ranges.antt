@@ -38,9 +38,11 @@ ranged_from own before (e ∷ es) =
     record { entry = e; own = own e; nearest = first_of (filter_map own (e ∷ enclosing e.depth before)) }
     ∷ ranged_from own (e ∷ before) es
 
+-- The entries of a unit, with their ranges.
 abbrev pub ranged_in : ListSections → Unit → List Ranged
 ranged_in s u = ranged_from (ranges_of s u) [] u.entries
 
+-- The entries of a file, with their ranges.
 abbrev pub ranged : ListSections → List Ranged
 ranged s = flat_map (ranged_in s) (units s.units)
 

@@ -13,6 +13,7 @@ use Rattle.dw_lists.specs.Ranges.{covering}
 use Rattle.dw_lists.specs.ListTables.{range_says, place_says}
 use Rattle.dw_lists.specs.Locations.{PlaceSaid}
 
+-- The sections of a file that ranges and locations are read from.
 abbrev pub list_sections : Elf → ListSections
 list_sections elf = record {
   units = sections_of elf;

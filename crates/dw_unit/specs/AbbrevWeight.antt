@@ -8,5 +8,6 @@ use Rattle.dw_unit.specs.CompUnits.{Sections}
 abbrev pub table_weight : Sections → ℕ → ℕ
 table_weight s offset = 3 * (unwrap_or (table_at s.abbrevs offset).end offset - offset)
 
+-- The sum over all abbreviation offsets of units.
 abbrev pub abbrev_weight : Sections → ℕ
 abbrev_weight s = sum_by (table_weight s) (table_offsets s)

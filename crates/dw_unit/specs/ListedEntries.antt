@@ -3,6 +3,7 @@ use Rattle.std.specs.Prelude.{ℕ, List, map}
 use Rattle.dw_unit.specs.declared.entry.Attr.{Attr}
 use Rattle.dw_unit.specs.CompUnits.{Entry, Sections, entries}
 
+-- An entry with its tag in place of its declaration.
 pub record ListedEntry : Type 0 where
   pub place : ℕ
   pub unit : ℕ
@@ -10,6 +11,7 @@ pub record ListedEntry : Type 0 where
   pub tag : ℕ
   pub attrs : List Attr
 
+-- The listed form of an entry.
 abbrev pub listed : Entry → ListedEntry
 listed e = record { place = e.place; unit = e.unit; depth = e.depth; tag = e.declaration.tag; attrs = e.attrs }
 

@@ -9,10 +9,12 @@ abbrev pub with_listed : List ListedEntry → Result (List Entry) Trouble → Re
 with_listed ls (Ok es) = Ok (ls ++ map listed es)
 with_listed ls (Err e) = Err e
 
+-- The listed form of entries, if they were read.
 abbrev pub listed_result : Result (List Entry) Trouble → Result (List ListedEntry) Trouble
 listed_result (Ok es) = Ok (map listed es)
 listed_result (Err e) = Err e
 
+-- The listed form of a unit's entries, if the unit was read.
 abbrev pub listed_unit : Result Unit Trouble → Result (List ListedEntry) Trouble
 listed_unit (Ok u) = Ok (map listed u.entries)
 listed_unit (Err e) = Err e

@@ -5,6 +5,7 @@ use Rattle.std.specs.Ordering.{nat_cmp}
 use Rattle.table_core.specs.DebugUnits.{Walked}
 use Rattle.dw_unit.specs.NamedOffsets.{is_named_by, offset_of}
 
+-- The number is a key of the map.
 abbrev pub HasKey : {X : Type 0} → BTreeMap ℕ X → ℕ → Type 0
 HasKey m q = is_some (get nat_cmp m q) ≡ true
 
@@ -12,6 +13,7 @@ HasKey m q = is_some (get nat_cmp m q) ≡ true
 abbrev pub KeepsKeys : {X : Type 0} → (old new : BTreeMap ℕ X) → Type 0
 KeepsKeys old new = (q : ℕ) → HasKey old q → HasKey new q
 
+-- All numbers of the list are keys of the map.
 abbrev pub HasKeys : {X : Type 0} → BTreeMap ℕ X → List ℕ → Type 0
 HasKeys m qs = (k : ℕ) → k < length qs → HasKey m (slice_index qs k)
 

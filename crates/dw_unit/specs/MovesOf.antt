@@ -5,6 +5,7 @@ use Rattle.std.specs.Ordering.{nat_cmp}
 use Rattle.dw_unit.specs.declared.entry_moves.EntryMoves.{EntryMoves}
 use Rattle.dw_unit.specs.EntryMoves as moves
 
+-- `m` are the moves of the struct `x`.
 pub record AreMovesIn (m : moves.Moves) (x : EntryMoves) : Type 0 where
   pub spans : m.spans ≡ x.map.now
   pub lists : m.lists ≡ x.lists

@@ -10,10 +10,12 @@ use Rattle.dw_unit.specs.Declarations.{Declaration}
 use Rattle.dw_unit.specs.CompUnits.{Sections, Unit, unit_of}
 use Rattle.dw_unit.specs.declared.own_declarations.OwnDeclarations.{OwnDeclarations}
 
+-- All units can be read.
 abbrev pub AllRead : (abbrevs : List ℕ) → List Walked → Type 0
 AllRead abbrevs [] = ⊤
 AllRead abbrevs (w ∷ ws) = ((u : Unit) × (unit_of abbrevs w ≡ Ok u)) × AllRead abbrevs ws
 
+-- Some unit's own entry has the declaration at offset `q`.
 abbrev pub names_own : (abbrevs : List ℕ) → List Walked → ℕ → Bool
 names_own abbrevs ws q = list_any (is_own_of q) (oks (map (unit_of abbrevs) ws))
 

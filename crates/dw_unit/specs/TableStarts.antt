@@ -33,6 +33,7 @@ pub record IsStart (section : List ℕ) (read : List IndexedTable) (offset : ℕ
       table_at section offset ≡ table_from s.index (told_table t.table)
   pub from : (t : IndexedTable) → slice_get read s.number ≡ Some t → IsFrom (told_table t.table) s
 
+-- Each entry of the map is the start of the table at its key.
 abbrev pub AreStarts : List ℕ → List IndexedTable → BTreeMap ℕ Start → Type 0
 AreStarts section read starts = (q : ℕ) (s : Start) → get nat_cmp starts q ≡ Some s → IsStart section read q s
 

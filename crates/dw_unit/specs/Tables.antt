@@ -16,6 +16,7 @@ use Rattle.dw_unit.specs.CompUnits.{Sections}
 use Rattle.dw_unit.specs.ChangedEntries.{AreChangedUnits}
 use Rattle.dw_unit.specs.Changes.{changed_info, changed_abbrevs, changed_addr}
 
+-- The sections of a file that units are read from.
 abbrev pub sections_of : Elf → Sections
 sections_of elf = record {
   info = bytes_of elf (codes ".debug_info");

@@ -9,6 +9,7 @@ use Rattle.dw_unit.specs.declared.entry.Attr.{Attr}
 use Rattle.dw_unit.specs.CompUnits.{Unit, base, address_at}
 use Rattle.dw_unit.specs.Faults.{implies, is_located}
 
+-- The bases in a unit's own entry.
 abbrev pub bases_of : Unit → Bases
 bases_of u = record {
   addr = base DW_AT_addr_base u;

@@ -9,6 +9,7 @@ use Rattle.dw_unit.specs.EntryMoves.{Moves}
 use Rattle.dw_unit.specs.MovesOf.{AreMovesIn}
 use Rattle.dw_unit.specs.OwnPlaces.{AreOwn}
 
+-- The struct `c` has the moves, old tables, own declarations and new offsets of these sections.
 pub record IsChangeOf (s : Sections) (m : Moves) (c : UnitChange) : Type 0 where
   pub moves : AreMovesIn m c.moves.now
   pub abbrevs : s.abbrevs ≡ c.tables.now.section.now

@@ -7,6 +7,7 @@ use Rattle.dw_unit.specs.Declarations.{has_bad_form, has_bad_high}
 use Rattle.dw_unit.specs.Faults.{declarations_of, places_with, unformed, fails, is_sound_unit}
 use Rattle.dw_unit.specs.declared.unit_faults.UnitFaults.{UnitFaults}
 
+-- `f` has the lowest place of each fault of the units `ws`.
 pub record AreNoted (abbrevs addr : List ℕ) (ws : List Walked) (f : UnitFaults) : Type 0 where
   pub form : f.bad_form ≡ least (places_with has_bad_form (flat_map (declarations_of abbrevs) ws))
   pub high : f.bad_high ≡ least (places_with has_bad_high (flat_map (declarations_of abbrevs) ws))

@@ -18,6 +18,7 @@ pub record IsBehind (addr : List ℕ) (u : Result Unit Trouble) (r : UnitReading
   pub entries : MatchOption r.entries (fails (is_sound_unit addr) u ≡ true)
       (λ es. (fails (is_sound_unit addr) u ≡ false) × (listed_unit u ≡ Ok es.items))
 
+-- `r` is the result of reading the unit `w`.
 pub record IsReading (abbrevs addr : List ℕ) (w : Walked) (r : UnitReading) : Type 0 where
   pub form : r.bad_form ≡ least (places_with has_bad_form (declarations_of abbrevs w))
   pub high : r.bad_high ≡ least (places_with has_bad_high (declarations_of abbrevs w))
@@ -27,6 +28,7 @@ pub record IsReading (abbrevs addr : List ℕ) (w : Walked) (r : UnitReading) : 
 abbrev pub listed_all : List ℕ → List Walked → List ListedEntry
 listed_all abbrevs ws = map listed (flat_map (λ (u : Unit). u.entries) (oks (map (unit_of abbrevs) ws)))
 
+-- `r` is the result of reading the units `ws`.
 pub record AreReadings (abbrevs addr : List ℕ) (ws : List Walked) (r : Readings) : Type 0 where
   pub form : r.bad_form ≡ least (places_with has_bad_form (flat_map (declarations_of abbrevs) ws))
   pub high : r.bad_high ≡ least (places_with has_bad_high (flat_map (declarations_of abbrevs) ws))

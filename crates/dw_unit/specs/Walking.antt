@@ -9,6 +9,7 @@ use Rattle.dw_unit.specs.CompUnits.{Entry, UnitBounds, entries_within}
 abbrev pub entries_at : UnitBounds → ℕ → List ℕ → Result (List Entry) Trouble
 entries_at u depth left = entries_within u (length left) depth left
 
+-- An entry of the unit `u`.
 abbrev pub walked_entry : UnitBounds → ℕ → ℕ → Declaration → List Attr → Entry
 walked_entry u place depth d attrs = record {
   place = place;

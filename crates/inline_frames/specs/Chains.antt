@@ -30,5 +30,6 @@ abbrev pub last_chain : ListSections → ℕ → List Entry → List Unit → Li
 last_chain s a found [] = found
 last_chain s a found (u ∷ us) = last_chain s a (chain_in (is_function_at s a u) found [] u.entries) us
 
+-- The chain of a file at an address.
 abbrev pub chain : ListSections → ℕ → List Entry
 chain s a = last_chain s a [] (units s.units)

@@ -23,9 +23,11 @@ LacksPlaces places w = (q : ℕ) → w.place ≤ q → q < end_of w → contains
 abbrev pub listed_units : List ℕ → List Walked → List (List ListedEntry)
 listed_units abbrevs ws = map (λ (u : Unit). map listed u.entries) (oks (map (unit_of abbrevs) ws))
 
+-- The links of the chain in a unit.
 abbrev pub unit_links : List ℕ → BTreeSet ℕ → List ListedEntry → List Link
 unit_links str_offsets covering es = map (link_in str_offsets es) (unit_chain covering es)
 
+-- The links, or those from before if there are none.
 abbrev pub or_before : List Link → List Link → List Link
 or_before [] before = before
 or_before (l ∷ ls) before = l ∷ ls

@@ -17,6 +17,7 @@ use Rattle.range_loc_rewrite.specs.Tables.{list_sections}
 use Rattle.inline_frames.specs.Names.{NameSections, name_sections, name_of, unit_of_entry}
 use Rattle.inline_frames.specs.Chains.{chain}
 
+-- A function's name, and the position in it.
 pub record Frame : Type 0 where
   pub name : List ℕ
   pub path : List ℕ
@@ -29,11 +30,13 @@ or_unknown text = unwrap_or text (codes "?")
 
 -- The position in the innermost function: the last row in force.
 
+-- The last of the rows.
 abbrev pub last_row : List RowSaid → Option RowSaid
 last_row [] = None
 last_row (r ∷ []) = Some r
 last_row (r ∷ (s ∷ rows)) = last_row (s ∷ rows)
 
+-- The last row in force at an address.
 abbrev pub row_of : Elf → ℕ → Option RowSaid
 row_of elf a = option_and_then (λ (l : LineSaid). last_row l.rows) (line elf a)
 
@@ -50,11 +53,13 @@ named_line_unit s e =
     option_and_then (λ (a : Attr). if a.form == DW_FORM_sec_offset then Some a.value else None)
     (option_and_then (attr DW_AT_stmt_list) (option_and_then own_entry (unit_of_entry s e)))
 
+-- The path of the file in which an inlined function is called.
 abbrev pub call_path : Elf → Entry → Option (List ℕ)
 call_path elf e =
     option_and_then (λ offset. option_and_then (path_at (line_sections elf) offset) (unsigned_of DW_AT_call_file e))
     (named_line_unit (name_sections elf) e)
 
+-- The frame of the innermost function: the position is the row in force.
 abbrev pub frame_at_row : Elf → ℕ → Entry → Frame
 frame_at_row elf a e = record {
   name = or_unknown (name_of (name_sections elf) e);
@@ -72,17 +77,21 @@ frame_at_call elf inlined e = record {
   column = unwrap_or (unsigned_of DW_AT_call_column inlined) 0;
 }
 
+-- The frames of the functions around an inlined one, each at the call of the one before.
 abbrev pub callers : Elf → Entry → List Entry → List Frame
 callers elf inlined [] = []
 callers elf inlined (e ∷ es) = frame_at_call elf inlined e ∷ callers elf e es
 
+-- The frames of a chain.
 abbrev pub frames_of : Elf → ℕ → List Entry → List Frame
 frames_of elf a [] = []
 frames_of elf a (e ∷ es) = frame_at_row elf a e ∷ callers elf e es
 
+-- The frames at an address of a file.
 abbrev pub frames : Elf → ℕ → List Frame
 frames elf a = frames_of elf a (chain (list_sections elf) a)
 
+-- The line that is printed for a frame.
 abbrev pub frame_line : Frame → List ℕ
 frame_line f = f.name ++ codes " " ++ f.path ++ codes ":" ++ decimal f.line ++ codes ":" ++ decimal f.column
     ++ codes "\n"

@@ -15,26 +15,32 @@ use Rattle.inline_frames.specs.Naming.{attr_in, naming_in, naming_of}
 use Rattle.inline_frames.specs.declared.link.Link.{Link}
 use Rattle.inline_frames.specs.declared.link.OwnSays.{OwnSays}
 
+-- An attribute's number, unless its form is an address.
 abbrev pub unsigned_in : ℕ → List Attr → Option ℕ
 unsigned_in name attrs =
     option_and_then (λ (a : Attr). if a.form == DW_FORM_addr || is_address_index a.form then None else Some a.value)
     (attr_in name attrs)
 
+-- The value of an attribute.
 abbrev pub value_in : ℕ → List Attr → Option ℕ
 value_in name attrs = option_map (λ (a : Attr). a.value) (attr_in name attrs)
 
+-- The offset of the line number program in DW_AT_stmt_list.
 abbrev pub line_unit_in : List Attr → Option ℕ
 line_unit_in attrs =
     option_and_then (λ (a : Attr). if a.form == DW_FORM_sec_offset then Some a.value else None)
     (attr_in DW_AT_stmt_list attrs)
 
+-- The fields of a unit's own entry.
 abbrev pub says_of : Option ListedEntry → OwnSays
 says_of (Some e) = record { text_base = value_in DW_AT_str_offsets_base e.attrs; line_unit = line_unit_in e.attrs }
 says_of None = record { text_base = None; line_unit = None }
 
+-- The fields of the first entry of a unit.
 abbrev pub own_says : List ListedEntry → OwnSays
 own_says es = says_of (first_of es)
 
+-- The fields of a listed entry.
 abbrev pub listed_link : List ℕ → OwnSays → ListedEntry → Link
 listed_link str_offsets own e = record {
   naming = naming_in str_offsets own.text_base e.unit e.attrs;

@@ -22,6 +22,7 @@ pub record NameSections : Type 0 where
   pub line_str : List ℕ
   pub str_offsets : List ℕ
 
+-- The sections of a file that names are read from.
 abbrev pub name_sections : Elf → NameSections
 name_sections elf = record {
   units = sections_of elf;
@@ -66,6 +67,7 @@ abbrev pub own_name_or : NameSections → Entry → Option Attr → Option (List
 own_name_or s e (Some a) more = text_of s e a
 own_name_or s e None more = more
 
+-- The entry's own name, or `more`.
 abbrev pub name_or : NameSections → Entry → Option (List ℕ) → Option (List ℕ)
 name_or s e more = own_name_or s e (attr DW_AT_name e) more
 
@@ -78,5 +80,6 @@ name_within s (suc n) e = name_or s e (option_and_then (name_within s n) (referr
 abbrev pub reference_limit : ℕ
 reference_limit = 16
 
+-- The name of an entry, if it has one.
 abbrev pub name_of : NameSections → Entry → Option (List ℕ)
 name_of s e = name_within s reference_limit e

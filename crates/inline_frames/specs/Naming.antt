@@ -17,6 +17,7 @@ use Rattle.inline_frames.specs.declared.naming.Naming.TheVariants.{Named, Refers
 use Rattle.inline_frames.specs.declared.naming.TextPlace.{TextPlace}
 use Rattle.inline_frames.specs.declared.naming.TextPlace.TheVariants.{InInfo, InStr, InLineStr}
 
+-- The first attribute with a name.
 abbrev pub attr_in : ℕ → List Attr → Option Attr
 attr_in name attrs = find (λ (a : Attr). a.name == name) attrs
 
@@ -25,6 +26,7 @@ abbrev pub index_place : List ℕ → Option ℕ → ℕ → Option TextPlace
 index_place str_offsets base index =
     option_map InStr (option_and_then (λ b. number_in 4 (b + 4 * index) str_offsets) base)
 
+-- Where the text of an attribute is, by its form.
 abbrev pub text_place : List ℕ → Option ℕ → Attr → Option TextPlace
 text_place str_offsets base a =
     if a.form == DW_FORM_string then Some (InInfo a.place (a.len - 1))
@@ -38,6 +40,7 @@ target_by unit a =
     if a.form == DW_FORM_ref_addr then Some a.value
     else (if nat_le DW_FORM_ref_addr a.form && nat_le a.form DW_FORM_ref_udata then Some (unit + a.value) else None)
 
+-- The attribute that refers to another entry for the name.
 abbrev pub reference_in : List Attr → Option Attr
 reference_in attrs = option_or (attr_in DW_AT_abstract_origin attrs) (attr_in DW_AT_specification attrs)
 
@@ -47,12 +50,14 @@ naming_by str_offsets base (Some a) target = Named (text_place str_offsets base 
 naming_by str_offsets base None (Some place) = Refers place
 naming_by str_offsets base None None = Named None
 
+-- How the name of an entry with these attributes is found.
 abbrev pub naming_in : List ℕ → Option ℕ → (unit : ℕ) → List Attr → Naming
 naming_in str_offsets base unit attrs =
     naming_by str_offsets base (attr_in DW_AT_name attrs) (option_and_then (target_by unit) (reference_in attrs))
 
 -- Namings in a file
 
+-- How the name of an entry of a file is found.
 abbrev pub naming_of : NameSections → Entry → Naming
 naming_of s e =
     naming_in s.str_offsets (option_and_then (base DW_AT_str_offsets_base) (unit_of_entry s e)) e.unit e.attrs
@@ -63,10 +68,12 @@ text_at_place s (InInfo place len) = Some (take len (drop place s.units.info))
 text_at_place s (InStr offset) = text_in s.str offset
 text_at_place s (InLineStr offset) = text_in s.line_str offset
 
+-- The naming, or no name.
 abbrev pub naming_or_none : Option Naming → Naming
 naming_or_none (Some n) = n
 naming_or_none None = Named None
 
+-- The entry at an offset.
 abbrev pub entry_at : NameSections → ℕ → Option Entry
 entry_at s place = find (λ (x : Entry). x.place == place) (entries s.units)
 

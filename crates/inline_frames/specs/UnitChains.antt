@@ -15,9 +15,11 @@ abbrev pub is_function : BTreeSet ℕ → ListedEntry → Bool
 is_function covering e = (e.tag == DW_TAG_subprogram || e.tag == DW_TAG_inlined_subroutine)
     && contains nat_cmp covering e.place
 
+-- The test of `is_function` for entries with a declaration.
 abbrev pub function_test : BTreeSet ℕ → Entry → Bool
 function_test covering e = is_function covering (listed e)
 
+-- The chain in a unit.
 abbrev pub unit_chain : BTreeSet ℕ → List ListedEntry → List Entry
 unit_chain covering es = chain_in (function_test covering) [] [] (map plain es)
 
@@ -32,5 +34,6 @@ chain_from covering es None = []
 chain_from covering es (Some n) = outward (function_test covering)
     (with_enclosing (reverse (take (n + 1) (map plain es))))
 
+-- The fields that are kept of an entry of a unit.
 abbrev pub link_in : List ℕ → List ListedEntry → Entry → Link
 link_in str_offsets es e = listed_link str_offsets (own_says es) (listed e)

@@ -17,12 +17,14 @@ times step (suc n) left = do
   more ← times step n x.1
   Some (x.0 ∷ more.0, more.1)
 
+-- Reads a field of a format.
 abbrev pub field_at : List ℕ → Option ((ℕ × ℕ) × List ℕ)
 field_at left = do
   type ← ok (uleb_at left)
   form ← ok (uleb_at type.1)
   only_if (nat_le DW_LNCT_path type.0 && nat_le type.0 DW_LNCT_MD5) ((type.0, form.0), form.1)
 
+-- Reads an entry of a format.
 abbrev pub entry_at : Strings → Format → List ℕ → Option (Named × List ℕ)
 entry_at strings format left = do
   contents ← contents_at format left
@@ -61,6 +63,7 @@ found_at strings (field ∷ format) f left = do
   more ← found_more strings field.0 value.0 f
   found_at strings format more value.1
 
+-- The directory or file, if its contents have a path.
 abbrev pub found_named : Found → Option Named
 found_named f = do
   name ← f.path

@@ -48,9 +48,11 @@ row_at [] count j = count
 row_at (k ∷ kept) count zero = k.index
 row_at (k ∷ kept) count (suc j) = row_at kept count j
 
+-- The state is at the row or the offset from which on the next one is kept.
 abbrev pub is_due : Due → Kept → Bool
 is_due due k = nat_le due.row k.index || nat_le due.place k.place
 
+-- The states, with this one if it is due.
 abbrev pub kept_more : Due → Kept → List Kept → List Kept
 kept_more due k kept = if is_due due k then kept ++ k ∷ [] else kept
 

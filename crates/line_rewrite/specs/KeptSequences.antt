@@ -18,6 +18,7 @@ abbrev pub sequences_at : LineProgram → ℕ → List Sequence
 sequences_at p place =
     sequences p.coding.now (operations p.coding.now.opcode_base p.lengths.now (drop place p.bytes.now))
 
+-- The sequence of which the states are kept.
 abbrev pub told_sequence : Coding → List ℕ → List ℕ → KeptSequence → Sequence
 told_sequence coding lengths program k = sequence_at coding lengths program k.place k.end
 

@@ -34,6 +34,7 @@ unfoldable pub all_numbered : ℕ → List kept.Unit → List Numbered
 all_numbered number [] = []
 all_numbered number (u ∷ us) = unit_numbered number u ++ all_numbered (number + 1) us
 
+-- The addresses that a sequence covers.
 abbrev pub kept_range : Numbered → Range
 kept_range x = record { low = x.sequence.low; high = x.sequence.end }
 
@@ -49,6 +50,7 @@ pub record IsIndexOf (units : List kept.Unit) (index : code.SequenceIndex) : Typ
 abbrev pub numbered_at : List kept.Unit → ℕ → Option Numbered
 numbered_at units a = find (λ x. holds_address a (kept_range x)) (all_numbered 0 units)
 
+-- A kept sequence of a unit.
 abbrev pub unit_sequence : kept.Unit → KeptSequence → Sequence
 unit_sequence u k = told_sequence u.header.coding u.header.lengths.items u.program.items k
 
@@ -56,6 +58,7 @@ unit_sequence u k = told_sequence u.header.coding u.header.lengths.items u.progr
 abbrev pub numbered_rows : Numbered → ℕ → List Registers
 numbered_rows x a = in_force a (unit_sequence x.unit x.sequence).rows
 
+-- `f` has the rows in force of the first sequence that covers the address.
 pub record IsFound (units : List kept.Unit) (a : ℕ) (f : FoundRows) : Type 0 where
   pub first : Numbered
   pub found : numbered_at units a ≡ Some first
@@ -63,6 +66,7 @@ pub record IsFound (units : List kept.Unit) (a : ℕ) (f : FoundRows) : Type 0 w
   pub unit : slice_get units f.unit ≡ Some first.unit
   pub rows : f.rows.items ≡ numbered_rows first a
 
+-- None, if no sequence covers the address.
 abbrev pub AreFound : List kept.Unit → ℕ → Option FoundRows → Type 0
 AreFound units a None = numbered_at units a ≡ None
 AreFound units a (Some f) = IsFound units a f

@@ -42,6 +42,7 @@ written_coding default_is_stmt = record {
 abbrev pub above_base : ℕ → ℕ → ℕ
 above_base from to = (line_step from to + 5) % 2 ^ 64
 
+-- One special opcode can advance to the row.
 abbrev pub is_special : Registers → Registers → Bool
 is_special r row = nat_lt (above_base r.line row.line) 14 && nat_le (row.address - r.address) 16
 
@@ -66,6 +67,7 @@ row_ops r row =
     ++ unless (row.discriminator == 0) (SetDiscriminator row.discriminator)
     ++ step_ops r row
 
+-- The operations for rows, one after another.
 abbrev pub rows_ops : Registers → List Registers → List LineOp
 rows_ops r [] = []
 rows_ops r (row ∷ rows) = row_ops r row ++ rows_ops (after_row row) rows
@@ -103,6 +105,7 @@ spelled (SetDiscriminator n) = 0 ∷ (length (uleb n) + 1) ∷ 4 ∷ uleb n
 spelled (Special v) = (v + 13) ∷ []
 spelled Unknown = 0 ∷ 1 ∷ 3 ∷ []
 
+-- The bytes of operations.
 abbrev pub all_spelled : List LineOp → List ℕ
 all_spelled [] = []
 all_spelled (op ∷ ops) = spelled op ++ all_spelled ops

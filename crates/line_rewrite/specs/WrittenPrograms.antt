@@ -14,9 +14,11 @@ pub record Piece : Type 0 where
   pub len : ℕ
   pub rows : List Registers
 
+-- The address of a run's end.
 abbrev pub piece_end : Piece → ℕ
 piece_end u = u.start + u.len
 
+-- The registers after rows.
 abbrev pub after_rows : Registers → List Registers → Registers
 after_rows r [] = r
 after_rows r (row ∷ rows) = after_rows (after_row row) rows
@@ -30,6 +32,7 @@ first_file (row ∷ rows) = row.file
 abbrev pub opened : Coding → ℕ → List Registers → Registers
 opened coding address rows = record (start coding) { address = address; file = first_file rows }
 
+-- The operations that end the open sequence.
 abbrev pub close_ops : Going → List LineOp
 close_ops g = AdvancePc (g.end - g.registers.address) ∷ EndSequence ∷ []
 
@@ -47,9 +50,11 @@ abbrev pub registers_after : Coding → Option Going → ℕ → List Registers 
 registers_after coding None a rows = after_rows (opened coding a rows) rows
 registers_after coding (Some g) a rows = after_rows (if g.end == a then g.registers else opened coding a rows) rows
 
+-- The operations for a run.
 abbrev pub piece_ops : Coding → Option Going → Piece → List LineOp
 piece_ops coding o u = run_ops coding o u.start u.rows
 
+-- The open sequence after a run.
 abbrev pub going_after : Coding → Option Going → Piece → Going
 going_after coding o u = record { registers = registers_after coding o u.start u.rows; end = piece_end u }
 
@@ -61,6 +66,7 @@ pub record Begun : Type 0 where
 abbrev pub nothing_begun : Begun
 nothing_begun = record { bytes = []; going = None }
 
+-- A program with one more run.
 abbrev pub with_piece : Coding → Begun → Piece → Begun
 with_piece coding b u =
     record { bytes = b.bytes ++ all_spelled (piece_ops coding b.going u); going = Some (going_after coding b.going u) }

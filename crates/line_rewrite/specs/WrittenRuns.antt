@@ -27,6 +27,7 @@ abbrev pub placed_at : List kept.Unit → Run LineSaid → Option ℕ → Option
 placed_at units r None = None
 placed_at units r (Some a) = option_map (placed_by r a) (numbered_at units a)
 
+-- Where a run is written, if its first byte has an owner in a sequence.
 abbrev pub placed : List kept.Unit → List Span → Run LineSaid → Option Placed
 placed units spans r = placed_at units r (owner spans r.start)
 
@@ -37,6 +38,7 @@ with_placed programs (Some q) =
     slice_set programs q.unit
     (with_piece (written_coding q.stmt) (slice_index_or programs q.unit nothing_begun) q.piece)
 
+-- The programs of all units with more runs.
 unfoldable pub with_runs : List kept.Unit → List Span → List Begun → List (Run LineSaid) → List Begun
 with_runs units spans programs [] = programs
 with_runs units spans programs (r ∷ rs) = with_runs units spans (with_placed programs (placed units spans r)) rs
@@ -46,6 +48,7 @@ abbrev pub RowsFit : Option Placed → Type 0
 RowsFit None = Unit {0}
 RowsFit (Some q) = All IsRow q.piece.rows
 
+-- The rows of all runs have registers of 64 bits.
 abbrev pub AllRowsFit : List kept.Unit → List Span → List (Run LineSaid) → Type 0
 AllRowsFit units spans [] = Unit {0}
 AllRowsFit units spans (r ∷ rs) = RowsFit (placed units spans r) × AllRowsFit units spans rs

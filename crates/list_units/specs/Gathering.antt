@@ -30,11 +30,13 @@ pub record SeenEntry : Type 0 where
   pub index : Option ℕ
   pub held : Bool
 
+-- The index of the range list to which an entry refers, if it does so by an index.
 abbrev pub ranges_index : List Attr → Option ℕ
 ranges_index attrs =
     option_and_then (λ (a : Attr). if a.form == DW_FORM_rnglistx then Some a.value else None)
     (find (λ (a : Attr). a.name == DW_AT_ranges) attrs)
 
+-- The entry, if it has ranges.
 abbrev pub seen_of : (place own : ℕ) → (index : Option ℕ) → Option (List Range) → ℕ → List SeenEntry
 seen_of place own index None a = []
 seen_of place own index (Some ranges) a =

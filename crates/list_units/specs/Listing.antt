@@ -24,12 +24,15 @@ pub record ListItem : Type 0 where
   pub index : Option ℕ
   pub list : List Located
 
+-- The index by which an attribute refers to its list, if it does so.
 abbrev pub list_index : Attr → Option ℕ
 list_index a = if a.form == DW_FORM_loclistx then Some a.value else None
 
+-- The contents of the list to which an attribute refers.
 abbrev pub list_named : ListSections → Unit → Attr → Option (List Located)
 list_named s u a = if has_list locations_kind a then list_of locations_kind s.locations s.units.addr u a else None
 
+-- The attribute, if its list can be read.
 abbrev pub item_of : (place attr own : ℕ) → Option ℕ → Option (List Located) → List ListItem
 item_of place attr own index None = []
 item_of place attr own index (Some ls) =
@@ -40,13 +43,16 @@ abbrev pub attr_items : ListSections → Unit → (place name : ℕ) → Option 
 attr_items s u place name None = []
 attr_items s u place name (Some a) = item_of place name (own_place u) (list_index a) (list_named s u a)
 
+-- The location attributes of an entry that refer to lists.
 abbrev pub entry_items : ListSections → Unit → Entry → List ListItem
 entry_items s u e = attr_items s u e.place DW_AT_location (attr DW_AT_location e)
     ++ attr_items s u e.place DW_AT_frame_base (attr DW_AT_frame_base e)
 
+-- The location attributes of a unit that refer to lists.
 abbrev pub unit_items : ListSections → Unit → List ListItem
 unit_items s u = flat_map (entry_items s u) u.entries
 
+-- The location attributes of a file that refer to lists.
 abbrev pub all_items : ListSections → List ListItem
 all_items s = flat_map (unit_items s) (units s.units)
 
@@ -59,6 +65,7 @@ pub record IsNameOf (lists : List KeptList) (n : NamedList) (x : ListItem) : Typ
   pub within : n.list < length lists
   pub says : (a : ℕ) → number_says lists n.list a ≡ in_force x.list a
 
+-- The kept attributes, one for each.
 abbrev pub AreNamesOf : List KeptList → List NamedList → List ListItem → Type 0
 AreNamesOf lists named items = AllZip (IsNameOf lists) named items
 
@@ -71,6 +78,7 @@ HasMore olds lists before named items =
 abbrev pub list_found : ListSections → Unit → ℕ → Entry → Option (List Located)
 list_found s u name e = option_and_then (list_named s u) (attr name e)
 
+-- The index by which the attribute with a name refers to its list.
 abbrev pub index_found : ℕ → Entry → Option ℕ
 index_found name e = option_and_then list_index (attr name e)
 

@@ -17,6 +17,7 @@ abbrev pub closed : ℕ → List OpenEntry → List OpenEntry
 closed depth [] = []
 closed depth (o ∷ os) = if nat_lt o.depth depth then o ∷ os else closed depth os
 
+-- The nearest ranges of the innermost open entry.
 abbrev pub nearest : List OpenEntry → Option ℕ
 nearest [] = None
 nearest (o ∷ os) = o.nearest

@@ -31,6 +31,7 @@ use Rattle.dw_lists.specs.IndexedUnits.{indexed_of, indexed_units}
 abbrev pub is_bad_unit : ListSections → Walked → Bool
 is_bad_unit s w = is_bad s.units w || has_bad_offsets s w
 
+-- The locations of a unit at an address.
 abbrev pub unit_says : ListSections → ℕ → Unit → List PlaceSaid
 unit_says s p u = flat_map (entry_says s u p) (ranged_in s u)
 
@@ -46,6 +47,7 @@ pub record AreGathered (s : ListSections) (ws : List Walked) (p : PlaceProgress)
   pub names : AreNamesOf p.kept.lists.items p.named.items (flat_map (unit_items s) (units_of s ws))
   pub indexes : p.indexed.items ≡ flat_map (indexed_of locations_kind) (units_of s ws)
 
+-- `p` is the result of reading the locations of the units `ws`.
 pub record IsProgress (s : ListSections) (ws : List Walked) (p : PlaceProgress) : Type 0 where
   pub numbered : AreNumbered p.groups
   pub form : p.bad_form ≡ least (places_with has_bad_form (flat_map (declarations_of s.units.abbrevs) ws))

@@ -26,6 +26,7 @@ use Rattle.dw_lists.specs.IndexedUnits.{indexed_of, indexed_units}
 abbrev pub is_bad_unit : ListSections → Walked → Bool
 is_bad_unit s w = is_bad s.units w || has_bad_offset ranges_kind s.ranges (unit_of s.units.abbrevs w)
 
+-- The units that can be read.
 abbrev pub units_of : ListSections → List Walked → List Unit
 units_of s ws = oks (map (unit_of s.units.abbrevs) ws)
 
@@ -36,6 +37,7 @@ pub record AreGathered (s : ListSections) (ws : List Walked) (p : Progress) : Ty
   pub bad : p.bad_table ≡ least (flat_map (bad_list_tables ranges_kind s.ranges s.units.addr) (units_of s ws))
   pub indexes : p.indexed.items ≡ flat_map (indexed_of ranges_kind) (units_of s ws)
 
+-- `p` is the result of reading the ranges of the units `ws`.
 pub record IsProgress (s : ListSections) (ws : List Walked) (p : Progress) : Type 0 where
   pub numbered : AreNumbered p.groups
   pub within : AreWithin p.groups.count p.ranged.items
@@ -56,6 +58,7 @@ pub record IsUnitAdded (s : ListSections) (es : List ListedEntry) (place : ℕ) 
   pub high : new.bad_high ≡ old.bad_high
   pub unformed_is : new.unformed ≡ old.unformed
 
+-- The entries with ranges of all units.
 abbrev pub all_seen : ListSections → ℕ → List SeenEntry
 all_seen s a = flat_map (λ (u : Unit). seen_in s u u.entries a) (units s.units)
 

@@ -27,6 +27,7 @@ firsts (n ∷ ns) = n ∷ filter (λ m. not (n == m)) (firsts ns)
 abbrev pub said_at : ListSections → Unit → ℕ → ℕ → List (List ℕ)
 said_at s u at a = option_map_or (λ ls. in_force ls a) (location_list s u at) []
 
+-- The list at an offset can be read.
 abbrev pub can_read : ListSections → Unit → ℕ → Bool
 can_read s u at = is_some (location_list s u at)
 
@@ -59,5 +60,6 @@ abbrev pub is_formed : Attr → Bool
 is_formed a = implies (is_located a.name) (is_block a.form || a.form == DW_FORM_sec_offset
     || a.form == DW_FORM_loclistx)
 
+-- All location attributes have an expression or refer to a list.
 abbrev pub are_formed : List Attr → Bool
 are_formed attrs = list_all is_formed attrs

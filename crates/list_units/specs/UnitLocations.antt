@@ -75,6 +75,7 @@ located_of place name None source = []
 located_of place name (Some group) None = []
 located_of place name (Some group) (Some x) = record { place = place; attr = name; group = group; source = x } ∷ []
 
+-- The numbers of an attribute's group and list are below the counts.
 abbrev pub IsHeld : ℕ → ℕ → LocatedAttr → Type 0
 IsHeld groups lists l = (l.group < groups) × IsListed lists l.source
 
@@ -86,11 +87,13 @@ AreHeld groups l = All (IsHeld groups (length l.lists.items)) l.located.items
 abbrev pub nearest_holds : List Cover → Option ℕ → ℕ → Bool
 nearest_holds covers nearest p = option_map_or (λ n. group_holds covers n p) nearest false
 
+-- The answer of an entry's attribute, if its nearest ranges contain the address.
 abbrev pub attr_said : ListSections → Unit → List Cover → Option ℕ → Entry → ℕ → ℕ → List PlaceSaid
 attr_said s u covers nearest e name p =
     attr_says e.place name (if nearest_holds covers nearest p then option_map_or (λ v. expressions_of s u v p)
     (attr name e) [] else [])
 
+-- The answers of an entry's location attributes.
 abbrev pub entry_said : ListSections → Unit → List Cover → Option ℕ → Entry → ℕ → List PlaceSaid
 entry_said s u covers nearest e p =
     attr_said s u covers nearest e DW_AT_location p ++ attr_said s u covers nearest e DW_AT_frame_base p

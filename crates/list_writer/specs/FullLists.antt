@@ -12,6 +12,7 @@ use Rattle.dw_lists.specs.Lists.{Kind, items_at}
 
 -- An entry has full addresses: it sets no base address, isn't relative to one, and has no index of an address.
 
+-- An address, and not an index.
 abbrev pub is_whole : Address → Bool
 is_whole (Here a) = true
 is_whole (Index i) = false

@@ -18,6 +18,7 @@ pub record Bounded : Type 0 where
 abbrev pub stretch_bytes : ℕ → ℕ → List ℕ
 stretch_bytes start len = little_bytes 8 start ++ uleb len
 
+-- The bytes of an entry: its kind, first address, length, and for a location list the expression.
 abbrev pub entry_bytes : ListKind → Bounded → List ℕ
 entry_bytes Ranges b = DW_RLE_start_length ∷ stretch_bytes b.start b.len
 entry_bytes Locations b =
@@ -37,6 +38,7 @@ abbrev pub HasExpression : ListKind → List ℕ → Type 0
 HasExpression Ranges x = x ≡ []
 HasExpression Locations x = length x < 2 ^ 64
 
+-- The entry can be written.
 pub record IsWritable (kind : ListKind) (b : Bounded) : Type 0 where
   pub start : b.start < 2 ^ 64
   pub len : b.len < 2 ^ 64

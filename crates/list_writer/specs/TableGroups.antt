@@ -21,6 +21,7 @@ pub record IsClaim (own : ℕ) (index : Option ℕ) (old new : BTreeMap ℕ ℕ)
   pub alone : AreOf own old → free ≡ true
   pub still : AreOf own old → AreOf own new
 
+-- The indexes of attributes were claimed for a unit, unless another unit has one of them.
 pub record AreClaimed (own : ℕ) (entries : List NamedList) (old new : BTreeMap ℕ ℕ) (free : Bool) : Type 0 where
   pub stay : StayUsed old new
   pub claimed : free ≡ true → (r : NamedList) (i : ℕ) → Contains entries r → r.index ≡ Some i →

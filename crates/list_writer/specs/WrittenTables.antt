@@ -38,6 +38,7 @@ abbrev pub is_of : ListKind → ℕ → Bool
 is_of Ranges = is_of_ranges
 is_of Locations = is_of_locations
 
+-- The attribute refers to lists of the kind.
 abbrev pub IsNaming : ListKind → ℕ → Type 0
 IsNaming kind attr = (kind_of kind).names_list attr ≡ true
 
@@ -85,9 +86,11 @@ pub record AreNames (kind : ListKind) (lo own : ℕ) (names : List ListAt) : Typ
 abbrev pub Keeps : List ListAt → List ListAt → Type 0
 Keeps old new = (e attr o : ℕ) → new_list_offset old e attr ≡ Some o → new_list_offset new e attr ≡ Some o
 
+-- The offset of an attribute's list.
 abbrev pub name_at : NamedList → ℕ → ListAt
 name_at r offset = record { entry = r.place; attr = r.attr; offset = offset }
 
+-- The base of a unit.
 abbrev pub base_at : ListKind → ℕ → ℕ → ListAt
 base_at kind own offset = record { entry = own; attr = base_name kind; offset = offset }
 
@@ -99,6 +102,7 @@ IsOffsetGiven start o r names more indexes now None =
 IsOffsetGiven start o r names more indexes now (Some i) =
     (more ≡ names) × ((q : ℕ) → get nat_cmp now q ≡ (if is_at (nat_cmp i) q then Some o else get nat_cmp indexes q))
 
+-- The list of an attribute was added to a body, and the attribute got its offset.
 pub record IsEntryPut (lists : List (Vec ℕ)) (start : ℕ) (r : NamedList) (old new : List ℕ) (known : BTreeMap ℕ ℕ)
     (indexes now : BTreeMap ℕ ℕ) (names more : List ListAt) : Type 0 where
   pub offset : ℕ
@@ -120,6 +124,7 @@ abbrev pub keys_end : ℕ → List NamedList → ℕ
 keys_end lo [] = lo
 keys_end lo (r ∷ rs) = keys_end (key r.place r.attr + 1) rs
 
+-- The lists of attributes were added to a body, and each attribute got its offset.
 pub record ArePut (kind : ListKind) (lists : List (Vec ℕ)) (start lo own : ℕ) (body : List ℕ) (indexes : BTreeMap ℕ ℕ)
     (old names : List ListAt) (entries : List NamedList) : Type 0 where
   pub names_are : AreNames kind (keys_end lo entries) own names
@@ -146,10 +151,12 @@ first_list (suc n) = DW_RLE_end_of_list ∷ []
 abbrev pub offset_of : ℕ → BTreeMap ℕ ℕ → ℕ → ℕ
 offset_of size indexes i = size + unwrap_or (get nat_cmp indexes i) 0
 
+-- The offsets of the first indexes, of four bytes each.
 unfoldable pub list_offsets : (size : ℕ) → BTreeMap ℕ ℕ → ℕ → List ℕ
 list_offsets size indexes zero = []
 list_offsets size indexes (suc n) = list_offsets size indexes n ++ little_bytes 4 (offset_of size indexes n)
 
+-- A table after its length: header, offsets and lists.
 abbrev pub list_table : ℕ → BTreeMap ℕ ℕ → List ℕ → List ℕ
 list_table count indexes body = list_header count ++ (list_offsets (4 * count) indexes count ++ body)
 
@@ -198,6 +205,7 @@ IsListOf kind lists tables names entries base i at =
     × (new_list_offset names r.own (base_name kind) ≡ Some base) × StandsAt tables at (bytes_in lists r.list))
     ⊎ StandsAt tables at (list_bytes kind [])
 
+-- An index at a base has the offset of a list.
 pub record HasSlot (kind : ListKind) (lists : List (Vec ℕ)) (tables : List (List ℕ)) (names : List ListAt)
     (entries : List NamedList) (base i : ℕ) : Type 0 where
   pub offset : ℕ
@@ -286,6 +294,7 @@ indexed_in (b ∷ bs) named units = units
 abbrev pub needs_table : List NamedList → IndexedUnit → Bool
 needs_table entries x = is_some x.greatest || list_any (λ (r : NamedList). r.own == x.own) entries
 
+-- The units that need a table, in order.
 abbrev pub with_tables : List NamedList → List IndexedUnit → List IndexedUnit
 with_tables entries units = filter (needs_table entries) units
 

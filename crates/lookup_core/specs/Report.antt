@@ -19,21 +19,26 @@ use Rattle.lookup_core.specs.Texts.{bytes_text, offset_text, register_text, if_s
 
 -- A row: path, line and column, the flags that are set, and the numbers that aren't 0.
 
+-- The position of a row.
 abbrev pub position_text : List ℕ → ℕ → ℕ → List ℕ
 position_text path line column = codes "line " ++ path ++ codes ":" ++ decimal line ++ codes ":" ++ decimal column
 
+-- The flags and numbers of a row.
 abbrev pub flags_text : RowSaid → List ℕ
 flags_text r =
     if_set r.stmt (codes " stmt") ++ if_set r.block (codes " block") ++ if_set r.prologue (codes " prologue")
     ++ if_set r.epilogue (codes " epilogue")
     ++ unless_zero r.isa (codes " isa " ++ decimal r.isa) ++ unless_zero r.disc (codes " disc " ++ decimal r.disc)
 
+-- The line of a row.
 abbrev pub row_line : RowSaid → List ℕ
 row_line r = position_text r.path r.line r.column ++ flags_text r ++ codes "\n"
 
+-- The lines of all rows in force.
 abbrev pub line_lines : Option LineSaid → List ℕ
 line_lines said = option_map_or (λ (l : LineSaid). flat_map row_line l.rows) said []
 
+-- The line of an entry that covers the address.
 abbrev pub covers_line : ℕ → List ℕ
 covers_line place = codes "covers " ++ hexadecimal place ++ codes "\n"
 
@@ -42,11 +47,13 @@ abbrev pub expression_text : List ℕ → List ℕ
 expression_text [] = codes "-"
 expression_text (b ∷ bs) = bytes_text (b ∷ bs)
 
+-- The line of an expression in force.
 abbrev pub place_line : ℕ → ℕ → List ℕ → List ℕ
 place_line entry attr x =
     codes "places " ++ hexadecimal entry ++ codes " " ++ hexadecimal attr ++ codes " " ++ expression_text x
     ++ codes "\n"
 
+-- The lines of an attribute's expressions in force.
 abbrev pub places_lines : PlaceSaid → List ℕ
 places_lines p = flat_map (place_line p.entry p.attr) p.expressions
 
@@ -57,6 +64,7 @@ abbrev pub cfa_text : Cfa → List ℕ
 cfa_text (cfa.Reg reg offset) = register_text reg ++ offset_text offset
 cfa_text (cfa.Expr bytes) = codes "expr " ++ bytes_text bytes
 
+-- The rule of a register. DWARF 5, section 6.4.1.
 abbrev pub rule_text : Rule → List ℕ
 rule_text rule.Undefined = codes "undefined"
 rule_text rule.Same = codes "same"
@@ -66,6 +74,7 @@ rule_text (rule.Reg r) = register_text r
 rule_text (rule.Expr bytes) = codes "[expr " ++ bytes_text bytes ++ codes "]"
 rule_text (rule.ValExpr bytes) = codes "expr " ++ bytes_text bytes
 
+-- A register and its rule.
 abbrev pub register_rule : ℕ × Rule → List ℕ
 register_rule r = codes " " ++ register_text r.0 ++ codes "=" ++ rule_text r.1
 
@@ -73,9 +82,11 @@ abbrev pub star : Bool → List ℕ
 star true = codes "*"
 star false = []
 
+-- The handler, unless it is 0; with `*` if it is the address of a pointer to it.
 abbrev pub handler_text : ℕ → Bool → List ℕ
 handler_text handler indirect = unless_zero handler (codes " handler " ++ star indirect ++ hexadecimal handler)
 
+-- The line on how to unwind.
 abbrev pub unwind_line : FrameAnswer → List ℕ
 unwind_line x =
     codes "unwind cfa " ++ cfa_text x.row.cfa ++ codes " ra " ++ register_text x.ra

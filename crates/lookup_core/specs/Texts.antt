@@ -10,6 +10,7 @@ digit n = hexadecimal n
 abbrev pub byte_text : ℕ → List ℕ
 byte_text b = digit (b / 16) ++ digit (b % 16)
 
+-- Bytes in two hexadecimal digits each.
 abbrev pub bytes_text : List ℕ → List ℕ
 bytes_text bytes = flat_map byte_text bytes
 
@@ -22,9 +23,11 @@ offset_text (negsuc n) = codes "-" ++ decimal (suc n)
 abbrev pub register_text : ℕ → List ℕ
 register_text r = codes "r" ++ decimal r
 
+-- The text, if the flag is set.
 abbrev pub if_set : Bool → List ℕ → List ℕ
 if_set true text = text
 if_set false text = []
 
+-- The text, unless the number is 0.
 abbrev pub unless_zero : ℕ → List ℕ → List ℕ
 unless_zero n text = if n == 0 then [] else text

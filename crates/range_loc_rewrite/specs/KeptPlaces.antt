@@ -21,6 +21,7 @@ use Rattle.list_units.specs.UnitLocations.{all_located, located_says}
 use Rattle.dw_lists.specs.declared.indexed_unit.IndexedUnit.{IndexedUnit}
 use Rattle.dw_lists.specs.IndexedUnits.{indexed_units}
 
+-- An attribute's entry, with the group of its nearest ranges.
 abbrev pub ranged_of : LocatedAttr → RangedEntry
 ranged_of l = record { place = l.place; group = l.group; own = 0; index = None }
 

@@ -20,6 +20,7 @@ use Rattle.range_loc_rewrite.specs.NewOffsets.{RangesGetOffsets, PlacesGetOffset
 abbrev pub new_line_offset : List ListAt → ℕ → ℕ
 new_line_offset lists n = unwrap_or (new_list_offset lists n DW_AT_stmt_list) no_line_unit
 
+-- Units and entries are kept, changed in place, and so are line units and the references to these.
 pub record AreUnitsKept (spans : List Span) (lists : List ListAt) (i f : Elf) : Type 0 where
   -- Entries keep their offsets, and are changed in place by these lists.
   pub changed : AreChangedWith spans lists i f
@@ -48,6 +49,7 @@ dropped_names = codes ".debug_macro" ∷ []
 abbrev pub is_one_of : List (List ℕ) → List ℕ → Bool
 is_one_of names name = list_any (bytes_eq name) names
 
+-- All debug data is kept: units, and the bytes of the sections that are neither written nor left out.
 pub record IsDebugKept (spans : List Span) (lists : List ListAt) (i f : Elf) : Type 0 where
   pub units : AreUnitsKept spans lists i f
   pub others : (name : List ℕ) → IsTrue (names_debug name) → is_one_of written_names name ≡ false →
