@@ -13,7 +13,7 @@ use rb_bytes::cursor::Cursor;
 use table_core::shape::{Shape, shape_of};
 use table_core::value::number;
 
-// A block of bytes, after their count of `size` bytes.
+// A block of bytes, after its length, a number of `size` bytes.
 fn counted<'a>(cursor: &mut Cursor<'a>, size: u8) -> Result<&'a [u8], Trouble>
     requires { IsTrue (is_size size) }
     ensures read { IfOk result (λ x. content_at (shape.Block size) cursor.old.left ≡ Ok (x.now, cursor.new.left)) }
@@ -24,7 +24,7 @@ fn counted<'a>(cursor: &mut Cursor<'a>, size: u8) -> Result<&'a [u8], Trouble>
     Ok(bytes)
 }
 
-// The bytes of a block, after its count. Other shapes have none.
+// The bytes of a block, after its length. Other shapes have none.
 fn content<'a>(cursor: &mut Cursor<'a>, shape: Shape) -> Result<&'a [u8], Trouble>
     requires { IsTrue (is_readable shape) }
     ensures read { IfOk result (λ x. content_at shape cursor.old.left ≡ Ok (x.now, cursor.new.left)) }

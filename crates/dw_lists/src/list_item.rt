@@ -93,7 +93,7 @@ fn location_bound<'a>(cursor: &mut Cursor<'a>, kind: u64) -> Result<Bound, Troub
     }
 }
 
-/// Reads bytes after their count in LEB128.
+/// Reads bytes after their length in LEB128.
 pub fn block<'a>(cursor: &mut Cursor<'a>) -> Result<&'a [u8], Trouble>
     ensures read { IfOk result (λ x. leb_bytes_at Unsound cursor.old.left ≡ Ok (x.now, cursor.new.left)) }
     ensures trouble { IfErr result (λ e. leb_bytes_at Unsound cursor.old.left ≡ Err e) }

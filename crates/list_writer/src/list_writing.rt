@@ -20,7 +20,7 @@ fn put_stretch(out: &mut Vec<u8>, kind: u64, start: u64, len: u64) -> Result<(),
     put_uleb(out, len)
 }
 
-// Appends bytes, after their count in LEB128.
+// Appends bytes, after their length in LEB128.
 fn put_block(out: &mut Vec<u8>, bytes: &[u8]) -> Result<(), NoMemory>
     ensures { OnOk result (out.new.items ≡ out.old.items ++ (uleb (length bytes.now) ++ bytes.now)) }
 {

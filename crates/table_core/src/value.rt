@@ -32,7 +32,7 @@ fn signed<'a>(cursor: &mut Cursor<'a>) -> Result<u64, Gap>
     Ok(number.cast_unsigned())
 }
 
-// Skips bytes after their number, which has `size` bytes.
+// Skips bytes after their length, a number of `size` bytes.
 fn block<'a>(cursor: &mut Cursor<'a>, size: u8) -> Result<u64, Gap>
     requires { IsTrue (is_size size) }
     ensures read { IfOk result (λ x. block_at size cursor.old.left ≡ Ok (x, cursor.new.left)) }
@@ -44,7 +44,7 @@ fn block<'a>(cursor: &mut Cursor<'a>, size: u8) -> Result<u64, Gap>
     Ok(0)
 }
 
-// Skips bytes after their number in LEB128.
+// Skips bytes after their length in LEB128.
 fn leb_block<'a>(cursor: &mut Cursor<'a>) -> Result<u64, Gap>
     ensures read { IfOk result (λ x. leb_block_at cursor.old.left ≡ Ok (x, cursor.new.left)) }
     ensures gap { IfErr result (λ gap. leb_block_at cursor.old.left ≡ Err gap) }
