@@ -1,4 +1,4 @@
--- Where a branch goes, by the test that was made.
+-- The pc after a branch, by its test.
 use Rattle.std.proofs.Common.{◌≡◌, ◌∙◌, ap, refl, ℕ, ℤ, Bool, true, false}
 use Rattle.std.specs.Prelude.{not}
 use mathlib.Core.Bool.{beq}

@@ -1,11 +1,11 @@
--- What a call of brk leaves.
+-- The state after a call of brk.
 use Rattle.std.proofs.Common.{◌≡◌, ◌∙◌, sym, ap, ℕ, Bool, true, false}
 use Rattle.std.specs.Prelude.{◌&&◌, nat_le, nat_lt, if◌then◌else◌}
 use Rattle.rv_code.specs.machine.Machine.{set_register, with_break}
 use Rattle.rv_code.specs.machine.Step.{ByteState, a0}
 use Rattle.run_core.specs.States.{Same}
 
--- a state after the break was asked to go to a place
+-- the state after brk was asked to move the break to `to`
 pub break_same : (s t : ByteState) (next to : ℕ) →
     t.pc ≡ next → ((r : ℕ) → set_register a0 t.program_break s.registers r ≡ t.registers r) →
     s.space ≡ t.space → s.input ≡ t.input →

@@ -43,7 +43,7 @@ pub write_call-traps : (s : ByteState) (next : ℕ) → all_may (may_read s) (s.
     write_call s next true ≡ Halts s.pc cause.Load
 write_call-traps s next may = rw may refl
 
--- what calls write out
+-- calls that write
 
 pub read_writes_nothing : (s : ByteState) (moved : List ℕ) (known : Option (List ℕ)) →
     known ≡ append_known known (output (events (Some (read_event s moved))))

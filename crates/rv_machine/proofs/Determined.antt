@@ -1,4 +1,4 @@
--- A step comes to one outcome.
+-- A step has at most one outcome.
 use Rattle.std.proofs.Common.{◌≡◌, ◌∙◌, ℕ, Option, Some, None, sym, ap, subst}
 use Rattle.std.proofs.lemmas.Option.{same_Some}
 use Rattle.rv_code.specs.declared.inst.Inst.{Inst}

@@ -1,4 +1,4 @@
--- What is fetched, by the tests that the machine makes.
+-- The fetched halfwords, by the tests that the machine makes.
 use Rattle.std.proofs.Common.{◌≡◌, ◌≢◌, ◌%◌, Some, None, true, false, refl}
 use Rattle.std.specs.Prelude.{◌==◌}
 use Rattle.std.proofs.lemmas.Bool.{eq-eqb, false_from_ne_true, eqb-true}

@@ -1,4 +1,4 @@
--- A step that comes to one outcome comes to another that is equal to it.
+-- A step with an outcome also has any equal outcome.
 use Rattle.std.proofs.Common.{◌≡◌, ℕ, List, subst}
 use Rattle.rv_code.specs.machine.Step.{ByteOutcome}
 use Rattle.rv_machine.specs.declared.machine.Machine.{Machine}

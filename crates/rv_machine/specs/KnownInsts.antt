@@ -1,4 +1,4 @@
--- Instructions that were decoded before.
+-- The cache of decoded instructions.
 use Rattle.std.specs.Prelude.{◌≡◌, ℕ, ◌<◌, length, Option, slice_index_or}
 use Rattle.rv_code.specs.declared.inst.Inst.{Inst}
 use Rattle.rv_code.specs.declared.action.Action.{Action}
@@ -7,7 +7,7 @@ use Rattle.rv_code.specs.isa.InstBytes.{Decodes}
 use Rattle.rv_machine.specs.declared.known.KnownAction.{KnownAction}
 use Rattle.rv_machine.specs.declared.known.KnownActions.{KnownActions}
 
--- the halfwords are one instruction, of so many bytes, and it does this
+-- the halfwords are exactly one instruction, whose length is `bytes`, and `action` is what it does
 pub record IsAction (half : ℕ) (next : Option ℕ) (action : Action) (bytes : ℕ) : Type 0 where
   pub inst : Inst
   pub decodes : Decodes half next inst bytes

@@ -1,4 +1,4 @@
--- The state that a machine keeps.
+-- The state that a `Machine` represents.
 use Rattle.std.specs.Prelude.{ℕ, ◌<◌, ◌≤◌, List, slice_index}
 use Rattle.rv_code.specs.machine.Step.{ByteState}
 use Rattle.rv_code.specs.declared.action.Action.{Action}
@@ -10,7 +10,7 @@ use Rattle.rv_machine.specs.declared.machine.Machine.{Machine}
 abbrev pub registers_of : Machine → ℕ → ℕ
 registers_of m r = slice_index m.registers r
 
--- the state of a machine before which there is this input
+-- the state of machine `m` with `input` as the bytes that are still to be read
 abbrev pub state_of : Machine → List ℕ → ByteState
 state_of m input = record {
   pc = m.pc;
@@ -21,7 +21,7 @@ state_of m input = record {
   input = input;
 }
 
--- the register that an action writes is one of 32, and it stores at most 8 bytes
+-- the action writes one of the 32 registers, if any, and stores at most 8 bytes
 abbrev pub HasRegisters : Action → Type 0
 HasRegisters (Compute op rd left right) = rd < 32
 HasRegisters (Branch test wanted rs1 rs2 imm) = Unit {0}

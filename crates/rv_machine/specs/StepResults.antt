@@ -1,4 +1,4 @@
--- The answers of the byte machine as those of any machine, and what they say of it.
+-- Results of the byte machine in the terms of `run_core`, which are for any machine.
 use Rattle.std.specs.Prelude.{ℕ, List, Bool}
 use Rattle.rv_code.specs.declared.cause.Cause.{Cause}
 use Rattle.rv_code.specs.machine.Step.{ByteState, ByteOutcome}
@@ -20,11 +20,11 @@ answered stepped.ReadFault = answer.ReadFault
 answered stepped.WriteFault = answer.WriteFault
 answered stepped.Memory = answer.Memory
 
--- a step that comes to the outcome has this answer, and leaves the machine with this input
+-- a step with this outcome has the result `result`, and leaves the machine `new` with this input
 abbrev pub Becomes : ByteOutcome → Stepped → Machine → Machine → List ℕ → Type 0
 Becomes outcome result old new input = core.Becomes state_of outcome (answered result) old new input
 
--- what holds of a step by its answer, with whether the source was found at its end, before and after it
+-- what holds after a step, by its result: `ended` and `ends` say if the end of the input was found before and after it
 abbrev pub StepAnswers : (ByteState → ByteOutcome → Type 0) → Stepped → Machine → Machine → Bool → Bool → Outside →
     Outside
     → Type 0

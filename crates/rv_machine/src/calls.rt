@@ -21,7 +21,7 @@ impl<'a> Machine<'a> {
     ghost use Rattle.rv_machine.specs.State.{state_of, registers_of};
     ghost use Rattle.rv_machine.specs.StepResults.{Becomes, StepAnswers};
 
-    // Comes back from a call with this result.
+    // Returns from a system call with `value` in `a0`, and goes on at `next`.
     fn return_value(&mut self, value: u64, next: u64) -> Stepped
         ensures going { result ≡ Stepped.Going }
         ensures state { (input : List ℕ) → Same
@@ -66,7 +66,7 @@ impl<'a> Machine<'a> {
         Stepped::Going
     }
 
-    // How many bytes a call moves at most: the size of the buffer, which is its third argument, and no more than
+    // The largest number of bytes that a call moves: the size of its buffer (the third argument), limited to
     // `MOST_MOVED`.
     fn buffer_size(&self) -> usize
         ensures is { (input : List ℕ) → result ≡ buffer_size (state_of self.now input) }
@@ -75,7 +75,7 @@ impl<'a> Machine<'a> {
         self.register(A2).min(MOST_MOVED) as usize
     }
 
-    // Reads standard input into the buffer. Room is taken before anything is read.
+    // Reads standard input into the buffer. Memory for the bytes is reserved before anything is read.
     fn read_input<I: Source>(
         &mut self,
         next: u64,
@@ -106,7 +106,7 @@ impl<'a> Machine<'a> {
         }
     }
 
-    // Writes the buffer out.
+    // Writes the buffer to standard output.
     fn write_output<O: Sink>(&mut self, next: u64, out: &mut O) -> Stepped
         ensures answer { (input : SourceSeen) (ended : Bool) →
             StepAnswers (λ s o. o ≡ write_call s next true) result self.old self.new ended ended
@@ -156,7 +156,7 @@ impl<'a> Machine<'a> {
         }
     }
 
-    /// Does the system call that the registers name.
+    /// Does the system call whose number is in `a7`.
     pub(crate) fn system_call<I: Source, O: Sink>(
         &mut self,
         next: u64,

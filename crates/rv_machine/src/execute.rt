@@ -1,4 +1,4 @@
-// The instructions but for system calls.
+// All instructions except system calls.
 ghost use Rattle.std.specs.Prelude.{◌≡◌, ◌≢◌, ◌*◌, ◌/◌, ◌<◌, ◌≤◌, ℕ, List};
 
 use crate::machine::Machine;
@@ -14,7 +14,7 @@ impl<'a> Machine<'a> {
     ghost use Rattle.rv_machine.specs.State.{state_of, HasRegisters};
     ghost use Rattle.rv_machine.specs.StepResults.{Becomes};
 
-    // Does an instruction after which the next one stands at `next`.
+    // Does an instruction. `next` is the address of the instruction after it.
     pub(crate) fn execute(&mut self, action: Action, next: u64) -> Stepped
         requires registers { HasRegisters action }
         requires no_call { action ≢ Action.SystemCall }
@@ -83,7 +83,7 @@ impl<'a> Machine<'a> {
         }
     }
 
-    // Where a jump through a register goes: its lowest bit is cleared. ISA manual, section 2.5.1.
+    // The target of an indirect jump, with its lowest bit cleared. ISA manual, section 2.5.1.
     fn jump_target(&self, rs1: u8, imm: i64) -> u64
         ensures { (input : List ℕ) → result ≡ address (state_of self.now input) rs1 (unsigned64 imm) / 2 * 2 }
     {
@@ -104,7 +104,7 @@ impl<'a> Machine<'a> {
         self.write_register(rd, extension.extend(number), next)
     }
 
-    // Stores the low bytes of a value.
+    // Stores the low `count` bytes of `value` at `address`.
     fn store_number(&mut self, count: u8, value: u64, address: u64, next: u64) -> Stepped
         requires { count ≤ 8 }
         ensures { (input : List ℕ) → let s = state_of self.old input in

@@ -1,4 +1,4 @@
-// What the decoder is given.
+// Fetching: the halfwords that the decoder gets.
 ghost use Rattle.std.specs.Prelude.{◌≡◌, ℕ, List};
 
 use crate::machine::Machine;
@@ -8,8 +8,8 @@ impl<'a> Machine<'a> {
     ghost use Rattle.rv_code.specs.machine.Step.{halfword, fetched};
     ghost use Rattle.rv_machine.specs.State.{state_of};
 
-    /// The halfword at the pc, and the next one where the first begins a longer form; none at an odd pc, or where
-    /// there is no right to execute them.
+    /// The halfword at the pc, and the one after it if the first begins a longer instruction. `None` if the pc is odd,
+    /// or if the bytes may not be executed.
     pub(crate) fn fetch(&self) -> Option<(u16, Option<u16>)>
         ensures { (input : List ℕ) → result ≡ fetched (state_of self.now input) }
     {
@@ -24,7 +24,7 @@ impl<'a> Machine<'a> {
         self.fetch_anywhere()
     }
 
-    // Fetches byte by byte.
+    // Fetches byte by byte, from memory that may have been written.
     fn fetch_anywhere(&self) -> Option<(u16, Option<u16>)>
         ensures { (input : List ℕ) → result ≡ fetched (state_of self.now input) }
     {

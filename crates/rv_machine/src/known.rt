@@ -1,4 +1,4 @@
-// Instructions that were decoded before.
+// A cache of decoded instructions.
 ghost use Rattle.std.specs.Prelude.{◌≡◌, ◌<◌, ℕ, IfSome, IfNone};
 ghost use Rattle.rv_code.specs.isa.InstBytes.{Decodes};
 ghost use Rattle.rv_code.specs.declared.inst.Inst.{Inst};
@@ -7,7 +7,7 @@ use rv_code::Action;
 use rv_decode::decode;
 use std::alloc::Global;
 
-/// Halfwords of code, what the instruction that they are does, and its length in bytes.
+/// An entry: the halfwords of an instruction, its action, and its length in bytes.
 #[derive(Clone, Copy)]
 pub struct KnownAction {
     pub half: u16,
@@ -16,20 +16,21 @@ pub struct KnownAction {
     pub length: u8,
 }
 
-/// Decoded instructions by their halfwords, so that loops decode theirs once. Halfwords can share a place with others:
-/// then what was decoded last stands there.
+/// Decoded instructions by their halfwords, so that an instruction in a loop is decoded once. Instructions with the
+/// same index share an entry, which then holds the one that was decoded last.
 #[derive(Drop)]
 pub struct KnownActions {
     pub entries: Vec<KnownAction>,
 }
 
-// How many places the table has.
+// The number of entries.
 const PLACES: usize = 16384;
 
 // C.NOP, which fills the table before anything is decoded.
 const NOP: u16 = 1;
 
-// The place of halfwords in the table. Any would do: the factor spreads what differs in the second halfword alone.
+// The index of an instruction's entry. The choice only affects speed: the factor spreads instructions that differ only
+// in their second halfword.
 fn place(half: u16, next: Option<u16>) -> usize {
     let upper = next.unwrap_or(0) as usize;
     (half as usize / 4 + upper * 5) % PLACES
@@ -38,7 +39,7 @@ fn place(half: u16, next: Option<u16>) -> usize {
 impl KnownActions {
     ghost use Rattle.rv_machine.specs.KnownInsts.{AreKnown, IsAction};
 
-    /// A table in which nothing is found.
+    /// A cache without entries, in which nothing is found.
     pub fn none(alloc: Global) -> KnownActions
         ensures { AreKnown result }
     {
@@ -47,7 +48,7 @@ impl KnownActions {
         }
     }
 
-    /// A table that is filled as instructions are decoded. Where memory runs out, nothing is found in it.
+    /// A cache that is filled as instructions are decoded. If memory runs out, the cache has no entries.
     pub fn new(alloc: Global) -> KnownActions
         ensures { AreKnown result }
     {
@@ -60,7 +61,7 @@ impl KnownActions {
         }
     }
 
-    /// What the instruction of these halfwords does, and its length.
+    /// The action of the instruction with these halfwords, and its length in bytes.
     pub fn find(&mut self, half: u16, next: Option<u16>) -> Option<(Action, u8)>
         requires { AreKnown self.old }
         ensures known { AreKnown self.new }
@@ -77,7 +78,7 @@ impl KnownActions {
         self.learn(at, half, next)
     }
 
-    // Decodes halfwords, and puts what they are into the table.
+    // Decodes these halfwords, and puts the result into entry `at`.
     fn learn(&mut self, at: usize, half: u16, next: Option<u16>) -> Option<(Action, u8)>
         requires { AreKnown self.old }
         ensures known { AreKnown self.new }

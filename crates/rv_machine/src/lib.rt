@@ -1,4 +1,4 @@
-//! The byte machine: runs a file by the instruction set's rules, one step at a time.
+//! The byte machine: runs an ELF file by the rules of the instruction set, one step at a time.
 #![tactic(auto)]
 
 mod calls;

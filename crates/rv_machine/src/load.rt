@@ -17,8 +17,7 @@ impl<'a> Machine<'a> {
     ghost use Rattle.rv_memory.specs.Limits.{IsWithinLimits};
     ghost use Rattle.rv_machine.specs.State.{state_of};
 
-    /// A machine that is about to run a file with these arguments: at most 64 of them, of at most
-    /// 65536 bytes together.
+    /// A machine that is about to run `elf` with these arguments: at most 64 of them, with at most 65536 bytes in all.
     pub fn load(alloc: Global, elf: &'a Elf<'a>, args: &[String]) -> Result<Machine<'a>, NoMemory>
         requires read { IsElfOf elf.now.file.now elf.now }
         requires sound { IsSound elf.now.file.now }

@@ -5,7 +5,7 @@ use crate::stepped::Stepped;
 use rv_code::{Cause, Operand};
 use rv_memory::memory::Memory;
 
-/// A machine that runs an ELF file, by the instructions of RV64IMC and a few system calls of Linux.
+/// A machine that runs an ELF file: the instructions of RV64IMC and a few system calls of Linux.
 #[derive(Drop)]
 pub struct Machine<'a> {
     pub(crate) pc: u64,
@@ -46,7 +46,7 @@ impl<'a> Machine<'a> {
         }
     }
 
-    // The address that a register and an offset name.
+    // The sum of a register and an offset, modulo 2^64.
     pub(crate) fn address(&self, rs1: u8, imm: i64) -> u64
         ensures { (input : List ℕ) → result ≡ address (state_of self.now input) rs1 (unsigned64 imm) }
     {
@@ -60,7 +60,7 @@ impl<'a> Machine<'a> {
         Stepped::Going
     }
 
-    // Goes to a pc with a register written. Register 0 stays 0.
+    // Writes `value` to register `rd`, and goes on at `next`. Register 0 stays 0.
     pub(crate) fn write_register(&mut self, rd: u8, value: u64, next: u64) -> Stepped
         requires { rd < 32 }
         ensures { (input : List ℕ) →

@@ -7,12 +7,12 @@ use crate::stepped::Stepped;
 use rb_io::{Sink, Source};
 use run_core::InputEnd;
 
-/// What a run answers.
+/// The result of a run.
 #[derive(Clone, Copy)]
 pub struct Ran {
-    /// What the last step came to. `Going` says that the limit of steps was reached.
+    /// The result of the last step. `Going` means that the limit of steps was reached.
     pub end: Stepped,
-    /// The steps that were done. One that ends is counted, one that traps or fails isn't.
+    /// The number of steps done. A step that ends the program is counted, one that traps or fails isn't.
     pub steps: u64,
 }
 
@@ -21,7 +21,7 @@ impl Ran {
     ghost use Rattle.run_core.specs.Runs.{steps_done};
     ghost use Rattle.rv_machine.specs.StepResults.{answered};
 
-    /// A run that came to its end in the step after `steps` others.
+    /// A run that ended in the step after `steps` others.
     pub fn ended(end: Stepped, steps: u64) -> Ran
         requires { steps < 2 ^ 64 - 1 }
         ensures end { result.end ≡ end }
@@ -44,7 +44,7 @@ impl<'a> Machine<'a> {
     ghost use Rattle.rv_machine.specs.State.{state_of};
     ghost use Rattle.rv_machine.specs.StepResults.{answered};
 
-    /// Does at most `limit` steps. Once a read found the input at its end, it is at its end for the whole run.
+    /// Does at most `limit` steps. Once a read finds the end of the input, all later reads of the run do, too.
     pub fn run<I: Source, O: Sink>(&mut self, limit: u64, input: &mut I, out: &mut O) -> Ran
         ensures answer { RunsSomeInput state_of Steps (answered result.end) limit result.steps self.old self.new
             (outside_of (I.seen input.old) (O.seen out.old))

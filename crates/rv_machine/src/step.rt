@@ -16,10 +16,10 @@ impl<'a> Machine<'a> {
     ghost use Rattle.rv_machine.specs.State.{state_of};
     ghost use Rattle.rv_machine.specs.StepResults.{StepAnswers};
 
-    /// Does the instruction at the pc. Input comes from `input`, and output goes to `out`.
+    /// Does the instruction at the pc. Input is read from `input`, and output is written to `out`.
     ///
-    /// After `Memory`, `Trap` and `Ended` the machine is as it was; after the two faults nothing is said of it. A call
-    /// asks `input` also where an earlier one found it at its end; [`Machine::run`] doesn't.
+    /// After `Memory`, `Trap` and `Ended` the machine is unchanged; after the two faults nothing is said about its
+    /// state. A read asks `input` even if an earlier read found the end of the input; [`Machine::run`] doesn't.
     pub fn step<I: Source, O: Sink>(&mut self, input: &mut I, out: &mut O) -> Stepped
         ensures answer { (ends : Bool) × StepAnswers Steps result self.old self.new false ends
             (outside_of (I.seen input.old) (O.seen out.old))
@@ -33,7 +33,8 @@ impl<'a> Machine<'a> {
         self.step_known(&mut known, &mut input_end, input, out)
     }
 
-    /// One step, with what was decoded before, and whether the input was found at its end.
+    /// Does one step, with a cache of decoded instructions, and with the flag that says if the end of the input was
+    /// found.
     pub fn step_known<I: Source, O: Sink>(
         &mut self,
         known: &mut KnownActions,

@@ -1,8 +1,8 @@
-// What a step comes to.
+// The result of a step.
 
 use rv_code::Cause;
 
-/// What a step answers.
+/// The result of a step.
 #[derive(Clone, Copy, PartialEq, Eq, Debug)]
 pub enum Stepped {
     /// The machine goes on.
