@@ -1,4 +1,4 @@
--- System calls that read and write, by what the machine found.
+-- The outcomes of system calls that read and write, by the tests that the machine makes.
 use Rattle.std.proofs.Common.{◌≡◌, ◌∙◌, ap, sym, refl, ℕ, List, Option, Some, None, Bool, true, false, length, take, drop, append-nil}
 use Rattle.std.specs.Prelude.{◌&&◌, nat_le, nat_lt, if◌then◌else◌, map, min}
 use Rattle.std.specs.List.{list_any}

@@ -1,4 +1,4 @@
--- What loads, stores and jumps come to, by what the machine found.
+-- The outcomes of loads, stores and jumps, by the tests that the machine makes.
 use Rattle.std.proofs.Common.{◌≡◌, ap, refl, ℕ, suc, Bool, true, false, List, [], ◌∷◌, Option, Some, None}
 use Rattle.std.specs.Prelude.{if◌then◌else◌, option_map}
 use Rattle.std.specs.List.{list_any}

@@ -1,4 +1,4 @@
--- What the rules give on small examples: each equation holds by computing.
+-- Examples of the rules: each equation holds by computation.
 use Rattle.std.specs.Prelude.{◌≡◌, ℕ, [], ◌∷◌, Some, None, true, false, refl, pos, negsuc}
 use Rattle.rv_code.specs.declared.op.Op.TheVariants as op
 use Rattle.rv_code.specs.declared.action.Extension.TheVariants.{Signed16, Signed32, Zero32}
@@ -64,12 +64,12 @@ apart_is_not_zero = refl
 no_order : tested LessSigned (Num 0) (code 0x10078) ≡ None
 no_order = refl
 
--- Differences: of two labels of data the second and the difference give the first.
+-- Differences: the second label's value plus the difference gives the first label's value.
 
 difference_of_data : on_registers [] op.Add (Num 0x10098) (Sym (Diff 0x100a0 0x10098)) ≡ Some (Num 0x100a0)
 difference_of_data = refl
 
--- of one and 0 the difference is meant, and no copy
+-- 0 plus a difference is read as the label, not as a copy of the difference
 difference_from_zero : on_registers [] op.Add (Num 0) (Sym (Diff 0x100a0 0)) ≡ Some (Num 0x100a0)
 difference_from_zero = refl
 
@@ -83,7 +83,7 @@ whole_of_four : loaded Signed32
     ≡ Some (Sym (Hi 5))
 whole_of_four = refl
 
--- an upper part of a distance can be negative, so its bytes extended by zeros are a piece
+-- the upper part of a distance can be negative, so its bytes extended by zeros are a piece
 unsigned_of_four : loaded Zero32
     (SymbolByte (Hi 5) 4 0 ∷ SymbolByte (Hi 5) 4 1 ∷ SymbolByte (Hi 5) 4 2 ∷ SymbolByte (Hi 5) 4 3 ∷ [])
     ≡ Some (Piece (Hi 5) 4 0 4 Unsigned)
@@ -106,7 +106,7 @@ first_two_bytes : stored 2 (Sym (Hi 5)) ≡ Some (SymbolByte (Hi 5) 8 0 ∷ Symb
 unfolding symbol_bytes
 first_two_bytes = refl
 
--- a piece keeps which bytes it has
+-- a piece knows which bytes of the symbol it has
 part_of_a_piece : stored 2 (Piece (Hi 5) 8 4 4 Signed) ≡ Some (SymbolByte (Hi 5) 8 4 ∷ SymbolByte (Hi 5) 8 5 ∷ [])
 unfolding symbol_bytes
 part_of_a_piece = refl
@@ -116,21 +116,21 @@ more_than_a_piece = refl
 
 -- Lower parts.
 
--- a load goes to the target of its pair, whose AUIPC is at 10078
+-- a load goes to the target of its lower part, whose AUIPC is at 0x10078
 from_pair : place [] (role.Lo 0x10078 0x10098) (Sym (Hi 0x10078)) 32 ≡ Some (Num 0x10098)
 from_pair = refl
 
--- the right number won't do
+-- a number as the base isn't accepted, even if it is the right one
 from_number : place [] (role.Lo 0x10078 0x10098) (Num 0x10078) 32 ≡ None
 from_number = refl
 
--- without a lower part a jump has the offset 0
+-- a jump that isn't a lower part has to have the offset 0
 offset_of_a_jump : pointer role.Plain 4 (code 0x10078) ≡ None
 offset_of_a_jump = refl
 
--- Reasons for being stuck, of which the first counts.
+-- Reasons for being stuck: the first that applies.
 
--- a state in which every register holds one value, and nothing may be used
+-- a state in which every register has the value v, and no memory may be used
 abbrev state : ℕ → Value → SymState
 state pc v = record {
   pc = pc;
@@ -141,7 +141,7 @@ state pc v = record {
   input = [];
 }
 
--- what an action at 10078 comes to where each register holds a value
+-- the outcome of an action at 0x10078 if each register has the value v
 abbrev stuck_at : Role → Action → Value → SymOutcome
 stuck_at role action v = effect [] role action 0x1007c (state 0x10078 v)
 
@@ -158,7 +158,7 @@ pointer_times_pointer : stuck_at role.Plain (Compute op.Mul 5 (Register 1) (Regi
     ≡ Halts 0x10078 reason.Operate
 pointer_times_pointer = refl
 
--- also where register 0 would get the result
+-- the step is stuck even if the result goes to register 0
 result_left_out : stuck_at role.Plain (Compute op.Mul 0 (Register 1) (Register 2)) (code 0x10080) ≡ Halts 0x10078 reason.Operate
 result_left_out = refl
 
@@ -171,7 +171,7 @@ jump_to_a_number = refl
 jump_past_a_pointer : stuck_at role.Plain (JumpTo 0 1 (pos 4)) (code 0x10080) ≡ Halts 0x10078 reason.NotCode
 jump_past_a_pointer = refl
 
--- by a lower part whose base isn't the upper part
+-- a jump by a lower part whose base isn't its upper part
 jump_by_another_base : stuck_at (role.CallLo 0x10074 0x10080) (JumpTo 1 1 (pos 0)) (code 0x10080) ≡ Halts 0x10078 reason.Operate
 jump_by_another_base = refl
 
@@ -185,10 +185,10 @@ load_without_a_right : stuck_at role.Plain (Load Signed32 5 1 (pos 0)) (Num 0x20
 unfolding all_may
 load_without_a_right = refl
 
--- the lower part of an absolute address gives no place to load from
+-- the lower part of an absolute address gives no address to load from
 load_by_absolute : stuck_at (role.AbsLo 0x10080) (Load Signed32 5 1 (pos 0)) (Sym (Abs 0x10080)) ≡ Halts 0x10078 reason.Operate
 load_by_absolute = refl
 
--- more bytes than a piece has, and an address that is no number
+-- a store of more bytes than a piece has: the reason is the address, which isn't a number
 store_of_a_piece : stuck_at role.Plain (Store 8 1 2 (pos 0)) (Piece (Hi 5) 8 4 4 Signed) ≡ Halts 0x10078 reason.Operate
 store_of_a_piece = refl

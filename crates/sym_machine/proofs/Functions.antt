@@ -1,4 +1,4 @@
--- Instructions of functions by their addresses: each is found, and nothing else is.
+-- Looking up instructions of functions by their addresses: each is found, and nothing besides them.
 use Rattle.std.proofs.Common.{◌≡◌, ◌∙◌, sym, subst, ap, refl, ℕ, zero, suc, ◌-◌, ◌<◌, ◌≤◌, ◌⊎◌, inl, inr, ⊎_elim, true}
 use Rattle.std.proofs.Common.{false, List, [], ◌∷◌, ◌++◌, Option, Some, None, IfSome, IfNone, length, slice_index_or, arith}
 use Rattle.std.specs.Prelude.{Contains, ◌==◌, is_some}
@@ -27,7 +27,7 @@ searchable funcs are = record {
   rising = λ f i j d e within less inside. insts_rise (slice_index_or funcs f d) (are.each f d within) i j e less inside;
 }
 
--- functions start one after another
+-- functions are in order of their starts
 pub starts_rise : (funcs : List Func) → IsSearchable funcs → (i j : ℕ) (d : Func) → i ≤ j → j < length funcs →
     (slice_index_or funcs i d).start ≤ (slice_index_or funcs j d).start
 starts_rise funcs s i j d upto within =
@@ -39,7 +39,7 @@ starts_rise funcs s i j d upto within =
     omega arith)
     (cases_lt i j)
 
--- so do the instructions of a function
+-- a function's instructions are in order of their addresses
 pub addrs_rise : (insts : List Placed) →
     ((i j : ℕ) (e : Placed) → i < j → j < length insts → (slice_index_or insts i e).addr < (slice_index_or insts j e).addr) →
     (i j : ℕ) (e : Placed) → i ≤ j → j < length insts → (slice_index_or insts i e).addr ≤ (slice_index_or insts j e).addr
@@ -75,7 +75,7 @@ from_flat (g ∷ gs) p is_in = by (Contains-append_cases g.insts.items (insts_of
     by (inl k) rest = (g, (zero, omega arith, refl), k)
     by (inr k) rest = let (func, func_in, p_in) = rest k in (func, Contains-there g gs func func_in, p_in)
 
--- the insts of a function, and one of them, by their places
+-- the instructions of the function with index f, and one of them by its index
 abbrev pub insts_at : List Func → ℕ → Func → List Placed
 insts_at funcs f d = (slice_index_or funcs f d).insts.items
 
@@ -139,7 +139,7 @@ module _ (funcs : List Func) (s : IsSearchable funcs) where
     ]
   ]
 
-  -- what stands at a place is the instruction at its address
+  -- the instruction with these indices is the one that starts at its address
   pub placed_at-found : (f i a : ℕ) → IsInstPlace funcs a f i → (d : Func) (e : Placed) →
       placed_at funcs a ≡ Some (slice_index_or (insts_at funcs f d) i e)
   placed_at-found f i a at d e =
@@ -174,7 +174,7 @@ module _ (funcs : List Func) (s : IsSearchable funcs) where
       let o = occurs funcs p p_in in
       nowhere o.f o.i o.func p o.within o.inside (ap (λ (t : Placed). t.addr) o.is ∙ eqb-true p.addr a passes)))
 
-  -- no instruction starts where none is placed
+  -- no instruction starts at an address for which placed_at has None
   pub nowhere : (a : ℕ) → placed_at funcs a ≡ None → (g j : ℕ) (d : Func) (e : Placed) → g < length funcs →
       j < length (insts_at funcs g d) → (slice_index_or (insts_at funcs g d) j e).addr ≡ a → ⊥
   nowhere a none g j d e within inside at =
@@ -184,7 +184,7 @@ module _ (funcs : List Func) (s : IsSearchable funcs) where
       let (y, found) = find-finds (λ q. q.addr == a) (insts_of funcs) p p_in (eq-eqb p.addr a at) in
       absurd (let both : Some y ≡ None = sym found ∙ none in cc)
 
-  -- A binary search: only the last function that starts at an address or below it can have it.
+  -- Binary search: only the last function that starts at or below an address can have an instruction there.
   pub placed_at-searched : (a above : ℕ) → above ≤ length funcs →
       ((k : ℕ) (d : Func) → k < above → (slice_index_or funcs k d).start ≤ a) →
       ((k : ℕ) (d : Func) → above ≤ k → k < length funcs → a < (slice_index_or funcs k d).start) →
@@ -211,7 +211,7 @@ module _ (funcs : List Func) (s : IsSearchable funcs) where
       (cases_lt g above))
       (cases_lt g (above - 1)))
 
--- the same of the instructions of one function
+-- binary search in a function: only the last instruction that starts at or below an address can start there
 pub none_in : (insts : List Placed) (a below : ℕ) →
     ((i j : ℕ) (e : Placed) → i < j → j < length insts → (slice_index_or insts i e).addr < (slice_index_or insts j e).addr) →
     below ≤ length insts →
@@ -234,7 +234,8 @@ none_in insts a below rising bound low high last j e inside at =
     (cases_lt j below))
     (cases_lt j (below - 1))
 
--- In the last function that starts at an address or below it, the last instruction up to this address starts elsewhere.
+-- Nothing is found if, in the last function that starts at or below an address, the last instruction that starts at or below it starts at
+-- another address.
 pub placed_at-missed : (funcs : List Func) → IsSearchable funcs → (a above below : ℕ) (func : Func) (insts : List Placed) →
     above ≤ length funcs → 0 < above →
     ((k : ℕ) (d : Func) → k < above → (slice_index_or funcs k d).start ≤ a) →

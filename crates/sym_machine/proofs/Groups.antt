@@ -38,11 +38,11 @@ pub none_of_false : {A : Type 0} (o : Option A) → is_some o ≡ false → o �
 none_of_false None e = refl
 none_of_false (Some x) e = absurd (cc)
 
--- an address without its group has no byte, nor have the others of the group
+-- if the group of an address isn't there, the addresses of this group have no byte
 pub no_group : (others : OtherBytes) (a q : ℕ) → has_group others a ≡ false → q / 8 ≡ a / 8 → other_byte others q ≡ None
 no_group others a q none same = other_byte-none others q (ap (place_of others.index) same ∙ none_of_false _ none)
 
--- one byte is written
+-- one byte was written
 pub byte_set : (old : OtherBytes) (slots : List (Option OtherByte)) (a i : ℕ) (c : Option OtherByte) →
     place_of old.index (a / 8) ≡ Some i →
     slots ≡ slice_set old.slots.items (i * 8 + a % 8) c → (q : ℕ) →
@@ -78,7 +78,7 @@ byte_set old slots a i c found is q = rw is (cases (q == a) refl)
         ∙ get_or-set_same xs (i * 8 + a % 8) c None (in_groups old a i found)
     cases false test = other (place_of old.index (q / 8)) refl (eqb-false q a test)
 
--- nothing is written where there is no byte
+-- nothing changes if the address has no group
 pub byte_unset : (old : OtherBytes) (a : ℕ) → place_of old.index (a / 8) ≡ None → (q : ℕ) →
     other_byte old q ≡ (if q == a then None else other_byte old q)
 byte_unset old a none q = cases (q == a) refl
@@ -87,7 +87,7 @@ byte_unset old a none q = cases (q == a) refl
     cases true test = ap (other_byte old) (eqb-true q a test) ∙ other_byte-none old a none
     cases false test = refl
 
--- One more group.
+-- One group was added.
 
 pub sized_more : (numbers : List ℕ) (slots more : List (Option OtherByte)) (n : ℕ) → length slots ≡ length numbers * 8 →
     length more ≡ 8 → length (slots ++ more) ≡ length (numbers ++ n ∷ []) * 8
@@ -217,7 +217,7 @@ cleared_one x from at q first = cases (q == at) refl
           ]
         ]
 
--- a run in which nothing stands
+-- a run of addresses without bytes is already cleared
 pub cleared_nothing : (others : OtherBytes) (from to : ℕ) → ((q : ℕ) → from ≤ q → q < to → other_byte others q ≡ None) → (q : ℕ) →
     other_byte others q ≡ cleared_between others from to q
 cleared_nothing others from to none q = elim (cases_lt q from) [

@@ -1,4 +1,4 @@
--- Instructions that were looked up before: what a table has of them, and what a step makes of one.
+-- The cache of instructions: its entries, and a step by one of them.
 use Rattle.std.proofs.Common.{◌≡◌, ◌∙◌, ◌<◌, ℕ, List, Option, Some, None, sym, ap, refl, subst, arith, length, get_or}
 use Rattle.std.specs.Prelude.{replicate, option_map}
 use Rattle.std.proofs.lemmas.List.{get_or-replicate, length-replicate}
@@ -15,7 +15,7 @@ use Rattle.sym_machine.specs.declared.outcome.Reason.TheVariants as reason
 use Rattle.sym_machine.specs.SymStep.{SymState, SymOutcome, needs, effect, instruction, sym_step}
 use Rattle.sym_machine.specs.internal.KnownInsts.{decoded_inst, IsKnown}
 
--- a table whose entries are all one that is known
+-- a cache whose entries are all equal, and correct
 pub known_entries : (funcs : List Func) (entries : List KnownInst) (n : ℕ) (e : KnownInst) →
     entries ≡ replicate n e → IsKnown funcs e → (k : ℕ) (d : KnownInst) → k < length entries → IsKnown funcs (get_or entries k d)
 known_entries funcs entries n e is known k d within =
@@ -23,13 +23,13 @@ known_entries funcs entries n e is known k d within =
     let here : get_or entries k d ≡ e = ap (λ xs. get_or xs k d) is ∙ get_or-replicate n k e d (omega arith) in
     subst (IsKnown funcs) (sym here) known
 
--- what it does is what some instruction does
+-- a cached action is the action of some instruction
 pub decoded_action : (o : Option Placed) (d : Decoded) → option_map decoded_inst o ≡ Some d →
     (i : Inst) × (d.action ≡ action_of i)
 decoded_action None d is = absurd (none-some d is)
 decoded_action (Some p) d is = (p.inst, ap (λ (t : Decoded). t.action) (sym (same_Some (decoded_inst p) d is)))
 
--- A step goes by what was found.
+-- A step by the instruction that was found.
 
 abbrev does : List Func → SymState → Decoded → SymOutcome
 does funcs s d = effect funcs d.role d.action (plus s.pc d.length) s

@@ -1,4 +1,4 @@
--- A step that is the last of a run.
+-- The last step of a run.
 use Rattle.std.proofs.Common.{◌≡◌, refl}
 use Rattle.run_core.specs.Answers as answer
 use Rattle.sym_machine.specs.MachineState.{answered}

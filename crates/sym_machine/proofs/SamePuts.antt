@@ -1,4 +1,4 @@
--- Cells put over the same memory.
+-- Bytes of code cells put over equal memories.
 use Rattle.std.proofs.Common.{◌≡◌, ap, ℕ, List, [], ◌∷◌}
 use Rattle.std.specs.Prelude.{◌==◌, if◌then◌else◌}
 use Rattle.rv_code.specs.machine.Machine.{plus, put}

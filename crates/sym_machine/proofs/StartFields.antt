@@ -1,4 +1,4 @@
--- Hidden fields: where they are loaded, and their lists.
+-- Hidden fields: the addresses at which they are loaded, and their lists.
 use Rattle.std.proofs.Common.{◌≡◌, ◌∙◌, ap, refl, sym, subst, ℕ, ◌+◌, ◌-◌, ◌*◌, ◌^◌, ◌<◌, ◌≤◌, ◌⊎◌, inl, inr, ⊎_elim, Bool}
 use Rattle.std.proofs.Common.{true, false, List, [], ◌∷◌, ◌++◌, Option, Some, None, arith, map, length, take, get_or}
 use Rattle.std.specs.Prelude.{◌&&◌, ◌||◌, ◌==◌, nat_le, nat_lt, min, Contains, find, if◌then◌else◌, is_none, flat_map}
@@ -49,9 +49,9 @@ segment_low segments p i low one load within =
     let end : end_of p ≤ 2 ^ 63 = low.each p one (some_memory p load (omega arith)) in
     omega arith
 
--- Hidden fields lie in the headers.
+-- Hidden fields are in the headers.
 
--- an offset lies in the headers of a file with so many segments
+-- an offset is in the file's header, or in the table of n program headers
 data IsInTables (elf : Elf) (n o : ℕ) : Type 0 where
   header : o < header_size → IsInTables elf n o
   table : elf.phoff ≤ o → o < elf.phoff + PHDR_SIZE * n → IsInTables elf n o
@@ -82,7 +82,7 @@ any-only o true range is =
     ⊎_elim (λ (here : is_in_range o range ≡ true). in_range o range here) (λ (there : false ≡ true). absurd (cc))
     (or_cases (is_in_range o range) false is)
 
--- the hidden fields of one program header, by what hides them
+-- the hidden fields of one program header, by the reason for which they are hidden
 abbrev header_at : Elf → ℕ → ℕ
 header_at elf i = elf.phoff + PHDR_SIZE * i
 
@@ -118,7 +118,7 @@ any-segments elf o i n (p ∷ ps) few is =
     any-segments elf o (i + 1) n ps (omega (arith, few)) rest)
     (any-append o (hidden_in_segment elf (i, p)) (flat_map (hidden_in_segment elf) (enumerate_from (i + 1) ps)) is)
 
--- those of the file's header that are hidden in some files
+-- the fields of the file's header that are hidden in some files only
 abbrev hidden_phoff : Elf → Bool → List Range
 hidden_phoff elf tight = only (tight || nat_le (executable_end elf.segments.items) elf.phoff) e_phoff_field
 
@@ -189,7 +189,7 @@ offset_of q p = p.offset + (q - p.vaddr)
 abbrev table_end : Elf → ℕ
 table_end elf = elf.phoff + PHDR_SIZE * length elf.segments.items
 
--- where a segment loads an address from the headers, its test is passed
+-- a segment that loads an address from the headers passes the test for it
 header_covered : (elf : Elf) (q : ℕ) (p : Segment) → covers q p ≡ true →
     IsInTables elf (length elf.segments.items) (offset_of q p) → covers_header elf q p ≡ true
 unfolding covers_header
@@ -266,7 +266,7 @@ hidden_everywhere {A} elf tight q x old = by (is_hidden_field elf tight q) refl
         at None none is = absurd (cc)
         at (Some o) some is = rw (covered_all elf q o some (hidden-in_tables elf tight o is)) refl
 
--- What was hidden between two offsets, in terms of addresses.
+-- The bytes that were hidden between two offsets, by their addresses.
 pub covers_between-run : (from to q : ℕ) (p : Segment) → is_load p ≡ true → (end : ℕ) →
     end ≡ min (to - p.offset) (min p.filesz p.memsz) →
     (nat_le (p.vaddr + (from - p.offset)) q && nat_lt q (p.vaddr + end)) ≡ covers_between from to q p
@@ -302,7 +302,7 @@ covers_between-run from to q p load end is = same_bool _ _ forth back
         and_from (nat_le (p.vaddr + (from - p.offset)) q) (nat_lt q (p.vaddr + end))
         (le-leb (p.vaddr + (from - p.offset)) q (omega (arith, a, f))) (lt-ltb q (p.vaddr + end) (omega (arith, a, b, t, is)))
 
--- What is hidden by one test and by another.
+-- Bytes hidden by one test or by another.
 pub hidden_joined : {A : Type 0} (z t h : Bool) (x o : A) →
     (if t && h then x else (if z && h then x else o)) ≡ (if (z || t) && h then x else o)
 hidden_joined true true true x o = refl
@@ -314,7 +314,7 @@ hidden_joined false true false x o = refl
 hidden_joined false false true x o = refl
 hidden_joined false false false x o = refl
 
--- One segment more.
+-- One more segment.
 pub hidden_more : {A : Type 0} (test : Segment → Bool) (segments : List Segment) (i : ℕ) (d : Segment) → i < length segments →
     (h : Bool) (x new mid old : A) → new ≡ (if test (get_or segments i d) && h then x else mid) →
     mid ≡ (if list_any test (take i segments) && h then x else old) →

@@ -4,14 +4,14 @@ use Rattle.std.specs.Prelude.{◌&&◌, ◌==◌, nat_le, nat_lt, if◌then◌el
 use Rattle.std.proofs.lemmas.Bool.{eqb-true, eqb-false, cases_lt}
 use Rattle.sym_machine.proofs.Groups.{in_run-true, in_run-below, in_run-past}
 
--- nothing yet
+-- an empty run
 pub run_none : {A : Type 0} (x old : Option A) (from q : ℕ) → old ≡ (if nat_le from q && nat_lt q (from + 0) then x else old)
 run_none x old from q = elim (cases_lt q from) [
   | inl low ↦ rw (in_run-below from (from + 0) q low) refl
   | inr high ↦ rw (in_run-past from (from + 0) q (omega arith)) refl
 ]
 
--- one more at the end
+-- a run with one more byte at its end
 pub run_more : {A : Type 0} (x y old : Option A) (from i q : ℕ) → (q ≡ from + i → x ≡ y) →
     (if q == from + i then x else (if nat_le from q && nat_lt q (from + i) then y else old))
     ≡ (if nat_le from q && nat_lt q (from + (i + 1)) then y else old)

@@ -1,4 +1,4 @@
--- What stands in memory where numbers and other bytes do, and after each way of writing.
+-- The bytes of memory with numbers in pages and other bytes, also after each way of writing.
 use Rattle.std.proofs.Common.{◌≡◌, ◌∙◌, sym, ap, refl, ℕ, zero, suc, ◌+◌, ◌-◌, ◌<◌, Bool, true, false, List, [], ◌∷◌, length}
 use Rattle.std.proofs.Common.{Option, Some, None, arith}
 use Rattle.std.specs.Prelude.{◌&&◌, ◌||◌, ◌==◌, not, nat_le, nat_lt, if◌then◌else◌, replicate, is_none, map}
@@ -43,7 +43,7 @@ bytes_step memory y w i a n some =
     ∙ bytes_cons y w i (memory a) (memory_bytes memory (plus a 1) (n - 1))
     ∙ ap (λ (k : ℕ). is_byte_of (memory a) y w i && are_symbol_bytes y w k (memory_bytes memory (plus a 1) (n - 1))) (sym next)
 
--- the symbol that begins with a byte, if the others follow
+-- the symbol of the first byte, if the other bytes follow it
 abbrev followed : Option SymbolBytes → List MemoryByte → Option SymbolBytes
 followed None cs = None
 followed (Some b) cs = if are_symbol_bytes b.symbol b.width (suc b.first) cs then Some b else None
@@ -118,7 +118,7 @@ module _ (others : ℕ → Option OtherByte) (memory : ℕ → ℕ) where
 
   -- Writing.
 
-  -- numbers over a run that the others leave
+  -- numbers are put over a run without other bytes
   pub put_numbers : (a q : ℕ) (bytes : List ℕ) →
       byte_over (put others a (replicate (length bytes) None) q) (put memory a bytes q) ≡ put over a (map Byte bytes) q
   unfolding put
@@ -133,7 +133,7 @@ module _ (others : ℕ → Option OtherByte) (memory : ℕ → ℕ) where
       by true rest = refl
       by false rest = rest
 
-  -- bytes of a symbol
+  -- bytes of a symbol are put
   pub put_symbols : (a q : ℕ) (y : CodeSymbol) (w i n : ℕ) →
       byte_over (put others a (other_bytes y w i n) q) (memory q) ≡ put over a (symbol_bytes y w i n) q
   unfolding put other_bytes symbol_bytes

@@ -1,4 +1,4 @@
--- The state that a machine keeps, and its answers as those of any machine.
+-- The state that a `SymMachine` represents, and its results in the terms of `run_core`, which are for any machine.
 use Rattle.std.specs.Prelude.{ℕ, List, Bool, Result, Ok, Err, slice_index_or}
 use Rattle.rv_code.specs.declared.placed.Func.{Func}
 use Rattle.rv_code.specs.machine.Machine.{Halts}
@@ -24,7 +24,7 @@ funcs_of m = m.code.funcs.now
 abbrev pub registers_of : SymMachine → ℕ → Value
 registers_of m r = slice_index_or m.registers r (Num 0)
 
--- the state of a machine before which there is this input
+-- the state of machine m with `input` as the bytes that are still to be read
 abbrev pub state_of : SymMachine → List ℕ → SymState
 state_of m input = record {
   pc = m.pc;
@@ -43,17 +43,17 @@ answered stepped.ReadFault = answer.ReadFault
 answered stepped.WriteFault = answer.WriteFault
 answered stepped.Memory = answer.Memory
 
--- a step that comes to the outcome has this answer, and leaves the machine with this input
+-- a step with this outcome has the result `result`, and leaves the machine `new` with this input
 abbrev pub Becomes : SymOutcome → SymStepped → SymMachine → SymMachine → List ℕ → Type 0
 Becomes outcome result old new input = core.Becomes state_of outcome (answered result) old new input
 
--- what holds of a step by its answer, with whether the source was found at its end, before and after it
+-- what holds after a step, by its result: `ended` and `ends` say if the end of the input was found before and after it
 abbrev pub StepAnswers : (SymState → SymOutcome → Type 0) → SymStepped → SymMachine → SymMachine → Bool → Bool → Outside
     → Outside → Type 0
 StepAnswers step result old new ended ends before after =
     core_step.StepAnswers state_of step (answered result) old new ended ends before after
 
--- what a change of registers comes to, or a reason to be stuck
+-- the outcome of a change of registers, or of a reason to be stuck
 abbrev pub changes : SymState → Result Change Reason → SymOutcome
 changes s (Ok change) = writes_register s change.next change.rd change.value
 changes s (Err why) = Halts s.pc why

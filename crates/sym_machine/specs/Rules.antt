@@ -1,5 +1,5 @@
--- What the symbol machine can do with values. A rule gives a result, or none where the machine doesn't know one that
--- holds wherever the code lies. On numbers the rules are those of the byte machine.
+-- The symbol machine's operations on values. A rule gives a result that holds at whatever addresses the code is, or
+-- None if it has none. On numbers the rules are those of the byte machine.
 use Rattle.std.specs.Prelude.{ℕ, zero, suc, ◌-◌, ◌^◌, ◌==◌, ◌&&◌, ◌||◌, if◌then◌else◌, Bool, true, false, List, ◌∷◌}
 use Rattle.std.specs.Prelude.{Option, Some, None, option_map}
 use Rattle.std.specs.Option.{option_or}
@@ -36,14 +36,14 @@ use Rattle.sym_machine.specs.Values.{value_of, is_value_of, numbers, are_symbol_
 
 -- Upper and lower parts of addresses.
 
--- AUIPC with a target. Without one, which no accepted file has, what it gives depends on where it lies: there is no
--- rule.
+-- AUIPC with a target. An AUIPC without one, which no accepted file has, gives a number that depends on its address:
+-- there is no rule.
 abbrev pub upper_of_distance : Role → ℕ → Option Value
 upper_of_distance (role.Hi target) a = Some (Sym (Hi a))
 upper_of_distance (role.CallHi target) a = Some (Sym (Hi a))
 upper_of_distance _ a = None
 
--- LUI, of a part of a code address or of a number
+-- LUI of the upper part of a code address, or of a number
 abbrev pub upper_of_address : Role → ℕ → Value
 upper_of_address (role.AbsHi target) n = Sym (Abs target)
 upper_of_address _ n = Num n
@@ -62,7 +62,7 @@ is_lower (role.CallLo hi target) = true
 is_lower (role.AbsLo target) = true
 is_lower _ = false
 
--- A lower part and a base that holds the upper part it belongs to give the target.
+-- A lower part gives its target if the base is the result of the upper part that belongs to it.
 abbrev pub joined : List Func → Role → Value → Option Value
 joined funcs (role.Lo hi target) base = only_if (is_hi hi base) (value_of funcs target)
 joined funcs (role.CallLo hi target) base = only_if (is_hi hi base) (value_of funcs target)
@@ -71,7 +71,7 @@ joined funcs _ base = None
 
 -- Arithmetic.
 
--- a value that is surely not 0: a pointer, or what compared two different ones
+-- a value that is certainly not 0: a pointer, or the result of comparing two different pointers
 abbrev pub is_nonzero : Value → Bool
 is_nonzero (Sym (Points p)) = true
 is_nonzero (Sym (Apart by p q)) = true
@@ -82,17 +82,17 @@ abbrev pub copied : Value → Value → Option Value
 copied v (Num n) = only_if (n == 0) v
 copied v _ = None
 
--- the difference of two labels, and the value of the second, give the value of the first
+-- the difference of two labels plus the second label's value is the first label's value
 abbrev pub from_difference : List Func → Value → Value → Option Value
 from_difference funcs (Sym (Diff to from)) w = only_if (is_value_of funcs from w) (value_of funcs to)
 from_difference funcs _ w = None
 
--- ADD, in either order; where both could be meant, the difference is
+-- ADD, in either order; the rule for differences comes before the one for copies
 abbrev pub sum : List Func → Value → Value → Option Value
 sum funcs v w =
     option_or (from_difference funcs v w) (option_or (from_difference funcs w v) (option_or (copied v w) (copied w v)))
 
--- pointers of one kind at two addresses
+-- comparing pointers of one kind with the addresses a and b
 abbrev pub compared : Comparing → Pointer → Pointer → ℕ → ℕ → Value
 compared by p q a b = if a == b then Num 0 else Sym (Apart by p q)
 
@@ -114,12 +114,12 @@ on_registers funcs op.Sub (Sym (Points p)) (Sym (Points q)) = compared_by Sub p 
 on_registers funcs op.Xor (Sym (Points p)) (Sym (Points q)) = compared_by Xor p q
 on_registers funcs o v w = None
 
--- SLTU of register 0 and another: is it above 0?
+-- SLTU of register 0 and another register, which tests that the other isn't 0
 abbrev pub on_zero : List Func → Op → Value → Value → Option Value
 on_zero funcs op.Sltu v w = if is_nonzero w then Some (Num 1) else on_registers funcs op.Sltu v w
 on_zero funcs o v w = on_registers funcs o v w
 
--- an operation on a register and a constant: ADDI with 0, SLTIU with 1, which asks whether it is 0, and ANDI
+-- an operation on a register and a constant: ADDI with 0, SLTIU with 1 (a test for 0), and ANDI
 abbrev pub on_constant : Op → Value → ℕ → Option Value
 on_constant o (Num a) n = Some (Num (apply o a n))
 on_constant op.Add v n = only_if (n == 0) v
@@ -127,7 +127,7 @@ on_constant op.Sltu v n = only_if (n == 1 && is_nonzero v) (Num 0)
 on_constant op.And (Sym (Points p)) n = masked p n
 on_constant o v n = None
 
--- an operation by its operands, of which the first is always a register
+-- an operation by its operands, the first of which is always a register
 abbrev pub combined : List Func → (ℕ → Value) → Op → Operand → Operand → Option Value
 combined funcs registers o (Register zero) (Register r2) = on_zero funcs o (registers 0) (registers r2)
 combined funcs registers o (Register (suc r1)) (Register r2) = on_registers funcs o (registers (suc r1)) (registers r2)
@@ -138,7 +138,7 @@ abbrev pub base_of : (ℕ → Value) → Operand → Value
 base_of registers (Register r) = registers r
 base_of registers (Immediate imm) = Num (unsigned64 imm)
 
--- what an operation gives; an ADDI with a lower part goes by its role alone
+-- the result of an operation; an ADDI that is a lower part is decided by its role only
 abbrev pub computed : List Func → Role → (ℕ → Value) → Op → Operand → Operand → Option Value
 computed funcs role registers o left right =
     if is_lower role then joined funcs role (base_of registers left) else combined funcs registers o left right
@@ -150,7 +150,7 @@ equal_pointers (Code a) (Code b) = Some (a == b)
 equal_pointers (Ret a) (Ret b) = Some (a == b)
 equal_pointers _ _ = None
 
--- equality with a number is known of 0, and of what is surely not 0
+-- a value equals a number: known only for the number 0 and a value that is certainly not 0
 abbrev pub equal_number : Value → ℕ → Option Bool
 equal_number v n = only_if (n == 0 && is_nonzero v) false
 
@@ -164,24 +164,24 @@ tested test v w = None
 
 -- Jumps through a register.
 
--- The value to which a JALR goes: its lower part's target, or its register's.
+-- The value to which a JALR goes: its lower part's target, or its register's value.
 abbrev pub goal : List Func → Role → Value → Option Value
 goal funcs role base = if is_lower role then joined funcs role base else Some base
 
--- The value to which a JALR goes has to be a pointer; without a lower part the offset has to be 0.
+-- The value to which a JALR goes has to be a pointer; if the JALR isn't a lower part, its offset has to be 0.
 abbrev pub pointer : Role → ℕ → Value → Option Pointer
 pointer role offset (Sym (Points p)) = only_if (is_lower role || offset == 0) p
 pointer role offset _ = None
 
--- where a pointer leads: after a call there may be nothing in its function
+-- the address to which a pointer leads; there is none after a call that is its function's last instruction
 abbrev pub destination : List Func → Pointer → Option ℕ
 destination funcs (Code a) = Some a
 destination funcs (Ret a) = next_of funcs a
 
 -- Loads and stores.
 
--- Where one goes: to its lower part's target, if its base holds the upper part, which must be that of an AUIPC; or to
--- its base and offset. A symbol is no address: no access is possible there.
+-- The address of a load or store: its lower part's target if the base is the result of the AUIPC that belongs to it,
+-- otherwise base plus offset. A symbol as a base is returned unchanged, and no access accepts it as an address.
 abbrev pub place : List Func → Role → Value → ℕ → Option Value
 place funcs (role.Lo hi target) base offset = joined funcs (role.Lo hi target) base
 place funcs (role.CallLo hi target) base offset = joined funcs (role.CallLo hi target) base
@@ -189,13 +189,14 @@ place funcs (role.AbsLo target) base offset = None
 place funcs _ (Num a) offset = Some (Num (plus a offset))
 place funcs _ base offset = Some base
 
--- a symbol that an LWU gives back whole: its number is never negative
+-- a symbol that an LWU gives back, since its number is never negative
 abbrev pub is_unsigned : CodeSymbol → Bool
 is_unsigned (Points p) = true
 is_unsigned (Abs t) = true
 is_unsigned _ = false
 
--- Bytes of a symbol y from byte i on, which is kept in w bytes: all of them are the symbol, others a piece of it.
+-- The result of a load of bytes of symbol y from byte i on, which is stored in w bytes: y if these are all of its
+-- bytes, otherwise a piece.
 abbrev pub piece : Extension → CodeSymbol → ℕ → ℕ → Option Value
 piece Whole64 y w i = only_if (w == 8 && i == 0) (Sym y)
 piece Signed32 y w i = Some (if w == 4 && i == 0 then Sym y else Piece y w i 4 Signed)
@@ -205,11 +206,11 @@ piece Zero16 y w i = Some (Piece y w i 2 Unsigned)
 piece Signed8 y w i = Some (Piece y w i 1 Signed)
 piece Zero8 y w i = Some (Piece y w i 1 Unsigned)
 
--- successive bytes of one symbol that is kept in one width
+-- the result of a load of successive bytes of one symbol that is stored in one width
 abbrev pub loaded_symbol : Extension → List MemoryByte → Option Value
 loaded_symbol e (SymbolByte y w i ∷ cs) = if are_symbol_bytes y w (suc i) cs then piece e y w i else None
 loaded_symbol e _ = None
 
--- what a load gives of the bytes that memory has there, none of which is hidden
+-- the result of a load of these bytes of memory, none of which is hidden
 abbrev pub loaded : Extension → List MemoryByte → Option Value
 loaded e held = option_or (option_map (λ bytes. Num (extended e (little bytes))) (numbers held)) (loaded_symbol e held)

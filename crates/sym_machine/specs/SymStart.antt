@@ -1,5 +1,5 @@
--- How a program starts on the symbol machine, and its runs: as on the byte machine, but that code cells and the entry
--- point are symbols, and fields that the rewriting of a file changes are hidden.
+-- The start of a program on the symbol machine, and its runs. They are as on the byte machine, except that code cells
+-- and the entry point are symbols, and that fields which a rewrite of the file changes are hidden.
 use Rattle.std.specs.Prelude.{ℕ, ◌-◌, ◌||◌, if◌then◌else◌, Bool, List, [], ◌∷◌, ◌++◌, Option, Some}
 use Rattle.std.specs.Prelude.{None, find, unwrap_or, option_map}
 use Rattle.std.specs.Option.{option_map_or, option_or}
@@ -36,7 +36,8 @@ code_cell_range cell = record { start = cell.addr; size = cell.width }
 abbrev pub byte_of_cell : ℕ → CodeCell → MemoryByte
 byte_of_cell a cell = SymbolByte (symbol_of cell.kind) cell.width (a - cell.addr)
 
--- the entry point, kept in 8 bytes from a place on: in e_entry, where that is loaded, and on the stack
+-- the byte at address a of the entry point, stored in the 8 bytes of a range: in e_entry, if that is loaded, and on the
+-- stack
 abbrev pub byte_of_entry : Elf → ℕ → Range → MemoryByte
 byte_of_entry elf a range = SymbolByte (Points (Code elf.entry)) 8 (a - range.start)
 
@@ -46,7 +47,7 @@ entry_fields elf args =
 
 -- The state before the first step.
 
--- what stands at an address for the entry point, for a hidden field, and for a code cell
+-- the byte of the entry point at an address, and likewise of a hidden field and of a code cell
 abbrev pub entry_byte : Elf → List (List ℕ) → ℕ → Option MemoryByte
 entry_byte elf args a = option_map (byte_of_entry elf a) (find (is_in_range a) (entry_fields elf args))
 
@@ -56,7 +57,8 @@ hidden_byte elf tight args a = if is_hidden_field elf tight a || is_hidden_entry
 abbrev pub code_cell_byte : List CodeCell → ℕ → Option MemoryByte
 code_cell_byte cells a = option_map (byte_of_cell a) (find (λ c. is_in_range a (code_cell_range c)) cells)
 
--- Where these overlap, the entry point comes first. All other bytes are those of the byte machine.
+-- If these overlap, the entry point has the byte, then hidden fields, then code cells. All other bytes are those of the
+-- byte machine.
 abbrev pub sym_memory : Elf → List CodeCell → Bool → List (List ℕ) → ℕ → MemoryByte
 sym_memory elf cells tight args a =
     unwrap_or (option_or (entry_byte elf args a) (option_or (hidden_byte elf tight args a) (code_cell_byte cells a)))
@@ -77,7 +79,7 @@ sym_start elf cells tight args input = record {
 
 -- Runs.
 
--- what the machine is given of a file: its functions, its code cells, and whether it is tight
+-- what the machine gets of a file: its functions, its code cells, and whether it is tight
 pub record SymProgram : Type 0 where
   pub elf : Elf
   pub funcs : List Func
@@ -87,11 +89,11 @@ pub record SymProgram : Type 0 where
 abbrev pub program_start : SymProgram → List (List ℕ) → List ℕ → SymState
 program_start p args input = sym_start p.elf p.cells p.tight args input
 
--- The n-th step of the program, run with these arguments and this input, ends with this status, after these calls.
+-- The program, run with these arguments and this input, ends in its n-th step with this status, after these calls.
 abbrev pub SymRuns : SymProgram → List (List ℕ) → List ℕ → ℕ → List Event → ℕ → Type 0
 SymRuns p args input n trace status = Run (SymSteps p.funcs) (program_start p args input) n trace status
 
--- Its first n steps neither end nor stick, and make these calls.
+-- The program's first n steps neither end nor are stuck, and make these calls.
 pub record SymRunsSoFar (p : SymProgram) (args : List (List ℕ)) (input : List ℕ) (n : ℕ)
     (trace : List Event) : Type 0 where
   pub state : SymState

@@ -1,6 +1,6 @@
--- One step of the symbol machine. A step is a list of conditions, each with the reason for which the machine is stuck
--- where it is the first that fails. For all instructions they stand in one order: FellOff, Break, CallArg for a
--- register, Operate, Compare, NotCode, EndOfFunction, Access, Hidden, CallArg for a byte that is written out, Mixed.
+-- One step of the symbol machine. A step is a list of conditions, each with a reason; the machine is stuck for the
+-- reason of the first condition that fails. The order is the same for all instructions: FellOff, Break, CallArg for a
+-- register, Operate, Compare, NotCode, EndOfFunction, Access, Hidden, CallArg for a byte that is written, Mixed.
 use Rattle.std.specs.Prelude.{◌≡◌, ℕ, ◌*◌, ◌%◌, ◌^◌, ◌||◌, ◌==◌, if◌then◌else◌, Bool, true, false, not, List, [], ◌∷◌}
 use Rattle.std.specs.Prelude.{Option, Some, None, length, take, drop, min, map}
 use Rattle.std.specs.List.{list_any}
@@ -38,17 +38,17 @@ SymOutcome = Outcome SymState Reason
 
 -- Conditions.
 
--- there is a value, with which the step goes on
+-- there is a value, and the step goes on with it
 abbrev pub needs : {A : Type 0} → SymState → Reason → Option A → (A → SymOutcome) → SymOutcome
 needs s why None rest = Halts s.pc why
 needs s why (Some x) rest = rest x
 
--- a test passes
+-- a test holds
 abbrev pub checks : SymState → Reason → Bool → SymOutcome → SymOutcome
 checks s why false rest = Halts s.pc why
 checks s why true rest = rest
 
--- What a step comes to.
+-- Outcomes of a step.
 
 abbrev pub goes_to : SymState → ℕ → SymOutcome
 goes_to s next = Going (record s { pc = next }) None
@@ -59,11 +59,11 @@ writes_register s next rd v = Going (record s { pc = next; registers = set_regis
 abbrev pub writes_memory : SymState → ℕ → ℕ → List MemoryByte → SymOutcome
 writes_memory s next a bytes = Going (record s { pc = next; memory = put s.memory a bytes }) None
 
--- a system call comes back, with its result in a0
+-- a system call returns, with its result in a0
 abbrev pub returns : SymState → ℕ → Event → SymOutcome
 returns s next e = Going (record s { pc = next; registers = set_register a0 (Num e.result) s.registers }) (Some e)
 
--- Jumps that save a return address save that of their own call.
+-- A jump that saves a return address saves a pointer to the point after this call.
 abbrev pub jumps : SymState → ℕ → ℕ → SymOutcome
 jumps s rd to = writes_register s to rd (Sym (Points (Ret s.pc)))
 
@@ -99,7 +99,7 @@ jumps_to funcs s role rd base offset =
     needs s reason.NotCode (pointer role offset v) (λ p.
     needs s reason.EndOfFunction (destination funcs p) (jumps s rd)))
 
--- System calls. Each uses the arguments that it names, whatever it answers.
+-- System calls. Each uses the same arguments whatever its result is.
 
 -- the number in a register that a call uses
 abbrev pub argument : SymState → ℕ → (ℕ → SymOutcome) → SymOutcome
@@ -108,24 +108,24 @@ argument s r rest = needs s reason.CallArg (number (s.registers r)) rest
 abbrev pub three_arguments : SymState → (ℕ → ℕ → ℕ → SymOutcome) → SymOutcome
 three_arguments s rest = argument s a0 (λ x. argument s a1 (λ y. argument s a2 (rest x y)))
 
--- a call that moves bytes between a file and a buffer came back with their number
+-- the event of a call that moved these bytes between a file and a buffer, and returned their number
 abbrev pub moving_event : ℕ → ℕ → ℕ → ℕ → List ℕ → Event
 moving_event number file at size bytes =
     record { number = number; used = file ∷ at ∷ size ∷ []; moved = bytes; result = length bytes }
 
--- a file that isn't open: the buffer isn't looked at
+-- a call with a file that isn't open, whose buffer isn't looked at
 abbrev pub refuses_file : SymState → ℕ → ℕ → ℕ → ℕ → ℕ → SymOutcome
 refuses_file s next number file at size =
     returns s next (record { number = number; used = file ∷ at ∷ size ∷ []; moved = []; result = bad_file })
 
--- bytes of the input go to a buffer, all of which may be written
+-- bytes of the input are put into a buffer, all of which may be written
 abbrev pub reads_input : SymState → ℕ → ℕ → ℕ → List ℕ → SymOutcome
 reads_input s next at size bytes =
     checks s reason.Access (all_may (may_write s) at (min size most_moved))
     (returns (record s { memory = put s.memory at (map Byte bytes); input = drop (length bytes) s.input }) next
     (moving_event 63 0 at size bytes))
 
--- bytes of a buffer go out, all of which may be read
+-- the bytes of a buffer are written, all of which may be read
 abbrev pub writes_output : SymState → ℕ → ℕ → ℕ → ℕ → List MemoryByte → SymOutcome
 writes_output s next file at size held =
     checks s reason.Access (all_may (may_read s) at (min size most_moved))
@@ -144,7 +144,7 @@ write_call s next file at size =
     then writes_output s next file at size (memory_bytes s.memory at (min size most_moved))
     else refuses_file s next 64 file at size
 
--- the result is the break after the call
+-- the call's result is the break after it
 abbrev pub sets_break : SymState → ℕ → ℕ → SymState → SymOutcome
 sets_break s next to t = returns t next (record { number = 214; used = to ∷ []; moved = []; result = t.program_break })
 
@@ -157,7 +157,7 @@ calls s next n Unknown = returns s next (record { number = n; used = []; moved =
 
 -- The step.
 
--- what an instruction with a role does whose next one is at a pc
+-- the outcome of an instruction with this role, if the next instruction is at `next`
 abbrev pub effect : List Func → Role → Action → ℕ → SymState → SymOutcome
 effect funcs role (Compute op rd left right) next s =
     needs s reason.Operate (computed funcs role s.registers op left right) (writes_register s next rd)
@@ -176,15 +176,15 @@ effect funcs role Fence next s = goes_to s next
 effect funcs role SystemCall next s = argument s a7 (λ n. calls s next n (call_of n))
 effect funcs role Breakpoint next s = Halts s.pc reason.Break
 
--- the instruction of a function at a pc; there is none at an odd one
+-- the instruction that starts at a pc; there is none at an odd pc
 abbrev pub instruction : List Func → ℕ → Option Placed
 instruction funcs pc = if pc % 2 == 0 then placed_at funcs pc else None
 
--- what a step comes to
+-- the outcome of a step
 abbrev pub sym_step : List Func → SymState → SymOutcome
 sym_step funcs s = needs s reason.FellOff (instruction funcs s.pc)
     (λ p. effect funcs p.role (action_at p) (plus s.pc p.len) s)
 
--- The step from s comes to o.
+-- The step from s has the outcome o.
 abbrev pub SymSteps : List Func → SymState → SymOutcome → Type 0
 SymSteps funcs s o = sym_step funcs s ≡ o

@@ -1,4 +1,4 @@
--- Values and bytes of memory of the symbol machine: which are equal, and what stands in memory for a value.
+-- Values and bytes of memory of the symbol machine: equality, and the bytes in which a value is stored.
 use Rattle.std.specs.Prelude.{◌≡◌, ◌≢◌, ◌⊎◌, ◌<◌, ◌≤◌, ◌+◌, ℕ, zero, suc, ◌==◌, ◌&&◌, not, nat_le, if◌then◌else◌, Bool}
 use Rattle.std.specs.Prelude.{true, false, List, [], ◌∷◌, Option, Some, None, map, option_map}
 use Rattle.rv_code.specs.declared.placed.Func.{Func}
@@ -24,7 +24,7 @@ same_pointer (Code a) (Code b) = a == b
 same_pointer (Ret a) (Ret b) = a == b
 same_pointer _ _ = false
 
--- the operation by which pointers are compared
+-- the operation that compares two pointers
 abbrev pub op_of : Comparing → Op
 op_of Sub = op.Sub
 op_of Xor = op.Xor
@@ -42,7 +42,7 @@ same_symbol (Diff to from) (Diff to' from') = to == to' && from == from'
 same_symbol (Apart by p q) (Apart by' p' q') = same_comparing by by' && same_pointer p p' && same_pointer q q'
 same_symbol _ _ = false
 
--- The value of an address: a pointer where it is a code address, else a number.
+-- The value of an address: a pointer if it is a code address, otherwise a number.
 abbrev pub value_of : List Func → ℕ → Value
 value_of funcs a = if is_code_address funcs a then Sym (Points (Code a)) else Num a
 
@@ -62,19 +62,19 @@ abbrev pub and_byte : MemoryByte → Option (List ℕ) → Option (List ℕ)
 and_byte (Byte b) rest = option_map (λ bs. b ∷ bs) rest
 and_byte _ rest = None
 
--- bytes of memory that are all numbers
+-- the numbers of these bytes of memory, if they are all numbers
 abbrev pub numbers : List MemoryByte → Option (List ℕ)
 numbers [] = Some []
 numbers (c ∷ cs) = and_byte c (numbers cs)
 
 -- Symbols in memory.
 
--- n bytes of a symbol from byte i on, as it is kept in w bytes
+-- n bytes of symbol y from byte i on, stored in w bytes
 unfoldable pub symbol_bytes : CodeSymbol → ℕ → ℕ → ℕ → List MemoryByte
 symbol_bytes y w i zero = []
 symbol_bytes y w i (suc n) = SymbolByte y w i ∷ symbol_bytes y w (suc i) n
 
--- they are bytes of a symbol from byte i on, as it is kept in w bytes
+-- these bytes are bytes of symbol y from byte i on, stored in w bytes
 abbrev pub are_symbol_bytes : CodeSymbol → ℕ → ℕ → List MemoryByte → Bool
 are_symbol_bytes y w i [] = true
 are_symbol_bytes y w i (SymbolByte z v j ∷ cs) = same_symbol y z && w == v && i == j && are_symbol_bytes y w (suc i) cs
@@ -84,8 +84,9 @@ abbrev pub is_hidden : MemoryByte → Bool
 is_hidden Hidden = true
 is_hidden _ = false
 
--- The n low bytes of a value as they are stored. A symbol is kept in 4 bytes by a store of 4, else in 8, of which
--- a short store has the first ones. A piece has its first bytes, where it has as many.
+-- The n low bytes of a value as a store writes them. A store of 4 writes a symbol in a width of 4 bytes, any other in a
+-- width of 8, and a store of fewer than 8 writes the first of these. Of a piece it writes the first bytes, if the piece
+-- has n of them.
 abbrev pub stored : ℕ → Value → Option (List MemoryByte)
 stored n (Num x) = Some (map Byte (low_bytes n x))
 stored n (Sym y) = Some (symbol_bytes y (if n == 4 then 4 else 8) 0 n)
@@ -93,7 +94,7 @@ stored n (Piece y w i k e) = if nat_le n k then Some (symbol_bytes y w i n) else
 
 -- The values and bytes of memory that the machine makes.
 
--- pointers that were compared have one kind and different addresses
+-- pointers that were compared are of one kind and have different addresses
 abbrev pub AreSymbolsApart : Pointer → Pointer → Type 0
 AreSymbolsApart (Code a) (Code b) = a ≢ b
 AreSymbolsApart (Ret a) (Ret b) = a ≢ b
@@ -103,11 +104,11 @@ abbrev pub IsSymbol : CodeSymbol → Type 0
 IsSymbol (Apart by p q) = AreSymbolsApart p q
 IsSymbol _ = Unit {0}
 
--- a symbol is kept in 4 or in 8 bytes
+-- a symbol is stored in 4 or in 8 bytes
 abbrev pub IsWidth : ℕ → Type 0
 IsWidth w = (w ≡ 4) ⊎ (w ≡ 8)
 
--- a piece has 1, 2 or 4 of its bytes
+-- a piece has 1, 2 or 4 bytes of its symbol
 abbrev pub IsPiece : ℕ → ℕ → ℕ → Type 0
 IsPiece w i n = IsWidth w × ((n ≡ 1) ⊎ ((n ≡ 2) ⊎ (n ≡ 4))) × (i + n ≤ w)
 

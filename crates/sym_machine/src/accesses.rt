@@ -1,4 +1,4 @@
-// Where loads and stores go, and what they move.
+// Addresses of loads and stores, and the values that they move.
 ghost use Rattle.std.specs.Prelude.{◌≡◌, Option, Some, None, option_map};
 ghost use Rattle.sym_machine.specs.Values.{stored};
 ghost use Rattle.sym_machine.specs.Rules.{is_unsigned, piece};
@@ -13,14 +13,15 @@ use rv_code::{Extension, Role};
 /// What a store writes.
 #[derive(Clone, Copy)]
 pub enum Stored {
-    /// The low bytes of a number.
+    /// The low bytes of this number.
     Number(u64),
-    /// Bytes of a symbol.
+    /// These bytes of a symbol.
     Symbol(SymbolBytes),
 }
 
-/// What a store of `count` bytes of a value writes: of a symbol its first bytes, where it counts as kept in eight bytes
-/// unless four are stored. None for a piece of a symbol that has fewer bytes.
+/// What a store of `count` bytes of `value` writes. Of a symbol, these are its first bytes: a store of four writes it
+/// in a width of four bytes, any other in a width of eight. `None` for a piece of a symbol that has fewer than `count`
+/// bytes.
 pub fn what_to_store(count: u8, value: Value) -> Option<Stored>
     ensures { option_map (stored_bytes count) result ≡ stored count value }
 {
@@ -51,7 +52,7 @@ pub fn what_to_store(count: u8, value: Value) -> Option<Stored>
     }
 }
 
-// Whether an LWU of all four bytes gives a symbol back whole: one whose number is never negative.
+// Whether an LWU of four bytes gives the symbol back: the symbol's number is never negative.
 fn is_unsigned(symbol: CodeSymbol) -> bool
     ensures { result ≡ is_unsigned symbol }
 {
@@ -106,8 +107,8 @@ fn unsigned_word(from: SymbolBytes) -> Value
     }
 }
 
-/// What a load of bytes of a symbol gives: the symbol, where these are all of its bytes, or a piece. None for a load of
-/// eight bytes that aren't all of one symbol.
+/// The result of a load of bytes of a symbol: the symbol if they are all of its bytes, or a piece of it. `None` for a
+/// load of eight bytes that aren't exactly one symbol.
 pub fn piece(extension: Extension, from: SymbolBytes) -> Option<Value>
     ensures { result ≡ symbol_piece extension from }
 {
@@ -122,7 +123,7 @@ pub fn piece(extension: Extension, from: SymbolBytes) -> Option<Value>
     }
 }
 
-// The address that a base and an offset give. A symbol stays as it is: nothing can be loaded or stored there.
+// The sum of a base and an offset. A symbol is returned unchanged, and no load or store accepts it as an address.
 fn moved(base: Value, offset: u64) -> Value
     ensures { result ≡ with_offset base offset }
 {
@@ -136,7 +137,8 @@ fn moved(base: Value, offset: u64) -> Value
 impl<'a> InstIndex<'a> {
     ghost use Rattle.sym_machine.specs.Rules.{place};
 
-    /// The value that is the address of a load or a store.
+    /// The value that is the address of a load or a store. `None` if `role` is a lower part and `base` isn't its upper
+    /// part.
     pub fn address_of(&self, role: Role, base: Value, offset: u64) -> Option<Value>
         ensures { result ≡ place self.now.funcs.now role base offset }
     {

@@ -1,4 +1,4 @@
-// Operations on values. On numbers they are those of the instruction set.
+// Operations on values. On numbers they are the operations of the instruction set.
 ghost use Rattle.std.specs.Prelude.{◌≡◌, ◌-◌, ◌^◌, ◌==◌, ◌&&◌, Option, Some, None, false};
 ghost use Rattle.rv_code.specs.isa.Op.{apply};
 ghost use Rattle.sym_machine.specs.Values.{number};
@@ -10,7 +10,7 @@ use crate::inst_index::InstIndex;
 use crate::value::{CodeSymbol, Comparing, Pointer, Value};
 use rv_code::Op;
 
-/// Whether a value is surely not 0: a pointer, or what comparing two different ones gave.
+/// Whether a value is certainly not 0: a pointer, or the result of comparing two different pointers.
 pub fn is_nonzero(value: Value) -> bool
     ensures { result ≡ is_nonzero value }
 {
@@ -33,7 +33,7 @@ fn is_symbol_nonzero(symbol: CodeSymbol) -> bool
     }
 }
 
-// A copy, by adding 0.
+// A copy of `value`, made by adding 0.
 fn copied(value: Value, other: Value) -> Option<Value>
     ensures { result ≡ copied value other }
 {
@@ -44,7 +44,7 @@ fn copied(value: Value, other: Value) -> Option<Value>
     }
 }
 
-// What comparing pointers of one kind at two addresses gives.
+// The result of comparing pointers of one kind with the addresses `a` and `b`.
 fn compared(by: Comparing, left: Pointer, right: Pointer, a: u64, b: u64) -> Value
     ensures { result ≡ compared by left right a b }
 {
@@ -71,7 +71,7 @@ fn compared_by(by: Comparing, left: Pointer, right: Pointer) -> Option<Value>
     }
 }
 
-// ANDI of a pointer. Code addresses are even, so -2 as the mask leaves one as it is, and 1 gives 0.
+// ANDI of a pointer. Code addresses are even, so the mask -2 leaves the pointer unchanged, and the mask 1 gives 0.
 fn masked(pointer: Pointer, mask: u64) -> Option<Value>
     ensures { result ≡ masked pointer mask }
 {
@@ -115,7 +115,7 @@ fn compared_values(by: Comparing, left: Value, right: Value) -> Option<Value>
     compared_by(by, p, q)
 }
 
-// ANDI of a value that is no number.
+// ANDI of a value that isn't a number.
 fn masked_value(value: Value, mask: u64) -> Option<Value>
     ensures { result ≡ masked_value value mask }
 {
@@ -123,7 +123,8 @@ fn masked_value(value: Value, mask: u64) -> Option<Value>
     masked(pointer, mask)
 }
 
-// SLTIU of a value that is no number. With 1 it asks whether the value is 0, which one that surely isn't answers.
+// SLTIU of a value that isn't a number. With the bound 1 it tests for 0 (SEQZ), so the result is 0 if the value is
+// certainly not 0.
 fn is_zero(value: Value, bound: u64) -> Option<Value>
     ensures { result ≡ only_if (bound == 1 && is_nonzero value) (Value.Num 0) }
 {
@@ -134,7 +135,7 @@ fn is_zero(value: Value, bound: u64) -> Option<Value>
     }
 }
 
-// ADDI of a value that is no number: only 0 can be added.
+// ADDI of a value that isn't a number: only 0 can be added.
 fn moved(value: Value, offset: u64) -> Option<Value>
     ensures { result ≡ only_if (offset == 0) value }
 {
@@ -168,7 +169,7 @@ impl<'a> InstIndex<'a> {
     ghost use Rattle.sym_machine.specs.Values.{value_of, is_value_of};
     ghost use Rattle.sym_machine.specs.Rules.{from_difference, sum, on_registers, on_zero};
 
-    // The value of the first label of a difference, where the other value is that of the second.
+    // The first label's value, if `value` is the difference of two labels and `other` is the second label's value.
     fn from_difference(&self, value: Value, other: Value) -> Option<Value>
         ensures { result ≡ from_difference self.now.funcs.now value other }
     {
@@ -234,7 +235,7 @@ impl<'a> InstIndex<'a> {
         }
     }
 
-    /// An operation on register 0 and another. SLTU then asks whether the other isn't 0, as SNEZ does.
+    /// An operation on register 0 and another register. SLTU then tests that the other isn't 0, as SNEZ does.
     pub fn on_zero(&self, op: Op, zero: Value, value: Value) -> Option<Value>
         ensures { result ≡ on_zero self.now.funcs.now op zero value }
     {

@@ -7,7 +7,7 @@ use crate::arithmetic::is_nonzero;
 use crate::value::{CodeSymbol, Pointer, Value};
 use rv_code::Test;
 
-// Whether two pointers are equal, if they have one kind.
+// Whether two pointers are equal, if they are of one kind.
 fn equal_pointers(left: Pointer, right: Pointer) -> Option<bool>
     ensures { result ≡ equal_pointers left right }
 {
@@ -23,7 +23,7 @@ fn equal_pointers(left: Pointer, right: Pointer) -> Option<bool>
     }
 }
 
-// Whether a value equals a number, where that is known.
+// Whether a value equals a number, if this is known.
 fn equal_number(value: Value, number: u64) -> Option<bool>
     ensures { result ≡ equal_number value number }
 {
@@ -58,7 +58,7 @@ fn equal_pointer(pointer: Pointer, symbol: CodeSymbol) -> Option<bool>
     }
 }
 
-// Whether two values are equal, where that is known.
+// Whether two values are equal, if this is known.
 fn equal(left: Value, right: Value) -> Option<bool>
     ensures { result ≡ tested Test.Equal left right }
 {
@@ -81,7 +81,7 @@ fn equal(left: Value, right: Value) -> Option<bool>
     }
 }
 
-// Whether the test holds of two numbers, if both are numbers.
+// The result of a test, if both values are numbers.
 fn numbers_tested(test: Test, left: Value, right: Value) -> Option<bool>
     ensures { result ≡ numbers_tested test left right }
 {
@@ -96,7 +96,7 @@ fn numbers_tested(test: Test, left: Value, right: Value) -> Option<bool>
     }
 }
 
-/// Whether the test of a branch holds, where that is known.
+/// Whether a branch's test holds, if this is known.
 pub fn tested(test: Test, left: Value, right: Value) -> Option<bool>
     ensures { result ≡ tested test left right }
 {

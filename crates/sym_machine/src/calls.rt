@@ -24,7 +24,7 @@ pub(crate) struct Buffer {
 impl Buffer {
     ghost use Rattle.rv_code.specs.machine.Machine.{most_moved};
 
-    // How many bytes the call may move.
+    // The largest number of bytes that the call may move.
     fn count(self) -> usize
         ensures is { result ≡ min self.size most_moved }
         ensures few { result ≤ 65536 }
@@ -46,7 +46,7 @@ impl<'a> SymMachine<'a> {
     ghost use Rattle.sym_machine.specs.internal.Calls.{buffer_in};
     ghost use Rattle.sym_machine.specs.Values.{number};
 
-    // The number that an argument is.
+    // The number in an argument's register, if its value is a number.
     fn argument(&self, register: u8) -> Option<u64>
         ensures { result ≡ number (registers_of self.now register) }
     {
@@ -63,7 +63,7 @@ impl<'a> SymMachine<'a> {
         })
     }
 
-    // Comes back from a call with this result.
+    // Returns from a system call with `value` in `a0`, and goes on at `next`.
     fn return_value(&mut self, value: u64, next: u64) -> SymStepped
         ensures going { result ≡ SymStepped.Going }
         ensures state { (input : List ℕ) → Same
@@ -117,7 +117,7 @@ impl<'a> SymMachine<'a> {
         self.return_value(BAD_FILE, next)
     }
 
-    // Reads standard input into the buffer. Room is taken before anything is read.
+    // Reads standard input into the buffer. Memory for the bytes is reserved before anything is read.
     fn read_input<I: Source>(
         &mut self,
         buffer: Buffer,
@@ -152,7 +152,7 @@ impl<'a> SymMachine<'a> {
         }
     }
 
-    // Writes the buffer out.
+    // Writes the buffer to a file.
     fn write_output<O: Sink>(&mut self, buffer: Buffer, next: u64, out: &mut O) -> SymStepped
         ensures answer { (input : SourceSeen) (ended : Bool) → StepAnswers
             (λ s o. o ≡ writes_output s next buffer.file buffer.address buffer.size
@@ -221,7 +221,7 @@ impl<'a> SymMachine<'a> {
         }
     }
 
-    /// Does the system call that the registers name.
+    /// Does the system call whose number is in `a7`.
     pub(crate) fn system_call<I: Source, O: Sink>(
         &mut self,
         next: u64,

@@ -1,4 +1,4 @@
-// The instructions that leave memory as it is, but for system calls.
+// The instructions that leave memory unchanged, except system calls.
 ghost use Rattle.std.specs.Prelude.{◌≡◌, ◌≤◌, ◌*◌, ◌%◌, ◌^◌, ℕ, List, Ok, Some, None, Result};
 ghost use Rattle.sym_machine.specs.SymStep.{goes_to};
 
@@ -14,7 +14,7 @@ use crate::value::{CodeSymbol, Pointer, Value};
 use rv_code::{Action, Extension, Op, Operand, Role, Test};
 use rv_memory::rights::Access;
 
-// Goes to a pc and leaves the registers as they are: what is written to register 0 is dropped.
+// Goes to a pc and leaves the registers unchanged: a write to register 0 has no effect.
 fn go_to(next: u64) -> Change
     ensures { result ≡ record { rd = 0; value = Value.Num 0; next = next } }
 {
@@ -37,7 +37,7 @@ impl<'a> SymMachine<'a> {
     ghost use Rattle.sym_machine.specs.internal.Accesses.{ChangesRegistersOnly};
     ghost use Rattle.sym_machine.specs.Rules.{upper_of_distance, upper_of_address, tested};
 
-    // What an instruction with a role changes. The instruction after it stands at `next`.
+    // The change that an instruction with this role makes. `next` is the address of the instruction after it.
     pub(crate) fn change(&self, role: Role, action: Action, next: u64) -> Result<Change, Reason>
         requires { ChangesRegistersOnly action }
         ensures { (input : List ℕ) →
@@ -93,7 +93,7 @@ impl<'a> SymMachine<'a> {
         }
     }
 
-    // What an operation gives on its operands. Of no instruction is the first one an immediate.
+    // The result of an operation on its operands. No instruction has an immediate as its first operand.
     fn combined(&self, op: Op, left: Operand, right: Operand) -> Option<Value>
         ensures { result ≡ combined (funcs_of self.now) (registers_of self.now) op left right }
     {
@@ -174,7 +174,7 @@ impl<'a> SymMachine<'a> {
         }
     }
 
-    // Where a branch goes, whose test `holds` or doesn't.
+    // The pc after a branch: its target if `holds` is `wanted`, otherwise `next`.
     fn way(&self, wanted: bool, holds: bool, offset: u64, next: u64) -> u64
         ensures { (input : List ℕ) → let s = state_of self.now input in
             branches s next (plus s.pc offset) wanted (Some holds) ≡ goes_to s result }
@@ -194,7 +194,7 @@ impl<'a> SymMachine<'a> {
         Ok(self.jump(rd, self.pc.wrapping_add(offset)))
     }
 
-    // Jumps, and saves the return address.
+    // A jump to `target` that saves the return address in `rd`.
     fn jump(&self, rd: u8, target: u64) -> Change
         ensures { (input : List ℕ) → changes (state_of self.now input) (Ok result) ≡ jumps
             (state_of self.now input) rd target }

@@ -1,4 +1,4 @@
-// Fields of a file, and the bytes that they have.
+// Fields of a file, and which bytes are in one of them.
 ghost use Rattle.std.specs.Prelude.{◌≡◌, ◌<◌, ◌||◌, ℕ, IfOk, length, slice_index_or, Bool, false};
 ghost use Rattle.std.specs.List.{list_any};
 ghost use Rattle.elf_image.specs.memory.LoadedBytes.{is_in_range};
@@ -7,15 +7,15 @@ ghost use Rattle.sym_machine.specs.internal.Fields.{range_of_field, AreMarked};
 use rb_bytes::fault::NoMemory;
 use std::alloc::Global;
 
-/// The `size` bytes of a file from the offset `start` on.
+/// The `size` bytes of a file from the offset `start`.
 #[derive(Clone, Copy)]
 pub struct Field {
     pub start: u128,
     pub size: u64,
 }
 
-/// Fields of a file, with a mark for each byte of the file that one of them has: a file can have many program headers,
-/// and each of their bytes is asked for.
+/// Fields of a file, with a mark for each byte of the file that is in one of them. The marks are needed because a file
+/// can have many program headers, and each of their bytes is looked up.
 #[derive(Drop)]
 pub struct Fields {
     pub list: Vec<Field>,
@@ -24,7 +24,7 @@ pub struct Fields {
 }
 
 impl Fields {
-    /// Fields of a file of `size` bytes.
+    /// The marks of these fields, in a file of `size` bytes.
     pub fn new(alloc: Global, list: Vec<Field>, size: usize) -> Result<Fields, NoMemory>
         ensures { IfOk result (λ fields. fields.list.items ≡ list.items) }
     {
@@ -32,7 +32,7 @@ impl Fields {
         Ok(Fields { list, marks })
     }
 
-    /// Whether one of the fields has the byte at an offset.
+    /// Whether the byte at `offset` is in one of the fields.
     pub fn has(&self, offset: u128) -> bool
         ensures { result ≡ list_any (λ field. is_in_range offset (range_of_field field)) self.now.list.items }
     {
@@ -44,21 +44,21 @@ impl Fields {
     }
 }
 
-// Whether a field has the byte at an offset.
+// Whether the byte at `offset` is in the field.
 fn has(field: &Field, offset: u128) -> bool
     ensures { result ≡ is_in_range offset (range_of_field field.now) }
 {
     field.start <= offset && offset - field.start < field.size as u128
 }
 
-// Whether one of these fields has the byte at an offset.
+// Whether the byte at `offset` is in one of these fields.
 fn has_any(fields: &[Field], offset: u128) -> bool
     ensures { result ≡ list_any (λ field. is_in_range offset (range_of_field field)) fields.now }
 {
     fields.iter().any(|field| has(field, offset))
 }
 
-// For each of the first `size` bytes of a file, whether one of these fields has it.
+// For each of the first `size` bytes of a file, whether it is in one of these fields.
 fn marked(alloc: Global, fields: &[Field], size: usize) -> Result<Vec<bool>, NoMemory>
     ensures { IfOk result (λ marks. AreMarked marks.items fields.now) }
 {
@@ -69,7 +69,7 @@ fn marked(alloc: Global, fields: &[Field], size: usize) -> Result<Vec<bool>, NoM
     Ok(marks)
 }
 
-// Marks the bytes that a field has.
+// Marks the bytes of a field.
 fn mark(marks: &mut [bool], field: &Field)
     ensures size { length marks.new ≡ length marks.old }
     ensures marked { (o : ℕ) → o < length marks.old →

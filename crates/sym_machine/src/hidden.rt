@@ -18,7 +18,7 @@ use elf_image::{Elf, Segment};
 use rb_bytes::fault::NoMemory;
 use std::alloc::Global;
 
-// Appends a field where `test` holds.
+// Appends a field if `test` holds.
 fn push_if(out: &mut Vec<Field>, test: bool, start: u128, size: u64) -> Result<(), NoMemory>
     ensures { OnOk result (map range_of_field out.new.items ≡ map range_of_field out.old.items
         ++ only test (record { start = start; size = size })) }
@@ -29,7 +29,7 @@ fn push_if(out: &mut Vec<Field>, test: bool, start: u128, size: u64) -> Result<(
     Ok(())
 }
 
-/// The address of the loaded field `e_entry`, if one segment loads it whole.
+/// The address of the loaded field `e_entry`, if one segment loads all of it.
 pub fn entry_address(elf: &Elf) -> Option<u64>
     requires { AreLow elf.now.segments.items }
     ensures is { result ≡ address_of elf.now e_entry_field }
@@ -39,9 +39,9 @@ pub fn entry_address(elf: &Elf) -> Option<u64>
     Some(p.vaddr + (E_ENTRY as u64 - p.offset))
 }
 
-// The hidden fields of the program header of an index: `p_filesz` and `p_memsz` of the executable segment, which can
-// grow; `p_offset` of one whose bytes lie behind that segment, since they can move in the file; and all that says where
-// the index of the unwind tables stands.
+// The hidden fields of the program header with this index: `p_filesz` and `p_memsz` of the executable segment, which
+// can grow; `p_offset` of a segment whose bytes come after that segment, since they can move in the file; and all
+// fields that say where the index of the unwind tables is.
 fn push_fields(
     out: &mut Vec<Field>,
     elf: &Elf,
@@ -72,9 +72,9 @@ fn push_fields(
     Ok(())
 }
 
-/// The hidden fields of a file's headers: those that a rewriting can change, among them what says where the tables of
-/// headers stand. In a `tight` file the table of program headers moves and grows. `e_entry` is hidden only where no one
-/// segment loads all of it; else it is a code address.
+/// The hidden fields of a file's headers: those that a rewrite can change, such as the offsets of the header tables. In
+/// a `tight` file the table of program headers moves and grows. `e_entry` is hidden only if no single segment loads all
+/// of it; otherwise it is a code address.
 pub fn hidden_fields(alloc: Global, elf: &Elf, tight: bool) -> Result<Vec<Field>, NoMemory>
     requires { AreLow elf.now.segments.items }
     ensures { IfOk result (λ fields. map range_of_field fields.items ≡ hidden_fields elf.now tight) }
@@ -114,7 +114,7 @@ fn push_all(
     Ok(())
 }
 
-/// Whether the byte at an address is one of a hidden field of the headers.
+/// Whether the byte at `address` is loaded from a hidden field of the headers.
 pub fn is_hidden_field(elf: &Elf, fields: &Fields, address: u64) -> bool
     ensures { (tight : Bool) → map range_of_field fields.now.list.items ≡ hidden_fields elf.now tight →
         result ≡ is_hidden_field elf.now tight address }

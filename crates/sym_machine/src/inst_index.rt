@@ -13,7 +13,7 @@ ghost use Rattle.sym_machine.specs.internal.FunctionOrder.{IsSearchable, addr_at
 use rv_code::functions::starts_up_to;
 use rv_code::{Func, InstPlace, Placed};
 
-/// Functions, in which an instruction is looked up by its address.
+/// Functions with a look-up of instructions by address.
 #[derive(Drop)]
 pub struct InstIndex<'a> {
     pub funcs: &'a [Func],
@@ -32,7 +32,7 @@ impl<'a> InstIndex<'a> {
         InstIndex { funcs }
     }
 
-    /// Where the instruction that starts at an address stands.
+    /// The indices of the function and of the instruction that starts at `address`.
     pub fn place(&self, address: u64) -> Option<InstPlace>
         ensures found { IfSome result (λ at. IsInstPlace self.now.funcs.now address at.func at.inst) }
         ensures none { IfNone result (placed_at self.now.funcs.now address ≡ None) }
@@ -67,7 +67,7 @@ impl<'a> InstIndex<'a> {
     }
 }
 
-// The instruction at a place.
+// The instruction at these indices.
 fn inst_at(funcs: &[Func], at: InstPlace) -> Placed
     requires func { at.func < length funcs.now }
     requires inst { (d : Func) → at.inst < length (slice_index_or funcs.now at.func d).insts.items }
@@ -86,7 +86,7 @@ fn address_at(insts: &[Placed], index: usize) -> u64
     insts[index].addr
 }
 
-// The address of the instruction after one at a place, in its function.
+// The address of the instruction after the one at these indices, in its function.
 fn next_in(funcs: &[Func], at: InstPlace) -> Option<u64>
     requires func { at.func < length funcs.now }
     ensures { (d : Func) → result ≡ addr_at (slice_index_or funcs.now at.func d).insts.items (at.inst + 1) }
@@ -126,7 +126,7 @@ fn place_in(funcs: &[Func], address: u64) -> Option<InstPlace>
     })
 }
 
-// How many instructions start at an address or below it.
+// The number of instructions that start at or below `address`.
 fn insts_up_to(insts: &[Placed], address: u64) -> usize
     requires { IsNonDecreasingBy (λ p. p.addr) insts.now }
     ensures bound { result ≤ length insts.now }

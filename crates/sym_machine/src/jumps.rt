@@ -7,7 +7,7 @@ use crate::parts::is_lower;
 use crate::value::{CodeSymbol, Pointer, Value};
 use rv_code::Role;
 
-/// The pointer that a JALR with an offset goes to, if its value is one.
+/// The pointer to which a JALR with this offset goes, if its value is a pointer.
 pub fn pointer(role: Role, offset: u64, value: Value) -> Option<Pointer>
     ensures { result ≡ pointer role offset value }
 {
@@ -39,7 +39,7 @@ fn symbol_pointer(role: Role, offset: u64, symbol: CodeSymbol) -> Option<Pointer
 impl<'a> InstIndex<'a> {
     ghost use Rattle.sym_machine.specs.Rules.{goal, destination};
 
-    /// The value to which a JALR goes.
+    /// The value to which a JALR goes: its lower part's target, or its register's value.
     pub fn goal(&self, role: Role, base: Value) -> Option<Value>
         ensures { result ≡ goal self.now.funcs.now role base }
     {
@@ -50,7 +50,7 @@ impl<'a> InstIndex<'a> {
         }
     }
 
-    /// The address to which a pointer leads.
+    /// The address to which a pointer leads. `None` if it points after a function's last instruction.
     pub fn destination(&self, pointer: Pointer) -> Option<u64>
         ensures { result ≡ destination self.now.funcs.now pointer }
     {

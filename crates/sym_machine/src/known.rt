@@ -1,4 +1,4 @@
-// Instructions that were looked up before, by their addresses.
+// A cache of instructions by their addresses.
 ghost use Rattle.std.specs.Prelude.{◌≡◌, ◌<◌, ◌%◌, ℕ, List, option_map};
 ghost use Rattle.rv_code.specs.declared.placed.Func.{Func};
 ghost use Rattle.sym_machine.specs.SymStep.{instruction};
@@ -23,17 +23,17 @@ pub struct KnownInst {
     pub found: Option<Decoded>,
 }
 
-/// Instructions by their addresses, so that loops look theirs up once. Addresses can share a place: then what was
-/// looked up last stands there.
+/// Instructions by their addresses, so that an instruction in a loop is looked up once. Addresses with the same index
+/// share an entry, which then holds the instruction that was looked up last.
 #[derive(Drop)]
 pub struct KnownInsts {
     pub entries: Vec<KnownInst>,
 }
 
-// How many places the table has.
+// The number of entries.
 const PLACES: usize = 8192;
 
-// The place of an address in the table.
+// The index of an address's entry.
 fn place(address: u64) -> usize {
     (address / 2 % PLACES as u64) as usize
 }
@@ -49,7 +49,7 @@ fn decoded_inst(inst: Placed) -> Decoded
 }
 
 impl KnownInsts {
-    /// A table in which nothing is found.
+    /// A cache without entries, in which nothing is found.
     pub fn none(alloc: Global) -> KnownInsts
         ensures { (funcs : List Func) → AreKnown funcs result }
     {
@@ -58,11 +58,11 @@ impl KnownInsts {
         }
     }
 
-    /// A table that is filled as instructions are looked up. Where memory runs out, nothing is found in it.
+    /// A cache that is filled as instructions are looked up. If memory runs out, the cache has no entries.
     pub fn new(alloc: Global) -> KnownInsts
         ensures { (funcs : List Func) → AreKnown funcs result }
     {
-        // No instruction stands at an odd address.
+        // No instruction starts at an odd address.
         let nothing = KnownInst {
             address: 1,
             found: None,
@@ -73,7 +73,7 @@ impl KnownInsts {
         }
     }
 
-    /// What the instruction at a pc does. There is none at an odd pc.
+    /// The instruction at `pc`, decoded. There is none at an odd pc.
     pub fn find(&mut self, code: &InstIndex, pc: u64) -> Option<Decoded>
         requires { AreKnown code.now.funcs.now self.old }
         ensures known { AreKnown code.now.funcs.now self.new }
@@ -89,7 +89,7 @@ impl KnownInsts {
         self.learn(at, code, pc)
     }
 
-    // Looks an instruction up, and puts it into the table.
+    // Looks an instruction up, and puts it into entry `at`.
     fn learn(&mut self, at: usize, code: &InstIndex, pc: u64) -> Option<Decoded>
         requires { AreKnown code.now.funcs.now self.old }
         ensures known { AreKnown code.now.funcs.now self.new }

@@ -1,5 +1,5 @@
-//! The symbol machine: runs a file's functions with code addresses as symbols, so that what it
-//! does doesn't depend on where the code lies.
+//! The symbol machine: runs a file's functions with code addresses as symbols, so that a run doesn't depend on the
+//! addresses of the code.
 #![tactic(auto)]
 
 mod accesses;

@@ -6,8 +6,7 @@ use crate::memory::SymMemory;
 use crate::outcome::{Reason, SymStepped};
 use crate::value::Value;
 
-/// One for each number of eight bits, so that a look-up needs no check of the number. No instruction names those past
-/// 31.
+/// One for each `u8`, so that a look-up needs no bounds check. No instruction names a register past 31.
 pub(crate) const REGISTERS: usize = 256;
 
 /// A machine that runs a file's functions, with code addresses as symbols.
@@ -19,7 +18,7 @@ pub struct SymMachine<'a> {
     pub(crate) code: InstIndex<'a>,
 }
 
-/// What a step does that leaves memory as it is: it writes a register and goes to a pc. Register 0 isn't written.
+/// What a step changes if it leaves memory unchanged: one register and the pc. Register 0 isn't written.
 #[derive(Clone, Copy)]
 pub struct Change {
     pub rd: u8,
@@ -51,7 +50,7 @@ impl<'a> SymMachine<'a> {
         SymStepped::Stuck(self.pc, why)
     }
 
-    // Goes to a pc with a register written. Register 0 stays as it is.
+    // Writes `value` to register `rd`, and goes on at `next`. Register 0 stays unchanged.
     pub(crate) fn write_register(&mut self, rd: u8, value: Value, next: u64) -> SymStepped
         ensures code { self.new.code ≡ self.old.code }
         ensures answer { (input : List ℕ) →
@@ -64,7 +63,7 @@ impl<'a> SymMachine<'a> {
         SymStepped::Going
     }
 
-    // Does what an instruction does, or is stuck.
+    // Applies the change of an instruction, or is stuck.
     pub(crate) fn apply(&mut self, change: Result<Change, Reason>) -> SymStepped
         ensures code { self.new.code ≡ self.old.code }
         ensures answer { (input : List ℕ) → Becomes (changes (state_of self.old input) change) result self.old self.new

@@ -11,14 +11,15 @@ use crate::value::{CodeSymbol, MemoryByte};
 use rb_bytes::fault::NoMemory;
 use rv_memory::memory::Memory;
 
-/// The bytes at all addresses: numbers in pages, and the others beside them, over what the pages have there.
+/// The bytes at all addresses: numbers in pages, and in `others` all other bytes, which hide the pages' numbers at
+/// their addresses.
 #[derive(Drop)]
 pub struct SymMemory<'a> {
     pub bytes: Memory<'a>,
     pub others: OtherBytes,
 }
 
-/// Bytes of a symbol that is kept in `width` bytes, from byte `first` on.
+/// Bytes of a symbol that is stored in `width` bytes, from byte `first` on.
 #[derive(Clone, Copy)]
 pub struct SymbolBytes {
     pub symbol: CodeSymbol,
@@ -36,7 +37,7 @@ impl<'a> SymMemory<'a> {
     ghost use Rattle.sym_machine.specs.internal.Accesses.{stored_bytes};
     ghost use Rattle.sym_machine.specs.Values.{numbers, is_hidden, are_symbol_bytes, symbol_bytes};
 
-    /// What stands at an address.
+    /// The byte at an address.
     pub fn byte(&self, address: u64) -> MemoryByte
         ensures { result ≡ memory_at self.now address }
     {
@@ -57,14 +58,14 @@ impl<'a> SymMemory<'a> {
         }
     }
 
-    // Whether a number stands at an address.
+    // Whether the byte at an address is a number.
     fn is_number(&self, address: u64) -> bool
         ensures { result ≡ is_number_at self.now address }
     {
         self.others.byte(address).is_none()
     }
 
-    // Whether what stands at an address isn't hidden.
+    // Whether the byte at an address isn't hidden.
     fn is_open(&self, address: u64) -> bool
         ensures { result ≡ is_open_at self.now address }
     {
@@ -75,7 +76,7 @@ impl<'a> SymMemory<'a> {
         }
     }
 
-    // Whether all of the addresses are of one group, and that isn't there: then all have numbers.
+    // Whether the addresses are all of one group that isn't in `others`: then their bytes are numbers.
     fn share_no_group(&self, address: u64, count: usize) -> bool
         ensures { IsTrue result → all_may (is_number_at self.now) address count ≡ true }
     {
@@ -86,7 +87,7 @@ impl<'a> SymMemory<'a> {
             && !self.others.has_group(address)
     }
 
-    /// Whether numbers stand at all of `count` addresses.
+    /// Whether the bytes at `count` addresses are all numbers.
     pub fn are_numbers(&self, address: u64, count: usize) -> bool
         ensures { result ≡ all_may (is_number_at self.now) address count }
     {
@@ -107,7 +108,7 @@ impl<'a> SymMemory<'a> {
         true
     }
 
-    /// Whether a hidden byte stands at one of `count` addresses.
+    /// Whether one of the bytes at `count` addresses is hidden.
     pub fn has_hidden(&self, address: u64, count: usize) -> bool
         ensures { result ≡ list_any is_hidden (memory_bytes (memory_at self.now) address count) }
     {
@@ -125,7 +126,7 @@ impl<'a> SymMemory<'a> {
         true
     }
 
-    /// The number of `count` bytes at an address, if all are numbers.
+    /// The number in `count` bytes from an address on, if they are all numbers.
     pub fn number(&self, address: u64, count: u8) -> Option<u64>
         requires { count ≤ 8 }
         ensures value { result ≡ option_map little (numbers (memory_bytes (memory_at self.now) address count)) }
@@ -137,7 +138,7 @@ impl<'a> SymMemory<'a> {
         Some(self.bytes.number(address, count))
     }
 
-    /// The bytes at `count` addresses, all of which have numbers.
+    /// The `count` bytes from an address on, which are all numbers.
     pub fn numbers(&self, address: u64, count: usize) -> Result<Vec<u8>, NoMemory>
         requires { all_may (is_number_at self.now) address count ≡ true }
         ensures { IfOk result (λ bytes. numbers (memory_bytes (memory_at self.now) address count) ≡ Some bytes.items) }
@@ -145,8 +146,7 @@ impl<'a> SymMemory<'a> {
         self.bytes.bytes(address, count)
     }
 
-    /// The symbol of `count` successive bytes from an address on, if they are successive bytes of one, kept in one
-    /// width.
+    /// The symbol of which the `count` bytes from an address on are successive bytes, all stored in one width.
     pub fn symbol(&self, address: u64, count: u8) -> Option<SymbolBytes>
         requires { count ≤ 8 }
         ensures { result ≡ symbol_in (memory_bytes (memory_at self.now) address count) }
@@ -168,7 +168,8 @@ impl<'a> SymMemory<'a> {
         Some(bytes)
     }
 
-    // Whether `count` bytes are those of a symbol from byte `index` on. The bound only keeps `index` from overflowing.
+    // Whether `count` bytes from an address on are bytes of a symbol, from byte `index` on. The bound only keeps
+    // `index` from overflowing.
     fn goes_on(&self, symbol: CodeSymbol, width: u8, index: u64, address: u64, count: u8) -> bool
         requires { index + count ≤ 300 }
         ensures { result ≡ are_symbol_bytes symbol width index (memory_bytes (memory_at self.now) address count) }
@@ -182,7 +183,7 @@ impl<'a> SymMemory<'a> {
         self.goes_on(symbol, width, index + 1, address.wrapping_add(1), count - 1)
     }
 
-    // Takes away what isn't a number at `count` addresses, so that they have the numbers of the pages.
+    // Removes the other bytes from `count` addresses, so that they have the numbers of the pages.
     fn clear(&mut self, address: u64, count: usize)
         ensures cleared { (q : ℕ) → other_byte self.new.others q
             ≡ put (other_byte self.old.others) address (replicate count None) q }
@@ -206,7 +207,7 @@ impl<'a> SymMemory<'a> {
         }
     }
 
-    /// Stores the `count` low bytes of a number at an address. Where memory runs out, none is written.
+    /// Stores the `count` low bytes of a number at an address. If memory runs out, none is written.
     pub fn store_number(&mut self, address: u64, count: u8, number: u64) -> Result<(), NoMemory>
         requires few { count ≤ 8 }
         requires writable { all_may (writes self.old.bytes) address count ≡ true }
@@ -220,7 +221,7 @@ impl<'a> SymMemory<'a> {
         Ok(())
     }
 
-    /// Stores `count` bytes at an address. Where memory runs out, none is written.
+    /// Stores `count` bytes at an address. If memory runs out, none is written.
     pub fn store(&mut self, address: u64, count: u8, stored: Stored) -> Result<(), NoMemory>
         requires few { count ≤ 8 }
         requires writable { all_may (writes self.old.bytes) address count ≡ true }
@@ -235,7 +236,8 @@ impl<'a> SymMemory<'a> {
         }
     }
 
-    // Stores `count` bytes of a symbol. It has eight at most, so the check, which `store_symbol` wants, never fails.
+    // Stores `count` bytes of a symbol. A symbol has at most eight, so the check for `store_symbol`'s precondition
+    // never fails.
     fn store_bytes(&mut self, address: u64, count: u8, bytes: SymbolBytes) -> Result<(), NoMemory>
         ensures written { IsOk result → (q : ℕ) → memory_at self.new q
             ≡ put (memory_at self.old) address (symbol_bytes bytes.symbol bytes.width bytes.first count) q }
@@ -248,7 +250,7 @@ impl<'a> SymMemory<'a> {
         self.store_symbol(address, count, bytes)
     }
 
-    /// Takes room for `count` numbers from an address on, and gives a buffer of that size.
+    /// Reserves memory for `count` numbers from an address on, and returns a buffer of that size.
     pub fn buffer(&mut self, address: u64, count: usize) -> Result<Vec<u8>, NoMemory>
         ensures size { IfOk result (λ buffer. length buffer.items ≡ count) }
         ensures kept { (q : ℕ) → memory_at self.new q ≡ memory_at self.old q }
@@ -258,7 +260,7 @@ impl<'a> SymMemory<'a> {
         self.bytes.buffer(address, count)
     }
 
-    /// Writes bytes from an address on, for which there is room.
+    /// Writes bytes from an address on, for which memory was reserved.
     pub fn overwrite(&mut self, address: u64, bytes: &[u8])
         requires room { HasRoom self.old.bytes address (length bytes.now) }
         requires writable { all_may (writes self.old.bytes) address (length bytes.now) ≡ true }
@@ -270,7 +272,7 @@ impl<'a> SymMemory<'a> {
         self.clear(address, bytes.len());
     }
 
-    /// Stores `count` bytes of a symbol at an address. Where memory runs out, none is written.
+    /// Stores `count` bytes of a symbol at an address. If memory runs out, none is written.
     pub fn store_symbol(
         &mut self,
         address: u64,
@@ -288,7 +290,7 @@ impl<'a> SymMemory<'a> {
         Ok(())
     }
 
-    // Makes the groups of `count` addresses.
+    // Adds the groups of `count` addresses that aren't there yet.
     fn reserve(&mut self, address: u64, count: u8) -> Result<(), NoMemory>
         ensures kept { (q : ℕ) → other_byte self.new.others q ≡ other_byte self.old.others q }
         ensures room { IsOk result → HasGroups self.new.others address count }
@@ -319,7 +321,7 @@ impl<'a> SymMemory<'a> {
         }
     }
 
-    /// Moves the break, if it may stand there. Bytes that it gains are zero.
+    /// Moves the break to `to`, if that is allowed. The bytes that it gains are zero.
     pub fn set_break(&mut self, to: u64)
         ensures moved { self.new.bytes.program_break ≡ break_after self.old.bytes to }
         ensures gained { (q : ℕ) → memory_at self.new q ≡ memory_after self.old to q }
@@ -333,7 +335,7 @@ impl<'a> SymMemory<'a> {
 
 ghost use Rattle.sym_machine.specs.internal.Memory.{symbol_byte, is_byte_of};
 
-// The bytes of a symbol that begin with a byte.
+// The symbol of which this byte is one, from this byte on.
 fn symbol_byte(byte: MemoryByte) -> Option<SymbolBytes>
     ensures { result ≡ symbol_byte byte }
 {

@@ -1,4 +1,4 @@
-// The bytes of memory that are no numbers.
+// The bytes of memory that aren't numbers.
 ghost use Rattle.std.specs.Prelude.{◌≡◌, ◌<◌, ◌≤◌, ◌+◌, ◌*◌, ◌-◌, ◌/◌, ◌%◌, ◌^◌, ◌==◌, ◌&&◌, ℕ, None, Some, IfOk, IsOk};
 ghost use Rattle.std.specs.Prelude.{IsSome};
 ghost use Rattle.std.specs.Prelude.{OnErr, length, slice_index, slice_index_or, nat_le, nat_lt, if◌then◌else◌, true};
@@ -9,16 +9,16 @@ use rb_bytes::fault::NoMemory;
 use rv_memory::page_index::PageIndex;
 use std::alloc::Global;
 
-/// How many addresses a group has: the first is a multiple of this.
+/// The number of addresses in a group. A group's first address is a multiple of this.
 pub const GROUP_SIZE: usize = 8;
 
-// How many places of groups are kept at hand.
+// The number of entries of `recent`.
 const RECENT: usize = 8192;
 
-/// A byte that is no number.
+/// A byte that isn't a number.
 #[derive(Clone, Copy)]
 pub enum OtherByte {
-    /// Byte `index` of a symbol that is kept in `width` bytes.
+    /// Byte `index` of a symbol that is stored in `width` bytes.
     Symbol {
         symbol: CodeSymbol,
         width: u8,
@@ -28,16 +28,17 @@ pub enum OtherByte {
     Hidden,
 }
 
-/// Bytes by address, in groups of eight. An address without one has a number, which stands elsewhere.
+/// Bytes by address, in groups of eight. An address without a byte here has a number, which is in the pages of
+/// [`SymMemory`].
 ///
-/// Most accesses ask for groups that there aren't, and one look at `recent` tells that.
+/// Most accesses are to groups that aren't there, and one look into `recent` shows that.
 #[derive(Drop)]
 pub struct OtherBytes {
-    // The bytes of all groups, one group after another, and the number of each: its first address, divided by 8.
+    // The bytes of all groups, one group after another, and each group's number: its first address divided by 8.
     pub slots: Vec<Option<OtherByte>>,
     pub numbers: Vec<u64>,
     pub index: PageIndex,
-    // For the lowest bits of a group's number: one more than the place of a group with these bits, or 0 where there is
+    // By the lowest bits of a group's number: one more than the index of a group with these bits, or 0 if there is
     // none.
     pub recent: Vec<usize>,
     pub ghost sized: { length slots.items ≡ length numbers.items * 8 },
@@ -52,7 +53,7 @@ pub struct OtherBytes {
 impl OtherBytes {
     ghost use Rattle.sym_machine.specs.internal.OtherBytes.{other_byte, has_group, cleared_between};
 
-    /// No such byte: all addresses have numbers.
+    /// No bytes: all addresses have numbers.
     pub fn new(alloc: Global) -> Result<OtherBytes, NoMemory>
         ensures { IfOk result (λ others. (q : ℕ) → other_byte others q ≡ None) }
     {
@@ -65,7 +66,7 @@ impl OtherBytes {
         })
     }
 
-    // The place of the group of a number.
+    // The index of the group with this number.
     fn place(&self, number: u64) -> Option<usize>
         ensures { result ≡ place_of self.now.index number }
     {
@@ -79,14 +80,14 @@ impl OtherBytes {
         self.index.place(number)
     }
 
-    /// Whether the group of an address is there. Where it isn't, all its addresses have numbers.
+    /// Whether the group of an address is there. If not, all its addresses have numbers.
     pub fn has_group(&self, address: u64) -> bool
         ensures { result ≡ has_group self.now address }
     {
         self.place(address / GROUP_SIZE as u64).is_some()
     }
 
-    /// The byte at an address, if it is no number.
+    /// The byte at an address, if it isn't a number.
     pub fn byte(&self, address: u64) -> Option<OtherByte>
         ensures { result ≡ other_byte self.now address }
     {
@@ -97,7 +98,7 @@ impl OtherBytes {
         )
     }
 
-    /// Makes the group of an address. Where memory runs out, nothing is made.
+    /// Adds the group of an address if it isn't there. If memory runs out, nothing is added.
     pub fn reserve(&mut self, address: u64) -> Result<(), NoMemory>
         ensures kept { (q : ℕ) → other_byte self.new q ≡ other_byte self.old q }
         ensures room { IsOk result → has_group self.new address ≡ true }
@@ -109,7 +110,7 @@ impl OtherBytes {
         self.add(address / GROUP_SIZE as u64)
     }
 
-    // Adds a group.
+    // Adds a group without bytes.
     fn add(&mut self, number: u64) -> Result<(), NoMemory>
         requires new { place_of self.old.index number ≡ None }
         ensures kept { (q : ℕ) → other_byte self.new q ≡ other_byte self.old q }
@@ -138,7 +139,7 @@ impl OtherBytes {
         }
     }
 
-    /// Takes away the byte at an address, which then has a number.
+    /// Removes the byte at an address, which then has a number.
     pub fn clear(&mut self, address: u64)
         ensures { (q : ℕ) → other_byte self.new q ≡ (if q == address then None else other_byte self.old q) }
     {
@@ -147,7 +148,7 @@ impl OtherBytes {
         }
     }
 
-    /// Takes away the bytes from one address to before another, which then have numbers.
+    /// Removes the bytes from address `from` to before `to`, which then have numbers.
     pub fn clear_run(&mut self, from: u64, to: u64)
         ensures { (q : ℕ) → other_byte self.new q ≡ cleared_between self.old from to q }
     {
@@ -159,7 +160,7 @@ impl OtherBytes {
         }
     }
 
-    // Clears addresses of one group.
+    // Removes the bytes from `from` to before `to`, all of one group.
     fn clear_in_group(&mut self, from: u64, to: u64)
         requires forth { from ≤ to }
         requires within { (q : ℕ) → from ≤ q → q < to → q / 8 ≡ from / 8 }

@@ -1,10 +1,9 @@
-// What the machine answers.
+// Results of the machine.
 
-/// Why the machine is stuck: what the program does depends on where its code lies, or is nothing that
-/// the machine can do.
+/// Why the machine is stuck: the result would depend on the addresses of the code, or the step is an error.
 #[derive(Clone, Copy, Debug)]
 pub enum Reason {
-    /// A jump goes to something else than a pointer, or adds an offset to one.
+    /// A jump goes to a value that isn't a pointer, or adds an offset to a pointer.
     NotCode,
     /// A return goes to the end of a function: its call is the function's last instruction.
     EndOfFunction,
@@ -15,24 +14,22 @@ pub enum Reason {
     Operate,
     /// A branch compares symbols otherwise than the rules allow.
     Compare,
-    /// A load of bytes that are neither all numbers nor successive bytes of one symbol that is kept
-    /// in one width.
+    /// A load of bytes that are neither all numbers nor successive bytes of one symbol that is stored in one width.
     Mixed,
-    /// A byte that may differ in a rewritten file is loaded or written out.
+    /// A byte that may differ in a rewritten file is loaded or written to a file.
     Hidden,
-    /// The address of a load or a store is a symbol, or there is no right to it or to a buffer.
+    /// The address of a load or a store is a symbol, or it or a buffer may not be accessed.
     Access,
-    /// The number of a system call, an argument that it uses, or a byte that it writes out is a
-    /// symbol.
+    /// The number of a system call, an argument that the call uses, or a byte that it writes is a symbol.
     CallArg,
     /// EBREAK.
     Break,
 }
 
-/// What a step came to.
+/// The result of a step.
 #[derive(Clone, Copy)]
 pub enum SymStepped {
-    /// The program goes on. Of a whole run: it hasn't ended within the steps allowed.
+    /// The program goes on. As the result of a run: the limit of steps was reached.
     Going,
     /// The program ended with this exit status.
     Ended(u8),
@@ -42,15 +39,15 @@ pub enum SymStepped {
     ReadFault,
     /// The output could not be written.
     WriteFault,
-    /// Memory could not be had.
+    /// Memory ran out.
     Memory,
 }
 
-/// What a run came to.
+/// The result of a run.
 #[derive(Clone, Copy)]
 pub struct SymRan {
     pub end: SymStepped,
-    /// The steps that were done. The one that ends the program is counted; one that sticks isn't.
+    /// The number of steps done. A step that ends the program is counted, one that is stuck isn't.
     pub steps: u64,
 }
 
@@ -59,7 +56,7 @@ impl SymRan {
     ghost use Rattle.run_core.specs.Runs.{steps_done};
     ghost use Rattle.sym_machine.specs.MachineState.{answered};
 
-    /// A run that came to its end in the step after `steps` others.
+    /// A run that ended in the step after `steps` others.
     pub fn ended(end: SymStepped, steps: u64) -> SymRan
         requires { steps < 2 ^ 64 - 1 }
         ensures end { result.end ≡ end }

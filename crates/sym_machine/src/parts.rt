@@ -6,7 +6,7 @@ use crate::inst_index::InstIndex;
 use crate::value::{CodeSymbol, Pointer, Value};
 use rv_code::Role;
 
-/// What the AUIPC at an address gives; none where its role isn't an upper part.
+/// The result of the AUIPC at an address. `None` if its role isn't an upper part.
 pub fn upper_of_distance(role: Role, address: u64) -> Option<Value>
     ensures { result ≡ upper_of_distance role address }
 {
@@ -16,7 +16,7 @@ pub fn upper_of_distance(role: Role, address: u64) -> Option<Value>
     }
 }
 
-/// What LUI gives, whose immediate times 4096 is `number`.
+/// The result of a LUI whose immediate times 4096 is `number`.
 pub fn upper_of_address(role: Role, number: u64) -> Value
     ensures { result ≡ upper_of_address role number }
 {
@@ -26,7 +26,7 @@ pub fn upper_of_address(role: Role, number: u64) -> Value
     }
 }
 
-/// Whether a role is that of a lower part.
+/// Whether a role is a lower part.
 pub fn is_lower(role: Role) -> bool
     ensures { result ≡ is_lower role }
 {
@@ -36,7 +36,7 @@ pub fn is_lower(role: Role) -> bool
     )
 }
 
-// Whether a value is what the AUIPC at an address gave.
+// Whether a value is the result of the AUIPC at `address`.
 fn is_hi(address: u64, value: Value) -> bool
     ensures { result ≡ is_hi address value }
 {
@@ -46,7 +46,7 @@ fn is_hi(address: u64, value: Value) -> bool
     }
 }
 
-// Whether a value is what LUI gave as the upper part of the address `target`.
+// Whether a value is the result of a LUI for the upper part of `target`.
 fn is_abs(target: u64, value: Value) -> bool
     ensures { result ≡ is_abs target value }
 {
@@ -61,7 +61,7 @@ impl<'a> InstIndex<'a> {
     ghost use Rattle.rb_bytes.specs.Options.{only_if};
     ghost use Rattle.sym_machine.specs.Rules.{joined};
 
-    /// The value of an address: a pointer where an instruction starts there.
+    /// The value of an address: a pointer if an instruction starts there, otherwise a number.
     pub fn value_of(&self, address: u64) -> Value
         ensures { result ≡ value_of self.now.funcs.now address }
     {
@@ -72,7 +72,7 @@ impl<'a> InstIndex<'a> {
         }
     }
 
-    /// Whether a value is the value of an address.
+    /// Whether `value` is the value of `address`.
     pub fn is_value_of(&self, address: u64, value: Value) -> bool
         ensures { result ≡ is_value_of self.now.funcs.now address value }
     {
@@ -96,7 +96,8 @@ impl<'a> InstIndex<'a> {
         }
     }
 
-    /// What a lower part and its base give together; none where the base isn't the upper part that belongs to it.
+    /// The target that a lower part and its base give together. `None` if the base isn't the upper part that belongs to
+    /// it.
     pub fn joined(&self, role: Role, base: Value) -> Option<Value>
         ensures { result ≡ joined self.now.funcs.now role base }
     {

@@ -13,7 +13,7 @@ impl<'a> SymMachine<'a> {
     ghost use Rattle.sym_machine.specs.SymStep.{SymSteps};
     ghost use Rattle.sym_machine.specs.MachineState.{state_of, funcs_of, answered};
 
-    /// Does at most `limit` steps. Once a read found the input at its end, it is at its end for the whole run.
+    /// Does at most `limit` steps. Once a read finds the end of the input, all later reads of the run do, too.
     pub fn run<I: Source, O: Sink>(&mut self, limit: u64, input: &mut I, out: &mut O) -> SymRan
         ensures answer { RunsSomeInput state_of (SymSteps (funcs_of self.old)) (answered result.end) limit result.steps
             self.old self.new (outside_of (I.seen input.old) (O.seen out.old))

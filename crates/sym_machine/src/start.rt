@@ -23,8 +23,8 @@ impl<'a> SymMachine<'a> {
     ghost use Rattle.sym_machine.specs.SymStart.{sym_start};
     ghost use Rattle.sym_machine.specs.MachineState.{state_of, funcs_of};
 
-    /// A machine that is about to run a file's functions with these arguments: at most 64 of them, of at most
-    /// 65536 bytes together. `tight` says that the new code of a rewrite has no room behind the executable segment.
+    /// A machine that is about to run a file's functions with these arguments: at most 64 of them, with at most 65536
+    /// bytes in all. `tight` says that there is no room for new code after the executable segment.
     pub fn load(
         alloc: Global,
         elf: &'a Elf<'a>,

@@ -1,4 +1,4 @@
-// The bytes at the start that are no numbers: of code cells, of hidden fields and of the entry point.
+// The bytes at the start that aren't numbers: code cells, hidden fields and the entry point.
 ghost use Rattle.std.specs.Prelude.{◌≡◌, ◌≤◌, ◌<◌, ◌+◌, ◌-◌, ◌*◌, ◌^◌, ◌==◌, ◌&&◌, ◌||◌, ℕ, List, Bool, All, Some};
 ghost use Rattle.std.specs.Prelude.{None, IfOk, OnOk, map, length, if◌then◌else◌, nat_le, nat_lt, min, Contains, true};
 ghost use Rattle.std.specs.List.{list_any};
@@ -23,7 +23,7 @@ use std::alloc::Global;
 // The size of a file's header in bytes. gABI, "ELF Header".
 const HEADER_SIZE: u128 = 64;
 
-// What a code cell holds.
+// The symbol that a code cell holds.
 fn symbol_of(kind: CellKind) -> CodeSymbol
     ensures { result ≡ symbol_of kind }
 {
@@ -48,7 +48,7 @@ impl OtherBytes {
         Ok(())
     }
 
-    // Puts all bytes of a symbol, which is kept in `width` bytes, from an address on.
+    // Puts all bytes of a symbol, stored in `width` bytes, from `start` on.
     fn add_symbol(&mut self, start: u64, width: u8, symbol: CodeSymbol) -> Result<(), NoMemory>
         requires { start + width ≤ 2 ^ 64 }
         ensures { OnOk result ((q : ℕ) → special self.new q
@@ -77,8 +77,8 @@ impl OtherBytes {
         Ok(())
     }
 
-    // Adds the code cells, from the last to the first: of those that share a byte the first counts, and what is added
-    // later stands.
+    // Adds the code cells, from the last to the first: if cells share a byte, the first of them has it, and a cell that
+    // is added later overwrites.
     fn add_cells(&mut self, cells: &[CodeCell]) -> Result<(), NoMemory>
         requires none { (q : ℕ) → special self.old q ≡ None }
         requires low { All (λ cell. cell.addr + cell.width ≤ 2 ^ 64) cells.now }
@@ -93,8 +93,8 @@ impl OtherBytes {
         Ok(())
     }
 
-    // The hidden bytes that a segment loads: they are bytes of the file's header or of the table of program headers,
-    // so no others are looked at.
+    // Hides bytes that a segment loads. Only bytes of the file's header and of the program header table can be in
+    // hidden fields, so no others are looked at.
     fn hide_in_segment(&mut self, elf: &Elf, fields: &Fields, p: &Segment) -> Result<(), NoMemory>
         requires low { AreLow elf.now.segments.items }
         requires one { Contains elf.now.segments.items p.now }
@@ -109,7 +109,7 @@ impl OtherBytes {
         self.hide_between(elf, fields, p, elf.phoff, elf.phoff as u128 + table)
     }
 
-    // The hidden bytes that a segment loads from one offset of the file up to another.
+    // Hides bytes that a segment loads from the file, from the offset `from` to before `to`.
     fn hide_between(
         &mut self,
         elf: &Elf,
@@ -136,7 +136,7 @@ impl OtherBytes {
         self.hide_run(elf, fields, p.vaddr + skipped, end - skipped)
     }
 
-    // The hidden bytes at `size` addresses from one on.
+    // Hides bytes of hidden fields at `size` addresses from `start` on.
     fn hide_run(
         &mut self,
         elf: &Elf,
@@ -156,7 +156,7 @@ impl OtherBytes {
         Ok(())
     }
 
-    // Hides the byte at an address, if it is one of a hidden field.
+    // Hides the byte at an address, if it is in a hidden field.
     fn hide_at(&mut self, elf: &Elf, fields: &Fields, address: u64) -> Result<(), NoMemory>
         ensures { OnOk result ((tight : Bool) → map range_of_field fields.now.list.items ≡ hidden_fields elf.now tight →
             (q : ℕ) → special self.new q
@@ -197,7 +197,7 @@ impl OtherBytes {
         Ok(())
     }
 
-    // In a tight file, hides the values of AT_PHNUM and AT_PHDR, since the table of program headers moves and grows.
+    // In a tight file, hides the values of AT_PHNUM and AT_PHDR, since the program header table moves and grows.
     fn hide_entries(&mut self, pointer: u64, count: usize, tight: bool) -> Result<(), NoMemory>
         requires low { pointer + 8 * (count + 20) ≤ 2 ^ 64 }
         ensures { OnOk result ((args : List (List ℕ)) → pointer ≡ stack_pointer args → count ≡ length args →
@@ -210,7 +210,7 @@ impl OtherBytes {
         self.hide(auxiliary_value(pointer, count, 0), 8)
     }
 
-    // Adds the entry point, as the value of AT_ENTRY and, where that is loaded whole, in the field `e_entry`.
+    // Adds the entry point: the value of AT_ENTRY, and the field `e_entry` if all of it is loaded.
     fn add_entry(&mut self, elf: &Elf, pointer: u64, count: usize) -> Result<(), NoMemory>
         requires low { AreLow elf.now.segments.items }
         requires stack { pointer + 8 * (count + 20) ≤ 2 ^ 64 }
@@ -225,7 +225,7 @@ impl OtherBytes {
         }
     }
 
-    /// The bytes of a file that starts with `count` arguments and this stack pointer.
+    /// The bytes that aren't numbers at the start of a program with `count` arguments and this stack pointer.
     pub(crate) fn start(
         alloc: Global,
         elf: &Elf,
@@ -251,7 +251,7 @@ impl OtherBytes {
     }
 }
 
-// How many bytes of the file below the offset `to` a segment loads.
+// The number of bytes of the file below the offset `to` that a segment loads.
 fn file_end(p: &Segment, to: u128) -> u64
     ensures { result ≡ min (to - p.now.offset) (min p.now.filesz p.now.memsz) }
 {
@@ -264,9 +264,9 @@ fn file_end(p: &Segment, to: u128) -> u64
     }
 }
 
-// The address of the value of entry `n` of the auxiliary vector, from 0 on: AT_PHDR, AT_PHENT, AT_PHNUM, AT_PAGESZ and
-// AT_ENTRY. Before it stand the count of arguments, the addresses of the program's name and of `count` arguments, the
-// ends of two lists, `n` entries of two numbers, and the type of this one.
+// The address of the value of entry `n` of the auxiliary vector, counted from 0: AT_PHDR, AT_PHENT, AT_PHNUM, AT_PAGESZ
+// and AT_ENTRY. Before it are the argument count, the addresses of the program's name and of `count` arguments, the
+// ends of two lists, `n` entries of two numbers, and this entry's type.
 fn auxiliary_value(pointer: u64, count: usize, n: u64) -> u64
     requires low { pointer + 8 * (count + 20) ≤ 2 ^ 64 }
     requires few { n ≤ 4 }

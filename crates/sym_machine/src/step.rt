@@ -17,10 +17,10 @@ impl<'a> SymMachine<'a> {
     ghost use Rattle.sym_machine.specs.MachineState.{state_of, funcs_of, Becomes, StepAnswers};
     ghost use Rattle.sym_machine.specs.internal.KnownInsts.{AreKnown};
 
-    /// Does the instruction at the pc. Input comes from `input`, and output goes to `out`.
+    /// Does the instruction at the pc. Input is read from `input`, and output is written to `out`.
     ///
-    /// After `Memory`, `Stuck` and `Ended` the machine is as it was; after the two faults nothing is said of it. A call
-    /// asks `input` also where an earlier one found it at its end; [`SymMachine::run`] doesn't.
+    /// After `Memory`, `Stuck` and `Ended` the machine is unchanged; after the two faults nothing is said about its
+    /// state. A read asks `input` even if an earlier read found the end of the input; [`SymMachine::run`] doesn't.
     pub fn step<I: Source, O: Sink>(&mut self, input: &mut I, out: &mut O) -> SymStepped
         ensures answer { (ends : Bool) × StepAnswers (SymSteps (funcs_of self.old)) result self.old self.new false ends
             (outside_of (I.seen input.old) (O.seen out.old))
@@ -34,7 +34,7 @@ impl<'a> SymMachine<'a> {
         self.step_on(&mut known, &mut input_end, input, out)
     }
 
-    // One step, with what was looked up before, where the input may have been found at its end.
+    // Does one step, with a cache of instructions, and with the flag that says if the end of the input was found.
     pub(crate) fn step_on<I: Source, O: Sink>(
         &mut self,
         known: &mut KnownInsts,
@@ -63,7 +63,7 @@ impl<'a> SymMachine<'a> {
         }
     }
 
-    // Does an instruction with a role. The instruction after it stands at `next`.
+    // Does an instruction with this role. `next` is the address of the instruction after it.
     fn execute(&mut self, role: Role, action: Action, next: u64) -> SymStepped
         requires no_call { action ≢ Action.SystemCall }
         requires action { (i : Inst) × (action ≡ action_of i) }

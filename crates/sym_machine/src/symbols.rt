@@ -1,10 +1,10 @@
-// Symbols that are the same, and numbers among values.
+// Equality of symbols, and values that are numbers.
 ghost use Rattle.std.specs.Prelude.{◌≡◌};
 ghost use Rattle.sym_machine.specs.Values.{same_pointer, same_comparing, same_symbol, number};
 
 use crate::value::{CodeSymbol, Comparing, Pointer, Value};
 
-// Whether two pointers are the same.
+// Whether two pointers are equal.
 fn same_pointer(left: Pointer, right: Pointer) -> bool
     ensures { result ≡ same_pointer left right }
 {
@@ -35,7 +35,7 @@ fn same_comparing(left: Comparing, right: Comparing) -> bool
     }
 }
 
-/// Whether two symbols are the same.
+/// Whether two symbols are equal.
 pub fn same_symbol(left: CodeSymbol, right: CodeSymbol) -> bool
     ensures { result ≡ same_symbol left right }
 {
@@ -67,7 +67,7 @@ pub fn same_symbol(left: CodeSymbol, right: CodeSymbol) -> bool
     }
 }
 
-// Whether a symbol is what comparing these two pointers gave.
+// Whether a symbol is the result of comparing these two pointers.
 fn is_apart(by: Comparing, left: Pointer, right: Pointer, symbol: CodeSymbol) -> bool
     ensures { result ≡ same_symbol (CodeSymbol.Apart by left right) symbol }
 {
@@ -85,7 +85,7 @@ fn is_apart(by: Comparing, left: Pointer, right: Pointer, symbol: CodeSymbol) ->
     }
 }
 
-/// The number that a value is, if it is one.
+/// The number, if the value is one.
 pub fn number(value: Value) -> Option<u64>
     ensures { result ≡ number value }
 {

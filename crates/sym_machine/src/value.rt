@@ -1,11 +1,11 @@
-// What registers and memory hold.
+// The values of registers and of bytes of memory.
 
-/// A place in code that a program can go to.
+/// A point in code to which a program can go.
 #[derive(Clone, Copy)]
 pub enum Pointer {
     /// The instruction at an address.
     Code(u64),
-    /// The point after the call at an address: what the call saves.
+    /// The return address of the call at an address.
     Ret(u64),
 }
 
@@ -18,22 +18,21 @@ pub enum Comparing {
     Xor,
 }
 
-/// A value whose number depends on where the code lies. All fields are addresses of the input.
+/// A value whose number depends on the addresses of the code. All fields are addresses of the input.
 #[derive(Clone, Copy)]
 pub enum CodeSymbol {
     /// A pointer.
     Points(Pointer),
-    /// What the AUIPC at an address gives: its own address and the upper part of the distance to its
-    /// target.
+    /// The result of the AUIPC at an address: its own address plus the upper part of the distance to its target.
     Hi(u64),
-    /// What a LUI gives: the upper part of an address.
+    /// The result of a LUI: the upper part of an address.
     Abs(u64),
     /// The distance `to` - `from` of two labels.
     Diff {
         to: u64,
         from: u64,
     },
-    /// What comparing two pointers gives that have one kind and different addresses. It isn't 0.
+    /// The result of comparing two pointers of one kind with different addresses. It isn't 0.
     Apart {
         by: Comparing,
         left: Pointer,
@@ -41,24 +40,24 @@ pub enum CodeSymbol {
     },
 }
 
-/// How a number of few bytes fills a register.
+/// How a narrow number is extended to a register.
 #[derive(Clone, Copy)]
 pub enum Signedness {
-    /// By its sign.
+    /// With its sign.
     Signed,
-    /// By zeros.
+    /// With zeros.
     Unsigned,
 }
 
-/// What a register holds.
+/// The value of a register.
 #[derive(Clone, Copy)]
 pub enum Value {
     /// A number.
     Num(u64),
-    /// A symbol, whole.
+    /// A whole symbol.
     Sym(CodeSymbol),
-    /// `bytes` bytes (1, 2 or 4) of a symbol from byte `first` on, as it is kept in `width` bytes (4
-    /// or 8), extended to a register.
+    /// `bytes` bytes (1, 2 or 4) of a symbol from byte `first` on, as stored in `width` bytes (4 or 8), extended to a
+    /// register.
     Piece {
         symbol: CodeSymbol,
         width: u8,
@@ -68,17 +67,17 @@ pub enum Value {
     },
 }
 
-/// What a byte of memory holds.
+/// A byte of memory.
 #[derive(Clone, Copy)]
 pub enum MemoryByte {
     /// A number below 256.
     Byte(u8),
-    /// Byte `index` of a symbol that is kept in `width` bytes (4 or 8).
+    /// Byte `index` of a symbol that is stored in `width` bytes (4 or 8).
     SymbolByte {
         symbol: CodeSymbol,
         width: u8,
         index: u8,
     },
-    /// A byte that may differ in a rewritten file: it can be overwritten, and not read.
+    /// A byte that may differ in a rewritten file. It can be overwritten, but not read.
     Hidden,
 }

@@ -1,4 +1,4 @@
--- What loads and stores move, as the code has it.
+-- The bytes that loads and stores move, in the terms of the code.
 use Rattle.std.specs.Prelude.{ℕ, List, Option, map}
 use Rattle.rv_code.specs.declared.action.Action.{Action}
 use Rattle.rv_code.specs.declared.action.Action.TheVariants.{Store, SystemCall}
@@ -13,7 +13,7 @@ use Rattle.sym_machine.specs.declared.value.MemoryByte.TheVariants.{Byte}
 use Rattle.sym_machine.specs.Values.{symbol_bytes}
 use Rattle.sym_machine.specs.Rules.{piece}
 
--- what stands in memory after a store of n bytes
+-- the bytes of memory that a store of n bytes leaves
 abbrev pub stored_bytes : ℕ → Stored → List MemoryByte
 stored_bytes n (store.Number x) = map Byte (low_bytes n x)
 stored_bytes n (store.Symbol from) = symbol_bytes from.symbol from.width from.first n

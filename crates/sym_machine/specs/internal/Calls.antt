@@ -1,4 +1,4 @@
--- The arguments of a call that moves bytes, as the code has them.
+-- The arguments of a call that moves bytes, in the terms of the code.
 use Rattle.std.specs.Prelude.{ℕ, Option, Some, None}
 use Rattle.rv_code.specs.machine.Step.{a0, a1, a2}
 use Rattle.sym_machine.specs.declared.calls.Buffer.{Buffer}

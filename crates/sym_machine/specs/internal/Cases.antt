@@ -1,4 +1,4 @@
--- The rules by the cases in which the code has them.
+-- The rules, split into the cases that the code has.
 use Rattle.std.specs.Prelude.{ℕ, ◌&&◌, Bool, Option, Some, None, is_some, option_and_then}
 use Rattle.sym_machine.specs.declared.value.Pointer.{Pointer}
 use Rattle.sym_machine.specs.declared.value.Comparing.{Comparing}
@@ -33,7 +33,7 @@ abbrev pub numbers_tested : Test → Value → Value → Option Bool
 numbers_tested test (Num a) (Num b) = Some (holds test a b)
 numbers_tested test _ _ = None
 
--- a base with an offset
+-- a base plus an offset
 abbrev pub with_offset : Value → ℕ → Value
 with_offset (Num a) offset = Num (plus a offset)
 with_offset base offset = base

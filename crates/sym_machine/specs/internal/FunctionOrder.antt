@@ -1,10 +1,11 @@
--- Functions in which a binary search finds an instruction by its address.
+-- Functions in which a binary search can look up an instruction by its address.
 use Rattle.std.specs.Prelude.{ℕ, ◌<◌, ◌≤◌, List, Option, length, slice_index_or, option_map}
 use Rattle.std.specs.List.{slice_get}
 use Rattle.rv_code.specs.declared.placed.Placed.{Placed}
 use Rattle.rv_code.specs.declared.placed.Func.{Func}
 
--- functions lie apart, by address; the instructions of each lie in it, by address
+-- functions are in order of their addresses and don't overlap; each function's instructions are in it, in order of
+-- their addresses
 pub record IsSearchable (funcs : List Func) : Type 0 where
   pub ordered : (f : ℕ) (d : Func) → f < length funcs →
       (slice_index_or funcs f d).start < (slice_index_or funcs f d).end

@@ -1,4 +1,4 @@
--- Instructions that were looked up before.
+-- The cache of instructions.
 use Rattle.std.specs.Prelude.{◌≡◌, ℕ, ◌<◌, List, length, option_map, slice_index_or}
 use Rattle.rv_code.specs.declared.placed.Func.{Func}
 use Rattle.rv_code.specs.declared.placed.Placed.{Placed}
@@ -11,7 +11,7 @@ use Rattle.sym_machine.specs.SymStep.{instruction}
 abbrev pub decoded_inst : Placed → Decoded
 decoded_inst p = record { action = action_at p; role = p.role; length = p.len }
 
--- what is kept of an address is what stands there
+-- the entry has the instruction at its address, if there is one
 abbrev pub IsKnown : List Func → KnownInst → Type 0
 IsKnown funcs e = e.found ≡ option_map decoded_inst (instruction funcs e.address)
 

@@ -1,4 +1,4 @@
--- What stands in a memory of numbers and other bytes.
+-- Bytes of a memory that has numbers in pages, and other bytes.
 use Rattle.std.specs.Prelude.{◌≡◌, ℕ, ◌<◌, ◌&&◌, ◌==◌, nat_lt, nat_le, not, if◌then◌else◌, Bool, true, false, List, []}
 use Rattle.std.specs.Prelude.{◌∷◌, Option, Some, None, is_none, zero, suc}
 use Rattle.std.specs.Option.{option_map_or}
@@ -19,14 +19,14 @@ abbrev pub as_byte : OtherByte → MemoryByte
 as_byte (other.Symbol y w i) = SymbolByte y w i
 as_byte other.Hidden = Hidden
 
--- another byte stands over the number
+-- the byte of memory: the other byte, or the number if there is none
 abbrev pub byte_over : Option OtherByte → ℕ → MemoryByte
 byte_over o b = option_map_or as_byte o (Byte b)
 
 abbrev pub memory_at : SymMemory → ℕ → MemoryByte
 memory_at m a = byte_over (other_byte m.others a) (memory_of m.bytes a)
 
--- bytes of a symbol, as they are kept beside the numbers
+-- n bytes of symbol y from byte i on, as the other bytes have them
 unfoldable pub other_bytes : CodeSymbol → ℕ → ℕ → ℕ → List (Option OtherByte)
 other_bytes y w i zero = []
 other_bytes y w i (suc n) = Some (other.Symbol y w i) ∷ other_bytes y w (suc i) n
@@ -37,7 +37,7 @@ is_number_at m a = is_none (other_byte m.others a)
 abbrev pub is_open_at : SymMemory → ℕ → Bool
 is_open_at m a = not (is_hidden (memory_at m a))
 
--- the symbol of which bytes of memory are successive bytes, all kept in one width
+-- the symbol of which these bytes are successive bytes, all stored in one width
 abbrev pub symbol_in : List MemoryByte → Option SymbolBytes
 symbol_in (SymbolByte y w i ∷ cs) =
     if are_symbol_bytes y w (suc i) cs then Some (record { symbol = y; width = w; first = i }) else None
@@ -55,7 +55,7 @@ is_byte_of _ y w i = false
 abbrev pub HasGroups : OtherBytes → ℕ → ℕ → Type 0
 HasGroups others a n = (k : ℕ) → k < n → has_group others (plus a k) ≡ true
 
--- what stands at an address after the break was asked to go to a place
+-- the byte at address a after the break was asked to move to `to`
 abbrev pub memory_after : SymMemory → ℕ → ℕ → MemoryByte
 memory_after m to a =
     if may_stand m.bytes to

@@ -1,4 +1,4 @@
--- The bytes at the start that are no numbers.
+-- The bytes at the start that aren't numbers.
 use Rattle.std.specs.Prelude.{ℕ, ◌-◌, ◌+◌, ◌*◌, ◌&&◌, ◌||◌, nat_le, nat_lt, min, length, if◌then◌else◌, Bool}
 use Rattle.std.specs.Prelude.{Option, Some, option_map}
 use Rattle.elf_image.specs.declared.elf.Elf.{Elf}
@@ -17,7 +17,7 @@ use Rattle.sym_machine.specs.internal.Memory.{as_byte}
 abbrev pub special : OtherBytes → ℕ → Option MemoryByte
 special others a = option_map as_byte (other_byte others a)
 
--- after a symbol was put over a range, or all of it was hidden
+-- the byte at address q after a symbol was put over a range, or a range was hidden
 abbrev pub symbol_over : CodeSymbol → ℕ → Range → OtherBytes → ℕ → Option MemoryByte
 symbol_over y w range old q = if is_in_range q range then Some (SymbolByte y w (q - range.start)) else special old q
 
@@ -28,12 +28,12 @@ hidden_over range old q = if is_in_range q range then Some Hidden else special o
 abbrev pub covers : ℕ → Segment → Bool
 covers q p = is_load p && (nat_le p.vaddr q && nat_lt q (p.vaddr + min p.filesz p.memsz))
 
--- a segment loads to an address a byte of the file that stands from one offset up to another
+-- a segment loads to address q a byte of the file whose offset is from `from` to before `to`
 abbrev pub covers_between : ℕ → ℕ → ℕ → Segment → Bool
 covers_between from to q p =
     covers q p && (nat_le from (p.offset + (q - p.vaddr)) && nat_lt (p.offset + (q - p.vaddr)) to)
 
--- a segment loads to an address a byte of the file's header, or of the table of program headers
+-- a segment loads to address q a byte of the file's header, or of the program header table
 unfoldable pub covers_header : Elf → ℕ → Segment → Bool
 covers_header elf q p =
     covers_between 0 header_size q p || covers_between elf.phoff (elf.phoff + PHDR_SIZE * length elf.segments.items) q p

@@ -13,14 +13,14 @@ use Rattle.sym_machine.specs.MachineState.{answered, state_of, funcs_of, StepAns
 use Rattle.sym_machine.proofs.LastSteps.{isnt_going}
 use Rattle.sym_machine.proofs.machine.SymMachine.run.Goals as goal
 
--- the step by the functions that the run began with
+-- the step with the functions that the run began with
 by_funcs : (now then : List Func) → now ≡ then →
     (r : SymStepped) (old new : SymMachine) (ended ends : Bool) (before after : Outside) →
     StepAnswers (SymSteps now) r old new ended ends before after → StepAnswers (SymSteps then) r old new ended ends before after
 by_funcs now then same r old new ended ends before after a =
     subst (λ (fs : List Func). StepAnswers (SymSteps fs) r old new ended ends before after) same a
 
--- a step of the definition comes to one outcome
+-- a step of the definition has at most one outcome
 one_outcome : (funcs : List Func) (m : SymMachine) (bytes : List ℕ) → HasOneOutcome (SymSteps funcs) (state_of m bytes)
 one_outcome funcs m bytes = λ o p first other. sym first ∙ other
 

@@ -12,7 +12,7 @@ pub returns-in_err-insert-clause-kept : goal.returns-in_err-insert-clause-kept
 returns-in_err-insert-clause-kept c =
     byte_in-same c.insert.new.self c.reserve.new.self.items c.args.self.now c.reserve.ensures.items c.in_err-insert.ensures.kept
 
--- a group without a byte
+-- a group without bytes
 abbrev nones : List (Option OtherByte)
 nones = None ∷ None ∷ None ∷ None ∷ None ∷ None ∷ None ∷ None ∷ []
 

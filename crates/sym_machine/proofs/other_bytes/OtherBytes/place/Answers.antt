@@ -3,7 +3,7 @@ use Rattle.rv_memory.specs.PageIndex.{place_of}
 use Rattle.sym_machine.specs.declared.other_bytes.OtherBytes.{OtherBytes}
 use Rattle.sym_machine.proofs.other_bytes.OtherBytes.place.Goals as goal
 
--- no group has this number where none is marked
+-- no group has this number if `recent` has 0 for its lowest bits
 unmarked : (others : OtherBytes) (n : ℕ) → get_or others.recent.items (n % 8192) 0 ≡ 0 → None ≡ place_of others.index n
 unmarked others n zero = by (place_of others.index n) refl
   where
