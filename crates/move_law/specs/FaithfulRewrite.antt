@@ -1,5 +1,5 @@
--- A faithful rewrite: what the output has, instruction by instruction, for the code of the input, and byte by byte
--- for all else. From these facts alone follows that the output keeps the input's runs.
+-- A faithful rewrite: what the output has for each instruction of the input, and for each other loaded byte. These
+-- facts suffice for the output to keep the input's runs.
 use Rattle.std.specs.Prelude.{◌≡◌, ℕ, zero, suc, ◌%◌, ◌^◌, ◌≤◌, ◌==◌, ◌||◌, if◌then◌else◌, ℤ, pos, Bool, true, false}
 use Rattle.std.specs.Prelude.{not, IsTrue, IsFalse, IsSome, IfSome, Option, Some, All, Any, length, option_map}
 use Rattle.std.specs.List.{list_any}
@@ -36,22 +36,22 @@ use Rattle.move_law.specs.RelocatedValues.{distance, number_of_symbol}
 abbrev pub IsMapOf : Rewrite → Type 0
 IsMapOf r = IsMap (λ a. IsTrue (is_code_address r.code.funcs a)) (IsNamed r.code) r.spans
 
--- Instructions. L says from which place of the output control gets to which other one; in a faithful rewrite it is
+-- Instructions. L relates two addresses p and q of the output if control gets from p to q; in a faithful rewrite L is
 -- `Goes`.
 
--- The instruction to which control goes after another, if it goes on: after one that saves a return address the next
--- one of its function; after any other the one that starts where it ends, in whatever function. There may be none.
+-- The address of the instruction that follows: after an instruction that saves a return address, the next one of its
+-- function; after any other, the one that starts where it ends, in any function. There may be none.
 abbrev pub next : Rewrite → Placed → Option ℕ
 next r p =
     if is_call (action_at p)
     then next_of r.code.funcs p.addr
     else option_map (λ q. q.addr) (placed_at r.code.funcs (plus p.addr p.len))
 
--- control gets from a place of the output to what stands for that one
+-- control gets from an address of the output to the new address of the instruction that follows p, if one does
 abbrev pub GetsToNext : Rewrite → (ℕ → ℕ → Type 0) → Placed → ℕ → Type 0
 GetsToNext r L p from = IfSome (next r p) (λ a. L from (out r a))
 
--- an instruction with another immediate, where it can have one of an address
+-- the instruction with another immediate, if its immediate can be a part of an address
 abbrev pub with_immediate : Inst → ℤ → Inst
 with_immediate (Lui rd imm) z = Lui rd z
 with_immediate (Auipc rd imm) z = Auipc rd z
@@ -70,8 +70,8 @@ with_immediate (Sw rs1 rs2 imm) z = Sw rs1 rs2 z
 with_immediate (Sd rs1 rs2 imm) z = Sd rs1 rs2 z
 with_immediate inst z = inst
 
--- The instruction at an address with a role, made anew, by the new addresses of code: an upper and a lower part of a
--- distance are split by those of their AUIPC and of their target.
+-- The instruction at address a with a role, with its immediate computed from the new addresses of code. An upper or a
+-- lower part of a distance is a part of the distance from its AUIPC to its target.
 abbrev pub made_anew : (ℕ → ℕ) → ℕ → Role → Inst → Inst
 made_anew new a role.Plain inst = inst
 made_anew new a (role.CallHi target) inst = with_immediate inst (hi20 (distance (new target) (new a)))
@@ -81,19 +81,19 @@ made_anew new a (role.Lo hi target) inst = with_immediate inst (lo12 (distance (
 made_anew new a (role.AbsHi target) inst = with_immediate inst (hi20 (pos (new target)))
 made_anew new a (role.AbsLo target) inst = with_immediate inst (lo12 (pos (new target)))
 
--- The output has an instruction where one of the input went, within its span.
+-- The output has this instruction at the new address of p, within the span of p.
 pub record HasInSpan (r : Rewrite) (p : Placed) (inst : Inst) : Type 0 where
   pub has : HasAt r.output (out r p.addr) inst
   pub inside : Any (λ s. (s.input ≡ p.addr) × (width_at r.output (out r p.addr) ≤ s.len)) r.spans
 
--- A JAL that saves is there, with what stands for its target as its own.
+-- A JAL that saves a return address is in the output, and its target is the new address of its old target.
 pub record KeepsCall (r : Rewrite) (p : Placed) (rd : ℕ) (target : ℕ) : Type 0 where
   pub imm : ℤ
   pub has : HasInSpan r p (Jal rd imm)
   pub goes_to : plus (out r p.addr) (unsigned64 imm) ≡ out r target
 
--- A conditional branch is there, on the same registers, with its condition or with the opposite one. Where the
--- condition holds, control gets to what stands for its target, and where it doesn't, to the next instruction.
+-- A conditional branch is in the output, on the same registers, with its condition or with the opposite one. If the
+-- condition holds, control gets to the new address of its target, otherwise to the instruction that follows.
 pub data KeepsBranch (r : Rewrite) (L : ℕ → ℕ → Type 0) (p : Placed) (test : Test) (wanted : Bool)
     (rs1 rs2 target : ℕ) : Type 0 where
   same : (inst : Inst) (imm : ℤ) → HasInSpan r p inst → action_of inst ≡ Branch test wanted rs1 rs2 imm →
@@ -103,8 +103,9 @@ pub data KeepsBranch (r : Rewrite) (L : ℕ → ℕ → Type 0) (p : Placed) (te
       L (inst_end r p.addr) (out r target) → GetsToNext r L p (plus (out r p.addr) (unsigned64 imm)) →
       KeepsBranch r L p test wanted rs1 rs2 target
 
--- By what an instruction does: a JAL that saves nothing may be left out, if control gets from where it went to what
--- stands for its target. Any other instruction but JALs and branches is there, made anew.
+-- By the instruction's action: a JAL that saves no return address may be left out, if control gets from its new address
+-- to the new address of its target. Any instruction other than a JAL or a branch is in the output, with its immediate
+-- computed from the new addresses.
 abbrev pub KeepsAction : Rewrite → (ℕ → ℕ → Type 0) → Placed → Action → Type 0
 KeepsAction r L p (Jump zero imm) = L (out r p.addr) (out r (plus p.addr (unsigned64 imm)))
 KeepsAction r L p (Jump (suc rd) imm) = KeepsCall r p (suc rd) (plus p.addr (unsigned64 imm))
@@ -115,8 +116,8 @@ KeepsAction r L p action = HasInSpan r p (made_anew (out r) p.addr p.role p.inst
 abbrev pub KeepsInst : Rewrite → (ℕ → ℕ → Type 0) → Placed → Type 0
 KeepsInst r L p = KeepsAction r L p (action_at p)
 
--- Control goes on from the end of an instruction: not after a jump that saves nothing, nor after a branch, of which
--- it is said above where control goes.
+-- Control goes on at the end of the instruction. It doesn't after a jump that saves no return address; for a branch,
+-- KeepsBranch says where it goes.
 abbrev pub goes_on : Action → Bool
 goes_on (Jump rd imm) = not (rd == 0)
 goes_on (JumpTo rd rs1 imm) = not (rd == 0)
@@ -137,7 +138,7 @@ pub record SameRights (r : Rewrite) (a : ℕ) : Type 0 where
   pub writes : SameRight r PF_W a
   pub executes : SameRight r PF_X a
 
--- the bytes that may change: those of code cells, of the field of the entry point, and of hidden fields
+-- the bytes that may change: bytes of code cells, of the entry point's field, and of hidden fields
 abbrev pub may_change : Rewrite → ℕ → Bool
 may_change r a =
     list_any (λ cell. is_in_range a (code_cell_range cell)) r.code.cells || is_in_entry_field r.input a
@@ -150,23 +151,23 @@ pub record KeepsByte (r : Rewrite) (a byte : ℕ) : Type 0 where
   pub rights : SameRights r a
   pub same : IsFalse (may_change r a) → memory_of r.output a ≡ Some byte
 
--- a code cell holds the new value of what it held, as far as it is wide
+-- a code cell holds the new number of its symbol, reduced to the cell's width
 abbrev pub KeepsCell : Rewrite → CodeCell → Type 0
 KeepsCell r cell =
     number_in (memory_of r.output) cell.addr cell.width
     ≡ Some (number_of_symbol r (symbol_of cell.kind) % 256 ^ cell.width)
 
--- so do all, and the field of the entry point, where it is loaded
+-- all code cells hold their new numbers, and the entry point's field holds the new entry point if it is loaded
 pub record KeepsCells (r : Rewrite) : Type 0 where
   pub each : All (KeepsCell r) r.code.cells
   pub entry : IfSome (address_of r.input e_entry_field) (λ a. number_in (memory_of r.output) a 8 ≡ Some r.output.entry)
 
--- The table of program headers, as a program finds it: it is loaded where it was, and is as long as it was.
+-- The table of program headers, as a program finds it: at the same address, with the same number of headers.
 pub record KeepsTable (r : Rewrite) : Type 0 where
   pub place : table_address r.input.file.now ≡ table_address r.output.file
   pub count : length r.input.segments.items ≡ length r.output.segments
 
--- What a program finds of the layout of its file. In a tight file the table moves.
+-- The layout of the file, as a program finds it. In a tight file the table of program headers moves.
 pub record KeepsLayout (r : Rewrite) : Type 0 where
   pub table : r.tight ≡ false → KeepsTable r
   pub break_start_is : break_start r.input.segments.items ≡ break_start r.output.segments

@@ -1,4 +1,4 @@
--- A state of the symbol machine on the input, and one of the byte machine on the output that stands for it.
+-- Related states: of the symbol machine on the input, and of the byte machine on the output.
 use Rattle.std.specs.Prelude.{◌≡◌, ℕ, ◌%◌, ◌≤◌, ◌||◌, Bool, false, IsTrue, IsSomeAnd, Some, Any}
 use Rattle.rv_code.specs.declared.placed.Role.{Role}
 use Rattle.rv_code.specs.declared.placed.Role.TheVariants as role
@@ -24,8 +24,8 @@ use Rattle.move_law.specs.Rewrite.{Rewrite, out}
 use Rattle.elf_image.specs.memory.Executables.{memory_of}
 use Rattle.move_law.specs.RelocatedValues.{number_of_symbol, number_of_value, bytes_from}
 
--- The symbols that the input gives: a pointer to a named address, or to the point after a call; the upper part of an
--- AUIPC with a target, or of a LUI; a difference that a cell holds.
+-- The symbols that can occur in a run of the input: a pointer to a named address, or to the point after a call; the
+-- upper part of an AUIPC with a target, or of a LUI; a difference that a cell holds.
 
 -- an AUIPC with a target
 abbrev pub HasTarget : Role → Type 0
@@ -54,19 +54,19 @@ IsGivenByte r (Byte b) = Unit {0}
 IsGivenByte r (SymbolByte y w i) = IsGiven r y
 IsGivenByte r Hidden = Unit {0}
 
--- A register has its value.
+-- The number n in the output's run represents the value v.
 pub record StandsFor (r : Rewrite) (v : Value) (n : ℕ) : Type 0 where
   pub value : IsValue v
   pub given : IsGivenValue r v
   pub number : n ≡ number_of_value r v
 
--- the number of a byte; of a hidden one nothing is asked
+-- the number of a byte; a hidden byte may be any number
 abbrev pub IsByteOf : Rewrite → MemoryByte → ℕ → Type 0
 IsByteOf r (Byte b) n = n ≡ b
 IsByteOf r (SymbolByte y w i) n = n ≡ bytes_from (number_of_symbol r y) i 1
 IsByteOf r Hidden n = Unit {0}
 
--- A byte of the output's memory stands for one of the symbol machine's.
+-- The byte n of the output's memory represents the byte c of the symbol machine's memory.
 pub record StandsForByte (r : Rewrite) (c : MemoryByte) (n : ℕ) : Type 0 where
   pub made : IsMemoryByte c
   pub given : IsGivenByte r c
@@ -80,7 +80,7 @@ has_right s a = may_read s a || may_write s a || may_execute s a
 abbrev pub CanBeBreak : Space → ℕ → Type 0
 CanBeBreak space a = (space.break_start ≤ a) × (a ≤ space.break_bound)
 
--- All but the pcs.
+-- Everything except the pcs.
 pub record RelatedData (r : Rewrite) (c : SymState) (b : ByteState) : Type 0 where
   -- register 0 is never written
   pub zero_is : c.registers 0 ≡ Num 0
@@ -89,21 +89,20 @@ pub record RelatedData (r : Rewrite) (c : SymState) (b : ByteState) : Type 0 whe
   pub input : c.input ≡ b.input
   pub break_is : c.program_break ≡ b.program_break
   pub break_fits : CanBeBreak b.space b.program_break
-  -- the rights are those that the two files give
+  -- the rights are as the two files' segments say
   pub input_rights : c.space ≡ space_of r.input.segments.items
   pub output_rights : b.space ≡ space_of r.output.segments
-  -- what the output loads and may not be written is as it was loaded
+  -- a byte that the output loads and that may not be written still has its loaded value
   pub loaded : (a byte : ℕ) → is_loaded_with PF_W r.output.segments a ≡ false → memory_of r.output a ≡ Some byte →
       b.memory a ≡ byte
 
--- Where the input's program is at an instruction of a function, control gets from the output's pc to what stands for
--- that.
--- The place is even, or nothing could be fetched there.
+-- If the symbol machine is at an instruction of a function, control gets from the output's pc to that instruction's new
+-- address. The output's pc is even, since nothing could be fetched from an odd one.
 abbrev pub RelatedPc : Rewrite → (ℕ → ℕ → Type 0) → ℕ → ℕ → Type 0
 RelatedPc r L c b = IsTrue (is_code_address r.code.funcs c) → (b % 2 ≡ 0) × L b (out r c)
 
--- The state c on the input and the state b on the output are related. L says from which place of the output control
--- gets to which other one.
+-- The state c on the input and the state b on the output are related. L relates two addresses of the output if control
+-- gets from the first to the second.
 pub record SimulationRelation (r : Rewrite) (L : ℕ → ℕ → Type 0) (c : SymState) (b : ByteState) : Type 0 where
   pub pc : RelatedPc r L c.pc b.pc
   pub rest : RelatedData r c b

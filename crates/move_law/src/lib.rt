@@ -1,4 +1,4 @@
-//! When a rewritten file keeps the runs of its input: definitions, and the laws over them.
+//! When a rewritten file keeps the runs of its input: definitions, and laws about them.
 #![tactic(auto)]
 
 ghost use Rattle.std.specs.Prelude.{◌≡◌};
@@ -7,20 +7,20 @@ ghost use Rattle.move_law.specs.Laws.{IdentityLaw, SimulationLaw};
 
 use rv_code::Inst;
 
-/// A faithful rewrite keeps the runs of its input: related states stay related, step by step, so each run that ends on
-/// the symbol machine is one of the output, and so are the first steps of any other.
+/// A faithful rewrite keeps the runs of its input: related states stay related, step by step. So each run that ends on
+/// the symbol machine is also a run of the output, and so are the first steps of any other run.
 pub fn simulation_law()
     ensures { SimulationLaw }
 {}
 
-/// A file is a faithful rewrite of itself, so each run that ends on the symbol machine is one of the byte machine, of
-/// as many steps.
+/// A file is a faithful rewrite of itself. So each run that ends on the symbol machine is also a run of the byte
+/// machine, with the same number of steps.
 pub fn identity_law()
     ensures { IdentityLaw }
 {}
 
-/// An instruction with another immediate, if it is one that can have a part of an address: LUI, AUIPC, ADDI, JALR, a
-/// load or a store. Any other stays as it is.
+/// The instruction with another immediate, if it can hold a part of an address: LUI, AUIPC, ADDI, JALR, a load or a
+/// store. Any other instruction is returned unchanged.
 pub fn with_immediate(inst: &Inst, imm: i64) -> Inst
     ensures { result ≡ with_immediate inst.now imm }
 {

@@ -1,5 +1,5 @@
--- The roles of accepted code: each fits its instruction, a pair's two instructions have one target, and targets that
--- aren't code lie low. References without a fault say so.
+-- The roles of accepted code: each fits its instruction, both instructions of a pair have one target, and targets that aren't code have low
+-- addresses. All this follows from references without faults.
 use Rattle.std.proofs.Common.{◌≡◌, ◌≢◌, ℕ, ◌+◌, ◌*◌, ◌^◌, ◌<◌, ◌≤◌, List, Option, Some, None, Bool, true, false, refl, sym, ap}
 use Rattle.std.proofs.Common.{◌∙◌, subst, arith, inl, inr, ◌⊎◌, ℤ, pos}
 use Rattle.std.specs.Prelude.{◌==◌, IsTrue, IsSome}
@@ -39,7 +39,7 @@ use Rattle.move_law.proofs.code.Immediates.{full_at, also_full, auipc_of, lui_of
 use Rattle.move_law.proofs.code.InstLists.{start_code, code_at, inst_at, role_at}
 use Rattle.rv_code.specs.isa.AddressParts.{IsAuipc, IsLui, TakesLower}
 
--- What the input's file gives, whatever is written.
+-- Facts of the input, whatever the output is.
 
 -- an address that a role or a cell names
 pub record Target (code : ProgramCode) (t : ℕ) : Type 0 where
@@ -84,7 +84,7 @@ same_int x y h = by (int_eq x y) refl
 pub same_pos : (x y : ℕ) → pos x ≡ pos y → x ≡ y
 same_pos x y e = cc
 
--- Instructions are decoded in one way.
+-- An instruction is decoded in only one way.
 
 pub same_auipc : (elf : Elf) (a b rd rd' : ℕ) (upper upper' : ℤ) → a ≡ b → IsInstAt elf a (Auipc rd upper) 4 →
     IsInstAt elf b (Auipc rd' upper') 4 → upper ≡ upper'
@@ -100,7 +100,7 @@ same_jalr elf a b rd rd' rs1 rs1' lower lower' same x y =
     let g = full_at elf b (Jalr rd' rs1' lower') y in
     (sym f.row.rs1_is ∙ g.row.rs1_is, sym f.row.imm_is ∙ g.row.imm_is)
 
--- Pairs of a call at one place.
+-- Call pairs at one place.
 
 pub record SameCall {elf : Elf} {r s : Relocation} (p : CallPair elf r) (q : CallPair elf s) : Type 0 where
   pub uppers : p.upper ≡ q.upper
@@ -143,7 +143,7 @@ module _ (elf : Elf) (tabled : List (ℕ × ℕ)) (code : ProgramCode) (is : IsC
   fits q counts m =
       no_fault RelocMismatch q.place (inl (inl (record { relocation = q; counts = counts; is = m; place_is = refl })))
 
-  -- What a role names.
+  -- Targets of roles.
 
   role_entry : (a : ℕ) (part : Role) → HasRole elf a part → Contains code.roles (a, part)
   role_entry a part has = is.roles.each (a, part) has
@@ -164,7 +164,7 @@ module _ (elf : Elf) (tabled : List (ℕ × ℕ)) (code : ProgramCode) (is : IsC
 
   -- Calls.
 
-  -- what an AUIPC of a call has as its target
+  -- the target of a call's AUIPC, by its role
   call_same : (q : Relocation) (target : ℕ) → CallTo elf q (pos target) → (part : Role) → RoleIs elf q.place part →
       HasTarget part →
       upper_target part ≡ target
@@ -196,7 +196,7 @@ module _ (elf : Elf) (tabled : List (ℕ × ℕ)) (code : ProgramCode) (is : IsC
 
   -- Upper and lower parts.
 
-  -- an AUIPC that a lower part names has an upper part, and no call's
+  -- an AUIPC that a lower part names has an upper part, and isn't a call's
   pub has_upper : (q : Relocation) (hi : ℕ) (imm : ℤ) → PcrelLo elf q hi imm → (IsUpper elf hi → ⊥) → ⊥
   has_upper q hi imm part n =
       fits q part.counts (IsMisfit.lower (faults.no_upper part.is_low (λ u. n (subst (IsUpper elf) part.names u))))
@@ -235,7 +235,7 @@ module _ (elf : Elf) (tabled : List (ℕ × ℕ)) (code : ProgramCode) (is : IsC
   upper_low : (q : Relocation) (t : ℕ) → PcrelHiTo elf q (pos t) → t ≤ address_end
   upper_low q t upper = bounded_of t (λ n. fits q upper.counts (IsMisfit.pair (faults.IsBadPair.address (pos t) upper n)))
 
-  -- what an AUIPC of a lower part has as its target
+  -- the target of a lower part's AUIPC, by its role
   pair_same : (q : Relocation) (hi target : ℕ) → PcrelLoTo elf q hi (pos target) → (part : Role) → RoleIs elf hi part →
       HasTarget part →
       upper_target part ≡ target
@@ -289,7 +289,7 @@ module _ (elf : Elf) (tabled : List (ℕ × ℕ)) (code : ProgramCode) (is : IsC
   role_fits : (p : Placed) → Contains (insts_of code.funcs) p → RoleFits code p.role p.inst
   role_fits p is_in = by (inst_at elf tabled code is p is_in).role
     where
-      -- the instruction, at its relocation's place
+      -- the instruction at its relocation's place
       at_place : (a : ℕ) → p.addr ≡ a → IsInstAt elf a p.inst p.len
       at_place a at = subst (λ (n : ℕ). IsInstAt elf n p.inst p.len) at (inst_at elf tabled code is p is_in).inst
 
@@ -365,7 +365,7 @@ module _ (elf : Elf) (tabled : List (ℕ × ℕ)) (code : ProgramCode) (is : IsC
       by (inr n) = subst (λ (x : Role). RoleFits code x p.inst) (sym n.1) tt
       by (inl has) = of p.role has has.claims
 
-  -- Other names.
+  -- Other named addresses.
 
   abs_named : (t : ℕ) → Any (λ entry. entry.1 ≡ role.AbsHi t) code.roles → IsNamed code t
   abs_named t (k, entry, within, at, e) = by has.claims

@@ -1,4 +1,4 @@
--- Which instructions have an opcode, and that an AUIPC, a LUI and a JALR are decoded in one way.
+-- Which instructions have an opcode; and an AUIPC, a LUI and a JALR are decoded in only one way.
 use Rattle.std.proofs.Common.{◌≡◌, ℕ, ◌+◌, ◌*◌, ◌^◌, Some, Bool, true, false, refl, sym, ◌∙◌, arith, inl, inr, ℤ, pos}
 use Rattle.std.specs.Prelude.{◌==◌, ◌||◌, if◌then◌else◌}
 use Rattle.rv_code.specs.isa.Bits.{field, imm_i, imm_s, imm_u}
@@ -133,7 +133,7 @@ addi_only w (Srli rd rs1 imm) row e f = absurd (let g = row.funct3_is in omega (
 addi_only w (Srai rd rs1 imm) row e f = absurd (let g = row.funct3_is in omega (arith, f, g))
 addi_only w _ row e f = absurd (omega (arith, e))
 
--- of one instruction word
+-- the opcode of an instruction word
 
 pub auipc_of : (w rd : ℕ) (imm : ℤ) (i : Inst) → IsFull w (Auipc rd imm) → IsFull w i → IsAuipc i
 auipc_of w rd imm i a b = auipc_only i (sym (opcode_is w i b) ∙ a.opcode_is)

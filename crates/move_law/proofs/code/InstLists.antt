@@ -1,4 +1,4 @@
--- The lists of instructions of accepted code: each is where its function says, and what something refers to is one.
+-- The lists of instructions of accepted code: each instruction is in its function, and each start that something refers to is in a list.
 use Rattle.std.proofs.Common.{◌≡◌, ℕ, zero, ◌+◌, ◌%◌, ◌<◌, List, [], ◌∷◌, Option, Some, None, Bool, true, false, refl, sym, ◌∙◌}
 use Rattle.std.proofs.Common.{subst, arith, inl, inr, ◌⊎◌}
 use Rattle.std.specs.Prelude.{if◌then◌else◌, ◌==◌, is_some}
@@ -70,7 +70,7 @@ inst_in elf a (q ∷ qs) end p are is_in = by (Contains-cons_cases q qs p is_in)
     by (inl same) rest = subst (InstIs elf) same here
     by (inr k) rest = rest k
 
--- an instruction that starts in a part is one of its list, and the others follow
+-- the instructions of a part from a start on: one starts there, and the others follow
 record Tail (elf : Elf) (ps : List Placed) (end a : ℕ) : Type 0 where
   first : Placed
   rest : List Placed
@@ -119,7 +119,7 @@ module _ (elf : Elf) (tabled : List (ℕ × ℕ)) (code' : ProgramCode) (is : Is
       by None e =
           absurd (find_none (λ q. q.addr == a) (insts_of code'.funcs) tail.first e there (eq-eqb tail.first.addr a tail.are.0))
 
-  -- a start of an instruction that something refers to
+  -- an instruction starts at each start that something refers to
   pub start_code : (a : ℕ) → IsStart elf a → IsReferred elf tabled a → is_code_address code'.funcs a ≡ true
   start_code a start ref = by (is_code_address code'.funcs a) refl
     where

@@ -1,5 +1,4 @@
--- Where the instructions of accepted code lie: in bytes that are loaded to be executed and not to be written, at even
--- addresses, one after another.
+-- The instructions of accepted code are in loaded bytes that may be executed and not written, at even addresses, one after another.
 use Rattle.std.proofs.Common.{◌≡◌, ℕ, ◌+◌, ◌-◌, ◌%◌, ◌<◌, ◌≤◌, List, [], ◌∷◌, length, Option, Some, true, false, refl, sym}
 use Rattle.std.proofs.Common.{ap, ◌∙◌, subst, arith, inl, inr, ◌⊎◌, get_or}
 use Rattle.std.specs.Prelude.{Contains, AllPairs, Any, IsTrue, slice_get}
@@ -47,7 +46,7 @@ module _ (elf : Elf) where
   insts_end a end [] are = omega (arith, are)
   insts_end a end (p ∷ ps) are = let rest = insts_end (a + p.len) end ps are.3 in omega (arith, rest)
 
-  -- an instruction of the list
+  -- an instruction of the list is within the stretch
   pub record IsBetween (a end : ℕ) (p : Placed) : Type 0 where
     pub from : a ≤ p.addr
     pub to : p.addr + p.len ≤ end
@@ -81,7 +80,7 @@ module _ (elf : Elf) where
       omega (arith, at, from)))
       (insts_ordered (a + p.len) end ps are.3)
 
-  -- each starts in the stretch
+  -- each instruction starts in the stretch
   insts_start : (start a end : ℕ) (ps : List Placed) (p : Placed) → AreInsts elf a ps end →
       (a < end → StartsIn elf start end a) →
       Contains ps p → StartsIn elf start end p.addr
@@ -171,7 +170,7 @@ module _ (elf : Elf) (code' : ProgramCode) (accepted : IsAcceptedCode elf code')
             accepted.sound ExecSegments (segment_place elf.file.now j) (inl (inr (inr (j, is.0, ((is, inl vaddr), refl))))))
       ]
 
-  -- a section with code lies in an executable segment
+  -- a section with code is in an executable segment
   section_lies : (s : Section) → Contains elf.sections.items s → holds_code s.flags ≡ true → 0 < s.size →
       (LiesInCode elf.file.now s.addr (s.addr + s.size) → ⊥) → ⊥
   section_lies s (k, within, at) holds some stray = by (accepted.read.sections.each k s is)

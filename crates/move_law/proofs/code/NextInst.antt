@@ -1,4 +1,4 @@
--- The instruction after a call in its function is where the call ends.
+-- The instruction after a call in its function is at the end of the call.
 use Rattle.std.proofs.Common.{◌≡◌, ℕ, zero, ◌+◌, List, [], ◌∷◌, Option, Some, None, Bool, true, false, refl, sym, ap, ◌∙◌, arith}
 use Rattle.std.specs.Prelude.{if◌then◌else◌, ◌==◌, Contains}
 use Rattle.std.specs.Option.{option_or}

@@ -1,4 +1,4 @@
--- The field of the entry point, where it is loaded, holds it.
+-- If the field of the entry point is loaded, it holds the entry point.
 use Rattle.std.proofs.Common.{◌≡◌, ℕ, ◌+◌, ◌-◌, ◌<◌, ◌≤◌, Option, Some, None, true, refl, sym, ap, ◌∙◌, arith, get_or, drop, min}
 use Rattle.std.specs.Prelude.{Contains, IfSome, IsTrue, nat_le, ◌&&◌, option_map, find}
 use Rattle.std.proofs.lemmas.Bool.{and_parts, leb-true, lt-ltb}

@@ -1,4 +1,4 @@
--- What is known of an executable that the reader accepts: where it is loaded, its bytes, and numbers of several bytes.
+-- Facts of an executable that the reader accepts: its loaded addresses, its bytes, and numbers of several bytes.
 use Rattle.std.proofs.Common.{◌≡◌, ℕ, ◌+◌, ◌-◌, ◌/◌, ◌%◌, ◌^◌, ◌<◌, ◌≤◌, List, Option, Some, None, Bool, true, false, refl, sym}
 use Rattle.std.proofs.Common.{ap, ◌∙◌, subst, arith, inl, inr, get_or, length, All}
 use Rattle.std.specs.Prelude.{if◌then◌else◌, nat_lt, nat_le, IsTrue, option_map, unwrap_or, slice_index}
@@ -23,7 +23,7 @@ use Rattle.rv_code.proofs.machine.LowBytes.{little_at}
 use Rattle.move_law.proofs.files.Numbers.{bytes_at_is}
 use Rattle.rv_code.specs.layout.ProgramCode.{ProgramCode}
 
--- An Elf that was read is an executable as its bytes say.
+-- An Elf that was read is the executable of its bytes.
 
 pub executable_read-is : (elf : Elf) → IsElfOf elf.file.now elf → executable_read elf ≡ executable_of elf.file.now
 executable_read-is elf is = λ i. record { file = elf.file.now; segments = is.segments i; entry = is.entry i }
@@ -32,7 +32,7 @@ pub accepted_executable : (elf : Elf) (code : ProgramCode) → IsAcceptedCode el
 accepted_executable elf code accepted =
     record { bytes = accepted.bytes; is = executable_read-is elf accepted.read; sound = accepted.sound }
 
--- what is loaded with a flag has a byte
+-- an address that is loaded with a flag has a byte
 pub loaded_byte : (x : Executable) (flag a : ℕ) → is_loaded_with flag x.segments a ≡ true →
     (byte : ℕ) × (memory_of x a ≡ Some byte)
 loaded_byte x flag a is = by (segment_of x.segments a) is
@@ -98,7 +98,7 @@ module _ (x : Executable) (sound : IsSoundExecutable x) where
       by None k = absurd (cc)
       by (Some p) k = let same : byte_of x.file a p ≡ b = cc in let low = of p in omega (arith, same, low)
 
-  -- a byte of a number that is loaded
+  -- one byte of a loaded number
   pub number_byte : (a n v i : ℕ) → number_in (memory_of x) a n ≡ Some v → i < n →
       memory_of x (a + i) ≡ Some (v / 256 ^ i % 256)
   number_byte a n v i e h = by (bytes_in (memory_of x) a n) refl e
@@ -116,7 +116,7 @@ module _ (x : Executable) (sound : IsSoundExecutable x) where
           omega (arith, f, g) in
           at.each i h ∙ ap Some (little_at bs i small (omega (arith, len, h)) ∙ ap (λ (w : ℕ). w / 256 ^ i % 256) same)
 
-  -- what is loaded is in memory at the start
+  -- loaded bytes are in memory at the start
   pub loaded_start : (args : List (List ℕ)) (a b : ℕ) → memory_of x a ≡ Some b → start_memory x.file args a ≡ b
   loaded_start args a b e = by (in_stack a) refl
     where

@@ -1,4 +1,4 @@
--- The bytes of which a number in memory is made.
+-- The bytes of a number in memory.
 use Rattle.std.proofs.Common.{◌≡◌, ℕ, zero, suc, ◌+◌, ◌*◌, ◌<◌, List, [], ◌∷◌, length, Option, Some, None, refl, sym, ap, ◌∙◌}
 use Rattle.std.proofs.Common.{subst, arith, get_or}
 use Rattle.std.specs.Prelude.{option_map}
@@ -6,7 +6,7 @@ use Rattle.rv_code.specs.machine.Machine.{little}
 use Rattle.byteorder.specs.Endian.{little_from}
 use Rattle.rv_code.specs.machine.MemoryNumbers.{bytes_in, and_more, number_in}
 
--- the bytes at an address are the bytes there
+-- memory has the bytes bs at the n addresses from a on
 pub record BytesAt (memory : ℕ → Option ℕ) (a n : ℕ) (bs : List ℕ) : Type 0 where
   pub length_is : length bs ≡ n
   pub each : (i : ℕ) → i < n → memory (a + i) ≡ Some (get_or bs i 0)
@@ -32,7 +32,7 @@ bytes_at_is memory a (suc n) bs e =
         each b k rest r zero h = let at : a + 0 ≡ a = omega arith in ap memory at ∙ k
         each b k rest r (suc i) h = let at : a + suc i ≡ a + 1 + i = omega arith in ap memory at ∙ r.each i (omega (arith, h))
 
--- n bytes of a file from place k on, in memory, are the number there
+-- if n bytes of a file from offset k on are in memory, memory has their number
 pub number_from : (memory : ℕ → Option ℕ) (xs : List ℕ) (a k n : ℕ) →
     ((i : ℕ) → i < n → memory (a + i) ≡ Some (get_or xs (k + i) 0)) →
     number_in memory a n ≡ Some (little_from k n xs)

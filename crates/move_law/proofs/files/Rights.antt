@@ -1,4 +1,5 @@
--- What the input's program may use the output's may use too, and what the output loads and may not be written lies outside.
+-- The output's program may use all that the input's program may use; and bytes that the output loads and that may not be written are
+-- outside of what the input's program may write.
 use Rattle.std.proofs.Common.{◌≡◌, ℕ, zero, ◌+◌, ◌-◌, ◌<◌, ◌≤◌, List, [], ◌∷◌, Option, Some, None, Bool, true, false, cond, refl}
 use Rattle.std.proofs.Common.{sym, ap, ◌∙◌, arith, inl, inr, ◌⊎◌, max, min, map}
 use Rattle.std.specs.Prelude.{if◌then◌else◌, ◌==◌, ◌&&◌, ◌||◌, nat_le, nat_lt, option_map}
@@ -23,7 +24,7 @@ use Rattle.move_law.proofs.steps.Outcomes.{SameSpaces}
 
 -- The break.
 
--- the greatest end is that of some segment
+-- the greatest end is the end of some segment, or `from`
 reached : (f : Segment → Bool) (from : ℕ) (segments : List Segment) →
     (fold max from (map end_of (filter f segments)) ≡ from)
     ⊎ ((q : Segment) × Contains segments q × (f q ≡ true) × (end_of q ≡ fold max from (map end_of (filter f segments))))
@@ -63,7 +64,7 @@ reached f from (p ∷ ps) = by (f p) refl (reached f (max from (end_of p)) ps) (
           | inr more ↦ inl (let m : max from (end_of p) ≡ from = omega (arith, more) in k ∙ m)
         ]
 
--- the least page is none above that of a segment
+-- the least page is at most `from`, and at most the page of each segment
 least_from : (f : Segment → Bool) (h : Segment → ℕ) (from : ℕ) (segments : List Segment) →
     fold min from (map h (filter f segments)) ≤ from
 least_from f h from [] = omega arith
@@ -95,7 +96,7 @@ up w = omega arith
 down : (w : ℕ) → rounded_down page_size w ≤ w
 down w = omega arith
 
--- in the break's range no segment that may not be written is loaded
+-- in the break's range no segment is loaded that may not be written
 pub break_clear : (segments : List Segment) → LoadOnce segments → (a : ℕ) (p : Segment) → segment_of segments a ≡ Some p →
     has_flag PF_W p ≡ false → break_start segments ≤ a → a < break_bound segments → ⊥
 break_clear segments once a p e fixed from to = by (writable_end segments == 0) refl to

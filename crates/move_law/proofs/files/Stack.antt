@@ -16,7 +16,7 @@ use Rattle.rv_code.proofs.machine.LowBytes.{length_numbers, numbers_at}
 abbrev pub count : List (List ℕ) → ℕ
 count args = length (program_arguments args)
 
--- the numbers before the auxiliary vector, and from the ends of the two lists on
+-- the numbers before the auxiliary vector
 abbrev pub front : List (List ℕ) → List ℕ
 front args = count args ∷ text_addresses (texts_address args) (program_arguments args)
 
@@ -42,7 +42,7 @@ back_same t n e t' n' e' (suc (suc (suc (suc (suc (suc (suc (suc (suc (suc zero)
 back_same t n e t' n' e' (suc (suc (suc (suc (suc (suc (suc (suc (suc (suc (suc zero))))))))))) a b c = c refl
 back_same t n e t' n' e' (suc (suc (suc (suc (suc (suc (suc (suc (suc (suc (suc (suc k)))))))))))) a b c = refl
 
--- what stands between the numbers and the stack's end
+-- the bytes from the end of the numbers to the stack's end
 abbrev pub past : List (List ℕ) → ℕ → List ℕ
 past args n = replicate (texts_address args - stack_pointer args - n) 0 ++ texts args ++ random_bytes
 

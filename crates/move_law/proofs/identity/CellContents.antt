@@ -1,4 +1,4 @@
--- In a file that stands for itself, each code cell holds what it holds.
+-- In the identity rewrite each code cell holds its own value.
 use Rattle.std.proofs.Common.{◌≡◌, ℕ, suc, ◌+◌, ◌-◌, ◌*◌, ◌/◌, ◌%◌, ◌^◌, ◌<◌, ◌≤◌, List, [], ◌∷◌, length, Option, Some, None}
 use Rattle.std.proofs.Common.{true, refl, sym, ap, ◌∙◌, subst, arith, inl, inr, ◌⊎◌, ℤ, pos, ◌+ℤ◌, ◌-ℤ◌, get_or, All}
 use Rattle.std.specs.Prelude.{IsSomeAnd, option_map, Contains}
@@ -71,7 +71,7 @@ small_mod v w (inr e) h = let l : v < 256 ^ 8 = rw e at h in rw e (mod_8 v l)
     mod_8 : (v : ℕ) → v < 256 ^ 8 → v ≡ v % 256 ^ 8
     mod_8 v l = omega (arith, l)
 
--- a number that holds a difference is the difference, as far as it is wide
+-- a number that holds a difference is this difference, reduced to its width
 of_32 : (x to from : ℕ) → x < 2 ^ 32 → to ≤ address_end → from ≤ address_end →
     int_rem_euclid (pos to -ℤ pos from) (pos (2 ^ 32)) ≡ pos (x % 2 ^ 32) → x ≡ unsigned64 (distance to from) % 256 ^ 4
 of_32 x to from h k l e =
@@ -99,7 +99,7 @@ second_same : (z w z' w' : ℤ) → Difference z w ≡ Difference z' w' → w �
 second_same z w z' w' e = cc
 
 module _ (elf : Elf) (code : ProgramCode) (accepted : IsAcceptedCode elf code) (r : Rewrite) (stays : (a : ℕ) → out r a ≡ a) where
-  -- a field with an address
+  -- a field that holds an address
   address_holds : (cell : CodeCell) (to to' : ℕ) → (cell.width ≡ 4) ⊎ (cell.width ≡ 8) →
       loaded_number elf cell.addr cell.width ≡ Some to → to ≡ to' →
       loaded_number elf cell.addr cell.width ≡ Some (out r to' % 256 ^ cell.width)
@@ -108,7 +108,7 @@ module _ (elf : Elf) (code : ProgramCode) (accepted : IsAcceptedCode elf code) (
       (small_mod to cell.width wide (number_small (executable_read elf) (accepted_executable elf code accepted)
       cell.addr cell.width to number) ∙ ap (λ (x : ℕ). x % 256 ^ cell.width) (e ∙ sym (stays to')))
 
-  -- one with a difference
+  -- a field that holds a difference
   difference_holds : (cell : CodeCell) (q : Relocation) (bits to from : ℕ) (x : ℕ) → (bits ≡ 32) ⊎ (bits ≡ 64) →
       cell.addr ≡ q.place → cell.width ≡ bits / 8 → loaded_number elf cell.addr cell.width ≡ Some x → to ≤ address_end →
       from ≤ address_end →

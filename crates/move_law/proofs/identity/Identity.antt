@@ -225,7 +225,7 @@ module _ (elf : Elf) (code : ProgramCode) (tight : Bool) (accepted : IsAcceptedC
   kept p is_in SystemCall e needed = plain p is_in
   kept p is_in Breakpoint e needed = plain p is_in
 
-  -- where control stays, it gets there
+  -- control that is at an address gets there
   weaker_next : (p : Placed) (from : ℕ) → GetsToNext (identity elf code tight) Same p from →
       GetsToNext (identity elf code tight) (Goes (executable_read elf)) p from
   weaker_next p from h = by (next (identity elf code tight) p) h

@@ -1,5 +1,4 @@
--- Where nothing moved, the machines go in lock-step: each step of the symbol machine that doesn't stick is one of the byte
--- machine.
+-- If nothing moved, the machines run in lock-step: each step of the symbol machine that isn't stuck is one step of the byte machine.
 use Rattle.std.proofs.Common.{◌≡◌, ℕ, ◌%◌, ◌<◌, List, Option, Some, None, Bool, true, false, refl, sym, subst, ℤ}
 use Rattle.std.specs.Prelude.{if◌then◌else◌, ◌==◌}
 use Rattle.rv_code.specs.declared.inst.Inst.TheVariants.{Jal}
@@ -25,11 +24,11 @@ use Rattle.move_law.proofs.steps.Instructions.{Kept, step_of, kept_at, offset_ev
 use Rattle.move_law.proofs.steps.Matching.{MayBeLeftOut, left_out, stays, by_leaving_out, jump_goes, code_of}
 use Rattle.move_law.proofs.code.InstLists.{found_at}
 
--- control is where it was going
+-- control is already at the address
 abbrev pub Same : ℕ → ℕ → Type 0
 Same p q = p ≡ q
 
--- a jump that saves nothing is there, and goes to what stands for its target
+-- a jump that saves no return address is in the output, and goes to the new address of its target
 pub record JumpStays (r : Rewrite) (p : Placed) (imm : ℤ) : Type 0 where
   pub has : HasAt r.output (out r p.addr) (Jal 0 imm)
   pub goes_to : plus (out r p.addr) (unsigned64 imm) ≡ out r (plus p.addr (unsigned64 imm))
@@ -116,7 +115,7 @@ module _ (r : Rewrite) (known : LockStepFacts r) where
       let s : IsOne r a.state (Going d e) = subst (λ (o : SymOutcome). IsOne r a.state o) step (one_step v a.state a.related) in
       record { state = s.0; so_far = more e a.so_far s.1; related = s.2 }
 
-  -- a run is one of as many steps
+  -- a run is a run with the same number of steps
   pub same_run : (c : SymState) (b : ByteState) → SimulationRelation r Same c b → (n : ℕ) (trace : List Event) (status : ℕ) →
       Run (SymSteps r.code.funcs) c n trace status → Run Steps b n trace status
   same_run c b rel n trace status run =

@@ -1,4 +1,4 @@
--- Where code stays at its addresses, what holds a part of an address is what it would be made anew.
+-- If code stays at its addresses, an instruction with a part of an address has the immediate that is computed for it.
 use Rattle.std.proofs.Common.{◌≡◌, ◌≢◌, ℕ, ◌+◌, ◌*◌, ◌^◌, List, refl, sym, ap, ◌∙◌, subst, arith, inl, inr, ◌⊎◌, ℤ, pos}
 use Rattle.std.specs.Prelude.{Contains}
 use Rattle.std.proofs.lemmas.Int.{ints}
@@ -41,7 +41,7 @@ zero_upper : (a : ℕ) → hi20 (distance a a) ≡ pos 0
 zero_upper a =
     upper_is a a (pos 0) (pos 0) (record { low = omega (arith, ints); high = omega (arith, ints) }) (ap pos (omega arith))
 
--- The immediate of an instruction, by another reading of its bytes.
+-- The immediate of an instruction, by another way of reading its bytes.
 
 module _ (elf : Elf) where
   auipc_is : (a : ℕ) (i : Inst) (n : ℕ) → IsInstAt elf a i n → (rd : ℕ) (u : ℤ) → IsInstAt elf a (Auipc rd u) 4 →
@@ -83,7 +83,7 @@ module _ (elf : Elf) where
 
 module _ (elf : Elf) (tabled : List (ℕ × ℕ)) (code : ProgramCode) (is : IsCodeOf elf tabled code)
     (no_fault : IsFree (HasCodeFault elf tabled)) (p : Placed) (is_in : Contains (insts_of code.funcs) p) where
-  -- the instruction, at a relocation's place
+  -- the instruction at its relocation's place
   at_place : (a : ℕ) → p.addr ≡ a → IsInstAt elf a p.inst p.len
   at_place a at = subst (λ (n : ℕ). IsInstAt elf n p.inst p.len) at (inst_at elf tabled code is p is_in).inst
 

@@ -1,4 +1,4 @@
--- Where named instructions and the ends of calls are in the output.
+-- The new addresses of named instructions and of the ends of calls.
 use Rattle.std.proofs.Common.{◌≡◌, ◌≢◌, ℕ, zero, suc, ◌+◌, ◌-◌, ◌%◌, ◌<◌, ◌≤◌, Option, Some, None, true, false, refl, sym, ap}
 use Rattle.std.proofs.Common.{◌∙◌, subst, arith, inl, inr}
 use Rattle.std.specs.Prelude.{nat_le, nat_lt, IsTrue, IsSomeAnd, option_map, unwrap_or}
@@ -34,7 +34,7 @@ use Rattle.rb_bytes.proofs.ListLemmas.{find_none, one_of}
 use Rattle.move_law.proofs.code.InstLists.{found_at}
 
 module _ (r : Rewrite) (keeps : KeepsCode r) where
-  -- a span is where its instruction is
+  -- a span's output address is the new address of its instruction
   pub span_out : (s : Span) → Contains r.spans s → out r s.input ≡ s.out
   span_out s is_in = by (find (is_of s.input) r.spans) refl
     where
@@ -46,7 +46,7 @@ module _ (r : Rewrite) (keeps : KeepsCode r) where
           ap (λ (t : Span). t.out) (one_of (λ s t. s.input ≢ t.input) r.spans t s keeps.faithful.map.once found.1 is_in
           (λ n. n same) (λ n. n (sym same)))
 
-  -- what isn't code stays
+  -- an address without an instruction is its own new address
   pub stays_put : (a : ℕ) → is_code_address r.code.funcs a ≡ false → out r a ≡ a
   stays_put a not_code = by (find (is_of a) r.spans) refl
     where
@@ -59,7 +59,7 @@ module _ (r : Rewrite) (keeps : KeepsCode r) where
           All-contains (λ s. IsTrue (is_code_address r.code.funcs s.input)) r.spans t keeps.faithful.map.only found.1 in
           absurd (let h : false ≡ true = sym not_code ∙ sym (ap (is_code_address r.code.funcs) same) ∙ code in cc)
 
-  -- a span that isn't empty is at a place, with its last byte low
+  -- a span that isn't empty is at an even address above 0, and its last byte is low
   pub placed : (s : Span) → Contains r.spans s → 0 < s.len → (s.out % 2 ≡ 0) × (0 < s.out) × (s.out + s.len ≤ address_end)
   placed s is_in some =
       let last = All-contains (λ s. AreCodeBytes r.output s.out s.len) r.spans s keeps.faithful.span_bytes is_in
@@ -80,7 +80,7 @@ module _ (r : Rewrite) (keeps : KeepsCode r) where
       (lt-ltb p (t.out + t.len) d) in
       one_of ShareNoByte r.spans s t keeps.faithful.map.disjoint s_in t_in (λ n. n p in_s in_t) (λ n. n p in_t in_s)
 
-  -- The span of an instruction: where n bytes of it stand.
+  -- The span of an instruction, which has room for n bytes of it.
   pub record HasSpan (a n : ℕ) : Type 0 where
     pub span : Span
     pub contains : Contains r.spans span
@@ -157,7 +157,7 @@ module _ (r : Rewrite) (keeps : KeepsCode r) where
       by None e h = absurd h
       by (Some p) e h = let f = found_at r.code.funcs a p e in subst IsThere f.at (call_there p f.contains h)
 
-  -- where an instruction ends
+  -- the end of an instruction in the output
   record EndIs (a : ℕ) : Type 0 where
     width : ℕ
     some : 0 < width

@@ -1,4 +1,4 @@
--- The numbers of the symbols that the input gives.
+-- The numbers of the symbols that can occur in a run of the input.
 use Rattle.std.proofs.Common.{◌≡◌, ℕ, suc, ◌+◌, ◌-◌, ◌/◌, ◌%◌, ◌^◌, ◌<◌, ◌≤◌, Option, Some, None, Bool, true, false, refl, sym}
 use Rattle.std.proofs.Common.{ap, ◌∙◌, subst, arith, inl, inr, ◌⊎◌, ℤ, pos, negsuc, ◌+ℤ◌, ◌-ℤ◌, ◌*ℤ◌, ◌≤ℤ◌}
 use Rattle.std.specs.Prelude.{if◌then◌else◌, IsSomeAnd, nat_lt, bit_xor}
@@ -56,7 +56,7 @@ use Rattle.move_law.proofs.code.FittingRoles.{CodeFacts, RoleFits, Target, has_c
 use Rattle.move_law.proofs.code.InstLists.{found_at}
 use Rattle.rv_code.specs.isa.AddressParts.{IsAuipc}
 
--- Numbers that 32 bits hold, with their sign.
+-- Signed numbers of 32 bits.
 
 pub record IsShort (n : ℕ) : Type 0 where
   pub fits : n < 2 ^ 64
@@ -81,7 +81,7 @@ short_same n h = by (nat_lt (n % 2 ^ 32) (2 ^ 31)) refl
 low_short : (n : ℕ) → n < 2 ^ 31 → IsShort n
 low_short n h = record { fits = omega (arith, h); near = omega (arith, h) }
 
--- what is left of a number without its upper part
+-- a number minus its upper part is from 0 to 4095
 rest_within : (w : ℤ) → (pos 0 ≤ℤ (w -ℤ pos 4096 *ℤ int_shr w 12)) × ((w -ℤ pos 4096 *ℤ int_shr w 12) ≤ℤ pos 4095)
 rest_within (pos a) = (omega (arith, ints), omega (arith, ints))
 rest_within (negsuc a) = (omega (arith, ints), omega (arith, ints))
@@ -148,7 +148,7 @@ signed32_fits x h = by (nat_lt x 2147483648) refl
     by true e = omega (arith, h)
     by false e = omega (arith, h)
 
--- Names, in the output.
+-- Named addresses, in the output.
 
 module _ (r : Rewrite) (keeps : KeepsCode r) (facts : CodeFacts r.code) where
   pub target_low : (t : ℕ) → Target r.code t → out r t ≤ address_end
@@ -168,7 +168,7 @@ module _ (r : Rewrite) (keeps : KeepsCode r) (facts : CodeFacts r.code) where
       let low = (code_place r keeps t 1 (named_span r keeps t named) (omega arith)).1 in
       record { fits = omega (arith, low); named = λ e. named; stays = stays_put r keeps t }
 
-  -- an AUIPC of the input is there
+  -- an AUIPC of the input is in the output, at a low address
   auipc_low : (p : Placed) → Contains (insts_of r.code.funcs) p → IsAuipc p.inst → out r p.addr ≤ address_end
   auipc_low p contains is =
       by (action_at p) refl (is_upper p.inst is)
@@ -212,7 +212,7 @@ module _ (r : Rewrite) (keeps : KeepsCode r) (facts : CodeFacts r.code) where
           let same : out r p.addr ≡ out r a = ap (λ (n : ℕ). out r n) at.at in
           record { low = omega (arith, low, same); target = subst (Target r.code) (sym target_is) f.1 }
 
-  -- each symbol's number is short
+  -- each symbol's number fits in 32 bits
   short : (y : CodeSymbol) → IsGiven r y → IsShort (number_of_symbol r y)
   short (Points p) given = low_short (number_of_pointer r p) (place r keeps p given).low
   short (Hi a) given =

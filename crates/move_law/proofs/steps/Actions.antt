@@ -1,4 +1,4 @@
--- The action of an instruction, and that of what stands for it.
+-- The action of an instruction of the input, and of the output's instruction for it.
 use Rattle.std.proofs.Common.{◌≡◌, ℕ, zero, suc, ◌*◌, ◌/◌, ◌%◌, ◌^◌, ◌<◌, Option, Some, None, true, false, refl, sym, ap, ◌∙◌}
 use Rattle.std.proofs.Common.{subst, arith, inl, inr, ℤ, pos}
 use Rattle.std.specs.Prelude.{◌==◌, ◌||◌, not, IfSome}
@@ -45,14 +45,14 @@ use Rattle.rv_code.specs.isa.AddressParts.{TakesLower}
 use Rattle.std.proofs.lemmas.Option.{same_Some}
 use Rattle.rb_bytes.proofs.ListLemmas.{if_found}
 
--- an action of an instruction that isn't a branch or a JAL; stores have the sizes that instructions have
+-- the action isn't a branch or a JAL, and a store has a size that an instruction can have
 abbrev pub IsPlain : Action → Type 0
 IsPlain (Branch test wanted rs1 rs2 imm) = ⊥
 IsPlain (Jump rd imm) = ⊥
 IsPlain (Store n rs1 rs2 imm) = IsSize n
 IsPlain _ = Unit {0}
 
--- it isn't a jump through a register either
+-- the action isn't a jump through a register
 abbrev pub IsNoJump : Action → Type 0
 IsNoJump (JumpTo rd rs1 imm) = ⊥
 IsNoJump _ = Unit {0}
@@ -75,7 +75,7 @@ is_abs-true a (Sym (Hi t)) e = absurd (cc)
 is_abs-true a (Sym (Diff t f)) e = absurd (cc)
 is_abs-true a (Sym (Apart by p q)) e = absurd (cc)
 
--- what a pair gives
+-- the target that a pair of instructions gives
 pair_stands : (r : Rewrite) (hi target x : ℕ) (v : Value) → LowerFits r hi target → StandsFor r v x → is_hi hi v ≡ true →
     StandsFor r (value_of r.code.funcs target) (plus x (unsigned64 (lo12 (distance (out r target) (out r hi)))))
 pair_stands r hi target x v fits h e =
@@ -97,21 +97,21 @@ absolute_stands r target x v given label h e =
     rw h'.number (number_sum (out r target) label.fits) in
     record { value = tt; given = given; number = sum }
 
--- the immediate of a lower part, made anew
+-- the new immediate of a lower part
 abbrev new_lower : Rewrite → Role → ℤ
 new_lower r (role.Lo hi target) = lo12 (distance (out r target) (out r hi))
 new_lower r (role.CallLo hi target) = lo12 (distance (out r target) (out r hi))
 new_lower r (role.AbsLo target) = lo12 (pos (out r target))
 new_lower r _ = pos 0
 
--- what is known of a lower part
+-- the facts that are needed of a lower part
 abbrev LowRole : Rewrite → Role → Type 0
 LowRole r (role.Lo hi target) = LowerFits r hi target
 LowRole r (role.CallLo hi target) = LowerFits r hi target
 LowRole r (role.AbsLo target) = IsGivenPointer r (Code target) × Label r target
 LowRole r _ = ⊥
 
--- what a lower part and a base give
+-- the result of a lower part and its base
 joined_stands : (r : Rewrite) (part : Role) (base : Value) (x : ℕ) → LowRole r part → StandsFor r base x →
     IfSome (joined r.code.funcs part base) (λ v. StandsFor r v (plus x (unsigned64 (new_lower r part))))
 joined_stands r (role.Lo hi target) base x fits h =
@@ -156,7 +156,7 @@ low_is r (role.Hi target) fits = absurd fits
 low_is r (role.CallHi target) fits = absurd fits
 low_is r (role.AbsHi target) fits = absurd fits
 
--- the place of an access without a role
+-- the address of an access whose instruction has no role
 place_plain : (r : Rewrite) (base : Value) (x offset : ℕ) → StandsFor r base x →
     IfSome (place r.code.funcs role.Plain base offset) (λ v. (n : ℕ) → number v ≡ Some n → plus x offset ≡ n)
 place_plain r (Num b) x offset h = λ n e. rw h.number (same_Some (plus b offset) n e)
@@ -168,7 +168,7 @@ pub is_saving : (rd : ℕ) (k : ℕ) → rd ≡ suc k → not (rd == 0) ≡ true
 is_saving zero k e = absurd (omega (arith, e))
 is_saving (suc rd) k e = let h : (suc rd == 0) ≡ false = ne_eqb (suc rd) 0 (λ z. absurd (omega (arith, z))) in rw h refl
 
--- s is at an instruction and u at what stands for it; after them come next and from.
+-- s is at an instruction and u at its instruction in the output; they go on at `next` and at `from`.
 module _ (r : Rewrite) (L : ℕ → ℕ → Type 0) (symbols : Symbols r) (spaces : SameSpaces r) (s : SymState) (u : ByteState)
     (rel : RelatedData r s u) (next from : ℕ) (end_is : from ≡ number_of_pointer r (Ret s.pc))
     (reaches : (p : Pointer) (to : ℕ) → IsGivenPointer r p → destination r.code.funcs p ≡ Some to →
@@ -273,7 +273,7 @@ module _ (r : Rewrite) (L : ℕ → ℕ → Type 0) (symbols : Symbols r) (space
         number = rw (here, target_is, upper_of_distance_is (out r target) (out r s.pc) fits.label.fits fits.low) refl;
       })
 
-  -- any instruction that isn't a branch or a JAL
+  -- any instruction except a branch or a JAL
   pub arm : (part : Role) (inst : Inst) → IsPlain (action_of inst) → Fits r s.pc part inst → u.pc ≡ out r s.pc →
       target_at r.code.funcs s.pc ≡ upper_target part → (HasTarget part → IsGiven r (Hi s.pc)) →
       (IsNoJump (action_of inst) → RelatedPc r L next from) → (is_call (action_of inst) ≡ true → IsGivenPointer r (Ret s.pc)) →

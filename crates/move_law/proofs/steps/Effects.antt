@@ -1,4 +1,4 @@
--- What the two machines' actions come to, from related states.
+-- The outcomes of actions of the two machines, from related states.
 use Rattle.std.proofs.Common.{◌≡◌, ℕ, zero, suc, ◌%◌, ◌<◌, ◌≤◌, List, [], ◌∷◌, length, Option, Some, None, Bool, true, false}
 use Rattle.std.proofs.Common.{refl, sym, ap, ◌∙◌, arith, inl, inr}
 use Rattle.std.specs.Prelude.{if◌then◌else◌, ◌==◌, ◌&&◌, ◌||◌, not, nat_le, nat_lt, IsTrue, IfSome, min, map, take, drop}
@@ -34,7 +34,7 @@ use Rattle.move_law.proofs.steps.Outcomes.{writes_can, gives_follows, fixed_not_
 use Rattle.std.proofs.lemmas.Option.{same_Some}
 use Rattle.rb_bytes.proofs.ListLemmas.{if_found, taken_less}
 
--- the number of a value that is one
+-- the number of a value that is a number
 pub number_is : (r : Rewrite) (v : Value) (x n : ℕ) → StandsFor r v x → number v ≡ Some n → x ≡ n
 number_is r (Num m) x n h e = h.number ∙ same_Some m n e
 number_is r (Sym y) x n h e = absurd (cc)
@@ -50,7 +50,7 @@ returns_follows : (r : Rewrite) (L : ℕ → ℕ → Type 0) (s : SymState) (u :
 returns_follows r L s u next from e g rel leads same =
     rw same (gives_follows r L s u next from a0 g.result (Num g.result) (Some g) rel leads (λ k z. number_stands r g.result))
 
--- bytes of the input go to a buffer
+-- bytes of the input are put into a buffer
 read_data : (r : Rewrite) → SameSpaces r → (s : SymState) (u : ByteState) → RelatedData r s u →
     (a n : ℕ) (bs rest : List ℕ) → all_may (may_write s) a n ≡ true → length bs ≤ n →
     RelatedData r (record s { memory = put s.memory a (map Byte bs); input = rest })
@@ -73,7 +73,7 @@ read_data r spaces s u rel a n bs rest can fits = record {
 le_le : (x y z : ℕ) → x ≤ y → y ≤ z → x ≤ z
 le_le x y z h k = omega (arith, h, k)
 
--- a right that is there after the break is set was there before, but in what was gained
+-- a right that an address has after the break moved, it had before, unless the break gained the address
 had : (reads writes executes from to old : Bool) → (to ≡ true → old ≡ true) →
     (reads || (from && to)) || (writes || (from && to)) || executes ≡ true →
     (reads || (from && old)) || (writes || (from && old)) || executes ≡ true
@@ -91,7 +91,7 @@ not_gained p a to e h =
           and_from (nat_le p a) (nat_lt a to) (le-leb p a more) h in cc)
     ]
 
--- the break is set
+-- the break moves
 break_data : (r : Rewrite) → SameSpaces r → (s : SymState) (u : ByteState) → RelatedData r s u → (to : ℕ) →
     RelatedData r (with_break (Byte 0) to s) (with_break 0 to u)
 break_data r spaces s u rel to =
@@ -99,7 +99,7 @@ break_data r spaces s u rel to =
     (nat_le s.space.break_start to && nat_le to s.space.break_bound)
     (rw (break_start_same r spaces s u rel, break_bound_same r spaces s u rel) refl)
   where
-    -- what the states are after the break is set
+    -- the states after the break moved
     s' : SymState
     s' = record s { program_break = to; memory = λ a. if nat_le s.program_break a && nat_lt a to then Byte 0 else s.memory a }
 
@@ -109,7 +109,7 @@ break_data r spaces s u rel to =
     byte_zero : StandsForByte r (Byte 0) 0
     byte_zero = record { made = tt; given = tt; byte = refl }
 
-    -- an address that has a right afterwards had it before, or is one that was gained
+    -- an address that has a right afterwards had one before, or the break gained it
     memory : (a : ℕ) → IsTrue (has_right s' a) → StandsForByte r (s'.memory a) (u'.memory a)
     memory a right = cases (nat_le u.program_break a && nat_lt a to) refl (rw (rel.break_is) refl)
       where
@@ -161,7 +161,7 @@ break_data r spaces s u rel to =
       loaded = λ a byte w h. unchanged a byte w h (and_parts (nat_le u.space.break_start to) (nat_le to u.space.break_bound) e);
     })
 
--- s and u are before an action; after it they go on to next and from.
+-- s and u are before an action; after it they go on at `next` and at `from`.
 module _ (r : Rewrite) (L : ℕ → ℕ → Type 0) (symbols : Symbols r) (spaces : SameSpaces r) (s : SymState) (u : ByteState)
     (rel : RelatedData r s u) (next from : ℕ) (leads : RelatedPc r L next from) where
   pub computes : (rd x : ℕ) (o : Option Value) → IfSome o (λ v. StandsFor r v x) →

@@ -1,4 +1,4 @@
--- A state that stands where a file has an instruction does it; and one that stands before a jump comes to where it leads.
+-- A state at an instruction of a file does this instruction; a state at a jump that saves nothing gets to its target.
 use Rattle.std.proofs.Common.{◌≡◌, ℕ, ◌+◌, ◌*◌, ◌%◌, ◌^◌, ◌<◌, ◌≤◌, [], Option, Some, None, Bool, true, false, refl, sym, ap, ◌∙◌}
 use Rattle.std.proofs.Common.{subst, arith, add-zero, inl, inr}
 use Rattle.std.specs.Prelude.{◌==◌, unwrap_or}
@@ -102,7 +102,7 @@ module _ (x : Executable) (b : ByteState) (has : HasCode x b) where
       fetched_long b (halfword_in (memory_of x) b.pc) (halfword_in (memory_of x) (b.pc + 2)) t m h g f' n in
       does (halfword_in (memory_of x) b.pc) (Some (halfword_in (memory_of x) (b.pc + 2))) inst bytes is decodes refl
 
-  -- an instruction of the file is the next one of a state that stands there
+  -- a state's next instruction is the file's instruction at its pc
   pub steps_at : (inst : Inst) → b.pc % 2 ≡ 0 → HasAt x b.pc inst →
       Steps b (effect (action_of inst) (plus b.pc (width_at x b.pc)) b)
   steps_at inst even at = by (width_at x b.pc) at.is_inst at.code
@@ -112,7 +112,7 @@ module _ (x : Executable) (b : ByteState) (has : HasCode x b) where
       by bytes (inl d) code = step_two inst bytes even d.two_bytes code (λ e. d.is_half (omega (arith, e))) (λ k. inl d)
       by bytes (inr d) code = step_four inst bytes even d.four_bytes code (omega (arith, d.is_full)) (inr d)
 
--- At most one jump leads to an even place.
+-- Control gets to an even address by at most one jump.
 pub record Arrives (b : ByteState) (q : ℕ) : Type 0 where
   pub steps : ℕ
   pub few : steps ≤ 1

@@ -1,4 +1,4 @@
--- What stands in the output for an instruction keeps what the instruction comes to.
+-- The output's instruction for an instruction of the input has an outcome that follows the symbol machine's.
 use Rattle.std.proofs.Common.{◌≡◌, ℕ, zero, suc, ◌+◌, ◌%◌, ◌<◌, Option, Some, None, Bool, true, false, refl, ap, ◌∙◌, subst}
 use Rattle.std.proofs.Common.{arith, inl, inr, ℤ}
 use Rattle.std.specs.Prelude.{if◌then◌else◌, not, IsTrue, IsSomeAnd, IfSome, Contains, is_some, option_map}
@@ -117,10 +117,10 @@ wanted_effect :
 wanted_effect test true rs1 rs2 imm next u = refl
 wanted_effect test false rs1 rs2 imm next u = refl
 
--- Where control goes on.
+-- How control goes on.
 
 module _ (r : Rewrite) (L : ℕ → ℕ → Type 0) (facts : Facts r L) where
-  -- after what isn't a call, at the next address
+  -- after an instruction that isn't a call, control goes on at the next address
   next_leads :
       (p : Placed) (from : ℕ) → is_call (action_at p) ≡ false → from % 2 ≡ 0 → GetsToNext r L p from →
       RelatedPc r L (plus p.addr p.len) from
@@ -137,14 +137,14 @@ module _ (r : Rewrite) (L : ℕ → ℕ → Type 0) (facts : Facts r L) where
           let go2 : L from (out r q.addr) = rw e at go' in
           (even, subst (λ (a : ℕ). L from (out r a)) at.at go2)
 
-  -- a call goes on at its end
+  -- a call returns to its end
   call_leads : (p : Placed) → Contains (insts_of r.code.funcs) p → is_call (action_at p) ≡ true →
       IfSome (next_of r.code.funcs p.addr) (λ a. L (inst_end r p.addr) (out r a))
   call_leads p contains call =
       let go : GetsToNext r L p (inst_end r p.addr) = facts.goes_on p contains (rw (call_goes_on (action_at p) call) refl) in
       rw call at go
 
-  -- where a pointer leads
+  -- the address to which a pointer leads
   reaches : (p : Pointer) (to : ℕ) → IsGivenPointer r p → destination r.code.funcs p ≡ Some to →
       RelatedPc r L to (number_of_pointer r p)
   reaches (Code a) to given e =
@@ -167,14 +167,14 @@ module _ (r : Rewrite) (L : ℕ → ℕ → Type 0) (facts : Facts r L) where
 
 -- Instructions.
 
--- an instruction of the output keeps an outcome
+-- an instruction of the output has an outcome that follows the symbol machine's outcome o
 pub record Kept (r : Rewrite) (L : ℕ → ℕ → Type 0) (s : SymState) (o : SymOutcome) : Type 0 where
   pub inst : Inst
   pub has : HasAt r.output (out r s.pc) inst
   pub keeps : (u : ByteState) → RelatedData r s u → u.pc ≡ out r s.pc → u.pc % 2 ≡ 0 →
       Follows r L o (byte.effect (action_of inst) (plus u.pc (width_at r.output (out r s.pc))) u)
 
--- what an instruction comes to
+-- the symbol machine's outcome of an instruction
 abbrev pub step_of : Rewrite → Placed → SymState → SymOutcome
 step_of r p s = symbol.effect r.code.funcs p.role (action_at p) (plus s.pc p.len) s
 
@@ -285,7 +285,7 @@ module _ (r : Rewrite) (L : ℕ → ℕ → Type 0) (facts : Facts r L) (p : Pla
   by_action SystemCall e stays k = plain (rw e tt) k
   by_action Breakpoint e stays k = plain (rw e tt) k
 
--- at a state where the symbol machine has an instruction that isn't left out
+-- the pc of state s is at an instruction that isn't left out of the output
 pub kept_at : (r : Rewrite) (L : ℕ → ℕ → Type 0) → Facts r L → (s : SymState) (p : Placed) →
     placed_at r.code.funcs s.pc ≡ Some p →
     may_be_left_out (action_at p) ≡ false → Kept r L s (step_of r p s)

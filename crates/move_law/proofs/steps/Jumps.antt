@@ -21,7 +21,7 @@ use Rattle.move_law.proofs.values.Arithmetic.{Symbols}
 use Rattle.move_law.proofs.steps.Outcomes.{Follows, needs_found, goes_follows, gives_follows}
 
 module _ (r : Rewrite) (L : ℕ → ℕ → Type 0) (s : SymState) (u : ByteState) (rel : RelatedData r s u) where
-  -- A branch that goes to a place where its test holds, as wanted, else to another.
+  -- A branch with the same condition: control goes to the target if its test has the wanted result, otherwise to the next instruction.
   pub same_branch : (next target from to : ℕ) (wanted : Bool) (o : Option Bool) (t : Bool) → IfSome o (λ x. t ≡ x) →
       RelatedPc r L next from → RelatedPc r L target to →
       Follows r L (symbol.branches s next target wanted o) (byte.branches u from to (if wanted then t else not t))
@@ -32,7 +32,7 @@ module _ (r : Rewrite) (L : ℕ → ℕ → Type 0) (s : SymState) (u : ByteStat
   same_branch next target from to false (Some true) t is go jump = rw is (goes_follows r L s u next from None rel go)
   same_branch next target from to false (Some false) t is go jump = rw is (goes_follows r L s u target to None rel jump)
 
-  -- one of the opposite condition
+  -- a branch with the opposite condition
   pub opposite_branch : (next target from to : ℕ) (wanted : Bool) (o : Option Bool) (t : Bool) → IfSome o (λ x. t ≡ x) →
       RelatedPc r L next to → RelatedPc r L target from →
       Follows r L (symbol.branches s next target wanted o) (byte.branches u from to (if not wanted then t else not t))
@@ -54,7 +54,7 @@ module _ (r : Rewrite) (L : ℕ → ℕ → Type 0) (s : SymState) (u : ByteStat
   even_half : (n : ℕ) → n % 2 ≡ 0 → n / 2 * 2 ≡ n
   even_half n e = omega (arith, e)
 
-  -- A jump through a register: v is where it goes, and a the address that the byte machine takes.
+  -- A jump through a register: v is the value to which it goes, and a the address that the byte machine computes.
   pub jumps_to : (part : Role) (rd base offset a end : ℕ) (o : Option Value) → Symbols r →
       end ≡ number_of_pointer r (Ret s.pc) → ((k : ℕ) → rd ≡ suc k → IsGivenPointer r (Ret s.pc)) →
       ((v : Value) (p : Pointer) → o ≡ Some v → v ≡ Sym (Points p) → is_lower part || offset == 0 ≡ true → StandsFor r v a) →

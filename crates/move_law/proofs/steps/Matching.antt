@@ -1,5 +1,5 @@
--- A step of the symbol machine that doesn't stick is matched by at most three of the byte machine: two jumps may come
--- before and after the instruction that stands for its own.
+-- A step of the symbol machine that isn't stuck is matched by at most three steps of the byte machine: one jump may come before and one
+-- after the output's instruction for it.
 use Rattle.std.proofs.Common.{◌≡◌, ℕ, zero, suc, ◌%◌, ◌<◌, ◌≤◌, [], Option, Some, None, Bool, true, false, refl, sym, ap, ◌∙◌}
 use Rattle.std.proofs.Common.{subst, arith, ℤ}
 use Rattle.std.specs.Prelude.{if◌then◌else◌, ◌==◌, Contains, unwrap_or}
@@ -28,7 +28,7 @@ use Rattle.move_law.proofs.steps.Premises.{may_be_left_out, Facts}
 use Rattle.move_law.proofs.steps.Instructions.{Kept, step_of, kept_at}
 use Rattle.move_law.proofs.code.InstLists.{found_at}
 
--- Which instructions may be left out.
+-- Instructions that may be left out.
 
 pub data MayBeLeftOut (a : Action) : Type 0 where
   left_out : (imm : ℤ) → a ≡ Jump 0 imm → MayBeLeftOut a
@@ -39,12 +39,12 @@ by_leaving_out (Jump zero imm) = left_out imm refl
 by_leaving_out (Jump (suc rd) imm) = stays refl
 by_leaving_out _ = stays refl
 
--- a jump that saves nothing goes to its target and changes nothing else
+-- a jump that saves no return address changes only the pc
 pub jump_goes : (r : Rewrite) (p : Placed) (s : SymState) (imm : ℤ) → action_at p ≡ Jump 0 imm →
     step_of r p s ≡ Going (record s { pc = plus s.pc (unsigned64 imm) }) None
 jump_goes r p s imm e = rw e refl
 
--- The code of the output in a state.
+-- The output's code in a state.
 
 pub code_of : (r : Rewrite) → ((a : ℕ) → IsCodeByte r.output a → a < address_end) → (c : SymState) (b : ByteState) →
     RelatedData r c b → HasCode r.output b
@@ -69,7 +69,7 @@ IsMatched r b (Halts p why) = Unit {0}
 
 module _ (r : Rewrite) (low : (a : ℕ) → IsCodeByte r.output a → a < address_end) (c : SymState) (b : ByteState)
     (rel : RelatedData r c b) (even : b.pc % 2 ≡ 0) (goes : Goes r.output b.pc (out r c.pc)) where
-  -- where an instruction was left out, control goes from its place
+  -- if an instruction was left out, control goes on from its new address
   left_out_matched : (q : ℕ) → Goes r.output (out r c.pc) (out r q) → IsMatched r b (Going (record c { pc = q }) None)
   left_out_matched q there =
       let a = arrive r.output b (out r c.pc) (code_of r low c b rel) even goes in
@@ -113,7 +113,7 @@ module _ (r : Rewrite) (low : (a : ℕ) → IsCodeByte r.output a → a < addres
           by (Ended j) (Going u g) step f = absurd f
           by (Ended j) (Halts q why) step f = absurd f
 
--- what is known of a faithful rewrite's instructions
+-- the facts of a faithful rewrite's instructions
 pub record RewriteFacts (r : Rewrite) : Type 0 where
   pub facts : Facts r (Goes r.output)
   pub every : (p : Placed) → Contains (insts_of r.code.funcs) p → KeepsInst r (Goes r.output) p

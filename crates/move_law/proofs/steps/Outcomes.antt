@@ -1,4 +1,4 @@
--- States that are related but for their pcs, what steps come to, and how it is shown that one outcome follows another.
+-- States that are related except for their pcs, outcomes of steps, and lemmas for showing that one outcome follows another.
 use Rattle.std.proofs.Common.{◌≡◌, ℕ, zero, suc, ◌<◌, ◌≤◌, List, length, Option, Some, None, Bool, true, false, refl, sym, ap, ◌∙◌, arith}
 use Rattle.std.specs.Prelude.{◌||◌, nat_le, nat_lt}
 use Rattle.std.proofs.lemmas.Bool.{and_parts, leb-true, ltb-true, ne_eqb}
@@ -19,18 +19,18 @@ use Rattle.elf_image.specs.memory.Executables.{memory_of}
 use Rattle.move_law.specs.SimulationRelation.{StandsFor, StandsForByte, RelatedData, RelatedPc}
 use Rattle.rv_code.proofs.machine.RelatedMemory.{Alike, set_alike, bytes_alike, put_alike, put_keeps, all_may_implied}
 
--- What the two files give a program.
+-- The rights that the two files give a program.
 pub record SameSpaces (r : Rewrite) : Type 0 where
   pub reads : (a : ℕ) → (space_of r.input.segments.items).reads a ≡ true → (space_of r.output.segments).reads a ≡ true
   pub writes : (a : ℕ) → (space_of r.input.segments.items).writes a ≡ true → (space_of r.output.segments).writes a ≡ true
   pub break_start_is : break_start r.input.segments.items ≡ break_start r.output.segments
   pub break_bound_is : break_bound r.input.segments.items ≡ break_bound r.output.segments
-  -- what the output loads and may not be written is no place that the program may write, and no place of the break
+  -- a byte that the output loads and that may not be written is at no address that the input's program may write, nor in the break's range
   pub fixed : (a byte : ℕ) → is_loaded_with PF_W r.output.segments a ≡ false → memory_of r.output a ≡ Some byte →
       ((space_of r.input.segments.items).writes a ≡ true → ⊥)
       × (break_start r.output.segments ≤ a → a < break_bound r.output.segments → ⊥)
 
--- an outcome of the byte machine keeps one of the symbol machine
+-- an outcome of the byte machine follows an outcome of the symbol machine
 abbrev pub Follows : Rewrite → (ℕ → ℕ → Type 0) → SymOutcome → ByteOutcome → Type 0
 Follows r L (Halts p why) o = Unit {0}
 Follows r L (Going d e) (Going t f) = (e ≡ f) × RelatedData r d t × RelatedPc r L d.pc t.pc
@@ -42,7 +42,7 @@ Follows r L (Ended j) (Halts p why) = ⊥
 
 -- Conditions.
 
--- the same, with how the value was found
+-- a condition that needs a value, with the equation for the value
 pub needs_found : {A : Type 0} (r : Rewrite) (L : ℕ → ℕ → Type 0) (s : SymState) (why : Reason) (o : Option A)
     (rest : A → SymOutcome) (b : ByteOutcome) → ((x : A) → o ≡ Some x → Follows r L (rest x) b) →
     Follows r L (needs s why o rest) b
@@ -99,7 +99,7 @@ module _ (r : Rewrite) (spaces : SameSpaces r) (c : SymState) (b : ByteState) (r
       by false e =
           let g : in_break b a ≡ true = sym (in_break_same a) ∙ (rw e at may) in or_last (b.space.writes a) (in_break b a) g
 
-  -- what may not be written isn't
+  -- a byte that may not be written isn't written
   pub fixed_not_written : (a byte : ℕ) → is_loaded_with PF_W r.output.segments a ≡ false →
       memory_of r.output a ≡ Some byte → may_write c a ≡ true → ⊥
   fixed_not_written a byte e h may = by (c.space.writes a) refl
@@ -119,7 +119,7 @@ module _ (r : Rewrite) (spaces : SameSpaces r) (c : SymState) (b : ByteState) (r
           (spaces.fixed a byte e h).1 (rw (sym start_is) from)
           (rw (sym bound_is) (lt_le a b.program_break b.space.break_bound to fits))
 
-  -- Loads read related cells.
+  -- Loads read related bytes.
   pub reads_alike : (a n : ℕ) → all_may (may_read c) a n ≡ true →
       Alike (StandsForByte r) (memory_bytes c.memory a n) (memory_bytes b.memory a n)
   reads_alike a n can =
@@ -149,7 +149,7 @@ module _ (r : Rewrite) (spaces : SameSpaces r) (c : SymState) (b : ByteState) (r
         ∙ rel.loaded x byte e h;
   }
 
--- the other pcs don't matter
+-- the relation doesn't depend on the pcs
 pub moved_data : (r : Rewrite) (c : SymState) (b : ByteState) (p q : ℕ) → RelatedData r c b →
     RelatedData r (record c { pc = p }) (record b { pc = q })
 moved_data r c b p q rel =

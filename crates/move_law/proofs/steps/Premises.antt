@@ -1,5 +1,5 @@
--- What the simulation of one step takes from the two files and the map: the interface between the facts of files and the cases
--- of instructions.
+-- What the simulation of one step needs of the two files and the map: the interface between the facts of files and the cases of
+-- instructions.
 use Rattle.std.proofs.Common.{◌≡◌, ℕ, zero, ◌<◌, ◌^◌, Bool, true, false}
 use Rattle.std.specs.Prelude.{Contains}
 use Rattle.rv_code.specs.declared.inst.Inst.{Inst}
@@ -24,7 +24,7 @@ pub record UpperFits (r : Rewrite) (a target : ℕ) : Type 0 where
   pub low : out r a < 2 ^ 31
   pub label : Label r target
 
--- a lower part and its AUIPC, where that has a target
+-- a lower part and its AUIPC, if the AUIPC has a target
 pub record LowerFits (r : Rewrite) (hi target : ℕ) : Type 0 where
   pub label : Label r target
   pub same : IsGiven r (Hi hi) → (target_at r.code.funcs hi ≡ target) × (out r hi < 2 ^ 31)
@@ -38,12 +38,12 @@ Fits r a (role.CallLo hi target) inst = TakesLower inst × LowerFits r hi target
 Fits r a (role.AbsHi target) inst = IsLui inst × IsGiven r (Abs target) × Label r target
 Fits r a (role.AbsLo target) inst = TakesLower inst × IsNamed r.code target × Label r target
 
--- a JAL that saves nothing may be left out
+-- a JAL that saves no return address may be left out
 abbrev pub may_be_left_out : Action → Bool
 may_be_left_out (Jump zero imm) = true
 may_be_left_out _ = false
 
--- L says from which place of the output control gets to which other one.
+-- L relates two addresses of the output if control gets from the first to the second.
 pub record Facts (r : Rewrite) (L : ℕ → ℕ → Type 0) : Type 0 where
   pub symbols : Symbols r
   pub spaces : SameSpaces r

@@ -1,4 +1,4 @@
--- Runs are kept, where starts are related, and steps and endings are matched.
+-- Runs are kept if starts are related, and if steps and endings are matched.
 use Rattle.std.proofs.Common.{ℕ, ◌+◌, ◌*◌, ◌≤◌, List, subst, arith}
 use Rattle.std.proofs.lemmas.List.{append-nil}
 use Rattle.rv_code.specs.machine.Machine.{Event, SoFar, starts, more}

@@ -82,7 +82,7 @@ of_eight v (suc (suc (suc (suc (suc (suc zero)))))) h = omega arith
 of_eight v (suc (suc (suc (suc (suc (suc (suc zero))))))) h = omega arith
 of_eight v (suc (suc (suc (suc (suc (suc (suc (suc i)))))))) h = absurd (omega (arith, h))
 
--- a right of a program whose break has no room, outside the stack, is one of what is loaded
+-- if the break has no room, a right outside the stack is a right to a loaded byte
 flags : (reads writes executes stack break : Bool) → stack ≡ false → break ≡ false →
     ((reads || stack) || break) || ((writes || stack) || break) || executes ≡ true →
     (reads ≡ true) ⊎ ((writes ≡ true) ⊎ (executes ≡ true))
@@ -112,7 +112,7 @@ module _ (r : Rewrite) (keeps : KeepsCode r) (args : List (List ℕ)) (fit : Fit
   pub entry_named : IsNamed r.code r.input.entry
   entry_named = record { code_address = entry_code; held = by_entry keeps.accepted.code_is.entry }
 
-  -- the entry point's bytes
+  -- the bytes of the entry point
   entry_cell_is : (i n : ℕ) → i < 8 → n ≡ out r r.input.entry / 256 ^ i % 256 →
       StandsForByte r (SymbolByte (Points (Code r.input.entry)) 8 i) n
   entry_cell_is i n h e =
@@ -121,7 +121,7 @@ module _ (r : Rewrite) (keeps : KeepsCode r) (args : List (List ℕ)) (fit : Fit
       one_byte : (m : ℕ) → m % 256 ≡ m % 256 ^ 1
       one_byte m = omega arith
 
-  -- on the stack
+  -- the numbers on the stack
   in_numbers : (a : ℕ) → stack_pointer args ≤ a → a < stack_pointer args + 8 * (count args + 17) →
       start_memory r.output.file args a ≡ get_or (stack_of args (table_address r.output.file) (e_phnum r.output.file)
       (e_entry r.output.file)) (a - stack_pointer args) 0
@@ -188,7 +188,7 @@ module _ (r : Rewrite) (keeps : KeepsCode r) (args : List (List ℕ)) (fit : Fit
           subst (λ (q : Range). is_in_range a q ≡ true → StandsForByte r (byte_of_entry r.input a q)
           (start_memory r.output.file args a)) same (entry_on_the_stack a) e
 
-  -- cells
+  -- the bytes of code cells
   cell_stands : (a : ℕ) (cell : CodeCell) → Contains r.code.cells cell → is_in_range a (code_cell_range cell) ≡ true →
       StandsForByte r (byte_of_cell a cell) (start_memory r.output.file args a)
   cell_stands a cell is_in e =
@@ -255,7 +255,7 @@ module _ (r : Rewrite) (keeps : KeepsCode r) (args : List (List ℕ)) (fit : Fit
       byte_of_width v w i (inl e) h = rw e (of_four v i (omega (arith, h, e)))
       byte_of_width v w i (inr e) h = rw e (of_eight v i (omega (arith, h, e)))
 
-  -- all other bytes are as they were
+  -- all other bytes are unchanged
 
   at_entry_none : (a : ℕ) → find (is_in_range a) (entry_fields r.input args) ≡ None → is_in_range a (at_entry args) ≡ true → ⊥
   at_entry_none a none e =

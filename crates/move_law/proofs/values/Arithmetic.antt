@@ -1,4 +1,4 @@
--- What operations give for values stands for what they give for their numbers.
+-- The result of an operation on values is represented by its result on their numbers.
 use Rattle.std.proofs.Common.{◌≡◌, ◌≢◌, ℕ, zero, suc, ◌-◌, ◌%◌, ◌^◌, ◌<◌, ◌≤◌, Option, Some, None, Bool, true, false, refl, sym}
 use Rattle.std.proofs.Common.{ap, ◌∙◌, subst, arith}
 use Rattle.std.specs.Prelude.{if◌then◌else◌, ◌==◌, ◌&&◌, not, nat_lt, IfSome, bit_and}
@@ -36,19 +36,19 @@ use Rattle.move_law.specs.Rewrite.{Rewrite, out}
 use Rattle.move_law.specs.RelocatedValues.{distance, number_of_pointer, number_of_symbol}
 use Rattle.move_law.specs.SimulationRelation.{IsGivenPointer, IsGiven, StandsFor}
 
--- A pointer's number: an even place that isn't 0, and low.
+-- A pointer's number: an even address that is low and isn't 0.
 pub record IsPlace (n : ℕ) : Type 0 where
   pub above : 0 < n
   pub even : n % 2 ≡ 0
   pub low : n < 2 ^ 31
 
--- An address that a role or a cell names: a pointer if it is a code address, else a number.
+-- An address that a role or a cell names: a pointer if it is a code address, otherwise a number.
 pub record Label (r : Rewrite) (t : ℕ) : Type 0 where
   pub fits : out r t < 2 ^ 31
   pub named : is_code_address r.code.funcs t ≡ true → IsNamed r.code t
   pub stays : is_code_address r.code.funcs t ≡ false → out r t ≡ t
 
--- What is known of the numbers of the symbols that the input gives.
+-- Facts of the numbers of the symbols that can occur in a run of the input.
 pub record Symbols (r : Rewrite) : Type 0 where
   pub place : (p : Pointer) → IsGivenPointer r p → IsPlace (number_of_pointer r p)
   pub code_once : (a b : ℕ) → IsGivenPointer r (Code a) → IsGivenPointer r (Code b) →
@@ -63,7 +63,7 @@ pub record Symbols (r : Rewrite) : Type 0 where
   pub nonzero : (y : CodeSymbol) → IsSymbol y → IsGiven r y → is_nonzero (Sym y) ≡ true → 0 < number_of_symbol r y
   pub value_fits : (v : Value) (x : ℕ) → StandsFor r v x → ((n : ℕ) → v ≡ Num n → ⊥) → x < 2 ^ 64
 
--- a test on two numbers is a test on two others
+-- two numbers are equal exactly if two others are
 same_test : (a b x y : ℕ) → (x ≡ y → a ≡ b) → (a ≡ b → x ≡ y) → (x == y) ≡ (a == b)
 same_test a b x y f g = cases (x == y) refl (a == b) refl
   where
@@ -83,7 +83,7 @@ label_stands r t l = by (is_code_address r.code.funcs t) refl
     by true e = record { value = tt; given = l.named e; number = refl }
     by false e = record { value = tt; given = tt; number = l.stays e }
 
--- what is the value of a label has its number
+-- a value of a label has the label's number
 label_number : (r : Rewrite) (t : ℕ) (w : Value) (z : ℕ) → Label r t → StandsFor r w z →
     is_value_of r.code.funcs t w ≡ true → z ≡ out r t
 label_number r t (Num n) z l is e =
@@ -135,7 +135,7 @@ copied_stands r v (Num n) x y h k fits =
 copied_stands r v (Sym z) x y h k fits = tt
 copied_stands r v (Piece z i j m g) x y h k fits = tt
 
--- the distance and what it was taken from
+-- the distance plus the address from which it was measured
 diff_back : (a b : ℕ) → a < 2 ^ 31 → b < 2 ^ 31 → a ≡ plus (unsigned64 (distance a b)) b
 diff_back a b h k = omega (arith, ints, h, k)
 
@@ -171,7 +171,7 @@ sum_stands r f v w x y h k fits_x fits_y =
     (either r (copied v w) (copied w v) (plus x y) (copied_stands r v w x y h k fits_x)
     (if_number r (copied w v) (plus y x) (plus x y) (plus_turned x y) (copied_stands r w v y x k h fits_y))))
 
--- Pointers that are compared.
+-- Comparing pointers.
 
 no_difference : (x y : ℕ) → x < 2 ^ 31 → x ≡ y → apply op.Sub x y ≡ 0
 no_difference x y h e = omega (arith, h, e)
@@ -257,7 +257,7 @@ below_one r f v n x h = only_stands r (n == 1 && is_nonzero v) (Num 0) (apply op
     let one : n ≡ 1 = eqb-true n 1 parts.0 in
     record { value = tt; given = tt; number = flag_ge x n (omega (arith, p, one)) })
 
--- of an operation on two registers
+-- an operation on two registers
 pub on_registers_stands : (r : Rewrite) → Symbols r → (o : Op) (v w : Value) (x y : ℕ) → StandsFor r v x →
     StandsFor r w y → IfSome (on_registers r.code.funcs o v w) (λ u. StandsFor r u (apply o x y))
 on_registers_stands r f o (Num a) (Num b) x y h k = rw (h.number, k.number) (number_stands r (apply o a b))
@@ -275,7 +275,7 @@ on_registers_stands r f op.Sub (Sym (Points p)) (Sym (Points q)) x y h k = compa
 on_registers_stands r f op.Xor (Sym (Points p)) (Sym (Points q)) x y h k = compared_by_stands r f Xor p q x y h k
 on_registers_stands r f _ _ _ x y h k = tt
 
--- of register 0 and another
+-- an operation on register 0 and another register
 pub on_zero_stands : (r : Rewrite) → Symbols r → (o : Op) (v w : Value) (x y : ℕ) → x ≡ 0 → StandsFor r v x →
     StandsFor r w y → IfSome (on_zero r.code.funcs o v w) (λ u. StandsFor r u (apply o x y))
 on_zero_stands r f op.Sltu v w x y zero_is h k = cases (is_nonzero w) refl
@@ -288,7 +288,7 @@ on_zero_stands r f op.Sltu v w x y zero_is h k = cases (is_nonzero w) refl
     cases false e = on_registers_stands r f op.Sltu v w x y h k
 on_zero_stands r f o v w x y zero_is h k = on_registers_stands r f o v w x y h k
 
--- of a register and a constant
+-- an operation on a register and a constant
 pub on_constant_stands : (r : Rewrite) → Symbols r → (o : Op) (v : Value) (n x : ℕ) → StandsFor r v x →
     IfSome (on_constant o v n) (λ u. StandsFor r u (apply o x n))
 on_constant_stands r f o (Num a) n x h = rw h.number (number_stands r (apply o a n))
@@ -299,7 +299,7 @@ on_constant_stands r f op.Sltu (Piece z i j m g) n x h = below_one r f (Piece z 
 on_constant_stands r f op.And (Sym (Points p)) n x h = masked_stands r f p n x h
 on_constant_stands r f _ _ n x h = tt
 
--- by the operands
+-- an operation by its operands
 pub combined_stands : (r : Rewrite) → Symbols r → (registers : ℕ → Value) (b : ByteState) → registers 0 ≡ Num 0 →
     ((i : ℕ) → StandsFor r (registers i) (b.registers i)) → (o : Op) (left right : Operand) →
     IfSome (combined r.code.funcs registers o left right) (λ u. StandsFor r u (apply o (operand b left) (operand b right)))

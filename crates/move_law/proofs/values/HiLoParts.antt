@@ -27,7 +27,7 @@ imm_i_lower w = signed_lower (field w 20 12) (omega arith)
 pub imm_s_lower : (w : ℕ) → IsLower (imm_s w)
 imm_s_lower w = signed_lower (field w 25 7 * 2 ^ 5 + field w 7 5) (omega arith)
 
--- a number of 12 bits above a multiple
+-- a number whose distance from a multiple of 4096 is 0 to 4095
 shr_of : (w z : ℤ) → pos 0 ≤ℤ (w -ℤ pos 4096 *ℤ z) → (w -ℤ pos 4096 *ℤ z) ≤ℤ pos 4095 → int_shr w 12 ≡ z
 shr_of (pos a) (pos b) low high = ap pos (omega (arith, ints, low, high))
 shr_of (negsuc a) (negsuc b) low high = ap negsuc (omega (arith, ints, low, high))

@@ -1,5 +1,5 @@
--- Values in memory: what is stored of a value stands for the bytes of its number, and what is loaded of cells for the number
--- of their bytes.
+-- Values in memory: the bytes that a store writes of a value are represented by the bytes of its number, and the value that a load reads is
+-- represented by the number of its bytes.
 use Rattle.std.proofs.Common.{◌≡◌, ℕ, zero, suc, ◌+◌, ◌-◌, ◌*◌, ◌/◌, ◌%◌, ◌^◌, ◌<◌, ◌≤◌, List, [], ◌∷◌, length, Option, Some}
 use Rattle.std.proofs.Common.{None, Bool, true, false, refl, sym, ap, ◌∙◌, arith, pos, negsuc, inl, inr, ◌⊎◌, div-one}
 use Rattle.std.specs.Prelude.{if◌then◌else◌, ◌==◌, ◌&&◌, nat_le, nat_lt, IfSome, map, option_map}
@@ -63,7 +63,7 @@ same_symbol-true (Apart b p q) (Apart c s t) e =
     cc
 same_symbol-true _ _ e = absurd (cc)
 
--- one byte on
+-- the next byte of a number
 next_byte : (x m i : ℕ) → x ≡ m / 256 ^ i → x / 256 ≡ m / 256 ^ suc i
 next_byte x m i e = let p : 256 ^ suc i ≡ 256 ^ i * 256 = grind arith in rw (e, p) (div-div-eq-div-mul m (256 ^ i) 256)
 
@@ -179,7 +179,7 @@ small32 x h = by (nat_lt x 2147483648) refl
 signed32 : (m : ℕ) → unsigned64 (cast_signed w32 (m % 256 ^ 4)) % 4294967296 ≡ m % 4294967296
 signed32 m = small32 (m % 256 ^ 4) (omega arith) ∙ omega arith
 
--- the low bytes of a piece are those of what it is a piece of
+-- the low bytes of a piece are bytes of the number of its symbol
 low_of_piece : (n k m : ℕ) (e : Signedness) → n ≤ k → (k ≡ 1) ⊎ ((k ≡ 2) ⊎ (k ≡ 4)) →
     extended (extension_of k e) (m % 256 ^ k) % 256 ^ n ≡ m % 256 ^ n
 low_of_piece n k m Signed h (inl e) =
@@ -214,7 +214,7 @@ stored_stands r f n (Piece y w i k e) x size h = cases (nat_le n k) refl
 
 -- Loads.
 
--- bytes that stand for parts of a symbol are its bytes
+-- bytes that represent parts of a symbol are the bytes of its number
 parts_bytes : (r : Rewrite) (y : CodeSymbol) (w i x : ℕ) (cs : List MemoryByte) (bs : List ℕ) →
     x ≡ number_of_symbol r y / 256 ^ i → Alike (StandsForByte r) cs bs → are_symbol_bytes y w i cs ≡ true →
     bs ≡ low_bytes (length cs) x
@@ -237,7 +237,7 @@ parts_bytes r y w i x (SymbolByte z v j ∷ cs) (b ∷ bs) e h p =
     one_byte : (m : ℕ) → m % 256 ^ 1 ≡ m % 256
     one_byte m = omega arith
 
--- they end within its width
+-- the parts are within the symbol's width
 parts_inside : (r : Rewrite) (y : CodeSymbol) (w i : ℕ) (cs : List MemoryByte) (bs : List ℕ) → i ≤ w →
     Alike (StandsForByte r) cs bs → are_symbol_bytes y w i cs ≡ true → i + length cs ≤ w
 parts_inside r y w i [] bs inside h p = omega (arith, inside)
