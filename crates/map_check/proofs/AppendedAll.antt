@@ -1,4 +1,4 @@
--- What holds of all of two lists holds of each.
+-- A property of all items of two lists, after one another, holds for each list.
 use Rattle.std.proofs.Common.{List, [], ◌∷◌, ◌++◌, All}
 use Rattle.std.proofs.lemmas.List.Elements.{All-nil, All-cons, All-head, All-tail}
 

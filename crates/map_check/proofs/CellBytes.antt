@@ -1,4 +1,4 @@
--- Bytes of code cells that share none: of the cells up to an address, only the last can have its byte.
+-- Bytes of code cells that share no byte: of the cells that start at or below an address, only the last can have its byte.
 use Rattle.std.proofs.Common.{◌≡◌, ◌∙◌, ◌+◌, ◌-◌, ◌<◌, ◌≤◌, ◌⊎◌, ℕ, Bool, false, List, inl, inr, ⊎_elim, arith, get_or}
 use Rattle.std.proofs.Common.{length, refl, ap, sym}
 use Rattle.std.specs.Prelude.{nat_le, nat_lt}
@@ -18,7 +18,7 @@ module _ (a : ℕ) where
   has : CodeCell → Bool
   has c = is_in_range a (code_cell_range c)
 
-  -- a cell above the address, and one that ends below it
+  -- a cell that starts above the address, and one that ends at or below it
   not_in : (c : CodeCell) → (a < c.addr) ⊎ (c.addr + c.width ≤ a) → has c ≡ false
   unfolding has
   not_in c out = false_from_ne_true (is_in_range a (code_cell_range c)) (λ is.

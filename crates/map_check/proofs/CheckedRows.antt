@@ -1,4 +1,4 @@
--- Single instructions of a rewrite, by what a check found.
+-- Single instructions of a rewrite, by what a check found for them.
 use Rattle.std.proofs.Common.{◌≡◌, ◌≢◌, ◌<◌, ◌≤◌, ◌∙◌, ℕ, ℤ, Bool, true, false, not, List, length, get_or, refl, ap, sym, subst, arith}
 use Rattle.std.proofs.Common.{⊎_elim, ◌↔◌, Option, Some, None, IfSome, IsTrue, unwrap_or, option_map, if◌then◌else◌, find, rules}
 use Rattle.std.proofs.lemmas.Bool.{cases_lt, cases_eq}
@@ -101,7 +101,7 @@ module _ (r : Rewrite) (output : Elf) (table : List Span) (ch : IsChecked r outp
     pub no_inst_there : (s : Span) → find (is_of p.addr) table ≡ Some s → FindsAt x s.out None → (inst : Inst) → HasInSpan r p inst → ⊥
     no_inst_there s found none inst has = none inst (to_x s inst found has.has)
 
-    -- the span of an input is the one that is found
+    -- the span with an input is the one that is looked up
     one_span : (s : Span) → find (is_of p.addr) table ≡ Some s → (k : ℕ) (t : Span) → k < length r.spans → get_or r.spans k t ≡ t →
         t.input ≡ p.addr → t.len ≡ s.len
     one_span s found k t within at input =
@@ -227,7 +227,7 @@ module _ (r : Rewrite) (output : Elf) (table : List Span) (ch : IsChecked r outp
             act2 in
             let alike : w ≡ wanted = cc in absurd (sense alike)
 
-  -- All others.
+  -- All other instructions.
   module _ (p : Placed) where
     made_same : made_anew (new table) p.addr p.role p.inst ≡ made_anew (out r) p.addr p.role p.inst
     made_same = ap (λ (f : ℕ → ℕ). made_anew f p.addr p.role p.inst) (λ i a. new_is a i)

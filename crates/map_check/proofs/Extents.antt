@@ -1,4 +1,4 @@
--- Spans that share bytes, found by their bytes as ranges.
+-- Spans that share bytes, found by their byte ranges.
 use Rattle.std.proofs.Common.{◌≡◌, ◌≢◌, ◌<◌, ◌≤◌, ◌+◌, ◌∙◌, ℕ, List, [], ◌∷◌, ◌++◌, length, get_or, arith, refl, ap, sym, subst}
 use Rattle.std.proofs.Common.{inl, inr, ⊎_elim, Option, Some, None, IsSomeAnd, IsTrue, rules}
 use Rattle.std.specs.Prelude.{Contains, nat_lt, nat_le}

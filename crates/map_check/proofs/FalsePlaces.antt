@@ -1,4 +1,4 @@
--- A faithful rewrite has no place at which a clause is false. So a check's two answers exclude each other.
+-- For a faithful rewrite no clause is false at any place. So the two results of a check exclude each other.
 use Rattle.std.proofs.Common.{◌≡◌, ℕ, Option, Some, None, IfSome}
 use Rattle.elf_image.specs.memory.LoadedBytes.{address_of}
 use Rattle.rv_code.specs.machine.MemoryNumbers.{number_in}

@@ -1,4 +1,5 @@
--- Sorted spans against ascending addresses: the first difference is the lowest address that hasn't as many spans as it should.
+-- Sorted spans compared with ascending addresses: the first difference is the lowest address that doesn't have the number of spans that it
+-- should have.
 use Rattle.std.proofs.Common.{◌≡◌, ◌≢◌, ◌<◌, ◌≤◌, ◌+◌, ◌∙◌, ℕ, suc, Bool, true, false, List, [], ◌∷◌, ◌++◌, length, get_or, arith, refl, ap}
 use Rattle.std.proofs.Common.{sym, subst, cond}
 use Rattle.std.proofs.Common.{inl, inr, ⊎_elim, Option, Some, None, IfSome, IsSomeAnd, All, map, min, find, is_some, rules}
@@ -20,12 +21,12 @@ use Rattle.addr_map.specs.Spans.{is_of}
 use Rattle.map_check.specs.internal.SpanLists.{first_difference, addresses}
 use Rattle.map_check.proofs.SpanCounts.{count-yes, count-no}
 
--- spans in the order of their inputs, from an address on
+-- spans in order of their inputs, the first of which is at least `low`
 Rises : ℕ → List Span → Type 0
 Rises low [] = Unit {0}
 Rises low (s ∷ spans) = (low ≤ s.input) × Rises s.input spans
 
--- addresses that ascend, each above the one before it, from one on
+-- ascending addresses, the first of which is at least `low`
 Climbs : ℕ → List ℕ → Type 0
 Climbs low [] = Unit {0}
 Climbs low (a ∷ bs) = (low ≤ a) × Climbs (a + 1) bs
@@ -51,7 +52,7 @@ not_in low a (b ∷ bs) climbs below =
     let from : low ≤ b = climbs.0 in
     ap (λ t. t || is_in a bs) (ne_eqb b a (λ e. omega (arith, e))) ∙ not_in (b + 1) a bs climbs.1 (omega arith)
 
--- What the first difference of spans and addresses says.
+-- The meaning of the first difference of spans and addresses.
 pub record IsFirstOf (spans : List Span) (bs : List ℕ) (o : Option ℕ) : Type 0 where
   pub differs : IfSome o (λ p. count_by (is_of p) spans ≢ one_if (is_in p bs))
   pub same : (a : ℕ) → (IsSomeAnd o (λ p. p ≤ a) → ⊥) → count_by (is_of a) spans ≡ one_if (is_in a bs)
@@ -59,7 +60,7 @@ pub record IsFirstOf (spans : List Span) (bs : List ℕ) (o : Option ℕ) : Type
 in_cons : (a b : ℕ) (bs : List ℕ) (t : Bool) → (b == a) ≡ t → one_if (is_in a (b ∷ bs)) ≡ one_if (t || is_in a bs)
 in_cons a b bs t is = ap (λ u. one_if (u || is_in a bs)) is
 
--- one more pair of the same address
+-- a pair of a span and an address that are equal is added
 first_same : (s : Span) (b : ℕ) (spans : List Span) (bs : List ℕ) (o : Option ℕ) → s.input ≡ b → Climbs (b + 1) bs →
     IsFirstOf spans bs o → IsFirstOf (s ∷ spans) (b ∷ bs) o
 first_same s b spans bs o at climbs is = record { differs = differs o is.differs; same = same }
@@ -100,7 +101,7 @@ first_same s b spans bs o at climbs is = record { differs = differs o is.differs
         count-no (is_of a) s spans h.0 ∙ is.same a below ∙ sym (in_cons a b bs false h.1))
         (cases_eq a b)
 
--- a span below all addresses, or an address below all spans
+-- the first span is below all addresses, or the first address is below all spans
 first_span : (s : Span) (spans : List Span) (bs : List ℕ) → Rises s.input spans → Climbs (s.input + 1) bs →
     IsFirstOf (s ∷ spans) bs (Some s.input)
 first_span s spans bs rises climbs = record {
@@ -167,7 +168,7 @@ difference_is low high (s ∷ spans) (b ∷ bs) rises climbs =
         beyond : (b a : ℕ) → b ≤ a → b ≢ a → b + 1 ≤ a
         beyond b a le ne = ⊎_elim (λ (less : b < a). omega arith) (λ (more : a ≤ b). absurd (ne (omega arith))) (cases_lt b a)
 
--- Spans that are sorted, and functions that lie apart.
+-- Sorted spans, and functions that don't overlap.
 
 rises_from : (low : ℕ) (spans : List Span) → IsNonDecreasingBy (λ s. s.input) spans →
     ((d : Span) → 0 < length spans → low ≤ (get_or spans 0 d).input) → Rises low spans
@@ -210,7 +211,7 @@ climbs_funcs low (f ∷ fs) laid from =
     Climbs-from low f.start (addresses (f ∷ fs)) (from f (omega arith))
     (subst (Climbs f.start) (sym (map-append (λ (p : Placed). p.addr) f.insts.items (insts_of fs))) all)
 
--- an instruction starts at an address where it is among the addresses
+-- an instruction starts at an address exactly if it is among the addresses
 code_is_in : (a : ℕ) (ps : List Placed) → is_some (find (λ p. p.addr == a) ps) ≡ is_in a (map (λ p. p.addr) ps)
 code_is_in a [] = refl
 code_is_in a (p ∷ ps) = by (p.addr == a) (code_is_in a ps)

@@ -1,4 +1,4 @@
--- Instructions that are found in the code of an output.
+-- Instructions in the code of an output.
 use Rattle.std.proofs.Common.{◌≡◌, ◌≤◌, ◌+◌, ◌*◌, ◌%◌, ◌^◌, ◌∙◌, ℕ, Bool, true, false, ap, sym, subst, arith}
 use Rattle.std.proofs.Common.{inl, inr, ◌↔◌, Option, Some, None, IfSome, IfNone, IsTrue, unwrap_or, if◌then◌else◌}
 use Rattle.std.specs.Prelude.{◌==◌}
@@ -17,7 +17,7 @@ use Rattle.rv_code.specs.machine.Machine.{plus}
 use Rattle.rv_code.specs.isa.TwosComplement.{unsigned64}
 use Rattle.std.specs.Prelude.{ℤ}
 
--- the width of an instruction is that of its bytes
+-- the width of an instruction, by its first halfword
 pub width_is : (half : ℕ) (next : Option ℕ) (inst : Inst) (bytes : ℕ) → Decodes half next inst bytes →
     bytes ≡ (if half % 4 == 3 then 4 else 2)
 width_is half next inst bytes (inl d) =
@@ -31,7 +31,7 @@ width_is half next inst bytes (inr d) =
     long : (h : ℕ) → h % 4 ≡ 3 → (n : ℕ) → n ≡ 4 → n ≡ (if h % 4 == 3 then 4 else 2)
     long h is n e = e ∙ sym (ap (λ (t : Bool). if t then 4 else 2) (eq-eqb (h % 4) 3 is))
 
--- what the decoder answers
+-- the result of the decoder
 pub decoded : (elf : Elf) (a half next width : ℕ) (o : Option (Inst × ℕ)) → half ≡ halfword_in (memory_of (executable_read elf)) a →
     next ≡ halfword_in (memory_of (executable_read elf)) (a + 2) → width ≡ (if half % 4 == 3 then 4 else 2) →
     AreCodeBytes (executable_read elf) a width →

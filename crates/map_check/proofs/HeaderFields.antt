@@ -1,4 +1,4 @@
--- Hidden fields of a file's headers, by the header in which they stand.
+-- Hidden fields of a file's headers, by the header that has them.
 use Rattle.std.proofs.Common.{◌≡◌, ◌≢◌, ◌∙◌, ◌+◌, ◌*◌, ◌<◌, ◌≤◌, ◌⊎◌, ℕ, Bool, true, false, List, [], ◌∷◌, ◌++◌}
 use Rattle.std.proofs.Common.{⊎_elim, ap, arith, get_or, length, refl, sym}
 use Rattle.std.specs.Prelude.{◌==◌, ◌||◌, flat_map, is_none, is_some, nat_le, nat_lt, not, None, Option, Some}
@@ -14,7 +14,7 @@ use Rattle.elf_image.specs.memory.CodeSegment.{executable_end}
 use Rattle.elf_image.specs.memory.HiddenFields.{hidden_in_segment, is_executable_segment, only, p_offset_field, place_fields, size_fields}
 use Rattle.elf_image.specs.memory.LoadedBytes.{Range, is_in_range}
 
--- Lists of fields, one more at a time.
+-- Lists of fields with one more field.
 
 pub joined : (f : Range → Bool) (xs ys : List Range) (a b : Bool) → a ≡ list_any f xs → b ≡ (a || list_any f ys) →
     b ≡ list_any f (xs ++ ys)
@@ -95,7 +95,7 @@ module _ (elf : Elf) (o : ℕ) where
       get_or-enumerate_from 0 elf.segments.items k (0, d) within
       ∙ ap (λ (n : ℕ). (n, get_or elf.segments.items k d)) (omega arith)
 
-  -- no other header has an offset that one has
+  -- an offset in one program header is in no other one
   far : (i k : ℕ) (p : Segment) → header_at elf i ≤ o → o < header_at elf i + PHDR_SIZE → k ≢ i → has (k, p) ≡ false
   unfolding has
   far i k p low high other = false_from_ne_true (list_any (is_in_range o) (hidden_in_segment elf (k, p))) (λ is.

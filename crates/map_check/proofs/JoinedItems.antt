@@ -1,4 +1,4 @@
--- The lowest instruction of two lists that lacks something.
+-- The lowest instruction that lacks a property, in two lists one after the other.
 use Rattle.std.proofs.Common.{◌≡◌, ◌<◌, ◌≤◌, ◌+◌, ◌∙◌, ℕ, List, ◌++◌, [], ◌∷◌, length, get_or, take, ap, sym, arith, append-nil}
 use Rattle.std.proofs.Common.{inl, inr, ⊎_elim, ◌⊎◌, Option, Some, None, IfSome, IfNone, IsSomeAnd, All, rules}
 use Rattle.std.proofs.lemmas.Bool.{cases_lt}

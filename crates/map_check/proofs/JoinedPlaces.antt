@@ -1,4 +1,4 @@
--- The lower of the lowest places of two sets, each of which is what lacks something.
+-- The lower of the lowest places of two sets of items that lack a property.
 use Rattle.std.proofs.Common.{◌≡◌, ◌<◌, ◌≤◌, ◌⊎◌, ℕ, IfNone, IfSome, IsSomeAnd, None, Option, Some, arith, inl, inr, rules, ⊎_elim}
 use Rattle.std.proofs.lemmas.Bool.{cases_lt}
 use Rattle.elf_image.specs.faults.LowestPlace.{IsLowest, lower}

@@ -1,4 +1,4 @@
--- From what is known of each clause to the verdict.
+-- From the results of the clauses to the verdict.
 use Rattle.std.proofs.Common.{◌≡◌, ◌<◌, ◌≤◌, ◌∙◌, ℕ, suc, All, Bool, IfNone, IsPermutation, List, None, Option, Some, ap, arith, subst, sym}
 use Rattle.std.proofs.Common.{⊎_elim, IsTrue, true, Err, IfOk, Ok, Result}
 use Rattle.std.proofs.lemmas.Bool.{cases_lt}
@@ -83,7 +83,7 @@ module _ (r : Rewrite) where
     lowest = λ p wrong. lowest.least p wrong;
   }
 
-  -- of a clause that is false at one place
+  -- a clause that is false at one place only
   pub first_at : (n : ℕ) (which : Clause) (place : ℕ) → number_of which ≡ suc n → HoldUpTo r n → IsFalseIn r which place →
       ((p : ℕ) → IsFalseIn r which p → p ≡ place) → IsFirstFalse (IsFalseIn r) which place
   first_at n which place is before wrong only = record {
@@ -92,7 +92,7 @@ module _ (r : Rewrite) where
     lowest = λ p other. let same = only p other in omega (arith, same);
   }
 
-  -- The spans in the order of their inputs.
+  -- The spans in order of their inputs.
 
   pub checked : (output : Elf) (table : List Span) → r.output ≡ executable_read output → IsPermutation r.spans table → IsMapOf r →
       IsChecked r output table
@@ -196,7 +196,7 @@ module _ (c : Claim) where
       lowest = λ p wrong. found.lowest p (false_in which p wrong);
     }
 
--- What a check asks of the bytes that may change.
+-- The bytes that may change, in the terms of the code.
 pub changes_of : (r : Rewrite) (input : Elf) (cells : List CodeCell) (tight : Bool) (m : Changes) → r.input ≡ input →
     r.tight ≡ tight → r.code.cells ≡ cells → m.cells.now ≡ cells → AreHeadersOf input tight m.headers → AreChangesOf r m
 changes_of r input cells tight m of is_tight are slice headers = record {
@@ -205,12 +205,12 @@ changes_of r input cells tight m of is_tight are slice headers = record {
       (subst (λ (t : Bool). AreHeadersOf input t m.headers) (sym is_tight) headers);
 }
 
--- Instructions of the functions that a check is given.
+-- Instructions of the functions that a check gets.
 pub judged_of : (P : Placed → Type 0) (fs gs : List Func) (o : Option ℕ) → gs ≡ fs → IsJudgedOf P (insts_of fs) o →
     IsJudgedOf P (insts_of gs) o
 judged_of P fs gs o same judged = subst (λ (hs : List Func). IsJudgedOf P (insts_of hs) o) (sym same) judged
 
--- The clause on the map, as a check is given the code.
+-- The clause on the map, for the code that a check gets.
 
 module _ (funcs : List Func) (roles roles_seen : List (ℕ × Role)) (cells cells_seen : List CodeCell) (entry : ℕ)
     (roles_are : roles_seen ≡ roles) (cells_are : cells_seen ≡ cells) (spans : List Span) where

@@ -1,4 +1,4 @@
--- Cells and the field of the entry point, of which all or none hold their new values.
+-- Cells and the field of the entry point: all hold their new values, or there is a lowest one that doesn't.
 use Rattle.std.proofs.Common.{◌≡◌, ◌≢◌, ◌∙◌, ◌%◌, ◌^◌, ◌↔◌, ℕ, All, Bool, IfNone, IfSome, IsTrue, List, None, Option, Some, ap, false, not}
 use Rattle.std.proofs.Common.{if◌then◌else◌, refl, rules, subst, sym, true, ⊎_elim}
 use Rattle.std.specs.Prelude.{◌==◌}

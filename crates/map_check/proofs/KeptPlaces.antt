@@ -125,7 +125,7 @@ module _ (r : Rewrite) (input output : Elf) (of : AreBytesOf r input output) whe
             (cases_Bool b),
       )
 
-  -- where the byte at one address is kept, so is an equal one at another address of the same segments
+  -- if the byte at one address is kept, so is an equal byte at another address of the same segments
   pub same_kept : (a : ℕ) (from to : Segment) → segment_of input.segments.items a ≡ Some from →
       segment_of output.segments.items a ≡ Some to → IsTrue (loads_address a from) → IsTrue (loads_address a to) → IsKept r a →
       (q : ℕ) → a ≤ q → q < end_of from → q < end_of to →
@@ -159,7 +159,7 @@ module _ (r : Rewrite) (input output : Elf) (of : AreBytesOf r input output) whe
       (zero_past input a q from here loads_in past_in above below_in
       ∙ sym (zero_past output a q to there loads_out past_out above below_out))
 
-  -- equal bytes of the files
+  -- bytes that are equal in both files are kept
   pub bytes_kept : (a n : ℕ) (from to : Segment) (xs ys : List ℕ) → segment_of input.segments.items a ≡ Some from →
       segment_of output.segments.items a ≡ Some to → IsTrue (loads_address a from) → IsTrue (loads_address a to) →
       AreBytesFrom input a xs → AreBytesFrom output a ys → n ≤ length xs → n ≤ length ys →

@@ -1,4 +1,4 @@
--- The rows of JALs, and where control goes on.
+-- The rows of JALs, and how control goes on.
 use Rattle.std.proofs.Common.{◌≡◌, ◌∙◌, ℕ, ℤ, suc, zero, Bool, true, false, not, List, refl, ap, sym, subst, ◌↔◌, IsTrue}
 use Rattle.std.specs.Prelude.{◌==◌}
 use Rattle.std.proofs.lemmas.Bool.{and_parts, and_from, eq-eqb, eqb-true}

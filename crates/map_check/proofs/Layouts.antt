@@ -1,4 +1,4 @@
--- Where the table of program headers is loaded, by the segments of a file that was read.
+-- The address at which the table of program headers is loaded, by the segments of a file that was read.
 use Rattle.std.proofs.Common.{◌≡◌, ◌∙◌, ◌+◌, ◌-◌, ◌*◌, ℕ, List, Option, refl, ap, length}
 use Rattle.std.specs.Prelude.{find}
 use Rattle.std.specs.Option.{option_map_or}

@@ -1,4 +1,4 @@
--- The fields of a line, each up to a byte that isn't in it.
+-- The fields of a line, each up to a byte that isn't in the field.
 use Rattle.std.proofs.Common.{◌≡◌, ◌<◌, ◌^◌, ◌∙◌, ℕ, Bool, true, false, List, [], ◌∷◌, ◌++◌, All, refl, ap, sym}
 use Rattle.std.proofs.Common.{append_assoc, Option, Some, None, IfNone, rules}
 use Rattle.std.specs.Prelude.{◌==◌, codes, decimal}
@@ -10,7 +10,7 @@ use Rattle.addr_map.specs.declared.span.Span.{Span}
 use Rattle.addr_map.specs.MapText.{span_line}
 use Rattle.rb_bytes.proofs.NumberTexts.{hex_lower, decimal_lower}
 
--- a text lacks a byte
+-- a text doesn't contain the byte c
 pub Lacks : ℕ → List ℕ → Type 0
 Lacks c [] = Unit {0}
 Lacks c (x ∷ xs) = ((x == c) ≡ false) × Lacks c xs
@@ -21,7 +21,7 @@ lacks_from c [] all = tt
 lacks_from c (x ∷ xs) all =
     (All-head (λ y. (y == c) ≡ false) x xs all, lacks_from c xs (All-tail (λ y. (y == c) ≡ false) x xs all))
 
--- digits lack what isn't one
+-- a byte that isn't a hexadecimal digit isn't in digits
 digit_other : (c d : ℕ) (b : Bool) → (d == c) ≡ b → is_lower_hex_digit c ≡ false → is_lower_hex_digit d ≡ true → b ≡ false
 digit_other c d true is other digit = let same = ap is_lower_hex_digit (eqb-true d c is) in absurd (cc)
 digit_other c d false is other digit = refl
@@ -39,7 +39,7 @@ hex_lacks c n other fits = digits_lack c (hexadecimal n) other (hex_lower n fits
 pub decimal_lacks : (c n : ℕ) → is_lower_hex_digit c ≡ false → n < 2 ^ 64 → Lacks c (decimal n)
 decimal_lacks c n other fits = digits_lack c (decimal n) other (decimal_lower n fits)
 
--- the byte itself
+-- a text with the byte c contains it
 pub lacks_itself : (c : ℕ) (xs rest : List ℕ) → Lacks c (xs ++ c ∷ rest) → ⊥
 unfolding Lacks
 lacks_itself c [] rest lacks = let same : (c == c) ≡ true = eq-eqb c c refl in let other = lacks.0 in cc
@@ -49,7 +49,7 @@ pub record SameParts (xs us ys vs : List ℕ) : Type 0 where
   pub before : xs ≡ us
   pub after : ys ≡ vs
 
--- A text is split at a byte in one way.
+-- A text can be split at the first byte c in only one way.
 pub one_split : (c : ℕ) (xs ys us vs : List ℕ) → Lacks c xs → Lacks c us → xs ++ c ∷ ys ≡ us ++ c ∷ vs → SameParts xs us ys vs
 unfolding Lacks
 one_split c [] ys [] vs left right same = record { before = refl; after = cc }
@@ -64,7 +64,7 @@ one_split c (x ∷ xs) ys (u ∷ us) vs left right same =
     let before = more.before in
     record { before = cc; after = more.after }
 
--- the parts of a line before a text
+-- the parts of a line that is followed by a text
 pub line_spelled : (s : Span) (rest : List ℕ) →
     span_line s ++ rest ≡ hexadecimal s.out ++ 32 ∷ (decimal s.len ++ 32 ∷ (hexadecimal s.input ++ 10 ∷ rest))
 line_spelled s rest = spelled (hexadecimal s.out) (decimal s.len) (hexadecimal s.input)

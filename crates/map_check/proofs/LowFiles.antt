@@ -1,4 +1,4 @@
--- Files that are loaded low.
+-- Files that are loaded at low addresses.
 use Rattle.std.proofs.Common.{◌≡◌, ◌<◌, ◌≤◌, ◌+◌, ◌-◌, ◌^◌, ◌∙◌, ℕ, true, false, refl, ap, sym, arith, Option, Some, None}
 use Rattle.std.proofs.Common.{IsTrue, ⊎_elim, option_map}
 use Rattle.std.specs.Prelude.{Contains, is_some}
@@ -24,7 +24,7 @@ no_segment elf a low high = by (segment_of elf.segments.items a) refl
         let below = low.below a (ap (λ (o : Option Segment). is_some (option_map (byte_of elf.file.now a) o)) is) in
         absurd (omega (arith, below, high))
 
--- what a segment loads lies low
+-- an address that a segment loads is low
 pub loaded_low : (elf : Elf) (a : ℕ) (p : Segment) → IsLow elf → Contains elf.segments.items p → IsTrue (loads_address a p) →
     a < 2 ^ 63
 loaded_low elf a p low here loads = ⊎_elim
@@ -34,7 +34,7 @@ loaded_low elf a p low here loads = ⊎_elim
     let never : None ≡ Some found.0 = sym (no_segment elf a low high) ∙ found.1 in absurd (cc))
     (cases_lt a (2 ^ 63))
 
--- so each segment with memory ends low
+-- each segment with memory has a low end
 pub ends_low : (elf : Elf) → IsLow elf → AreLow elf.segments.items
 ends_low elf low = record {
   each = λ p here memory.

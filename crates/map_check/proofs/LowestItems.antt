@@ -1,4 +1,4 @@
--- The lowest place of the items of a list that lack something, one more item at a time.
+-- The lowest place of the items of a list that lack a property, one more item at a time.
 use Rattle.std.proofs.Common.{◌≡◌, ◌≢◌, ◌<◌, ◌≤◌, ◌+◌, ◌∙◌, ℕ, Bool, true, false, not, List, length, get_or, take, arith, refl, ap, sym}
 use Rattle.std.proofs.Common.{subst, inl, inr, ⊎_elim, ◌⊎◌, ◌↔◌, Option, Some, None, IfNone, IsTrue, All, if◌then◌else◌, rules}
 use Rattle.std.proofs.lemmas.Bool.{cases_eq, cases_lt}
@@ -8,11 +8,11 @@ use Rattle.elf_image.specs.faults.LowestPlace.{IsLowest, lower}
 use Rattle.elf_image.proofs.LowestPlaces.{IsLowest-same, IsLowest-none, IsLowest-place_not, IsLowest-lower}
 
 module _ {X : Type 0} (P : X → Type 0) (place : X → ℕ) where
-  -- an item of this place lacks it
+  -- an item with this place lacks the property
   abbrev pub LackAt : List X → ℕ → Type 0
   LackAt xs a = All (λ x. place x ≡ a → P x) xs → ⊥
 
-  -- the first i items have it, but for some of which this is the lowest place
+  -- the first i items have the property, or `o` is the lowest place of those that lack it
   pub record Judged (xs : List X) (i : ℕ) (o : Option ℕ) : Type 0 where
     pub all : IfNone o (All P (take i xs))
     pub lowest : IsLowest (LackAt (take i xs)) o

@@ -10,7 +10,7 @@ use Rattle.addr_map.specs.MapText.{span_line, map_text}
 use Rattle.map_check.specs.MapReading.{FitsLine}
 use Rattle.map_check.proofs.LineTexts.{line_spelled}
 
--- the lines read so far, and what is left
+-- the lines read so far, and the text after them
 pub record HasRead (text : List ℕ) (spans : List Span) (left : List ℕ) : Type 0 where
   pub text_is : text ≡ map_text spans ++ left
   pub fit : All FitsLine spans

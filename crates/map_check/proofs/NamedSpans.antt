@@ -36,7 +36,7 @@ find_at a (x ∷ xs) (suc k) d within before here =
     ap (λ t. cond t (Some x) (find (is_of a) xs)) (ne_eqb x.input a (before zero x (omega arith)))
     ∙ find_at a xs k d (omega arith) (λ j e less. before (suc j) e (omega arith)) here
 
--- where all before a place are lower, and those from there on aren't
+-- if all spans before the index k are below a, and the span at k isn't, then it is the one that is looked up
 pub found_at : (a k : ℕ) (xs : List Span) (d : Span) → ((j : ℕ) (e : Span) → j < k → (get_or xs j e).input < a) → k < length xs →
     (get_or xs k d).input ≡ a → find (is_of a) xs ≡ Some (get_or xs k d)
 found_at a k xs d before within here =
@@ -105,7 +105,7 @@ two_names spans a b x y r is left right = IsLowest-same r
     (IsLowest-lower x y r is left right)
 
 module _ {X : Type 0} (Names : X → ℕ → Type 0) (spans : List Span) (xs : List X) where
-  -- the i-th names it, and it is empty
+  -- the i-th item names the address, and the address has an empty span
   abbrev pub NamedAt : ℕ → ℕ → Type 0
   NamedAt i a = ((d : X) → Names (get_or xs i d) a) × IsTrue (is_empty_at spans a)
 
@@ -116,7 +116,7 @@ module _ {X : Type 0} (Names : X → ℕ → Type 0) (spans : List Span) (xs : L
       (λ a here. ((λ e. subst (λ (x : X). Names x a) (get_or_default xs i d e within) here.0), here.1))
       (λ a here. (here.0 d, here.1)) is
 
-  -- the k-th, by a list that has one
+  -- an item of a list names the address
   any_from : (a k : ℕ) → k < length xs → ((d : X) → Names (get_or xs k d) a) → Any (λ x. Names x a) xs
   any_from a k within names = from xs k within names
     where
@@ -204,7 +204,7 @@ module _ (code : ProgramCode) (spans : List Span) where
           let none = same ∙ ap (λ (b : Bool). cond b 1 0) is in
           omega (arith, some, none))
 
-  -- a named address that has one span has an empty one where that isn't so of all its spans
+  -- a named address with one span has an empty span if not all its spans have bytes
   from_bad : (a : ℕ) → IsBadSpan code spans a → AnyBad a
   from_bad a (inl wrong) = inl wrong
   from_bad a (inr (inl wrong)) = inr (inl wrong)

@@ -1,4 +1,4 @@
--- The instruction to which control goes after another, found in its function or by the map.
+-- The instruction to which control goes after another one: it is found in the function or by the map.
 use Rattle.std.proofs.Common.{◌≡◌, ◌<◌, ◌+◌, ◌∙◌, ℕ, suc, Bool, true, false, List, length, get_or, refl, ap, sym, subst, arith}
 use Rattle.std.proofs.Common.{Option, Some, None, option_map, if◌then◌else◌, find, is_some}
 use Rattle.std.specs.Prelude.{◌==◌}

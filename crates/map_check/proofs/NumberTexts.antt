@@ -1,4 +1,4 @@
--- No text of a number has a zero before another digit.
+-- The text of a number has no zero before another digit.
 use Rattle.std.proofs.Common.{◌≡◌, ◌≢◌, ◌<◌, ◌^◌, ◌∙◌, ℕ, false, arith, ap, ⊎_elim}
 use Rattle.std.specs.Prelude.{decimal}
 use Rattle.std.proofs.lemmas.Bool.{cases_eq}

@@ -1,4 +1,4 @@
--- Digits with no leading zero are the text of the number that they write.
+-- Digits without leading zeros are the text of the number that they write.
 use Rattle.std.proofs.Common.{◌≡◌, ◌≢◌, ◌<◌, ◌≤◌, ◌+◌, ◌-◌, ◌*◌, ◌/◌, ◌%◌, ◌^◌, ◌∙◌, ℕ, suc, zero, Bool, true, false, List, [], ◌∷◌}
 use Rattle.std.proofs.Common.{◌++◌, length, arith, refl, ap, sym, cond, Option, Some, None, IfSome, IfNone, ⊎_elim, append-nil, rules}
 use Rattle.std.specs.Prelude.{◌==◌, ◌&&◌, nat_lt, nat_le, decimal, slice_index}
@@ -31,7 +31,7 @@ in_range_parts : (low high c : ℕ) → is_in_range low high c ≡ true → (low
 in_range_parts low high c is =
     let parts = and_parts _ _ is in (leb-true low c parts.0, leb-true c high parts.1)
 
--- what a digit is worth, and that it is the glyph of that
+-- the value of a digit, and that the digit is the glyph of its value
 pub record IsHexDigit (c : ℕ) : Type 0 where
   pub below : digit_value c < 16
   pub glyph : digit_glyph false (digit_value c) ≡ c
@@ -61,7 +61,7 @@ hex_digit c is = ⊎_elim
     positive c zero e ne = absurd (ne (omega (arith, e)))
     positive c (suc v) e ne = omega arith
 
--- the digits after a number are put before a text
+-- digits after a number, put before a text
 after_onto : (k n : ℕ) (ds text : List ℕ) → 0 < n → list_all is_lower_hex_digit ds ≡ true →
     digits_onto (k + length ds) 16 false (digits_value_after 16 n ds) text ≡ digits_onto k 16 false n (ds ++ text)
 after_onto k n [] text some all = ap (λ j. digits_onto j 16 false n text) (let e : k + 0 ≡ k = omega arith in e)
@@ -119,7 +119,7 @@ unfolding digits
 hexadecimal-digits_value ds all some short lead =
     let fuel : length ds ≤ 64 = omega arith in onto_value 64 ds all some fuel lead
 
--- What a number of digits says.
+-- The meaning of digits as a number.
 pub record IsNumberOf (radix most : ℕ) (is_digit : ℕ → Bool) (ds : List ℕ) (n : ℕ) : Type 0 where
   pub some : 0 < length ds
   pub short : length ds ≤ most
@@ -177,7 +177,7 @@ decimal_text ds n none is =
     sym (ap decimal parts.value
     ∙ decimal-digits_value own ds (all_digits ds parts.all) parts.some (λ first. leads ds none first parts.some) parts.small)
 
--- The same of what a reader answers.
+-- The meaning of the result of a reader.
 
 pub leads_not : (ds text : List ℕ) (r : Bool) → r ≡ has_leading_zero ds → r ≡ true → has_leading_zero text ≡ false → ds ≡ text → ⊥
 leads_not ds text r is leading none same =

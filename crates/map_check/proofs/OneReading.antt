@@ -1,4 +1,4 @@
--- A text is the map of one list of spans.
+-- A text is the map of at most one list of spans.
 use Rattle.std.proofs.Common.{◌≡◌, ◌<◌, ◌+◌, ◌^◌, ◌∙◌, ℕ, List, [], ◌∷◌, ◌++◌, All, arith, refl, ap, sym, Some, append-nil}
 use Rattle.std.proofs.Common.{append_assoc, length}
 use Rattle.std.specs.Prelude.{decimal}
@@ -51,7 +51,7 @@ one_line s t xs ys left right same =
 no_line : (s : Span) (rest : List ℕ) → [] ≡ span_line s ++ rest → ⊥
 no_line s rest is = let less = shorter [] rest s is in omega (arith, less)
 
--- no line begins at a text's end
+-- no line begins at the end of a text
 pub ended : BeginsWithLine [] → ⊥
 ended (s, rest, fits, is) = no_line s rest is
 
@@ -59,7 +59,7 @@ pub record SameReading (ss ts : List Span) (xs ys : List ℕ) : Type 0 where
   pub spans : ss ≡ ts
   pub rest : xs ≡ ys
 
--- As many lines as a text begins with are read in one way.
+-- The lines with which a text begins can be read in only one way.
 pub one_reading : (ss ts : List Span) (xs ys : List ℕ) → All FitsLine ss → All FitsLine ts → (BeginsWithLine xs → ⊥) →
     (BeginsWithLine ys → ⊥) → map_text ss ++ xs ≡ map_text ts ++ ys → SameReading ss ts xs ys
 one_reading [] [] xs ys left right no_x no_y same = record { spans = refl; rest = same }

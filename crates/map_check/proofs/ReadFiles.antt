@@ -1,4 +1,4 @@
--- What is known of files that were read: they are loaded low, and their code cells share no byte.
+-- Facts of files that were read: they are loaded at low addresses, and their code cells share no byte.
 use Rattle.std.proofs.Common.{◌≡◌, sym, subst, ap, ℕ, ◌+◌, ◌<◌, ◌≤◌, ⊎_elim, true, List, All, arith, get_or, inl, inr}
 use Rattle.std.proofs.lemmas.Bool.{cases_lt}
 use Rattle.rb_bytes.proofs.ListLemmas.{all_of, pairs_in}

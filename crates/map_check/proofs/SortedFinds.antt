@@ -1,4 +1,4 @@
--- A look-up finds the same in every order of spans of different inputs.
+-- If all inputs differ, a look-up gives the same span in every order of the spans.
 use Rattle.std.proofs.Common.{◌≡◌, ◌≢◌, ◌∙◌, ℕ, suc, zero, Bool, true, false, List, [], ◌∷◌, All, get_or, arith, refl, ap, sym, cond}
 use Rattle.std.proofs.Common.{Option, Some, None, find}
 use Rattle.std.specs.Prelude.{AllPairs, ◌==◌}
@@ -43,7 +43,7 @@ module _ (a : ℕ) where
       by true is found rest = absurd (cc)
       by false is found rest = All-cons other x xs (λ at. let yes = eq-eqb x.input a at in absurd (cc)) (rest found)
 
-  -- the one that is found is the only one of its input
+  -- the span that is looked up is the only one with its input
   only_one : (xs : List Span) (s : Span) → AllPairs (λ s t. s.input ≢ t.input) xs → find (is_of a) xs ≡ Some s → All (only s) xs
   unfolding only other
   only_one [] s once found = All-nil (only s)

@@ -1,4 +1,4 @@
--- How many spans an address has.
+-- The number of spans of an address.
 use Rattle.std.proofs.Common.{◌≡◌, ◌<◌, ◌≤◌, ◌+◌, ◌∙◌, ℕ, suc, zero, Bool, true, false, List, [], ◌∷◌, length, get_or, arith, refl, ap}
 use Rattle.std.proofs.Common.{cond, ⊎_elim}
 use Rattle.std.specs.Prelude.{Any}
@@ -52,7 +52,7 @@ module _ {X : Type 0} (p : X → Bool) where
       (λ (other : p y ≡ false). count-no y ys other ∙ none_counted ys (λ k d within is. none (suc k) d (omega arith) is))
       (cases_Bool (p y))
 
-  -- where no two of them pass, at most one does
+  -- if no two items pass a test, at most one does
   pub at_most_one : (xs : List X) → ((i j : ℕ) (d : X) → i < j → j < length xs → p (get_or xs i d) ≡ true → p (get_or xs j d) ≡ true → ⊥) →
       count_by p xs ≤ 1
   at_most_one [] alone = omega arith

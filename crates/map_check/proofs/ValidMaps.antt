@@ -1,4 +1,4 @@
--- Spans are a map of a program's code where no place is bad, and nowhere else.
+-- Spans are a map of a program's code exactly if there is no bad place.
 use Rattle.std.proofs.Common.{◌≡◌, ◌≢◌, ◌<◌, ◌≤◌, ◌%◌, ◌∙◌, ℕ, Bool, true, false, List, length, get_or, arith, refl, ap, sym, subst, cond}
 use Rattle.std.proofs.Common.{inl, inr, ⊎_elim, All, IsTrue}
 use Rattle.std.specs.Prelude.{AllPairs, Any}
@@ -41,7 +41,7 @@ module _ (code : ProgramCode) (spans : List Span) where
   abbrev wanted : ℕ → ℕ
   wanted a = cond (is_code_address code.funcs a) 1 0
 
-  -- Where no place is bad, the spans are a map.
+  -- If there is no bad place, the spans are a map.
   module _ (none : (a : ℕ) → IsBadSpan code spans a → ⊥) where
     counts : (a : ℕ) → count_of a ≡ wanted a
     counts a = number_stable (count_of a) (wanted a) (λ other. none a (inl other))

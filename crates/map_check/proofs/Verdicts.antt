@@ -1,4 +1,4 @@
--- A claim has one verdict.
+-- A claim has at most one verdict.
 use Rattle.std.proofs.Common.{◌≡◌, ◌∙◌, ℕ, List, inl, inr, ap, refl, subst, sym, arith, if◌then◌else◌}
 use Rattle.std.specs.Prelude.{◌==◌}
 use Rattle.std.proofs.lemmas.Bool.{cases_order}

@@ -1,4 +1,4 @@
--- The clauses of a faithful rewrite: at which places each is false, and which false one a check answers.
+-- The clauses of a faithful rewrite: the places at which each is false, and which false clause a check reports.
 use Rattle.std.specs.Prelude.{◌≡◌, ◌≢◌, ℕ, ◌<◌, ◌≤◌, Bool, List, Some, All, IfSome}
 use Rattle.rv_code.specs.layout.ProgramCode.{ProgramCode}
 use Rattle.rv_code.specs.layout.Flow.{insts_of}
@@ -19,11 +19,12 @@ use Rattle.map_check.specs.BadSpans.{IsBadSpan}
 use Rattle.map_check.specs.Lacking.{LacksAt}
 use Rattle.map_check.specs.MapReading.{IsMapOfLines, IsFirstBadLine}
 
--- the code of a file, parts of which have exception tables
+-- the code of a file in which some ranges have exception tables
 abbrev pub HasCode : Elf → ProgramCode → Type 0
 HasCode elf code = (tabled : List (ℕ × ℕ)) × IsCodeOf elf tabled code
 
--- What is checked: an input with its code, an output, and the text of a map.
+-- What is checked: an input with its code, an output, and the text of a map. `tight` says that there is no room for new
+-- code after the input's executable segment.
 pub record Claim : Type 0 where
   pub input : Elf
   pub code : ProgramCode
@@ -39,13 +40,13 @@ rewrite_with c spans =
 abbrev pub IsKept : Rewrite → ℕ → Type 0
 IsKept r a = (byte : ℕ) → byte_at r.input a ≡ Some byte → KeepsByte r a byte
 
--- the cells at an address, and the field of the entry point where it is loaded there
+-- the cells at an address, and the field of the entry point if it is loaded there, hold their new values
 pub record KeepsCellsAt (r : Rewrite) (a : ℕ) : Type 0 where
   pub each : All (λ c. c.addr ≡ a → KeepsCell r c) r.code.cells
   pub entry : IfSome (address_of r.input e_entry_field)
       (λ b. b ≡ a → number_in (memory_of r.output) b 8 ≡ Some r.output.entry)
 
--- The places at which a clause is false, once the map is read.
+-- The places at which a clause is false, for a rewrite whose map was read.
 abbrev pub IsFalseIn : Rewrite → Clause → ℕ → Type 0
 IsFalseIn r clause.MapText place = ⊥
 IsFalseIn r clause.MapSpan a = IsBadSpan r.code r.spans a

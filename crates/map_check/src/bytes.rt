@@ -26,8 +26,8 @@ fn same_flags(from: &Segment, to: &Segment) -> bool
         && from.has_flag(PF_X) == to.has_flag(PF_X)
 }
 
-// Whether the byte at `a` is kept, if the input loads one there: it has the same rights, and the same value unless it
-// may change.
+// Whether the output keeps the byte at `a`, if the input loads one there: with the same rights, and the same value
+// unless it may change.
 fn is_kept(input: &Elf, output: &Elf, changes: Changes, a: u64) -> bool
     requires { AreApart changes.cells.now }
     ensures { (r : Rewrite) → AreBytesOf r input.now output.now → AreChangesOf r changes.entry →
@@ -50,7 +50,7 @@ fn is_kept(input: &Elf, output: &Elf, changes: Changes, a: u64) -> bool
     may_change(input, changes, a)
 }
 
-// Whether `a` lies in both segments behind the bytes that come from the file, so that both have a zero there.
+// Whether both segments have a zero at `a`, since it is after the bytes that they load from their files.
 fn are_zeros(from: &Segment, to: &Segment, a: u64) -> bool
     requires one { IsTrue (loads_address a from.now) }
     requires two { IsTrue (loads_address a to.now) }
@@ -59,7 +59,7 @@ fn are_zeros(from: &Segment, to: &Segment, a: u64) -> bool
     a - from.vaddr >= from.filesz && a - to.vaddr >= to.filesz
 }
 
-// Where the first of two segments ends that load `a`.
+// The lower of the ends of two segments that load `a`.
 fn first_end(from: &Segment, to: &Segment, a: u64) -> u64
     requires one { IsTrue (loads_address a from.now) }
     requires two { IsTrue (loads_address a to.now) }
@@ -73,7 +73,7 @@ fn first_end(from: &Segment, to: &Segment, a: u64) -> u64
     a.saturating_add(left.min(other))
 }
 
-// How many bytes at the fronts of both lists are the same.
+// The length of the longest common prefix of both lists.
 fn common_length(left: &[u8], right: &[u8]) -> usize
     ensures within { result ≤ length left.now }
     ensures bound { result ≤ length right.now }
@@ -88,9 +88,8 @@ fn common_length(left: &[u8], right: &[u8]) -> usize
     most
 }
 
-// An address behind `a` up to which all bytes are kept, if that at `a` is: within both segments, as far as they have
-// zeros behind the bytes that come from the file, or as far as those are the same. So huge segments of zeros take one
-// step.
+// An address after `a` such that all bytes before it are kept if the one at `a` is: within both segments, the bytes are
+// all zeros that come from no file, or are equal in both files. So huge segments of zeros take one step.
 fn kept_up_to(input: &Elf, output: &Elf, a: u64) -> u64
     requires inside { a < 2 ^ 63 }
     ensures above { a < result }
@@ -111,7 +110,7 @@ fn kept_up_to(input: &Elf, output: &Elf, a: u64) -> u64
     end.min(a + (same as u64).max(1))
 }
 
-// The lowest address from `start` to before `end` at which the byte isn't kept.
+// The lowest address from `start` to before `end` whose byte isn't kept.
 fn lowest_in(input: &Elf, output: &Elf, changes: Changes, start: u64, end: u64) -> Option<u64>
     requires apart { AreApart changes.cells.now }
     requires inside { end ≤ 2 ^ 63 }
@@ -128,7 +127,7 @@ fn lowest_in(input: &Elf, output: &Elf, changes: Changes, start: u64, end: u64) 
     None
 }
 
-// The lowest address of `segment` at which the byte isn't kept.
+// The lowest address of `segment` whose byte isn't kept.
 fn lowest_in_segment(input: &Elf, output: &Elf, changes: Changes, segment: &Segment) -> Option<u64>
     requires apart { AreApart changes.cells.now }
     requires inside { has_memory segment.now ≡ true → end_of segment.now ≤ 2 ^ 63 }
@@ -142,7 +141,7 @@ fn lowest_in_segment(input: &Elf, output: &Elf, changes: Changes, segment: &Segm
     lowest_in(input, output, changes, segment.vaddr, end)
 }
 
-// The lowest address of `segments` at which the byte isn't kept.
+// The lowest address of `segments` whose byte isn't kept.
 fn lowest_over(input: &Elf, output: &Elf, changes: Changes, segments: &[Segment]) -> Option<u64>
     requires apart { AreApart changes.cells.now }
     requires inside { All (λ p. has_memory p ≡ true → end_of p ≤ 2 ^ 63) segments.now }
@@ -156,7 +155,7 @@ fn lowest_over(input: &Elf, output: &Elf, changes: Changes, segments: &[Segment]
     lowest
 }
 
-/// The lowest address at which the output doesn't keep a byte that the input loads.
+/// The lowest address of a byte that the input loads and the output doesn't keep.
 pub fn lowest_changed(input: &Elf, output: &Elf, changes: Changes) -> Option<u64>
     requires apart { AreApart changes.cells.now }
     requires low { IsLow input.now }

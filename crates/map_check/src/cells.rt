@@ -25,14 +25,14 @@ use elf_image::Elf;
 use elf_image::lowest::{lower, place_if};
 use rv_code::{CellKind, CodeCell};
 
-// How far `to` is from `from`, as a number of 64 bits in two's complement.
+// The distance of `to` from `from`, modulo 2^64.
 fn difference(to: u64, from: u64) -> u64
     ensures { result ≡ unsigned64 (distance to from) }
 {
     to.wrapping_sub(from)
 }
 
-// The new value of what a cell holds: an address, or the distance between two.
+// The new number of a cell: an address, or the distance between two addresses.
 fn number_of(table: &[Span], kind: &CellKind) -> u64
     requires { IsNonDecreasingBy (λ s. s.input) table.now }
     ensures { (r : Rewrite) (output : Elf) → IsChecked r output table.now →
@@ -44,7 +44,7 @@ fn number_of(table: &[Span], kind: &CellKind) -> u64
     }
 }
 
-// The low bytes of `number` that fit the width of `cell`, 4 or 8 bytes.
+// The low bytes of `number` that fit in `cell`, which has 4 or 8 bytes.
 fn cut(number: u64, cell: &CodeCell) -> u64
     requires { HasWidth cell.now }
     ensures { result ≡ number % 256 ^ cell.now.width }
@@ -70,7 +70,7 @@ fn keeps_cell(output: &Elf, table: &[Span], cell: &CodeCell) -> bool
     }
 }
 
-// The lowest address of one of `cells` that doesn't hold its new value.
+// The lowest address of a cell that doesn't hold its new value.
 fn lowest_unkept(output: &Elf, table: &[Span], cells: &[CodeCell]) -> Option<u64>
     requires low { IsLow output.now }
     requires sorted { IsNonDecreasingBy (λ s. s.input) table.now }
@@ -99,7 +99,7 @@ fn holds_entry(output: &Elf, address: u64) -> bool
 }
 
 /// The lowest address of a cell, or of the loaded field of the entry point, that doesn't hold its new value. `entry` is
-/// the address of that field, if it is loaded.
+/// the address of this field, if it is loaded.
 pub fn lowest_bad_cell(
     output: &Elf,
     table: &[Span],

@@ -14,23 +14,23 @@ use crate::headers::{Headers, is_hidden_field};
 use elf_image::Elf;
 use rv_code::CodeCell;
 
-/// The bytes that may change: those of code cells, of the loaded field of the entry point, and of hidden fields.
+/// The bytes that may change: bytes of code cells, of the loaded field of the entry point, and of hidden fields.
 #[derive(Clone, Copy)]
 pub struct Changes<'a> {
-    /// Code cells by address, which share no byte.
+    /// Code cells in order of their addresses, which share no byte.
     pub cells: &'a [CodeCell],
-    /// What tells the hidden fields.
+    /// Which fields of the headers are hidden.
     pub headers: Headers,
 }
 
-// Whether the byte at `a` is one of `cell`.
+// Whether the byte at `a` is in `cell`.
 fn has_byte(cell: &CodeCell, a: u64) -> bool
     ensures { result ≡ is_in_range a (code_cell_range cell.now) }
 {
     cell.addr <= a && a - cell.addr < cell.width as u64
 }
 
-// Whether the byte at `a` is one of the eight of the field of the entry point, which is loaded at `entry`.
+// Whether the byte at `a` is in the field of the entry point: eight bytes, loaded at `entry`.
 fn in_entry(entry: Option<u64>, a: u64) -> bool
     ensures { result ≡ in_entry entry a }
 {
@@ -40,7 +40,7 @@ fn in_entry(entry: Option<u64>, a: u64) -> bool
     }
 }
 
-// How many cells begin at `a` or below it.
+// The number of cells that start at or below `a`.
 fn count_up_to(cells: &[CodeCell], a: u64) -> usize
     requires { IsNonDecreasingBy (λ c. c.addr) cells.now }
     ensures bound { result ≤ length cells.now }
@@ -51,7 +51,7 @@ fn count_up_to(cells: &[CodeCell], a: u64) -> usize
     cells.partition_point(|c| c.addr <= a)
 }
 
-// Whether the byte at `a` is one of a cell.
+// Whether the byte at `a` is in a cell.
 fn in_cells(cells: &[CodeCell], a: u64) -> bool
     requires { AreApart cells.now }
     ensures { result ≡ list_any (λ cell. is_in_range a (code_cell_range cell)) cells.now }
@@ -63,7 +63,7 @@ fn in_cells(cells: &[CodeCell], a: u64) -> bool
     has_byte(&cells[above - 1], a)
 }
 
-// Whether one of the three holds. It is a function so that the proof of its caller has one case in place of eight.
+// Whether one of the three is true. This is a function so that the proof of its caller has one case instead of eight.
 fn any_of(a: bool, b: bool, c: bool) -> bool
     ensures { result ≡ (a || b || c) }
 {

@@ -30,9 +30,9 @@ use rv_code::Func;
 use rv_reloc::Refs;
 use std::alloc::Global;
 
-/// Whether `output` and the text `map` are a faithful rewrite of `input`, whose code `funcs` and `refs` are, or else
-/// the first clause that is false, at its lowest place. `tight` says that the input has no room behind its executable
-/// segment.
+/// Whether `output` and the text `map` are a faithful rewrite of `input`, whose code is `funcs` and `refs`; otherwise
+/// the first clause that is false, at its lowest place. `tight` says that there is no room for new code after the
+/// input's executable segment.
 pub fn check(
     alloc: Global,
     input: &Elf,
@@ -61,7 +61,7 @@ pub fn check(
     }
 }
 
-// Clause `MapSpan`, of the spans of a map that was read, and those after it.
+// Checks the clause `MapSpan` on the spans of a map that was read, and then all later clauses.
 fn check_spans(
     alloc: Global,
     input: &Elf,
@@ -90,7 +90,8 @@ fn check_spans(
     }
 }
 
-// The clauses from `SpanBytes` to `Entry`, on code, and those after them. `table` are the spans by their inputs.
+// Checks the clauses from `SpanBytes` to `Entry`, which are about code, and then all later clauses. `table` has the
+// spans in order of their inputs.
 fn check_code(
     input: &Elf,
     funcs: &[Func],
@@ -122,7 +123,7 @@ fn check_code(
     check_memory(input, refs, tight, output, table)
 }
 
-// The clauses from `Byte` to `Table`, on memory and on what a program finds of its layout.
+// Checks the clauses from `Byte` to `Table`, which are about memory and the layout that a program finds.
 fn check_memory(input: &Elf, refs: &Refs, tight: bool, output: &Elf, table: &[Span]) -> Verdict
     requires ready { AreReady input.now refs.now.cells.items output.now }
     requires sorted { IsNonDecreasingBy (λ s. s.input) table.now }

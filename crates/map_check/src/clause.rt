@@ -1,33 +1,33 @@
-// What is asked of a rewrite, and what a check of it answers.
+// The clauses of a faithful rewrite, and the results of a check.
 ghost use Rattle.std.specs.Prelude.{◌≡◌};
 ghost use Rattle.map_check.specs.declared.clause.Verdict.{Verdict};
 ghost use Rattle.map_check.specs.FirstFalse.{Claim, IsVerdict};
 
-/// The clauses of a faithful rewrite, in the order in which they are checked. Each is described by what is wrong where
-/// it is false.
+/// The clauses of a faithful rewrite, in the order in which they are checked. Each docstring says what is wrong if the
+/// clause is false.
 #[derive(Clone, Copy, Debug)]
 pub enum Clause {
     /// A line of the map's text isn't the line of a span.
     MapText,
     /// The spans aren't a map of the input's code.
     MapSpan,
-    /// A span doesn't lie in code of the output.
+    /// A span isn't in code of the output.
     SpanBytes,
     /// An instruction of the input isn't kept in its span.
     Instruction,
     /// Control doesn't go on from an instruction's new code to what followed it.
     Next,
-    /// The output's entry point isn't where that of the input went.
+    /// The output's entry point isn't the new address of the input's.
     Entry,
     /// A byte that the input loads isn't kept.
     Byte,
     /// A code cell, or the loaded field of the entry point, doesn't hold its new value.
     Cell,
-    /// The break or the table of program headers isn't where a program found it.
+    /// The break, or the table of program headers, isn't at the same address as in the input.
     Table,
 }
 
-/// What a check answers.
+/// The result of a check.
 #[derive(Clone, Copy)]
 pub enum Verdict {
     /// The rewrite is faithful.
@@ -36,8 +36,8 @@ pub enum Verdict {
     Unfaithful(Clause, u64),
 }
 
-/// Does nothing: its clause is a law. At most one verdict is right of a claim. So, but for want of memory, `check`
-/// answers a verdict exactly where it is right.
+/// A law: a claim has at most one right verdict. So `check` returns a verdict exactly if it is right, unless memory
+/// runs out. The function does nothing.
 pub fn verdict_law()
     ensures { (c : Claim) (v w : Verdict) → IsVerdict c v → IsVerdict c w → v ≡ w }
 {}

@@ -1,4 +1,4 @@
-// Which bytes of an output are code.
+// Bytes of an output that are code.
 ghost use Rattle.std.specs.Prelude.{◌↔◌, IsTrue};
 ghost use Rattle.elf_image.specs.memory.Executables.{AreCodeBytes, IsCodeByte, executable_read};
 ghost use Rattle.code_starts.specs.LoadedMemory.{IsLow};

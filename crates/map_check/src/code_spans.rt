@@ -1,4 +1,4 @@
-// Clause `SpanBytes`: whether spans lie in the code of the output.
+// Clause `SpanBytes`: whether spans are in code of the output.
 ghost use Rattle.std.specs.Prelude.{ℕ, All, IfNone};
 ghost use Rattle.elf_image.specs.faults.LowestPlace.{IsLowest};
 ghost use Rattle.elf_image.specs.memory.Executables.{AreCodeBytes, executable_read};
@@ -10,7 +10,7 @@ use addr_map::Span;
 use elf_image::Elf;
 use elf_image::lowest::{lower, place_if};
 
-/// The lowest input of a span with a byte outside the output's code.
+/// The lowest input of a span that has a byte outside the output's code.
 pub fn lowest_outside(output: &Elf, spans: &[Span]) -> Option<u64>
     requires { IsLow output.now }
     ensures all { IfNone result (All (λ s. AreCodeBytes (executable_read output.now) s.out s.len) spans.now) }

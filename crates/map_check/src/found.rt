@@ -1,4 +1,4 @@
-// The instruction that stands in a span, and branches.
+// The instruction in a span, and branches.
 ghost use Rattle.std.specs.Prelude.{◌≡◌, ◌↔◌, ℕ, IsTrue};
 ghost use Rattle.std.specs.List.Sorted.{IsNonDecreasingBy};
 ghost use Rattle.rv_code.specs.declared.placed.Placed.{Placed};
@@ -22,11 +22,11 @@ pub struct Found {
     /// Its address.
     pub out: u64,
     pub inst: Inst,
-    /// How many bytes it has: 2 or 4.
+    /// Its length in bytes: 2 or 4.
     pub width: u8,
 }
 
-/// The new address of the instruction at `a`. Any other address stays as it is.
+/// The new address of the instruction at `a`. If no instruction starts at `a`, the result is `a`.
 pub fn new_of(table: &[Span], a: u64) -> u64
     requires { IsNonDecreasingBy (λ s. s.input) table.now }
     ensures { result ≡ new table.now a }
@@ -37,7 +37,7 @@ pub fn new_of(table: &[Span], a: u64) -> u64
     }
 }
 
-/// The instruction at the start of the span of `p`, if it stands in code and doesn't end behind the span.
+/// The instruction at the start of the span of `p`, if it is code and ends within the span.
 pub fn found_in_span(output: &Elf, table: &[Span], p: &Placed) -> Option<Found>
     requires low { IsLow output.now }
     requires sorted { IsNonDecreasingBy (λ s. s.input) table.now }
@@ -55,7 +55,7 @@ pub fn found_in_span(output: &Elf, table: &[Span], p: &Placed) -> Option<Found>
     })
 }
 
-/// Whether control gets from `from` to where the instruction at `next` went, if there is one.
+/// Whether control gets from `from` to the new address of the instruction at `next`, if there is one.
 pub fn gets_to(output: &Elf, table: &[Span], from: u64, next: Option<u64>) -> bool
     requires low { IsLow output.now }
     requires sorted { IsNonDecreasingBy (λ s. s.input) table.now }
@@ -68,7 +68,7 @@ pub fn gets_to(output: &Elf, table: &[Span], from: u64, next: Option<u64>) -> bo
     }
 }
 
-// Whether control gets from `yes` to where the target of a branch went, and from `no` to the next instruction.
+// Whether control gets from `yes` to the new address of a branch's target, and from `no` to the next instruction.
 fn leads(output: &Elf, table: &[Span], yes: u64, no: u64, target: u64, next: Option<u64>) -> bool
     requires low { IsLow output.now }
     requires sorted { IsNonDecreasingBy (λ s. s.input) table.now }
@@ -80,8 +80,8 @@ fn leads(output: &Elf, table: &[Span], yes: u64, no: u64, target: u64, next: Opt
     there && on
 }
 
-// If `inst` branches on `test` of the registers `rs1` and `rs2` or on the opposite: whether it branches where the test
-// holds, and how far.
+// If `inst` branches on `test` of the registers `rs1` and `rs2`, or on the opposite test: whether it branches if the
+// test holds, and its offset.
 fn branch_of(inst: &Inst, test: Test, rs1: u8, rs2: u8) -> Option<(bool, i64)>
     ensures { FindsBranch test rs1 rs2 inst.now result }
 {
@@ -103,9 +103,9 @@ fn branch_of(inst: &Inst, test: Test, rs1: u8, rs2: u8) -> Option<(bool, i64)>
     }
 }
 
-/// Whether the branch `p` is kept: the one in its span, which may have the opposite sense, leads to where `target` went
-/// on one way and to where the instruction at `next` went on the other. `wanted` says whether `p` branches where `test`
-/// holds.
+/// Whether the branch `p` is kept: its span has a branch, possibly with the opposite condition, from which control gets
+/// one way to the new address of `target`, and the other way to the new address of the instruction at `next`. `wanted`
+/// says whether `p` branches if `test` holds.
 pub fn keeps_branch(
     output: &Elf,
     table: &[Span],

@@ -1,5 +1,5 @@
-// Hidden fields: those of a file's headers that a rewrite changes, and a program mustn't depend on. gABI, "ELF Header"
-// and "Program Header".
+// Hidden fields: fields of a file's headers that a rewrite changes, so that a program must not depend on them. gABI,
+// "ELF Header" and "Program Header".
 ghost use Rattle.std.specs.Prelude.{Bool, ◌≡◌, ◌≤◌, ◌<◌, ◌+◌, ◌*◌, ◌⊎◌, ◌||◌, IfNone, IfSome, length, nat_le};
 ghost use Rattle.std.specs.List.{enumerate_from, flat_map, list_any};
 ghost use Rattle.elf_image.specs.declared.elf.Elf.{Elf};
@@ -17,19 +17,19 @@ use elf_image::segment::{P_ALIGN, P_FILESZ, P_OFFSET, PHDR_SIZE, PT_GNU_EH_FRAME
 use elf_image::{Elf, Segment};
 use sym_machine::entry_address;
 
-/// What tells which fields of the input's headers are hidden.
+/// What decides which fields of the input's headers are hidden.
 #[derive(Clone, Copy)]
 pub struct Headers {
-    /// Whether the file has no room behind its executable segment.
+    /// Whether there is no room for new code after the executable segment.
     pub tight: bool,
-    /// The address of the field `e_entry`, if one segment loads it whole.
+    /// The address of the field `e_entry`, if one segment loads all of it.
     pub entry: Option<u64>,
     /// The index of the executable segment, and its program header.
     pub executable: Option<(usize, Segment)>,
 }
 
 impl Headers {
-    /// What tells the hidden fields of a file.
+    /// Computes this for a file.
     pub fn of(elf: &Elf, tight: bool) -> Headers
         requires { IsLow elf.now }
         ensures { AreHeadersOf elf.now tight result }
@@ -42,14 +42,14 @@ impl Headers {
     }
 }
 
-// Whether `offset` lies in the field of `size` bytes from the offset `start` on.
+// Whether `offset` is in the field of `size` bytes at the offset `start`.
 fn has(start: u128, size: u64, offset: u128) -> bool
     ensures { result ≡ is_in_range offset (record { start = start; size = size }) }
 {
     start <= offset && offset - start < size as u128
 }
 
-// `found`, or whether `offset` lies in the field of `size` bytes from the offset `start` on, if that is hidden.
+// `found`, or whether `offset` is in the field of `size` bytes at the offset `start` and this field is hidden.
 fn or_has(found: bool, is_hidden: bool, start: u128, size: u64, offset: u128) -> bool
     ensures { result
         ≡ (found || list_any (is_in_range offset) (only is_hidden (record { start = start; size = size }))) }
@@ -65,7 +65,8 @@ fn table_moves(elf: &Elf, headers: &Headers) -> bool
     headers.tight || executable_end(headers.executable) <= elf.phoff as u128
 }
 
-// Whether `offset` lies in a field of the ELF header that says where the section headers are. They are always hidden.
+// Whether `offset` is in a field of the ELF header that says where the section headers are. These fields are always
+// hidden.
 fn in_section_fields(offset: u128) -> bool
     ensures { result ≡ list_any (is_in_range offset) section_fields }
 {
@@ -74,7 +75,7 @@ fn in_section_fields(offset: u128) -> bool
         || has(E_SHSTRNDX as u128, 2, offset)
 }
 
-// Whether `offset` lies in a hidden field of the ELF header.
+// Whether `offset` is in a hidden field of the ELF header.
 fn in_file_header(elf: &Elf, headers: &Headers, offset: u128) -> bool
     ensures { (tight : Bool) → AreHeadersOf elf.now tight headers.now →
         result ≡ list_any (is_in_range offset) (file_fields elf.now tight) }
@@ -92,7 +93,7 @@ fn in_file_header(elf: &Elf, headers: &Headers, offset: u128) -> bool
     )
 }
 
-// Whether the bytes of the segment `p` stand in the file behind those of the executable one.
+// Whether the bytes of the segment `p` come after the executable segment's in the file.
 fn is_behind(headers: &Headers, p: &Segment) -> bool
     ensures { (elf : Elf) (tight : Bool) → AreHeadersOf elf tight headers.now →
         result ≡ nat_le (executable_end elf.segments.items) p.now.offset }
@@ -100,8 +101,9 @@ fn is_behind(headers: &Headers, p: &Segment) -> bool
     executable_end(headers.executable) <= p.offset as u128
 }
 
-// Whether `offset` lies in a hidden field of the program header `p`, at `index`: p_filesz and p_memsz of the executable
-// segment, p_offset of one behind it, and of the unwind table's index all fields from p_offset to p_memsz.
+// Whether `offset` is in a hidden field of the program header `p`, which has this index. Hidden are: `p_filesz` and
+// `p_memsz` of the executable segment, `p_offset` of a segment after it, and all fields from `p_offset` to `p_memsz` of
+// the header of the unwind table's index.
 fn in_program_header(elf: &Elf, headers: &Headers, index: usize, p: &Segment, offset: u128) -> bool
     ensures { (tight : Bool) → AreHeadersOf elf.now tight headers.now →
         result ≡ list_any (is_in_range offset) (hidden_in_segment elf.now (index, p.now)) }
@@ -126,7 +128,7 @@ fn in_program_header(elf: &Elf, headers: &Headers, index: usize, p: &Segment, of
     )
 }
 
-// The index of the program header in which `offset` lies.
+// The index of the program header that contains `offset`.
 fn index_at(elf: &Elf, offset: u128) -> Option<usize>
     ensures within { IfSome result (λ i. i < length elf.now.segments.items) }
     ensures from { IfSome result (λ i. elf.now.phoff + PHDR_SIZE * i ≤ offset) }
@@ -143,7 +145,7 @@ fn index_at(elf: &Elf, offset: u128) -> Option<usize>
     }
 }
 
-// Whether `offset` lies in a hidden field of the program headers.
+// Whether `offset` is in a hidden field of the program headers.
 fn in_program_headers(elf: &Elf, headers: &Headers, offset: u128) -> bool
     ensures { (tight : Bool) → AreHeadersOf elf.now tight headers.now →
         result ≡ list_any (is_in_range offset)
@@ -155,7 +157,7 @@ fn in_program_headers(elf: &Elf, headers: &Headers, offset: u128) -> bool
     }
 }
 
-// Whether `offset` lies in a hidden field.
+// Whether `offset` is in a hidden field.
 fn is_hidden(elf: &Elf, headers: &Headers, offset: u128) -> bool
     ensures { (tight : Bool) → AreHeadersOf elf.now tight headers.now →
         result ≡ list_any (is_in_range offset) (hidden_fields elf.now tight) }
@@ -163,7 +165,7 @@ fn is_hidden(elf: &Elf, headers: &Headers, offset: u128) -> bool
     in_file_header(elf, headers, offset) || in_program_headers(elf, headers, offset)
 }
 
-/// Whether the byte at `address` is one of a hidden field.
+/// Whether the byte at `address` is loaded from a hidden field.
 pub fn is_hidden_field(elf: &Elf, headers: &Headers, address: u64) -> bool
     ensures { (tight : Bool) → AreHeadersOf elf.now tight headers.now →
         result ≡ is_hidden_field elf.now tight address }

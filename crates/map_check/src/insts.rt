@@ -20,7 +20,7 @@ use elf_image::lowest::{lower, place_if};
 use rv_code::flow::is_call;
 use rv_code::{Func, Placed};
 
-// The address of the instruction behind the one at the index `i` of a function, if there is one.
+// The address of the instruction after the one with index `i` in a function, if there is one.
 fn next_in(func: &Func, i: usize) -> Option<u64>
     requires { i < length func.now.insts.items }
     ensures { result ≡ addr_at func.now.insts.items (i + 1) }
@@ -32,8 +32,9 @@ fn next_in(func: &Func, i: usize) -> Option<u64>
     }
 }
 
-// The address of the instruction to which control goes on after the one at the index `i` of a function, if there is
-// one: after a call within the function, else wherever one stands, which the map tells, since it has them all.
+// The address of the instruction to which control goes on after the one with index `i` in a function, if there is one.
+// After a call it is the next one of the function; otherwise it is the one at the end of the instruction, in any
+// function. The map has an input for each instruction, so it shows if there is one.
 fn next_at(table: &[Span], func: &Func, i: usize) -> Option<u64>
     requires inside { i < length func.now.insts.items }
     requires sorted { IsNonDecreasingBy (λ s. s.input) table.now }
@@ -50,12 +51,12 @@ fn next_at(table: &[Span], func: &Func, i: usize) -> Option<u64>
     Some(after)
 }
 
-/// What is asked of each instruction of the input.
+/// A condition on each instruction of the input.
 #[derive(Clone, Copy)]
 pub enum Demand {
-    /// That the instruction is kept.
+    /// The instruction is kept.
     Kept,
-    /// That control goes on from the end of its new code to what followed it.
+    /// Control goes on from the end of its new code to what followed it.
     Followed,
 }
 

@@ -17,7 +17,7 @@ use elf_image::Elf;
 use rv_code::flow::{is_branch, is_plain_jump, moved_by};
 use rv_code::{Action, Inst, Placed, ZERO};
 
-// Whether `inst`, at `from`, is a JAL that writes the register `rd` and leads to `to`.
+// Whether `inst`, at `from`, is a JAL that saves the return address in `rd` and goes to `to`.
 fn calls_to(inst: &Inst, rd: u8, from: u64, to: u64) -> bool
     ensures { result ≡ calls_to inst.now rd from to }
 {
@@ -27,8 +27,8 @@ fn calls_to(inst: &Inst, rd: u8, from: u64, to: u64) -> bool
     }
 }
 
-// Whether the JAL `p`, which saves a return address in `rd`, is kept: its span has one that saves it in `rd` too, and
-// leads to where `target` went.
+// Whether the JAL `p`, which saves a return address in `rd`, is kept: its span has a JAL that saves the return address
+// in `rd` and goes to the new address of `target`.
 fn keeps_call(output: &Elf, table: &[Span], p: &Placed, rd: u8, target: u64) -> bool
     requires low { IsLow output.now }
     requires sorted { IsNonDecreasingBy (λ s. s.input) table.now }
@@ -40,8 +40,8 @@ fn keeps_call(output: &Elf, table: &[Span], p: &Placed, rd: u8, target: u64) -> 
     }
 }
 
-// Whether the JAL `p` is kept. Of one that saves nothing it is asked only that control gets from its span to where its
-// target went, so its span may be empty.
+// Whether the JAL `p` is kept. If it saves no return address, it is enough that control gets from its new address to
+// the new address of its target, so its span may be empty.
 fn keeps_jump(output: &Elf, table: &[Span], p: &Placed, rd: u8, imm: i64) -> bool
     requires low { IsLow output.now }
     requires sorted { IsNonDecreasingBy (λ s. s.input) table.now }
@@ -58,7 +58,7 @@ fn keeps_jump(output: &Elf, table: &[Span], p: &Placed, rd: u8, imm: i64) -> boo
     }
 }
 
-/// Whether the instruction `p` is kept. `next` is the address of the one to which control goes on after it.
+/// Whether the instruction `p` is kept. `next` is the address of the instruction to which control goes on after it.
 pub fn keeps_inst(output: &Elf, table: &[Span], p: &Placed, next: Option<u64>) -> bool
     requires low { IsLow output.now }
     requires sorted { IsNonDecreasingBy (λ s. s.input) table.now }
@@ -81,8 +81,8 @@ pub fn keeps_inst(output: &Elf, table: &[Span], p: &Placed, next: Option<u64>) -
     }
 }
 
-/// Whether control goes on from the end of the new instruction for `p` to where the one at `next` went. Of jumps and
-/// branches that isn't asked: where they lead is asked of their being kept.
+/// Whether control goes on from the end of the new instruction for `p` to the new address of the instruction at `next`.
+/// True for jumps and branches, whose targets are checked when it is checked that they are kept.
 pub fn goes_on(output: &Elf, table: &[Span], p: &Placed, next: Option<u64>) -> bool
     requires low { IsLow output.now }
     requires sorted { IsNonDecreasingBy (λ s. s.input) table.now }

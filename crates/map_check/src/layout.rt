@@ -1,4 +1,4 @@
-// Clause `Table`: what a program finds of the layout of its file.
+// Clause `Table`: the layout of its file that a program finds.
 ghost use Rattle.std.specs.Prelude.{◌≡◌, ◌↔◌, IsTrue};
 ghost use Rattle.elf_image.specs.file.ParsedFile.{IsElfOf};
 ghost use Rattle.elf_image.specs.memory.Break.{break_bound, break_start, page_size, rounded_down, table_address};
@@ -10,7 +10,7 @@ use elf_image::segment::{PHDR_SIZE, range_segment};
 use elf_image::start::{BREAK_ROOM, PAGE_SIZE, writable_end};
 use elf_image::{Elf, Segment};
 
-// The address at which the table of program headers is loaded; 0 where no segment loads it whole from the file.
+// The address at which the table of program headers is loaded; 0 if no segment loads all of it from the file.
 fn table_address(elf: &Elf) -> u128
     requires { IsElfOf elf.now.file.now elf.now }
     ensures { result ≡ table_address elf.now.file.now }
@@ -29,7 +29,7 @@ fn rounded_down(address: u64) -> u64
     address / PAGE_SIZE * PAGE_SIZE
 }
 
-// Where the break starts: at the end of the highest writable segment, rounded up to a page.
+// The start of the break: the end of the highest writable segment, rounded up to a page.
 fn break_start(segments: &[Segment]) -> u128
     ensures { result ≡ break_start segments.now }
 {
@@ -37,8 +37,8 @@ fn break_start(segments: &[Segment]) -> u128
     (writable_end(segments) + (page - 1)) / page * page
 }
 
-// The address up to which the break may go: `BREAK_ROOM` behind its start, or less where a segment's page begins
-// before.
+// The highest address to which the break may move: `BREAK_ROOM` after its start, or less if a segment's page begins
+// before that.
 fn break_bound(segments: &[Segment]) -> u128
     ensures { result ≡ break_bound segments.now }
 {
@@ -56,7 +56,7 @@ fn break_bound(segments: &[Segment]) -> u128
     start.max(bound)
 }
 
-// Whether the table of program headers is loaded where it was, and is as long as it was.
+// Whether the table of program headers is loaded at the same address, with the same number of headers.
 fn keeps_table(input: &Elf, output: &Elf) -> bool
     requires input { IsElfOf input.now.file.now input.now }
     requires output { IsElfOf output.now.file.now output.now }
@@ -65,7 +65,7 @@ fn keeps_table(input: &Elf, output: &Elf) -> bool
     table_address(input) == table_address(output) && input.segments.len() == output.segments.len()
 }
 
-// Whether the break starts where it did, and may go as far.
+// Whether the break starts at the same address, and may move as far.
 fn keeps_break(input: &Elf, output: &Elf) -> bool
     ensures start { IsTrue result → break_start input.now.segments.items ≡ break_start output.now.segments.items }
     ensures bound { IsTrue result → break_bound input.now.segments.items ≡ break_bound output.now.segments.items }
@@ -76,7 +76,7 @@ fn keeps_break(input: &Elf, output: &Elf) -> bool
         && break_bound(&input.segments) == break_bound(&output.segments)
 }
 
-/// Whether a program finds the break, and the table of program headers, where that counts, as before.
+/// Whether a program finds the same break, and in a file that isn't tight the same table of program headers.
 pub fn keeps_layout(input: &Elf, output: &Elf, tight: bool) -> bool
     requires input { IsElfOf input.now.file.now input.now }
     requires output { IsElfOf output.now.file.now output.now }

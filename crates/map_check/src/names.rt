@@ -1,5 +1,5 @@
-// Instructions that something names, and that a map leaves out. An instruction without bytes has no address of its own,
-// so nothing may name it.
+// Instructions that are named, and whose spans are empty. An instruction without bytes has no address of its own, so it
+// must not be named.
 ghost use Rattle.std.specs.Prelude.{◌≡◌, IsTrue, List};
 ghost use Rattle.std.specs.List.Sorted.{IsNonDecreasingBy};
 ghost use Rattle.rv_code.specs.declared.placed.Func.{Func};
@@ -31,7 +31,7 @@ fn empty_at(sorted: &[Span], a: u64) -> Option<u64>
     place_if(is_empty_at(sorted, a), a)
 }
 
-// The address that `role` names, if it has an empty span.
+// The address that `role` names, if its span is empty.
 fn lowest_of_role(sorted: &[Span], role: &Role) -> Option<u64>
     requires { IsNonDecreasingBy (λ s. s.input) sorted.now }
     ensures { IsLowest (λ a. RoleNames role.now a × IsTrue (is_empty_at sorted.now a)) result }
@@ -47,7 +47,7 @@ fn lowest_of_role(sorted: &[Span], role: &Role) -> Option<u64>
     }
 }
 
-// The lowest address that a cell of the kind `kind` names and that has an empty span.
+// The lowest address that a cell of this kind names and whose span is empty.
 fn lowest_of_cell(sorted: &[Span], kind: &CellKind) -> Option<u64>
     requires { IsNonDecreasingBy (λ s. s.input) sorted.now }
     ensures { IsLowest (λ a. KindNames kind.now a × IsTrue (is_empty_at sorted.now a)) result }
@@ -84,7 +84,7 @@ fn lowest_of_cells(sorted: &[Span], cells: &[CodeCell]) -> Option<u64>
     lowest
 }
 
-/// The lowest address that a role, a cell or the entry point names and that has an empty span.
+/// The lowest address that a role, a cell or the entry point names and whose span is empty.
 pub fn lowest_left_out(
     sorted: &[Span],
     roles: &[(u64, Role)],

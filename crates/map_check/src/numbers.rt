@@ -1,4 +1,4 @@
-// Numbers in the lines of a map, which have no zeros in front.
+// Numbers in the lines of a map, which have no leading zeros.
 ghost use Rattle.std.specs.Prelude.{◌≡◌, ◌==◌, ◌++◌, ◌∷◌, ◌<◌, ◌^◌, ℕ, List, All, IfSome, IfNone, false, decimal};
 ghost use Rattle.rb_bytes.specs.Text.{hexadecimal, is_lower_hex_digit};
 ghost use Rattle.map_check.specs.internal.LineNumbers.{has_leading_zero};
@@ -6,7 +6,7 @@ ghost use Rattle.map_check.specs.internal.LineNumbers.{has_leading_zero};
 use rb_bytes::number::{decimal_number, hex_number};
 use rb_bytes::split::split_once;
 
-// Whether a zero stands in front of other digits.
+// Whether there is a zero before other digits.
 fn has_leading_zero(digits: &[u8]) -> bool
     ensures { result ≡ has_leading_zero digits.now }
 {
@@ -41,7 +41,7 @@ pub fn byte_of(digits: &[u8]) -> Option<u8>
     Some(number as u8)
 }
 
-/// The number in hexadecimal before the first byte `end`, and what follows that byte.
+/// The hexadecimal number before the first byte `end`, and the text after this byte.
 pub fn hex_before(text: &[u8], end: u8) -> Option<(u64, &[u8])>
     requires { is_lower_hex_digit end ≡ false }
     ensures some { IfSome result (λ p. text.now ≡ hexadecimal p.0 ++ end ∷ p.1.now) }
@@ -53,7 +53,7 @@ pub fn hex_before(text: &[u8], end: u8) -> Option<(u64, &[u8])>
     Some((number, rest))
 }
 
-/// The number below 256 in decimal before the first byte `end`, and what follows that byte.
+/// The decimal number below 256 before the first byte `end`, and the text after this byte.
 pub fn byte_before(text: &[u8], end: u8) -> Option<(u8, &[u8])>
     requires { is_lower_hex_digit end ≡ false }
     ensures some { IfSome result (λ p. text.now ≡ decimal p.0 ++ end ∷ p.1.now) }

@@ -1,5 +1,5 @@
-// Instructions that are no jumps and no branches. One with a part of an address is made anew, since addresses moved.
-// ISA manual, volume I, section 2.4; psABI, "Relocations".
+// Instructions that aren't jumps or branches. If an instruction holds a part of an address, its immediate is computed
+// again, since addresses moved. ISA manual, volume I, section 2.4; psABI, "Relocations".
 ghost use Rattle.std.specs.Prelude.{◌≡◌, ◌↔◌, ◌≤ℤ◌, ◌-ℤ◌, ◌*ℤ◌, ◌^◌, pos, IsTrue};
 ghost use Rattle.std.specs.List.Sorted.{IsNonDecreasingBy};
 ghost use Rattle.rv_code.specs.isa.HiLo.{hi20, lo12};
@@ -18,7 +18,7 @@ use move_law::with_immediate;
 use rv_code::{Inst, Placed, Role};
 use rv_encode::same::is_same;
 
-// How far `to` is from `from`.
+// The distance of `to` from `from`.
 fn distance(to: u64, from: u64) -> i128
     ensures is { result ≡ distance to from }
     ensures low { (pos 0 -ℤ pos (2 ^ 64)) ≤ℤ result }
@@ -36,14 +36,14 @@ fn upper(v: i128) -> i64
     ((v + 0x800) >> 12) as i64
 }
 
-// What an upper part counts for in a number.
+// The number that an upper part adds.
 fn shifted(upper: i64) -> i128
     ensures { result ≡ pos 4096 *ℤ upper }
 {
     4096 * upper as i128
 }
 
-// The lower part of `v`, of 12 bits with a sign: what `v` is more than its upper part.
+// The lower part of `v`, 12 bits with a sign: `v` minus its upper part.
 fn lower_part(v: i128) -> i64
     requires low { (pos 0 -ℤ pos (2 ^ 64)) ≤ℤ v }
     requires high { v ≤ℤ pos (2 ^ 64) }
@@ -52,7 +52,7 @@ fn lower_part(v: i128) -> i64
     (v - shifted(upper(v))) as i64
 }
 
-// The instruction `p` with the part of the new address, or of the distance to it, that its role asks for.
+// The instruction `p` with the part of the new address, or of the distance to it, that its role says.
 fn made_anew(table: &[Span], p: &Placed) -> Inst
     requires { IsNonDecreasingBy (λ s. s.input) table.now }
     ensures { result ≡ made_anew (new table.now) p.now.addr p.now.role p.now.inst }
@@ -75,7 +75,8 @@ fn made_anew(table: &[Span], p: &Placed) -> Inst
     }
 }
 
-/// Whether the instruction `p`, which is no JAL and no branch, is kept: its span has it, as its role makes it.
+/// Whether the instruction `p`, which isn't a JAL or a branch, is kept: its span has the instruction that `made_anew`
+/// gives.
 pub fn keeps_other(output: &Elf, table: &[Span], p: &Placed) -> bool
     requires low { IsLow output.now }
     requires sorted { IsNonDecreasingBy (λ s. s.input) table.now }

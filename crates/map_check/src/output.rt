@@ -1,4 +1,4 @@
-// What stands in the code of the output.
+// Instructions in the code of the output.
 ghost use Rattle.std.specs.Prelude.{◌≡◌, ◌↔◌, ◌⊎◌, ◌≤◌, ◌^◌, ℕ, ℤ, IsTrue, IsFalse, None};
 ghost use Rattle.rv_code.specs.declared.inst.Inst.{Inst};
 ghost use Rattle.elf_image.specs.memory.Image.{segment_of};
@@ -17,7 +17,7 @@ use rv_code::flow::moved_by;
 use rv_code::{Inst, ZERO};
 use rv_decode::decode;
 
-// The byte at `address`; 0 where none is loaded, or there is no address.
+// The byte at `address`; 0 if none is loaded, or if there is no address.
 pub(crate) fn byte_or_zero(elf: &Elf, address: Option<u64>) -> u8
     ensures { result ≡ byte_or_zero elf.now address }
 {
@@ -27,7 +27,7 @@ pub(crate) fn byte_or_zero(elf: &Elf, address: Option<u64>) -> u8
     }
 }
 
-// The halfword at `address`. What isn't loaded counts as zero.
+// The halfword at `address`. A byte that isn't loaded counts as zero.
 fn halfword_at(elf: &Elf, address: u64) -> u16
     requires { IsLow elf.now }
     ensures { result ≡ halfword_in (memory_of (executable_read elf.now)) address }
@@ -37,8 +37,8 @@ fn halfword_at(elf: &Elf, address: u64) -> u16
     low as u16 + 256 * high as u16
 }
 
-/// How many bytes the instruction at `address` has, by the two lowest bits of its first byte: 4 where both are set,
-/// else 2.
+/// The length in bytes of the instruction at `address`, by the two lowest bits of its first byte: 4 if both are set,
+/// otherwise 2.
 pub fn width_at(elf: &Elf, address: u64) -> u8
     requires { IsLow elf.now }
     ensures { result ≡ width_at (executable_read elf.now) address }
@@ -64,7 +64,7 @@ pub fn inst_at(elf: &Elf, address: u64) -> Option<(Inst, u8)>
     decode(half, Some(next))
 }
 
-// Whether `inst`, at `from`, is a JAL that saves nothing and leads to `to`.
+// Whether `inst`, at `from`, is a JAL to `to` that saves no return address.
 fn leads_to(inst: &Inst, from: u64, to: u64) -> bool
     ensures { result ≡ leads_to inst.now from to }
 {
@@ -74,7 +74,7 @@ fn leads_to(inst: &Inst, from: u64, to: u64) -> bool
     }
 }
 
-// Whether a JAL that saves nothing stands at `from` and leads to `to`.
+// Whether there is a JAL at `from` to `to` that saves no return address.
 fn jumps(elf: &Elf, from: u64, to: u64) -> bool
     requires { IsLow elf.now }
     ensures { IsTrue result ↔ Jumps (executable_read elf.now) from to }
@@ -85,7 +85,7 @@ fn jumps(elf: &Elf, from: u64, to: u64) -> bool
     }
 }
 
-/// Whether control goes from `from` to `to`: they are one place, or a jump leads there.
+/// Whether control goes from `from` to `to`: they are equal, or there is a jump.
 pub fn goes(elf: &Elf, from: u64, to: u64) -> bool
     requires { IsLow elf.now }
     ensures { IsTrue result ↔ Goes (executable_read elf.now) from to }

@@ -1,4 +1,4 @@
-// Spans in the order of their inputs, the old addresses, and the span of an old address.
+// Spans in order of their inputs (the old addresses), and the span of an old address.
 ghost use Rattle.std.specs.Prelude.{◌≡◌, ◌<◌, ◌≤◌, ℕ, find, length, slice_index_or};
 ghost use Rattle.std.specs.List.Sorted.{IsNonDecreasingBy, IsPermutation};
 ghost use Rattle.addr_map.specs.declared.span.Span.{Span};
@@ -6,7 +6,7 @@ ghost use Rattle.addr_map.specs.Spans.{is_of};
 
 use addr_map::Span;
 
-/// Puts spans in the order of their inputs. The order of several with one input doesn't matter, since no map has any.
+/// Sorts spans by their inputs. The order of spans with one input doesn't matter, since a map has no two such spans.
 pub fn sort_by_input(spans: &mut Vec<Span>)
     ensures same { IsPermutation spans.old.items spans.new.items }
     ensures rises { IsNonDecreasingBy (λ s. s.input) spans.new.items }
@@ -14,7 +14,7 @@ pub fn sort_by_input(spans: &mut Vec<Span>)
     spans.sort_unstable_by_key(|span| span.input);
 }
 
-// How many spans have an input below `a`.
+// The number of spans whose input is below `a`.
 fn count_below(sorted: &[Span], a: u64) -> usize
     requires { IsNonDecreasingBy (λ s. s.input) sorted.now }
     ensures bound { result ≤ length sorted.now }

@@ -37,7 +37,7 @@ fn addresses(alloc: Global, funcs: &[Func]) -> Result<Vec<u64>, NoMemory>
     Ok(out)
 }
 
-// The lower of the first input and address that differ, where `spans` and `addresses` are walked side by side.
+// Compares the inputs of `spans` with `addresses`, pair by pair: the lower of the first two that differ.
 fn first_difference(spans: &[Span], addresses: &[u64]) -> Option<u64>
     ensures { result ≡ first_difference spans.now addresses.now }
 {
@@ -56,7 +56,7 @@ fn first_difference(spans: &[Span], addresses: &[u64]) -> Option<u64>
     left.first().copied()
 }
 
-// The lowest address of an instruction that hasn't exactly one span, or of anything else that has some.
+// The lowest address of an instruction that doesn't have exactly one span, or of a span without an instruction.
 fn lowest_miscounted(
     alloc: Global,
     sorted: &[Span],
@@ -70,7 +70,7 @@ fn lowest_miscounted(
     Ok(first_difference(sorted, &addresses))
 }
 
-// Whether a span has no bytes, or begins where an instruction can stand: at an even address other than 0.
+// Whether a span has no bytes, or begins at an address that an instruction can have: even and not 0.
 fn is_placed(span: &Span) -> bool
     ensures { IsTrue result ↔ IsPlaced span.now }
 {
@@ -88,7 +88,7 @@ fn lowest_misplaced(spans: &[Span]) -> Option<u64>
     lowest
 }
 
-// The bytes of the spans that have some, each with the place of its span in the list.
+// The byte ranges of the spans that aren't empty, each with the index of its span.
 fn extents_of(alloc: Global, spans: &[Span]) -> Result<Vec<Extent>, NoMemory>
     ensures { IfOk result (λ extents. AreExtentsOf spans.now (length spans.now) extents.items) }
 {
@@ -105,8 +105,8 @@ fn extents_of(alloc: Global, spans: &[Span]) -> Result<Vec<Extent>, NoMemory>
     Ok(extents)
 }
 
-// The lowest input of a span that shares a byte with another one. Extents have indices for places, and the order of
-// these is that of the inputs.
+// The lowest input of a span that shares a byte with another one. The extents' places are indices of `sorted`, so their
+// order is the order of the inputs.
 fn lowest_sharing(alloc: Global, sorted: &[Span]) -> Result<Option<u64>, NoMemory>
     requires { IsNonDecreasingBy (λ s. s.input) sorted.now }
     ensures { IfOk result (IsLowest (IsSharing sorted.now)) }
@@ -118,8 +118,8 @@ fn lowest_sharing(alloc: Global, sorted: &[Span]) -> Result<Option<u64>, NoMemor
     }
 }
 
-/// The lowest place at which spans aren't a map of a program's code. `sorted` has them by their inputs; what the
-/// clauses say holds of them in any order.
+/// The lowest place at which spans aren't a map of a program's code. `sorted` has the spans in order of their inputs;
+/// the clauses don't depend on the order.
 pub fn lowest_bad_span(
     alloc: Global,
     sorted: &[Span],

@@ -9,7 +9,7 @@ use addr_map::Span;
 use rb_bytes::fault::NoMemory;
 use std::alloc::Global;
 
-/// What reading the text of a map came to.
+/// The result of reading the text of a map.
 #[derive(Drop)]
 pub enum MapRead {
     /// The spans, in the order of their lines.
@@ -37,7 +37,7 @@ pub fn read(alloc: Global, text: &[u8]) -> Result<MapRead, NoMemory>
     Ok(MapRead::Spans(spans))
 }
 
-// The span of the line with which a text begins, and the text after that line.
+// The span of a text's first line, and the text after this line.
 fn first_line(text: &[u8]) -> Option<(Span, &[u8])>
     ensures some { IfSome result (λ p. text.now ≡ span_line p.0 ++ p.1.now) }
     ensures fits { IfSome result (λ p. FitsLine p.0) }

@@ -3,7 +3,7 @@ use Rattle.std.specs.Prelude.{◌≡◌, ◌⊎◌, ◌+◌, ◌≤◌, List, Al
 use Rattle.std.specs.List.Sorted.{IsNonDecreasingBy}
 use Rattle.rv_code.specs.declared.cell.CodeCell.{CodeCell}
 
--- cells by address, which share no byte
+-- cells in order of their addresses, which share no byte
 pub record AreApart (cells : List CodeCell) : Type 0 where
   pub rising : IsNonDecreasingBy (λ c. c.addr) cells
   pub apart : AllPairs (λ c d. c.addr + c.width ≤ d.addr) cells

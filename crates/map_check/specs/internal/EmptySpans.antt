@@ -1,4 +1,4 @@
--- Held addresses whose spans are empty.
+-- Addresses of the code that are held, and whose spans are empty.
 use Rattle.std.specs.Prelude.{ℕ, ◌==◌, Bool, Any, IsTrue, find, false, List}
 use Rattle.std.specs.Option.{option_map_or}
 use Rattle.rv_code.specs.declared.placed.Role.{Role}
@@ -17,6 +17,6 @@ NamedByRoles spans roles a = Any (λ r. RoleNames r.1 a) roles × IsTrue (is_emp
 abbrev pub NamedByCells : List Span → List CodeCell → ℕ → Type 0
 NamedByCells spans cells a = Any (λ c. CellNames c a) cells × IsTrue (is_empty_at spans a)
 
--- something holds `a`, of which the first span has no bytes
+-- `a` is held, and its first span has no bytes
 abbrev pub IsHeldEmpty : ProgramCode → List Span → ℕ → Type 0
 IsHeldEmpty code spans a = IsHeld code a × IsTrue (is_empty_at spans a)

@@ -1,4 +1,4 @@
--- What tells the hidden fields of a file's headers.
+-- Which fields of a file's headers are hidden, in the terms of the code.
 use Rattle.std.specs.Prelude.{◌≡◌, ◌++◌, ◌||◌, nat_le, is_none, Bool, List}
 use Rattle.elf_image.specs.declared.elf.Elf.{Elf}
 use Rattle.elf_image.specs.memory.CodeSegment.{executable_end, executable_segment}

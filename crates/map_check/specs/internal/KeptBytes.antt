@@ -1,4 +1,4 @@
--- Bytes that an input loads and a rewrite keeps, as a check sees them.
+-- Bytes that an input loads and a rewrite keeps, in the terms of the code.
 use Rattle.std.specs.Prelude.{◌≡◌, ℕ, ◌-◌, ◌<◌, ◌≤◌, slice_index_or, IsTrue, Bool, false, List, Option, Some, None}
 use Rattle.std.specs.Option.{option_map_or}
 use Rattle.elf_image.specs.declared.elf.Elf.{Elf}
@@ -29,20 +29,20 @@ SameFlags p q =
 abbrev pub in_entry : Option ℕ → ℕ → Bool
 in_entry entry a = option_map_or (λ start. is_in_range a (record { start = start; size = 8 })) entry false
 
--- the first place of a range at which something doesn't hold
+-- the first place of a range at which Holds is false, if there is one
 abbrev pub IsFirstIn : (ℕ → Type 0) → ℕ → ℕ → Option ℕ → Type 0
 IsFirstIn Holds start end None = (q : ℕ) → start ≤ q → q < end → Holds q
 IsFirstIn Holds start end (Some p) =
     (start ≤ p) × (p < end) × (Holds p → ⊥) × ((q : ℕ) → start ≤ q → q < p → Holds q)
 
--- both segments have a zero at an address, past the bytes that come from their files
+-- both segments have a zero at address a, after the bytes that they load from their files
 abbrev pub AreZeros : ℕ → Segment → Segment → Type 0
 AreZeros a p q = (p.filesz ≤ a - p.vaddr) × (q.filesz ≤ a - q.vaddr)
 
--- a segment loads an address at which the byte isn't kept
+-- a segment loads address a, whose byte isn't kept
 abbrev pub IsChangedIn : Rewrite → Segment → ℕ → Type 0
 IsChangedIn r p a = IsTrue (loads_address a p) × (IsKept r a → ⊥)
 
--- the same of the segment at the index k
+-- the segment with index k loads address a, whose byte isn't kept
 abbrev pub ChangedAt : Rewrite → List Segment → ℕ → ℕ → Type 0
 ChangedAt r segments k a = (d : Segment) → IsChangedIn r (slice_index_or segments k d) a

@@ -1,4 +1,4 @@
--- What is found in the code of an output.
+-- Instructions in the code of an output.
 use Rattle.std.specs.Prelude.{◌≡◌, ℕ, ◌==◌, ◌&&◌, Bool, false, ℤ, Option, Some, None, unwrap_or, option_and_then}
 use Rattle.rv_code.specs.declared.inst.Inst.{Inst}
 use Rattle.rv_code.specs.declared.inst.Inst.TheVariants.{Jal}
@@ -12,7 +12,7 @@ use Rattle.move_law.specs.Rewrite.{HasAt, width_at}
 abbrev pub byte_or_zero : Elf → Option ℕ → ℕ
 byte_or_zero elf address = unwrap_or (option_and_then (byte_at elf) address) 0
 
--- the one instruction that stands at a place, with its width
+-- the only instruction at address p, with its width
 pub record IsOnlyAt (x : Executable) (p : ℕ) (inst : Inst) (width : ℕ) : Type 0 where
   pub has : HasAt x p inst
   pub width_is : width ≡ width_at x p
@@ -22,13 +22,13 @@ abbrev pub FindsAt : Executable → ℕ → Option (Inst × ℕ) → Type 0
 FindsAt x p None = (inst : Inst) → HasAt x p inst → ⊥
 FindsAt x p (Some found) = IsOnlyAt x p found.0 found.1
 
--- a jump that saves nothing leads from p to q
+-- there is a jump from p to q that saves no return address
 pub record Jumps (x : Executable) (p q : ℕ) : Type 0 where
   pub imm : ℤ
   pub has : HasAt x p (Jal 0 imm)
   pub leads : plus p (unsigned64 imm) ≡ q
 
--- an instruction at a place is a jump that saves nothing, and leads to another place
+-- an instruction at `from` is a jump to `to` that saves no return address
 abbrev pub leads_to : Inst → ℕ → ℕ → Bool
 leads_to (Jal rd imm) from to = rd == 0 && plus from (unsigned64 imm) == to
 leads_to _ from to = false

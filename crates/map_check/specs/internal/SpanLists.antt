@@ -1,4 +1,4 @@
--- Lists of spans beside those of instructions, and the bytes that spans have.
+-- Lists of spans compared with lists of instructions, and the bytes of spans.
 use Rattle.std.specs.Prelude.{◌≡◌, ℕ, ◌+◌, ◌<◌, ◌==◌, min, Contains, All, slice_index_or, List, [], ◌∷◌, Option, Some}
 use Rattle.std.specs.Prelude.{None, map, if◌then◌else◌}
 use Rattle.rv_code.specs.declared.placed.Func.{Func}
@@ -11,25 +11,25 @@ use Rattle.addr_map.specs.declared.span.Span.{Span}
 abbrev pub addresses : List Func → List ℕ
 addresses funcs = map (λ p. p.addr) (insts_of funcs)
 
--- the lower of the first input and address that differ
+-- the first input and address that differ, pair by pair: the lower of the two
 abbrev pub first_difference : List Span → List ℕ → Option ℕ
 first_difference [] [] = None
 first_difference [] (a ∷ bs) = Some a
 first_difference (s ∷ spans) [] = Some s.input
 first_difference (s ∷ spans) (a ∷ bs) = if s.input == a then first_difference spans bs else Some (min s.input a)
 
--- the bytes of a span, with a place
+-- the bytes of the span with index k
 abbrev pub extent_of : ℕ → Span → Extent
 extent_of k s = record { start = s.out; end = s.out + s.len; place = k }
 
--- a span that stands for those past a list's end
+-- a default, for indices past a list's end
 abbrev pub no_span : Span
 no_span = record { out = 0; len = 0; input = 0 }
 
 abbrev pub span_at : List Span → ℕ → Span
 span_at spans k = slice_index_or spans k no_span
 
--- the bytes of those of the first n spans that have some, with their places in the list
+-- the byte ranges of the first n spans, without the empty ones, each with the index of its span
 pub record AreExtentsOf (spans : List Span) (n : ℕ) (extents : List Extent) : Type 0 where
   pub only : (e : Extent) → Contains extents e →
       (k : ℕ) × (k < n) × (0 < (span_at spans k).len) × (e ≡ extent_of k (span_at spans k))

@@ -1,4 +1,4 @@
--- What a check has found of a rewrite.
+-- Intermediate results of a check.
 use Rattle.std.specs.Prelude.{◌≡◌, ◌≤◌, ℕ, All, Bool, List}
 use Rattle.rv_code.specs.declared.cell.CodeCell.{CodeCell}
 use Rattle.rv_code.specs.layout.Flow.{insts_of}
@@ -15,7 +15,7 @@ use Rattle.map_check.specs.declared.clause.Verdict.TheVariants as verdict
 use Rattle.map_check.specs.FirstFalse.{IsFalseIn, IsFirstFalse, number_of}
 use Rattle.map_check.specs.internal.Cells.{AreApart, HasWidth}
 
--- what is known of the two files and the code cells of the input
+-- what holds for the two files and for the code cells of the input
 pub record AreReady (input : Elf) (cells : List CodeCell) (output : Elf) : Type 0 where
   pub input_low : IsLow input
   pub input_read : IsElfOf input.file.now input
@@ -29,11 +29,11 @@ pub record AreInputsOf (r : Rewrite) (input : Elf) (code : ProgramCode) (tight :
   pub code_is : r.code ≡ code
   pub tight_is : r.tight ≡ tight
 
--- the first n clauses are false nowhere
+-- the clauses with numbers up to n are false nowhere
 abbrev pub HoldUpTo : Rewrite → ℕ → Type 0
 HoldUpTo r n = (which : Clause) (place : ℕ) → number_of which ≤ n → IsFalseIn r which place → ⊥
 
--- the clauses on code
+-- the clauses on code hold
 pub record KeepsAllCode (r : Rewrite) : Type 0 where
   pub map : IsMapOf r
   pub span_bytes : All (λ s. AreCodeBytes r.output s.out s.len) r.spans
