@@ -1,4 +1,4 @@
--- Pairs in order: each stands once, and is looked up.
+-- Pairs in order: each occurs once, and can be looked up.
 use Rattle.std.proofs.Common.{◌≡◌, ◌≢◌, ◌<◌, ◌≤◌, ◌∙◌, ◌⊎◌, ℕ, suc, zero, Bool, true, false, List, [], ◌∷◌, length, get_or, arith}
 use Rattle.std.proofs.Common.{refl, ap, sym, subst, inl, inr, ⊎_elim, All, AllPairs, Contains}
 use Rattle.std.specs.Prelude.{◌==◌, ◌&&◌, if◌then◌else◌, sum_by}
@@ -9,7 +9,7 @@ use Rattle.std.proofs.lemmas.List.Sums.{sum_by-cons}
 use Rattle.edge_profile.specs.PairCounts.{Counted, count_among, is_pair, IsCountedBefore, IsCountOf, ArePairs}
 use Rattle.edge_profile.specs.Pairs.{IsAscending, IsCountBelow, is_before}
 
--- Sums of which at most one term counts.
+-- Sums in which at most one term isn't 0.
 
 pub sum_none : {X : Type 0} (f : X → ℕ) (xs : List X) →
     ((j : ℕ) (d : X) → j < length xs → f (get_or xs j d) ≡ 0) → sum_by f xs ≡ 0
@@ -84,7 +84,7 @@ before_trans x y z (inl a) (inr (e, b)) = inl (omega arith)
 before_trans x y z (inr (e, a)) (inl b) = inl (omega arith)
 before_trans x y z (inr (e, a)) (inr (f, b)) = inr (e ∙ f, omega arith)
 
--- what comes before another is no count of its pair, and neither is what comes after it
+-- a pair that comes before another isn't the same pair, and neither is one that comes after it
 other_before : (x y : Counted) → IsCountedBefore x y → is_pair y.0 y.1 x ≡ false
 other_before x y (inl less) = rw (ne_eqb x.0 y.0 (λ e. omega arith)) refl
 other_before x y (inr (same, less)) = rw (eq-eqb x.0 y.0 same, ne_eqb x.1 y.1 (λ e. omega arith)) refl
@@ -117,7 +117,7 @@ count_none pairs from to k is all =
     (other_before (get_or pairs j d) (from, to, 0)
     (before_from_test (get_or pairs j d) (from, to, 0) (is.below j d (omega arith)))))
 
--- a pair that isn't before another comes before what comes after it
+-- if a pair doesn't come before another, the pairs after it are other pairs
 after_not_before : (x q : Counted) → is_before x q ≡ false → (y : Counted) → IsCountedBefore x y → is_pair q.0 q.1 y ≡ false
 after_not_before x q not' y up = ⊎_elim
     (λ (here : (y.0 ≡ q.0) × (y.1 ≡ q.1)).
@@ -151,7 +151,7 @@ count_at pairs ascending from to k is d within =
         (ordered_pairs pairs ascending k j e (omega arith) inside))
         (cases_lt j k)
 
--- The pairs in order are all pairs of positive count.
+-- The pairs in order are all pairs with positive counts.
 
 count_of_item : (pairs : List Counted) → IsAscending pairs → (k : ℕ) (d : Counted) → k < length pairs
     → count_among (get_or pairs k d).0 (get_or pairs k d).1 pairs ≡ (get_or pairs k d).2

@@ -1,4 +1,4 @@
--- The blocks of a program lie apart, in order.
+-- The blocks of a program are in order and don't overlap.
 use Rattle.std.proofs.Common.{◌≤◌, ℕ, List, Option, Some, None, get_or, arith, sym, subst, inl, inr}
 use Rattle.std.specs.Prelude.{IsSomeAnd, slice_get}
 use Rattle.std.proofs.lemmas.List.Elements.{Contains-get_or}

@@ -1,4 +1,4 @@
--- What is known of names, one symbol more at a time.
+-- The values of names, with one more symbol at a time.
 use Rattle.std.proofs.Common.{◌≡◌, ◌<◌, ◌+◌, ◌∙◌, ℕ, Bool, true, false, cond, List, [], ◌∷◌, Option, Some, None, ap, refl, sym, subst}
 use Rattle.std.proofs.Common.{length, get_or, take, set, arith, replicate}
 use Rattle.std.proofs.lemmas.List.{get_or-set_same, get_or-set_other, length-set, get_or-replicate, length-replicate}
@@ -41,11 +41,11 @@ module _ (names : Backward) (symbols : List Symbol) (i : ℕ) (d : Symbol) (with
   abbrev own : List ℕ
   own = (get_or symbols i d).name.now
 
-  -- a name has one more value
+  -- a name gets one more value
   abbrev noted : ℕ → Option (Option ℕ)
   noted j = Some (next_known (get_or known j None) (get_or symbols i d).value)
 
-  -- it names no function
+  -- the symbol names no function
   pub known-other : names_function (get_or symbols i d) ≡ false → AreKnown names (take (i + 1) symbols) known
   known-other other = record {
     count_is = was.count_is;
@@ -53,7 +53,7 @@ module _ (names : Backward) (symbols : List Symbol) (i : ℕ) (d : Symbol) (with
         was.each name k is ∙ ap (λ (vs : List ℕ). Some (known_by vs)) (sym (values-other symbols i d within name other));
   }
 
-  -- its name isn't among the names
+  -- the symbol's name isn't among the names
   known-unnamed : names_function (get_or symbols i d) ≡ true → index_of names own ≡ None →
       AreKnown names (take (i + 1) symbols) known
   known-unnamed function unnamed = record {
@@ -76,7 +76,7 @@ module _ (names : Backward) (symbols : List Symbol) (i : ℕ) (d : Symbol) (with
               absurd (cc)
           by false other = refl
 
-  -- its name is
+  -- the symbol's name is among the names
   known-named : names_function (get_or symbols i d) ≡ true → (j : ℕ) → index_of names own ≡ Some j →
       AreKnown names (take (i + 1) symbols)
       (set known j (noted j))
@@ -123,12 +123,12 @@ module _ (names : Backward) (symbols : List Symbol) (i : ℕ) (d : Symbol) (with
   known-more function None is = known-unnamed function is
   known-more function (Some j) is = known-named function j is
 
--- The value by what is known.
+-- A name's value by the table's entry.
 pub known-value : (vs : List ℕ) → option_flatten (known_by vs) ≡ only_value vs
 known-value [] = refl
 known-value (v ∷ vs) = refl
 
--- One more name with its value.
+-- The table gets the value of one more name.
 pub values-more : (symbols : List Symbol) (old new : Values) (name : List ℕ) (value : Option ℕ) →
     ((other : List ℕ) → known_of new other ≡ (if bytes_eq name other then Some value else known_of old other)) →
     value ≡ named_value symbols name → AreValues symbols old → AreValues symbols new
@@ -142,7 +142,7 @@ values-more symbols old new name value is right were other v found = by (bytes_e
         sym (same value v e) ∙ right ∙ ap (named_value symbols) ((bytes_decides name other).0 alike)
     by false unlike e = were other v e
 
--- The value of a name that is known.
+-- The value of a name that is in the table.
 pub value-known : (names : Backward) (symbols : List Symbol) (known : Known) (name : List ℕ) (k : ℕ) (d : Option (Option ℕ)) →
     AreKnown names symbols known → index_of names name ≡ Some k → option_flatten (get_or known k d) ≡ named_value symbols name
 value-known names symbols known name k d are is =

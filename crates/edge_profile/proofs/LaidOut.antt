@@ -1,4 +1,4 @@
--- Instructions of functions that are laid out.
+-- Instructions of functions that don't overlap.
 use Rattle.std.proofs.Common.{◌≡◌, ◌≢◌, ◌<◌, ◌≤◌, ◌+◌, ◌-◌, ◌∙◌, ℕ, Bool, true, false, List, [], ◌∷◌, length, get_or, arith, refl}
 use Rattle.std.proofs.Common.{ap, sym, subst, ⊎_elim, AllPairs, find, is_some, cond, Some}
 use Rattle.std.specs.Prelude.{◌==◌, ◌||◌, nat_le}
@@ -27,7 +27,7 @@ non_decreasing insts rising i j d le within = ⊎_elim
     subst (λ (k : ℕ). (get_or insts i d).addr ≤ (get_or insts k d).addr) same (omega arith))
     (cases_lt i j)
 
--- An address outside a function starts none of its instructions.
+-- At an address outside of a function, none of its instructions starts.
 pub starts_below : (func : Func) → IsLaidOut func → (a : ℕ) → a < func.start → starts_at func.insts.items a ≡ false
 starts_below func laid a below =
     list_any_none (λ p. p.addr == a) func.insts.items
@@ -54,7 +54,7 @@ module _ (funcs : List Func) (laid : AreLaidOut funcs) where
       subst (λ (k : ℕ). (get_or funcs i d).start ≤ (get_or funcs k d).start) same (omega arith))
       (cases_lt i j)
 
--- Where a function starts at an address or below it, so do all before it; and where it starts behind it, so do all behind.
+-- If a function starts at or below an address, all functions before it do; if it starts above the address, all functions after it do.
 module _ (funcs : List Func) (laid : AreLaidOut funcs) (a n : ℕ) (e : Func) where
   partitioned_starts : IsPartitionedBy (λ f. nat_le f.start a) funcs
   partitioned_starts = IsPartitionedBy-leb (λ (f : Func). f.start) funcs a (funcs_rise funcs laid)
@@ -87,7 +87,7 @@ pub code_address-list_any : (funcs : List Func) (a : ℕ) →
     is_code_address funcs a ≡ list_any (λ f. starts_at f.insts.items a) funcs
 code_address-list_any funcs a = is_some-find (λ p. p.addr == a) (insts_of funcs) ∙ code-list_any funcs a
 
--- where an instruction has its place, one starts
+-- an instruction starts at the address to which indices belong
 pub code_address_at : (funcs : List Func) (a f i : ℕ) → IsInstPlace funcs a f i → is_code_address funcs a ≡ true
 code_address_at funcs a f i is =
     let g = any_element funcs f is.func_within in
@@ -97,7 +97,7 @@ code_address_at funcs a f i is =
     ∙ list_any_at (λ h. starts_at h.insts.items a) funcs f g is.func_within
     (list_any_at (λ q. q.addr == a) insts i p (is.inst_within g) (eq-eqb (get_or insts i p).addr a (is.starts g p)))
 
--- no instruction starts at an address that lies in no function
+-- if no function has an instruction at an address, none starts there
 no_code_address : (funcs : List Func) (a : ℕ)
     → ((k : ℕ) (d : Func) → k < length funcs → starts_at (get_or funcs k d).insts.items a ≡ false)
     → is_code_address funcs a ≡ false
@@ -110,8 +110,7 @@ no_code_from funcs laid a far =
     let end : (get_or funcs k d).end ≤ address_end = laid.low k d within in
     starts_above (get_or funcs k d) (laid.each k d within) a (omega arith))
 
--- The functions up to one start at an address or below it, and those after it above: so only that one can have an
--- instruction there.
+-- If the first n functions start at or below an address and the others above it, only the last of the n can have an instruction there.
 pub no_code_at : (funcs : List Func) → AreLaidOut funcs → (a below : ℕ) → below ≤ length funcs
     → ((k : ℕ) (d : Func) → k < below → (get_or funcs k d).start ≤ a)
     → ((k : ℕ) (d : Func) → below ≤ k → k < length funcs → a < (get_or funcs k d).start)
@@ -133,7 +132,7 @@ no_code_at funcs laid a below bound up above here = no_code_address funcs a each
         (λ (more : below ≤ k). starts_below (get_or funcs k d) (laid.each k d within) a (above k d more within))
         (cases_lt k below)
 
--- No function starts at an address but the last that starts at it or below.
+-- Only the last function that starts at or below an address can start there.
 pub function_starts : (funcs : List Func) → AreLaidOut funcs → (a below : ℕ) → below ≤ length funcs → 0 < below
     → ((k : ℕ) (d : Func) → k < below → (get_or funcs k d).start ≤ a)
     → ((k : ℕ) (d : Func) → below ≤ k → k < length funcs → a < (get_or funcs k d).start)
@@ -165,7 +164,7 @@ no_function_starts funcs a above =
     let over = above k d within in
     ne_eqb (get_or funcs k d).start a (λ e. omega arith))
 
--- no instruction of ascending ones starts at an address between two neighbours
+-- if instructions are in order, none starts at an address between two neighbours
 pub no_inst_at : (insts : List Placed) (a below : ℕ) → ((k : ℕ) (d : Placed) → k < below → (get_or insts k d).addr < a)
     → ((k : ℕ) (d : Placed) → below ≤ k → k < length insts → a < (get_or insts k d).addr) → starts_at insts a ≡ false
 no_inst_at insts a below low high =
@@ -175,7 +174,7 @@ no_inst_at insts a below low high =
     (λ (more : below ≤ k). let over = high k d more within in omega arith)
     (cases_lt k below)))
 
--- the same of addresses at or above one, of which the first is above it
+-- if the first instruction at or above an address starts above it, none starts at the address
 pub no_inst_from : (insts : List Placed) → AllPairs (λ p q. p.addr < q.addr) insts → (a below : ℕ) (e : Placed)
     → ((k : ℕ) (d : Placed) → k < below → (get_or insts k d).addr < a)
     → ((k : ℕ) (d : Placed) → below ≤ k → k < length insts → a ≤ (get_or insts k d).addr)

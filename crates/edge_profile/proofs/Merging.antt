@@ -1,4 +1,4 @@
--- Counts merged one after another.
+-- Merging counts one after another.
 use Rattle.std.proofs.Common.{◌≡◌, ◌≢◌, ◌<◌, ◌≤◌, ◌+◌, ◌-◌, ◌*◌, ◌^◌, ◌∙◌, ◌⊎◌, ℕ, Bool, true, false, List, [], ◌∷◌}
 use Rattle.std.proofs.Common.{◌++◌, length, get_or, set, take, arith, refl, ap, sym, subst, inl, inr, ⊎_elim, All, AllPairs}
 use Rattle.std.proofs.Common.{length-set, get_or-set_same, get_or-set_other}
@@ -15,7 +15,7 @@ use Rattle.edge_profile.specs.PairCounts.{Counted, count_among, is_pair, total_c
 use Rattle.edge_profile.specs.Pairs.{IsNotAfter, AreMerged, AddsCount, is_last_pair}
 use Rattle.edge_profile.proofs.Neighbours.{all_pairs}
 
--- Two counts of one pair are counted as their sum.
+-- Two counts of one pair count as their sum.
 added-sum : (from to : ℕ) (x : Counted) (n : ℕ)
     → (if is_pair from to x then x.2 + n else 0) ≡ (if is_pair from to x then x.2 else 0) + (if is_pair from to x then n else 0)
 added-sum from to x n = at (is_pair from to x)
@@ -34,7 +34,7 @@ module _ (old : List Counted) (k : ℕ) (p d : Counted) (within : k < length old
   abbrev pub new : List Counted
   new = set old k (item.0, item.1, item.2 + p.2)
 
-  -- an element of the new list has the addresses of the old one's
+  -- the items of the new list have the same addresses as those of the old list
   same_from : (i : ℕ) (e : Counted) → i < length old → (get_or new i e).0 ≡ (get_or old i e).0
   same_from i e inside = ⊎_elim
       (λ (same : i ≡ k).
@@ -51,7 +51,7 @@ module _ (old : List Counted) (k : ℕ) (p d : Counted) (within : k < length old
       (λ (other : i ≢ k). ap (λ (x : Counted). x.1) (get_or-set_other old k i (item.0, item.1, item.2 + p.2) e other))
       (cases_eq i k)
 
-  -- a count added to the pair of an element
+  -- a count is added to the pair of one item
   pub added_raised : item.0 ≡ p.0 → item.1 ≡ p.1 → AllPairs IsCountedBefore old → 0 < p.2 → AddsCount old new p
   added_raised e f ordered some = record {
     counts = λ from to.
@@ -83,12 +83,12 @@ module _ (old : List Counted) (k : ℕ) (p d : Counted) (within : k < length old
       not_after_same x x' q a b (inl less) = inl (omega arith)
       not_after_same x x' q a b (inr (same, le)) = inr (a ∙ same, omega arith)
 
--- what the test of the last pair says
+-- the test of the last pair, split
 last_is : (b c : Bool) → (not b && c) ≡ true → (b ≡ false) × (c ≡ true)
 last_is true c is = absurd (cc)
 last_is false c is = (refl, is)
 
--- a count added to the last pair
+-- a count is added to the last pair
 pub raised_last : (old : List Counted) (k : ℕ) (x p : Counted) → is_last_pair p.0 p.1 old ≡ true
     → k ≡ length old - 1 → x ≡ get_or old k x
     → AllPairs IsCountedBefore old → 0 < p.2 → AddsCount old (set old k (x.0, x.1, x.2 + p.2)) p
@@ -105,7 +105,7 @@ raised_last old k x p last at read ordered some =
     subst (λ (y : Counted). AddsCount old (set old k (y.0, y.1, y.2 + p.2)) p) (sym read)
     (added_raised old k p x within from to ordered some)
 
--- a pair that isn't after another, and isn't the same, comes before it
+-- a pair that doesn't come after another, and isn't the same pair, comes before it
 strictly : (x p : Counted) → IsNotAfter x p → is_pair p.0 p.1 x ≡ false → IsCountedBefore x p
 strictly x p (inl less) other = inl less
 strictly x p (inr (same, le)) other = ⊎_elim
@@ -122,7 +122,7 @@ then_before x y p (inl a) (inr (e, b)) = inl (omega arith)
 then_before x y p (inr (e, a)) (inl b) = inl (omega arith)
 then_before x y p (inr (e, a)) (inr (f, b)) = inr (e ∙ f, omega arith)
 
--- a count of a pair that comes after all
+-- a count of a pair that comes after all others
 pub added_pushed : (old : List Counted) (p : Counted) → 0 < p.2 → All (λ q. IsNotAfter q p) old → AllPairs IsCountedBefore old
     → is_last_pair p.0 p.1 old ≡ false → AddsCount old (old ++ p ∷ []) p
 added_pushed old p some all ordered other = record {
@@ -150,7 +150,7 @@ added_pushed old p some all ordered other = record {
         strictly (get_or old k d) p (all k d within) (subst (λ (j : ℕ). is_pair p.0 p.1 (get_or old j d) ≡ false) same differs))
         (cases_lt k (length old - 1))
 
--- The first so many counts are merged, and none that follows is of a pair before these.
+-- The first i counts are merged, and no later count is of a pair before theirs.
 pub record IsMergedTo (said : List Counted) (i : ℕ) (pairs : List Counted) : Type 0 where
   pub counts : (from to : ℕ) → count_among from to pairs ≡ count_among from to (take i said)
   pub bound : total_count pairs ≤ i * 2 ^ 64
@@ -158,7 +158,7 @@ pub record IsMergedTo (said : List Counted) (i : ℕ) (pairs : List Counted) : T
   pub ordered : AllPairs IsCountedBefore pairs
   pub not_after : (j : ℕ) (d : Counted) → i ≤ j → j < length said → All (λ p. IsNotAfter p (get_or said j d)) pairs
 
--- one count more
+-- one more count
 pub merged_more : (said : List Counted) (i : ℕ) (pairs new : List Counted) (d : Counted)
     → AllPairs IsNotAfter said → i < length said
     → (get_or said i d).2 < 2 ^ 64 → AddsCount pairs new (get_or said i d) → IsMergedTo said i pairs → IsMergedTo said (i + 1) new
@@ -191,7 +191,7 @@ merged_all said i pairs all within is =
       ordered = is.ordered;
     }
 
--- in whatever order the counts are
+-- the order of the counts doesn't matter
 pub merged-permutation : (xs ys pairs : List Counted) → IsPermutation xs ys → AreMerged ys pairs → AreMerged xs pairs
 merged-permutation xs ys pairs moved is = record {
   counts = λ from to. is.counts from to ∙ sum_by-IsPermutation (λ q. if is_pair from to q then q.2 else 0) xs ys moved;
@@ -200,7 +200,7 @@ merged-permutation xs ys pairs moved is = record {
   ordered = is.ordered;
 }
 
--- What a sort by both addresses gives.
+-- The result of a sort by both addresses.
 
 from_cmp : (a b c d : ℕ) → is_lt (ordering_then (nat_cmp c a) (nat_cmp d b)) ≡ false → (a < c) ⊎ ((a ≡ c) × (b ≤ d))
 from_cmp a b c d is = ⊎_elim

@@ -1,4 +1,4 @@
--- The range of the names with an end.
+-- The range of the names with a suffix.
 use Rattle.std.proofs.Common.{◌≡◌, ◌<◌, ◌≤◌, ◌+◌, ◌-◌, ◌∙◌, ℕ, suc, List, [], ◌∷◌, ◌++◌, Some, None, ap, sym}
 use Rattle.std.proofs.Common.{length, take, get_or, arith, reverse, subst, ⊎_elim}
 use Rattle.std.proofs.lemmas.Bool.{cases_lt}
@@ -14,7 +14,7 @@ use Rattle.edge_profile.proofs.NameIndices.{first_index, no_index}
 reverse-cons : (byte : ℕ) (end : List ℕ) → reverse (byte ∷ end) ≡ reverse end ++ byte ∷ []
 reverse-cons byte end = reverse-append (byte ∷ []) end
 
--- A name that has an end, in terms of the end written backwards.
+-- A name has a suffix, in terms of the suffix written backwards.
 module _ (end : List ℕ) (n : BackwardName) where
   begins : HasEnd end n → take (length (reverse end)) n.items ≡ reverse end
   begins has = ap (λ (k : ℕ). take k n.items) (length-reverse end) ∙ has
@@ -44,7 +44,7 @@ module _ (names : Backward) (in_order : AreInOrder names) (end : List ℕ) (e : 
   abbrev Ascends : Backward → Type 0
   Ascends xs = IsNonDecreasingBy (λ n. code_at e.depth n.items) xs
 
-  -- What comes before the end ascends.
+  -- The bytes before the suffix ascend.
   pub codes-ascend : (xs : Backward) → length xs ≡ e.end - e.start →
       ((k : ℕ) (d : BackwardName) → k < length xs → get_or xs k d ≡ get_or names (e.start + k) d) →
       IsNonDecreasingBy (λ n. code_at e.depth n.items) xs
@@ -66,7 +66,7 @@ module _ (names : Backward) (in_order : AreInOrder names) (end : List ℕ) (e : 
       (subst (λ (n : BackwardName). code_at (length (reverse end)) (get_or names (e.start + i) d).items
       ≤ code_at (length (reverse end)) n.items) (sym at_j) rise))
 
-  -- One byte more before the end.
+  -- One more byte before the suffix.
   pub narrowed : (byte : ℕ) (xs : Backward) (below through : ℕ) → length xs ≡ e.end - e.start →
       ((k : ℕ) (d : BackwardName) → k < length xs → get_or xs k d ≡ get_or names (e.start + k) d) →
       below ≤ length xs → through ≤ length xs →
@@ -132,7 +132,7 @@ module _ (names : Backward) (in_order : AreInOrder names) (end : List ℕ) (e : 
           (same i d within ∙ ap (λ (n : ℕ). get_or names n d) place)
           ∙ ap (λ (m : ℕ). code_at m (get_or names k d).items) is.depth_is ∙ code
 
-  -- the same, of counts in the range as a list of its own
+  -- one more byte, with counts in the range as a list of its own
   pub narrowed-range : (byte : ℕ) (xs : Backward) (below through : ℕ) → xs ≡ slice_range names e.start e.end →
       below ≤ length xs → through ≤ length xs →
       (Ascends xs → (k : ℕ) (d : BackwardName) → k < below → code_at e.depth (get_or xs k d).items ≤ byte) →
@@ -155,7 +155,7 @@ module _ (names : Backward) (in_order : AreInOrder names) (end : List ℕ) (e : 
       ascends : Ascends xs
       ascends = codes-ascend xs size same
 
-  -- The name that is the end as a whole.
+  -- The name that equals the suffix.
 
   pub named-first : (d : BackwardName) → e.start < e.end → length (get_or names e.start d).items ≡ e.depth →
       index_of names end ≡ Some e.start

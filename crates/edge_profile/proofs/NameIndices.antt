@@ -60,7 +60,7 @@ index_is (n ∷ names) name k e =
         let within = at.0 in
         (omega (arith, next, within), λ d. subst (λ (i : ℕ). (get_or (n ∷ names) i d).items ≡ reverse name) next (at.1 d))
 
--- names of one index are alike
+-- names with the same index are equal
 pub same_index : (names : Backward) (p q : List ℕ) (k : ℕ) → index_of names p ≡ Some k → index_of names q ≡ Some k → p ≡ q
 same_index [] p q k of_p of_q = absurd (cc)
 same_index (n ∷ names) p q k of_p of_q =
@@ -68,7 +68,7 @@ same_index (n ∷ names) p q k of_p of_q =
     ∙ ap reverse (sym ((index_is (n ∷ names) p k of_p).1 n) ∙ (index_is (n ∷ names) q k of_q).1 n)
     ∙ reverse-reverse q
 
--- an index that is found lies in each list of as many items
+-- an index that is found is within each list of the same length
 pub within_names : {A : Type 0} (names : Backward) (name : List ℕ) (xs : List A) (o : Option ℕ) → length xs ≡ length names →
     index_of names name ≡ o → IfSome o (λ k. k < length xs)
 within_names names name xs None count is = tt

@@ -1,4 +1,4 @@
--- Names in order, each written backwards: those with one end stand beside each other.
+-- Names in order, each written backwards: names with the same suffix are next to each other.
 use Rattle.std.proofs.Common.{◌≡◌, ◌<◌, ◌≤◌, ◌+◌, ◌∙◌, ℕ, zero, suc, Bool, true, false, cond, List, [], ◌∷◌, ◌++◌, ap, refl, sym}
 use Rattle.std.proofs.Common.{length, take, get_or, arith, nat_lt, Ordering}
 use Rattle.std.proofs.lemmas.Bool.{ltb-false}
@@ -21,7 +21,7 @@ same_tail a b xs ys same = ap (λ (l : List ℕ). tail l) same
 no_item : {G : Type 0} (a : ℕ) (xs : List ℕ) → [] ≡ a ∷ xs → G
 no_item a xs same = absurd (let l = ap length same in omega (arith, l))
 
--- A list begins with w and then b just where it begins with w and has b there.
+-- A list begins with w followed by b exactly if it begins with w and has b after it.
 
 pub begins_more : (w x : List ℕ) (b : ℕ) → take (length w) x ≡ w → code_at (length w) x ≡ suc b →
     take (suc (length w)) x ≡ w ++ b ∷ []
@@ -42,7 +42,7 @@ begins_less (a ∷ w) (c ∷ x) b begins =
     let head = same_head c a (take (suc (length w)) x) (w ++ b ∷ []) begins in
     (ap (λ (k : ℕ). k ∷ take (length w) x) head ∙ ap (λ (l : List ℕ). a ∷ l) rest.0, rest.1)
 
--- Of two lists in order that begin alike.
+-- Two lists in order with the same beginning.
 
 clash : {G : Type 0} → true ≡ false → G
 clash e = absurd (cc)
@@ -65,7 +65,7 @@ tails_rise a b x y same up =
     tied : (b a : ℕ) → b ≡ a → nat_cmp b a ≡ Ordering.Equal
     tied b a same = ap (nat_cmp b) (sym same) ∙ tied_itself nat_cmp_total b
 
--- what follows the common beginning ascends
+-- the bytes after the common beginning ascend
 pub codes_rise : (w x y : List ℕ) → is_lt (slice_cmp nat_cmp y x) ≡ false → take (length w) x ≡ w → take (length w) y ≡ w →
     code_at (length w) x ≤ code_at (length w) y
 codes_rise [] [] y up begins_x begins_y = omega arith
@@ -78,7 +78,7 @@ codes_rise (c ∷ w) (a ∷ x) (b ∷ y) up begins_x begins_y =
     (tails_rise a b x y (same_head a c (take (length w) x) w begins_x ∙ sym (same_head b c (take (length w) y) w begins_y)) up)
     (same_tail a c (take (length w) x) w begins_x) (same_tail b c (take (length w) y) w begins_y)
 
--- where the later is the common beginning, so is the earlier
+-- if the later list equals the common beginning, so does the earlier one
 pub first_is_whole : (w x y : List ℕ) → is_lt (slice_cmp nat_cmp y x) ≡ false → take (length w) x ≡ w → y ≡ w → x ≡ w
 first_is_whole [] [] y up begins is = refl
 first_is_whole [] (a ∷ x) [] up begins is = clash up
@@ -91,7 +91,7 @@ first_is_whole (c ∷ w) (a ∷ x) (b ∷ y) up begins is =
     (same_tail a c (take (length w) x) w begins) (same_tail b c y w is) in
     ap (λ (k : ℕ). k ∷ x) head ∙ ap (λ (l : List ℕ). c ∷ l) tail
 
--- The code at an index is that of the byte there, and 0 past the end.
+-- The code at an index is the byte there plus 1, and 0 past the end.
 
 pub code-within : (xs : List ℕ) (i d : ℕ) → i < length xs → code_at i xs ≡ get_or xs i d + 1
 code-within [] i d within = absurd (omega (arith, within))

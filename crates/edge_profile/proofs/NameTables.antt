@@ -1,4 +1,4 @@
--- Values of names, one symbol more at a time.
+-- Values of names, with one more symbol at a time.
 use Rattle.std.proofs.Common.{◌≡◌, ◌<◌, ◌+◌, ◌∙◌, ℕ, Bool, true, false, cond, List, [], ◌∷◌, ◌++◌, Some, None, ap, refl, sym, map}
 use Rattle.std.proofs.Common.{filter, length, get_or, take}
 use Rattle.std.proofs.lemmas.List.{take_more, append-nil, map-append}
@@ -31,7 +31,7 @@ known_by-push (w ∷ vs) v =
     joined true b e = ap (λ t. Some (cond t (Some w) None)) (sym e)
     joined false b e = refl
 
--- the values of a name, where one symbol more is looked at
+-- the values of a name after one more symbol
 module _ (symbols : List Symbol) (i : ℕ) (d : Symbol) (within : i < length symbols) (name : List ℕ) where
   more : symbol_values (take (i + 1) symbols) name
       ≡ symbol_values (take i symbols) name
@@ -51,7 +51,7 @@ module _ (symbols : List Symbol) (i : ℕ) (d : Symbol) (within : i < length sym
   values-other other = more ∙ ap (λ b. symbol_values (take i symbols) name ++ map (λ s. s.value)
       (cond (b && bytes_eq (get_or symbols i d).name.now name) (get_or symbols i d ∷ []) [])) other ∙ append-nil _
 
-  -- a function's symbol adds its value to those of its name
+  -- a function's symbol adds its value to its name's values
   pub known_values : names_function (get_or symbols i d) ≡ true
       → known_by (symbol_values (take (i + 1) symbols) name)
       ≡ (if bytes_eq (get_or symbols i d).name.now name

@@ -1,4 +1,4 @@
--- Lists in which each item and the next are related, by a relation that passes on.
+-- Lists in which each item and the next one are related, by a transitive relation.
 use Rattle.std.proofs.Common.{◌≡◌, subst, zero, suc, ℕ, ◌+◌, ◌-◌, ◌<◌, List, length, get_or, arith}
 use Rattle.std.specs.Prelude.{AllPairs}
 

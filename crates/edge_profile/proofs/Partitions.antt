@@ -1,15 +1,15 @@
--- Lists that a test partitions.
+-- Lists that are partitioned by a test.
 use Rattle.std.proofs.Common.{◌≡◌, ◌<◌, ◌≤◌, ◌+◌, ℕ, Bool, true, false, List, length, get_or, arith, refl, subst}
 use Rattle.std.specs.List.Sorted.{IsPartitionedBy}
 use Rattle.std.proofs.lemmas.List.{get_or_default}
 
 module _ {A : Type 0} (test : A → Bool) (xs : List A) (parted : IsPartitionedBy test xs) (n : ℕ) (e : A) where
-  -- Where an item passes, so do all before it.
+  -- If an item passes, all items before it do.
   pub passes_up_to : n < length xs → test (get_or xs n e) ≡ true → (k : ℕ) (d : A) → k < n + 1 → test (get_or xs k d) ≡ true
   passes_up_to within is k d less =
       parted k n d (omega arith) within (subst (λ (x : A). test x ≡ true) (get_or_default xs n e d within) is)
 
-  -- Where one doesn't, none behind it does.
+  -- If an item doesn't pass, no item after it does.
   pub fails_from : test (get_or xs n e) ≡ false → (k : ℕ) (d : A) → n ≤ k → k < length xs → test (get_or xs k d) ≡ false
   fails_from fails k d from within = by (test (get_or xs k d)) refl
     where

@@ -1,4 +1,4 @@
--- What the lines of a text say, one line more at a time.
+-- The pairs and counts of a text's lines, one more line at a time.
 use Rattle.std.proofs.Common.{◌≡◌, ◌≤◌, ◌+◌, ◌∙◌, ℕ, cond, List, [], ◌∷◌, ◌++◌, Some, None, length, arith, ap, sym, filter_map}
 use Rattle.std.proofs.Common.{append_assoc, length-append}
 use Rattle.std.proofs.lemmas.List.{append-nil}
@@ -15,7 +15,7 @@ use Rattle.edge_profile.specs.PairCounts.{Counted, counted_by}
 use Rattle.edge_profile.specs.FunctionNames.{AreNamesOf}
 use Rattle.edge_profile.specs.declared.function_names.FunctionNames.{FunctionNames}
 
--- what is said so far, and by the text that is left
+-- the lines read so far, and the text after them
 pub record SaysTo (names : FunctionNames) (funcs : List Func) (text left : List ℕ) (counted : List Counted)
     (ignored : ℕ) : Type 0 where
   pub counted_is : (symbols : List Symbol) → AreNamesOf symbols names
@@ -39,7 +39,7 @@ says_none names funcs text left counted is none = record {
 
 module _ (names : FunctionNames) (funcs : List Func) (text left rest line : List ℕ) (counted : List Counted) (ignored : ℕ)
     (next : lines left ≡ line ∷ lines rest) (was : SaysTo names funcs text left counted ignored) where
-  -- a line that names a pair
+  -- a line with a pair
   pub says_more : (p : Counted) → ((symbols : List Symbol) → AreNamesOf symbols names → Some p ≡ counted_by symbols funcs line)
       → SaysTo names funcs text rest (counted ++ p ∷ []) ignored
   says_more p is = record {
@@ -66,7 +66,7 @@ module _ (names : FunctionNames) (funcs : List Func) (text left rest line : List
           (λ o. cond (is_none o) 1 0 + count_by (λ l. is_none (counted_by symbols funcs l)) (lines rest)) (sym (is symbols are))
           ∙ omega arith
 
-  -- a line that names none
+  -- a line without a pair
   pub says_nothing : ((symbols : List Symbol) → AreNamesOf symbols names → None ≡ counted_by symbols funcs line)
       → SaysTo names funcs text rest counted (ignored + 1)
   says_nothing is = record {

@@ -1,4 +1,4 @@
--- The symbol table of a file that is truncated nowhere.
+-- The symbol table of a file that isn't truncated.
 use Rattle.std.proofs.Common.{◌≡◌, ◌<◌, ◌≤◌, ◌+◌, ◌*◌, ℕ, List, Option, Some, IfSome, length, get_or, arith, subst, ⊎_elim, sym, ◌∙◌}
 use Rattle.std.specs.Prelude.{◌==◌}
 use Rattle.std.proofs.lemmas.Bool.{eqb-true}
@@ -14,7 +14,7 @@ use Rattle.elf_image.specs.file.ParsedFile.{AreSymbols}
 use Rattle.elf_image.specs.file.Sections.{section_headers, text_of}
 use Rattle.elf_image.specs.file.Symbols.{symbol_table, symbol_count, symbol_names, symbol_place}
 
--- an entry lies in the file
+-- an entry of the symbol table is in the file
 pub entry_within : (file : List ℕ) (table : SectionHeader) (i : ℕ) → IsReadable file → symbol_table file ≡ Some table →
     i < symbol_count table → table.offset + SYM_SIZE * (i + 1) ≤ length file
 entry_within file table i readable is few =
@@ -27,7 +27,7 @@ entry_within file table i readable is few =
     (λ whole. ⊎_elim (λ (empty : table.size ≡ 0). absurd (omega (arith, empty, few))) (λ inside. omega (arith, inside, few)) whole)
     has.0
 
--- its name
+-- the name of an entry
 pub name_is : (file : List ℕ) (table : SectionHeader) (symbols : List Symbol) (i : ℕ) (d : Symbol) →
     AreSymbols file table (symbol_count table) symbols → i < length symbols →
     (get_or symbols i d).name.now ≡ text_of (symbol_names file table) (number_at file (symbol_place table i) 4)

@@ -1,4 +1,4 @@
--- The indices of the names that stand at the places of a table of names.
+-- The indices of the names at the offsets of a string table.
 use Rattle.std.proofs.Common.{◌≡◌, ◌<◌, ◌≤◌, ◌+◌, ◌-◌, ◌∙◌, ℕ, zero, suc, Bool, true, false, cond, not, List, [], ◌∷◌, ◌++◌, Option}
 use Rattle.std.proofs.Common.{ap, refl, sym, length, get_or, drop, arith, take, length-append}
 use Rattle.std.proofs.lemmas.Bool.{eqb-true}
@@ -14,7 +14,7 @@ length-indices_in names [] = refl
 length-indices_in names (b ∷ texts) =
     length-append (indices_in names texts) _ ∙ (let rest = length-indices_in names texts in omega (arith, rest))
 
--- the index at a place
+-- the index at an offset
 pub indices_in-at : (names : Backward) (texts : List ℕ) (place i : ℕ) (d : Option ℕ) → i + (place + 1) ≡ length texts →
     get_or (indices_in names texts) i d ≡ index_of names (text_of texts place)
 indices_in-at names [] place i d is = absurd (omega (arith, is))
@@ -31,7 +31,7 @@ indices_in-at names (b ∷ texts) (suc place) i d is =
     get_or_append_left (indices_in names texts) _ d i (omega (arith, count, is))
     ∙ indices_in-at names texts place i d (omega (arith, is))
 
--- behind the table
+-- past the end of the table
 pub text_of-behind : (texts : List ℕ) (place : ℕ) → length texts ≤ place → text_of texts place ≡ []
 text_of-behind texts place behind = ap (λ (l : List ℕ). text_of l 0) (none texts place behind)
   where
@@ -44,14 +44,14 @@ text_of-behind texts place behind = ap (λ (l : List ℕ). text_of l 0) (none te
         empty [] e = refl
         empty (x ∷ l) e = absurd (omega (arith, e))
 
--- a text is no longer than what is left of the table
+-- a text isn't longer than the table
 pub text_of-within : (texts : List ℕ) (place : ℕ) → length (text_of texts place) ≤ length texts
 text_of-within texts place =
     let size = length-drop place texts in
     let text = length-take (prefix_len (λ x. not (x == 0)) (drop place texts)) (drop place texts) in
     omega (arith, size, text)
 
--- One place more, towards the start.
+-- One more offset, towards the start.
 
 text-cons : (b : ℕ) (texts : List ℕ) → text_of (b ∷ texts) 0 ≡ text_before b (text_of texts 0)
 text-cons b texts = by (b == 0)
@@ -105,7 +105,7 @@ all-left texts count past = ap (λ (k : ℕ). drop k texts) (none (length texts 
     none : (k : ℕ) → k ≡ 0 → k ≡ 0
     none k e = e
 
--- The text before a byte that ends it, and before one that doesn't.
+-- The text before a byte that is 0, and before one that isn't.
 
 pub text-ends : (b : ℕ) (text : List ℕ) → b ≡ 0 → text_before b text ≡ []
 text-ends b text none = ap (λ (b : ℕ). text_before b text) none

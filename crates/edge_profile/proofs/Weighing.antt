@@ -1,4 +1,4 @@
--- The weights of blocks, one pair more at a time.
+-- The weights of blocks, with one more pair at a time.
 use Rattle.std.proofs.Common.{◌≡◌, ◌≢◌, ◌<◌, ◌≤◌, ◌+◌, ◌-◌, ◌*◌, ◌∙◌, ◌⊎◌, ℕ, Bool, true, false, List, [], length, get_or, take}
 use Rattle.std.proofs.Common.{drop, map, arith, refl, ap, sym, subst, inl, inr, ⊎_elim, AllPairs}
 use Rattle.std.specs.Prelude.{◌==◌, ◌&&◌, nat_le, if◌then◌else◌, slice_index, sum, Option}
@@ -23,7 +23,7 @@ use Rattle.rv_code.proofs.lists.Follows.{insts_rise, inst_bounds}
 use Rattle.edge_profile.proofs.LaidOut.{starts_below, starts_above, code_address-list_any}
 use Rattle.rb_bytes.proofs.ListLemmas.{any_element}
 
--- Which blocks have the instruction at an address.
+-- Blocks that contain the instruction at an address.
 
 -- some of a function's instructions
 part : List Placed → ℕ → ℕ → List Placed
@@ -51,7 +51,7 @@ unfolding part
 part_within insts first last k within =
     omega (arith, length-take (last + 1 - first) (drop first insts), length-drop first insts, within)
 
--- an instruction of ascending ones is in a part by its place
+-- whether an instruction of an ascending list is in a part, by its index
 part_has : (insts : List Placed) → AllPairs (λ p q. p.addr < q.addr) insts → (a i : ℕ) (d : Placed) → i < length insts
     → (get_or insts i d).addr ≡ a
     → (first last : ℕ) → list_any (λ p. p.addr == a) (part insts first last) ≡ (nat_le first i && nat_le i last)
@@ -92,7 +92,7 @@ part_has insts rising a i d within is first last = ⊎_elim
         (cases_lt i (first + k)))
         (cases_lt (first + k) i)))
 
--- where none starts at an address, none in a part does
+-- if no instruction starts at an address, none of a part does
 part_none : (insts : List Placed) (a first last : ℕ) → starts_at insts a ≡ false →
     list_any (λ p. p.addr == a) (part insts first last) ≡ false
 part_none insts a first last none = list_any_none (λ p. p.addr == a) (part insts first last)

@@ -1,4 +1,4 @@
--- What a line's fields are seen as.
+-- The fields of a line, in the terms of the code.
 use Rattle.std.specs.Prelude.{ℕ, List, [], ◌∷◌, Option, Some, None}
 use Rattle.rb_bytes.specs.Text.{hex_number}
 use Rattle.edge_profile.specs.declared.fields.EightFields.{EightFields}
@@ -16,7 +16,7 @@ line_read l = record { from = place_read l.from; to = place_read l.to; count = l
 abbrev pub named_place_of : List ℕ → List ℕ → Option NamedPlace
 named_place_of name offset = named_place name (hex_number offset)
 
--- the fields of what is left of a line
+-- the fields of the rest of a line
 abbrev pub fields_in : Option (Bor (List ℕ)) → List (List ℕ)
 fields_in None = []
 fields_in (Some line) = fields line.now

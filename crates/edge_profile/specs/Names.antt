@@ -1,4 +1,4 @@
--- What the names of functions in a profile stand for, and the addresses at offsets from them.
+-- The addresses that names of functions in a profile mean, and addresses at offsets from them.
 use Rattle.std.specs.Prelude.{ℕ, ◌+◌, ◌==◌, ◌&&◌, List, [], ◌∷◌, Option, Some, None, if◌then◌else◌, drop, filter, map}
 use Rattle.std.specs.Prelude.{slice_index, option_and_then, bytes_eq}
 use Rattle.std.specs.List.{list_all, list_any}
@@ -8,12 +8,12 @@ use Rattle.elf_image.specs.declared.symbol.Symbol.{Symbol}
 use Rattle.elf_image.specs.file.Cuts.{names_function}
 use Rattle.edge_profile.specs.Grammar.{NamedPlace, short_hex_number}
 
--- the one value of a list, if it has just one
+-- the value of a list whose items are all equal
 abbrev pub only_value : List ℕ → Option ℕ
 only_value [] = None
 only_value (v ∷ vs) = if list_all (λ w. w == v) vs then Some v else None
 
--- the values of the symbols of functions that have a name
+-- the values of the functions' symbols with a name
 abbrev pub symbol_values : List Symbol → List ℕ → List ℕ
 symbol_values symbols name =
     map (λ s. s.value) (filter (λ s. names_function s && bytes_eq s.name.now name) symbols)
@@ -26,7 +26,7 @@ abbrev pub function_start : List Func → List ℕ → Option ℕ
 function_start funcs digits =
     option_and_then (λ a. if list_any (λ f. f.start == a) funcs then Some a else None) (short_hex_number digits)
 
--- `@` and an address stand for the function that starts there, and every other name for its symbols' value
+-- `@` and digits mean the function that starts at this address; any other name means its symbols' value
 abbrev pub value_of_name : List Symbol → List Func → List ℕ → Option ℕ
 value_of_name symbols funcs name =
     if slice_index name 0 == 64 then function_start funcs (drop 1 name) else named_value symbols name
@@ -35,7 +35,7 @@ value_of_name symbols funcs name =
 abbrev pub code_address : List Func → ℕ → Option ℕ
 code_address funcs a = if is_code_address funcs a then Some a else None
 
--- the address of a named place, if an instruction starts there
+-- the address that a line's place means, if an instruction starts there
 abbrev pub address_at : List Symbol → List Func → NamedPlace → Option ℕ
 address_at symbols funcs place =
     option_and_then (λ start. code_address funcs (start + place.offset)) (value_of_name symbols funcs place.name)

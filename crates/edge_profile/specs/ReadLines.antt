@@ -1,4 +1,4 @@
--- What was read of a profile's text.
+-- The lines of a profile's text, as they were read.
 use Rattle.std.specs.Prelude.{◌≡◌, ℕ, List, count_by, filter_map, is_none}
 use Rattle.rv_code.specs.declared.placed.Func.{Func}
 use Rattle.elf_image.specs.declared.symbol.Symbol.{Symbol}

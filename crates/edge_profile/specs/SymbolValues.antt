@@ -1,4 +1,4 @@
--- What is known of names, by the symbols of a file.
+-- The values of names by the symbols of a file, in the terms of the code.
 use Rattle.std.specs.Prelude.{◌≡◌, ℕ, List, Option, Some, None, length, set, slice_index_or}
 use Rattle.std.specs.List.{slice_get}
 use Rattle.elf_image.specs.declared.symbol.Symbol.{Symbol}
@@ -11,7 +11,7 @@ pub record AreKnown (names : Backward) (symbols : List Symbol) (known : List (Op
   pub each : (name : List ℕ) (k : ℕ) → index_of names name ≡ Some k →
       slice_get known k ≡ Some (known_by (symbol_values symbols name))
 
--- what is known once the name of an index, if it is one, has one more value
+-- the values after one more value for the name with this index, if there is one
 abbrev pub noted_value : List (Option (Option ℕ)) → Option ℕ → ℕ → List (Option (Option ℕ))
 noted_value known None value = known
 noted_value known (Some k) value = set known k (Some (next_known (slice_index_or known k None) value))

@@ -1,4 +1,4 @@
--- How often blocks run, by the counts of a profile's pairs.
+-- How often blocks ran, by the counts of a profile's pairs.
 use Rattle.std.specs.Prelude.{ℕ, ◌+◌, ◌-◌, ◌==◌, ◌&&◌, ◌||◌, Bool, List, [], nat_lt, if◌then◌else◌, sum_by, take, drop}
 use Rattle.std.specs.List.{list_any}
 use Rattle.std.specs.Option.{option_map_or}
@@ -17,18 +17,18 @@ insts_of_block funcs b =
 abbrev pub starts_at : List Placed → ℕ → Bool
 starts_at insts a = list_any (λ p. p.addr == a) insts
 
--- an end of a pair is one of these instructions
+-- an end of a pair is at one of these instructions
 abbrev pub touches : List Placed → Counted → Bool
 touches insts p = starts_at insts p.0 || starts_at insts p.1
 
--- the sum of the counts of all pairs of which at least one end is one of these instructions; each pair counts once
+-- the sum of the counts of all pairs with an end at one of these instructions; each pair is counted once
 abbrev pub weight : List Counted → List Placed → ℕ
 weight pairs insts = sum_by (λ p. if touches insts p then p.2 else 0) pairs
 
 abbrev pub block_weight : List Counted → List Func → Block → ℕ
 block_weight pairs funcs b = weight pairs (insts_of_block funcs b)
 
--- a block of positive weight
+-- a block with a positive weight
 abbrev pub is_hot_block : List Counted → List Func → Block → Bool
 is_hot_block pairs funcs b = nat_lt 0 (block_weight pairs funcs b)
 

@@ -1,4 +1,4 @@
-// A line of a profile: its fields, and what they say.
+// A line of a profile: its fields, and their meaning.
 ghost use Rattle.std.specs.Prelude.{◌≡◌, ◌≢◌, ◌∷◌, [], IfSome, IfNone, length, option_map, bytes_eq};
 ghost use Rattle.edge_profile.specs.Grammar.{fields, branch_line};
 ghost use Rattle.edge_profile.specs.Fields.{line_read, place_read, fields_in, list_of_eight, named_place_of};
@@ -6,14 +6,14 @@ ghost use Rattle.edge_profile.specs.Fields.{line_read, place_read, fields_in, li
 use rb_bytes::number::{decimal_number, hex_number};
 use rb_bytes::split::split_once;
 
-/// The place `offset` bytes after what `name` stands for.
+/// The address `offset` bytes after the address that `name` means.
 #[derive(Clone, Copy)]
 pub struct Place<'a> {
     pub name: &'a [u8],
     pub offset: u64,
 }
 
-/// From one place control went to another, `count` times.
+/// Control went from one place to another `count` times.
 #[derive(Clone, Copy)]
 pub struct Line<'a> {
     pub from: Place<'a>,
@@ -34,7 +34,7 @@ pub struct EightFields<'a> {
     pub count: &'a [u8],
 }
 
-// Takes the next field of what is left of a line; nothing is left after the last.
+// Takes the next field of the rest of a line. After the last field there is no rest.
 fn next_field<'a>(left: &mut Option<&'a [u8]>) -> Option<&'a [u8]>
     ensures some { IfSome result (λ field. fields_in left.old ≡ field.now ∷ fields_in left.new) }
     ensures none { IfNone result (fields_in left.old ≡ []) }
@@ -52,7 +52,7 @@ fn next_field<'a>(left: &mut Option<&'a [u8]>) -> Option<&'a [u8]>
     }
 }
 
-// The fields of a line that has eight.
+// The fields of a line, if it has eight.
 fn eight_fields(line: &[u8]) -> Option<EightFields<'_>>
     ensures some { IfSome result (λ f. fields line.now ≡ list_of_eight f) }
     ensures none { IfNone result (length (fields line.now) ≢ 8) }
@@ -74,7 +74,7 @@ fn eight_fields(line: &[u8]) -> Option<EightFields<'_>>
     }
 }
 
-/// What a line says, or None where it doesn't have the form of one.
+/// The meaning of a line, or `None` if it doesn't have the form of a profile's line.
 pub fn branch_line(line: &[u8]) -> Option<Line<'_>>
     ensures { option_map line_read result ≡ branch_line (fields line.now) }
 {
@@ -94,7 +94,7 @@ pub fn branch_line(line: &[u8]) -> Option<Line<'_>>
     Some(Line { from, to, count })
 }
 
-// Whether a field is the `1` that says that a name and an offset follow.
+// Whether a field is `1`, which says that a name and an offset follow.
 fn is_symbol(field: &[u8]) -> bool
     ensures { result ≡ bytes_eq field.now (49 ∷ []) }
 {

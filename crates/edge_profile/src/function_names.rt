@@ -1,4 +1,4 @@
-// What names of functions stand for.
+// The addresses that names of functions mean.
 ghost use Rattle.std.specs.Prelude.{◌≡◌, ◌+◌, List, ℕ, Some, OnOk, IfOk, IfSome};
 ghost use Rattle.elf_image.specs.declared.symbol.Symbol.{Symbol};
 ghost use Rattle.elf_image.specs.faults.Truncation.{IsReadable};
@@ -21,12 +21,12 @@ use rb_bytes::number::hex_number;
 use rv_code::Func;
 use std::alloc::Global;
 
-/// The values of functions' symbols by their names. A small file can have many long names, all of them ends of one
-/// text; so only the names that are asked for are looked up, and for all of them that text is passed once.
+/// The values of functions' symbols by their names. A small file can have many long names that are all suffixes of one
+/// text. So only the names that are asked for are looked up, and the text is passed once for all of them.
 #[derive(Drop)]
 pub struct FunctionNames<'list, 'file, 'name> {
     symbols: &'list [Symbol<'file>],
-    // For each name that is asked for: the value of its symbols, or None where they have several values or there are
+    // For each name that is asked for: the value of its symbols, or `None` if they have different values or there are
     // none.
     values: IndexMap<&'name [u8], Option<u64>>,
 }
@@ -37,7 +37,7 @@ impl<'list, 'file, 'name> FunctionNames<'list, 'file, 'name> {
     ghost use Rattle.elf_image.specs.file.ParsedFile.{IsElfOf};
     ghost use Rattle.edge_profile.specs.FunctionNames.{AreNamesOf};
 
-    /// The names of a file's functions. `asked` are those that will be looked up.
+    /// The names of a file's functions. `asked` are the names that will be looked up.
     pub fn new(
         alloc: Global,
         elf: &'list Elf<'file>,
@@ -54,8 +54,8 @@ impl<'list, 'file, 'name> FunctionNames<'list, 'file, 'name> {
         })
     }
 
-    // The value of the symbols of `name`. `read` asks beforehand for all names that it looks up, so the search among
-    // all symbols is there for the contract alone.
+    // The value of the symbols of `name`. `read` gives all names beforehand that it will look up, so the search among
+    // all symbols is only there for the contract.
     fn named_value(&self, name: &[u8]) -> Option<u64>
         ensures { (symbols : List Symbol) → AreNamesOf symbols self.now → result ≡ named_value symbols name.now }
     {
@@ -84,7 +84,7 @@ fn asked_values<'name>(
     Ok(values_by_name(alloc, &ends, &known, asked)?)
 }
 
-// The values of the names `asked`, by what is `known` of those in `ends`.
+// The values of the names `asked`, from the `known` values of the names in `ends`.
 fn values_by_name<'name>(
     alloc: Global,
     ends: &NameEnds,
@@ -101,7 +101,8 @@ fn values_by_name<'name>(
     Ok(values)
 }
 
-// The value of `name`: None where it isn't among `ends`, and `Some(None)` where it has several values or none.
+// The value of `name`: `None` if it isn't in `ends`, and `Some(None)` if its symbols have different values or there are
+// none.
 fn value_of(ends: &NameEnds, known: &[Option<Option<u64>>], name: &[u8]) -> Option<Option<u64>>
     ensures { (symbols : List Symbol) → AreKnown ends.now.backward.items symbols known.now →
         IfSome result (λ value. value ≡ named_value symbols name.now) }
@@ -129,7 +130,7 @@ fn insert_value<'name>(
     Ok(())
 }
 
-// The value of the symbols of `name`, looked for among all symbols.
+// The value of the symbols of `name`, by a search among all symbols.
 fn value_among(symbols: &[Symbol], name: &[u8]) -> Option<u64>
     ensures { result ≡ named_value symbols.now name.now }
 {
@@ -145,8 +146,8 @@ fn value_among(symbols: &[Symbol], name: &[u8]) -> Option<u64>
     known.flatten()
 }
 
-/// What is known of a name after one more symbol of it, with this value. `known` is what was known before: None where
-/// no symbol came yet, and `Some(None)` where several values did.
+/// A name's value after one more symbol with `value`. `known` is its value before: `None` if there was no symbol yet,
+/// and `Some(None)` if there were different values.
 pub fn next_known(known: Option<Option<u64>>, value: u64) -> Option<u64>
     ensures { result ≡ next_known known value }
 {
@@ -156,7 +157,8 @@ pub fn next_known(known: Option<Option<u64>>, value: u64) -> Option<u64>
     }
 }
 
-// The address that a name stands for: that of a function which `@` and digits name, or else the value of its symbols.
+// The address that a name means: of `@` and digits, the start of the function at this address; of any other name, the
+// value of its symbols.
 fn value_of_name(names: &FunctionNames, funcs: &[Func], name: &[u8]) -> Option<u64>
     requires { AreLaidOut funcs.now }
     ensures { (symbols : List Symbol) → AreNamesOf symbols names.now →
@@ -181,7 +183,7 @@ fn function_start(funcs: &[Func], digits: &[u8]) -> Option<u64>
     }
 }
 
-// The number that hexadecimal digits write, with no zero before another digit.
+// The number that hexadecimal digits without leading zeros write.
 fn short_hex_number(digits: &[u8]) -> Option<u64>
     ensures { result ≡ short_hex_number digits.now }
 {
@@ -191,7 +193,7 @@ fn short_hex_number(digits: &[u8]) -> Option<u64>
     hex_number(digits)
 }
 
-/// The address of a named place, if an instruction starts there.
+/// The address that a line's place means, if an instruction starts there.
 pub fn address_at(names: &FunctionNames, funcs: &[Func], place: &Place) -> Option<u64>
     requires { AreLaidOut funcs.now }
     ensures { (symbols : List Symbol) → AreNamesOf symbols names.now →
@@ -214,7 +216,7 @@ fn code_address(funcs: &[Func], start: u64, offset: u64) -> Option<u64>
     }
 }
 
-// The value of a name with one more value: `known`, if `value` is the same, and else None.
+// A name's value after one more symbol: `known` if `value` is the same, otherwise `None`.
 fn same_value(known: Option<u64>, value: u64) -> Option<u64>
     ensures { result ≡ next_known (Some known) value }
 {

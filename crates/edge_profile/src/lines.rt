@@ -4,7 +4,7 @@ ghost use Rattle.edge_profile.specs.Grammar.{lines};
 
 use rb_bytes::split::split_once;
 
-/// The lines of a text, without their line feeds. The last may lack it.
+/// The lines of a text, without their line feeds. The last line may lack the line feed.
 #[derive(Drop)]
 pub struct Lines<'a> {
     pub left: &'a [u8],
@@ -30,7 +30,7 @@ impl<'a> Iterator for Lines<'a> {
     }
 }
 
-// The first line of a text that isn't empty, and the text after it.
+// The first line of a text that isn't empty, and the text after this line.
 fn split_line(text: &[u8]) -> (&[u8], &[u8])
     requires { 0 < length text.now }
     ensures { lines text.now ≡ result.0.now ∷ lines result.1.now }

@@ -1,4 +1,4 @@
-// Names looked up from their ends: many names can be ends of one text, which is then read once for all of them.
+// Looking up names by their suffixes: many names can be suffixes of one text, which is then read once for all of them.
 ghost use Rattle.std.specs.Prelude.{◌≡◌, ◌+◌, ◌^◌, ◌<◌, ◌≤◌, ◌∷◌, [], ℕ, List, length, slice_index_or};
 ghost use Rattle.std.specs.List.Sorted.{IsNonDecreasingBy};
 ghost use Rattle.edge_profile.specs.NameEnds.{BackwardName, AreInOrder, IsEnding, index_of, code_at, text_before};
@@ -6,14 +6,14 @@ ghost use Rattle.edge_profile.specs.NameEnds.{BackwardName, AreInOrder, IsEnding
 use rb_bytes::fault::NoMemory;
 use std::alloc::Global;
 
-/// Names, each written backwards, in order: those with the same end stand beside each other.
+/// Names, each written backwards, in lexicographic order, so that names with the same suffix are next to each other.
 #[derive(Drop)]
 pub struct NameEnds {
     backward: Vec<Vec<u8>>,
     ghost ordered: { AreInOrder backward.items },
 }
 
-/// The names with some end: their range among all, and how many bytes the end has.
+/// The names with some suffix: their range among all names, and the suffix's length in bytes.
 #[derive(Clone, Copy)]
 pub struct Ending {
     start: usize,
@@ -25,7 +25,7 @@ impl NameEnds {
     ghost use Rattle.std.specs.Prelude.{◌≡◌, ◌+◌, ◌^◌, ◌<◌, ◌≤◌, ◌∷◌, [], ℕ, List, length};
     ghost use Rattle.edge_profile.specs.NameEnds.{IsEnding, index_of, text_before};
 
-    /// Puts `names` in order.
+    /// Sorts `names`.
     pub fn new(alloc: Global, names: &[&[u8]]) -> Result<NameEnds, NoMemory> {
         let mut backward = Vec::with_capacity(alloc, names.len())?;
         for name in names {
@@ -35,7 +35,7 @@ impl NameEnds {
         Ok(NameEnds { backward })
     }
 
-    /// How many names there are.
+    /// The number of names.
     pub fn count(&self) -> usize
         ensures { result ≡ length self.now.backward.items }
     {
@@ -53,7 +53,7 @@ impl NameEnds {
         }
     }
 
-    // The names that have `byte` before the end that `ending` stands for.
+    // The names whose suffix is `byte` followed by the suffix of `ending`.
     fn narrowed(&self, ending: Ending, byte: u8) -> Ending
         requires ordered { ending.start ≤ ending.end }
         requires within { ending.end ≤ length self.now.backward.items }
@@ -71,8 +71,8 @@ impl NameEnds {
         }
     }
 
-    /// The names whose end is `byte` and then what `ending` stands for. A zero byte ends the text that stands before
-    /// it, so there the end is empty, which all names have.
+    /// The names whose suffix is `byte` followed by the suffix of `ending`. A zero byte ends the text before it, so the
+    /// suffix is then empty, and all names have it.
     pub fn before(&self, ending: Ending, byte: u8) -> Ending
         requires ordered { ending.start ≤ ending.end }
         requires within { ending.end ≤ length self.now.backward.items }
@@ -87,7 +87,7 @@ impl NameEnds {
         }
     }
 
-    /// The index of the first name that is just the end for which `ending` stands.
+    /// The index of the first name that equals the suffix of `ending`.
     pub fn named(&self, ending: Ending) -> Option<usize>
         requires within { ending.end ≤ length self.now.backward.items }
         ensures { (end : List ℕ) → IsEnding self.now.backward.items end ending →
@@ -104,7 +104,7 @@ impl NameEnds {
         }
     }
 
-    /// The index of `name`, or None where it isn't among the names.
+    /// The index of `name`, or `None` if it isn't among the names.
     pub fn index_of(&self, name: &[u8]) -> Option<usize>
         ensures { result ≡ index_of self.now.backward.items name.now }
     {
@@ -116,14 +116,14 @@ impl NameEnds {
     }
 }
 
-// The bytes of a name from its last to its first.
+// The bytes of a name in reverse order.
 fn reversed(alloc: Global, name: &[u8]) -> Result<Vec<u8>, NoMemory> {
     let mut bytes = Vec::from_slice(alloc, name)?;
     bytes.reverse();
     Ok(bytes)
 }
 
-// How many of `names` have at most `code` at `index`, where the codes there ascend.
+// The number of `names` whose code at `index` is at most `code`, if these codes ascend.
 fn count_up_to(names: &[Vec<u8>], index: usize, code: usize) -> usize
     ensures bound { result ≤ length names.now }
     ensures up_to { IsNonDecreasingBy (λ n. code_at index n.items) names.now →
@@ -135,7 +135,8 @@ fn count_up_to(names: &[Vec<u8>], index: usize, code: usize) -> usize
     names.partition_point(|name| code_at(name, index) <= code)
 }
 
-// 1 more than the byte of `name` at `index`; 0 past its end, so that a name comes before longer ones that begin alike.
+// The byte of `name` at `index` plus 1; 0 past its end, so that a name comes before longer names with the same
+// beginning.
 fn code_at(name: &[u8], index: usize) -> usize
     ensures { result ≡ code_at index name.now }
 {

@@ -1,4 +1,4 @@
-// Counts of pairs, merged.
+// Merging the counts of pairs.
 ghost use Rattle.std.specs.Prelude.{◌≡◌, ◌+◌, ◌<◌, ◌^◌, All, AllPairs, IfOk, IsPermutation, OnOk, length};
 ghost use Rattle.edge_profile.specs.PairCounts.{IsCountedBefore, total_count};
 ghost use Rattle.edge_profile.specs.Pairs.{IsNotAfter, AreMerged, AddsCount, is_last_pair};
@@ -6,8 +6,8 @@ ghost use Rattle.edge_profile.specs.Pairs.{IsNotAfter, AreMerged, AddsCount, is_
 use rb_bytes::fault::NoMemory;
 use std::alloc::Global;
 
-/// The pairs of positive count, in order, each with the sum of its counts. `said` has the addresses of a pair and a
-/// count, in any order and as often as it was said.
+/// The pairs with positive counts, in order, each with the sum of its counts. `said` has the addresses of a pair and a
+/// count, in any order, and a pair any number of times.
 pub fn merged(
     alloc: Global,
     mut said: Vec<(u64, u64, u64)>,
@@ -41,7 +41,8 @@ fn merged_sorted(alloc: Global, said: &[(u64, u64, u64)]) -> Result<Vec<(u64, u6
     Ok(pairs)
 }
 
-// Adds a count of the pair of `from` and `to`, which comes before none of `pairs`: to the last one, or as a new one.
+// Adds a count for the pair of `from` and `to`, which doesn't come before any of `pairs`: to the last pair, or as a new
+// pair.
 fn add(pairs: &mut Vec<(u64, u64, u128)>, from: u64, to: u64, count: u128) -> Result<(), NoMemory>
     requires positive { 0 < count }
     requires last { All (λ q. IsNotAfter q (from, to, count)) pairs.old.items }
@@ -58,7 +59,7 @@ fn add(pairs: &mut Vec<(u64, u64, u128)>, from: u64, to: u64, count: u128) -> Re
     Ok(())
 }
 
-// Whether the last of `pairs` is that of `from` and `to`.
+// Whether the last of `pairs` is the pair of `from` and `to`.
 fn is_last(pairs: &[(u64, u64, u128)], from: u64, to: u64) -> bool
     ensures { result ≡ is_last_pair from to pairs.now }
 {

@@ -1,4 +1,4 @@
-// Where instructions stand among functions.
+// The indices of instructions in functions.
 ghost use Rattle.std.specs.Prelude.{◌≡◌, ◌==◌, ◌<◌, ◌≤◌, ◌+◌, ◌-◌, ℕ, false, IsTrue, IfSome, IfNone, AllPairs, length};
 ghost use Rattle.std.specs.Prelude.{slice_index_or};
 ghost use Rattle.std.specs.List.{list_any};
@@ -12,7 +12,7 @@ ghost use Rattle.edge_profile.specs.Weights.{starts_at};
 use rv_code::functions::starts_up_to;
 use rv_code::{Func, InstPlace, Placed};
 
-/// The place of the instruction that starts at an address.
+/// The indices of the function and of the instruction that starts at an address.
 pub fn place_of(funcs: &[Func], address: u64) -> Option<InstPlace>
     requires { AreLaidOut funcs.now }
     ensures some { IfSome result (λ p. IsInstPlace funcs.now address p.func p.inst) }
@@ -21,7 +21,7 @@ pub fn place_of(funcs: &[Func], address: u64) -> Option<InstPlace>
     place_near(funcs, address, 0)
 }
 
-/// The place of the instruction that starts at `address`. Function `near` is looked at first.
+/// The indices of the function and of the instruction that starts at `address`. Function `near` is looked at first.
 pub fn place_near(funcs: &[Func], address: u64, near: usize) -> Option<InstPlace>
     requires { AreLaidOut funcs.now }
     ensures some { IfSome result (λ p. IsInstPlace funcs.now address p.func p.inst) }
@@ -59,7 +59,7 @@ pub fn starts_function(funcs: &[Func], address: u64) -> bool
     funcs[below - 1].start == address
 }
 
-// How many functions start at `address` or below it. Function `near` is looked at first.
+// The number of functions that start at or below `address`. Function `near` is looked at first.
 fn count_up_to(funcs: &[Func], address: u64, near: usize) -> usize
     requires { AreLaidOut funcs.now }
     ensures bound { result ≤ length funcs.now }
@@ -73,7 +73,7 @@ fn count_up_to(funcs: &[Func], address: u64, near: usize) -> usize
     starts_up_to(funcs, address)
 }
 
-// Whether function `index` is the last that starts at `address` or below it.
+// Whether function `index` is the last that starts at or below `address`.
 fn is_last_up_to(funcs: &[Func], address: u64, index: usize) -> bool
     requires { AreLaidOut funcs.now }
     ensures within { IsTrue result → index < length funcs.now }
@@ -91,7 +91,7 @@ fn is_last_up_to(funcs: &[Func], address: u64, index: usize) -> bool
     address < funcs[index + 1].start
 }
 
-// The place of the instruction that starts at an address.
+// The index of the instruction that starts at an address.
 fn inst_at(insts: &[Placed], address: u64) -> Option<usize>
     requires { AllPairs (λ p q. p.addr < q.addr) insts.now }
     ensures within { IfSome result (λ i. i < length insts.now) }
@@ -108,7 +108,7 @@ fn inst_at(insts: &[Placed], address: u64) -> Option<usize>
     Some(below)
 }
 
-// How many instructions start below an address.
+// The number of instructions that start below an address.
 fn count_below(insts: &[Placed], address: u64) -> usize
     requires { AllPairs (λ p q. p.addr < q.addr) insts.now }
     ensures bound { result ≤ length insts.now }

@@ -3,10 +3,10 @@ ghost use Rattle.std.specs.Prelude.{◌≡◌, ◌<◌, ◌^◌, ℕ, All, IfSom
 ghost use Rattle.edge_profile.specs.PairCounts.{Counted, count_among, is_pair, total_count};
 ghost use Rattle.edge_profile.specs.Pairs.{IsAscending, IsCountBelow, is_before};
 
-// How many pairs from a guess on are looked at before all are searched.
+// The number of pairs after a guess that are looked at before a binary search.
 const NEARBY: usize = 16;
 
-/// How often control went from one instruction to another, for each pair of addresses.
+/// How often control went from one instruction to another, by the two addresses.
 #[derive(Drop)]
 pub struct Profile {
     pub(crate) pairs: Vec<(u64, u64, u128)>,
@@ -28,8 +28,8 @@ impl Profile {
         count_in(&self.pairs, from, to)
     }
 
-    /// As `count`. `near` is a guess of how many pairs come before the one that is asked for, and is set to that
-    /// number: pairs that are asked for in order are each found near the one before.
+    /// The same as `count`, with a guess: `near` is about the number of pairs before the one that is asked for, and is
+    /// set to this number. So pairs that are asked for in order are each found near the one before.
     pub fn count_near(&self, near: &mut usize, from: u64, to: u64) -> u128
         ensures { result ≡ profile_counts self.now from to }
     {
@@ -38,7 +38,7 @@ impl Profile {
         count_at(&self.pairs, below, from, to)
     }
 
-    /// The pairs of positive count, with their counts, by the first address and then by the second.
+    /// The pairs with positive counts, and their counts, in order of the first and then of the second address.
     pub fn pairs(&self) -> &[(u64, u64, u128)]
         ensures value { result.now ≡ pairs_of self.now }
         ensures exact { ArePairs (profile_counts self.now) result.now }
@@ -47,7 +47,7 @@ impl Profile {
         self.pairs.as_slice()
     }
 
-    /// How many lines of the profile's text said nothing.
+    /// The number of lines of the profile's text that were ignored.
     pub fn ignored(&self) -> u64
         ensures { result ≡ ignored_of self.now }
     {
@@ -55,7 +55,7 @@ impl Profile {
     }
 }
 
-// The count of the pair of `from` and `to` among `pairs`, which are in order, or 0.
+// The count of the pair of `from` and `to` among `pairs`, which are in order; 0 if it isn't there.
 fn count_in(pairs: &[(u64, u64, u128)], from: u64, to: u64) -> u128
     requires { IsAscending pairs.now }
     ensures { result ≡ count_among from to pairs.now }
@@ -64,7 +64,7 @@ fn count_in(pairs: &[(u64, u64, u128)], from: u64, to: u64) -> u128
     count_at(pairs, below, from, to)
 }
 
-// The count of the pair of `from` and `to` among `pairs`, of which `below` come before it, or 0.
+// The count of the pair of `from` and `to` among `pairs`, of which `below` come before it; 0 if it isn't there.
 fn count_at(pairs: &[(u64, u64, u128)], below: usize, from: u64, to: u64) -> u128
     requires ascending { IsAscending pairs.now }
     requires below { IsCountBelow pairs.now from to below }
@@ -76,7 +76,7 @@ fn count_at(pairs: &[(u64, u64, u128)], below: usize, from: u64, to: u64) -> u12
     count_if_of(&pairs[below], from, to)
 }
 
-// The count of `pair`, if it is that of `from` and `to`, or 0.
+// The count of `pair`, if it is the pair of `from` and `to`, otherwise 0.
 fn count_if_of(pair: &(u64, u64, u128), from: u64, to: u64) -> u128
     ensures { result ≡ (if is_pair from to pair.now then pair.now.2 else 0) }
 {
@@ -87,7 +87,7 @@ fn count_if_of(pair: &(u64, u64, u128), from: u64, to: u64) -> u128
     }
 }
 
-// How many of `pairs` come before that of `from` and `to`.
+// The number of `pairs` before the pair of `from` and `to`, by binary search.
 fn count_below(pairs: &[(u64, u64, u128)], from: u64, to: u64) -> usize
     requires { IsAscending pairs.now }
     ensures { IsCountBelow pairs.now from to result }
@@ -95,7 +95,7 @@ fn count_below(pairs: &[(u64, u64, u128)], from: u64, to: u64) -> usize
     pairs.partition_point(|p| is_before(p, from, to))
 }
 
-// How many of `pairs` come before that of `from` and `to`, looked for from the guess `near` on first.
+// The number of `pairs` before the pair of `from` and `to`, by a search near the guess `near` first.
 fn count_near(pairs: &[(u64, u64, u128)], near: usize, from: u64, to: u64) -> usize
     requires { IsAscending pairs.now }
     ensures { IsCountBelow pairs.now from to result }
@@ -106,7 +106,7 @@ fn count_near(pairs: &[(u64, u64, u128)], near: usize, from: u64, to: u64) -> us
     }
 }
 
-// How many of `pairs` come before that of `from` and `to`, where that is `near` or a few more; else None.
+// The number of `pairs` before the pair of `from` and `to`, if it is `near` or a few more, otherwise `None`.
 fn count_beside(pairs: &[(u64, u64, u128)], near: usize, from: u64, to: u64) -> Option<usize>
     requires { IsAscending pairs.now }
     ensures { IfSome result (IsCountBelow pairs.now from to) }
@@ -123,8 +123,8 @@ fn count_beside(pairs: &[(u64, u64, u128)], near: usize, from: u64, to: u64) -> 
     None
 }
 
-// Whether there are `count` pairs, and the first `count` all come before that of `from` and `to`. They are in order, so
-// the last of them tells.
+// Whether there are at least `count` pairs, and the first `count` all come before the pair of `from` and `to`. The
+// pairs are in order, so only the last of these is looked at.
 fn are_before(pairs: &[(u64, u64, u128)], count: usize, from: u64, to: u64) -> bool
     requires { IsAscending pairs.now }
     ensures { IsTrue result → (k : ℕ) (d : Counted) → k < count →

@@ -21,17 +21,17 @@ use rb_bytes::fault::NoMemory;
 use rv_code::Func;
 use std::alloc::Global;
 
-/// What the lines of a text say.
+/// The lines of a text, as they were read.
 #[derive(Drop)]
 pub struct ProfileLines {
-    /// From where to where control went, and how often: one for each line that says so.
+    /// The two addresses between which control went, and how often, for each line that isn't ignored.
     pub counted: Vec<(u64, u64, u64)>,
-    /// How many lines say nothing.
+    /// The number of ignored lines.
     pub ignored: u64,
 }
 
-/// Reads the text of a profile of the file `elf`, whose functions are `funcs`. A line that says nothing is counted, and
-/// is no error.
+/// Reads the text of a profile of the file `elf`, whose functions are `funcs`. A line that names no pair of
+/// instructions is ignored and counted; it is no error.
 pub fn read(alloc: Global, text: &[u8], elf: &Elf, funcs: &[Func]) -> Result<Profile, NoMemory>
     requires text { length text.now ≤ most_text_bytes }
     requires funcs { AreLaidOut funcs.now }
@@ -69,7 +69,7 @@ fn ask<'text>(names: &mut IndexSet<&'text [u8]>, name: &'text [u8]) -> Result<()
     Ok(())
 }
 
-// What the lines of a text say.
+// Reads the lines of a text.
 fn said_in(
     alloc: Global,
     text: &[u8],
@@ -93,7 +93,7 @@ fn said_in(
     Ok(ProfileLines { counted, ignored })
 }
 
-// The pair and the count of a line.
+// The pair of a line and its count. `None` for a line that is ignored.
 fn counted_by(names: &FunctionNames, funcs: &[Func], line: &[u8]) -> Option<(u64, u64, u64)>
     requires { AreLaidOut funcs.now }
     ensures { (symbols : List Symbol) → AreNamesOf symbols names.now → result ≡ counted_by symbols funcs.now line.now }

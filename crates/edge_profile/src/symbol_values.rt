@@ -1,5 +1,5 @@
-// The values of functions' symbols by their names, where the names are looked up by their places in the table of names.
-// gABI, "String Table" and "Symbol Table".
+// The values of functions' symbols by their names. The names are looked up by their offsets in the string table. gABI,
+// "String Table" and "Symbol Table".
 ghost use Rattle.std.specs.Prelude.{◌≡◌, ◌+◌, ◌*◌, ◌<◌, ◌≤◌, ℕ, List, [], IfOk, IfSome, Some, length};
 ghost use Rattle.elf_image.specs.faults.Truncation.{IsReadable};
 ghost use Rattle.elf_image.specs.file.Header.{number_at};
@@ -20,8 +20,8 @@ use elf_image::{Elf, Symbol};
 use rb_bytes::fault::NoMemory;
 use std::alloc::Global;
 
-/// For each of `names` what is known of it: None where it is the name of no function's symbol, and else `Some` of the
-/// value of these symbols, or of None where they have several.
+/// The value of each of `names`: `None` if no function's symbol has this name, otherwise `Some` of the symbols' value,
+/// or of `None` if their values differ.
 pub fn known_values(
     alloc: Global,
     elf: &Elf,
@@ -37,7 +37,7 @@ pub fn known_values(
     }
 }
 
-// Nothing is known of any name.
+// No name has a value yet.
 fn nothing_known(alloc: Global, names: &NameEnds) -> Result<Vec<Option<Option<u64>>>, NoMemory>
     ensures { IfOk result (λ known. AreKnown names.now.backward.items [] known.items) }
 {
@@ -46,7 +46,7 @@ fn nothing_known(alloc: Global, names: &NameEnds) -> Result<Vec<Option<Option<u6
     Ok(known)
 }
 
-// What is known by the symbols of a table.
+// The values of `names` by the symbols of a table.
 fn known_by_table(
     alloc: Global,
     file: &[u8],
@@ -72,7 +72,7 @@ fn known_by_table(
     Ok(known)
 }
 
-// Notes one more value of the name of index `name`, if there is one.
+// Notes one more value for the name with index `name`, if there is one.
 fn note_value(known: &mut Vec<Option<Option<u64>>>, name: Option<usize>, value: u64)
     requires { IfSome name (λ k. k < length known.old.items) }
     ensures { known.new.items ≡ noted_value known.old.items name value }
@@ -82,7 +82,7 @@ fn note_value(known: &mut Vec<Option<Option<u64>>>, name: Option<usize>, value: 
     }
 }
 
-// Where the name of symbol `index` begins in the table of names.
+// The offset in the string table of the name of symbol `index`.
 fn name_place(file: &[u8], table: &SectionHeader, index: usize) -> u32
     requires { table.now.offset + SYM_SIZE * (index + 1) ≤ length file.now }
     ensures { result ≡ number_at file.now (symbol_place table.now index) 4 }
@@ -90,7 +90,7 @@ fn name_place(file: &[u8], table: &SectionHeader, index: usize) -> u32
     u32_at(file, table.offset as usize + SYM_SIZE * index)
 }
 
-// For each place of a table of names, from its last to its first, the index of the name that stands there.
+// For each offset in a string table, from the last to the first, the index of the name that starts there.
 fn indices_in(alloc: Global, names: &NameEnds, texts: &[u8]) -> Result<Vec<Option<usize>>, NoMemory>
     ensures { IfOk result (λ indices. indices.items ≡ indices_in names.now.backward.items texts.now) }
 {
@@ -103,7 +103,7 @@ fn indices_in(alloc: Global, names: &NameEnds, texts: &[u8]) -> Result<Vec<Optio
     Ok(indices)
 }
 
-// The index of the name that stands at `place` in the table of names. Behind the table stands the empty name.
+// The index of the name that starts at `place` in the string table. Past the table's end, this is the empty name.
 fn index_at(names: &NameEnds, indices: &[Option<usize>], place: u32) -> Option<usize>
     ensures { (texts : List ℕ) → indices.now ≡ indices_in names.now.backward.items texts →
         result ≡ index_of names.now.backward.items (text_of texts place) }

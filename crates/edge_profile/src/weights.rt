@@ -14,10 +14,10 @@ use rb_bytes::fault::NoMemory;
 use rv_code::{Block, Func, InstPlace};
 use std::alloc::Global;
 
-// How many blocks on either side of a place are looked at before all are searched.
+// The number of blocks on either side of a guess that are looked at before a binary search.
 const NEARBY: usize = 8;
 
-/// The weight of each block: the sum of the counts of all pairs of which an end is one of its instructions.
+/// The weight of each block: the sum of the counts of all pairs with an end at one of its instructions.
 pub fn block_weights(
     alloc: Global,
     funcs: &[Func],
@@ -38,9 +38,9 @@ pub fn block_weights(
     Ok(weights)
 }
 
-// Adds the count of `pair` to the weights of the blocks in which it begins and ends, once if they are one block. Both
-// are looked for beside block `near` first. Gives the block in which it begins, or `near`: pairs ascend, so those of
-// the next are mostly near it.
+// Adds the count of `pair` to the weights of the blocks in which it begins and ends, only once if they are the same
+// block. Both are searched for near block `near` first. Returns the block in which the pair begins, or `near` if there
+// is none: pairs ascend, so the next pair is usually near it.
 fn add(
     weights: &mut [u128],
     funcs: &[Func],
@@ -65,7 +65,7 @@ fn add(
     first
 }
 
-// Raises the number at `place`, if that is one.
+// Raises the number at index `place`, if there is one.
 fn raise(numbers: &mut [u128], place: Option<usize>, by: u128)
     requires within { IfSome place (λ k. k < length numbers.old) }
     requires fits { (k : ℕ) → slice_index numbers.old k + by < 2 ^ 128 }
@@ -76,7 +76,7 @@ fn raise(numbers: &mut [u128], place: Option<usize>, by: u128)
     }
 }
 
-// `place`, unless `other` is the same.
+// `place`, unless it equals `other`.
 fn unless_same(place: Option<usize>, other: Option<usize>) -> Option<usize>
     ensures places { (k : ℕ) → is_place k result ≡ (is_place k place && not (is_place k other)) }
     ensures within { (n : ℕ) → IfSome place (λ k. k < n) → IfSome result (λ k. k < n) }
@@ -95,7 +95,7 @@ fn unless_at(place: usize, other: Option<usize>) -> Option<usize>
     }
 }
 
-// The block that has the instruction at `address`; it may be near block `near`.
+// The block that has the instruction at `address`, searched for near block `near` first.
 fn block_at(funcs: &[Func], blocks: &[Block], address: u64, near: usize) -> Option<usize>
     requires funcs { AreLaidOut funcs.now }
     requires blocks { AreBlocksApart blocks.now }
@@ -106,7 +106,7 @@ fn block_at(funcs: &[Func], blocks: &[Block], address: u64, near: usize) -> Opti
     block_with(blocks, &place, near)
 }
 
-// The function of block `near`, or the first where there is no such block.
+// The function of block `near`, or the first function if there is no such block.
 fn func_near(blocks: &[Block], near: usize) -> usize {
     match blocks.get(near) {
         Some(block) => block.func,
@@ -114,7 +114,7 @@ fn func_near(blocks: &[Block], near: usize) -> usize {
     }
 }
 
-// The block that has the instruction at `place`; it may be near block `near`.
+// The block that has the instruction at `place`, searched for near block `near` first.
 fn block_with(blocks: &[Block], place: &InstPlace, near: usize) -> Option<usize>
     requires { AreBlocksApart blocks.now }
     ensures has { (k : ℕ) (d : Block) → k < length blocks.now →
@@ -132,7 +132,7 @@ fn block_with(blocks: &[Block], place: &InstPlace, near: usize) -> Option<usize>
     }
 }
 
-// How many blocks begin with the instruction at `place` or before it, looked for beside block `near` first.
+// The number of blocks that begin at or before the instruction at `place`, searched for near block `near` first.
 fn count_up_to(blocks: &[Block], place: &InstPlace, near: usize) -> usize
     requires { AreBlocksApart blocks.now }
     ensures bound { result ≤ length blocks.now }
@@ -147,7 +147,7 @@ fn count_up_to(blocks: &[Block], place: &InstPlace, near: usize) -> usize
     }
 }
 
-// How many blocks begin with the instruction at `place` or before it, where that is about `near`; else None.
+// The number of blocks that begin at or before the instruction at `place`, if it is about `near`, otherwise `None`.
 fn count_beside(blocks: &[Block], place: &InstPlace, near: usize) -> Option<usize>
     requires { AreBlocksApart blocks.now }
     ensures bound { IfSome result (λ n. n ≤ length blocks.now) }
@@ -169,8 +169,8 @@ fn count_beside(blocks: &[Block], place: &InstPlace, near: usize) -> Option<usiz
     None
 }
 
-// Whether there are `count` blocks, and the first `count` all begin with the instruction at `place` or before it. They
-// are in order, so the last of them tells.
+// Whether there are at least `count` blocks, and the first `count` all begin at or before the instruction at `place`.
+// The blocks are in order, so only the last of these is looked at.
 fn all_begin(blocks: &[Block], place: &InstPlace, count: usize) -> bool
     requires { AreBlocksApart blocks.now }
     ensures { IsTrue result → (k : ℕ) (d : Block) → k < count →
@@ -185,7 +185,7 @@ fn all_begin(blocks: &[Block], place: &InstPlace, count: usize) -> bool
     begins_by(&blocks[count - 1], place)
 }
 
-// How many blocks begin with the instruction at `place` or before it, by binary search.
+// The number of blocks that begin at or before the instruction at `place`, by binary search.
 fn count_of_all(blocks: &[Block], place: &InstPlace) -> usize
     requires { AreBlocksApart blocks.now }
     ensures bound { result ≤ length blocks.now }
@@ -197,14 +197,14 @@ fn count_of_all(blocks: &[Block], place: &InstPlace) -> usize
     blocks.partition_point(|b| begins_by(b, place))
 }
 
-// Whether `block` begins with the instruction at `place` or before it.
+// Whether `block` begins at or before the instruction at `place`.
 fn begins_by(block: &Block, place: &InstPlace) -> bool
     ensures { result ≡ begins_by place.now.func place.now.inst block.now }
 {
     block.func < place.func || (block.func == place.func && block.first <= place.inst)
 }
 
-// Whether `block` is of the function of the instruction at `place`, and ends with it or after it.
+// Whether `block` is in the function of the instruction at `place`, and ends at or after it.
 fn ends_from(block: &Block, place: &InstPlace) -> bool
     ensures { result ≡ ends_from place.now.func place.now.inst block.now }
 {

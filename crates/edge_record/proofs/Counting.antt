@@ -1,4 +1,4 @@
--- Counts of pairs, one move more.
+-- Counts of pairs, with one more move.
 use Rattle.std.proofs.Common.{◌≡◌, ◌+◌, ◌≤◌, ℕ, Bool, true, false, List, [], ◌∷◌, refl, ap, sym, arith, cond, map, Some}
 use Rattle.std.specs.Prelude.{◌==◌, ◌&&◌, if◌then◌else◌, unwrap_or}
 use Rattle.std.specs.Map.{lookup, set_value}
@@ -30,7 +30,7 @@ one_more true n = refl
 one_more false n = refl
 
 module _ (from to : ℕ) where
-  -- one of two equal pairs has the other's parts
+  -- the components of two equal pairs are equal
   parts : (k : ℕ × ℕ) → (from == k.0 && to == k.1) ≡ true → (from ≡ k.0) × (to ≡ k.1)
   parts k same =
       let both = and_parts (from == k.0) (to == k.1) same in
@@ -90,7 +90,7 @@ module _ (from to : ℕ) where
             rest now,
           )
 
--- a count that is there, raised
+-- the count of a pair that is there is raised
 pub set_raised : (from to n w : ℕ) (es : List ((ℕ × ℕ) × ℕ)) → Some n ≡ lookup (λ k. from == k.0 && to == k.1) es
     → set_value (λ k. from == k.0 && to == k.1) es w ≡ insert_entry (λ k q. k.0 == q.0 && k.1 == q.1) es (from, to) w
 set_raised from to n w [] there = absurd (cc)

@@ -1,4 +1,4 @@
--- What a recorded run answers, from what was watched of it and from its text.
+-- The result of a recorded run, from the watched run and its text.
 use Rattle.std.proofs.Common.{◌≡◌, ◌∙◌, ◌<◌, ℕ, Bool, true, false, List, [], ◌∷◌, Option, Some, None, refl, ap, sym, subst, arith}
 use Rattle.std.specs.Prelude.{◌==◌, ◌&&◌, ◌||◌, if◌then◌else◌, option_and_then, slice_get}
 use Rattle.std.specs.Io.KnownBytes.{append_known}
@@ -39,7 +39,7 @@ use Rattle.edge_record.proofs.Watching.{once}
 
 -- Memory.
 
--- nothing was done
+-- no step was done
 pub nothing_done : (start : List ℕ → ByteState) (limit : ℕ) (outside : Outside) →
     ((input : List ℕ) → (start input).input ≡ input) → RecordStops start limit outside outside
 nothing_done start limit outside reads = record {
@@ -253,7 +253,7 @@ module _ (start : List ℕ → ByteState) (limit : ℕ) (before after : Outside)
       subst (λ (a : Answer Cause). Records start limit before after elf funcs blocks k text a) (sym is)
       (stops_from (stops came n w comes), empty)
 
--- memory ran out before anything was done
+-- memory ran out before the first step
 pub unrecorded : (start : List ℕ → ByteState) (limit : ℕ) (outside : Outside) (elf : Elf) (funcs : List Func)
     (blocks : List Block) (n : ℕ) (text : List ℕ)
     (given : Answer Cause) → ((input : List ℕ) → (start input).input ≡ input) → given ≡ answer.Memory → text ≡ []

@@ -1,4 +1,4 @@
--- Moves of a run, one step more at a time, and what the run comes to.
+-- The moves of a run, with one more step at a time, and the run's result.
 use Rattle.std.proofs.Common.{◌≡◌, ◌∙◌, ◌+◌, ◌<◌, ◌≤◌, ◌^◌, ◌-◌, ℕ, suc, Bool, true, false, List, [], ◌∷◌, ◌++◌, length, refl}
 use Rattle.std.proofs.Common.{sym, ap, subst, arith, append_assoc, length-append}
 use Rattle.std.specs.Prelude.{◌==◌, ◌&&◌, if◌then◌else◌}
@@ -22,7 +22,7 @@ use Rattle.edge_record.specs.RecordedRuns.{ByteMoves, RecordStops}
 use Rattle.edge_record.specs.MoveCounts.{taken_by}
 use Rattle.edge_record.specs.WatchedRuns.{IsWatched, WatchesRun}
 
--- How often a move was made.
+-- The number of times that a move was made.
 
 abbrev pub once : (Move → Bool) → ℕ → ℕ → Move → ℕ
 once counts from to m = if counts m && (m.0 == from && m.1 == to) then 1 else 0
@@ -47,7 +47,7 @@ taken-le counts (m ∷ moves) from to =
     omega (arith, first, one, rest)
 
 module _ (counts : Move → Bool) (old : Machine) (before : Outside) where
-  -- n steps made some moves, whatever input comes after what they read, and those of them that are counted were said
+  -- n steps were done for any input after the bytes that they read, and their counted moves are in `said`
   pub record Watch (now : Machine) (ended : Bool) (n : ℕ) (after : Outside) (said : List Counted) : Type 0 where
     pub walk : Walk state_of Steps old before now ended n after
     pub moves : List Move
@@ -64,7 +64,7 @@ module _ (counts : Move → Bool) (old : Machine) (before : Outside) where
     counts_are = λ from to. ap (count_among from to) nothing;
   }
 
-  -- after a walk memory may run out
+  -- memory may run out after a walk
   pub stops : (limit : ℕ) (now : Machine) (ended : Bool) (n : ℕ) (after final : Outside)
       → Walk state_of Steps old before now ended n after
       → n ≤ limit → final.input.left ≡ after.input.left → final.output.taken ≡ after.output.taken
@@ -101,7 +101,7 @@ module _ (counts : Move → Bool) (old : Machine) (before : Outside) where
       abbrev pub walk_more : Walk state_of Steps old before new ends (n + 1) after
       walk_more = step_more state_of Steps old before mid ended n between watch.walk one new ends after goes
 
-      -- one step more, whose move was noted
+      -- one more step, whose move was noted
       pub move_more : (from to : ℕ) (noted : List Counted) → from ≡ mid.pc → to ≡ new.pc
           → ((x y : ℕ)
           → count_among x y noted ≡ count_among x y said + (if counts (from, to) && is_pair x y (from, to, 1) then 1 else 0))
@@ -158,7 +158,7 @@ module _ (counts : Move → Bool) (old : Machine) (before : Outside) where
         counts_are = watch.counts_are;
       }
 
-      -- the next step is the last
+      -- the next step is the last one
       pub last_watch : (ends : Bool) (end : Answer Cause) → (end ≡ answer.Going → ⊥) → before.input.faults ≤ between.input.faults
           → before.output.faults ≤ between.output.faults → StepAnswers state_of Steps end mid new ended ends between after
           → WatchesRun counts old new limit (steps_done end n) before after said end
@@ -172,7 +172,7 @@ module _ (counts : Move → Bool) (old : Machine) (before : Outside) where
       last_watch ends answer.Memory last reads writes answers =
           stops limit mid ended n between after watch.walk (omega (arith, below)) answers.left_is answers.taken_is
 
-  -- the steps are up
+  -- the limit of steps was reached
   pub watch_up : (now : Machine) (ended : Bool) (n limit : ℕ) (after : Outside) (said : List Counted)
       → Watch now ended n after said → n ≡ limit → IsWatched counts old now limit n before after said answer.Going
   watch_up now ended n limit after said watch up = record {

@@ -1,4 +1,4 @@
--- What counts of moves say.
+-- The contents of counts of moves.
 use Rattle.std.specs.Prelude.{List, map}
 use Rattle.edge_profile.specs.PairCounts.{Counted}
 use Rattle.edge_record.specs.declared.edge_counts.EdgeCounts.{EdgeCounts}

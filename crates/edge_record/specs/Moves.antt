@@ -1,4 +1,4 @@
--- From which pc to which pc a run goes.
+-- The moves of a run, from pc to pc.
 use Rattle.std.specs.Prelude.{ℕ, suc, List, [], ◌∷◌, ◌++◌, Option}
 use Rattle.rv_code.specs.machine.Machine.{Event, Outcome, Going}
 
@@ -6,9 +6,9 @@ use Rattle.rv_code.specs.machine.Machine.{Event, Outcome, Going}
 abbrev pub Move : Type 0
 Move = ℕ × ℕ
 
--- `step` relates a state to what a step from it comes to, and `pc_of` is the pc of a state.
+-- `step` relates a state to the outcome of a step from it, and `pc_of` is the pc of a state.
 module _ {S C : Type 0} (step : S → Outcome S C → Type 0) (pc_of : S → ℕ) (s : S) where
-  -- the first n steps from s go on, make these moves, and come to a state
+  -- the first n steps from s go on, make these moves, and lead to a state
   pub data Moves : ℕ → List Move → S → Type 0 where
     starts : Moves 0 [] s
     more : {n : ℕ} {moves : List Move} {t u : S} (e : Option Event) → Moves n moves t → step t (Going u e)

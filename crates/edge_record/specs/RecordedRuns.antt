@@ -1,4 +1,4 @@
--- What a recorded run answers.
+-- The result of a recorded run.
 use Rattle.std.specs.Prelude.{◌≡◌, ℕ, ◌-◌, ◌≤◌, List, []}
 use Rattle.std.specs.Io.KnownBytes.{append_known}
 use Rattle.rv_code.specs.declared.cause.Cause.{Cause}
@@ -17,7 +17,7 @@ use Rattle.edge_text.specs.EdgeText.{IsEdgeText}
 use Rattle.edge_record.specs.Moves.{Move, Moves}
 use Rattle.edge_record.specs.MoveCounts.{taken}
 
--- how many of the steps that count go on: all but one that ends
+-- the number of counted steps that go on: all except one that ends the program
 abbrev pub steps_gone : Answer Cause → ℕ → ℕ
 steps_gone (answer.Ended status) n = n - 1
 steps_gone _ n = n
@@ -26,9 +26,9 @@ steps_gone _ n = n
 abbrev pub ByteMoves : ByteState → ℕ → List Move → ByteState → Type 0
 ByteMoves s n moves t = Moves Steps (λ u. u.pc) s n moves t
 
--- A machine that begins in the states of `start`, one for each input, does at most `limit` steps.
+-- A machine that starts in the state `start input`, for any input, and does at most `limit` steps.
 module _ (start : List ℕ → ByteState) (limit : ℕ) (before after : Outside) where
-  -- Some first steps were done, which may be all of them, and their output was taken.
+  -- Some of the steps were done, possibly all, and their output was written.
   pub record RecordStops : Type 0 where
     pub input : List ℕ
     pub input_is : before.input.left ≡ as_told before.input.left input
@@ -41,14 +41,15 @@ module _ (start : List ℕ → ByteState) (limit : ℕ) (before after : Outside)
     pub left_is : after.input.left ≡ as_told before.input.left state.input
     pub taken_is : after.output.taken ≡ append_known before.output.taken (output trace)
 
-  -- It answers so after n steps, as a run of the byte machine does.
+  -- The run ends with this answer after n steps, as a run of the byte machine does.
   pub record RunsFromStart (answer : Answer Cause) (n : ℕ) : Type 0 where
     pub machine : Machine
     pub ends_as : Machine
     pub starts : (input : List ℕ) → state_of machine input ≡ start input
     pub runs : RunsSomeInput state_of Steps answer limit n machine ends_as before after
 
-  -- Where the run comes out, the text has the counts of its moves. After a fault, and for want of memory, it is empty.
+  -- If the run ends, traps or reaches the limit, the text has the counts of its moves. After a read or write error, and
+  -- if memory ran out, the text is empty.
   module _ (elf : Elf) (funcs : List Func) (blocks : List Block) (n : ℕ) (text : List ℕ) where
     pub record IsRecorded (answer : Answer Cause) : Type 0 where
       pub run : RunsFromStart answer n

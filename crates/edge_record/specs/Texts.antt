@@ -1,4 +1,4 @@
--- The text that goes with what a run came to.
+-- The text that belongs to the result of a run.
 use Rattle.std.specs.Prelude.{◌≡◌, ℕ, List, []}
 use Rattle.rv_code.specs.declared.cause.Cause.{Cause}
 use Rattle.rv_code.specs.declared.placed.Func.{Func}
@@ -8,18 +8,18 @@ use Rattle.edge_profile.specs.PairCounts.{Counted}
 use Rattle.edge_profile.specs.Pairs.{AreMerged}
 use Rattle.edge_text.specs.EdgeText.{text_of_pairs}
 
--- the lines of what is said, pair by pair
+-- the lines of pairs, merged
 abbrev pub IsTextOf : List Func → List Counted → List ℕ → Type 0
 IsTextOf funcs said text = (pairs : List Counted) × AreMerged said pairs × (text ≡ text_of_pairs funcs pairs)
 
--- the run came out, so that what is said of it has a text
+-- the run ended, trapped or reached the limit, so there is a text
 abbrev pub HasText : Answer Cause → Type 0
 HasText answer.Going = Unit {0}
 HasText (answer.Ended status) = Unit {0}
 HasText (answer.Halted pc cause) = Unit {0}
 HasText _ = ⊥
 
--- The run answered `came` after n steps, and what is given out is `given` after m.
+-- The run had the answer `came` after n steps, and the recorded answer is `given` after m steps.
 pub data IsFinished (funcs : List Func) (said : List Counted) (came : Answer Cause) (n : ℕ) (given : Answer Cause)
     (m : ℕ)
     (text : List ℕ) : Type 0 where

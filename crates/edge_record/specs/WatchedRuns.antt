@@ -1,4 +1,4 @@
--- What a run answers whose moves are watched.
+-- The result of a run whose moves are watched.
 use Rattle.std.specs.Prelude.{◌≡◌, ◌≤◌, ℕ, Bool, List, length}
 use Rattle.rv_code.specs.declared.cause.Cause.{Cause}
 use Rattle.rv_code.specs.machine.Step.{ByteState, Steps}
@@ -14,7 +14,7 @@ use Rattle.edge_record.specs.RecordedRuns.{ByteMoves, RecordStops, steps_gone}
 use Rattle.edge_record.specs.MoveCounts.{taken_by}
 
 module _ (counts : Move → Bool) (old now : Machine) (limit n : ℕ) (before after : Outside) (said : List Counted) where
-  -- The run answers so, and of its moves those that are counted were said.
+  -- The run has this answer, and its counted moves are in `said`.
   pub record IsWatched (answer : Answer Cause) : Type 0 where
     pub runs : RunsSomeInput state_of Steps answer limit n old now before after
     pub moves : List Move
@@ -23,7 +23,7 @@ module _ (counts : Move → Bool) (old now : Machine) (limit n : ℕ) (before af
     pub gone : ByteMoves (state_of old runs.input) (steps_gone answer n) moves state
     pub counts_are : (from to : ℕ) → count_among from to said ≡ taken_by counts moves from to
 
-  -- nothing is said where memory ran out, or after a fault of the source or the sink
+  -- `said` is irrelevant if memory ran out, or after a read or write error
   abbrev pub WatchesRun : Answer Cause → Type 0
   WatchesRun answer.Going = IsWatched answer.Going
   WatchesRun (answer.Ended status) = IsWatched (answer.Ended status)

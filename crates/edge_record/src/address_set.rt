@@ -1,10 +1,10 @@
-// Sets of addresses that lie near to one another.
+// Sets of addresses that are near each other.
 ghost use Rattle.std.specs.Prelude.{◌≡◌, ◌==◌, ◌||◌, ℕ, false, length, IfOk};
 
 use rb_bytes::fault::NoMemory;
 use std::alloc::Global;
 
-/// Some of the addresses of a stretch, with a mark for each address of it.
+/// A set of addresses of one range, with a mark for each address of the range.
 #[derive(Drop)]
 pub struct AddressSet {
     pub(crate) low: u64,
@@ -15,7 +15,7 @@ impl AddressSet {
     ghost use Rattle.std.specs.Prelude.{◌≡◌, ◌==◌, ◌||◌, ℕ, false, length, IfOk};
     ghost use Rattle.edge_record.specs.AddressSets.{in_set, HasRoomFor, HaveSameRoom};
 
-    /// An empty set, of those `size` addresses that go from `low` on.
+    /// An empty set, with room for the `size` addresses from `low` on.
     pub fn new(alloc: Global, low: u64, size: usize) -> Result<AddressSet, NoMemory>
         ensures none { IfOk result (λ set. (a : ℕ) → in_set set a ≡ false) }
         ensures low { IfOk result (λ set. set.low ≡ low) }
@@ -25,7 +25,7 @@ impl AddressSet {
         Ok(AddressSet { low, marks })
     }
 
-    /// Adds `address`, which is one of those for which the set has room.
+    /// Adds `address`, which is in the set's range.
     pub fn insert(&mut self, address: u64)
         requires { HasRoomFor self.old address }
         ensures added { (a : ℕ) → in_set self.new a ≡ (address == a || in_set self.old a) }
@@ -35,7 +35,7 @@ impl AddressSet {
         self.marks[place] = true;
     }
 
-    /// Whether the set has `address`.
+    /// Whether `address` is in the set.
     pub fn has(&self, address: u64) -> bool
         ensures { result ≡ in_set self.now address }
     {

@@ -16,7 +16,7 @@ impl EdgeCounts {
     ghost use Rattle.edge_profile.specs.PairCounts.{count_among, is_pair};
     ghost use Rattle.edge_record.specs.EdgeCounts.{said_of};
 
-    /// Counts of no moves.
+    /// No counts.
     pub fn new(alloc: Global) -> EdgeCounts
         ensures { said_of result ≡ [] }
     {
@@ -25,7 +25,7 @@ impl EdgeCounts {
         }
     }
 
-    /// Counts one more move from `from` to `to`.
+    /// Adds 1 to the count of moves from `from` to `to`.
     pub fn add(&mut self, from: u64, to: u64) -> Result<(), NoMemory>
         requires { count_among from to (said_of self.old) < 2 ^ 64 - 1 }
         ensures { OnOk result ((x y : ℕ) → count_among x y (said_of self.new)

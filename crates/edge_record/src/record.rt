@@ -24,9 +24,9 @@ use std::alloc::Global;
 /// A run, and the text of its profile.
 #[derive(Drop)]
 pub struct Recorded {
-    /// What the run answers. `Memory` may come in place of any other end.
+    /// The result of the run. `Memory` may come instead of any other end.
     pub ran: Ran,
-    /// The profile, which is empty after a fault of the source or the sink, and for want of memory.
+    /// The profile. It is empty after a read or write error, and if memory ran out.
     pub text: Vec<u8>,
 }
 
@@ -47,8 +47,8 @@ impl Recorded {
     }
 }
 
-/// Runs a file with the arguments `args` for at most `limit` steps, as `Machine::run` does, and records how often
-/// control went from the last instruction of a block, or from one that saves a return address, to which instruction.
+/// Runs a file with the arguments `args` for at most `limit` steps, as `Machine::run` does, and counts the moves of
+/// control to an instruction from an instruction that ends a block or saves a return address.
 pub fn trace_edges<I: Source, O: Sink>(
     alloc: Global,
     elf: &Elf<'_>,
@@ -89,7 +89,7 @@ pub fn trace_edges<I: Source, O: Sink>(
     finish(alloc, funcs, &counts, ran)
 }
 
-// What a run came to, with the text of its profile.
+// The result of a run, with the text of its profile.
 fn finish(alloc: Global, funcs: &[Func], counts: &EdgeCounts, ran: Ran) -> Recorded
     requires { AreLaidOut funcs.now }
     ensures { IsFinished funcs.now (said_of counts.now) (answered ran.end) ran.steps

@@ -11,7 +11,7 @@ use rb_bytes::fault::NoMemory;
 use rv_code::Func;
 use std::alloc::Global;
 
-// `merged` takes fewer pairs than these, and no memory holds as many.
+// `merged` takes fewer pairs than this, and no memory has room for as many.
 const TOO_MANY: usize = 1 << 32;
 
 /// The text with the counts of all pairs, in order.

@@ -1,4 +1,4 @@
-// Which moves of a run are counted.
+// The moves of a run that are counted.
 ghost use Rattle.std.specs.Prelude.{◌≡◌, ◌+◌, ◌<◌, ◌≤◌, ◌||◌, ℕ, All, IfOk, IfSome, option_copied};
 ghost use Rattle.std.specs.List.{list_any};
 ghost use Rattle.rv_code.specs.layout.FunctionLists.{AreLaidOut};
@@ -13,12 +13,12 @@ use rv_code::flow::is_call;
 use rv_code::{Block, Func, Placed};
 use std::alloc::Global;
 
-/// Which moves are counted: those from one of the sources to an instruction.
+/// The moves that are counted: from one of the sources to an instruction.
 #[derive(Drop)]
 pub struct Watched {
     /// The addresses of all instructions.
     pub(crate) code: AddressSet,
-    /// Those of the instructions that end a block or save a return address.
+    /// The addresses of the instructions that end a block or save a return address.
     pub(crate) sources: AddressSet,
 }
 
@@ -50,7 +50,7 @@ impl Watched {
     }
 }
 
-// Where the code of functions starts, and its length with all that lies between them.
+// The start of the functions' code, and its length with everything between them.
 fn code_range(funcs: &[Func]) -> (u64, usize)
     requires { AreLaidOut funcs.now }
     ensures { All (λ f. All (λ p. (result.0 ≤ p.addr) × (p.addr < result.0 + result.1)) f.insts.items) funcs.now }
@@ -63,7 +63,8 @@ fn code_range(funcs: &[Func]) -> (u64, usize)
     (low, (high - low) as usize)
 }
 
-// Adds the addresses of all instructions to `code`, and to `sources` those of instructions that save a return address.
+// Adds the addresses of all instructions to `code`, and the addresses of instructions that save a return address to
+// `sources`.
 fn insert_insts(code: &mut AddressSet, sources: &mut AddressSet, funcs: &[Func])
     requires code_room { All (λ f. All (λ p. HasRoomFor code.old p.addr) f.insts.items) funcs.now }
     requires source_room { All (λ f. All (λ p. HasRoomFor sources.old p.addr) f.insts.items) funcs.now }
@@ -79,7 +80,7 @@ fn insert_insts(code: &mut AddressSet, sources: &mut AddressSet, funcs: &[Func])
     }
 }
 
-// Does the same for the instructions of one function.
+// Does this for the instructions of one function.
 fn insert_insts_of(code: &mut AddressSet, sources: &mut AddressSet, insts: &[Placed])
     requires code_room { All (λ p. HasRoomFor code.old p.addr) insts.now }
     requires source_room { All (λ p. HasRoomFor sources.old p.addr) insts.now }

@@ -1,4 +1,4 @@
--- The lines of a pair have its count in sum.
+-- The counts of a pair's lines add up to its count.
 use Rattle.std.proofs.Common.{◌≡◌, ◌+◌, ◌*◌, ◌-◌, ◌/◌, ◌≤◌, ◌==◌, ◌&&◌, ℕ, zero, suc, Bool, true, false, List, [], ◌∷◌, refl, sym, ap}
 use Rattle.std.proofs.Common.{◌∙◌, arith, map, replicate, sum_by, if◌then◌else◌, div-mul-le_self, suc-mul, zero-mul, add_comm}
 use Rattle.std.proofs.lemmas.List.Sums.{sum_by-append, sum_by-cons}

@@ -1,4 +1,4 @@
--- The line of a pair: its fields, and where it ends.
+-- The line of a pair: its fields and its end.
 use Rattle.std.proofs.Common.{◌≡◌, ◌∙◌, ◌<◌, ℕ, suc, zero, Bool, true, false, List, [], ◌∷◌, ◌++◌, length, get_or, arith, refl}
 use Rattle.std.proofs.Common.{ap, sym, append_assoc, append-nil}
 use Rattle.std.specs.Prelude.{◌==◌}
@@ -9,7 +9,7 @@ use Rattle.rb_bytes.specs.Text.{is_lower_hex_digit}
 use Rattle.edge_profile.specs.Grammar.{fields, lines}
 use Rattle.edge_profile.proofs.LineLists.{lines_at}
 
--- a text lacks a byte
+-- a text doesn't contain the byte c
 abbrev Lacks : ℕ → List ℕ → Type 0
 Lacks c [] = Unit {0}
 Lacks c (x ∷ xs) = ((x == c) ≡ false) × Lacks c xs
@@ -23,7 +23,7 @@ lacks_all c [] lacks k d within = absurd (omega arith)
 lacks_all c (x ∷ xs) lacks zero d within = lacks.0
 lacks_all c (x ∷ xs) lacks (suc k) d within = lacks_all c xs lacks.1 k d (omega arith)
 
--- digits lack what isn't one
+-- a byte that isn't a hexadecimal digit isn't in digits
 digit_other : (c d : ℕ) (b : Bool) → (d == c) ≡ b → is_lower_hex_digit c ≡ false → is_lower_hex_digit d ≡ true → b ≡ false
 digit_other c d true is other digit = let same = ap is_lower_hex_digit (eqb-true d c is) in absurd (cc)
 digit_other c d false is other digit = refl
@@ -34,7 +34,7 @@ digits_lack c (d ∷ ds) other all =
     let parts = and_parts (is_lower_hex_digit d) (list_all is_lower_hex_digit ds) all in
     (digit_other c d (d == c) refl other parts.0, digits_lack c ds other parts.1)
 
--- a line with these texts of numbers, and what follows it
+-- a line with these texts of numbers, and the text after it
 abbrev pub line_with : (a b c d e rest : List ℕ) → List ℕ
 line_with a b c d e rest = 49 ∷ 32 ∷ 64 ∷ (a ++ 32 ∷ (b ++ 32 ∷ 49 ∷ 32 ∷ 64 ∷ (c ++ 32 ∷ (d ++ 32 ∷ 48 ∷ 32 ∷ (e ++ rest)))))
 

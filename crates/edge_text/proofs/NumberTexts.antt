@@ -1,4 +1,4 @@
--- The text of a number in hexadecimal is read as it where no zero may lead.
+-- The hexadecimal text of a number is read as this number by a reader that accepts no leading zeros.
 use Rattle.std.proofs.Common.{◌≡◌, ◌≢◌, ◌<◌, ◌^◌, ◌∙◌, ℕ, Some, None, ap, sym, cond, ⊎_elim}
 use Rattle.std.proofs.lemmas.Bool.{cases_eq}
 use Rattle.rb_bytes.specs.Text.{hexadecimal, hex_number}

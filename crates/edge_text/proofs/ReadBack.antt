@@ -44,7 +44,7 @@ line_spelled a b c d e =
     ∙ (λ i. codes "1 @" ++ (append_assoc a (codes " ") b i
     ++ (codes " 1 @" ++ (append_assoc c (codes " ") d i ++ (codes " 0 " ++ (e ++ codes "\n"))))))
 
--- what fields say
+-- the pair and count that fields mean
 abbrev said : List Symbol → List Func → List (List ℕ) → Option Counted
 said symbols funcs fs =
     option_and_then (λ l. both_ends (address_at symbols funcs l.from) (address_at symbols funcs l.to) l.count) (branch_line fs)
@@ -59,7 +59,7 @@ said_is symbols funcs name offset name' offset' count o o' n first second third 
     (all_three (named_place name (first i)) (named_place name' (second i)) (third i)))
 
 module _ (symbols : List Symbol) (funcs : List Func) (laid : AreLaidOut funcs) where
-  -- the line of a pair, without its end
+  -- the line of a pair, without its line feed
   abbrev body_of : Counted → List ℕ
   body_of p =
       line_with (hexadecimal (start_at funcs p.0)) (hexadecimal (p.0 - start_at funcs p.0))

@@ -1,4 +1,4 @@
--- The text of pairs in order says their counts.
+-- The text of pairs in order has their counts.
 use Rattle.std.proofs.Common.{◌≡◌, ◌∙◌, ◌+◌, ◌*◌, ◌-◌, ◌/◌, ◌<◌, ◌^◌, ℕ, suc, List, [], ◌∷◌, ◌++◌, Contains, All, AllPairs}
 use Rattle.std.proofs.Common.{arith, ap, refl, subst, map, replicate, get_or, zero}
 use Rattle.std.proofs.Math.Nat.{lt-div-mul-add}
@@ -46,7 +46,7 @@ module _ (funcs : List Func) where
       (lines_of_pair p (each p (0, omega arith, refl)) (line_counts p.2) (counts_fit p.2))
       (all_lines pairs (λ q (k, within, is). each q (suc k, omega arith, is)))
 
-  -- Pairs in order, whose ends are instructions and whose counts are these.
+  -- Pairs in order with these counts, whose ends are instructions.
   pub says_pairs : (elf : Elf) → AreLaidOut funcs → (counts : ℕ → ℕ → ℕ) (pairs : List Counted) (text : List ℕ) →
       ((from to : ℕ) → count_among from to pairs ≡ counts from to) → All (λ p. 0 < p.2) pairs → AllPairs IsCountedBefore pairs →
       ((p : Counted) → Contains pairs p → HasCodeEnds funcs p) → text ≡ text_of_pairs funcs pairs →

@@ -1,4 +1,4 @@
--- Where a function starts that has an instruction at an address, and how far its code goes.
+-- The start of the function that has an instruction at an address, and the range of all code.
 use Rattle.std.proofs.Common.{◌≡◌, ◌∙◌, ◌+◌, ◌-◌, ◌<◌, ◌≤◌, ℕ, suc, Bool, true, false, List, [], ◌∷◌, Option, Some, None, length}
 use Rattle.std.proofs.Common.{get_or, refl, ap, sym, subst, arith, cond, find, ⊎_elim}
 use Rattle.std.specs.Prelude.{◌==◌, ◌||◌}
@@ -18,7 +18,7 @@ use Rattle.edge_profile.proofs.LaidOut.{code_address-list_any, funcs_rise, no_co
 use Rattle.rb_bytes.proofs.ListLemmas.{any_element}
 use Rattle.edge_text.specs.EdgeText.{start_at}
 
--- the first element that passes a test, and its place
+-- the first item that passes a test, and its index
 record Found {X : Type 0} (test : X → Bool) (xs : List X) : Type 0 where
   place : ℕ
   item : X
@@ -61,7 +61,7 @@ none_found {X} test (x ∷ xs) none = at (test x) none (none_found test xs)
     at true has later = absurd (cc)
     at false has later = later has
 
--- an address where a function has an instruction lies in it
+-- an address at which a function has an instruction is in this function
 within_function : (f : Func) → IsLaidOut f → (a : ℕ) → starts_at f.insts.items a ≡ true → (f.start ≤ a) × (a < f.end)
 within_function f laid a here = (
   ⊎_elim (λ (less : a < f.start). let none = starts_below f laid a less in absurd (cc))
@@ -72,7 +72,7 @@ within_function f laid a here = (
 )
 
 module _ (funcs : List Func) (laid : AreLaidOut funcs) where
-  -- one function has it
+  -- only one function has it
   not_before : (a j k : ℕ) (d : Func) → j < k → k < length funcs → starts_at (get_or funcs j d).insts.items a ≡ true
       → starts_at (get_or funcs k d).insts.items a ≡ true → ⊥
   not_before a j k d less within one other =
@@ -103,7 +103,7 @@ module _ (funcs : List Func) (laid : AreLaidOut funcs) where
       ∙ ap (λ j. (get_or funcs j f.item).start) same
       ∙ ap (λ (g : Func). g.start) (get_or_default funcs k f.item d within)
 
-  -- by the place of the instruction
+  -- the start by the indices of the instruction
   pub start_at_place : (a f i : ℕ) → IsInstPlace funcs a f i → (d : Func) → start_at funcs a ≡ (get_or funcs f d).start
   start_at_place a f i is d =
       let insts = (get_or funcs f d).insts.items in
@@ -116,7 +116,7 @@ module _ (funcs : List Func) (laid : AreLaidOut funcs) where
       ap (λ (o : Option Func). option_map_or (λ g. g.start) o 0)
       (none_found (λ g. starts_at g.insts.items a) funcs (sym (code_address-list_any funcs a) ∙ none))
 
-  -- what there is to know of an instruction's address
+  -- facts of an instruction's address
   pub record IsInCode (a : ℕ) : Type 0 where
     pub from : start_at funcs a ≤ a
     pub low : a < address_end

@@ -14,11 +14,11 @@ pub record HasCodeEnds (funcs : List Func) (p : Counted) : Type 0 where
   pub from : is_code_address funcs p.0 ≡ true
   pub to : is_code_address funcs p.1 ≡ true
 
--- where the function starts that has an instruction at an address
+-- the start of the function that has an instruction at an address; 0 if there is none
 abbrev pub start_at : List Func → ℕ → ℕ
 start_at funcs a = option_map_or (λ f. f.start) (find (λ f. starts_at f.insts.items a) funcs) 0
 
--- that function, and how far from its start the instruction is
+-- the start of this function, and the distance of the instruction from it
 abbrev pub place_text : List Func → ℕ → List ℕ
 place_text funcs a = hexadecimal (start_at funcs a) ++ codes " " ++ hexadecimal (a - start_at funcs a)
 
@@ -31,8 +31,8 @@ edge_line funcs p =
 abbrev pub text_of_pairs : List Func → List Counted → List ℕ
 text_of_pairs funcs pairs = flat_map (edge_line funcs) (split_counts pairs)
 
--- Each pair of positive count has its lines, in order. Read as a profile, the text says these counts, and each line
--- says one.
+-- Each pair with a positive count has its lines, in order. Read as a profile, the text has these counts, and no line is
+-- ignored.
 pub record IsEdgeText (elf : Elf) (funcs : List Func) (counts : ℕ → ℕ → ℕ) (text : List ℕ) : Type 0 where
   pub pairs : List Counted
   pub are_pairs : ArePairs counts pairs

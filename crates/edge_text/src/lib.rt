@@ -8,7 +8,7 @@ ghost use Rattle.edge_text.specs.LineCounts.{SplitLaw};
 
 pub use text::edge_text;
 
-/// The lines of pairs say the counts of the pairs.
+/// A law: the lines of pairs have the counts of the pairs. The function does nothing.
 pub fn split_law()
     ensures { SplitLaw }
 {}

@@ -1,14 +1,14 @@
-// Counts of more than 64 bits, as lines have them.
+// Splitting counts of more than 64 bits into several lines.
 ghost use Rattle.std.specs.Prelude.{◌≡◌, ◌++◌, ◌<◌, All, IfOk, OnOk, map};
 ghost use Rattle.edge_text.specs.LineCounts.{line_counts, split_counts};
 
 use rb_bytes::fault::NoMemory;
 use std::alloc::Global;
 
-// The greatest count of a line, that of 64 bits.
+// The greatest count of a line, 2^64 - 1.
 const MOST_OF_LINE: u128 = 0xffff_ffff_ffff_ffff;
 
-/// The lines of pairs of positive counts: the addresses of a pair and a count for each.
+/// The lines of pairs with positive counts: the two addresses and a count for each line.
 pub fn split_counts(
     alloc: Global,
     pairs: &[(u64, u64, u128)],

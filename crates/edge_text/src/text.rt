@@ -10,8 +10,8 @@ use rb_bytes::text::{put_count, put_hex};
 use rv_code::Func;
 use std::alloc::Global;
 
-/// The text of a profile with `pairs`: the addresses of each, and its count, which is positive. A count of more than 64
-/// bits takes several lines.
+/// The text of a profile with `pairs`: two addresses and a positive count each. A count of more than 64 bits takes
+/// several lines.
 pub fn edge_text(
     alloc: Global,
     funcs: &[Func],
@@ -25,7 +25,7 @@ pub fn edge_text(
     text_of(alloc, funcs, &lines)
 }
 
-// The lines of pairs.
+// The text of lines.
 fn text_of(alloc: Global, funcs: &[Func], pairs: &[(u64, u64, u128)]) -> Result<Vec<u8>, NoMemory>
     requires { AreLaidOut funcs.now }
     ensures { IfOk result (λ text. text.items ≡ flat_map (edge_line funcs.now) pairs.now) }
@@ -37,7 +37,7 @@ fn text_of(alloc: Global, funcs: &[Func], pairs: &[(u64, u64, u128)]) -> Result<
     Ok(text)
 }
 
-// Appends the line of a pair.
+// Appends one line.
 fn put_line(text: &mut Vec<u8>, funcs: &[Func], pair: &(u64, u64, u128)) -> Result<(), NoMemory>
     requires { AreLaidOut funcs.now }
     ensures { OnOk result (text.new.items ≡ text.old.items ++ edge_line funcs.now pair.now) }
@@ -52,7 +52,8 @@ fn put_line(text: &mut Vec<u8>, funcs: &[Func], pair: &(u64, u64, u128)) -> Resu
     Ok(())
 }
 
-// Appends where the function starts that has the instruction at `address`, and how far behind that it is.
+// Appends the start of the function that has the instruction at `address`, and the distance of `address` from this
+// start.
 fn put_place(text: &mut Vec<u8>, funcs: &[Func], address: u64) -> Result<(), NoMemory>
     requires { AreLaidOut funcs.now }
     ensures { OnOk result (text.new.items ≡ text.old.items ++ place_text funcs.now address) }
@@ -64,7 +65,7 @@ fn put_place(text: &mut Vec<u8>, funcs: &[Func], address: u64) -> Result<(), NoM
     Ok(())
 }
 
-// Where the function starts that has an instruction at `address`, or 0 where none has.
+// The start of the function that has an instruction at `address`, or 0 if there is none.
 fn start_at(funcs: &[Func], address: u64) -> u64
     requires { AreLaidOut funcs.now }
     ensures { result ≡ start_at funcs.now address }
