@@ -1,4 +1,4 @@
--- The ways of one block in from outside its function and out there, with their counts.
+-- The ways of one block in from outside its function and out of it, with their counts.
 use Rattle.std.proofs.Common.{◌≡◌, ◌<◌, ◌∙◌, get_or, length, sym, ap, subst, refl, ℕ, Bool, true, false, List, Option, Some, None, ⊎_elim}
 use Rattle.std.proofs.Common.{inl, inr, map, sum_by, if◌then◌else◌}
 use Rattle.std.specs.Prelude.{◌==◌, ◌&&◌, ◌||◌, ◌↔◌, Contains, IsPermutation, IsSomeAnd, IsTrue, not, slice_get}
@@ -19,7 +19,7 @@ use Rattle.flow_infer.specs.Links.{count_out_of}
 use Rattle.flow_infer.specs.Sources.{AreEntries, AreSources, IsCodeOf, IsLinkIn, turned}
 use Rattle.flow_infer.proofs.Sums.{sum_mapped}
 
--- What holds of the item at a place, and a number of it.
+-- The item at an index has a property, and there is a number for it.
 
 module _ {A : Type 0} (P : A → Type 0) (g : A → ℕ) (o : Option A) (x : A) (is : o ≡ Some x) where
   counted_some : (r c : ℕ) → P x → r ≡ g x → (Some r ≡ Some c) ↔ (IsSomeAnd o P × (c ≡ option_map_or g o 0))
@@ -31,7 +31,7 @@ module _ {A : Type 0} (P : A → Type 0) (g : A → ℕ) (o : Option A) (x : A) 
   counted_none : (c : ℕ) → (P x → ⊥) → (◌≡◌ {A = Option ℕ} None (Some c)) ↔ (IsSomeAnd o P × (c ≡ option_map_or g o 0))
   counted_none c fails = ((λ none. absurd (cc)), (λ (there, count). absurd (fails (of_some P o x is there))))
 
--- the function of a block, as it is read
+-- the function of a block, as the code reads it
 pub func_at : (s : Source) (k : ℕ) (d : Block) (e : Func) → AreSources s → k < length s.blocks.now →
     slice_get s.funcs.now (get_or s.blocks.now k d).func ≡ Some (get_or s.funcs.now (get_or s.blocks.now k d).func e)
 func_at s k d e sources inside =
@@ -124,7 +124,7 @@ module _ (code : ProgramCode) (s : Source) (k : ℕ) (b : Block) (of : IsCodeOf 
         (counted_some (IsLeft s.funcs.now) (count_out_of s.funcs.now s.pairs.now) (slice_get s.blocks.now k) b at r c left
         (count_out s.funcs.now s.pairs.now b f a r func end value))
 
--- Whether control leaves by the last instruction of a block, told by its function.
+-- Whether control leaves by the last instruction of a block, in terms of its function.
 pub left_is : (funcs : List Func) (b : Block) (f : Func) (so : Bool) → slice_get funcs b.func ≡ Some f →
     (IsTrue so ↔ IsSomeAnd (slice_get f.insts.items b.last) (LeavesBy f b.last)) → IsTrue so ↔ IsLeft funcs b
 left_is funcs b f so func is = (

@@ -1,4 +1,4 @@
--- The edges from one block, listed one after another.
+-- Listing the edges from one block, one after another.
 use Rattle.std.proofs.Common.{◌≡◌, ◌∙◌, sym, ap, subst, refl, ℕ, ◌+◌, ◌-◌, ◌<◌, ◌≤◌, inl, inr, ⊎_elim, List, ◌++◌}
 use Rattle.std.proofs.Common.{All, AllPairs, Option, Some, None, get_or, length, arith}
 use Rattle.std.specs.Prelude.{◌==◌, ◌↔◌, Contains, filter, slice_get}
@@ -19,7 +19,7 @@ use Rattle.flow_infer.specs.Links.{link_count, rank}
 use Rattle.flow_infer.specs.Sources.{AreLinksUpto, AreSources, IsCodeOf, IsFunctionRange, IsLinkIn, IsLinkWithin, link_if}
 use Rattle.flow_infer.proofs.LinkLists.{all_pushed, rank_same, same_upto, step_upto}
 
--- the rank of the target of the i-th edge, or past all of n blocks
+-- the rank of the target of the i-th edge, or a rank after all n blocks
 abbrev pub reach : ℕ → List (ℕ × ℕ) → ℕ → ℕ
 reach n es i = option_map_or (λ e. e.1 + 1) (slice_get es i) (n + 1)
 
@@ -79,7 +79,7 @@ module _ (s : Source) (sources : AreSources s) (block : ℕ) (inside : block < l
         let home = ap (func_of_block s.blocks.now) (one k d within) in
         range.all (get_or es k d).1 (target_inside k d within) (sym same ∙ home ∙ range.one block from to)
 
-    -- a link from the block to a block is one of its edges
+    -- a link from this block to a block is one of its edges
     edge_at : (code : ProgramCode) (o : Option ℕ) (t c : ℕ) → IsLinkIn code s (o, Some t, c) → o ≡ Some block → Contains es (block, t)
     edge_at code None t c link same = absurd (cc)
     edge_at code (Some k) t c link same =
@@ -87,7 +87,7 @@ module _ (s : Source) (sources : AreSources s) (block : ℕ) (inside : block < l
         Contains-filter (λ e. e.0 == block) s.edges.now (block, t)
         (subst (λ (j : ℕ). Contains s.edges.now (j, t)) e link.0) (eq-eqb block block refl)
 
-    -- No link from the block stands before the k-th edge and at one from which on all are among those from the k-th on.
+    -- No link from the block is before the k-th edge and after the edges before it.
     none_between : (q k : ℕ) (code : ProgramCode) (o p : Option ℕ) (c : ℕ) → IsLinkIn code s (o, p, c) → rank o ≡ block + 1 →
         0 < q → q ≤ rank p → rank p < reach n es k →
         ((j t : ℕ) (d : ℕ × ℕ) → j < length es → (get_or es j d).1 ≡ t → q ≤ t + 1 → k ≤ j) → ⊥

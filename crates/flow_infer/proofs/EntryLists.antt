@@ -1,4 +1,4 @@
--- The addresses at which control comes into functions from outside, as they are collected.
+-- Collecting the addresses at which control comes into functions from outside.
 use Rattle.std.proofs.Common.{◌≡◌, sym, subst, ℕ, ◌⊎◌, inl, inr, ⊎_elim, List, [], ◌∷◌, arith}
 use Rattle.std.specs.Prelude.{◌↔◌, Any, Contains}
 use Rattle.rv_code.specs.declared.placed.Func.{Func}

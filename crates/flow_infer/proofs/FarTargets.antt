@@ -1,4 +1,4 @@
--- Where a branch or jump goes that leads out of a function.
+-- The target of a branch or jump that leaves its function.
 use Rattle.std.proofs.Common.{◌≡◌, ◌∙◌, ap, refl, ℕ, Bool, Option, Some, None, subst, sym}
 use Rattle.std.specs.Prelude.{◌↔◌, IsTrue, IsSomeAnd, is_some}
 

@@ -1,4 +1,4 @@
--- What edges that were found meet of what is asked of them.
+-- Edges that were found meet the preconditions of `repair`.
 use Rattle.std.proofs.Common.{◌≡◌, ◌∙◌, sym, ap, refl, ℕ, ◌<◌, List, Option, Some, None, length}
 use Rattle.std.specs.Prelude.{IsSomeAnd, slice_get}
 use Rattle.std.specs.Option.{option_map_or}

@@ -1,4 +1,4 @@
--- Links of functions one behind another: that all balance and hold where those of each function do.
+-- Links of several functions: all flows balance and all prices hold if they do in each function.
 use Rattle.std.proofs.Common.{◌≡◌, ◌+◌, ◌-◌, ◌<◌, ◌≤◌, ◌==◌, ℕ, ℤ, pos, negsuc, false, List, [], ◌∷◌, ◌++◌, Option, Some, None, refl}
 use Rattle.std.proofs.Common.{All, add-one, map, sym, ap, ◌∙◌, subst, arith, length, get_or, ⊎_elim, ◌⊎◌, inl, inr, if◌then◌else◌}
 use Rattle.std.specs.Prelude.{◌-ℤ◌, ◌≤ℤ◌}
@@ -25,7 +25,7 @@ not_at first nodes k f (Some j) within out =
     let no : (k == j) ≡ false = ne_eqb k j far in
     rw no refl
 
--- A function's links touch no other block, so they balance at all blocks.
+-- A function's links have no ends in blocks of other functions, so they balance at all blocks.
 balanced_everywhere : (first nodes : ℕ) (links : List Link) → AreAmong first nodes links → BalancesWithin first nodes links → Balances links
 balanced_everywhere first nodes links among balanced k =
     ⊎_elim (λ (lt : k < first). none (inl lt))
@@ -60,7 +60,7 @@ balances_joined out links first nodes before among balanced k =
 no_gain : (n : ℕ) → pos 0 ≡ pos n -ℤ pos n
 no_gain n = omega (arith, ints)
 
--- a number of each node, which is that of its height, over that of what lies outside
+-- the price of each node is f of its height minus f of the outside's height
 abbrev ArePricesOf : (ℕ → ℕ) → List ℕ → List ℤ → Type 0
 ArePricesOf f heights prices = (k : ℕ) → k + 1 < length heights
     → get_or prices k (pos 0) ≡ pos (f (get_or heights (k + 1) 0)) -ℤ pos (f (get_or heights 0 0))
@@ -90,7 +90,7 @@ unused_of n a b o h = omega (arith, ints)
 kept_of : (n a b o : ℕ) → a ≤ b + n → (pos 0 -ℤ pos n) ≤ℤ lifted_gain a b o
 kept_of n a b o h = omega (arith, ints)
 
--- Prices hold at a link where the numbers of its ends do.
+-- Prices hold at a link if f of the heights of its ends does.
 holds_at : (raise lower : ℕ) (f : ℕ → ℕ) (prices more : List ℤ) (heights : List ℕ) → ArePricesOf f heights more → (l : Link) →
     IsAmong (length prices) (length heights) l →
     HoldsFor raise lower (f (at_node heights (length prices) l.from)) (f (at_node heights (length prices) l.to)) l →
@@ -111,7 +111,7 @@ holds_at raise lower f prices more heights by l among holds =
       kept = λ p q. subst (λ (z : ℤ). (pos 0 -ℤ pos lower) ≤ℤ z) (sym g) (kept_of lower a b o (holds.kept p q));
     }
 
--- Those that hold at a cost of 1 are prices of a repaired profile.
+-- Prices that hold at the cost 1 are prices of a repaired profile.
 plain : (prices : List ℤ) (l : Link) → HoldsAt 1 1 prices l → Holds prices l
 plain prices l holds = record {
   most = holds.most;
@@ -134,7 +134,7 @@ holds_joined prices more heights some are by l among holds =
     (levelled (at_node heights (length prices) l.from) (at_node heights (length prices) l.to) l
     (level_at heights (length prices) l.from some are among.from) (level_at heights (length prices) l.to some are among.to) holds))
 
--- The heights themselves, over that of what lies outside.
+-- The heights minus the outside's height.
 abbrev weights_of : List ℕ → List ℤ
 weights_of [] = []
 weights_of (o ∷ hs) = map (λ h. pos h -ℤ pos o) hs
@@ -150,7 +150,7 @@ weights_are (o ∷ hs) k within =
     get_or-map (λ (h : ℕ). pos h -ℤ pos o) hs k 0 (pos 0) lt
     ∙ sym (ap (λ (j : ℕ). pos (get_or (o ∷ hs) j 0) -ℤ pos o) (add-one k))
 
--- Prices of further blocks change nothing for links of those before.
+-- The prices of further blocks change nothing for the links of earlier blocks.
 price_kept : (prices more : List ℤ) (end : Option ℕ) → IsNodeBelow 0 (length prices + 1) end →
     price_of (prices ++ more) end ≡ price_of prices end
 price_kept prices more None within = refl

@@ -1,5 +1,4 @@
--- The law of least change, and that of the least lowering: prices are summed over the links, and vanish from the sum by
--- balance.
+-- The laws of least change and of least lowering: prices are summed over the links, and balance makes their sum 0.
 use Rattle.std.proofs.Common.{◌≡◌, ◌+◌, ◌-◌, ◌*◌, ◌<◌, ◌≤◌, ◌≤ℤ◌, ℕ, ℤ, pos, negsuc, List, [], ◌∷◌, Option, Some, None, refl, sym, ap, ◌∙◌}
 use Rattle.std.proofs.Common.{All, arith, length, map, get_or, sum_by, add-mul, mul_comm, one-mul}
 use Rattle.std.specs.Prelude.{◌-ℤ◌}
@@ -15,7 +14,7 @@ use Rattle.flow_infer.specs.Laws.{LeastChangeLaw}
 use Rattle.flow_infer.proofs.LinkCosts.{IsPriced, cost, least_at}
 use Rattle.flow_infer.proofs.Sums.{at_end, balanced_weights, sum_alike, sum_of_sums, sum_scaled, weighed}
 
--- What flows cost.
+-- The cost of flows.
 abbrev total_cost : ℕ → ℕ → List Link → ℕ
 total_cost raise lower links = sum_by (λ l. cost raise lower l.flow l.count) links
 
@@ -26,11 +25,11 @@ gain_up prices l = up (price_of prices l.to) + down (price_of prices l.from)
 abbrev gain_down : List ℤ → Link → ℕ
 gain_down prices l = down (price_of prices l.to) + up (price_of prices l.from)
 
--- Flows summed by the two parts of gains.
+-- The sum of flows, weighted by one of the two parts of gains.
 abbrev summed : (Link → ℕ) → List Link → ℕ
 summed part links = sum_by (λ l. part l * l.flow) links
 
--- Over two flows on the same links.
+-- Sums for two flows on the same links.
 module _ (raise lower : ℕ) (prices : List ℤ) where
   abbrev ArePriced : List Link → Type 0
   ArePriced links = All (λ l. IsPriced raise lower (gain_up prices l) (gain_down prices l) l.flow l.count) links
@@ -104,7 +103,7 @@ parts_balance prices links balanced =
     downs_are ps None = refl
     downs_are ps (Some k) = refl
 
--- Of flows that balance, that of prices that hold costs least.
+-- Of balancing flows, one for which prices hold costs least.
 least_cost : (raise lower : ℕ) (prices : List ℤ) (links others : List Link) → ArePriced raise lower prices links → Balances links →
     AreSameLinks links others → Balances others → total_cost raise lower links ≤ total_cost raise lower others
 least_cost raise lower prices links others priced balanced same others_balanced =
@@ -115,7 +114,7 @@ least_cost raise lower prices links others priced balanced same others_balanced 
     let c : summed (gain_up prices) others ≡ summed (gain_down prices) others = parts_balance prices others others_balanced in
     omega (arith, a, b, c)
 
--- The change, as a cost.
+-- The change as a cost.
 
 plain_cost : (l : Link) → cost 1 1 l.flow l.count ≡ distance l.flow l.count
 plain_cost l = omega (arith, one-mul (l.flow - l.count), one-mul (l.count - l.flow))
@@ -139,7 +138,7 @@ least_change links prices balanced hold others same others_balanced =
     balanced same others_balanced in
     omega (arith, least, change_cost links, change_cost others)
 
--- The change and the lowering, as one cost.
+-- The change and the lowering as one cost.
 
 both_costs : (l : Link) → cost raise_cost lower_cost l.flow l.count ≡ raise_cost * distance l.flow l.count + (l.count - l.flow)
 both_costs l = omega arith
@@ -166,7 +165,7 @@ priced_by_costs prices l holds = record {
   kept = λ p q. let h : (pos 0 -ℤ pos lower_cost) ≤ℤ gain prices l = holds.kept p q in omega (arith, ints);
 }
 
--- A flow of the least cost lowers least, of those that change as little.
+-- A flow with the least cost lowers counts least among the flows that change as little.
 pub lowers_least : (links : List Link) (prices : List ℤ) → Balances links → All (HoldsAt raise_cost lower_cost prices) links →
     LowersLeast links
 lowers_least links prices balanced hold others same others_balanced alike =

@@ -1,4 +1,4 @@
--- Heights rounded to levels: what holds of them at the costs of raising and lowering holds of levels at a cost of 1.
+-- Rounding heights to levels: if heights hold for the costs of raising and lowering, their levels hold for the cost 1.
 use Rattle.std.proofs.Common.{◌≡◌, ◌+◌, ◌-◌, ◌<◌, ◌≤◌, ℕ, ℤ, pos, List, [], ◌∷◌, ◌++◌, refl, ap, ◌∙◌, subst, arith}
 use Rattle.std.proofs.Common.{get_or, length, ⊎_elim}
 use Rattle.std.specs.Prelude.{◌-ℤ◌}
@@ -31,7 +31,7 @@ levelled a b l x y holds = record {
   kept = λ p q. level_kept a b x y (holds.kept p q);
 }
 
--- Prices of the first blocks, by the levels of the nodes below n.
+-- Prices of the first blocks, from the levels of the nodes below n.
 abbrev pub ArePricesBelow : List ℕ → ℕ → List ℤ → Type 0
 ArePricesBelow heights n prices = (length prices + 1 ≡ n)
     × ((k : ℕ) → k + 1 < n → get_or prices k (pos 0) ≡ pos (level (get_or heights (k + 1) 0)) -ℤ pos (level (get_or heights 0 0)))

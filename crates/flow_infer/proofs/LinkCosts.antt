@@ -1,13 +1,13 @@
--- What a flow over one link costs, and that no other flow over it costs less than prices say.
+-- The cost of a flow on one link, and that no other flow on it costs less than prices say.
 use Rattle.std.proofs.Common.{◌≡◌, ◌+◌, ◌-◌, ◌*◌, ◌<◌, ◌≤◌, ℕ, ⊎_elim, ap, ◌∙◌, arith, eq-zero-or-pos, add-mul, mul-add, mul-zero}
 use Rattle.std.proofs.Common.{mul-le-mul_left, mul-le-mul_right, subst, sym}
 use Rattle.std.proofs.lemmas.Bool.{cases_lt}
 
--- where raising and lowering a count c to the flow f by one cost this much
+-- the cost of changing a count c to a flow f, for these costs of a change by one
 abbrev pub cost : ℕ → ℕ → ℕ → ℕ → ℕ
 cost raise lower f c = raise * (f - c) + lower * (c - f)
 
--- What prices that hold say of a link: `a` and `b` are the gain's positive and negative part.
+-- Prices hold at a link: `a` and `b` are the positive and the negative part of the gain.
 pub record IsPriced (raise lower a b f c : ℕ) : Type 0 where
   pub most : a ≤ b + raise
   pub above : c < f → a ≡ b + raise
@@ -16,7 +16,7 @@ pub record IsPriced (raise lower a b f c : ℕ) : Type 0 where
   pub kept : f ≡ c → 0 < f → b ≤ a + lower
 
 module _ (raise lower c : ℕ) where
-  -- d more above the count
+  -- d more, from a flow at or above the count
   raised_cost : (f d : ℕ) → c ≤ f → cost raise lower (f + d) c ≡ cost raise lower f c + raise * d
   raised_cost f d above =
       let a : raise * (f + d - c) ≡ raise * (f - c) + raise * d =
@@ -26,7 +26,7 @@ module _ (raise lower c : ℕ) where
       let b' : lower * (c - f) ≡ 0 = let e : c - f ≡ 0 = omega arith in ap (λ (j : ℕ). lower * j) e ∙ mul-zero lower in
       omega (arith, a, b, b')
 
-  -- d less below the count
+  -- d less, to a flow below the count
   lowered_cost : (x d : ℕ) → x + d ≤ c → cost raise lower x c ≡ cost raise lower (x + d) c + lower * d
   lowered_cost x d below =
       let a : lower * (c - x) ≡ lower * (c - (x + d)) + lower * d =
@@ -35,7 +35,7 @@ module _ (raise lower c : ℕ) where
       let b' : raise * (x + d - c) ≡ 0 = let e : x + d - c ≡ 0 = omega arith in ap (λ (j : ℕ). raise * j) e ∙ mul-zero raise in
       omega (arith, a, b, b')
 
-  -- d more, or d less, costs no more than that many raised, or lowered
+  -- d more, or d less, costs at most d times the cost of a change by one
   raised_at_most : (x d : ℕ) → cost raise lower (x + d) c ≤ cost raise lower x c + raise * d
   raised_at_most x d =
       let a : raise * (x + d - c) ≤ raise * ((x - c) + d) =
@@ -52,7 +52,7 @@ module _ (raise lower c : ℕ) where
       let m : raise * (f - c) ≤ raise * (f + d - c) = let e : f - c ≤ f + d - c = omega arith in mul-le-mul_left raise e in
       omega (arith, a, b, m)
 
-  -- The prices against d more flow, or d less.
+  -- The prices compared with d more flow, or with d less.
 
   least_above : (a b f d : ℕ) → IsPriced raise lower a b f c →
       cost raise lower f c + a * (f + d) + b * f ≤ cost raise lower (f + d) c + a * f + b * (f + d)
@@ -92,7 +92,7 @@ module _ (raise lower c : ℕ) where
       omega (arith, p, q, m, s, lowered_cost x d below))
       (cases_lt c (x + d))
 
-  -- Another flow x on a link costs no less than the prices say.
+  -- Another flow x on a link costs at least what the prices say.
   pub least_at : (a b f x : ℕ) → IsPriced raise lower a b f c →
       cost raise lower f c + a * x + b * f ≤ cost raise lower x c + a * f + b * x
   least_at a b f x priced = ⊎_elim

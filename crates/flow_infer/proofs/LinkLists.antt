@@ -1,4 +1,4 @@
--- The links of one function, listed one after another by the ranks of their ends.
+-- Listing the links of one function, one after another by the ranks of their ends.
 use Rattle.std.proofs.Common.{◌≡◌, ◌∙◌, sym, ap, subst, refl, ℕ, ◌+◌, ◌<◌, ◌≤◌, ◌⊎◌, inl, inr, ⊎_elim, List, [], ◌∷◌, ◌++◌}
 use Rattle.std.proofs.Common.{All, AllPairs, Option, Some, None, get_or, map, arith}
 use Rattle.std.specs.Prelude.{◌↔◌, Contains, option_map}
@@ -44,7 +44,7 @@ module _ (s : Source) (first end : ℕ) (range : IsFunctionRange s.blocks.now fi
   before_within code d e wd we ranks =
       inr (range.one (a_block d.0 d.1) wd.from wd.to ∙ sym (range.one (a_block e.0 e.1) we.from we.to), ranks)
 
-  -- The next link, by ranks: if it is there, it has these ends.
+  -- The next link by ranks, if it exists, has these ends.
   step_listed : (code : ProgramCode) (r q : ℕ) (x0 x1 way : Option ℕ) (ends : List CountedEnds) → rank x0 ≡ r → rank x1 ≡ q →
       first ≤ a_block x0 x1 → a_block x0 x1 < end → ((c : ℕ) → (way ≡ Some c) ↔ IsLinkIn code s (x0, x1, c)) →
       ListsAll (IsLinkUpto code s first end r q) (IsLinkBefore s.blocks.now) ends →
@@ -135,7 +135,7 @@ module _ (s : Source) (first end : ℕ) (range : IsFunctionRange s.blocks.now fi
     ordered = (old code of).ordered;
   }
 
-  -- After the ways in come the ways from the first block.
+  -- The ways from the first block come after the ways in.
   pub ways_in_done : (links : List Link) → AreLinksUpto s first end 0 (end + 1) links → AreLinksUpto s first end (first + 1) 0 links
   ways_in_done links = same_upto 0 (end + 1) (first + 1) 0 links (λ code of e within. (
     (λ below. ⊎_elim (λ (less : rank e.0 < 0). absurd (omega arith)) (λ (same, less). inl (omega arith)) below),

@@ -63,7 +63,7 @@ lifted old new first step links distances tall steady rises all = record {
       subst (λ (n : ℕ). HoldsBetween (at_node new first l.from) n l) to one;
 }
 
--- The next link too goes on to hold.
+-- Prices still hold at the next link, too.
 pub raised_more : (heights distances : List ℕ) (first : ℕ) (links : List Link) (i step : ℕ) (x : Link) (a b p q : ℕ) →
     i < length links → a ≡ at_node heights first (get_or links i x).from → b ≡ at_node heights first (get_or links i x).to →
     p ≡ at_node distances first (get_or links i x).from → q ≡ at_node distances first (get_or links i x).to →
@@ -86,7 +86,7 @@ raised_more heights distances first links i step x a b p q within a_is b_is p_is
     subst (λ (j : ℕ). HoldsRaised heights first distances step (get_or links j e)) (sym same) three)
     (cases_lt k i)
 
--- Prices go on to hold in a step in which the rises of a link's ends differ by no more than they may.
+-- Prices still hold after a step in which the rises of a link's ends differ by at most the slack.
 pub step_holds : (a b p q s t step : ℕ) (l : Link) → EndMayRise a b s l → StartMayRise a b t l →
     step - q ≤ (step - p) + s → step - p ≤ (step - q) + t → HoldsBetween a b l → HoldsBetween (raised step p a) (raised step q b) l
 step_holds a b p q s t step l end start no_more no_less holds =

@@ -87,7 +87,7 @@ module _ (blocks : List Block) (up : AllPairs IsBefore blocks) where
               (cases_lt k end),
         )
 
--- Lists one after another.
+-- Concatenated lists.
 
 ends_of_bare : (links : List Link) → map counted_ends links ≡ map counted_ends (map bare links)
 ends_of_bare [] = refl

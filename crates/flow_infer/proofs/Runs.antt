@@ -1,4 +1,4 @@
--- Runs of equal keys in ordered lists: what two binary searches cut out is what a filter leaves.
+-- Runs of equal keys in ordered lists: the part between two binary searches is the result of a filter.
 use Rattle.std.proofs.Common.{◌≡◌, ◌∙◌, sym, ap, refl, ℕ, ◌+◌, ◌<◌, ◌≤◌, true, false, nat_le, nat_lt, List, [], ◌∷◌, ◌++◌}
 use Rattle.std.proofs.Common.{All, AllPairs, ⊎_elim, take, drop, length, get_or, cond, arith}
 use Rattle.std.specs.Prelude.{◌==◌, Bool, filter}
@@ -21,7 +21,7 @@ filter_failing p (x ∷ xs) all =
     ap (λ (b : Bool). cond b (x ∷ filter p xs) (filter p xs)) (All-head (λ y. p y ≡ false) x xs all)
     ∙ filter_failing p xs (All-tail (λ y. p y ≡ false) x xs all)
 
--- what passes a test stands in front, or behind
+-- the items that pass a test are at the front, or at the end
 module _ {A : Type 0} (p : A → Bool) (xs : List A) (k : ℕ) where
   pub front_filtered : All (λ x. p x ≡ true) (take k xs) → All (λ x. p x ≡ false) (drop k xs) → take k xs ≡ filter p xs
   front_filtered passing failing =

@@ -8,7 +8,7 @@ use Rattle.edge_profile.proofs.AscendingPairs.{sum_none}
 use Rattle.flow_infer.specs.declared.flow.Link.{Link}
 use Rattle.flow_infer.specs.Flows.{is_block, Balances}
 
--- sums by terms that are sums
+-- a sum whose terms are sums
 pub sum_of_sums : {X : Type 0} (f g h : X → ℕ) → ((x : X) → h x ≡ f x + g x) → (xs : List X) → sum_by h xs ≡ sum_by f xs + sum_by g xs
 sum_of_sums f g h e [] = refl
 sum_of_sums f g h e (x ∷ xs) =
@@ -41,12 +41,12 @@ sum_scaled f c (x ∷ xs) =
     let d : sum_by f (x ∷ xs) ≡ f x + sum_by f xs = sum_by-cons f x xs in
     b ∙ ap (λ n. f x * c + n) rest ∙ sym (add-mul (f x) (sum_by f xs) c) ∙ ap (λ n. n * c) (sym d)
 
--- A weight of blocks, and of an end: what lies outside weighs nothing.
+-- The weight of a block, and of an end of a link: the outside has the weight 0.
 abbrev pub at_end : (ℕ → ℕ) → Option ℕ → ℕ
 at_end w None = 0
 at_end w (Some k) = w k
 
--- the weight below a block, and 0 from it on
+-- the weight of blocks before the n-th, and 0 from there on
 abbrev pub below : ℕ → (ℕ → ℕ) → ℕ → ℕ
 below n w k = if ltb k n then w k else 0
 
@@ -86,7 +86,7 @@ none_below : (w : ℕ → ℕ) (f : ℕ) (end : Option ℕ) → at_end (below 0 
 none_below w f None = zero-mul f
 none_below w f (Some k) = let a : ltb k 0 ≡ false = let l : 0 ≤ k = omega arith in le-ltb k 0 l in rw a (zero-mul f)
 
--- The weights below the next block add what flows at this one.
+-- The weights of one more block add its flow.
 weighed_more : (end : Link → Option ℕ) (w : ℕ → ℕ) (n : ℕ) (links : List Link) →
     weighed end (below (n + 1) w) links ≡ weighed end (below n w) links + flow_at end n links * w n
 weighed_more end w n links =
@@ -121,7 +121,7 @@ at_end_all : (w : ℕ → ℕ) (n : ℕ) → ((k : ℕ) → n ≤ k → w k ≡ 
 at_end_all w n none None = refl
 at_end_all w n none (Some k) = below_all w n none k
 
--- By balance, what flows in weighs what flows out, whatever blocks weigh.
+-- By balance, weighted inflows and weighted outflows have the same sum, for any weights.
 pub balanced_weights : (w : ℕ → ℕ) (n : ℕ) → ((k : ℕ) → n ≤ k → w k ≡ 0) → (links : List Link) → Balances links →
     weighed (λ l. l.to) w links ≡ weighed (λ l. l.from) w links
 balanced_weights w n none links balanced =

@@ -1,5 +1,4 @@
--- The links of functions: their edges, the ways in from outside and the ways out; and how often a profile says that
--- each was taken.
+-- The links of functions: edges, ways in from outside and ways out; and the count of each by a profile.
 use Rattle.std.specs.Prelude.{◌≡◌, ◌⊎◌, ◌+◌, ◌<◌, ◌==◌, ◌&&◌, ℕ, Bool, false, not, List, Option, Some, None, IsTrue}
 use Rattle.std.specs.Prelude.{IsSomeAnd, Any, Contains, length, map, slice_get, sum_by, if◌then◌else◌}
 use Rattle.std.specs.Option.{option_map_or}
@@ -21,28 +20,28 @@ use Rattle.flow_infer.specs.declared.flow.Link.{Link}
 abbrev pub block_end : List Func → Block → ℕ
 block_end funcs b = inst_address funcs b b.last
 
--- an address lies in the function of a block
+-- an address is in the function of a block
 abbrev pub is_home : List Func → Block → ℕ → Bool
 is_home funcs b a = option_map_or (func_holds a) (func_of funcs b) false
 
--- a jump to where a register says, which saves no return address
+-- an indirect jump that saves no return address
 abbrev pub is_indirect : Action → Bool
 is_indirect (JumpTo rd rs1 imm) = rd == 0
 is_indirect _ = false
 
--- a branch or jump of a function goes to an address that doesn't lie in it
+-- a branch or jump of a function goes to an address outside of it
 abbrev pub IsFarTarget : List Func → ℕ → Type 0
 IsFarTarget funcs a = Any (λ f. Any (λ p. (target_of p ≡ Some a) × (func_holds a f ≡ false)) f.insts.items) funcs
 
--- Control can come into a block from outside: it is its function's first; or its start is a named address, as a role, a
--- cell or the entry point holds it; or a branch or jump of another function goes there.
+-- Control can come into a block from outside its function: it is the function's first; or its start is a held address,
+-- by a role, a cell or the entry point; or a branch or jump of another function goes there.
 pub data IsEntered (code : ProgramCode) (b : Block) : Type 0 where
   at_start : b.first ≡ 0 → IsEntered code b
   by_name : IsHeld code (block_start code.funcs b) → IsEntered code b
   by_jump : IsFarTarget code.funcs (block_start code.funcs b) → IsEntered code b
 
--- It can leave a function by its i-th instruction: to where a register says, by a branch or jump to another function,
--- by falling out of the function, or by a call with which the function ends.
+-- Control can leave a function by its instruction with index i: by an indirect jump, by a branch or jump to another
+-- function, by falling through the function's end, or by a call that is the function's last instruction.
 pub data LeavesBy (func : Func) (i : ℕ) (p : Placed) : Type 0 where
   by_register : IsTrue (is_indirect (action_at p)) → LeavesBy func i p
   by_jump : EndsBlock p → IsSomeAnd (target_of p) (λ a. func_holds a func ≡ false) → LeavesBy func i p
@@ -52,14 +51,14 @@ pub data LeavesBy (func : Func) (i : ℕ) (p : Placed) : Type 0 where
 abbrev pub IsLeft : List Func → Block → Type 0
 IsLeft funcs b = IsSomeAnd (func_of funcs b) (λ func. IsSomeAnd (inst_at func b.last) (LeavesBy func b.last))
 
--- the ends of a link: blocks by their places, and None for what lies outside
+-- the ends of a link: blocks by their indices, and None for the outside of the function
 abbrev pub AreEnds : ProgramCode → List Block → List (ℕ × ℕ) → Option ℕ → Option ℕ → Type 0
 AreEnds code blocks edges (Some s) (Some t) = Contains edges (s, t)
 AreEnds code blocks edges None (Some b) = IsSomeAnd (slice_get blocks b) (IsEntered code)
 AreEnds code blocks edges (Some b) None = IsSomeAnd (slice_get blocks b) (IsLeft code.funcs)
 AreEnds code blocks edges None None = ⊥
 
--- how often it was taken: a way in or out, from or to all that lies outside the function
+-- how often a way in or out was taken, from or to any address outside the function
 abbrev pub count_into : List Func → List Counted → Block → ℕ
 count_into funcs pairs b =
     sum_by (λ p. if p.1 == block_start funcs b && not (is_home funcs b p.0) then p.2 else 0) pairs
@@ -78,7 +77,7 @@ link_count funcs blocks pairs None (Some t) = option_map_or (count_into funcs pa
 link_count funcs blocks pairs (Some s) None = option_map_or (count_out_of funcs pairs) (slice_get blocks s) 0
 link_count funcs blocks pairs None None = 0
 
--- a link with its count, whatever flows on it
+-- a link with its count, for any flow
 abbrev pub CountedEnds : Type 0
 CountedEnds = Option ℕ × Option ℕ × ℕ
 
@@ -102,7 +101,7 @@ abbrev pub rank : Option ℕ → ℕ
 rank None = 0
 rank (Some k) = k + 1
 
--- Links go by function, then by where they come from and by where they lead, what lies outside first.
+-- Links are in order of their functions, then of their starts, then of their ends; the outside comes before blocks.
 abbrev pub IsLinkBefore : List Block → CountedEnds → CountedEnds → Type 0
 IsLinkBefore blocks d e = (func_of_ends blocks d < func_of_ends blocks e) ⊎
     ((func_of_ends blocks d ≡ func_of_ends blocks e) ×

@@ -1,5 +1,5 @@
--- What a search for ways of flow looks at: links between nodes with heights that are prices that hold, the arcs
--- around each node, and a number for each node of what it has to spare and of what it needs.
+-- The input of a search for ways of flow: links between nodes, heights that are prices that hold, the arcs around each
+-- node, and numbers for the spare flow of each node and for the flow that it needs.
 use Rattle.std.specs.Prelude.{◌≡◌, ◌<◌, ◌^◌, length}
 use Rattle.flow_infer.specs.declared.network.Network.{Network}
 use Rattle.flow_infer.specs.Heights.{AreArcs, IsSteady}

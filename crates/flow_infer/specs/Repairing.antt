@@ -1,11 +1,11 @@
--- Functions repaired one after another.
+-- Repairing functions one after another.
 use Rattle.std.specs.Prelude.{◌≤◌, length}
 use Rattle.flow_infer.specs.declared.flow.Flow.{Flow}
 use Rattle.flow_infer.specs.declared.source.Source.{Source}
 use Rattle.flow_infer.specs.Heights.{IsSettled}
 use Rattle.flow_infer.specs.Sources.{AreLinksWithin, PartsFunctions}
 
--- Flows of the first functions, whose blocks have prices.
+-- The flows of the first functions, and the prices of their blocks.
 pub record AreRepaired (s : Source) (flow : Flow) : Type 0 where
   pub settled : IsSettled flow.links.items flow.prices.items
   pub listed : AreLinksWithin s 0 (length flow.prices.items) flow.links.items

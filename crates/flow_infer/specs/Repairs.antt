@@ -1,5 +1,5 @@
--- A repaired profile: flows over all links that balance, with prices that show that they change the counts least; and of
--- all such flows one that lowers them least, so that what ran goes on to run.
+-- A repaired profile: flows on all links that balance, with prices that show that they change the counts least; of all
+-- such flows, one that lowers counts least, so that code that ran is still counted as code that ran.
 use Rattle.std.specs.Prelude.{◌≡◌, ℕ, List, length}
 use Rattle.rv_code.specs.declared.placed.Block.{Block}
 use Rattle.rv_code.specs.layout.ProgramCode.{ProgramCode}

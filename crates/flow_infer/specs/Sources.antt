@@ -1,4 +1,4 @@
--- What the links of functions are found from.
+-- The data from which the links of functions are found.
 use Rattle.std.specs.Prelude.{◌≡◌, ◌≢◌, ◌⊎◌, ◌↔◌, ◌<◌, ◌≤◌, ◌^◌, ℕ, List, All, AllPairs, Contains}
 use Rattle.std.specs.Prelude.{IsPermutation, Option, length, map, option_map}
 use Rattle.std.specs.List.Sorted.{IsNonDecreasingBy}
@@ -19,17 +19,17 @@ pub record JoinBlocks (blocks : List Block) (edges : List (ℕ × ℕ)) : Type 0
   pub within : All (λ e. (e.0 < length blocks) × (e.1 < length blocks)) edges
   pub one_function : All (λ e. func_of_block blocks e.0 ≡ func_of_block blocks e.1) edges
 
--- a pair seen from its end
+-- a pair with its end first
 abbrev pub turned : Counted → Counted
 turned p = (p.1, p.0, p.2)
 
--- pairs ascend by their first addresses, and their counts are few
+-- pairs ascend by their first addresses, and the sum of their counts is below 2 ^ 100
 pub record AreLookedUp (pairs : List Counted) : Type 0 where
   pub ordered : IsNonDecreasingBy (λ p. p.0) pairs
   pub few : total_count pairs < 2 ^ 100
 
--- the addresses at which control comes into functions from outside, since something holds them, or a branch or jump of
--- another function goes there
+-- the addresses at which control comes into functions from outside: they are held, or a branch or jump of another
+-- function goes there
 abbrev pub AreEntries : ProgramCode → List ℕ → Type 0
 AreEntries code entries = (a : ℕ) → Contains entries a ↔ (IsHeld code a ⊎ IsFarTarget code.funcs a)
 
@@ -42,7 +42,7 @@ pub record AreSources (s : Source) : Type 0 where
   pub arriving : AreLookedUp s.ends.now
   pub permuted : IsPermutation (map turned s.pairs.now) s.ends.now
 
--- they are of this code
+-- the data is from this code
 pub record IsCodeOf (code : ProgramCode) (s : Source) : Type 0 where
   pub funcs : code.funcs ≡ s.funcs.now
   pub entries : AreEntries code s.entries.now
@@ -50,18 +50,18 @@ pub record IsCodeOf (code : ProgramCode) (s : Source) : Type 0 where
 abbrev pub IsLinkIn : ProgramCode → Source → CountedEnds → Type 0
 IsLinkIn code s e = IsLinkOf code s.blocks.now s.edges.now s.pairs.now e
 
--- the blocks of a function are those from one place to before another
+-- the blocks of a function are exactly those from `first` to before `end`
 pub record IsFunctionRange (blocks : List Block) (first end : ℕ) : Type 0 where
   pub some : first < end
   pub within : end ≤ length blocks
   pub one : (k : ℕ) → first ≤ k → k < end → func_of_block blocks k ≡ func_of_block blocks first
   pub all : (k : ℕ) → k < length blocks → func_of_block blocks k ≡ func_of_block blocks first → (first ≤ k) × (k < end)
 
--- the ranks of the ends of a link come before given ones
+-- the ends of a link come before the ends with the ranks r and q
 abbrev pub IsBelow : ℕ → ℕ → CountedEnds → Type 0
 IsBelow r q e = (rank e.0 < r) ⊎ ((rank e.0 ≡ r) × (rank e.1 < q))
 
--- The links of blocks from one place to before another, and of these the first ones.
+-- The links of the blocks from `first` to before `end`, and of these the ones that come before the ranks r and q.
 pub record IsLinkWithin (code : ProgramCode) (s : Source) (first end : ℕ) (e : CountedEnds) : Type 0 where
   pub link : IsLinkIn code s e
   pub from : first ≤ a_block e.0 e.1
@@ -70,7 +70,7 @@ pub record IsLinkWithin (code : ProgramCode) (s : Source) (first end : ℕ) (e :
 abbrev pub IsLinkUpto : ProgramCode → Source → ℕ → ℕ → ℕ → ℕ → CountedEnds → Type 0
 IsLinkUpto code s first end r q e = IsLinkWithin code s first end e × IsBelow r q e
 
--- a list has these links, in order
+-- the list has exactly these links, in order
 abbrev pub AreLinksUpto : Source → ℕ → ℕ → ℕ → ℕ → List Link → Type 0
 AreLinksUpto s first end r q links = (code : ProgramCode) → IsCodeOf code s →
     ListsAll (IsLinkUpto code s first end r q) (IsLinkBefore s.blocks.now) (map counted_ends links)
@@ -83,14 +83,14 @@ AreLinksWithin s first end links = (code : ProgramCode) → IsCodeOf code s →
 abbrev pub link_if : Option ℕ → Option ℕ → Option ℕ → Option Link
 link_if from to count = option_map (λ c. record { from = from; to = to; count = c; flow = c }) count
 
--- A block's function has blocks from this one, its first, to before another place.
+-- The blocks from `first`, the first of its function, to before `end` are its function's.
 pub record IsFunctionFrom (blocks : List Block) (first end : ℕ) : Type 0 where
   pub some : first < end
   pub within : end ≤ length blocks
   pub same : (k : ℕ) → first ≤ k → k < end → func_of_block blocks k ≡ func_of_block blocks first
   pub next : end < length blocks → func_of_block blocks end ≢ func_of_block blocks first
 
--- no function has blocks on both sides of a place
+-- no function has blocks on both sides of an index
 abbrev pub PartsFunctions : List Block → ℕ → Type 0
 PartsFunctions blocks place =
     (j k : ℕ) → j < place → place ≤ k → k < length blocks → func_of_block blocks j < func_of_block blocks k

@@ -1,4 +1,4 @@
-// Links as they are seen from their ends.
+// Links from the point of view of their ends.
 ghost use Rattle.std.specs.Prelude.{◌≡◌, ◌<◌, ◌^◌, ℕ, All, IfOk, OnOk, length};
 ghost use Rattle.flow_infer.specs.Heights.{AreAmong, AreArcs, IsArcOf};
 
@@ -8,17 +8,17 @@ use crate::nodes::node;
 use rb_bytes::fault::NoMemory;
 use std::alloc::Global;
 
-/// A link from one of its ends: `head` is the node at the other.
+/// A link from one of its ends: `head` is the node at its other end.
 #[derive(Clone, Copy)]
 pub struct Arc {
-    /// The place of the link.
+    /// The index of the link.
     pub link: usize,
-    /// The way over the link that leads to the head.
+    /// The direction over the link that leads to the head.
     pub direction: Direction,
     pub head: usize,
 }
 
-/// The arcs of each node, of a function whose blocks begin with `first`. `nodes` is one more than its blocks.
+/// The arcs of each node of a function whose blocks begin with `first`. `nodes` is the number of its blocks plus 1.
 pub fn arcs(
     alloc: Global,
     links: &[Link],

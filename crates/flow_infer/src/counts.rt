@@ -1,4 +1,4 @@
-// How often control went between a block and what lies outside its function.
+// How often control went between a block and the outside of its function.
 ghost use Rattle.std.specs.Prelude.{◌≡◌, ◌==◌, ◌&&◌, ◌<◌, ◌≤◌, ◌^◌, IfOk, IsPermutation, OnOk, filter, if◌then◌else◌};
 ghost use Rattle.std.specs.Prelude.{map, not, sum_by};
 ghost use Rattle.std.specs.List.Sorted.{IsNonDecreasingBy};
@@ -11,7 +11,7 @@ use rv_code::Func;
 use rv_code::functions::func_holds;
 use std::alloc::Global;
 
-/// `pairs` turned round, so that the end of each stands first, and sorted by it.
+/// `pairs` reversed, so that each has its end first, and sorted by the end.
 pub fn by_end(alloc: Global, pairs: &[(u64, u64, u128)]) -> Result<Vec<(u64, u64, u128)>, NoMemory>
     requires { total_count pairs.now < 2 ^ 100 }
     ensures permutation { IfOk result (λ ends. IsPermutation (map turned pairs.now) ends.items) }
@@ -22,7 +22,7 @@ pub fn by_end(alloc: Global, pairs: &[(u64, u64, u128)]) -> Result<Vec<(u64, u64
     Ok(ends)
 }
 
-// `pairs` turned round: the end of each, its start and its count.
+// `pairs` reversed: the end of each, its start and its count.
 fn turned(alloc: Global, pairs: &[(u64, u64, u128)]) -> Result<Vec<(u64, u64, u128)>, NoMemory>
     ensures { IfOk result (λ ends. ends.items ≡ map turned pairs.now) }
 {
@@ -40,8 +40,8 @@ fn sort_by_first(pairs: &mut Vec<(u64, u64, u128)>)
     pairs.sort_unstable_by_key(|p| p.0);
 }
 
-/// How often control went from `address` to addresses outside `func`; or, by the pairs that `by_end` gives, to
-/// `address` from there. A binary search, and a sum over the pairs that it finds.
+/// How often control went from `address` to addresses outside `func`; or to `address` from there, if `pairs` are from
+/// `by_end`. A binary search, and a sum over the pairs that it finds.
 pub fn count_outside(pairs: &[(u64, u64, u128)], func: &Func, address: u64) -> u128
     requires { AreLookedUp pairs.now }
     ensures { result ≡
@@ -60,7 +60,7 @@ fn pairs_from<'a>(pairs: &'a [(u64, u64, u128)], address: u64) -> &'a [(u64, u64
     found
 }
 
-// The sum of the counts of pairs whose second address doesn't lie in `func`.
+// The sum of the counts of pairs whose second address isn't in `func`.
 fn sum_outside(pairs: &[(u64, u64, u128)], func: &Func) -> u128
     requires { total_count pairs.now < 2 ^ 100 }
     ensures { result ≡ sum_by (λ p. if not (functions.func_holds p.1 func.now) then p.2 else 0) pairs.now }

@@ -1,8 +1,8 @@
-// Ways over a link.
+// Directions over a link.
 ghost use Rattle.std.specs.Prelude.{◌≡◌};
 ghost use Rattle.flow_infer.specs.Heights.{reversed};
 
-/// A way over a link: from its start to its end, or back.
+/// A direction over a link: from its start to its end, or back.
 #[derive(Clone, Copy)]
 pub enum Direction {
     Along,
@@ -10,7 +10,7 @@ pub enum Direction {
 }
 
 impl Direction {
-    /// The other way.
+    /// The opposite direction.
     pub fn reversed(self) -> Direction
         ensures { result ≡ reversed self }
     {

@@ -1,4 +1,5 @@
-// How far nodes are from nodes that need flow, by what links on the way lack for room.
+// Distances of nodes from nodes that need flow. The length of a link is its slack: how far heights have to rise until
+// it has room.
 ghost use Rattle.std.specs.Prelude.{◌≡◌, ◌<◌, ℕ, All, IfOk, IfSome, OnOk, length};
 ghost use Rattle.std.specs.BinaryHeap.{heap_items};
 ghost use Rattle.flow_infer.specs.Heights.{AreNodes, IsArcOf};
@@ -12,16 +13,17 @@ use std::alloc::Global;
 use std::cmp::Reverse;
 use std::collections::BinaryHeap;
 
-/// How far each node is from one that needs flow.
+/// Distances of nodes from the nearest node that needs flow.
 #[derive(Drop)]
 pub struct Distances {
-    /// The distance of each node. Of a node that is farther than `nearest` it is only some number no less than that.
+    /// The distance of each node. For a node farther away than `nearest` it is only some number that is at least
+    /// `nearest`.
     pub of_nodes: Vec<u64>,
-    /// The distance of the nearest node that has flow to spare, or `u64::MAX` where none is reached.
+    /// The distance of the nearest node with spare flow, or `u64::MAX` if none can be reached.
     pub nearest: u64,
 }
 
-/// Dijkstra's search, from the nodes that need flow back to the nearest one that has some to spare.
+/// Dijkstra's search, from the nodes that need flow back to the nearest one with spare flow.
 pub fn find_distances(alloc: Global, network: &Network<'_>) -> Result<Distances, NoMemory>
     requires { IsNetwork network.now }
     ensures { IfOk result (λ d. length d.of_nodes.items ≡ length network.now.heights.now) }
@@ -35,7 +37,7 @@ pub fn find_distances(alloc: Global, network: &Network<'_>) -> Result<Distances,
             push_node(&mut queue, 0, n)?;
         }
     }
-    // Bounds the loop for the prover; memory ends long before.
+    // The bound is only there for the prover; memory runs out long before.
     for _ in 0..u64::MAX {
         let Some((distance, n)) = pop_node(&mut queue) else {
             break;
@@ -58,7 +60,7 @@ pub fn find_distances(alloc: Global, network: &Network<'_>) -> Result<Distances,
     })
 }
 
-// Queues the nodes that are nearer than was known by way of a node at `distance`, whose arcs are `arcs`.
+// Queues the nodes that get nearer by way of a node at `distance`, whose arcs are `arcs`.
 fn queue_sources(
     queue: &mut BinaryHeap<(Reverse<u64>, usize)>,
     of_nodes: &mut [u64],
@@ -102,7 +104,7 @@ fn push_node(
     Ok(())
 }
 
-// Takes out the nearest node, with its distance.
+// Takes the nearest node from the queue, with its distance.
 fn pop_node(queue: &mut BinaryHeap<(Reverse<u64>, usize)>) -> Option<(u64, usize)>
     ensures { IfSome result (λ e. (nodes : ℕ) → AreNodes nodes (heap_items queue.old) →
         (e.1 < nodes) × AreNodes nodes (heap_items queue.new)) }

@@ -17,8 +17,8 @@ use rv_code::{Func, Placed};
 use rv_reloc::Refs;
 use std::alloc::Global;
 
-/// The addresses that a role, a cell or the entry point holds, or to which a branch or jump goes that leads out of its
-/// function, ascending.
+/// The addresses that a role, a cell or the entry point holds, and the targets of branches and jumps that leave their
+/// function; ascending.
 pub fn entries(alloc: Global, funcs: &[Func], refs: &Refs, entry: u64) -> Result<Vec<u64>, NoMemory>
     ensures ascending { IfOk result (λ entries. AllPairs (λ a b. a < b) entries.items) }
     ensures members { IfOk result (λ entries. AreEntries (code_of funcs.now refs.now entry) entries.items) }
@@ -32,7 +32,7 @@ pub fn entries(alloc: Global, funcs: &[Func], refs: &Refs, entry: u64) -> Result
     Ok(entries)
 }
 
-// Appends the addresses to which branches and jumps go that lead out of their functions.
+// Appends the targets of branches and jumps that leave their function.
 fn push_far_targets(addresses: &mut Vec<u64>, funcs: &[Func]) -> Result<(), NoMemory>
     ensures { OnOk result (Gains addresses.old.items addresses.new.items (IsFarTarget funcs.now)) }
 {
@@ -42,7 +42,7 @@ fn push_far_targets(addresses: &mut Vec<u64>, funcs: &[Func]) -> Result<(), NoMe
     Ok(())
 }
 
-// Appends the addresses outside `func` to which `insts` go.
+// Appends the targets outside `func` of `insts`.
 fn push_far_targets_of(
     addresses: &mut Vec<u64>,
     func: &Func,
@@ -57,7 +57,7 @@ fn push_far_targets_of(
     Ok(())
 }
 
-/// Where `inst` goes, if it is a branch or jump that leads out of `func` and no register says where.
+/// The target of `inst`, if it is a direct branch or jump that leaves `func`.
 pub fn far_target(func: &Func, inst: &Placed) -> Option<u64>
     ensures { (a : ℕ) → (result ≡ Some a) ↔ ((target_of inst.now ≡ Some a) × (func_holds a func.now ≡ false)) }
 {

@@ -1,18 +1,18 @@
-// Links between blocks, their counts, and what a repaired profile has in place of these.
+// Links between blocks with their counts and flows. A flow is the count that a repaired profile has.
 
-/// A way from a block to a block of one function; None is what lies outside the function. Blocks are named by their
-/// places in the list of blocks.
+/// A link from a block to a block of the same function; `None` is the outside of the function. Blocks are given by
+/// their indices in the list of blocks.
 #[derive(Clone, Copy)]
 pub struct Link {
     pub from: Option<usize>,
     pub to: Option<usize>,
-    /// How often the profile says that it was taken.
+    /// The link's count by the profile.
     pub count: u128,
-    /// How often it was taken, as the repaired profile says.
+    /// The link's count by the repaired profile.
     pub flow: u128,
 }
 
-/// All links, function by function, and a price for each block: how much higher it is than what lies outside.
+/// All links, function by function, and a price for each block. The outside has the price 0.
 #[derive(Drop)]
 pub struct Flow {
     pub links: Vec<Link>,

@@ -1,4 +1,4 @@
-// The flows of functions, one function after another.
+// Joining the flows of functions, one function after another.
 ghost use Rattle.std.specs.Prelude.{◌≡◌, ◌+◌, ◌++◌, ◌<◌, ◌^◌, ℕ, All, IfOk, OnOk, length, map, pos, ◌-ℤ◌};
 ghost use Rattle.flow_infer.specs.Flows.{bare};
 ghost use Rattle.flow_infer.specs.Heights.{AreAmong, AreLevel, ArePricesBy, IsLevel, IsSettled, level as level_of};
@@ -8,8 +8,8 @@ use crate::settling::settle;
 use rb_bytes::fault::NoMemory;
 use std::alloc::Global;
 
-/// Adds the links of the next function, with a flow that balances, and the prices of its blocks, of which there is one
-/// less than `nodes`. Before, the links have their counts as flow.
+/// Adds the links of the next function, with a flow that balances, and the prices of its blocks, whose number is
+/// `nodes` - 1. Before the call, the flow of each link is its count.
 pub fn add_function(
     alloc: Global,
     flow: &mut Flow,
@@ -33,7 +33,7 @@ pub fn add_function(
     Ok(())
 }
 
-// The prices of blocks by the heights of nodes: how many more changes they are worth than what lies outside.
+// The prices of blocks from the heights of nodes: the level of each block minus the level of the outside.
 fn prices(alloc: Global, heights: &[u64]) -> Result<Vec<i64>, NoMemory>
     requires { 0 < length heights.now }
     ensures length { IfOk result (λ prices. length prices.items + 1 ≡ length heights.now) }
@@ -48,9 +48,9 @@ fn prices(alloc: Global, heights: &[u64]) -> Result<Vec<i64>, NoMemory>
     Ok(prices)
 }
 
-// How many changes of a count by one a height is worth: what it costs, rounded to a multiple of 2^32. Each count on the
-// way that is lowered costs 1 beside that. Want of memory is answered if these are more than 2^30, which takes as many
-// links, or if the height doesn't fit.
+// The level of a height: the height is a sum of costs, and its level is the number of changes by one that it contains,
+// so it is rounded to a multiple of 2^32. Each lowered count costs 1 more, which the rounding drops. `NoMemory` if
+// there are more than 2^30 lowered counts, which takes as many links, or if the height doesn't fit.
 fn level(height: u64) -> Result<u64, NoMemory>
     ensures level { IfOk result (λ l. l ≡ level_of height) }
     ensures bound { IfOk result (λ l. l < 2 ^ 32) }
@@ -64,7 +64,7 @@ fn level(height: u64) -> Result<u64, NoMemory>
     Ok(half / (1 << 32))
 }
 
-// How much higher a block is than what lies outside, by the levels of both.
+// The price of a block: its level minus the level of the outside.
 fn price(outside: u64, level: u64) -> i64
     requires outside { outside < 2 ^ 32 }
     requires level { level < 2 ^ 32 }

@@ -10,7 +10,7 @@ use crate::entries::far_target;
 use rv_code::flow::{ends_block, falls, is_call};
 use rv_code::{Func, Inst, Placed, ZERO};
 
-/// Whether control can leave `func` by its instruction at `place`, which is the last one of a block.
+/// Whether control can leave `func` by its instruction with index `place`, which is the last one of a block.
 pub fn leaves(func: &Func, place: usize) -> bool
     requires { place < length func.now.insts.items }
     ensures { IsTrue result ↔ IsSomeAnd (slice_get func.now.insts.items place) (links.LeavesBy func.now place) }
@@ -26,7 +26,7 @@ fn leaves_by(func: &Func, place: usize, inst: &Placed) -> bool
     is_indirect(&inst.inst) || jumps_out(func, inst) || ends_out(func, place, inst)
 }
 
-// Whether it is a jump to the address in a register, and saves no return address.
+// Whether `inst` is an indirect jump that saves no return address.
 fn is_indirect(inst: &Inst) -> bool
     ensures { result ≡ links.is_indirect (action_of inst.now) }
 {
@@ -36,7 +36,7 @@ fn is_indirect(inst: &Inst) -> bool
     }
 }
 
-// Whether `inst` is a branch to another function than `func`, or a jump there that saves no return address.
+// Whether `inst` is a branch out of `func`, or a direct jump out of it that saves no return address.
 fn jumps_out(func: &Func, inst: &Placed) -> bool
     ensures { IsTrue result ↔
         (EndsBlock inst.now × IsSomeAnd (flow.target_of inst.now) (λ a. func_holds a func.now ≡ false)) }
@@ -47,8 +47,8 @@ fn jumps_out(func: &Func, inst: &Placed) -> bool
     far_target(func, inst).is_some()
 }
 
-// Whether `inst`, at `place`, is the last instruction of `func`, and control falls out of the function there or leaves
-// it by a call, which isn't taken to return.
+// Whether `inst`, with index `place`, is the last instruction of `func`, and control falls through its end or leaves it
+// by a call, which isn't assumed to return.
 fn ends_out(func: &Func, place: usize, inst: &Placed) -> bool
     requires { place < length func.now.insts.items }
     ensures { IsTrue result ↔ ((place + 1 ≡ length func.now.insts.items) ×

@@ -1,4 +1,4 @@
-//! Profiles repaired: counts that balance at each block, at the least change.
+//! Repaired profiles: counts that balance at each block, with the least change.
 #![tactic(auto)]
 
 mod arcs;
@@ -27,8 +27,8 @@ pub use flow::{Flow, Link};
 pub use repairing::repair;
 pub use ways::block_end;
 
-/// Prices show that a flow changes least: where prices hold for links whose flow balances, no other balancing flow of
-/// these links changes less.
+/// A law: if prices hold for links whose flow balances, no other balancing flow of these links changes less. The
+/// function does nothing.
 pub fn least_change_law()
     ensures { LeastChangeLaw }
 {}

@@ -1,4 +1,4 @@
-// Heights raised as far as prices go on to hold.
+// Raising heights as long as prices still hold.
 ghost use Rattle.std.specs.Prelude.{◌≡◌, ◌<◌, ◌≤◌, ◌^◌, ℕ, All, OnOk, length, slice_index};
 ghost use Rattle.flow_infer.specs.Heights.{HoldsRaised, IsSteady, raised};
 
@@ -6,8 +6,8 @@ use crate::flow::Link;
 use crate::nodes::at_ends;
 use rb_bytes::fault::NoMemory;
 
-/// Raises heights by the longest step, up to `most`, with which prices go on to hold. Each node rises by what the step
-/// is longer than its distance.
+/// Raises heights by the longest step, up to `most`, after which prices still hold. Each node rises by the step minus
+/// the node's distance, if this is positive.
 pub fn lift(
     heights: &mut [u64],
     first: usize,
@@ -24,7 +24,7 @@ pub fn lift(
     raise(heights, distances, step)
 }
 
-// The longest step up to `most` in which prices go on to hold.
+// The longest step up to `most` after which prices still hold.
 fn longest_step(heights: &[u64], first: usize, links: &[Link], distances: &[u64], most: u64) -> u64
     requires few { length heights.now < 2 ^ 63 }
     requires steady { IsSteady heights.now first (length heights.now) links.now }
@@ -42,7 +42,7 @@ fn longest_step(heights: &[u64], first: usize, links: &[Link], distances: &[u64]
     longest
 }
 
-// Raises each node by what `step` is longer than its distance.
+// Raises each node by `step` minus its distance, if this is positive.
 fn raise(heights: &mut [u64], distances: &[u64], step: u64) -> Result<(), NoMemory>
     requires { length distances.now ≡ length heights.old }
     ensures { OnOk result ((n : ℕ) → n < length heights.old →

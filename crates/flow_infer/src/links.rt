@@ -10,8 +10,8 @@ use rb_bytes::fault::NoMemory;
 use rb_bytes::lists::push_some;
 use std::alloc::Global;
 
-/// The links of a function whose blocks go from `first` to before `end`, with their counts as flow, by start and then
-/// by end. What lies outside comes before all blocks.
+/// The links of a function whose blocks are from `first` to before `end`, with their counts as flow, in order of their
+/// starts and then of their ends. The outside comes before all blocks.
 pub fn function_links(
     alloc: Global,
     source: &Source,
@@ -31,7 +31,7 @@ pub fn function_links(
     Ok(links)
 }
 
-// The ways into the blocks of a function from outside.
+// The ways from outside into the function's blocks.
 fn ways_in(alloc: Global, source: &Source, first: usize, end: usize) -> Result<Vec<Link>, NoMemory>
     requires source { AreSources source.now }
     requires function { IsFunctionRange source.now.blocks.now first end }
@@ -49,7 +49,7 @@ fn ways_in(alloc: Global, source: &Source, first: usize, end: usize) -> Result<V
     Ok(links)
 }
 
-// Appends the ways from `block`: out of its function, and its edges.
+// Appends the ways out from `block`, and its edges.
 fn push_ways_from(links: &mut Vec<Link>, source: &Source, block: usize) -> Result<(), NoMemory>
     requires source { AreSources source.now }
     requires inside { block < length source.now.blocks.now }

@@ -1,4 +1,4 @@
-// The nodes of one function, and what flows into them and out of them.
+// The nodes of one function, and their inflows and outflows.
 ghost use Rattle.std.specs.Prelude.{◌≡◌, ◌==◌, ◌+◌, ◌-◌, ◌<◌, ◌≤◌, ◌^◌, ℕ, All, IfOk, IfSome, IsTrue, OnOk, length};
 ghost use Rattle.std.specs.Prelude.{slice_index, if◌then◌else◌};
 ghost use Rattle.flow_infer.specs.Flows.{inflow, outflow};
@@ -9,8 +9,7 @@ use crate::flow::Link;
 use rb_bytes::fault::NoMemory;
 use std::alloc::Global;
 
-/// The number of the node at an end of a link: 0 for what lies outside, and from 1 on for the blocks of the function,
-/// which begin with `first`.
+/// The node at an end of a link: 0 for the outside, and from 1 on the blocks of the function, which begin with `first`.
 pub fn node(end: Option<usize>, first: usize) -> usize
     requires { IfSome end (λ k. (first ≤ k) × (k - first < 2 ^ 63)) }
     ensures { result ≡ node_of first end }
@@ -21,14 +20,14 @@ pub fn node(end: Option<usize>, first: usize) -> usize
     }
 }
 
-/// A number for the node at each end of a link, as its height.
+/// A number for the node at each end of a link, for example its height.
 #[derive(Clone, Copy)]
 pub struct Ends {
     pub start: u64,
     pub end: u64,
 }
 
-/// The numbers of the nodes at the ends of `link`, by `numbers`, which has one for each node.
+/// The numbers of the nodes at the ends of `link`. `numbers` has one for each node.
 pub fn at_ends(numbers: &[u64], first: usize, link: &Link) -> Ends
     requires some { 0 < length numbers.now }
     requires few { length numbers.now < 2 ^ 63 }
@@ -42,7 +41,7 @@ pub fn at_ends(numbers: &[u64], first: usize, link: &Link) -> Ends
     }
 }
 
-// The number of the node at an end of a link, by `numbers`, which has one for each node.
+// The number of the node at an end of a link. `numbers` has one for each node.
 fn at_node(numbers: &[u64], first: usize, end: Option<usize>) -> u64
     requires some { 0 < length numbers.now }
     requires few { length numbers.now < 2 ^ 63 }
@@ -52,14 +51,14 @@ fn at_node(numbers: &[u64], first: usize, end: Option<usize>) -> u64
     numbers[node(end, first)]
 }
 
-/// What flows into each node, and what flows out of it.
+/// The inflow and the outflow of each node.
 #[derive(Drop)]
 pub struct FlowSums {
     pub into: Vec<u128>,
     pub out_of: Vec<u128>,
 }
 
-/// Sums the flow into each node, and out of it.
+/// Computes the inflow and the outflow of each node.
 pub fn sum_flows(
     alloc: Global,
     links: &[Link],
@@ -84,8 +83,7 @@ pub fn sum_flows(
     Ok(FlowSums { into, out_of })
 }
 
-// Adds `flow` to the sum of `node`. Sums past 128 bits, which no profile's counts come near, are answered as want of
-// memory.
+// Adds `flow` to the sum of `node`. `NoMemory` for sums above 128 bits; counts of profiles are far smaller.
 fn add(sums: &mut [u128], node: usize, flow: u128) -> Result<(), NoMemory>
     requires { node < length sums.old }
     ensures { OnOk result ((n : ℕ) →
@@ -95,7 +93,7 @@ fn add(sums: &mut [u128], node: usize, flow: u128) -> Result<(), NoMemory>
     Ok(())
 }
 
-/// Whether as much flows into each block as out of it. Node 0, what lies outside, needs no balance.
+/// Whether the inflow of each block equals its outflow. Node 0, the outside, needs no balance.
 pub fn is_balanced(inflows: &[u128], outflows: &[u128]) -> bool
     requires { length inflows.now ≡ length outflows.now }
     ensures { IsTrue result → (k : ℕ) → k + 1 < length inflows.now →
@@ -109,7 +107,7 @@ pub fn is_balanced(inflows: &[u128], outflows: &[u128]) -> bool
     true
 }
 
-/// By how much each node's number in `more` is greater than that in `less`, or 0 where it isn't.
+/// Each node's number in `more` minus its number in `less`, or 0 if this is negative.
 pub fn surplus(alloc: Global, more: &[u128], less: &[u128]) -> Result<Vec<u128>, NoMemory>
     requires { length more.now ≡ length less.now }
     ensures { IfOk result (λ numbers. length numbers.items ≡ length more.now) }
@@ -121,7 +119,7 @@ pub fn surplus(alloc: Global, more: &[u128], less: &[u128]) -> Result<Vec<u128>,
     Ok(numbers)
 }
 
-/// The sum of `numbers`, or the greatest number of 128 bits where that is less.
+/// The sum of `numbers`, saturating at 2^128 - 1.
 pub fn total(numbers: &[u128]) -> u128 {
     let mut sum = 0u128;
     for number in numbers {

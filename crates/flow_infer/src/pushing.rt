@@ -1,4 +1,4 @@
-// Flow moved from nodes that have too much of it to nodes that have too little.
+// Moving flow from nodes with too much of it to nodes with too little.
 ghost use Rattle.std.specs.Prelude.{◌≡◌, ◌<◌, ◌^◌, ℕ, All, length};
 ghost use Rattle.flow_infer.specs.Heights.{AreArcs, HasMoved, IsArcOf, IsSteady};
 
@@ -9,7 +9,7 @@ use crate::nodes::at_ends;
 use crate::rooms::room_at;
 use crate::searching::Found;
 
-// Moves `amount` over the link at `place` in a direction, or as much of it as there is room for.
+// Moves `amount` over the link with index `place` in a direction, or as much as it has room for.
 fn move_at(
     links: &mut [Link],
     place: usize,
@@ -28,8 +28,8 @@ fn move_at(
     links[place] = link.moved(ends, direction, amount);
 }
 
-/// Moves what nodes have to spare on to nodes that were found before them, beginning with the node that was found last.
-/// So what comes to a node moves on in the same wave.
+/// Moves the spare flow of nodes on to nodes that were found before them, beginning with the node that was found last.
+/// So flow that reaches a node moves on in the same wave.
 pub fn wave(
     links: &mut [Link],
     heights: &[u64],
@@ -65,7 +65,7 @@ pub fn wave(
     }
 }
 
-// Moves what node `n` has to spare on to nodes that were found before it.
+// Moves the spare flow of node `n` on to nodes that were found before it.
 fn push_from(
     links: &mut [Link],
     heights: &[u64],

@@ -1,4 +1,4 @@
-// A profile repaired, function by function.
+// Repairing a profile, function by function.
 ghost use Rattle.std.specs.Prelude.{◌≡◌, ◌<◌, ◌≤◌, IfOk, length};
 ghost use Rattle.cfg_build.specs.EdgeLists.{AreStretches};
 ghost use Rattle.cfg_build.specs.NamedAddresses.{code_of};
@@ -20,8 +20,9 @@ use rv_code::{Block, Func};
 use rv_reloc::Refs;
 use std::alloc::Global;
 
-/// Counts that balance at each block, at the least change of a profile's counts. `refs` are the references of the file,
-/// and `entry` is its entry point. `edges` are those between the blocks, by source and by target.
+/// Counts that balance at each block, with the least change of a profile's counts. `refs` are the references of the
+/// file, and `entry` is its entry point. `edges` are the edges between the blocks, in order of source and then of
+/// target.
 pub fn repair(
     alloc: Global,
     funcs: &[Func],
@@ -69,7 +70,7 @@ fn repair_functions(alloc: Global, source: &Source) -> Result<Flow, NoMemory>
     Ok(flow)
 }
 
-// Where the blocks of the function end whose first block is `first`.
+// The end of the range of blocks of the function whose first block is `first`.
 fn function_end(blocks: &[Block], first: usize) -> usize
     requires { first < length blocks.now }
     ensures { IsFunctionFrom blocks.now first result }

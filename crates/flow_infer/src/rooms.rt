@@ -1,7 +1,7 @@
-// How much flow a link takes at given heights, and how far heights may rise. A link whose end is higher than its start by
-// what raising its count costs takes any flow, and gives back what it has above its count. One whose end is lower by what
-// lowering its count costs takes what it has below its count, and gives back all. Any other takes none and gives none
-// back.
+// The room of a link for more flow at given heights, and how far heights may rise. A link whose end is higher than its
+// start by the cost of raising a count has room for any flow, and gives back the flow above its count. A link whose end
+// is lower by the cost of lowering a count has room up to its count, and gives back all its flow. Any other link has no
+// room and gives nothing back.
 ghost use Rattle.std.specs.Prelude.{◌≡◌, ◌+◌, ◌-◌, ◌<◌, ◌≤◌, ◌^◌, ℕ, length};
 ghost use Rattle.flow_infer.specs.declared.direction.Direction.TheVariants.{Along, Against};
 ghost use Rattle.flow_infer.specs.Flows.{bare};
@@ -11,14 +11,14 @@ use crate::direction::Direction;
 use crate::flow::Link;
 use crate::nodes::{Ends, at_ends};
 
-// What it costs to raise a count by one, and to lower it by one. Changes weigh far more than what tells the two apart, so
-// the least cost is that of a least change; and of such changes it is one that lowers counts least.
+// The costs of raising a count by one, and of lowering it by one. The difference is far smaller than either, so the
+// least cost is that of a least change, and among the least changes of one that lowers counts least.
 const RAISE_COST: u64 = 1 << 32;
 
 const LOWER_COST: u64 = RAISE_COST + 1;
 
 impl Link {
-    // How much more may flow over the link in a direction, at the heights of its ends.
+    // How much more flow the link has room for in a direction, at the heights of its ends.
     fn room(&self, heights: Ends, direction: Direction) -> u128
         requires { HoldsBetween heights.start heights.end self.now }
         ensures fits { direction ≡ Along → self.now.flow + result < 2 ^ 128 }
@@ -64,8 +64,7 @@ impl Link {
         }
     }
 
-    /// The link with `amount` more flow over it in a direction, or as much of it as there is room for at the heights of
-    /// its ends.
+    /// The link with `amount` more flow in a direction, or with as much as it has room for at the heights of its ends.
     pub fn moved(&self, heights: Ends, direction: Direction, amount: u128) -> Link
         requires { HoldsBetween heights.start heights.end self.now }
         ensures same { bare result ≡ bare self.now }
@@ -79,8 +78,8 @@ impl Link {
         Link { flow, ..*self }
     }
 
-    // By how much the end to which `direction` leads may rise more than the other one, from these heights: what a way
-    // in this direction lacks for room.
+    // The link's slack: how much further the node to which `direction` leads may rise than the other one, from these
+    // heights. With slack 0 there is room in this direction.
     fn slack(&self, heights: Ends, direction: Direction) -> u64
         requires { HoldsBetween heights.start heights.end self.now }
     {
@@ -116,8 +115,8 @@ impl Link {
         }
     }
 
-    /// The longest step in which the link's ends may rise from these heights, at these distances, so that its prices go
-    /// on to hold.
+    /// The longest step in which the link's ends may rise from these heights, at these distances, so that its prices
+    /// still hold.
     pub fn longest_step(&self, heights: Ends, distances: Ends) -> u64
         requires { HoldsBetween heights.start heights.end self.now }
         ensures { (step : ℕ) → step ≤ result → HoldsBetween (raised step distances.start heights.start)
@@ -129,7 +128,7 @@ impl Link {
     }
 }
 
-/// How much more may flow over the link at `place` in a direction, at the heights of its ends.
+/// How much more flow the link with index `place` has room for in a direction, at the heights of its ends.
 pub fn room_at(
     links: &[Link],
     place: usize,
@@ -145,7 +144,7 @@ pub fn room_at(
     link.room(at_ends(heights, first, link), direction)
 }
 
-/// What a way over the link at `place` in a direction lacks for room, at the heights of its ends.
+/// The slack of the link with index `place` in a direction, at the heights of its ends.
 pub fn slack_at(
     links: &[Link],
     place: usize,
@@ -161,7 +160,7 @@ pub fn slack_at(
     link.slack(at_ends(heights, first, link), direction)
 }
 
-// The longest step in which a node at `distance` rises by no more than `slack` over a node at the distance `other`.
+// The longest step in which a node at `distance` rises at most `slack` further than a node at the distance `other`.
 fn step_within(slack: u64, distance: u64, other: u64) -> u64
     ensures { (step : ℕ) → step ≤ result → step - distance ≤ (step - other) + slack }
 {

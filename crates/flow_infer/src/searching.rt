@@ -1,4 +1,4 @@
-// Nodes from which flow can go to nodes that need it at the present heights.
+// Searching nodes from which flow can go to nodes that need it, at the current heights.
 ghost use Rattle.std.specs.Prelude.{◌≡◌, ◌<◌, All, IfOk, length};
 ghost use Rattle.flow_infer.specs.Heights.{IsArcOf};
 ghost use Rattle.flow_infer.specs.Networks.{IsNetwork};
@@ -13,13 +13,13 @@ use std::alloc::Global;
 #[derive(Drop)]
 pub struct Found {
     pub order: Vec<usize>,
-    /// The place of each node in `order`; of a node that isn't there, the number of all nodes.
+    /// The index of each node in `order`; for a node that isn't there, the number of all nodes.
     pub places: Vec<usize>,
-    /// Whether a node of `order` has flow to spare.
+    /// Whether a node of `order` has spare flow.
     pub meets: bool,
 }
 
-/// Searches from the nodes that need flow back over links that have room at these heights, breadth first.
+/// Searches breadth first from the nodes that need flow, backwards over links that have room at these heights.
 pub fn search(alloc: Global, network: &Network<'_>) -> Result<Found, NoMemory>
     requires { IsNetwork network.now }
     ensures places { IfOk result (λ s. length s.places.items ≡ length network.now.heights.now) }
@@ -52,7 +52,7 @@ pub fn search(alloc: Global, network: &Network<'_>) -> Result<Found, NoMemory>
     })
 }
 
-// Appends the nodes not found yet from which there is room to go to the node whose arcs are `arcs`.
+// Appends the nodes that weren't found yet and from which there is room to the node whose arcs are `arcs`.
 fn push_sources(
     order: &mut Vec<usize>,
     places: &mut [usize],

@@ -1,4 +1,4 @@
-// Flows of one function that balance, with heights that show that they change the counts least.
+// Balancing the flows of one function, with heights that show that they change the counts least.
 ghost use Rattle.std.specs.Prelude.{◌≡◌, ◌<◌, ◌^◌, ℕ, All, IfOk, OnOk, length};
 ghost use Rattle.flow_infer.specs.declared.settling.Progress.TheVariants as progress;
 ghost use Rattle.flow_infer.specs.Flows.{AreSameLinks};
@@ -15,21 +15,21 @@ use crate::searching::search;
 use rb_bytes::fault::NoMemory;
 use std::alloc::Global;
 
-/// What a round came to.
+/// The result of a round.
 #[derive(Clone, Copy)]
 pub enum Progress {
     /// The flow balances.
     Balanced,
-    /// Flow was moved. The number is how much there was to be moved before.
+    /// Flow was moved. Holds the spare flow before the move.
     Moved(u128),
     /// Heights were raised.
     Raised,
 }
 
-/// Moves flow on the links of a function, whose blocks are those from `first` on, until it balances. The heights of its
-/// nodes are prices that hold.
+/// Moves flow on the links of a function, whose blocks begin with `first`, until it balances. The result has the
+/// heights of its nodes, which are prices that hold.
 ///
-/// Want of memory is answered too where a wave lessened nothing, at sums past 128 bits, and at heights past 64 bits.
+/// `NoMemory` also if a wave moved no flow to its goal, at sums above 128 bits, and at heights above 64 bits.
 pub fn settle(
     alloc: Global,
     links: &mut [Link],
@@ -48,15 +48,15 @@ pub fn settle(
 {
     let mut heights = vec![in alloc; 0u64; nodes]?;
     let around = arcs(alloc, links, first, nodes)?;
-    // How often heights rise is bounded for the prover alone; no network comes near it.
+    // The number of rises is only bounded for the prover; no network comes near the bound.
     let mut rises = u64::MAX;
-    // How much was to be moved before the last wave.
+    // The spare flow before the last wave.
     let mut left = u128::MAX;
     loop {
         match round(alloc, links, &mut heights, first, &around)? {
             Progress::Balanced => return Ok(heights),
             Progress::Moved(spare) => {
-                // The wave before this one lessened nothing.
+                // The wave before this one made no progress.
                 if spare >= left {
                     return Err(NoMemory);
                 }
@@ -72,7 +72,7 @@ pub fn settle(
     }
 }
 
-// Moves flow at the present heights, or raises them where none can be moved.
+// Moves flow at the current heights, or raises them if none can be moved.
 fn round(
     alloc: Global,
     links: &mut [Link],

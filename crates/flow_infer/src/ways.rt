@@ -1,4 +1,4 @@
-// How often control came into blocks from outside their functions, went out there, and took edges.
+// How often control came into blocks from outside their functions, left their functions, and took edges.
 ghost use Rattle.std.specs.Prelude.{◌≡◌, ◌==◌, ◌||◌, ◌↔◌, ◌<◌, ℕ, AllPairs, Contains, IsTrue, None, Some, filter};
 ghost use Rattle.std.specs.Prelude.{length};
 ghost use Rattle.std.specs.List.Sorted.{IsNonDecreasingBy};
@@ -15,7 +15,7 @@ use crate::source::Source;
 use rv_code::functions::block_start;
 use rv_code::{Block, Func};
 
-/// How often control came into block `k` from outside its function, or None if it can't.
+/// How often control came into block `k` from outside its function, or `None` if it can't.
 pub fn way_in(source: &Source, k: usize) -> Option<u128>
     requires source { AreSources source.now }
     requires inside { k < length source.now.blocks.now }
@@ -31,7 +31,7 @@ pub fn way_in(source: &Source, k: usize) -> Option<u128>
     Some(count_outside(source.ends, func, start))
 }
 
-/// How often control went from block `k` out of its function, or None if it can't.
+/// How often control left the function from block `k`, or `None` if it can't.
 pub fn way_out(source: &Source, k: usize) -> Option<u128>
     requires source { AreSources source.now }
     requires inside { k < length source.now.blocks.now }
@@ -86,7 +86,7 @@ fn begins_or(first: usize, named: bool) -> bool
     first == 0 || named
 }
 
-// Whether a number is in a list that goes up. A binary search.
+// Whether a number is in an ascending list. A binary search.
 fn is_member(numbers: &[u64], number: u64) -> bool
     requires { IsNonDecreasingBy (λ a. a) numbers.now }
     ensures { IsTrue result ↔ Contains numbers.now number }

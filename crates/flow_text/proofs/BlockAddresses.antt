@@ -1,4 +1,4 @@
--- Where blocks that lie apart start and end: the addresses go up, and are those of instructions.
+-- The start and end addresses of blocks that don't overlap: they are addresses of instructions, and ascend.
 use Rattle.std.proofs.Common.{◌≡◌, ◌∙◌, ◌<◌, ◌≤◌, ℕ, true, List, Option, Some, None, length, get_or, arith, ap, sym, subst, refl, ⊎_elim}
 use Rattle.std.specs.Prelude.{IsSomeAnd, slice_get}
 use Rattle.std.specs.Option.{option_map_or}
@@ -33,7 +33,7 @@ func_of_block funcs b is = by (slice_get funcs b.func) refl is
     by None at is = absurd is
     by (Some f) at is = record { func = f; at = at; order = is.0; inside = is.1 }
 
--- an instruction of it
+-- an instruction of this function
 record HasInst (funcs : List Func) (b : Block) (func : Func) (i : ℕ) : Type 0 where
   inst : Placed
   at : slice_get func.insts.items i ≡ Some inst
@@ -69,7 +69,7 @@ module _ (funcs : List Func) (laid : AreLaidOut funcs) where
       let second = ap (λ (r : Placed). r.addr) (get_or_from_slice_get f.insts.items j q p at_j) in
       omega arith
 
-  -- an instruction of one block stands before each of a later block
+  -- an instruction of one block has a lower address than each one of a later block
   rises : (b c : Block) → IsOfFunction funcs b → IsOfFunction funcs c → IsApart b c → (i j : ℕ) → i ≤ b.last → c.first ≤ j →
       j ≤ c.last → inst_address funcs b i < inst_address funcs c j
   rises b c is_b is_c apart i j upto from upto' =

@@ -1,4 +1,4 @@
--- The blocks of a function are those between two places.
+-- The blocks of a function are those of a range.
 use Rattle.std.proofs.Common.{◌≡◌, ◌∙◌, ◌+◌, ◌-◌, ◌<◌, ◌≤◌, ℕ, true, false, List, AllPairs, length, get_or, arith, ap, sym, take, drop}
 use Rattle.std.proofs.Common.{map, nat_le, nat_lt, ⊎_elim, refl, suc, zero, ◌++◌, [], ◌∷◌, append-nil, append_assoc, flat_map}
 use Rattle.std.specs.List.{range_with_len}
@@ -16,7 +16,7 @@ use Rattle.flow_infer.proofs.RepairedLists.{func_at_place}
 use Rattle.flow_infer.proofs.Runs.{ordered_rise, run_filtered}
 use Rattle.flow_text.proofs.FlowOrder.{unmapped}
 
--- Numbers one after another.
+-- Ranges of numbers.
 
 pub range_more : (a n : ℕ) → range_with_len a (suc n) ≡ range_with_len a n ++ (a + n) ∷ []
 range_more a zero = ap (λ (x : ℕ). x ∷ []) (let e : a ≡ a + 0 = omega arith in e)
@@ -24,7 +24,7 @@ range_more a (suc n) =
     ap (λ (l : List ℕ). a ∷ l) (range_more (a + 1) n)
     ∙ ap (λ (x : ℕ). a ∷ (range_with_len (a + 1) n ++ x ∷ [])) (let e : a + 1 + n ≡ a + suc n = omega arith in e)
 
--- the text of one more of them
+-- the text for a range with one more number
 pub lines_more : (f : ℕ → List ℕ) (first place : ℕ) (old text new : List ℕ) → first ≤ place →
     text ≡ old ++ flat_map f (range_with_len first (place - first)) → new ≡ text ++ f place →
     new ≡ old ++ flat_map f (range_with_len first (place + 1 - first))

@@ -1,5 +1,5 @@
--- The change of a repaired profile is below 2^128: it is no more than the counts of all links, since no flow changes more than
--- those away; and in these the count of no pair stands more than three times.
+-- The change of a repaired profile is below 2^128: the flow 0 balances, so the change is at most the sum of all counts of links, in which
+-- the count of no pair is counted more than three times.
 use Rattle.std.proofs.Common.{◌≡◌, ◌∙◌, ◌+◌, ◌*◌, ◌<◌, ◌≤◌, ◌^◌, ℕ, ℤ, suc, Bool, true, false, List, [], ◌∷◌, Option, Some, None}
 use Rattle.std.proofs.Common.{AllPairs, Contains, length, get_or, arith, ap, sym, refl, ⊎_elim, cond, map, sum_by, if◌then◌else◌}
 use Rattle.std.proofs.Common.{add-mul, one-mul, zero, zero-mul}
@@ -29,7 +29,7 @@ use Rattle.flow_text.specs.RepairedCounts.{end_at, start_at}
 use Rattle.flow_text.proofs.BlockAddresses.{ends_rise, starts_rise}
 use Rattle.flow_text.proofs.FlowOrder.{apart, before, unmapped}
 
--- No flow at all is one that balances.
+-- The flow 0 balances.
 
 no_flow : (links : List Link) (e : Link → Option ℕ) (k : ℕ) →
     sum_by (λ l. if is_block k (e l) then l.flow else 0) (map bare links) ≡ sum_by (λ l. if is_block k (e (bare l)) then 0 else 0) links
@@ -58,7 +58,7 @@ change_upto links prices balances hold =
     let counts = sum_alike (λ l. distance 0 l.count) (λ l. l.count) (λ l. omega arith) links in
     omega (arith, least, still, counts)
 
--- Sums of what items choose of pairs, where no pair is chosen twice.
+-- Sums over pairs that items choose, if no pair is chosen twice.
 
 abbrev sum_of : (Counted → Bool) → List Counted → ℕ
 sum_of t ps = sum_by (λ p. if t p then p.2 else 0) ps
@@ -125,7 +125,7 @@ at_most_one {X} t R (x ∷ xs) up clash =
         omega arith
     by false isnt upto = omega arith
 
--- Which pairs a link counts: an edge, a way in or a way out.
+-- The pairs that a link counts: of an edge, a way in or a way out.
 
 module _ (funcs : List Func) (laid : AreLaidOut funcs) (blocks : List Block) (are : AreBlocksOf funcs blocks) where
   abbrev edge_test : Option ℕ → Option ℕ → Counted → Bool
@@ -289,7 +289,7 @@ module _ (funcs : List Func) (laid : AreLaidOut funcs) (blocks : List Block) (ar
         let c = chosen_upto (λ l. out_test l.from l.to) links ways_out_once pairs in
         omega (arith, all, outer, inner, a, b, c)
 
--- the change of a repaired profile whose counts are few
+-- the change of a repaired profile whose counts have a small sum
 pub change_fits : (code : ProgramCode) (blocks : List Block) (edges : List (ℕ × ℕ)) (pairs : List Counted) (flow : Flow) →
     AreLaidOut code.funcs → AreBlocksOf code.funcs blocks → AreLinksOf blocks flow.links.items →
     IsRepaired code blocks edges pairs flow → total_count pairs < 2 ^ 100 → change flow.links.items < 2 ^ 128

@@ -1,4 +1,4 @@
--- Ordered pairs cut in two by a binary search: what is left is what passes a test.
+-- Ordered pairs that are cut in two by a binary search: each part is the result of a filter.
 use Rattle.std.proofs.Common.{◌≡◌, ◌∙◌, ◌+◌, ◌<◌, ◌≤◌, ℕ, Bool, true, false, List, AllPairs, take, drop, get_or, arith, ap}
 use Rattle.std.proofs.Common.{refl, subst, ⊎_elim}
 use Rattle.std.specs.Prelude.{filter, not}

@@ -24,7 +24,7 @@ use Rattle.flow_text.specs.LinkLists.{AreBlocksOf, AreLinksOf, IsBetween, IsPlac
 use Rattle.flow_text.specs.RepairedCounts.{edge_flows, end_at, flow_between, start_at}
 use Rattle.flow_text.proofs.BlockAddresses.{end_is_code, ends_rise, start_is_code, starts_rise}
 
--- an order of what items are mapped to, as one of the items
+-- an order of mapped items, as an order of the items
 pub unmapped : {X Y : Type 0} (R : Y → Y → Type 0) (f : X → Y) (xs : List X) → AllPairs R (map f xs) →
     AllPairs (λ x y. R (f x) (f y)) xs
 unmapped {Y = Y} R f xs up i j d less within =
@@ -36,7 +36,7 @@ module _ (funcs : List Func) (laid : AreLaidOut funcs) (blocks : List Block) (ar
   abbrev flow_of : Link → Option Counted
   flow_of l = flow_between funcs blocks l.from l.to l.flow
 
-  -- a pair of a link comes from there
+  -- a pair in the list is the pair of a link
   from_flows : (links : List Link) (p : Counted) → Contains (edge_flows funcs blocks links) p →
       (l : Link) × Contains links l × (flow_of l ≡ Some p)
   from_flows [] p (k, within, is) = absurd (omega arith)
@@ -126,7 +126,7 @@ module _ (funcs : List Func) (laid : AreLaidOut funcs) (blocks : List Block) (ar
       let inside = All-contains (IsBetween blocks) links l of.inside l_in in
       pair_coded l.from l.to l.flow p inside.from inside.to is)
 
--- One link more.
+-- One more link.
 pub flows_more : (funcs : List Func) (blocks : List Block) (links : List Link) (i : ℕ) (d : Link) (o : Option Counted)
     (flows flows' : List Counted) → i < length links →
     o ≡ flow_between funcs blocks (get_or links i d).from (get_or links i d).to (get_or links i d).flow →

@@ -1,4 +1,4 @@
--- Flows put in place of counts keep the order, and each pair has its flow, or else its count.
+-- Replacing counts by flows keeps the order, and each pair has its flow, or its count if it has no flow.
 use Rattle.std.proofs.Common.{◌≡◌, ◌∙◌, ◌+◌, ◌<◌, ◌⊎◌, ℕ, suc, Bool, true, false, List, [], ◌∷◌, ◌++◌, Option, Some, None, All, AllPairs}
 use Rattle.std.proofs.Common.{append_assoc, drop, Contains, length, get_or, arith, ap, sym, subst, inl, inr, refl, ⊎_elim, cond, find}
 use Rattle.std.proofs.Common.{if◌then◌else◌}
@@ -54,7 +54,7 @@ in_order x y = elim (cases_order x.0 y.0) [
   ]
 ]
 
--- What is in the list.
+-- The items of the list.
 
 pub all_with : (P : Counted → Type 0) (flows pairs : List Counted) → All (λ f. 0 < f.2 → P f) flows → All P pairs →
     All P (with_flows flows pairs)
@@ -122,7 +122,7 @@ ordered_with (f ∷ flows) pairs up pairs_up =
     some_up true = λ i j d less within. absurd (omega arith)
     some_up false = λ i j d less within. absurd (omega arith)
 
--- Its counts.
+-- The counts of the list.
 
 module _ (x y : ℕ) where
   abbrev term : Counted → ℕ
@@ -173,7 +173,7 @@ module _ (x y : ℕ) where
           omega arith
       by false = refl
 
-  -- what comes before a pair and what comes after it has all counts but its own
+  -- the pairs before a pair and those after it have all counts except its own
   beside : (f : Counted) (ps : List Counted) → is_pair x y f ≡ false →
       count_among x y ps ≡ count_among x y (filter (λ p. is_before p f) ps) + count_among x y (filter (λ p. is_before f p) ps)
   beside f [] isnt = refl

@@ -1,4 +1,4 @@
--- The pairs of a profile that was read are pairs of instructions, and the links of a repaired one lie between blocks.
+-- The pairs of a profile that was read are pairs of instructions, and the links of a repaired profile are between blocks.
 use Rattle.std.proofs.Common.{◌≡◌, ◌∙◌, ◌+◌, ◌<◌, ℕ, Bool, true, false, List, [], ◌∷◌, Option, Some, None, Contains, length, arith, ap, sym}
 use Rattle.std.proofs.Common.{subst, refl, cond, filter_map, if◌then◌else◌, ⊎_elim}
 use Rattle.std.specs.Prelude.{◌==◌, ◌&&◌, IsSomeAnd, option_and_then, slice_get}
@@ -24,7 +24,7 @@ use Rattle.flow_infer.specs.Repairs.{IsRepaired}
 use Rattle.flow_infer.specs.Sources.{JoinBlocks}
 use Rattle.flow_text.specs.LinkLists.{AreCodePairs, AreLinksOf, IsBetween, IsPlaceIn}
 
--- What lines name are instructions.
+-- Lines name instructions.
 
 code_of : (funcs : List Func) (a x : ℕ) → code_address funcs a ≡ Some x → is_code_address funcs x ≡ true
 code_of funcs a x is = by (is_code_address funcs a) refl is

@@ -15,7 +15,7 @@ use Rattle.flow_text.specs.RepairedCounts.{edge_flows, repaired_count}
 use Rattle.flow_text.proofs.FlowOrder.{flows_coded, flows_ordered}
 use Rattle.flow_text.proofs.PlacedFlows.{all_with, counts_with, ordered_with}
 
--- `given` are the pairs that were merged, by the flows of edges as they were passed
+-- `given` are the merged pairs, from the flows of edges that were passed
 module _ (funcs : List Func) (blocks : List Block) (links : List Link) (pairs flows given : List Counted)
     (code : AreCodePairs funcs pairs) (flows_are : flows ≡ edge_flows funcs blocks links) (given_is : given ≡ with_flows flows pairs) where
   merged_is : given ≡ with_flows (edge_flows funcs blocks links) pairs

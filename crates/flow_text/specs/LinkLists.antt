@@ -1,4 +1,4 @@
--- Lists of links and of pairs of instructions, as flows are found for them.
+-- Lists of blocks, links and pairs of instructions, as they are when flows are found.
 use Rattle.std.specs.Prelude.{ℕ, ◌<◌, List, Option, All, AllPairs, IfSome, length, map}
 use Rattle.rv_code.specs.declared.placed.Func.{Func}
 use Rattle.rv_code.specs.declared.placed.Block.{Block}
@@ -9,12 +9,12 @@ use Rattle.edge_text.specs.EdgeText.{HasCodeEnds}
 use Rattle.flow_infer.specs.declared.flow.Link.{Link}
 use Rattle.flow_infer.specs.Links.{IsLinkBefore, counted_ends}
 
--- blocks of functions that lie apart, in order
+-- blocks of functions in order, which don't overlap
 pub record AreBlocksOf (funcs : List Func) (blocks : List Block) : Type 0 where
   pub stretches : AreStretches funcs blocks
   pub apart : AreBlocksApart blocks
 
--- the ends of a link are blocks of a list, or lie outside
+-- the ends of a link are blocks of a list, or the outside
 abbrev pub IsPlaceIn : List Block → Option ℕ → Type 0
 IsPlaceIn blocks end = IfSome end (λ k. k < length blocks)
 
@@ -22,7 +22,7 @@ pub record IsBetween (blocks : List Block) (l : Link) : Type 0 where
   pub from : IsPlaceIn blocks l.from
   pub to : IsPlaceIn blocks l.to
 
--- such links, in order
+-- links between blocks of a list, in order
 pub record AreLinksOf (blocks : List Block) (links : List Link) : Type 0 where
   pub inside : All (IsBetween blocks) links
   pub ordered : AllPairs (IsLinkBefore blocks) (map counted_ends links)

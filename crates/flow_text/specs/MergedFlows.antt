@@ -1,4 +1,4 @@
--- Flows put in place of counts, where both are pairs in order.
+-- Replacing counts by flows, in lists of pairs in order.
 use Rattle.std.specs.Prelude.{List, [], ◌∷◌, ◌++◌, filter, nat_lt, if◌then◌else◌}
 use Rattle.edge_profile.specs.PairCounts.{Counted}
 use Rattle.edge_profile.specs.Pairs.{is_before}

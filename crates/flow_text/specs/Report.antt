@@ -1,5 +1,5 @@
--- The lines that show a flow: for each function with a count the prices of its blocks and its links, and how many links
--- there are with how much change.
+-- The lines that show a flow: for each function with a count, the prices of its blocks and its links; and a line with
+-- the number of links and the total change.
 use Rattle.std.specs.Prelude.{ℕ, ℤ, pos, ◌==◌, Bool, List, [], ◌++◌, Option, Some, None, codes, decimal, filter}
 use Rattle.std.specs.Prelude.{flat_map, if◌then◌else◌, length, nat_lt, slice_index_or}
 use Rattle.std.specs.Fmt.{signed_decimal}
@@ -14,14 +14,14 @@ use Rattle.flow_infer.specs.Flows.{change}
 use Rattle.flow_infer.specs.Links.{counted_ends, func_of_ends}
 use Rattle.flow_text.specs.RepairedCounts.{start_at}
 
--- the price of the block at a place
+-- the price of the block with index k
 abbrev pub price_line : List Func → List Block → List ℤ → ℕ → List ℕ
 price_line funcs blocks prices k =
     codes "price " ++ hexadecimal (start_at funcs blocks k) ++ codes " "
     ++ signed_decimal (slice_index_or prices k (pos 0))
     ++ codes "\n"
 
--- a block by where it starts; what lies outside
+-- a block by its start address; `-` for the outside
 abbrev pub end_name : List Func → List Block → Option ℕ → List ℕ
 end_name funcs blocks (Some k) = hexadecimal (start_at funcs blocks k)
 end_name funcs blocks None = codes "-"

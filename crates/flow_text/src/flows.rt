@@ -1,4 +1,4 @@
-// The pairs of edges with their flows, and where blocks start and end.
+// The address pairs of edges with their flows, and the start and end addresses of blocks.
 ghost use Rattle.std.specs.Prelude.{◌≡◌, ◌<◌, All, IfOk, length};
 ghost use Rattle.rv_code.specs.layout.FunctionMembers.{IsOfFunction};
 ghost use Rattle.flow_text.specs.LinkLists.{IsBetween};
@@ -11,7 +11,7 @@ use rv_code::functions::block_start;
 use rv_code::{Block, Func};
 use std::alloc::Global;
 
-/// The pairs of addresses of all edges with their flows, in the order of the links.
+/// The address pairs of all edges with their flows, in the order of the links.
 pub fn edge_flows(
     alloc: Global,
     funcs: &[Func],
@@ -29,8 +29,8 @@ pub fn edge_flows(
     Ok(flows)
 }
 
-// The addresses of an edge, from the last instruction of a block to the first of another, and its flow. None for a way
-// in or out.
+// The address pair of an edge, from the last instruction of a block to the first of another, and its flow. `None` for a
+// way in or out.
 fn flow_between(funcs: &[Func], blocks: &[Block], link: &Link) -> Option<(u64, u64, u128)>
     requires blocks { All (IsOfFunction funcs.now) blocks.now }
     requires link { IsBetween blocks.now link.now }

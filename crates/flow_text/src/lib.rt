@@ -1,4 +1,4 @@
-//! Repaired profiles as text: the profile itself, and lines that show that no other one changes less.
+//! Repaired profiles as text: the profile itself, and lines that show that no other repaired profile changes less.
 #![tactic(auto)]
 
 mod flows;

@@ -57,7 +57,7 @@ pub fn put_link(
     Ok(())
 }
 
-/// Appends the line of how many links there are, and how far their flows are from their counts in sum.
+/// Appends the line with the number of links and the total change.
 pub fn put_total(text: &mut Vec<u8>, links: &[Link]) -> Result<(), NoMemory>
     requires { change links.now < 2 ^ 128 }
     ensures { OnOk result (text.new.items ≡ text.old.items ++ spec.total_line links.now) }
@@ -69,7 +69,7 @@ pub fn put_total(text: &mut Vec<u8>, links: &[Link]) -> Result<(), NoMemory>
     Ok(())
 }
 
-// Appends where the block at an end of a link starts, or `-` for what lies outside.
+// Appends the start address of the block at an end of a link, or `-` for the outside.
 fn put_end(
     text: &mut Vec<u8>,
     funcs: &[Func],
@@ -87,7 +87,7 @@ fn put_end(
     Ok(())
 }
 
-// How far the flows of links are from their counts in sum.
+// The total change: the sum of the distances of flows from counts.
 fn total_change(links: &[Link]) -> u128
     requires { change links.now < 2 ^ 128 }
     ensures { result ≡ change links.now }

@@ -1,4 +1,4 @@
-// Flows put in place of counts.
+// Replacing counts by flows.
 ghost use Rattle.std.specs.Prelude.{◌≡◌, ◌++◌, AllPairs, IfOk, OnOk, filter};
 ghost use Rattle.edge_profile.specs.PairCounts.{IsCountedBefore};
 ghost use Rattle.edge_profile.specs.Pairs.{is_before};
@@ -7,8 +7,8 @@ ghost use Rattle.flow_text.specs.MergedFlows.{some_flow, with_flows};
 use rb_bytes::fault::NoMemory;
 use std::alloc::Global;
 
-/// `pairs`, with the flows in place of the counts of those that are in `flows` too, and without those whose flow is 0.
-/// Both lists are in order, and so is the result.
+/// `pairs`, with flows instead of counts for the pairs in `flows`, and without pairs whose flow is 0. Both lists and
+/// the result are in order.
 pub fn with_flows(
     alloc: Global,
     flows: &[(u64, u64, u128)],
@@ -27,7 +27,7 @@ pub fn with_flows(
     Ok(out)
 }
 
-// Appends the pairs before that of `flow`, and then `flow`, unless it is 0.
+// Appends the pairs before the pair of `flow`, and then `flow`, unless it is 0.
 fn push_upto(
     out: &mut Vec<(u64, u64, u128)>,
     pairs: &[(u64, u64, u128)],

@@ -14,8 +14,8 @@ use rb_bytes::fault::NoMemory;
 use rv_code::{Block, Func};
 use std::alloc::Global;
 
-/// The text of a profile that has the flow of each edge, and the old counts of all other pairs. `pairs` are those of
-/// the profile before.
+/// The text of a profile with the flow of each edge, and the old counts of all other pairs. `pairs` are the pairs of
+/// the old profile.
 pub fn repaired_profile(
     alloc: Global,
     funcs: &[Func],

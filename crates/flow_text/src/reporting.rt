@@ -80,7 +80,7 @@ fn links_of<'a>(blocks: &[Block], links: &'a [Link], func: usize) -> &'a [Link]
     found
 }
 
-// The function of a link. A link between blocks that aren't there counts as one of function 0.
+// The function of a link. A link between blocks that don't exist counts as a link of function 0.
 fn func_of_link(blocks: &[Block], link: &Link) -> usize
     ensures { result ≡ func_of_ends blocks.now (counted_ends link.now) }
 {
@@ -90,7 +90,7 @@ fn func_of_link(blocks: &[Block], link: &Link) -> usize
     }
 }
 
-// A block at an end of a link: the one at its start, if that is a block.
+// A block at an end of a link: the one at its start, if there is one, otherwise the one at its end.
 fn block_of(link: &Link) -> usize
     ensures { result ≡ a_block link.now.from link.now.to }
 {
@@ -100,7 +100,7 @@ fn block_of(link: &Link) -> usize
     }
 }
 
-// Where the blocks of function `func` begin and end in the list of blocks.
+// The range of the blocks of function `func` in the list of blocks.
 fn blocks_of(blocks: &[Block], func: usize) -> (usize, usize)
     requires { AllPairs IsBefore blocks.now }
     ensures order { result.0 ≤ result.1 }
