@@ -1,4 +1,4 @@
--- Chains: there is one from each first block, and it stays between the blocks.
+-- Chains: one begins with each first block, and it stays within the range of blocks.
 use Rattle.std.proofs.Common.{◌≡◌, ◌≢◌, ◌<◌, ◌≤◌, ◌+◌, ◌-◌, ◌∙◌, ℕ, zero, suc, true, false, List, [], ◌∷◌, ◌++◌, Some, None, length, get_or}
 use Rattle.std.proofs.Common.{take, flat_map, arith, ap, sym, subst, inl, inr, ⊎_elim, All, AllPairs, Contains, add-one}
 use Rattle.std.specs.Prelude.{IsPermutation}
@@ -56,7 +56,7 @@ chain_inside n p h xs between below chain k d within =
     let at : get_or xs k 0 < n = inside_path w below (as_path chain) k within in
     subst (λ (x : ℕ). x < n) (get_or_default xs k 0 d within) at
 
--- Hot chains so far.
+-- The hot chains so far.
 
 pub record AreHotTo (p : Links) (weight : ℕ → ℕ) (start end : ℕ) (chains : List HotChain) : Type 0 where
   pub only : (c : HotChain) → Contains chains c → IsHotBetween p weight start end c
@@ -74,7 +74,7 @@ module _ {p : Links} {weight : ℕ → ℕ} {start h : ℕ} {chains : List HotCh
     hot = is.hot;
   }
 
-  -- no hot chain begins here
+  -- no hot chain begins with this block
   pub hot_skip : ((xs : List ℕ) → IsChain p h xs → 0 < greatest weight xs → ⊥) → AreHotTo p weight start (h + 1) chains
   hot_skip none = record {
     only = λ c listed. still c (was.only c listed);
@@ -85,7 +85,7 @@ module _ {p : Links} {weight : ℕ → ℕ} {start h : ℕ} {chains : List HotCh
     rise = was.rise;
   }
 
-  -- a hot chain begins here
+  -- a hot chain begins with this block
   pub hot_more : (c : HotChain) → start < h → c.head ≡ h → IsChain p h c.blocks.items
       → c.weight ≡ greatest weight c.blocks.items → 0 < c.weight → AreHotTo p weight start (h + 1) (chains ++ c ∷ [])
   hot_more c after at is heavy hot = record {
@@ -126,7 +126,7 @@ hot_all {old = old} {new = new} are moved = record {
       (λ i j d less within same. let up = are.rise i j d less within in omega arith);
 }
 
--- What a sort gives.
+-- The result of a sort.
 
 from_cmp : (c d : HotChain) → is_lt (ordering_then (nat_cmp c.weight d.weight) (nat_cmp d.head c.head)) ≡ false → IsUpTo c d
 from_cmp c d is = ⊎_elim
@@ -157,7 +157,7 @@ chains-sorted xs sorted =
     all_pairs IsUpTo up_trans xs
     (λ k e inside. from_cmp (get_or xs k e) (get_or xs (k + 1) e) (sorted k e (omega arith) inside))
 
--- one list more among joined ones
+-- one more list is concatenated
 pub flat_more : (f : HotChain → List ℕ) (xs : List HotChain) (i : ℕ) (d : HotChain) → i < length xs
     → flat_map f (take (i + 1) xs) ≡ flat_map f (take i xs) ++ f (get_or xs i d)
 flat_more f xs i d within =

@@ -1,4 +1,4 @@
--- Edges counted one after another.
+-- Counting edges one after another.
 use Rattle.std.proofs.Common.{◌≡◌, ◌<◌, ◌≤◌, ◌+◌, ◌∙◌, ◌⊎◌, ℕ, List, [], ◌∷◌, ◌++◌, length, get_or, take, arith, ap, sym, subst}
 use Rattle.std.proofs.Common.{inl, inr, ⊎_elim, AllPairs, Contains}
 use Rattle.std.specs.Prelude.{IsPermutation}
@@ -21,7 +21,7 @@ use Rattle.rb_bytes.proofs.Permuted.{AllPairs-permutation}
 abbrev pub ends : Edge → ℕ × ℕ
 ends e = (e.from, e.to)
 
--- the first so many edges, those of positive count with their counts
+-- the first i edges: those with positive counts
 pub record IsCountedTo (count : ℕ × ℕ → ℕ) (edges : List (ℕ × ℕ)) (i : ℕ) (taken : List Edge) : Type 0 where
   pub counted : AreCounted count (take i edges) taken
   pub ordered : AllPairs (λ e f. IsPairBefore (ends e) (ends f)) taken
@@ -38,7 +38,7 @@ module _ (count : ℕ × ℕ → ℕ) (edges : List (ℕ × ℕ)) (i : ℕ) (d :
   one_of : (x : ℕ × ℕ) → Contains (take (i + 1) edges) x → Contains (take i edges) x ⊎ (get_or edges i d ≡ x)
   one_of x is = Contains-push_cases (take i edges) (get_or edges i d) x (subst (λ (es : List (ℕ × ℕ)). Contains es x) more is)
 
-  -- an edge that control never went along
+  -- an edge with the count 0
   pub counted_zero : count (get_or edges i d) ≡ 0 → IsCountedTo count edges (i + 1) taken
   counted_zero zero' = record {
     counted = record {
@@ -51,7 +51,7 @@ module _ (count : ℕ × ℕ → ℕ) (edges : List (ℕ × ℕ)) (i : ℕ) (d :
     ordered = was.ordered;
   }
 
-  -- another edge
+  -- an edge with a positive count
   pub counted_more : AllPairs IsPairBefore edges → (e : Edge) → ends e ≡ get_or edges i d
       → count (get_or edges i d) ≡ e.count → 0 < e.count → IsCountedTo count edges (i + 1) (taken ++ e ∷ [])
   counted_more ordered e is own positive = record {

@@ -1,4 +1,4 @@
--- Chains share no block, and the parts of a function have each of its blocks once.
+-- Chains share no block, and the parts of a function contain each of its blocks exactly once.
 use Rattle.std.proofs.Common.{◌≡◌, ◌≢◌, ◌<◌, ◌≤◌, ◌+◌, ◌-◌, ◌∙◌, ℕ, suc, true, List, [], ◌∷◌, ◌++◌, Option, Some, None, length}
 use Rattle.std.proofs.Common.{get_or, flat_map, arith, refl, ap, sym, subst, ⊎_elim, All, AllPairs, Contains}
 use Rattle.std.specs.Prelude.{◌==◌, IsPermutation, slice_get}
@@ -37,7 +37,7 @@ meet_first {n} {p} {g} {h} {xs} {ys} w none a b i m le ix my e =
     absurd (cc))
     (cases_eq (m - i) 0)
 
--- a block of joined chains is one of a chain
+-- a block of concatenated chains is in one of them
 pub record InOne (cs : List HotChain) (z : ℕ) : Type 0 where
   pub chain : HotChain
   pub place : ℕ
@@ -64,7 +64,7 @@ module _ (n : ℕ) (p : Links) (links : AreBetween n p) where
       once within chain.first (as_path chain) i j less inside
       (sym (get_or_default xs i d 0 (omega arith)) ∙ same ∙ get_or_default xs j d 0 inside)
 
-  -- chains that share a block begin with the same one
+  -- chains that share a block begin with the same block
   one_chain : (g h : ℕ) (xs ys : List ℕ) → IsChain p g xs → IsChain p h ys → (z : ℕ) → Contains xs z → Contains ys z → g ≡ h
   one_chain g h xs ys a b z (i, ix, at) (m, my, at') =
       let e : get_or xs i 0 ≡ get_or ys m 0 = get_or_default xs i 0 z ix ∙ at ∙ sym at' ∙ get_or_default ys m z 0 my in
@@ -104,7 +104,7 @@ module _ (n : ℕ) (p : Links) (links : AreBetween n p) where
       let after = c.after in
       omega arith))
 
--- the test that a block is of a function
+-- the test that a block is in a function
 of_test : (blocks : List Block) (f k : ℕ) → IsOf blocks f k →
     (option_map_or (λ (b : Block). b.func) (slice_get blocks k) 0 == f) ≡ true
 of_test blocks f k is =

@@ -9,7 +9,7 @@ use Rattle.rv_code.specs.declared.placed.Block.{Block}
 use Rattle.edge_profile.specs.BlockPlaces.{AreBlocksApart, IsApart}
 use Rattle.block_layout.specs.Parts.{IsOf, IsFirstBlock}
 
--- the block at a place of a list
+-- the block with index k of a list
 pub IsOf-get_or : (blocks : List Block) (f k : ℕ) (d : Block) → k < length blocks → (get_or blocks k d).func ≡ f → IsOf blocks f k
 IsOf-get_or blocks f k d within is =
     subst (λ (o : Option Block). IsSomeAnd o (λ b. b.func ≡ f)) (sym (slice_get-get_or blocks k d within)) is
@@ -18,7 +18,7 @@ pub get_or-IsOf : (blocks : List Block) (f k : ℕ) (d : Block) → k < length b
 get_or-IsOf blocks f k d within is =
     subst (λ (o : Option Block). IsSomeAnd o (λ b. b.func ≡ f)) (slice_get-get_or blocks k d within) is
 
--- functions rise along the blocks
+-- functions don't descend along the blocks
 pub funcs_rise : (blocks : List Block) → AreBlocksApart blocks → (i j : ℕ) (d : Block) → i ≤ j → j < length blocks →
     (get_or blocks i d).func ≤ (get_or blocks j d).func
 funcs_rise blocks apart i j d le within = ⊎_elim

@@ -1,4 +1,4 @@
--- Marks of numbers, and the numbers without one.
+-- Marking numbers, and the numbers without a mark.
 use Rattle.std.proofs.Common.{◌≡◌, ◌≢◌, ◌↔◌, ◌<◌, ◌≤◌, ◌+◌, ◌-◌, ◌∙◌, ℕ, Bool, true, false, List, [], ◌∷◌, ◌++◌, length, get_or, set, take}
 use Rattle.std.proofs.Common.{arith, sym, subst, ⊎_elim, Contains, IsTrue, get_or-set_same, get_or-set_other, length-set}
 use Rattle.std.proofs.lemmas.Bool.{cases_eq}
@@ -7,7 +7,7 @@ use Rattle.std.proofs.lemmas.List.Elements.{Contains-append_left, Contains-push,
 use Rattle.std.proofs.lemmas.List.Quantifiers.{all_pairs_push}
 use Rattle.rv_code.specs.layout.Lists.{ListsNumbers}
 
--- the first so many numbers are marked
+-- the first i numbers are marked
 pub record AreMarked (hot : List ℕ) (i start n : ℕ) (marks : List Bool) : Type 0 where
   pub long : length marks ≡ n
   pub marked : (k : ℕ) → k < n → IsTrue (get_or marks k false) ↔ Contains (take i hot) (start + k)
@@ -58,7 +58,7 @@ marked_more hot i d start n marks within from to was = record {
         (Contains-push_cases (take i hot) x (start + k) (subst (λ (hs : List ℕ). Contains hs (start + k)) more listed)))))
         (cases_eq k (x - start))
 
--- the numbers from one to before another that aren't in a list
+-- the numbers from `start` to before `end` that aren't in a list
 abbrev pub IsLeft : List ℕ → ℕ → ℕ → ℕ → Type 0
 IsLeft hot start end k = ((start ≤ k) × (k < end)) × (Contains hot k → ⊥)
 

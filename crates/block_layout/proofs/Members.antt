@@ -1,4 +1,4 @@
--- Lists of distinct numbers with the same members are permutations of one another.
+-- Lists of distinct numbers with the same members are permutations of each other.
 use Rattle.std.proofs.Common.{◌≡◌, ◌≢◌, ◌<◌, ◌∙◌, ◌⊎◌, ℕ, zero, suc, Bool, true, false, cond, List, [], ◌∷◌, ◌++◌, length, get_or}
 use Rattle.std.proofs.Common.{filter, arith, refl, ap, sym, subst, inl, inr, ⊎_elim, AllPairs, Contains}
 use Rattle.std.specs.Prelude.{IsPermutation}

@@ -1,4 +1,4 @@
--- Paths along links, which end.
+-- Paths along links end.
 use Rattle.std.proofs.Common.{ℕ, zero, suc, ◌≡◌, ◌≢◌, ◌<◌, ◌≤◌, ◌+◌, ◌-◌, List, [], ◌∷◌, ◌++◌, Some, None, length, get_or, arith}
 use Rattle.std.proofs.Common.{refl, sym, ◌∙◌, ap, ⊎_elim, eqb, false, add-one}
 use Rattle.std.proofs.lemmas.Bool.{cases_lt, eqb-true}
@@ -13,7 +13,7 @@ use Rattle.std.proofs.Math.Seq.{get_or-append_seam}
 use Rattle.std.proofs.lemmas.Map.Views.{Contains-from_any}
 use Rattle.block_layout.specs.Links.{Links, IsChain}
 
--- the links are between the first n blocks, and lead back
+-- the links are between the first n blocks, and prev is the inverse of next
 pub record IsWithin (n : ℕ) (p : Links) : Type 0 where
   pub inside : (s t : ℕ) → p.next s ≡ Some t → t < n
   pub back : (s t : ℕ) → p.next s ≡ Some t → p.prev t ≡ Some s
@@ -24,7 +24,7 @@ pub record IsPath (p : Links) (h : ℕ) (xs : List ℕ) : Type 0 where
   pub begins : get_or xs 0 0 ≡ h
   pub follows : (k : ℕ) → k + 1 < length xs → p.next (get_or xs k 0) ≡ Some (get_or xs (k + 1) 0)
 
--- two lists that meet, met at an earlier block, or one begins there
+-- if two paths share a block, they also share an earlier one, or one of them begins there
 pub meet : {n : ℕ} {p : Links} {g h : ℕ} {xs ys : List ℕ} → IsWithin n p → p.prev g ≡ None → IsPath p g xs → IsPath p h ys →
     (i j : ℕ) → i ≤ j → i < length xs → j < length ys → get_or xs i 0 ≡ get_or ys j 0 → get_or ys (j - i) 0 ≡ g
 meet {n} {p} {g} {h} {xs} {ys} w none a b zero j le ix jy e = let z : j - 0 ≡ j = omega arith in rw z (sym e ∙ a.begins)
@@ -40,7 +40,7 @@ meet {n} {p} {g} {h} {xs} {ys} w none a b (suc i) (suc j) le ix jy e =
     let same : suc j - suc i ≡ j - i = omega arith in
     rw same m
 
--- a block stands at one place of a path from a first block
+-- a path from a first block contains each block at most once
 pub once : {n : ℕ} {p : Links} {h : ℕ} {xs : List ℕ} → IsWithin n p → p.prev h ≡ None → IsPath p h xs → (i j : ℕ) → i < j →
     j < length xs → get_or xs i 0 ≢ get_or xs j 0
 once {n} {p} {h} {xs} w none a i j lt jx e =
@@ -74,7 +74,7 @@ path_short {n} {p} {h} {xs} w none below a = length-le_from_distinct_below xs n
     let g : get_or xs at.0 0 < n = inside_path w below a at.0 at.1 in
     omega arith)
 
--- one block more
+-- one more block
 pub path_more : {p : Links} {h t : ℕ} {xs : List ℕ} → IsPath p h xs → p.next (get_or xs (length xs - 1) 0) ≡ Some t →
     IsPath p h (xs ++ t ∷ [])
 path_more {p} {h} {t} {xs} a e =
@@ -96,14 +96,14 @@ path_more {p} {h} {t} {xs} a e =
 pub path_one : (p : Links) (h : ℕ) → IsPath p h (h ∷ [])
 path_one p h = record { some = lit< tt; begins = refl; follows = λ k lt. absurd (omega arith) }
 
--- the last of a longer list
+-- the last block of a longer path
 pub last_more : (xs : List ℕ) (t : ℕ) → t ≡ get_or (xs ++ t ∷ []) (length (xs ++ t ∷ []) - 1) 0
 last_more xs t =
     let len : length (xs ++ t ∷ []) ≡ length xs + 1 = grind (arith, common_steps) in
     let at : length (xs ++ t ∷ []) - 1 ≡ length xs = omega arith in
     rw (at, get_or-append_seam xs t [] 0) refl
 
--- a path to where nothing follows is a chain
+-- a path to a block that no other follows is a chain
 pub as_chain : {p : Links} {h last : ℕ} {xs : List ℕ} → IsPath p h xs → p.prev h ≡ None → last ≡ get_or xs (length xs - 1) 0 →
     p.next last ≡ None → IsChain p h xs
 as_chain {p} {h} {last} {xs} a first e none =

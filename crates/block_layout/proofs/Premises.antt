@@ -1,4 +1,4 @@
--- What the blocks and the edges of a program are like: the premises of chains.
+-- Properties of a program's blocks and edges: the premises of `chains`.
 use Rattle.std.proofs.Common.{◌≡◌, ℕ, List, Option, Some, None, get_or, All, AllPairs}
 use Rattle.std.specs.Prelude.{IsSomeAnd, slice_get}
 use Rattle.std.proofs.lemmas.List.Elements.{Contains-get_or}

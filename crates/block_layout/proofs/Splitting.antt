@@ -1,4 +1,4 @@
--- The parts of functions, from the chains between two places.
+-- The parts of functions, from the chains of a range of blocks.
 use Rattle.std.proofs.Common.{◌≡◌, ◌≢◌, ◌<◌, ◌≤◌, ◌++◌, ◌∙◌, ◌⊎◌, ℕ, zero, suc, List, [], ◌∷◌, Option, Some, None, length, get_or}
 use Rattle.std.proofs.Common.{map, flat_map, arith, refl, ap, sym, subst, inl, inr, ⊎_elim, All, AllPairs, Contains, add-one}
 use Rattle.std.specs.Prelude.{IsSomeAnd, slice_get}
@@ -15,7 +15,7 @@ use Rattle.block_layout.specs.declared.hot_chains.HotChain.{HotChain}
 use Rattle.block_layout.proofs.ChainLists.{same_chain}
 use Rattle.block_layout.proofs.Disjoint.{all_blocks}
 
--- the blocks of a chain are of one function
+-- the blocks of a chain are in one function
 chain_of_func : (blocks : List Block) (p : Links) → AreInner blocks p → (f h : ℕ) (xs : List ℕ) → IsChain p h xs → IsOf blocks f h
     → (k : ℕ) → k < length xs → IsOf blocks f (get_or xs k 0)
 chain_of_func blocks p inner f h xs chain is zero within = subst (IsOf blocks f) (sym chain.begins) is
@@ -39,7 +39,7 @@ module _ (blocks : List Block) (p : Links) (weight : ℕ → ℕ) (f start end :
       (between c.head c.blocks.items first.2 first.0 first.1)
       (joined cs (All-tail (λ (e : HotChain). (start ≤ e.head) × (e.head < end) × IsChain p e.head e.blocks.items) c cs all))
 
-  -- the blocks of a hot part are some of those between
+  -- the blocks of a hot part are in the range
   list_between : (part : List ℕ) → start < end → IsHotList p weight start end part → All (λ k. (start ≤ k) × (k < end)) part
   list_between part some is =
       subst (λ (ks : List ℕ). All (λ k. (start ≤ k) × (k < end)) ks) (sym is.part_is)

@@ -1,4 +1,4 @@
--- Where the blocks of functions begin and end.
+-- The ranges of the blocks of functions.
 use Rattle.std.proofs.Common.{◌≡◌, ◌≢◌, ◌<◌, ◌≤◌, ◌+◌, ℕ, List, Option, length, get_or, arith, refl, subst, ⊎_elim}
 use Rattle.std.specs.Prelude.{IsSomeAnd}
 use Rattle.std.proofs.lemmas.Bool.{cases_lt}
@@ -13,7 +13,7 @@ use Rattle.block_layout.proofs.Firsts.{IsOf-get_or, get_or-IsOf, funcs_rise}
 abbrev pub nothing : Block
 nothing = record { func = 0; first = 0; last = 0 }
 
--- a block of a function is one of the list
+-- a block of a function is in the list
 pub IsOf-within : (blocks : List Block) (f k : ℕ) → IsOf blocks f k → k < length blocks
 IsOf-within blocks f k is = ⊎_elim
     (λ (within : k < length blocks). within)
@@ -25,7 +25,7 @@ pub start_at_none : (blocks : List Block) → IsFirstOf blocks 0 0
 start_at_none blocks =
     record { within = omega arith; below = λ k g less is. absurd (omega arith); above = λ k g le is. omega arith }
 
--- the blocks from one place to before another are of a function, and no block after them is
+-- the blocks of a range are in a function, and no later block is
 module _ (blocks : List Block) (apart : AreBlocksApart blocks) (f start end : ℕ) (is : IsFirstOf blocks f start)
     (from : start ≤ end)
     (to : end ≤ length blocks)

@@ -1,4 +1,4 @@
--- One edge after another is taken: it links two blocks, or is left out.
+-- Considering one edge after another: it links two blocks, or is left out.
 use Rattle.std.proofs.Common.{ℕ, ◌≡◌, ◌≢◌, ◌<◌, ◌≤◌, ◌+◌, ◌⊎◌, inl, inr, List, Some, None, length, arith, sym, ◌∙◌}
 use Rattle.std.proofs.Common.{ap, ⊎_elim, subst, Bool, true}
 use Rattle.std.proofs.lemmas.Bool.{cases_eq}
@@ -11,7 +11,7 @@ use Rattle.block_layout.specs.declared.links.ChainLinks.{ChainLinks}
 use Rattle.block_layout.specs.FirstLinks.LinksLead.{stays, goes}
 use Rattle.block_layout.specs.FirstLinks.Refused.{source_taken, target_taken, first_block, closes}
 
--- each neighbour of p is one of q
+-- each link of p is a link of q
 pub record Grows (p q : Links) : Type 0 where
   pub keeps : (s t : ℕ) → p.next s ≡ Some t → q.next s ≡ Some t
 
@@ -43,7 +43,7 @@ same_edge es i k x y s t e f same =
     let h : (x, y) ≡ (s, t) = sym e.1 ∙ both ∙ f.1 in
     (ap (λ (p : ℕ × ℕ). p.0) h, ap (λ (p : ℕ × ℕ). p.1) h)
 
--- ---- an edge that makes no neighbours
+-- An edge that makes no link.
 pub refuse : {es : List Edge} {n : ℕ} {IsFirst : ℕ → Type 0} {k : ℕ} {p : Links} (s t : ℕ) → IsEdgeNumber es k s t →
     Refused es p IsFirst k s t → IsLinked es n IsFirst k p → IsLinked es n IsFirst (k + 1) p
 refuse {es} {n} {IsFirst} {k} {p} s t at why l = record {
@@ -66,7 +66,7 @@ ends_refuse {es} {n} {k} {p} {head} {tail} u = record {
   starts = u.starts;
 }
 
--- ---- an edge that makes neighbours
+-- An edge that makes a link.
 pub record Joins (p q : Links) (head tail head' tail' : ℕ → ℕ) (s t : ℕ) : Type 0 where
   pub next_here : q.next s ≡ Some t
   pub next_else : (x : ℕ) → x ≢ s → q.next x ≡ p.next x
@@ -77,7 +77,7 @@ pub record Joins (p q : Links) (head tail head' tail' : ℕ → ℕ) (s t : ℕ)
   pub tail_here : tail' (head s) ≡ tail t
   pub tail_else : (x : ℕ) → x ≢ head s → tail' x ≡ tail x
 
--- s and t may be joined
+-- s and t may be linked
 pub record Free (p : Links) (head : ℕ → ℕ) (n : ℕ) (IsFirst : ℕ → Type 0) (s t : ℕ) : Type 0 where
   pub s_in : s < n
   pub t_in : t < n
@@ -150,7 +150,7 @@ pub ends_accept : {es : List Edge} {n : ℕ} {IsFirst : ℕ → Type 0} {k : ℕ
 ends_accept {es} {n} {IsFirst} {k} {p} {q} {head} {tail} {head'} {tail'} {s} {t} at f j u =
     let g : Grows p q = Joins-grow f.no_next j in
     let new : Taken es q (k + 1) s t = record { joined = j.next_here; by = (k, omega arith, at) } in
-    -- the list that s ends, and the one that t begins
+    -- the chain that ends with s, and the chain that begins with t
     let front : (p.prev (head s) ≡ None) × (tail (head s) ≡ s) × LinksLead es p k (head s) s = u.ends s f.s_in f.no_next in
     let back : (p.next (tail t) ≡ None) × (head (tail t) ≡ t) = u.starts t f.t_in f.no_prev in
     let e_in : tail t < n = (u.inside t f.t_in).1 in
@@ -198,7 +198,7 @@ ends_accept {es} {n} {IsFirst} {k} {p} {q} {head} {tail} {head'} {tail'} {s} {t}
           (cases_eq y (head s));
     }
 
--- ---- before the first edge
+-- Before the first edge.
 pub linked_none : (es : List Edge) (n : ℕ) (IsFirst : ℕ → Type 0) (p : Links) → ((x : ℕ) → p.next x ≡ None) →
     ((x : ℕ) → p.prev x ≡ None) → IsLinked es n IsFirst 0 p
 linked_none es n IsFirst p next prev = record {
@@ -218,7 +218,7 @@ ends_none es n p head tail next prev hs ts = record {
   starts = λ h below none. rw (ts h below) (next h, hs h below);
 }
 
--- ---- the lists of the code
+-- The lists of the code.
 pub record IsReady (es : List Edge) (n : ℕ) (IsFirst : ℕ → Type 0) (k : ℕ) (l : ChainLinks) : Type 0 where
   pub linked : IsLinked es n IsFirst k (told l.next.items l.prev.items)
   pub ends : KnowsEnds es n k (told l.next.items l.prev.items) (λ x. get_or l.head.items x 0) (λ x. get_or l.tail.items x 0)
@@ -227,7 +227,7 @@ pub record IsReady (es : List Edge) (n : ℕ) (IsFirst : ℕ → Type 0) (k : �
   pub head_len : length l.head.items ≡ n
   pub tail_len : length l.tail.items ≡ n
 
--- what `join` leaves
+-- the lists after `link`
 pub record IsJoined (a b : ChainLinks) (s t : ℕ) : Type 0 where
   pub next : b.next.items ≡ set a.next.items s (Some t)
   pub prev : b.prev.items ≡ set a.prev.items t (Some s)

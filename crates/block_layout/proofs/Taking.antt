@@ -1,4 +1,4 @@
--- From the order in which edges are listed to the order of their counts.
+-- From the order of edges in the list to the order by counts.
 use Rattle.std.proofs.Common.{◌≡◌, ◌<◌, ◌≤◌, ◌∙◌, ℕ, List, None, length, get_or, arith, ap, sym, subst, inl, inr, ⊎_elim}
 use Rattle.std.proofs.Common.{AllPairs, Contains}
 use Rattle.std.proofs.lemmas.Bool.{cases_lt}
@@ -18,7 +18,7 @@ use Rattle.block_layout.specs.declared.edge_counts.Edge.{Edge}
 abbrev nothing : Edge
 nothing = record { from = 0; to = 0; count = 0 }
 
--- a later edge of the list is a later edge
+-- an edge with a higher index comes later in the order by counts
 pub record IsInOrder (count : ℕ × ℕ → ℕ) (es : List Edge) : Type 0 where
   pub rises : (i j s t u v : ℕ) → i < j → IsEdgeNumber es i s t → IsEdgeNumber es j u v → IsEarlier count (s, t) (u, v)
 
@@ -74,7 +74,7 @@ leads : {es : List Edge} {p : Links} {k x y : ℕ} → LinksLead es p k x y → 
 leads run_stays = stays
 leads (run_goes r w) = goes (leads r) w.joined
 
--- the links that all edges make, taken in their order
+-- the links that all edges make, in the order of the list
 pub all_linked : (count : ℕ × ℕ → ℕ) (es : List Edge) (edges : List (ℕ × ℕ)) (n : ℕ) (IsFirst : ℕ → Type 0) (p : Links)
     → AreCounted count edges es → IsInOrder count es → IsLinked es n IsFirst (length es) p → ((x : ℕ) → n ≤ x → p.prev x ≡ None)
     → AreLinks edges count IsFirst p

@@ -1,5 +1,5 @@
--- There is at most one answer to which block follows which: an edge links its blocks in one answer if it does in another. This
--- goes by induction along the order of edges: on how far the count is below the sum of all, then on the source and the target.
+-- At most one choice of neighbours satisfies AreLinks: an edge makes a link in one such choice if it does in another. The proof is by
+-- induction along the order of edges: on the sum of all counts minus the edge's count, then on the source and the target.
 use Rattle.std.proofs.Common.{ℕ, zero, suc, ◌≡◌, ◌<◌, ◌≤◌, ◌-◌, ◌⊎◌, List, Option, Some, None, refl, sym, subst, inl, inr, arith}
 use Rattle.std.specs.Prelude.{Contains, sum_by}
 use Rattle.std.proofs.lemmas.List.Sums.{get_or-le-sum_by}
@@ -9,7 +9,7 @@ use Rattle.block_layout.specs.Links.{first_block, closes, stays, goes}
 use Rattle.block_layout.specs.Parts.{IsFirstBlock}
 use Rattle.block_layout.specs.Laws.{LinksLaw}
 
--- induction over numbers, from all lower ones
+-- induction over numbers, with the hypothesis for all lower ones
 from_lower : (P : ℕ → Type 0) → ((n : ℕ) → ((m : ℕ) → m < n → P m) → P n) → (k n : ℕ) → n < k → P n
 from_lower P step zero n less = absurd (omega arith)
 from_lower P step (suc k) n less = step n (λ m lower. from_lower P step k m (omega arith))
@@ -29,10 +29,10 @@ not_earlier count s t u same earlier = irreflexive (subst (λ v. IsEarlier count
 one_value : {x y : ℕ} → {o : Option ℕ} → o ≡ Some x → o ≡ Some y → x ≡ y
 one_value is is' = cc
 
--- ---- no links go round
+-- Links form no cycle.
 module _ (p : Links) (back : (s t : ℕ) → p.next s ≡ Some t → p.prev t ≡ Some s) (s t : ℕ) (joined : p.next s ≡ Some t)
     (round : Lead p t s) where
-  -- what links lead to from t follows a block that they lead to as well
+  -- a block to which links lead from t follows a block to which links also lead
   follows_one : {y : ℕ} → Lead p t y → (z : ℕ) × (p.next z ≡ Some y) × Lead p t z
   follows_one stays = (s, joined, round)
   follows_one (goes {y = z} way next) = (z, next, way)
@@ -47,7 +47,7 @@ module _ (p : Links) (back : (s t : ℕ) → p.next s ≡ Some t → p.prev t �
       let same : z ≡ y = one_value (back z x next') (back y x next) in
       begins_before way (subst (Lead p t) same way') none
 
--- ---- two answers
+-- Two choices of links.
 module _ (edges : List (ℕ × ℕ)) (count : ℕ × ℕ → ℕ) (IsFirst : ℕ → Type 0) where
   -- the links of q by earlier edges are links of p
   abbrev AreKeptBefore : Links → Links → ℕ → ℕ → Type 0
@@ -81,7 +81,7 @@ module _ (edges : List (ℕ × ℕ)) (count : ℕ × ℕ → ℕ) (IsFirst : ℕ
       by (inr out) = absurd (not_left_out p q are s t kept joined out)
 
   module _ (p q : Links) (are : AreLinks edges count IsFirst p) (are' : AreLinks edges count IsFirst q) where
-    -- an edge links its blocks in both answers, or in none
+    -- an edge makes a link in both choices, or in none
     record IsInBoth (s t : ℕ) : Type 0 where
       there : p.next s ≡ Some t → q.next s ≡ Some t
       here : q.next s ≡ Some t → p.next s ≡ Some t
@@ -99,7 +99,7 @@ module _ (edges : List (ℕ × ℕ)) (count : ℕ × ℕ → ℕ) (IsFirst : ℕ
             listed : (e : ℕ × ℕ) → Contains edges e → count e ≤ sum_by count edges
             listed e (k, within, same) = subst (λ f. count f ≤ sum_by count edges) same (get_or-le-sum_by count edges k e within)
 
-    -- an edge whose count is as far below the sum
+    -- every edge with this difference of the sum of counts and its count
     abbrev AreInBoth : ℕ → ℕ → ℕ → Type 0
     AreInBoth missing s t = sum_by count edges - count (s, t) ≡ missing → IsInBoth s t
 
@@ -122,7 +122,7 @@ module _ (edges : List (ℕ × ℕ)) (count : ℕ × ℕ → ℕ) (IsFirst : ℕ
         (λ missing higher. strong (λ x. (y : ℕ) → AreInBoth missing x y) (λ x lower. by_target missing x higher lower))
         (sum_by count edges - count (s, t)) s t refl
 
-    -- options that hold the same
+    -- options with the same contents are equal
     one_option : (a b : Option ℕ) → ((t : ℕ) → a ≡ Some t → b ≡ Some t) → ((t : ℕ) → b ≡ Some t → a ≡ Some t) → a ≡ b
     one_option (Some t) b to from = sym (to t refl)
     one_option None (Some t) to from = from t refl

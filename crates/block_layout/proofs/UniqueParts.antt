@@ -1,4 +1,4 @@
--- There is at most one answer to what the hot and the cold part of each function are.
+-- At most one choice of the hot and the cold part of each function satisfies AreParts.
 use Rattle.std.proofs.Common.{ℕ, zero, suc, ◌≡◌, ◌<◌, ◌≤◌, ◌⊎◌, ◌∙◌, Bool, true, false, List, [], ◌∷◌, ◌++◌, Option, Some, None}
 use Rattle.std.proofs.Common.{Contains, AllPairs, length, flat_map, refl, sym, ap, subst, inl, inr, ⊎_elim, arith}
 use Rattle.std.specs.Prelude.{IsSomeAnd, Vec, slice_get}
@@ -17,7 +17,7 @@ use Rattle.block_layout.specs.Laws.{PartsLaw, items_of}
 use Rattle.block_layout.proofs.ChainLists.{same_chain}
 use Rattle.block_layout.proofs.UniqueLinks.{one_answer}
 
--- ---- two lists of one set, in one order, which goes one way
+-- Two lists with the same members in the same asymmetric order.
 module _ {X : Type 0} (R : X → X → Type 0) (one_way : (x y : X) → R x y → R y x → ⊥) where
   abbrev HasAllOf : List X → List X → Type 0
   HasAllOf ys xs = (z : X) → Contains xs z → Contains ys z
@@ -55,7 +55,7 @@ module _ {X : Type 0} (R : X → X → Type 0) (one_way : (x y : X) → R x y �
       let rest' : HasAllOf xs ys = in_tail y ys xs up' (subst (λ z. HasAllOf (z ∷ xs) (y ∷ ys)) heads all') in
       ap (λ z. z ∷ xs) heads ∙ ap (λ zs. y ∷ zs) (same_list xs ys (tail_ordered x xs up) (tail_ordered y ys up') rest rest')
 
--- ---- the first block of a function
+-- The first block of a function.
 none_before : (blocks : List Block) (f k n : ℕ) (o : Option Block) → k < n → IsOf blocks f k → IsSomeAnd o (λ b. b.func ≡ f) →
     IsSomeAnd o (λ b. (j : ℕ) → j < n → IsOf blocks b.func j → ⊥) → ⊥
 none_before blocks f k n None less of is first = is
@@ -71,7 +71,7 @@ one_first blocks f k n of first of' first' = ⊎_elim
     (cases_lt n k))
     (cases_lt k n)
 
--- ---- hot chains
+-- Hot chains.
 one_way_at : (a b m n : ℕ) → (b < a) ⊎ ((a ≡ b) × (m < n)) → (a < b) ⊎ ((b ≡ a) × (n < m)) → ⊥
 one_way_at a b m n (inl more) (inl less) = omega arith
 one_way_at a b m n (inl more) (inr (same, less)) = omega arith
@@ -97,7 +97,7 @@ same_hot_part blocks weight links f a b one other =
     ∙ ap (λ cs. other.first.1 ++ flat_map (λ c. c.1) cs) others
     ∙ sym other.part_is
 
--- ---- the parts of all functions
+-- The parts of all functions.
 same_items : (count : ℕ) (one other : List (Vec ℕ Global)) → length one ≡ count → length other ≡ count →
     ((f : ℕ) → f < count → list_of one f ≡ list_of other f) → items_of one ≡ items_of other
 same_items count one other one_long other_long same =

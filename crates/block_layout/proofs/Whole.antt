@@ -69,7 +69,7 @@ module _ (count : ℕ × ℕ → ℕ) (blocks : List Block) (edges : List (ℕ �
         at (Some x) None none own = absurd none
         at (Some x) (Some y) same own = sym same ∙ own
 
--- Blocks are of functions of the list.
+-- Blocks are in functions of the list.
 pub of_functions : (funcs : List Func) (blocks : List Block) → All (IsOfFunction funcs) blocks → (k f : ℕ) →
     IsOf blocks f k → f < length funcs
 of_functions funcs blocks stretches k f is =

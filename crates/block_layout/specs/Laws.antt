@@ -1,4 +1,4 @@
--- The laws of chains, as statements. They speak of all blocks, edges and counts.
+-- The laws of chains, as statements about all blocks, edges and counts.
 use Rattle.std.specs.Prelude.{◌≡◌, ℕ, List, Vec, map}
 use Rattle.std.specs.declared.alloc.Global.{Global}
 use Rattle.rv_code.specs.declared.placed.Func.{Func}
@@ -8,7 +8,7 @@ use Rattle.edge_profile.specs.PairCounts.{Counted}
 use Rattle.block_layout.specs.Links.{Links, AreLinks}
 use Rattle.block_layout.specs.Parts.{IsFirstBlock, AreChains}
 
--- Edges and their counts determine the links: there is at most one answer to which block follows which ..
+-- Edges and their counts determine the links: at most one choice of neighbours satisfies AreLinks.
 abbrev pub LinksLaw : Type 0
 LinksLaw = (blocks : List Block) (edges : List (ℕ × ℕ)) (count : ℕ × ℕ → ℕ) (p q : Links) →
     AreLinks edges count (IsFirstBlock blocks) p → AreLinks edges count (IsFirstBlock blocks) q → p ≡ q
@@ -17,7 +17,7 @@ LinksLaw = (blocks : List Block) (edges : List (ℕ × ℕ)) (count : ℕ × ℕ
 abbrev pub items_of : List (Vec ℕ Global) → List (List ℕ)
 items_of lists = map (λ list. list.items) lists
 
--- .. and a profile the parts: at most one answer to which blocks are hot and cold, and in which order.
+-- A profile determines the parts: at most one choice of hot and cold blocks and of their order satisfies AreChains.
 abbrev pub PartsLaw : Type 0
 PartsLaw =
     (counts : ℕ → ℕ → ℕ) (pairs : List Counted) (funcs : List Func) (blocks : List Block) (edges : List (ℕ × ℕ))

@@ -12,11 +12,11 @@ use Rattle.edge_profile.specs.Weights.{block_weight, is_hot_function}
 use Rattle.block_layout.specs.EdgeCounts.{edge_count}
 use Rattle.block_layout.specs.Links.{Links, IsChain, AreLinks}
 
--- the block at a place is of the function at f
+-- the block with index k is in the function with index f
 abbrev pub IsOf : List Block → ℕ → ℕ → Type 0
 IsOf blocks f k = IsSomeAnd (slice_get blocks k) (λ b. b.func ≡ f)
 
--- a block is the first of its function: none before it is of that one
+-- a block is the first of its function: no earlier block is in this function
 abbrev pub IsFirstBlock : List Block → ℕ → Type 0
 IsFirstBlock blocks k = IsSomeAnd (slice_get blocks k) (λ b. (j : ℕ) → j < k → IsOf blocks b.func j → ⊥)
 
@@ -24,16 +24,16 @@ IsFirstBlock blocks k = IsSomeAnd (slice_get blocks k) (λ b. (j : ℕ) → j < 
 abbrev pub greatest : (ℕ → ℕ) → List ℕ → ℕ
 greatest weight chain = fold (λ most k. max most (weight k)) 0 chain
 
--- a chain, by the block that it begins with
+-- a chain: its first block, and all of its blocks
 abbrev pub Chain : Type 0
 Chain = ℕ × List ℕ
 
--- a chain goes before another: by its greatest weight, and then by lower address
+-- a chain comes before another: by greater greatest weight, and then by lower address
 abbrev pub IsChainBefore : (ℕ → ℕ) → Chain → Chain → Type 0
 IsChainBefore weight c d =
     (greatest weight d.1 < greatest weight c.1) ⊎ ((greatest weight c.1 ≡ greatest weight d.1) × (c.0 < d.0))
 
--- a chain of a function that doesn't begin with its first block, and has a hot block
+-- a chain of a function that doesn't begin with the function's first block, and has a hot block
 pub record IsHotChain (blocks : List Block) (weight : ℕ → ℕ) (links : Links) (f : ℕ) (c : Chain) : Type 0 where
   pub chain : IsChain links c.0 c.1
   pub of : IsOf blocks f c.0
@@ -50,8 +50,8 @@ pub record IsHotPart (blocks : List Block) (weight : ℕ → ℕ) (links : Links
   pub first_block : IsFirstBlock blocks first.0
   pub others_are : ListsAll (IsHotChain blocks weight links f) (IsChainBefore weight) others
 
--- The parts of each function. One that isn't hot has no hot part. What isn't in the hot part is the cold one, by
--- address.
+-- The parts of each function. A function that isn't hot has no hot part. The cold part has all other blocks, in order
+-- of their addresses.
 pub record AreParts (hot_functions : ℕ → Bool) (count : ℕ) (blocks : List Block) (weight : ℕ → ℕ) (links : Links)
     (parts : Chains) : Type 0 where
   pub hot_count : length parts.hot.items ≡ count
@@ -61,7 +61,7 @@ pub record AreParts (hot_functions : ℕ → Bool) (count : ℕ) (blocks : List 
   pub cold : (f : ℕ) → f < count →
       ListsNumbers (λ k. IsOf blocks f k × (Contains (hot_of parts f) k → ⊥)) (cold_of parts f)
 
--- the weight of the block at a place
+-- the weight of the block with index k
 abbrev pub weight_at : List Counted → List Func → List Block → ℕ → ℕ
 weight_at pairs funcs blocks k = option_map_or (block_weight pairs funcs) (slice_get blocks k) 0
 

@@ -1,4 +1,4 @@
-// Edges with their counts, in the order in which they may link blocks.
+// Edges with their counts, in the order in which they are considered for linking blocks.
 ghost use Rattle.std.specs.Prelude.{◌≡◌, ◌<◌, ◌≤◌, ℕ, All, AllPairs, IfOk, IsPermutation, IsSomeAnd, OnOk, length};
 ghost use Rattle.std.specs.Prelude.{slice_index_or};
 ghost use Rattle.rv_code.specs.declared.placed.Block.{Block};
@@ -16,7 +16,7 @@ use rv_code::{Block, Func};
 use std::alloc::Global;
 use std::cmp::Reverse;
 
-/// An edge between two blocks, by their places among the blocks, and how often control went along it.
+/// An edge between two blocks, by their indices, and how often control took it.
 #[derive(Clone, Copy)]
 pub struct Edge {
     pub from: usize,
@@ -24,8 +24,8 @@ pub struct Edge {
     pub count: u128,
 }
 
-/// The edges of positive count, in the order in which they may link blocks: by greater count, then by lower source and
-/// target.
+/// The edges with positive counts, in the order in which they are considered for linking blocks: by greater count, then
+/// by lower source and target.
 pub fn counted_edges(
     alloc: Global,
     funcs: &[Func],
@@ -42,7 +42,8 @@ pub fn counted_edges(
     ensures once { IfOk result (λ taken. AllPairs HaveOtherEnds taken.items) }
 {
     let mut taken = Vec::new(alloc);
-    // Edges ascend, as pairs do, and most lead on through the code: their pairs are near those of the edge before.
+    // Edges ascend, as pairs do, and most lead forward through the code: so an edge's pair is near that of the edge
+    // before.
     let mut near = 0;
     for edge in edges {
         let count = count_along(funcs, &blocks[edge.0], &blocks[edge.1], profile, &mut near);
@@ -78,7 +79,7 @@ fn count_along(
     profile.count_near(near, last, first)
 }
 
-// The address of instruction `inst` of the function of `block`.
+// The address of the instruction with index `inst` of the function of `block`.
 fn inst_address(funcs: &[Func], block: &Block, inst: usize) -> u64
     requires { IsSomeAnd (func_of funcs.now block.now) (λ func. inst < length func.insts.items) }
     ensures { result ≡ inst_address funcs.now block.now inst }

@@ -1,4 +1,4 @@
-// The parts of each function.
+// The parts of all functions.
 ghost use Rattle.std.specs.Prelude.{◌≡◌, ◌+◌, ◌<◌, ◌≤◌, ℕ, All, IfOk, None, length, slice_index, slice_index_or};
 ghost use Rattle.rv_code.specs.declared.placed.Block.{Block};
 ghost use Rattle.block_layout.specs.HotAndCold.{AreSplit, AreSplitTo, IsHotOrEmpty, IsFirstOf};
@@ -17,11 +17,11 @@ use std::alloc::Global;
 pub struct Split {
     pub hot: Vec<usize>,
     pub cold: Vec<usize>,
-    /// Where the blocks of the next function begin.
+    /// The index of the next function's first block.
     pub end: usize,
 }
 
-/// The hot and cold parts of the functions from 0 to before `count`.
+/// The hot and cold parts of the first `count` functions.
 pub fn function_parts(
     alloc: Global,
     count: usize,
@@ -55,7 +55,7 @@ pub fn function_parts(
     Ok(Chains { hot, cold })
 }
 
-// The parts of function `func`, whose blocks begin at `start`.
+// The parts of function `func`, whose first block is `start`.
 fn parts_from(
     alloc: Global,
     blocks: &[Block],
@@ -81,7 +81,7 @@ fn parts_from(
     Ok(Split { hot, cold, end })
 }
 
-// The hot part of the function whose blocks go from `start` to before `end`: empty, unless a block has some weight.
+// The hot part of a function with the blocks from `start` to before `end`: empty, unless a block has a positive weight.
 fn hot_blocks(
     alloc: Global,
     links: &ChainLinks,
@@ -102,7 +102,7 @@ fn hot_blocks(
     hot_part(alloc, links, weights, start, end)
 }
 
-// Where the blocks of function `func` end, which begin at `start`.
+// The end of the range of blocks of function `func`, which begins at `start`.
 fn end_of(blocks: &[Block], start: usize, func: usize) -> usize
     requires blocks { AreBlocksApart blocks.now }
     requires start { IsFirstOf blocks.now func start }

@@ -17,7 +17,7 @@ pub struct HotChain {
 }
 
 /// The chains with a hot block that begin after block `start` and before `end`, by greatest weight and then by first
-/// block. The chain that `start` itself begins stands before these in any case, so it isn't looked at.
+/// block. The chain that begins with `start` comes before them in any case, so it isn't included.
 pub fn hot_chains(
     alloc: Global,
     links: &ChainLinks,

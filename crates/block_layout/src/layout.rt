@@ -41,7 +41,7 @@ pub fn chains(
     chains_by(alloc, funcs, blocks, edges, profile, &weights)
 }
 
-/// As `chains`, for a caller that has `weights`, those that `block_weights` gives.
+/// The same as `chains`, for a caller that already has the `weights` of `block_weights`.
 pub fn chains_by(
     alloc: Global,
     funcs: &[Func],

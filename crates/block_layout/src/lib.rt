@@ -1,4 +1,4 @@
-//! The order of blocks within their functions: chains of blocks that often follow one another, hot ones first.
+//! The order of blocks within their functions: chains of blocks that often follow one another, hot chains first.
 #![tactic(auto)]
 
 mod edge_counts;
@@ -13,14 +13,14 @@ ghost use Rattle.block_layout.specs.Laws.{LinksLaw, PartsLaw};
 
 pub use layout::{chains, chains_by};
 
-/// A profile leaves no choice of links: whatever meets `AreLinks` for the same edges and counts has the same
-/// neighbours for each block.
+/// A law: edges and counts determine the links. Any two `Links` that satisfy `AreLinks` for the same edges and counts
+/// are equal. The function does nothing.
 pub fn links_law()
     ensures { LinksLaw }
 {}
 
-/// A profile leaves no choice of the order of blocks either: whatever meets `AreChains` for the same program and
-/// counts has the same lists of blocks.
+/// A law: a profile determines the order of blocks. Any two `Chains` that satisfy `AreChains` for the same program and
+/// counts have the same lists of blocks. The function does nothing.
 pub fn parts_law()
     ensures { PartsLaw }
 {}

@@ -1,4 +1,4 @@
-// Chains of blocks, linked one edge after another.
+// Chains of blocks, which are linked one edge after another.
 ghost use Rattle.std.specs.Prelude.{◌≡◌, ◌≢◌, ◌⊎◌, ◌↔◌, ◌<◌, ◌≤◌, ℕ, IfOk, IsTrue, MatchBool, None, Some, true, false};
 ghost use Rattle.std.specs.Prelude.{length, slice_index, slice_index_or, slice_set};
 ghost use Rattle.rv_code.specs.declared.placed.Block.{Block};
@@ -11,16 +11,16 @@ use rb_bytes::fault::NoMemory;
 use rv_code::Block;
 use std::alloc::Global;
 
-/// Chains so far, of blocks by their places.
+/// The chains so far, of blocks by their indices.
 #[derive(Drop)]
 pub struct ChainLinks {
     /// The block that follows each block.
     pub next: Vec<Option<usize>>,
     /// The block that precedes each block.
     pub prev: Vec<Option<usize>>,
-    /// For the last block of a chain, the first one. Not kept for other blocks.
+    /// For the last block of a chain, the first one. Not kept up to date for other blocks.
     pub head: Vec<usize>,
-    /// For the first block of a chain, the last one. Not kept for other blocks.
+    /// For the first block of a chain, the last one. Not kept up to date for other blocks.
     pub tail: Vec<usize>,
 }
 
@@ -47,7 +47,7 @@ impl ChainLinks {
     }
 
     // Whether block `to` may follow block `from`. The first block of a function (`is_first`) follows none, and `to` may
-    // not be the head of the chain that `from` ends, since that would become a ring.
+    // not be the head of the chain that ends with `from`, since the chain would become a ring.
     fn may_link(&self, from: usize, to: usize, is_first: bool) -> bool
         requires from_next { from < length self.now.next.items }
         requires to_prev { to < length self.now.prev.items }
@@ -63,7 +63,7 @@ impl ChainLinks {
         self.next[from].is_none() && self.prev[to].is_none() && !is_first && self.head[from] != to
     }
 
-    // Links the chain that block `from` ends and the one that block `to` begins.
+    // Joins the chain that ends with block `from` and the chain that begins with block `to`.
     fn link(&mut self, from: usize, to: usize)
         requires from_next { from < length self.old.next.items }
         requires to_prev { to < length self.old.prev.items }
@@ -87,7 +87,7 @@ impl ChainLinks {
     }
 }
 
-/// The chains that `edges` make of `blocks`: each in turn links its blocks, where these may still be linked.
+/// The chains that `edges` make of `blocks`: each edge in turn links its blocks, if they may still be linked.
 pub fn link_edges(alloc: Global, blocks: &[Block], edges: &[Edge]) -> Result<ChainLinks, NoMemory>
     requires blocks { AreBlocksApart blocks.now }
     requires inside { (i : ℕ) → i < length edges.now →

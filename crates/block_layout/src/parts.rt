@@ -10,7 +10,7 @@ use crate::walks::chain;
 use rb_bytes::fault::NoMemory;
 use std::alloc::Global;
 
-/// The hot part of a function whose blocks go from `start` to before `end`: the chain of its first block, and then its
+/// The hot part of a function with the blocks from `start` to before `end`: the chain of its first block, and then its
 /// other chains with a hot block.
 pub fn hot_part(
     alloc: Global,
@@ -58,7 +58,7 @@ pub fn cold_part(
     Ok(part)
 }
 
-// For each block from `start` to before `end` whether it is in `hot`.
+// For each block from `start` to before `end`, whether it is in `hot`.
 fn marks(alloc: Global, hot: &[usize], start: usize, end: usize) -> Result<Vec<bool>, NoMemory>
     requires hot { All (λ k. (start ≤ k) × (k < end)) hot.now }
     ensures length { IfOk result (λ marks. length marks.items ≡ end - start) }
@@ -72,7 +72,7 @@ fn marks(alloc: Global, hot: &[usize], start: usize, end: usize) -> Result<Vec<b
     Ok(marks)
 }
 
-/// Whether a block from `start` to before `end` has some weight.
+/// Whether a block from `start` to before `end` has a positive weight.
 pub fn is_hot(weights: &[u128], start: usize, end: usize) -> bool
     requires { end ≤ length weights.now }
     ensures { MatchBool result ((k : ℕ) × (start ≤ k) × (k < end) × (0 < slice_index weights.now k))

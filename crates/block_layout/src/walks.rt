@@ -1,4 +1,4 @@
-// Walks along chains.
+// Following chains from block to block.
 ghost use Rattle.std.specs.Prelude.{◌≡◌, ◌<◌, ◌≤◌, ℕ, List, All, IfOk, None, length, slice_index, slice_index_or};
 ghost use Rattle.block_layout.specs.Links.{IsChain};
 ghost use Rattle.block_layout.specs.Parts.{greatest};
@@ -8,7 +8,7 @@ use crate::links::ChainLinks;
 use rb_bytes::fault::NoMemory;
 use std::alloc::Global;
 
-/// The blocks of the chain that block `head` begins.
+/// The blocks of the chain that begins with block `head`.
 pub fn chain(alloc: Global, links: &ChainLinks, head: usize) -> Result<Vec<usize>, NoMemory>
     requires links { AreKept links.now }
     requires inside { head < length links.now.next.items }
@@ -25,7 +25,7 @@ pub fn chain(alloc: Global, links: &ChainLinks, head: usize) -> Result<Vec<usize
     Ok(chain)
 }
 
-/// The greatest weight of `blocks`, or 0 where there are none.
+/// The greatest weight of `blocks`, or 0 if there are none.
 pub fn greatest(weights: &[u128], blocks: &[usize]) -> u128
     requires { All (λ k. k < length weights.now) blocks.now }
     ensures { result ≡ greatest (λ k. slice_index weights.now k) blocks.now }

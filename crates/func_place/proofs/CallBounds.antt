@@ -1,4 +1,4 @@
--- Calls between units are of units, and count no more than the pairs.
+-- Calls between units are between units of the list, and their sum is at most the sum of the pairs.
 use Rattle.std.proofs.Common.{ℕ, ◌≡◌, ◌<◌, ◌≤◌, Option, Some, None, List, [], ◌∷◌, sym, ap, refl, arith}
 use Rattle.std.specs.Prelude.{All, sum_by, slice_index, option_and_then}
 use Rattle.std.specs.Option.{option_map}
@@ -10,7 +10,7 @@ use Rattle.func_place.specs.declared.calls.UnitCall.{UnitCall}
 use Rattle.rv_code.specs.layout.FunctionMembers.{function_at}
 use Rattle.func_place.specs.Placement.{unit_call, unit_calls}
 
--- a call that a pair gives
+-- the call of a pair
 pub record IsMade (units : List ℕ) (o q : Option ℕ) (n : ℕ) (call : UnitCall) : Type 0 where
   pub from : ℕ
   pub to : ℕ

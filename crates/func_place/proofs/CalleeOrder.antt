@@ -1,4 +1,4 @@
--- Calls by callee and caller.
+-- Calls sorted by callee and caller.
 use Rattle.std.proofs.Common.{ℕ, ◌≡◌, ◌<◌, ◌≤◌, ◌&&◌, ◌||◌, ◌⊎◌, inl, inr, Bool, List, get_or, arith, ◌∙◌, ap}
 use Rattle.std.specs.Prelude.{◌==◌, not, nat_lt, if◌then◌else◌, filter}
 use Rattle.std.specs.Cmp.{IsStrictWeakOrder}

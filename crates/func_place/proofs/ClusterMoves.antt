@@ -13,7 +13,7 @@ use Rattle.func_place.specs.internal.ClusterState.{count_of, size_at, heat_at, M
 use Rattle.func_place.proofs.GroupMoves.{IsJoined, count_new, joined_from, grouped_joined, number_among, number_elsewhere}
 use Rattle.func_place.proofs.GroupMoves.{group_among, group_elsewhere}
 
--- The heats after a merge: 0 for both, and then the sum for the one that was kept.
+-- The heats after a merge: 0 for both, and then the sum for the one that is kept.
 
 abbrev pub merged : List ℕ → ℕ → ℕ → ℕ → ℕ → List ℕ
 merged hs first second kept sum = set (set (set hs first 0) second 0) kept sum
@@ -281,7 +281,7 @@ hot_cluster {sizes} {heats} {cluster} {state} s k u u_in hot =
     let is = k.heat u u_in in
     omega arith
 
--- A unit's cluster stays where it is: it is its caller's, or both together are too large.
+-- A unit's cluster doesn't move: it is its caller's, or both together are too large.
 
 no_more : (b : Bool) → (b && false) ≡ false
 no_more true = refl

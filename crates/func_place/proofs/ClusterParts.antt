@@ -1,4 +1,4 @@
--- Clusters share out the hot units: each stands in one of them, once.
+-- Clusters partition the hot units: each is in exactly one cluster, once.
 use Rattle.std.proofs.Common.{ℕ, ◌≡◌, ◌≢◌, ◌<◌, ◌≤◌, ◌+◌, ⊎_elim, Bool, true, false, List, [], ◌∷◌, ◌++◌, Option, Some, None}
 use Rattle.std.proofs.Common.{arith, refl, sym, ◌∙◌, ap}
 use Rattle.std.specs.Prelude.{◌==◌, nat_le, sum_by, filter}
@@ -40,7 +40,7 @@ no_test xs u h = ⊎_elim
     both : (b : Bool) → b ≡ true → b ≡ false → ⊥
     both b i j = cc
 
--- nothing stands in two clusters
+-- no unit is in two clusters
 apart : {warm : ℕ → Bool} {cluster : ℕ → List ℕ} → IsClustered warm cluster → (v u x : ℕ) → has_unit (cluster v) u ≡ false →
     0 < times x (cluster v) → 0 < times x (cluster u) → ⊥
 apart {warm} {cluster} c v u x out in_v in_u =
@@ -122,7 +122,7 @@ appended_clustered {warm} {cluster} sizes v u c warm_is =
     (cases_Bool fits)))
     (cases_Bool (has_unit (cluster v) u))
 
--- the units that are taken and their callers are warm
+-- the units that are taken and their callers are hot
 pub folded_clustered : (warm : ℕ → Bool) (sizes : List ℕ) (caller : ℕ → Option ℕ) →
     ((u v : ℕ) → caller u ≡ Some v → warm v ≡ true) → (taken : List ℕ) (cluster : ℕ → List ℕ) →
     ((u : ℕ) → 0 < times u taken → warm u ≡ true) → IsClustered warm cluster →
@@ -139,9 +139,9 @@ folded_clustered warm sizes caller callers (u ∷ us) cluster all c =
     go None e = rw e c
     go (Some v) e = rw e (appended_clustered sizes v u c (callers u v e ∙ sym here))
 
--- The clusters that are named by their first units.
+-- Clusters by their first units.
 
--- the first of a list that isn't empty
+-- the first unit of a list that isn't empty
 record IsFirst (xs : List ℕ) (h : ℕ) : Type 0 where
   starts : begins xs h ≡ true
   inside : 0 < times h xs
@@ -160,7 +160,7 @@ first_of_list (h ∷ xs) u some = (
   record { starts = starts_itself h xs; inside = let t = times-same h xs in omega arith; only = λ x e. starts_only h x xs e },
 )
 
--- a warm unit stands in the clusters of the heads as often as the head of its cluster was taken
+-- the clusters of the first units contain a hot unit once
 heads_warm : {warm : ℕ → Bool} {cluster : ℕ → List ℕ} → IsClustered warm cluster → (taken : List ℕ) (w : ℕ) →
     ((u : ℕ) → warm u ≡ true → times u taken ≡ 1) → warm w ≡ true →
     sum_by (λ x. times w (cluster x)) (cluster_heads cluster taken) ≡ 1

@@ -1,8 +1,8 @@
--- Lists that get all items of a set, one step after another.
+-- Lists to which all items of a set are appended, step by step.
 use Rattle.std.proofs.Common.{◌⊎◌, inl, inr, ⊎_elim, ◌↔◌, List}
 use Rattle.rb_bytes.specs.Lists.{Gains}
 
--- one set and then another
+-- the items of one set and then of another
 pub gains_both : {A : Type 0} (xs was now : List A) (P Q R : A → Type 0) → ((x : A) → (P x ⊎ Q x) ↔ R x) → Gains xs was P →
     Gains was now Q → Gains xs now R
 gains_both xs was now P Q R all first more x =

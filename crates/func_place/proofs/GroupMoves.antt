@@ -34,7 +34,7 @@ apart_more {n} {numbers} {lists} a =
 
 -- Two groups become one.
 
--- what a move asks of the new list
+-- the conditions on the list of the joined group
 pub record IsBoth (g : Grouping) (left kept : ℕ) (both : List ℕ) : Type 0 where
   pub apart : left ≢ kept
   pub left_in : left < length g.lists
@@ -103,7 +103,7 @@ grouped_moves {old} {new} {left} {kept} {both} s m b =
           (cases_eq q kept));
     }
 
--- One of two groups went to the other, the second's members behind the first's.
+-- The members of one group moved to the other, with the second group's members after the first's.
 pub record IsJoined (old new : Grouping) (first second kept : ℕ) : Type 0 where
   pub left : ℕ
   pub moves : MovesGroup old new left kept (list_at old.lists first ++ list_at old.lists second)
@@ -147,7 +147,7 @@ pub grouped_joined : {old new : Grouping} {first second kept : ℕ} → IsGroupe
     IsJoined old new first second kept → IsGrouped new
 grouped_joined s j = grouped_moves s j.moves j.both
 
--- a member of the new group has its number, and another one keeps its own
+-- a member of the joined group has its number, and any other member keeps its own
 in_both : (m left kept : ℕ) (b : Bool) → b ≡ ((m == left) || (m == kept)) → b ≡ true → (if m == left then kept else m) ≡ kept
 in_both m left kept b is h = grind (arith, common_steps)
 

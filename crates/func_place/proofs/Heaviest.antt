@@ -1,4 +1,4 @@
--- The heaviest caller of a unit, said by what sets it apart.
+-- The heaviest caller of a unit, by its properties.
 use Rattle.std.proofs.Common.{ℕ, suc, ◌≡◌, ◌≢◌, ◌⊎◌, ◌<◌, ◌≤◌, ◌==◌, ◌&&◌, inl, inr, ⊎_elim, true, false, List, [], ◌∷◌, length}
 use Rattle.std.proofs.Common.{get_or, Option, None, Some, arith, refl, ◌∙◌}
 use Rattle.std.specs.Prelude.{if◌then◌else◌, slice_index}
@@ -11,12 +11,12 @@ use Rattle.func_place.specs.Calls.{calls_between}
 abbrev pub call_at : List UnitCall → ℕ → UnitCall
 call_at calls k = get_or calls k (record { from = 0; to = 0; count = 0 })
 
--- v counts more to u than w does, or as much and isn't higher
+-- v has a greater sum to u than w, or an equal one and v isn't higher
 abbrev pub CallsMore : List UnitCall → ℕ → ℕ → ℕ → Type 0
 CallsMore calls u v w =
     (calls_between calls w u < calls_between calls v u) ⊎ ((calls_between calls w u ≡ calls_between calls v u) × (v ≤ w))
 
--- another hot unit that counts something to u
+-- another hot unit with a positive sum to u
 pub record Calls (heats : List ℕ) (calls : List UnitCall) (u v : ℕ) : Type 0 where
   pub other : v ≢ u
   pub hot : 0 < slice_index heats v
@@ -38,7 +38,7 @@ more_self calls u v = inr (refl, omega arith)
 pub same_pair : (a b x y : ℕ) → ((a == x) && (b == y)) ≡ true → (a ≡ x) × (b ≡ y)
 same_pair a b x y h = (grind (arith, common_steps), grind (arith, common_steps))
 
--- what is counted stands in the list
+-- a pair with a positive sum occurs in the list
 pub occurs : (calls : List UnitCall) (w u : ℕ) → 0 < calls_between calls w u →
     (k : ℕ) × (k < length calls) × ((call_at calls k).from ≡ w) × ((call_at calls k).to ≡ u)
 occurs [] w u some = absurd (omega arith)

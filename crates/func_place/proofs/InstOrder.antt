@@ -1,4 +1,4 @@
--- Instructions lie in their functions, and go by address, in a function and from one function to the next.
+-- Instructions are in their functions, and are in order of their addresses, in a function and from one function to the next.
 use Rattle.std.proofs.Common.{◌≡◌, ◌∙◌, sym, ap, subst, ℕ, ◌+◌, ◌<◌, ◌≤◌, ⊎_elim, Some, List, length, get_or, arith}
 use Rattle.std.specs.Prelude.{◌^◌, slice_get}
 use Rattle.std.proofs.lemmas.Bool.{cases_lt}

@@ -1,9 +1,9 @@
--- The lowest member of each group, as far as a list of numbers was read.
+-- The lowest member of each group, for the numbers read so far.
 use Rattle.std.proofs.Common.{ℕ, ◌≡◌, ◌<◌, ◌≤◌, List, length}
 use Rattle.std.specs.Prelude.{slice_index}
 
--- For each number its lowest member so far, or the number of members where there is none; and for each member that of
--- its number.
+-- For each number its lowest member so far, or the number of all members if it has none; and for each member so far the lowest one with its
+-- number.
 pub record AreLows (numbers : List ℕ) (i : ℕ) (lows firsts : List ℕ) : Type 0 where
   pub lows_len : length lows ≡ length numbers
   pub firsts_len : length firsts ≡ i

@@ -1,4 +1,4 @@
--- Members that move from one group to another.
+-- Moving members from one group to another.
 use Rattle.std.proofs.Common.{ℕ, suc, arith, length-set, ◌≡◌, ◌≢◌, ◌<◌, List, [], ◌∷◌, ◌++◌, length, map, get_or, set, sym, ◌∙◌}
 use Rattle.std.proofs.Common.{ap, append_assoc}
 use Rattle.std.proofs.lemmas.List.{get_or-map, map-set, get_or-set_other}
@@ -7,7 +7,7 @@ use Rattle.std.specs.Prelude.{All}
 use Rattle.std.specs.declared.collections.VecDeque.{VecDeque}
 use Rattle.func_place.specs.internal.Groups.{list_at, numbered}
 
--- one more member goes from the front of what is left to the end of what was moved
+-- one more member moves from the front of the rest to the end of those moved
 pub end_more : (many few few' many0 few0 : List ℕ) (u : ℕ) → many ++ few ≡ many0 ++ few0 → few ≡ (u ∷ []) ++ few' →
     (many ++ u ∷ []) ++ few' ≡ many0 ++ few0
 end_more many few few' many0 few0 u all is = append_assoc many (u ∷ []) few' ∙ ap (λ (xs : List ℕ). many ++ xs) (sym is) ∙ all

@@ -1,4 +1,4 @@
--- The definition of the heaviest caller gives what sets it apart, and only one unit is so set apart.
+-- The definition of the heaviest caller gives a unit with its properties, and only one unit has them.
 use Rattle.std.proofs.Common.{get_or, subst, ℕ, zero, suc, ◌≡◌, ◌≢◌, ◌⊎◌, ◌<◌, ◌≤◌, ◌+◌, ◌&&◌, not, inl, inr, ⊎_elim, Bool, true}
 use Rattle.std.proofs.Common.{false, List, [], ◌∷◌, length, Option, None, Some, arith, refl, sym, ap}
 use Rattle.std.specs.Prelude.{◌==◌, nat_lt, filter, All, slice_index}
@@ -39,7 +39,7 @@ calls_yes heats calls u v h =
 calls_no : (heats : List ℕ) (calls : List UnitCall) (u v : ℕ) → calls_it heats calls u v ≡ false → Calls heats calls u v → ⊥
 calls_no heats calls u v h c = untested (slice_index heats v) v u (calls_between calls v u) h c.hot c.other c.some
 
--- two tests in turn
+-- one filter after another
 filter-filter : (p q : ℕ → Bool) (xs : List ℕ) → filter p (filter q xs) ≡ filter (λ x. q x && p x) xs
 filter-filter p q [] = refl
 filter-filter p q (x ∷ xs) = ⊎_elim
@@ -55,7 +55,7 @@ callers-from_to : (heats : List ℕ) (calls : List UnitCall) (u : ℕ) →
 callers-from_to heats calls u = filter-filter (λ v. not (v == u) && nat_lt 0 (calls_between calls v u))
     (λ v. nat_lt 0 (slice_index heats v)) (range_with_len 0 (length heats))
 
--- the best of a unit v and the callers from a on
+-- the heaviest of a unit v and the callers from a on
 record BestFrom (heats : List ℕ) (calls : List UnitCall) (u a k v r : ℕ) : Type 0 where
   calls_u : Calls heats calls u r
   first : CallsMore calls u r v
@@ -143,7 +143,7 @@ only_heaviest heats calls u None (Some w) a b = absurd (a w b.0)
 only_heaviest heats calls u (Some v) None a b = absurd (b v a.0)
 only_heaviest heats calls u (Some v) (Some w) a b = ap Some (one calls u v w (a.1 w b.0) (b.1 v a.0))
 
--- what the definition gives
+-- the result of the definition
 is_heaviest : (heats : List ℕ) (calls : List UnitCall) (u : ℕ) →
     IsHeaviestBelow heats calls u (length heats) (heaviest_caller heats calls u)
 is_heaviest heats calls u =
@@ -153,7 +153,7 @@ is_heaviest heats calls u =
     subst (λ (vs : List ℕ). IsHeaviestBelow heats calls u (length heats) (reduce (heavier calls u) vs))
     (sym (callers-from_to heats calls u)) h
 
--- past the units none is hot
+-- a hot unit is in the list
 hot_inside : (heats : List ℕ) (w : ℕ) → 0 < slice_index heats w → w < length heats
 hot_inside heats w hot = ⊎_elim (λ (lt : w < length heats). lt) (λ (ge : length heats ≤ w).
     let past = get_or_past heats w 0 ge in
@@ -164,7 +164,7 @@ heaviest-is : (heats : List ℕ) (calls : List UnitCall) (u : ℕ) (o : Option �
 heaviest-is heats calls u o h = only_heaviest heats calls u o _ h
     (heaviest_below heats calls u (length heats) _ (λ w c. hot_inside heats w c.hot) (is_heaviest heats calls u))
 
--- past the units no unit is called
+-- a number that isn't a unit has no callers
 pub callers_found : (heats : List ℕ) (calls : List UnitCall) (best : List (Option ℕ)) (u : ℕ) →
     All (λ c. (c.from < length heats) × (c.to < length heats)) calls → length best ≡ length heats →
     ((w : ℕ) → w < length heats → IsHeaviest heats calls w (get_or best w None)) →

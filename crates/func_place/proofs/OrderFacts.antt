@@ -1,4 +1,4 @@
--- What the order of blocks is like: it has all blocks, and those of tied functions are near each other.
+-- Properties of the order of blocks: it contains all blocks, and blocks of tied functions are near each other.
 use Rattle.std.proofs.Common.{subst, ℕ, zero, suc, ◌≡◌, ◌<◌, ◌≤◌, ◌+◌, ◌*◌, ◌-◌, ⊎_elim, Bool, true, false, cond, Option}
 use Rattle.std.proofs.Common.{Some, List, [], ◌∷◌, ◌++◌, length, get_or, take, drop, arith, refl, sym, ◌∙◌, ap, add-one}
 use Rattle.std.specs.Prelude.{◌==◌, All, if◌then◌else◌, sum_by, filter, slice_index, slice_get}
@@ -30,14 +30,14 @@ use Rattle.func_place.proofs.UnitSums.{no_block, no_if}
 use Rattle.func_place.proofs.WorstPositive.{stretch_of}
 use Rattle.func_place.specs.Clusters.{AreWithinLimit}
 
--- Sums over sums.
+-- Double sums.
 
 one_more : (weight : ℕ → ℕ) (b : Bool) (k : ℕ) (rest : List ℕ) →
     sum_by weight (cond b (k ∷ rest) rest) ≡ (if b then weight k else 0) + sum_by weight rest
 one_more weight true k rest = sum_by-cons weight k rest
 one_more weight false k rest = omega arith
 
--- numbers by their class, over classes
+-- sums by class, over all classes
 swap : (weight class : ℕ → ℕ) (ks fs : List ℕ) →
     sum_by (λ f. sum_by weight (filter (λ k. class k == f) ks)) fs ≡ sum_by (λ k. weight k * times (class k) fs) ks
 swap weight class [] fs = sum-zero (λ f. sum_by weight (filter (λ k. class k == f) [])) fs (λ f some. refl)
@@ -61,7 +61,7 @@ shift f a zero = refl
 shift f a (suc n) = sum_by-cons f (a + 1) (range_with_len (a + 1 + 1) n) ∙ ap (λ (m : ℕ). f (a + 1) + m) (shift f (a + 1) n)
     ∙ sym (sum_by-cons (λ k. f (k + 1)) a (range_with_len (a + 1) n))
 
--- a sum over the places of a list
+-- a sum over the indices of a list
 sum_range : {A : Type 0} (g : Option A → ℕ) (xs : List A) →
     sum_by (λ k. g (slice_get xs k)) (range_with_len 0 (length xs)) ≡ sum_by (λ x. g (Some x)) xs
 sum_range g [] = refl
@@ -85,7 +85,7 @@ in_filter p x xs some = ⊎_elim
 equal : (m n : ℕ) → (m == n) ≡ true → m ≡ n
 equal m n h = grind (arith, common_steps)
 
--- Functions that are tied are of one unit.
+-- Functions that are tied are in the same unit.
 
 tied_on : {funcs : List Func} {f g : ℕ} (h : ℕ) → AreTied funcs f g → AreTied funcs g h → AreTied funcs f h
 tied_on h r itself = r
@@ -104,7 +104,7 @@ one_unit funcs units f g are f_in g_in tied =
     let high = are.lowest g (slice_index units f) g_in (tied_on (slice_index units f) (tied_back g tied) (are.tied f f_in)) in
     omega arith
 
--- A program: its blocks are of functions, and parts have them all.
+-- A program: its blocks are in functions, and the parts contain all blocks.
 
 owner_is : (blocks : List Block) (k : ℕ) → k < length blocks → func_of_block blocks k ≡ (get_or blocks k no_block).func
 owner_is blocks k lt = rw (slice_get-get_or blocks k no_block lt) refl
@@ -121,7 +121,7 @@ unit_in : (funcs : List Func) (units : List ℕ) → AreUnits funcs units → (f
     slice_index units f < length funcs
 unit_in funcs units are f f_in = units_inside funcs units are f 0 (omega (arith, are.len))
 
--- how often a block stands in the parts of a function
+-- how often a block is in the parts of a function
 part_times : (funcs : List Func) (blocks : List Block) (chains : Chains) → HaveAllBlocks funcs blocks chains → (k f : ℕ) →
     f < length funcs → times k (hot_of chains f) + times k (cold_of chains f)
     ≡ (if func_of_block blocks k == f then times k (range_with_len 0 (length blocks)) else 0)
@@ -148,7 +148,7 @@ value_if : (b : Bool) (v t : ℕ) → t ≡ 1 → (if b then v else 0) * t ≡ (
 value_if true v t e = rw e (omega arith)
 value_if false v t e = omega arith
 
--- over all units
+-- how often a block is in the parts of all units
 all_times : (funcs : List Func) (blocks : List Block) (chains : Chains) (units : List ℕ) → AreUnits funcs units →
     All (IsOfFunction funcs) blocks → HaveAllBlocks funcs blocks chains → (k : ℕ) →
     sum_by (λ u. times k (unit_part (hot_of chains) units u) + times k (unit_part (cold_of chains) units u))
@@ -182,7 +182,7 @@ small_at : (sizes : List ℕ) → AreWithinLimit sizes → (u : ℕ) → slice_i
 small_at sizes low u = ⊎_elim (λ (lt : u < length sizes). low u 0 lt)
     (λ (ge : length sizes ≤ u). let z = get_or_past sizes u 0 ge in omega arith) (cases_lt u (length sizes))
 
--- The order has all blocks.
+-- The order contains all blocks.
 
 pub has_all : (funcs : List Func) (blocks : List Block) (chains : Chains) (pairs : List (ℕ × ℕ × ℕ)) (weight : Block → ℕ)
     (order : List ℕ) → All (IsOfFunction funcs) blocks → (p : IsPlacement funcs blocks chains pairs weight order) →

@@ -21,7 +21,7 @@ use Rattle.func_place.specs.internal.FirstFaults.{IsFirstLong, IsFirstKept, Stay
 use Rattle.func_place.proofs.InstOrder.{inst_order, inst_order-within}
 use Rattle.func_place.specs.Clusters.{AreWithinLimit}
 
--- there is one list of units
+-- the list of units is unique
 pub one_list : (funcs : List Func) (xs ys : List ℕ) → AreUnits funcs xs → AreUnits funcs ys → xs ≡ ys
 one_list funcs xs ys a b = ext_get_or 0 xs ys (a.len ∙ sym b.len) (λ f lt.
     let f_in : f < length funcs = omega (arith, a.len) in
@@ -34,7 +34,7 @@ size_of : (funcs : List Func) (blocks : List Block) (units sizes : List ℕ) (u 
 size_of funcs blocks units sizes u are is u_in = ap (λ (xs : List ℕ). slice_index xs u) is
     ∙ get_or-map-range_with_len (unit_size funcs units blocks) 0 (length units) u u 0 (omega (arith, are.len)) (omega arith)
 
--- a unit that is too long is one by any list of units
+-- a unit that is too long, in any list of units
 long_size : (funcs : List Func) (blocks : List Block) (units sizes : List ℕ) (place : ℕ) → AreUnits funcs units → sizes
     ≡ by_unit (unit_size funcs units blocks) units → (long : IsLongUnit funcs blocks place) →
     near_limit < slice_index sizes long.unit
@@ -131,7 +131,7 @@ least_kept funcs blocks place least UnitTooLong other e has = absurd (omega arit
 least_kept funcs blocks place least KeptBranch other e has = least other has
 least_kept funcs blocks place least _ other e has = absurd has
 
--- where a branch that leaves stands
+-- the indices of a branch that leaves its function
 record IsKeptAt (funcs : List Func) (place : ℕ) : Type 0 where
   f : ℕ
   func : Func

@@ -10,7 +10,7 @@ use Rattle.func_place.specs.Ranks.{IsInOrder, begins, denser, denser_by, cluster
 use Rattle.func_place.specs.internal.Groups.{group_of}
 use Rattle.func_place.specs.internal.ClusterState.{Keeps, count_of, size_at, heat_at, ClusterState}
 
--- a rank is that of the cluster that its unit begins
+-- a rank belongs to the cluster of its unit
 pub record IsRank (sizes heats : List ℕ) (cluster : ℕ → List ℕ) (r : Rank) : Type 0 where
   pub heat : r.heat ≡ total heats (cluster r.unit)
   pub size : r.size ≡ total sizes (cluster r.unit)

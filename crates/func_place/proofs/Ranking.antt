@@ -92,7 +92,7 @@ above_zero n h = grind (arith, common_steps)
 pub no_more : (n : ℕ) → n ≤ 0 → nat_lt 0 n ≡ false
 no_more n h = grind (arith, common_steps)
 
--- the places of units after other units
+-- units are appended to other units
 pub passes_after : (p : ℕ → Bool) (n : ℕ) (before line : List ℕ) → p n ≡ true → line ≡ before ++ filter p (range_with_len 0 n) →
     line ++ n ∷ [] ≡ before ++ filter p (range_with_len 0 (n + 1))
 passes_after p n before line h is = rw (is, filter_more p n, h) (append_assoc before (filter p (range_with_len 0 n)) (n ∷ []))

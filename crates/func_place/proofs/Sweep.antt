@@ -1,4 +1,4 @@
--- The heaviest callers by the first calls of a list that is sorted by callee and caller.
+-- The heaviest callers, by the first calls of a list that is sorted by callee and caller.
 use Rattle.std.proofs.Common.{subst, set, ℕ, ◌≡◌, ◌≢◌, ◌⊎◌, ◌<◌, ◌≤◌, ◌+◌, ◌==◌, ◌&&◌, inl, inr, ⊎_elim, Bool, true, false, List, length}
 use Rattle.std.proofs.Common.{take, get_or, Option, None, Some, arith, refl, sym, ◌∙◌, ap, length-set, get_or-set_same, get_or-set_other}
 use Rattle.std.specs.Prelude.{if◌then◌else◌, slice_index, sum_by}
@@ -32,13 +32,13 @@ at_most : (b : Bool) (c : ℕ) → (if b then c else 0) ≤ c
 at_most true c = omega arith
 at_most false c = omega arith
 
--- with one more call a sum is still within that of all
+-- a sum with one more call is at most the sum of all calls
 pub within_all : (calls : List UnitCall) (i w u : ℕ) → i < length calls →
     calls_between (take i calls) w u + (call_at calls i).count ≤ sum_by (λ c. c.count) calls
 within_all calls i w u lt = sum_by_more_le_part (λ (c : UnitCall). added c w u) (λ (c : UnitCall). c.count) calls i
     (record { from = 0; to = 0; count = 0 }) lt (λ c. at_most ((c.from == w) && (c.to == u)) c.count)
 
--- what is counted by the first calls stands among them
+-- a pair with a positive sum in the first calls occurs among them
 pub occurs_before : (calls : List UnitCall) (i w u : ℕ) → i ≤ length calls → 0 < calls_between (take i calls) w u →
     (k : ℕ) × (k < i) × ((call_at calls k).from ≡ w) × ((call_at calls k).to ≡ u)
 occurs_before calls i w u le some =
@@ -49,7 +49,7 @@ occurs_before calls i w u le some =
     get_or-take i calls k.0 (record { from = 0; to = 0; count = 0 }) lt in
     (k.0, lt, ap (λ (c : UnitCall). c.from) (sym same) ∙ k.2, ap (λ (c : UnitCall). c.to) (sym same) ∙ k.3)
 
--- The pair that was counted last, with its sum so far.
+-- The current pair, with its sum so far.
 
 pub record IsRun (calls : List UnitCall) (i : ℕ) (run : UnitCall) : Type 0 where
   pub count : run.count ≡ calls_between (take i calls) run.from run.to
@@ -59,7 +59,7 @@ pub record IsRun (calls : List UnitCall) (i : ℕ) (run : UnitCall) : Type 0 whe
 other_ends : (a b x y : ℕ) → ((a == x) && (b == y)) ≡ false → a ≡ x → b ≡ y → ⊥
 other_ends a b x y h p q = grind (arith, common_steps)
 
--- the next pair wasn't counted yet
+-- the next pair has no count yet
 nothing_yet : (calls : List UnitCall) (i : ℕ) (run : UnitCall) → i < length calls → IsRun calls i run →
     ((run.from == (call_at calls i).from) && (run.to == (call_at calls i).to)) ≡ false →
     calls_between (take i calls) (call_at calls i).from (call_at calls i).to ≡ 0
@@ -104,7 +104,7 @@ run_step calls i run ordered lt r =
       after = λ k le k_lt. let o = ordered i k none (omega arith) k_lt in record { to = o.to; from = o.from };
     }
 
--- The greatest of what others count, and the lowest of those that count so much. Others are those that may be callers.
+-- The greatest sum of the other units, and the lowest unit with this sum. Other units are those that may be callers.
 
 pub record IsTopOf (Other : ℕ → Type 0) (count : ℕ → ℕ) (best : Option ℕ) (most : ℕ) : Type 0 where
   pub bound : (w : ℕ) → Other w → count w ≤ most
@@ -167,7 +167,7 @@ same_top : (Other : ℕ → Type 0) (f g : ℕ → ℕ) (most : ℕ) (best : Opt
     IsTopOf Other g best most
 same_top Other f g most best same t = subst (λ (h : ℕ → ℕ). IsTopOf Other h best most) (λ i w. sym (same w) i) t
 
--- The units of all calls, by the first ones.
+-- The units of all calls, by the first calls.
 
 abbrev pub MayCall : List ℕ → ℕ → ℕ → Type 0
 MayCall heats u w = (w ≢ u) × (0 < slice_index heats w)

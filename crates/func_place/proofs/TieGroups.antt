@@ -52,7 +52,7 @@ agrees_skip ties i a b g is e old =
       together = λ f h f_in h_in same_number. together-more (old.together f h f_in h_in same_number);
     }
 
--- a pair of two groups, which become one
+-- a pair from two groups, which become one
 
 same_new : (m n left kept : ℕ) → m ≡ n → (if m == left then kept else m) ≡ (if n == left then kept else n)
 same_new m n left kept e = grind (arith, common_steps)
@@ -70,7 +70,7 @@ kept_now : (m left kept : ℕ) → (m ≡ left) ⊎ (m ≡ kept) → (if m == le
 kept_now m left kept (inl e) = grind (arith, common_steps)
 kept_now m left kept (inr e) = grind (arith, common_steps)
 
--- the numbers of both ends
+-- the numbers of both members
 abbrev Meets : ℕ → ℕ → ℕ → ℕ → Type 0
 Meets m n left kept = ((m ≡ left) × (n ≡ kept)) ⊎ ((m ≡ kept) × (n ≡ left))
 

@@ -1,4 +1,4 @@
--- The sets of pairs of functions that lead into each other, by how they are collected.
+-- The sets of pairs of functions that lead into each other, in the order in which they are collected.
 use Rattle.std.proofs.Common.{◌≡◌, ◌≢◌, sym, ap, subst, refl, ℕ, ◌+◌, ◌<◌, ◌≤◌, ◌⊎◌, inl, inr, ⊎_elim, ◌↔◌, Bool, true, false}
 use Rattle.std.proofs.Common.{IsTrue, Option, Some, None, List, length, arith, ◌∙◌}
 use Rattle.std.specs.Prelude.{slice_get, if◌then◌else◌}
@@ -12,9 +12,9 @@ use Rattle.rv_code.specs.layout.FunctionMembers.{function_at}
 use Rattle.func_place.specs.Units.{jumps, falls_into, LeadsNear}
 use Rattle.func_place.specs.internal.TieList.{TiesAt, TiesFrom, TiesOf, Ties}
 
--- One instruction: its target and where it falls.
+-- One instruction: its target and the address to which it falls through.
 
--- an address that there may be
+-- an optional address
 abbrev pub TiesTo : List Func → ℕ → Option ℕ → ℕ × ℕ → Type 0
 TiesTo funcs f to t = (a : ℕ) × (to ≡ Some a) × TiesAt funcs f a t
 

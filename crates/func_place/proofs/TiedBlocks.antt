@@ -1,5 +1,5 @@
--- A function is tied to the one into which an instruction of it leads, by the addresses of instructions. For those who
--- know of nearness by instructions and not by functions.
+-- A function is tied to the function into which one of its instructions leads, by the addresses of instructions. This is for crates that
+-- speak of nearness of instructions and not of functions.
 use Rattle.std.proofs.Common.{subst, ℕ, ◌≡◌, ◌<◌, ◌≤◌, ◌+◌, Some, List, get_or, arith, ap}
 use Rattle.std.specs.Prelude.{slice_get}
 use Rattle.std.proofs.lemmas.Option.{slice_get_within, get_or_from_slice_get}

@@ -1,4 +1,4 @@
--- How often a number stands in a list.
+-- How often a number occurs in a list.
 use Rattle.std.proofs.Common.{ℕ, zero, suc, ◌≡◌, ◌≢◌, ◌<◌, ◌≤◌, ◌+◌, ◌*◌, ⊎_elim, Bool, true, false, List, [], ◌∷◌, ◌++◌, length}
 use Rattle.std.proofs.Common.{get_or, arith, refl, sym, ◌∙◌, ap}
 use Rattle.std.specs.Prelude.{◌==◌, if◌then◌else◌, sum_by, filter}
@@ -108,7 +108,7 @@ times-range_in u n lt = range_from u 0 n (omega arith) (omega arith)
 pub times-range_out : (u n : ℕ) → n ≤ u → times u (range_with_len 0 n) ≡ 0
 times-range_out u n ge = range_past u 0 n (omega arith)
 
--- a member stands somewhere
+-- a member occurs at some index
 pub stands_at : (u : ℕ) (xs : List ℕ) → 0 < times u xs → (k : ℕ) × (k < length xs) × ((d : ℕ) → get_or xs k d ≡ u)
 stands_at u [] some = absurd (let z = times-nil u in omega arith)
 stands_at u (x ∷ xs) some = ⊎_elim (λ (e : x ≡ u). (0, omega arith, λ d. e))
@@ -123,7 +123,7 @@ times-get_or (x ∷ xs) (suc k) d lt =
     let t = times-cons (get_or xs k d) x xs in
     let rest = times-get_or xs k d (omega arith) in omega arith
 
--- lists with the same members, each as often
+-- lists with the same members, each equally often, are permutations
 pub permutation_from_times : (xs ys : List ℕ) → ((u : ℕ) → times u xs ≡ times u ys) → IsPermutation xs ys
 permutation_from_times [] [] same = IsPermutation-refl []
 permutation_from_times [] (y ∷ ys) same = absurd (let a = same y in let b = times-same y ys in let c = times-nil y in omega arith)
@@ -189,7 +189,7 @@ sum-plus f g (x ∷ xs) =
     let c = sum_by-cons g x xs in
     omega arith
 
--- one number's value, as often as it stands there
+-- the value of one number, as often as it occurs
 one_value : (x c v : ℕ) → x ≡ c → (if c == x then v else 0) ≡ v
 one_value x c v e = grind (arith, common_steps)
 

@@ -1,4 +1,4 @@
--- All units stand in the line of units, each once; and bands cut this line.
+-- The line of units contains each unit exactly once, and bands split this line.
 use Rattle.std.proofs.Common.{subst, ℕ, ◌≡◌, ◌≢◌, ◌<◌, ◌≤◌, ◌+◌, ◌-◌, ⊎_elim, Bool, true, false, List, [], ◌∷◌, ◌++◌, length}
 use Rattle.std.proofs.Common.{take, drop, arith, refl, sym, ◌∙◌, ap, append_assoc}
 use Rattle.std.specs.Prelude.{◌==◌, nat_lt, All, sum_by, slice_index}
@@ -114,7 +114,7 @@ bands_all sizes (u ∷ us) done bands small a =
     subst (λ (xs : List ℕ). AreBands sizes xs (fold (put_unit sizes) (put_unit sizes bands u) us)) (append_assoc done (u ∷ []) us)
     (bands_all sizes us (done ++ u ∷ []) (put_unit sizes bands u) small (bands_step sizes done u bands (small u) a))
 
--- a line cut into bands
+-- a line that is split into bands
 pub record AreCut (sizes : List ℕ) (hot cold : ℕ → List ℕ) (line order : List ℕ) : Type 0 where
   pub bands : List (List ℕ)
   pub line_is : flat bands ≡ line
@@ -134,7 +134,7 @@ cut_of sizes hot cold line small =
       order_is = flat_map_more (blocks_of hot cold) [] bands.0 bands.1;
     }
 
--- How often a block stands in bands.
+-- How often a block is in bands.
 
 pub blocks_times : (hot cold : ℕ → List ℕ) (k : ℕ) (band : List ℕ) →
     times k (blocks_of hot cold band) ≡ sum_by (λ u. times k (hot u) + times k (cold u)) band
@@ -158,7 +158,7 @@ order_times hot cold k (b ∷ bs) =
 
 -- Blocks of one unit are near each other.
 
--- what is asked of parts, where each block has a unit and a size
+-- the conditions on parts, if each block has a unit and a size
 pub record AreOwned (owner weight : ℕ → ℕ) (sizes : List ℕ) (hot cold : ℕ → List ℕ) : Type 0 where
   pub hot_own : (u k : ℕ) → 0 < times k (hot u) → owner k ≡ u
   pub cold_own : (u k : ℕ) → 0 < times k (cold u) → owner k ≡ u
@@ -216,7 +216,7 @@ segment_le weight xs i n =
     let b = sum_by-take-drop weight xs i in
     omega arith
 
--- a stretch of the front of two lists
+-- a stretch at the front of two concatenated lists
 segment_front : (xs ys : List ℕ) (i n : ℕ) → i + n ≤ length xs → take n (drop i (xs ++ ys)) ≡ take n (drop i xs)
 segment_front xs ys i n le =
     let count = length-drop i xs in

@@ -1,4 +1,4 @@
--- Sums over the blocks of units, and the blocks of their functions, as far as lists were read.
+-- Sums over the blocks of units, and the blocks of their functions, for the items read so far.
 use Rattle.std.proofs.Common.{ℕ, ◌≡◌, ◌≢◌, ◌<◌, ◌≤◌, ◌+◌, ◌==◌, Bool, true, false, List, [], ◌∷◌, ◌++◌, length, take}
 use Rattle.std.proofs.Common.{map, get_or, set, sym, ◌∙◌, ap, refl, arith, ⊎_elim, length-set, get_or-set_same, get_or-set_other}
 use Rattle.std.specs.Prelude.{if◌then◌else◌, filter, sum, slice_index}
@@ -124,7 +124,7 @@ pub record AreEmpty (n : ℕ) (own : List (List ℕ)) : Type 0 where
   pub len : length own ≡ n
   pub empty : (u : ℕ) → list_at own u ≡ []
 
--- lists of what is kept in a list of owners
+-- the list of one item, in a list of items
 pub list_of : {X : Type 0} (f : X → List ℕ) (xs : List X) (q : ℕ) (d : X) → q < length xs → d ≡ get_or xs q d →
     f d ≡ list_at (map f xs) q
 list_of f xs q d lt is = ap f is ∙ sym (get_or-map f xs q d [] lt)

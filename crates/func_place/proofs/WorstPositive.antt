@@ -1,4 +1,4 @@
--- Every block has a worst size above 0, so each unit with a heat has one.
+-- Every block has a worst size above 0, so each unit with heat has a size.
 use Rattle.std.proofs.Common.{subst, ℕ, ◌≡◌, ◌<◌, ◌≤◌, ◌+◌, ◌-◌, ◌==◌, ⊎_elim, Bool, true, false, Option, Some, None, List, []}
 use Rattle.std.proofs.Common.{◌∷◌, length, take, drop, get_or, ◌∙◌, ap, refl, arith}
 use Rattle.std.specs.Prelude.{All, IsSomeAnd, if◌then◌else◌, sum_by, slice_index}
@@ -75,7 +75,7 @@ worst_some funcs b are s =
     (λ (h : func.whole ≡ false). rw h (block_some func b.first b.last laid o.ordered o.within))
     (cases_Bool func.whole))
 
--- a unit with a heat has a block, and so a size
+-- a unit with heat has a block, and so a size
 
 one_some : (c : Bool) (w s ws ss : ℕ) → 0 < s → (0 < ws → 0 < ss) → 0 < (if c then w else 0) + ws → 0 < (if c then s else 0) + ss
 one_some true w s ws ss some rest h = omega arith

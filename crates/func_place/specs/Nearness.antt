@@ -1,4 +1,4 @@
--- That what belongs together lies near each other in an order of blocks.
+-- Blocks of tied functions are near each other in an order of blocks.
 use Rattle.std.specs.Prelude.{ℕ, ◌+◌, ◌-◌, ◌<◌, ◌≤◌, List, length, sum_by, take, drop, slice_index}
 use Rattle.rv_code.specs.declared.placed.Func.{Func}
 use Rattle.rv_code.specs.declared.placed.Block.{Block}
@@ -6,8 +6,8 @@ use Rattle.rv_code.specs.layout.BlockOrders.{func_of_block}
 use Rattle.rv_code.specs.layout.WorstSizes.{near_limit, worst_at}
 use Rattle.func_place.specs.Units.{AreTied}
 
--- From one block to another of a function that is tied to its function, both included, there are so few bytes by
--- worst size that a JAL reaches.
+-- From one block to another one of a function that is tied to its function, both included, there are at most
+-- `near_limit` bytes by worst size, so a JAL reaches.
 abbrev pub AreTiedNear : List Func → List Block → List ℕ → Type 0
 AreTiedNear funcs blocks order = (i j : ℕ) → i ≤ j → j < length order →
     AreTied funcs (func_of_block blocks (slice_index order i)) (func_of_block blocks (slice_index order j)) →

@@ -11,8 +11,8 @@ use Rattle.rv_code.specs.layout.FunctionMembers.{function_at}
 use Rattle.func_place.specs.Units.{AreUnits, unit_sum, unit_size, unit_part, by_unit}
 use Rattle.func_place.specs.UnitOrder.{IsUnitOrder}
 
--- What a pair of addresses counts from unit to unit, where both lie in functions.
--- A pair has its addresses and its count.
+-- The count of a pair of addresses as a count from unit to unit, if both addresses are in functions. A pair has its
+-- addresses and its count.
 abbrev pub unit_call : List Func → List ℕ → ℕ × ℕ × ℕ → Option UnitCall
 unit_call funcs units p =
     option_and_then (λ f. option_map (λ g. record {
@@ -24,8 +24,8 @@ unit_call funcs units p =
 abbrev pub unit_calls : List Func → List ℕ → List (ℕ × ℕ × ℕ) → List UnitCall
 unit_calls funcs units pairs = filter_map (unit_call funcs units) pairs
 
--- The units of functions stand in their order, by worst size, by the weights of their blocks, which say how
--- often these run, and by what is counted between them. In each unit the functions go by address.
+-- The units are in their order: by worst size, by the weights of their blocks (how often these ran), and by the counts
+-- between units. In each unit the functions are in order of their addresses.
 pub record IsPlacement (funcs : List Func) (blocks : List Block) (chains : Chains) (pairs : List (ℕ × ℕ × ℕ))
     (weight : Block → ℕ) (order : List ℕ) : Type 0 where
   pub units : List ℕ

@@ -4,30 +4,30 @@ use Rattle.std.specs.List.Sorted.{IsPermutation, IsSortedBy}
 use Rattle.std.specs.Option.{option_map_or}
 use Rattle.func_place.specs.Clusters.{total}
 
--- the list has all members, each as often, and none comes after one that it is before
+-- the list is a permutation of the members, and no item comes after one that it should precede
 pub record IsInOrder {A : Type 0} (before : A → A → Bool) (members list : List A) : Type 0 where
   pub each : IsPermutation members list
   pub ordered : IsSortedBy before list
 
--- units rank by heat, the greater first, then the lower unit first
+-- the order of units: by greater heat, then by lower number
 abbrev pub hotter : List ℕ → ℕ → ℕ → Bool
 hotter heats u v =
     nat_lt (slice_index heats v) (slice_index heats u) || ((slice_index heats v == slice_index heats u) && nat_lt u v)
 
--- a cluster is named by its first unit
+-- u is the first unit of a cluster
 abbrev pub begins : List ℕ → ℕ → Bool
 begins units u = option_map_or (λ v. v == u) (slice_get units 0) false
 
 abbrev pub cluster_heads : (ℕ → List ℕ) → List ℕ → List ℕ
 cluster_heads cluster taken = filter (λ u. begins (cluster u) u) taken
 
--- clusters rank by density, which is heat divided by size, the greater first, then the lower unit first;
--- compared by cross products
+-- the order of clusters: by greater density, which is heat divided by size, then by lower first unit; compared by cross
+-- products
 abbrev pub denser_by : ℕ → ℕ → ℕ → ℕ → ℕ → ℕ → Bool
 denser_by heat size u heat' size' v =
     nat_lt (heat' * size) (heat * size') || ((heat' * size == heat * size') && nat_lt u v)
 
--- the rank of clusters by their first units
+-- the order of clusters, by their first units
 abbrev pub denser : List ℕ → List ℕ → (ℕ → List ℕ) → ℕ → ℕ → Bool
 denser sizes heats cluster u v =
     denser_by (total heats (cluster u)) (total sizes (cluster u)) u (total heats (cluster v))

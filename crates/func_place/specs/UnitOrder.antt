@@ -1,5 +1,5 @@
--- The blocks of units in their new order. Units are numbers, with their worst sizes and heats as lists,
--- what is counted between them, and the blocks of their hot and cold parts.
+-- The blocks of units in their new order. Units are numbers, with lists of their worst sizes and heats, the counts
+-- between them, and the blocks of their hot and cold parts.
 use Rattle.std.specs.Prelude.{ℕ, ◌≡◌, ◌==◌, List, ◌++◌, length, filter, slice_index}
 use Rattle.std.specs.List.{flat_map, range_with_len}
 use Rattle.func_place.specs.declared.calls.UnitCall.{UnitCall}
@@ -15,8 +15,8 @@ cold_units heats = filter (λ u. slice_index heats u == 0) (range_with_len 0 (le
 abbrev pub unit_clusters : List ℕ → List ℕ → List UnitCall → List ℕ → ℕ → List ℕ
 unit_clusters sizes heats calls taken = clusters_of sizes (heaviest_caller heats calls) taken
 
--- The hot units are taken by heat and form clusters. The clusters stand by density, and after them the cold
--- units, by number. All go into bands in this order.
+-- The hot units are taken by heat and form clusters. The clusters are in order of density, and the cold units come
+-- after them, by number. This line of units is split into bands.
 pub record IsUnitOrder (sizes heats : List ℕ) (calls : List UnitCall) (hot cold : ℕ → List ℕ)
     (order : List ℕ) : Type 0 where
   pub taken : List ℕ

@@ -1,4 +1,4 @@
-// Units in bands.
+// Splitting the line of units into bands.
 ghost use Rattle.std.specs.Prelude.{◌≡◌, ◌<◌, ◌≤◌, ◌++◌, All, length, OnOk, IfOk, map};
 ghost use Rattle.std.specs.List.{flat_map};
 ghost use Rattle.func_place.specs.Bands.{blocks_of, order_of};
@@ -8,8 +8,8 @@ ghost use Rattle.func_place.specs.Clusters.{AreWithinLimit};
 use rv_code::worst_sizes::NEAR_LIMIT;
 use std::alloc::{AllocError, Global};
 
-/// The blocks of `units`, band by band. A band has units of at most `NEAR_LIMIT` bytes together, and the hot parts of
-/// all of them before their cold parts. `sizes`, `hot` and `cold` are those of each unit.
+/// The blocks of `units`, band by band. The units of a band have at most `NEAR_LIMIT` bytes in all, and the hot parts
+/// of all of them come before their cold parts. `sizes`, `hot` and `cold` have an entry for each unit.
 pub fn order_units(
     alloc: Global,
     sizes: &[u128],

@@ -1,4 +1,4 @@
-// Which other unit calls a unit most.
+// The heaviest caller of each unit.
 ghost use Rattle.std.specs.Prelude.{◌≡◌, ℕ, ◌+◌, ◌<◌, ◌^◌, None, All, length, IfOk, sum_by, slice_index_or};
 ghost use Rattle.std.specs.List.Sorted.{IsPermutation};
 ghost use Rattle.func_place.specs.Calls.{heaviest_caller};
@@ -7,8 +7,8 @@ ghost use Rattle.func_place.specs.internal.HeaviestCallers.{AreByCallee, more_of
 use crate::calls::UnitCall;
 use std::alloc::{AllocError, Global};
 
-/// For each unit the other hot unit that calls it most often, and of several the lowest; None where no other hot unit
-/// calls it.
+/// For each unit the other hot unit that calls it most often, the lowest of several. `None` if no other hot unit calls
+/// it.
 pub fn heaviest_callers(
     alloc: Global,
     heats: &[u128],
@@ -24,7 +24,7 @@ pub fn heaviest_callers(
     heaviest_of_sorted(alloc, heats, &sorted)
 }
 
-// The counts sorted by the unit that is called, and then by the caller.
+// The counts, sorted by callee and then by caller.
 fn by_callee(alloc: Global, calls: &[UnitCall]) -> Result<Vec<UnitCall>, AllocError>
     ensures each { IfOk result (λ v. IsPermutation calls.now v.items) }
     ensures ordered { IfOk result (λ v. AreByCallee v.items) }
@@ -34,7 +34,8 @@ fn by_callee(alloc: Global, calls: &[UnitCall]) -> Result<Vec<UnitCall>, AllocEr
     Ok(sorted)
 }
 
-// Counts of one pair follow one another, so their sum is at hand when the last of them is reached.
+// The heaviest callers, from calls that are sorted by callee and caller: counts of one pair follow one another, so the
+// pair's sum is complete at the last of them.
 fn heaviest_of_sorted(
     alloc: Global,
     heats: &[u128],
@@ -64,8 +65,8 @@ fn heaviest_of_sorted(
     Ok(heaviest)
 }
 
-// `run` sums up the counts of a pair. Gives it with `call` added where that is of the same pair, and else what `call`
-// begins.
+// `run` has the sum of the counts of a pair so far. Returns `run` with the count of `call` added if `call` is of the
+// same pair, otherwise `call`.
 fn more_of(run: &UnitCall, call: &UnitCall) -> UnitCall
     requires { run.now.count + call.now.count < 2 ^ 128 }
     ensures { result ≡ more_of run.now call.now }

@@ -1,7 +1,6 @@
-// What is counted from unit to unit.
+// Counts from unit to unit.
 
-/// How often control went from one unit to another, or within one. A unit has the index of its lowest function as its
-/// number.
+/// How often control went from one unit to another, or within one. A unit's number is the index of its lowest function.
 #[derive(Clone, Copy)]
 pub struct UnitCall {
     pub from: usize,

@@ -22,7 +22,7 @@ pub struct Clusters {
     groups: Groups,
     /// The worst size of each group.
     totals: Vec<u128>,
-    /// The heat of each group; 0 where it became part of another one.
+    /// The heat of each group; 0 if the group was joined to another one.
     heats: Vec<u128>,
 }
 
@@ -48,7 +48,7 @@ impl Clusters {
         })
     }
 
-    // Puts two clusters together, the second after the first.
+    // Joins two clusters, the second after the first.
     fn join(&mut self, alloc: Global, first: usize, second: usize) -> Result<(), AllocError>
         requires sound { IsValidState (state_of self.old) }
         requires apart { first ≢ second }
@@ -66,7 +66,7 @@ impl Clusters {
         Ok(())
     }
 
-    // Appends the cluster of `unit` to that of its `caller`, where these are two and small enough together.
+    // Appends the cluster of `unit` to the cluster of its `caller`, if they are different and small enough together.
     fn append(&mut self, alloc: Global, caller: usize, unit: usize) -> Result<(), AllocError>
         requires sound { IsValidState (state_of self.old) }
         requires caller_in { caller < count_of (state_of self.old) }
@@ -85,7 +85,7 @@ impl Clusters {
         Ok(())
     }
 
-    /// Whether a unit begins its cluster.
+    /// Whether a unit is the first of its cluster.
     pub fn begins(&self, unit: usize) -> bool
         requires sound { IsValidState (state_of self.now) }
         requires unit_in { unit < count_of (state_of self.now) }
@@ -94,7 +94,7 @@ impl Clusters {
         self.groups.begins(unit)
     }
 
-    /// The rank of a unit's cluster, for a unit that begins it.
+    /// The rank of a cluster, by its first unit.
     pub fn rank(&self, unit: usize) -> Rank
         requires sound { IsValidState (state_of self.now) }
         requires unit_in { unit < count_of (state_of self.now) }
@@ -128,7 +128,8 @@ impl Clusters {
     }
 }
 
-// The clusters after the units of `taken`, in turn, were each appended to the cluster of their heaviest caller.
+// The clusters after each unit of `taken`, in turn, was appended with its cluster to the cluster of its heaviest
+// caller.
 fn fold_units(
     alloc: Global,
     sizes: &[u128],
@@ -157,8 +158,8 @@ fn fold_units(
     Ok(clusters)
 }
 
-/// The clusters of hot units: those of `taken` go, in turn, each with its cluster behind the cluster of the unit that
-/// calls it most, where both together are small enough.
+/// The clusters of hot units: each unit of `taken`, in turn, goes with its cluster after the cluster of the unit that
+/// calls it most, if both together are small enough.
 pub fn cluster_units(
     alloc: Global,
     sizes: &[u128],

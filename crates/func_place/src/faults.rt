@@ -1,4 +1,4 @@
-// What keeps code from being placed.
+// Faults of placement.
 ghost use Rattle.std.specs.Prelude.{◌≡◌, ◌<◌, ◌≤◌, All, MatchOption, length};
 ghost use Rattle.func_place.specs.Faults.{leaves};
 ghost use Rattle.func_place.specs.internal.FirstFaults.{IsFirstLong, IsFirstLeaving, IsFirstKept, StaysIn};
@@ -9,7 +9,7 @@ use rv_code::functions::func_holds;
 use rv_code::worst_sizes::NEAR_LIMIT;
 use rv_code::{Func, Placed};
 
-/// Where the first unit starts that is longer than `NEAR_LIMIT`. `sizes` has the worst size of each unit.
+/// The start of the first unit that is longer than `NEAR_LIMIT`. `sizes` has the worst size of each unit.
 pub fn first_long(funcs: &[Func], sizes: &[u128]) -> Option<u64>
     requires { length sizes.now ≡ length funcs.now }
     ensures { MatchOption result (AreWithinLimit sizes.now) (IsFirstLong funcs.now sizes.now) }
@@ -22,8 +22,8 @@ pub fn first_long(funcs: &[Func], sizes: &[u128]) -> Option<u64>
     None
 }
 
-/// The address of the first branch or instruction of two bytes that leads out of a function which moves as one piece.
-/// Such an instruction keeps its bytes, so it can't be made to reach far.
+/// The address of the first branch or two-byte jump that leaves a function which moves as one piece. Such an
+/// instruction keeps its bytes, so it can't be made to reach far.
 pub fn first_kept(funcs: &[Func]) -> Option<u64>
     ensures { MatchOption result (All StaysIn funcs.now) (IsFirstKept funcs.now) }
 {

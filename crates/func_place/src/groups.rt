@@ -1,4 +1,4 @@
-// Numbers in groups that become larger.
+// A partition of numbers into groups, which can be joined.
 ghost use Rattle.std.specs.Prelude.{◌≡◌, ◌≢◌, ℕ, ◌<◌, ◌≤◌, [], ◌∷◌, ◌++◌, All, length, OnOk, IfOk, slice_index};
 ghost use Rattle.func_place.specs.Ranks.{begins};
 ghost use Rattle.func_place.specs.internal.Groups.{grouping_of, list_at, group_of, IsGrouped, numbered, Joins};
@@ -7,12 +7,12 @@ use std::alloc::{AllocError, Global};
 use std::collections::VecDeque;
 use std::mem;
 
-/// The numbers below some number, in groups. Each group has a number, and its members stand in an order.
+/// The numbers below some bound, in groups. Each group has a number, and its members are in an order.
 #[derive(Drop)]
 pub struct Groups {
-    /// For each member the number of its group.
+    /// For each member, the number of its group.
     numbers: Vec<usize>,
-    /// The members of each group; none where it became part of another one.
+    /// The members of each group; empty if the group was joined to another one.
     lists: Vec<VecDeque<usize>>,
 }
 
@@ -35,8 +35,8 @@ impl Groups {
         Ok(Groups { numbers, lists })
     }
 
-    /// Puts two groups together, the second after the first. The shorter one's members get the number of the other, so
-    /// each member moves at most as often as the length of its group can double. Returns the number that was kept.
+    /// Joins two groups, the second after the first. The members of the shorter one get the number of the other, so a
+    /// member gets a new number only if its group at least doubles. Returns the number that is kept.
     pub fn join(&mut self, alloc: Global, first: usize, second: usize) -> Result<usize, AllocError>
         requires grouped { IsGrouped (grouping_of self.old) }
         requires apart { first ≢ second }
@@ -88,7 +88,7 @@ impl Groups {
         line.extend_from_slice(back)
     }
 
-    /// For each member the lowest one of its group.
+    /// For each member, the lowest member of its group.
     pub fn lowest_members(&self, alloc: Global) -> Result<Vec<usize>, AllocError>
         requires grouped { IsGrouped (grouping_of self.now) }
         ensures len { IfOk result (λ v. length v.items ≡ length (grouping_of self.now).lists) }
@@ -104,7 +104,7 @@ impl Groups {
     }
 }
 
-// For each place the first place with the same number.
+// For each index, the first index with the same number.
 fn lowest_of_groups(alloc: Global, numbers: &[usize]) -> Result<Vec<usize>, AllocError>
     requires { All (λ q. q < length numbers.now) numbers.now }
     ensures len { IfOk result (λ v. length v.items ≡ length numbers.now) }

@@ -1,4 +1,5 @@
-//! Where functions go: functions that call each other near each other, hot code apart from cold code.
+//! The order of functions in the new code: functions that call each other are near each other, and hot code is apart
+//! from cold code.
 #![tactic(auto)]
 
 mod bands;

@@ -1,4 +1,4 @@
-// The place of each block in the new code.
+// The order of all blocks in the new code.
 ghost use Rattle.std.specs.Prelude.{◌≡◌, ℕ, ◌<◌, ◌≤◌, ◌^◌, All, IfOk, IfErr, OnOk, MatchOption, length, map, sum};
 ghost use Rattle.std.specs.Prelude.{sum_by};
 ghost use Rattle.rb_bytes.specs.declared.fault.Refusal.{Refusal};
@@ -29,8 +29,8 @@ use rb_bytes::fault::{Fault, FaultKind, Refusal};
 use rv_code::{Block, Chains, Func, Plan};
 use std::alloc::{AllocError, Global};
 
-/// All blocks in their new order, by what a profile counts; or the first of the faults `UnitTooLong` and `KeptBranch`.
-/// `chains` has the blocks of the hot and the cold part of each function.
+/// All blocks in their new order, by the counts of a profile; or the first of the faults `UnitTooLong` and
+/// `KeptBranch`. `chains` has the blocks of the hot and the cold part of each function.
 pub fn place(
     alloc: Global,
     funcs: &[Func],
@@ -56,9 +56,9 @@ pub fn place(
     place_by(alloc, funcs, blocks, chains, profile.pairs(), &weights)
 }
 
-/// All blocks in their new order, by a profile's pairs with their counts and the weights that these give to blocks; or
-/// the first of the faults `UnitTooLong` and `KeptBranch`. `chains` has the blocks of the hot and the cold part of
-/// each function.
+/// All blocks in their new order, by the pairs of a profile with their counts, and the weights that these give to
+/// blocks; or the first of the faults `UnitTooLong` and `KeptBranch`. `chains` has the blocks of the hot and the cold
+/// part of each function.
 pub fn place_by(
     alloc: Global,
     funcs: &[Func],
@@ -88,8 +88,8 @@ pub fn place_by(
     Ok(Plan { order })
 }
 
-/// Answers whether code can be placed, as `place` does, without its order: nothing, or the first of the faults
-/// `UnitTooLong` and `KeptBranch`.
+/// Checks whether code can be placed, without computing its order: nothing, or the first of the faults `UnitTooLong`
+/// and `KeptBranch`, as `place` gives it.
 pub fn check_units(alloc: Global, funcs: &[Func], blocks: &[Block]) -> Result<(), Refusal>
     requires funcs { AreLaidOut funcs.now }
     requires blocks { All (IsOfFunction funcs.now) blocks.now }
@@ -100,8 +100,8 @@ pub fn check_units(alloc: Global, funcs: &[Func], blocks: &[Block]) -> Result<()
     Ok(())
 }
 
-// The units of functions, and the worst size of each, where code can be placed; or the first of the faults
-// `UnitTooLong` and `KeptBranch`.
+// The unit of each function, and the worst size of each unit; or the first of the faults `UnitTooLong` and
+// `KeptBranch`.
 fn sized_units(
     alloc: Global,
     funcs: &[Func],
@@ -128,7 +128,7 @@ fn sized_units(
 }
 
 // All blocks in their new order. `units` has the unit of each function, `sizes` the worst size of each unit, and
-// `weights` how often each block runs.
+// `weights` how often each block ran.
 fn order_blocks(
     alloc: Global,
     funcs: &[Func],

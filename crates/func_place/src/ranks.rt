@@ -26,14 +26,14 @@ pub fn hot_order(alloc: Global, heats: &[u128]) -> Result<Vec<usize>, AllocError
     Ok(taken)
 }
 
-// The heat of `unit`, and 0 past all units, since the key of a sort takes any number.
+// The heat of `unit`; 0 for a number that isn't a unit, since the key of a sort takes any number.
 fn heat_of(heats: &[u128], unit: usize) -> u128
     ensures { result ≡ slice_index heats.now unit }
 {
     heats.get(unit).copied().unwrap_or(0)
 }
 
-/// A cluster's heat and worst size, and its first unit. Only clusters with a size can be compared by density.
+/// A cluster's heat and worst size, and its first unit. Only clusters whose size isn't 0 can be compared by density.
 #[derive(Clone, Copy)]
 pub struct Rank {
     pub heat: u128,
@@ -44,8 +44,8 @@ pub struct Rank {
     ghost small: { size ≤ near_limit },
 }
 
-// The denser cluster comes first; of two that are as dense, the one that begins with the lower unit. Density is heat
-// divided by size, compared by cross products, which the bounds of `Rank` keep below 2^121.
+// The denser cluster comes first; if both are equally dense, the one whose first unit is lower. The density is heat
+// divided by size. It is compared by cross products, which the bounds of `Rank` keep below 2^121.
 fn compare(a: &Rank, b: &Rank) -> Ordering
     ensures { is_lt result ≡ denser_by a.now.heat a.now.size a.now.unit b.now.heat b.now.size b.now.unit }
 {
@@ -53,7 +53,7 @@ fn compare(a: &Rank, b: &Rank) -> Ordering
     less.cmp(&more).then(a.unit.cmp(&b.unit))
 }
 
-// Puts clusters in their order.
+// Sorts clusters by density.
 fn sort_ranks(ranks: &mut Vec<Rank>) -> Result<(), AllocError>
     ensures { IfOk result (λ _. IsInOrder
         (λ a b. denser_by a.heat a.size a.unit b.heat b.size b.unit) ranks.old.items ranks.new.items) }
@@ -62,7 +62,8 @@ fn sort_ranks(ranks: &mut Vec<Rank>) -> Result<(), AllocError>
     Ok(())
 }
 
-/// The first units of clusters, in the order of the clusters. Each unit of `taken` that begins a cluster names it.
+/// The first units of clusters, in the order of the clusters. Each unit of `taken` that is the first of its cluster
+/// stands for the cluster.
 pub fn rank_clusters(
     alloc: Global,
     clusters: &Clusters,

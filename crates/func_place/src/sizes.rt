@@ -5,7 +5,7 @@ ghost use Rattle.rv_code.specs.layout.WorstSizes as worst;
 use rv_code::{Block, Func, worst_size_of_block};
 use std::alloc::{AllocError, Global};
 
-/// The most bytes that each block can take in the new code.
+/// The worst size of each block: the most bytes that it can take in the new code.
 pub fn block_sizes(alloc: Global, funcs: &[Func], blocks: &[Block]) -> Result<Vec<u128>, AllocError>
     ensures sizes { IfOk result (λ v. v.items ≡ map (worst.worst_size_of_block funcs.now) blocks.now) }
     ensures small { IfOk result (λ v. All (λ size. size ≤ 2 ^ 67) v.items) }

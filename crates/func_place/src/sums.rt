@@ -1,4 +1,4 @@
-// What units have: sums over their blocks, and the blocks of their functions.
+// Sums over the blocks of units, and the blocks of units.
 ghost use Rattle.std.specs.Prelude.{◌≡◌, ℕ, ◌<◌, ◌≤◌, ◌^◌, All, IfOk, length, map, sum};
 ghost use Rattle.rv_code.specs.declared.placed.Block.{Block};
 ghost use Rattle.func_place.specs.Units.{unit_sum, unit_part, by_unit};
@@ -8,7 +8,7 @@ use rv_code::Block;
 use std::alloc::{AllocError, Global};
 
 /// For each unit the sum of `numbers` over its blocks; `numbers` has one for each block. `units` has the unit of each
-/// function. An index that is no unit has the sum 0.
+/// function. An index that isn't a unit has the sum 0.
 pub fn sums_of(
     alloc: Global,
     units: &[usize],
@@ -32,7 +32,7 @@ pub fn sums_of(
 }
 
 /// For each unit the blocks of its functions, one function after another. `parts` has the blocks of each function, and
-/// `units` the unit of each.
+/// `units` the unit of each function.
 pub fn parts_of(
     alloc: Global,
     units: &[usize],

@@ -1,4 +1,4 @@
-// Which functions lead into each other.
+// Pairs of functions of which one leads into the other.
 ghost use Rattle.std.specs.Prelude.{◌≡◌, ◌≢◌, ◌↔◌, ℕ, ◌+◌, ◌<◌, ◌^◌, [], IfOk, OnOk, length, slice_get};
 ghost use Rattle.rv_code.specs.layout.FunctionLists.{AreLaidOut};
 ghost use Rattle.rv_code.specs.layout.FunctionMembers.{function_at};
@@ -10,7 +10,7 @@ use rv_code::flow::{fall_target, target};
 use rv_code::functions::{func_holds, function_at};
 use std::alloc::{AllocError, Global};
 
-/// The pairs of a function and another one into which it leads, as indices. A pair may stand there more than once.
+/// The pairs of a function and another one into which it leads, as indices. A pair can occur more than once.
 pub fn ties(alloc: Global, funcs: &[Func]) -> Result<Vec<(usize, usize)>, AllocError>
     requires { AreLaidOut funcs.now }
     ensures { IfOk result (λ v. Gains [] v.items (Ties funcs.now)) }
@@ -22,7 +22,7 @@ pub fn ties(alloc: Global, funcs: &[Func]) -> Result<Vec<(usize, usize)>, AllocE
     Ok(ties)
 }
 
-// Appends the pairs of function `place`.
+// Appends the pairs of the function with index `place`.
 fn put_ties_of(
     ties: &mut Vec<(usize, usize)>,
     funcs: &[Func],
@@ -39,7 +39,7 @@ fn put_ties_of(
     Ok(())
 }
 
-// Appends the pairs of instruction `i` of function `place`, which is `func`.
+// Appends the pairs of instruction `i` of `func`, which is the function with index `place`.
 fn put_ties_from(
     ties: &mut Vec<(usize, usize)>,
     funcs: &[Func],
@@ -59,7 +59,8 @@ fn put_ties_from(
     Ok(())
 }
 
-// Appends the pair of function `place` and the one in which the address `to` lies, if there is another one there.
+// Appends the pair of the function with index `place` and the function that contains the address `to`, if this is
+// another function.
 fn put_tie(
     ties: &mut Vec<(usize, usize)>,
     funcs: &[Func],
@@ -93,8 +94,8 @@ fn put_tie_at(
     Ok(())
 }
 
-// The function in which `address` lies, unless it is function `place`. That one is looked at first, since most branches
-// stay in their function.
+// The function that contains `address`, unless it is the one with index `place`. That one is looked at first, since
+// most branches stay in their function.
 fn other_function_at(funcs: &[Func], place: usize, address: u64) -> Option<usize>
     requires funcs { AreLaidOut funcs.now }
     requires inside { place < length funcs.now }

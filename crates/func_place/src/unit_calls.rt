@@ -1,4 +1,4 @@
-// What a profile counts from unit to unit.
+// The counts of a profile from unit to unit.
 ghost use Rattle.std.specs.Prelude.{◌≡◌, IfOk, length, slice_index};
 ghost use Rattle.rv_code.specs.layout.FunctionLists.{AreLaidOut};
 ghost use Rattle.func_place.specs.Placement.{unit_call, unit_calls};
@@ -8,8 +8,8 @@ use rv_code::Func;
 use rv_code::functions::function_at;
 use std::alloc::{AllocError, Global};
 
-/// The counts of `pairs` as counts between the units in which their addresses lie, for pairs with both addresses in
-/// functions. `units` has the unit of each function.
+/// The counts of `pairs` as counts between the units of their addresses, for pairs with both addresses in functions.
+/// `units` has the unit of each function.
 pub fn calls_of(
     alloc: Global,
     funcs: &[Func],

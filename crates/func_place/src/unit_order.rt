@@ -12,8 +12,7 @@ use crate::ranks::{hot_order, rank_clusters};
 use std::alloc::{AllocError, Global};
 
 /// The blocks of all units in their new order: clusters of hot units by density, and then the cold units by number. All
-/// arguments but `calls` have a number or a list for each unit; an index that is no unit counts as a cold one without
-/// blocks.
+/// arguments but `calls` have an entry for each unit; an index that isn't a unit counts as a cold unit without blocks.
 pub fn place_units(
     alloc: Global,
     sizes: &[u128],

@@ -10,7 +10,7 @@ use crate::ties::ties;
 use rv_code::Func;
 use std::alloc::{AllocError, Global};
 
-/// For each function its unit, which is named by its lowest function.
+/// For each function its unit, which has the number of its lowest function.
 pub fn units_of(alloc: Global, funcs: &[Func]) -> Result<Vec<usize>, AllocError>
     requires { AreLaidOut funcs.now }
     ensures units { IfOk result (λ v. AreUnits funcs.now v.items) }
@@ -37,7 +37,7 @@ fn group_tied(alloc: Global, n: usize, ties: &[(usize, usize)]) -> Result<Groups
     Ok(groups)
 }
 
-// Joins the groups of `a` and `b`, unless they are one already.
+// Joins the groups of `a` and `b`, unless they are the same group.
 fn tie(alloc: Global, groups: &mut Groups, a: usize, b: usize) -> Result<(), AllocError>
     requires grouped { IsGrouped (grouping_of groups.old) }
     requires a_in { a < length (grouping_of groups.old).lists }

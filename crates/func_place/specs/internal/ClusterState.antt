@@ -1,4 +1,4 @@
--- Clusters as the code keeps them.
+-- Clusters, in the terms of the code.
 use Rattle.std.specs.Prelude.{ℕ, ◌≡◌, ◌<◌, ◌≤◌, ◌+◌, ◌^◌, List, length, sum, slice_index, slice_set}
 use Rattle.func_place.specs.declared.clusters.Clusters.{Clusters}
 use Rattle.rv_code.specs.layout.WorstSizes.{near_limit}
@@ -24,7 +24,7 @@ size_at state u = slice_index state.totals (slice_index state.grouping.numbers u
 abbrev pub heat_at : ClusterState → ℕ → ℕ
 heat_at state u = slice_index state.heats (slice_index state.grouping.numbers u)
 
--- No cluster passes the limit, one with heat has a size, and all sums have room.
+-- No cluster exceeds the limit, a cluster with heat has a size, and sums don't overflow.
 pub record IsValidState (state : ClusterState) : Type 0 where
   pub grouped : IsGrouped state.grouping
   pub totals_len : length state.totals ≡ count_of state
@@ -33,14 +33,14 @@ pub record IsValidState (state : ClusterState) : Type 0 where
   pub some : (q : ℕ) → q < count_of state → 0 < slice_index state.heats q → 0 < slice_index state.totals q
   pub room : sum state.heats < 2 ^ 101
 
--- Two clusters became one, which has the sizes and the heats of both.
+-- Two clusters become one, which has the sum of their sizes and of their heats.
 pub record Merges (old new : ClusterState) (first second kept : ℕ) : Type 0 where
   pub joins : Joins old.grouping new.grouping first second kept
   pub totals : new.totals ≡ slice_set old.totals kept (slice_index old.totals first + slice_index old.totals second)
   pub heats : new.heats ≡ slice_set (slice_set (slice_set old.heats first 0) second 0) kept
       (slice_index old.heats first + slice_index old.heats second)
 
--- The state is that of these clusters.
+-- The state represents these clusters.
 pub record Keeps (sizes heats : List ℕ) (cluster : ℕ → List ℕ) (state : ClusterState) : Type 0 where
   pub list : (u : ℕ) → u < count_of state → group_of state.grouping u ≡ cluster u
   pub size : (u : ℕ) → u < count_of state → size_at state u ≡ total sizes (cluster u)

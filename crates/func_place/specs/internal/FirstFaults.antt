@@ -1,4 +1,4 @@
--- The first place of each fault, as it is looked for.
+-- The first place of each fault, in the terms of the code.
 use Rattle.std.specs.Prelude.{◌≡◌, ℕ, ◌<◌, ◌≤◌, true, false, List, Some, All, slice_get, slice_index}
 use Rattle.rv_code.specs.declared.placed.Placed.{Placed}
 use Rattle.rv_code.specs.declared.placed.Func.{Func}

@@ -1,4 +1,4 @@
--- Pairs of functions as they are listed.
+-- Pairs of functions, in the terms of the code.
 use Rattle.std.specs.Prelude.{◌≡◌, ◌≢◌, ◌⊎◌, ℕ, ◌<◌, ◌≤◌, List, Some, length, slice_get, slice_index, slice_index_or}
 use Rattle.rv_code.specs.declared.placed.Placed.{Placed}
 use Rattle.rv_code.specs.declared.placed.Func.{Func}
@@ -7,13 +7,13 @@ use Rattle.rv_code.specs.layout.FunctionMembers.{function_at}
 use Rattle.func_place.specs.Units.{LeadsNear}
 use Rattle.func_place.specs.internal.Groups.{Grouping}
 
--- an address lies in another function than the f-th: the pair of both
+-- the pair of the function f and another one that contains an address
 pub record TiesAt (funcs : List Func) (f to : ℕ) (t : ℕ × ℕ) : Type 0 where
   pub from : t.0 ≡ f
   pub into : function_at funcs to ≡ Some t.1
   pub other : t.1 ≢ f
 
--- the i-th instruction of a function leads there
+-- an address to which the instruction with index i of a function leads
 pub record TiesFrom (funcs : List Func) (f i : ℕ) (t : ℕ × ℕ) : Type 0 where
   pub func : Func
   pub is_func : slice_get funcs f ≡ Some func
@@ -23,12 +23,12 @@ pub record TiesFrom (funcs : List Func) (f i : ℕ) (t : ℕ × ℕ) : Type 0 wh
   pub leads : LeadsNear func i inst to
   pub ties : TiesAt funcs f to t
 
--- some instruction of a function does
+-- an address to which some instruction of a function leads
 pub record TiesOf (funcs : List Func) (f : ℕ) (t : ℕ × ℕ) : Type 0 where
   pub at : ℕ
   pub ties : TiesFrom funcs f at t
 
--- some function does
+-- an address to which some instruction of some function leads
 pub record Ties (funcs : List Func) (t : ℕ × ℕ) : Type 0 where
   pub place : ℕ
   pub ties : TiesOf funcs place t
@@ -52,13 +52,13 @@ pub data AreTogether (ties : List (ℕ × ℕ)) (n f : ℕ) : ℕ → Type 0 whe
   same : AreTogether ties n f f
   more : {g h : ℕ} → AreTogether ties n f g → Touch ties n g h → AreTogether ties n f h
 
--- numbers are equal just where the first i pairs tie functions together
+-- two members have the same number exactly if the first i pairs tie them together
 pub record Agrees (ties : List (ℕ × ℕ)) (i : ℕ) (g : Grouping) : Type 0 where
   pub ends : (k : ℕ) → k < i → slice_index g.numbers (tie_at ties k).0 ≡ slice_index g.numbers (tie_at ties k).1
   pub together : (f h : ℕ) → f < length g.lists → h < length g.lists →
       slice_index g.numbers f ≡ slice_index g.numbers h → AreTogether ties i f h
 
--- the i-th pair is of a and b, and it and those before are of numbers below n
+-- the pair with index i is (a, b), and it and all earlier pairs are of numbers below n
 pub record IsTied (ties : List (ℕ × ℕ)) (i a b n : ℕ) : Type 0 where
   pub is : tie_at ties i ≡ (a, b)
   pub inside : (k : ℕ) → k ≤ i → ((tie_at ties k).0 < n) × ((tie_at ties k).1 < n)

@@ -70,7 +70,7 @@ place_units-requires-clause-calls_room c =
     subst (λ (ks : List UnitCall). sum_by (λ k. k.count) ks < 340282366920938463463374607431768211456)
     (sym (c.deref-4.ensures.value ∙ c.in_ok-calls.ensures)) (omega arith)
 
--- the order, by any weights that are these
+-- the order is a placement, for a weight function with these weights
 placed : (c : goal.After-drop-heats-2) → (weight : Block → ℕ) → c.args.weights.now ≡ map weight c.args.blocks.now →
     IsPlacement c.args.funcs.now c.args.blocks.now c.args.chains.now c.args.pairs.now weight c.in_ok-order.order.items
 placed c weight is =
@@ -109,7 +109,7 @@ placed c weight is =
           c.in_ok-order.ensures))));
     }
 
--- it is one by the weights that there are
+-- the order is a placement, for the given weights
 own : (c : goal.After-drop-heats-2) → IsPlacement c.args.funcs.now c.args.blocks.now c.args.chains.now c.args.pairs.now
     c.requires.weights.0 c.in_ok-order.order.items
 own c = placed c c.requires.weights.0 c.requires.weights.1

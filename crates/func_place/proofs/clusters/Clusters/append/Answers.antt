@@ -8,14 +8,14 @@ use Rattle.func_place.proofs.clusters.Clusters.append.Goals as goal
 use Rattle.func_place.proofs.clusters.Clusters.append.Goals.{else-first-second-via-then-first-second+else-index-le-NEAR_LIMIT}
 use Rattle.func_place.proofs.clusters.Clusters.append.Goals.{else-first-second-via-else-first-second}
 
--- what was read of a cluster is the size of its unit's
+-- the size that was read is the size of the unit's cluster
 read : (d : Clusters) (number u n : ℕ) → IsValidState (state_of d) → number ≡ slice_index (state_of d).grouping.numbers u →
     number < count_of (state_of d) → n ≡ slice_index_or d.totals.items number n → n ≡ size_at (state_of d) u
 read d number u n sound is number_in read_is =
     let inside : number < length d.totals.items = rw sound.totals_len number_in in
     get_or_read d.totals.items number n inside read_is 0 ∙ rw is refl
 
--- what is known where two clusters were joined
+-- facts after two clusters were joined
 record Known (c : goal.In_ok-join) : Type 0 where
   can : CanJoin (state_of c.args.self.now) c.args.caller c.args.unit
   kept : ℕ
