@@ -1,4 +1,4 @@
--- Pieces after others.
+-- Pieces after other pieces.
 use Rattle.std.proofs.Common.{◌≡◌, ℕ, zero, suc, ◌+◌, ◌<◌, ◌≤◌, List, [], ◌∷◌, ◌++◌, length, map, take, Some, refl, sym, ap, ◌∙◌}
 use Rattle.std.proofs.Common.{arith, get_or, add-one, append_assoc, pos}
 use Rattle.std.specs.Prelude.{slice_get}
@@ -14,7 +14,7 @@ use Rattle.branch_fixup.specs.Strips.{Strip, pieces_of, pieces_of_strip}
 use Rattle.branch_fixup.proofs.Lists.{take_one_more}
 use Rattle.branch_fixup.proofs.Laid.{end_above}
 
--- what a read past the end gives
+-- the result of a read past the end
 abbrev pub no_inst : Placed
 no_inst = record { addr = 0; len = 0; inst = Lui 0 (pos 0); role = Plain }
 
@@ -61,7 +61,7 @@ end_more a at ps i d within here =
     ap (λ (z : ℕ). z + (get_or ps i d).len) here ∙ sym (end_append a (map as_it_is (take i ps))
     (as_it_is (get_or ps i d) ∷ [])) ∙ ap (end_from a) (sym (map_more ps i d within))
 
--- a part's end is no farther
+-- the end of a part is at most the end of all
 pub end_part : (a : ℕ) (ps : List Placed) (i : ℕ) → end_from a (map as_it_is (take i ps)) ≤ end_from a (map as_it_is ps)
 end_part a ps zero = end_above a (map as_it_is ps)
 end_part a [] (suc i) = omega arith

@@ -1,4 +1,4 @@
--- What growing needs of block ends, and that grown forms are locally the least.
+-- What growing needs of block ends, and that grown forms are locally the shortest.
 use Rattle.std.proofs.Common.{◌≡◌, ℕ, zero, suc, ◌+◌, ◌<◌, ◌^◌, List, [], ◌∷◌, length, Option, Some, None, Bool, true, false}
 use Rattle.std.proofs.Common.{refl, sym, ap, ◌∙◌, subst, arith, get_or, ℤ, add-one}
 use Rattle.std.specs.Prelude.{slice_get, sum_by, is_some, ◌&&◌, not, if◌then◌else◌}
@@ -23,7 +23,7 @@ use Rattle.branch_fixup.proofs.Bridge.{AreBlockEndsOf, LeadAsBlockEnds, are_leas
 use Rattle.branch_fixup.proofs.Holders.{last_there}
 use Rattle.branch_fixup.proofs.Placed.{AreStrips, address_at, at_place, before_is, strips_once, upto_last}
 
--- How the last instruction of a block in a form is.
+-- The last instruction of a block in a form.
 
 pub record IsBranchEnd (whole : Bool) (x : Action) (fall : Option ℕ) (inverted jump : Bool) : Type 0 where
   pub not_whole : whole ≡ false
@@ -94,7 +94,7 @@ some_there : (o : Option ℕ) → is_some o ≡ true → (a : ℕ) × (o ≡ Som
 some_there None h = absurd (cc)
 some_there (Some a) h = (a, refl)
 
--- Where the branch or jump of a block goes.
+-- The target of a block's branch or jump.
 
 abbrev pub IsOfTable : Strip → Option ℕ → Form → Type 0
 IsOfTable s next f = end_of_form f ≡ ending s.whole (is_alone s.inner) (action_at s.last) s.fall (target_of s.last) next
@@ -132,7 +132,7 @@ led s next form.Plain reach after k h = absurd (cc)
 led s next form.Jump reach after k h = absurd (cc)
 led s next form.Dropped reach after k h = absurd (cc)
 
--- that goes by how a block ends
+-- the target by the block's ending
 lead_by : Strip → End → Option ℕ
 lead_by s (Branches true jump) = s.fall
 lead_by s (Branches false jump) = target_of s.last
@@ -217,14 +217,14 @@ module _ (ss : List Strip) (are : AreStrips ss) (ts : List BlockEnd) (zs : List 
           by [] h = absurd (omega (arith, h))
           by (x ∷ xs) h = x
 
-  -- forms that end as those of `ends` do
+  -- forms with the same endings as those of `ends`
   module _ (fs : List Form) (base : ℕ) (len : length fs ≡ length ss) (same : (k : ℕ) → k < length ss →
       end_of_form (form_at fs k) ≡ end_of_form (form_at zs k)) (after : (k : ℕ) (s : Strip) → slice_get ss k ≡ Some s →
       FallsAfter s) where
     pub of_table : (k : ℕ) (s : Strip) → slice_get ss k ≡ Some s → IsOfTable s (begins_of ss (k + 1)) (form_at fs k)
     of_table k s at = let within = slice_get_within ss k s at in same k within ∙ (ends.shortest k s within at).ends.by_table
 
-    -- where the branch or jump goes that its form leads to
+    -- the address to which the branch or jump of a form leads
     pub lead_place : (gs : List Form) → length gs ≡ length ss → (k : ℕ) (s : Strip) (g : Form) (a : ℕ) →
         slice_get ss k ≡ Some s → end_of_form g ≡ end_of_form (form_at zs k) → lead_of s g ≡ Some a →
         new (spans_of ss base gs) a ≡ base + to_at ts gs k

@@ -1,4 +1,4 @@
--- BlockEnds, from where addresses are found.
+-- Block ends, from the addresses that were looked up.
 use Rattle.std.proofs.Common.{◌≡◌, ℕ, ◌+◌, ◌-◌, ◌<◌, ◌≤◌, List, [], ◌∷◌, ◌++◌, length, map, Option, Some, None, Bool, true, false}
 use Rattle.std.proofs.Common.{refl, sym, ap, ◌∙◌, subst, arith, inl, inr}
 use Rattle.std.specs.Prelude.{slice_get, slice_index, Contains, ◌&&◌, if◌then◌else◌, unwrap_or}
@@ -84,7 +84,7 @@ last_after code b s laid x p has =
     let (k, at) = contains_at (insts_in s) p has in
     follow_at (first_in s.inner s.last) (insts_in s) (s.last.addr + s.last.len) k p (strip_follows code b s laid x) at
 
--- What a look-up finds.
+-- The result of a look-up.
 
 pub at_by : (ss : List Strip) (to j offset a : ℕ) (s : Strip) (p : Placed) → slice_get ss j ≡ Some s → to ≡ j →
     first_in s.inner s.last + offset ≡ a → Contains (insts_in s) p → p.addr ≡ a → IsAt ss to offset a

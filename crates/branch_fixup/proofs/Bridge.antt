@@ -1,4 +1,4 @@
--- Where the map has blocks is where growing has them, so forms that are needed are locally least.
+-- The map and growing give blocks the same starts, so forms that are needed are locally the shortest.
 use Rattle.std.proofs.Common.{◌≡◌, ℕ, zero, suc, ◌+◌, ◌^◌, ◌<◌, ◌≤◌, List, [], ◌∷◌, ◌++◌, length, Option, Some, None, Bool, true}
 use Rattle.std.proofs.Common.{false, refl, sym, ap, ◌∙◌, subst, arith, get_or, drop, length-set, drop-cons}
 use Rattle.std.specs.Prelude.{map, IfSome, slice_set, ◌==◌, if◌then◌else◌, nat_lt, nat_le}
@@ -32,7 +32,7 @@ end_of_inner a [] rest = let e : a ≡ a + 0 = omega arith in ap (λ (n : ℕ). 
 end_of_inner a (p ∷ ps) rest = end_of_inner (a + p.len) ps rest ∙ ap (λ (n : ℕ). end_from n rest)
     (let e : a + p.len + before_of ps ≡ a + (p.len + before_of ps) = omega arith in e)
 
--- the places of a block's first and last instruction
+-- the new addresses of a block's first and last instruction
 pub record StripAt (f : ℕ → ℕ) (a : ℕ) (s : Strip) : Type 0 where
   pub first : f (first_in s.inner s.last) ≡ a
   pub last : f s.last.addr ≡ a + before_of s.inner
@@ -52,13 +52,13 @@ strip_at f a s x h = record {
     first [] h = h.0
     first (p ∷ ps) h = h.0
 
--- how each block ends, as growing sees it
+-- the end of each block, as growing has it
 pub record AreBlockEndsOf (ts : List BlockEnd) (ss : List Strip) : Type 0 where
   pub one_each : length ts ≡ length ss
   pub before : (k : ℕ) (d : Strip) → k < length ss → (end_at ts k).before ≡ before_of (get_or ss k d).inner
   pub len : (k : ℕ) (d : Strip) → k < length ss → (end_at ts k).len ≡ (get_or ss k d).last.len
 
--- from block k on
+-- pieces from block k on
 pub placed_at : (f : ℕ → ℕ) (ts : List BlockEnd) (ss : List Strip) (fs : List Form) (base : ℕ) (d : Strip) →
     AreBlockEndsOf ts ss → length fs ≡ length ss → PlacedFrom f base (pieces_of ss fs) → (k : ℕ) → k ≤ length ss →
     PlacedFrom f (base + block_offset ts fs k) (pieces_of (drop k ss) (drop k fs))
@@ -101,7 +101,7 @@ pub block_at : (f : ℕ → ℕ) (ts : List BlockEnd) (ss : List Strip) (fs : Li
 block_at f ts ss fs base d block_ends len h k lt = strip_at f (base + block_offset ts fs k) (get_or ss k d) (form_at fs k)
     (block_placed f ts ss fs base d block_ends len h k lt)
 
--- moving both ends changes no reach
+-- moving both ends by the same distance doesn't change whether it reaches
 shifted_short : (reach b f t : ℕ) → reaches reach f t ≡ false → reaches reach (b + f) (b + t) ≡ false
 shifted_short reach b f t h = false_from_ne_true (reaches reach (b + f) (b + t)) (λ k.
     let p = and_parts (nat_lt (b + t) (b + f + reach)) (nat_le (b + f) (b + t + reach)) k in
@@ -109,7 +109,7 @@ shifted_short reach b f t h = false_from_ne_true (reaches reach (b + f) (b + t))
     let y = leb-true (b + f) (b + t + reach) p.1 in
     both_ways (reaches reach f t) h (reach_if reach f t (omega (arith, x)) (omega (arith, y))))
 
--- where the branch or jump of a form leads
+-- the target of the branch or jump of a form
 abbrev pub leads_to : (ℕ → ℕ) → Placed → Form → ℕ
 leads_to f p (form.Branch true size jump) = f (p.addr + p.len)
 leads_to f p _ = new_target f p
@@ -149,7 +149,7 @@ leap_short f p ts fs base k form.Plain a t h = absurd (cc)
 leap_short f p ts fs base k form.Jump a t h = absurd (cc)
 leap_short f p ts fs base k form.Dropped a t h = absurd (cc)
 
--- each block whose form can grow leads to where its end says, whatever the sizes
+-- each block whose form can grow leads to the target that its end has, for all sizes
 abbrev pub LeadAsBlockEnds : List BlockEnd → List Strip → ℕ → (ℕ → End) → Type 0
 LeadAsBlockEnds ts ss base kinds = (k reach : ℕ) (d : Strip) (fs : List Form) (g : Form) → form_reach g ≡ Some reach →
     k < length ss → length fs ≡ length ss → end_of_form g ≡ kinds k → leads_to (new (spans_of ss base fs))
@@ -164,7 +164,7 @@ has_reach ts fs k g h = by (form_reach g) refl h
     by None e h = absurd (cc)
     by (Some reach) e h = (reach, e)
 
--- the next shorter form ends alike
+-- the next shorter form has the same ending
 shorter_kind : (n : ℕ) (f g : Form) → shorter n f ≡ Some g → end_of_form g ≡ end_of_form f
 shorter_kind n (form.Branch inverted Long jump) g e = let k : form.Branch inverted Full jump ≡ g = cc in ap end_of_form (sym k)
 shorter_kind n (form.Branch inverted Full jump) g e = by (n == 2) e

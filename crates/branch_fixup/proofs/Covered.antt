@@ -30,7 +30,7 @@ pub block_of : (code : ProgramCode) (blocks : List Block) (m : ℕ) (b : Block) 
     slice_get blocks m ≡ Some b → BlockOf code b
 block_of code blocks m b are at = of_block code b (are.only b (at_contains blocks m b at))
 
--- the block of a list with the i-th instruction of a function
+-- the block of a list that contains the instruction with index i of a function
 pub record Covers (blocks : List Block) (f i : ℕ) : Type 0 where
   pub m : ℕ
   pub b : Block
@@ -56,7 +56,7 @@ module _ (code : ProgramCode) (blocks : List Block) (are : AreBlocks code blocks
       let c : true ≡ false = sym yes ∙ no in
       absurd (cc)
 
-  -- from the last beginning up to the next one, or to the function's end
+  -- from the last beginning of a block up to the next one, or to the function's end
   up : (n m j : ℕ) → m + suc n ≡ length func.insts.items → j ≤ i → i ≤ m → Begins code func j →
       ((x : ℕ) → j < x → x ≤ m → Begins code func x → ⊥) → ⊥
   up zero m j sum low high begins other =
@@ -118,7 +118,7 @@ covers code blocks are f i func at within = elim (look (has f i) blocks) [
   | inr none ↦ absurd (no_none code blocks are f i func at within none)
 ]
 
--- of two blocks of one function the first ends before the other begins
+-- of two blocks of one function, the one with the lower first instruction ends before the other begins
 apart_in : (code : ProgramCode) (b c : Block) (x : BlockOf code b) (y : BlockOf code c) → b.func ≡ c.func →
     b.first < c.first → b.last < c.first
 apart_in code b c x y e less = elim (cases_lt b.last c.first) [
@@ -128,7 +128,7 @@ apart_in code b c x y e less = elim (cases_lt b.last c.first) [
       absurd (x.is.no_other c.first less not_less (subst (λ (z : Func). Begins code z c.first) same y.is.begins))
 ]
 
--- blocks at different places of the list
+-- blocks with different indices in the list
 pub blocks_apart : (code : ProgramCode) (blocks : List Block) (m n : ℕ) (b c : Block) → AreBlocks code blocks →
     slice_get blocks m ≡ Some b → slice_get blocks n ≡ Some c → m < n →
     (b.func < c.func) ⊎ ((b.func ≡ c.func) × (b.last < c.first))

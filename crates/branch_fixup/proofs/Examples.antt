@@ -56,7 +56,7 @@ is_least = tt
 kept_jump : EndByTable strips (form.Jump ∷ form.Goto false ∷ form.Branch true Full false ∷ form.Plain ∷ []) → ⊥
 kept_jump h = let wrong = h.2.0 in absurd (cc)
 
--- The branch in its long form isn't the least: four bytes reach.
+-- The branch in its long form isn't the shortest: four bytes reach.
 long_branch : IsLeast strips 0x10090 (form.Jump ∷ form.Dropped ∷ form.Branch true Long false ∷ form.Plain ∷ []) 2 branch
     (form.Branch true Long false) → ⊥
 long_branch h =

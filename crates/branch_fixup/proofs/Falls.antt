@@ -1,4 +1,4 @@
--- Into which address an instruction falls.
+-- The address to which an instruction falls through.
 use Rattle.std.proofs.Common.{◌≡◌, ℕ, suc, ◌+◌, ◌<◌, ◌≤◌, List, [], ◌∷◌, length, Option, Some, None, Bool, true, false, refl, sym}
 use Rattle.std.proofs.Common.{ap, ◌∙◌, subst, arith, inl, inr}
 use Rattle.std.specs.Prelude.{slice_get, ◌==◌, if◌then◌else◌}
@@ -18,7 +18,7 @@ use Rattle.branch_fixup.proofs.Lists.{at_flat, flat_at, find_found, found_find}
 use Rattle.rb_bytes.proofs.Tests.{bool_same}
 use Rattle.rb_bytes.proofs.ListLemmas.{slice_get_found, contains_at}
 
--- An instruction of a function, by its places.
+-- An instruction of a function, by its indices.
 pub record CodeAt (funcs : List Func) (a : ℕ) : Type 0 where
   pub f : ℕ
   pub func : Func
@@ -42,7 +42,7 @@ code_at funcs a h =
     let (i, at) = contains_at w.a.insts.items r.x w.has in
     record { f = w.i; func = w.a; i = i; p = r.x; at_func = w.at; at_inst = at; addr = eqb-true r.x.addr a r.passes }
 
--- inside a function the next instruction is there
+-- inside a function the next instruction is at the end of an instruction
 pub code_next : (funcs : List Func) (f i : ℕ) (func : Func) (p : Placed) → AreLaidOut funcs →
     slice_get funcs f ≡ Some func → slice_get func.insts.items i ≡ Some p → suc i < length func.insts.items →
     is_code_address funcs (p.addr + p.len) ≡ true
@@ -70,7 +70,7 @@ start_has funcs g a h = by (slice_get funcs g) refl h
     by None e k = absurd (cc)
     by (Some func) e k = (func, e, eqb-true func.start a k)
 
--- after a function, that of the next one, if that starts there
+-- at the end of a function there is an instruction exactly if the next function starts there
 pub code_end : (funcs : List Func) (f i : ℕ) (func : Func) (p : Placed) → AreLaidOut funcs →
     slice_get funcs f ≡ Some func → slice_get func.insts.items i ≡ Some p → suc i ≡ length func.insts.items →
     is_code_address funcs (p.addr + p.len) ≡ func_starts_at funcs (f + 1) (p.addr + p.len)
@@ -127,9 +127,9 @@ code_end funcs f i func p laid at_f at_i last = bool_same (is_code_address funcs
           ]
         ]
 
--- The cases of falling.
+-- The cases of falling through.
 
--- it falls where `fall_target` says
+-- an instruction falls through to the address of `fall_target`
 pub falls_to : (func : Func) (i : ℕ) (p : Placed) (next : ℕ) → Some next ≡ fall_target func i p →
     (falls_at func i p ≡ true) × (next ≡ p.addr + p.len)
 falls_to func i p next h = by (falls_at func i p) h

@@ -1,4 +1,4 @@
--- What isn't enough stays so while forms grow.
+-- A form that doesn't reach still doesn't reach after other forms grew.
 use Rattle.std.proofs.Common.{◌≡◌, ℕ, zero, suc, ◌+◌, ◌-◌, ◌<◌, ◌≤◌, List, length, Option, Some, None, true, false, refl}
 use Rattle.std.proofs.Common.{subst, arith, inl, inr}
 use Rattle.std.specs.Prelude.{nat_lt, nat_le}
@@ -13,7 +13,7 @@ use Rattle.branch_fixup.specs.Growth.{end_at, block_length, from_at, to_at, form
 pub reach_if : (reach f t : ℕ) → t < f + reach → f ≤ t + reach → reaches reach f t ≡ true
 reach_if reach f t h k = and_from (nat_lt t (f + reach)) (nat_le f (t + reach)) (lt-ltb t (f + reach) h) (le-leb f (t + reach) k)
 
--- a longer way ahead, or back
+-- a longer way, ahead or back
 pub data IsFarther (f t g u : ℕ) : Type 0 where
   ahead : f ≤ t → g ≤ u → t + g ≤ u + f → IsFarther f t g u
   back : t ≤ f → u ≤ g → f + u ≤ g + t → IsFarther f t g u
@@ -31,7 +31,7 @@ short_more reach f t g u (back a b c) h =
     let y = ltb-true u (g + reach) p.0 in
     both_ways (reaches reach f t) h (reach_if reach f t (omega (arith, a, b, c, x, y)) (omega (arith, a, b, c, x))))
 
--- forms that are no shorter
+-- forms that are at least as long
 pub record IsBelow (ts : List BlockEnd) (xs ys : List Form) : Type 0 where
   pub each : (k : ℕ) → block_length ts xs k ≤ block_length ts ys k
 

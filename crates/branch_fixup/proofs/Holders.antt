@@ -1,4 +1,4 @@
--- Which block of a plan holds an address.
+-- The block of a plan that contains an address.
 use Rattle.std.proofs.Common.{◌≡◌, ℕ, ◌+◌, ◌<◌, ◌≤◌, List, [], ◌∷◌, ◌++◌, length, map, Some, None, true, refl, sym, ap, ◌∙◌}
 use Rattle.std.proofs.Common.{subst, arith, inl, inr, get_or, zero, suc, ◌-◌, take, drop, Option}
 use Rattle.std.specs.Prelude.{slice_get, slice_index, Contains, AllPairs, option_map}
@@ -32,7 +32,7 @@ first_there (p ∷ ps) last = (p, (0, omega arith, refl), refl)
 pub last_there : (s : Strip) → Contains (insts_in s) s.last
 last_there s = Contains-push s.inner s.last
 
--- the instructions of a block come before those of one later in the list
+-- the instructions of a block come before the instructions of later blocks of the list
 pub blocks_up : (code : ProgramCode) (blocks : List Block) (m n : ℕ) (b c : Block) (s t : Strip) →
     AreLaidOut code.funcs → AreBlocks code blocks → StripOf code b s → StripOf code c t → slice_get blocks m ≡ Some b →
     slice_get blocks n ≡ Some c → m < n → (p q : Placed) → Contains (insts_in s) p → Contains (insts_in t) q →
@@ -109,7 +109,7 @@ module _ (code : ProgramCode) (blocks : List Block) (laid : AreLaidOut code.func
       let f = start_is n d c t at_n y in
       omega (arith, u, l, e, f, first_p, first_q)
 
-  -- the block with an instruction holds its address, among the starts
+  -- the start of the block with an instruction is the last one at or below its address
   pub holds : (m : ℕ) (b : Block) (s : Strip) → slice_get blocks m ≡ Some b → StripOf code b s → (p : Placed) →
       Contains (insts_in s) p → first_in s.inner s.last ≤ p.addr → IsHolder starts p.addr m
   holds m b s at x p has_p low =
@@ -133,7 +133,7 @@ module _ (code : ProgramCode) (blocks : List Block) (laid : AreLaidOut code.func
     abbrev strips : List Strip
     strips = strips_of code.funcs blocks order
 
-    -- where a code address is in the plan
+    -- the block of a code address in the plan
     pub record Held (a : ℕ) : Type 0 where
       pub j : ℕ
       pub s : Strip
@@ -169,7 +169,7 @@ module _ (code : ProgramCode) (blocks : List Block) (laid : AreLaidOut code.func
           addr = c.addr;
         }
 
--- what the code reads at a place of the plan
+-- the block that the code reads at an index of the plan
 pub planned_read : (funcs : List Func) (blocks : List Block) (order : List ℕ) → AreBlocksOf funcs blocks →
     HasAllBlocks blocks order → (k : ℕ) (d : Block) → k < length order → slice_get
     (strips_of funcs blocks order) k ≡ strip_of funcs (get_or blocks (get_or order k 0) d)

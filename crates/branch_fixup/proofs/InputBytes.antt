@@ -1,4 +1,4 @@
--- The bytes of blocks in the input: all of them lie below the end of addresses.
+-- The bytes of blocks in the input: all of them are below the limit of code addresses.
 use Rattle.std.proofs.Common.{◌≡◌, ℕ, suc, ◌+◌, ◌<◌, ◌≤◌, List, [], ◌∷◌, Option, Some, refl, ap, arith}
 use Rattle.std.specs.Prelude.{slice_get, sum_by}
 use Rattle.std.specs.Option.{option_map_or}
@@ -22,7 +22,7 @@ input_bytes funcs b = option_map_or (λ s. before_of s.inner + s.last.len) (stri
 abbrev first_address : List Func → Block → ℕ
 first_address funcs b = option_map_or (λ s. first_in s.inner s.last) (strip_of funcs b) 0
 
--- stretches one above another, between two ends
+-- disjoint stretches, one above another, between two ends
 stretches_sum : (start size : Block → ℕ) (end low : ℕ) (bs : List Block) → low ≤ end → ((k : ℕ) (b : Block) →
     slice_get bs k ≡ Some b → (low ≤ start b) × (start b + size b ≤ end)) → ((i j : ℕ) (b c : Block) →
     slice_get bs i ≡ Some b → slice_get bs j ≡ Some c → i < j → start b + size b ≤ start c) → low + sum_by size bs ≤ end

@@ -1,4 +1,4 @@
--- Spans one after another are a map, where the pieces' instructions differ and their lengths are even.
+-- Spans one after another are a map, if the pieces' instructions differ and their lengths are even.
 use Rattle.std.proofs.Common.{◌≡◌, ◌≢◌, ℕ, suc, ◌+◌, ◌%◌, ◌<◌, ◌≤◌, List, [], ◌∷◌, true, false, refl, sym, ap, arith, inl, inr, All}
 use Rattle.std.specs.Prelude.{◌==◌, nat_le, nat_lt, Any, Contains, AllPairs}
 use Rattle.std.proofs.lemmas.Bool.{ne_eqb, eq-eqb, and_parts, leb-true, ltb-true, cases_lt}
@@ -10,7 +10,7 @@ use Rattle.addr_map.specs.Spans.{has_byte, new, IsPlaced, ShareNoByte}
 use Rattle.addr_map.proofs.Owners.{has}
 use Rattle.branch_fixup.specs.Pieces.{Piece, PlacedFrom, length_of, laid_from, end_from}
 
--- pieces of which each has an instruction of its own
+-- no piece has the instruction at address a
 abbrev pub IsFresh : ℕ → List Piece → Type 0
 IsFresh a [] = Unit {0}
 IsFresh a (q ∷ qs) = (q.placed.addr ≢ a) × IsFresh a qs
@@ -30,7 +30,7 @@ placed_more s rest a (q ∷ qs) f h =
     let other : s.input == q.placed.addr ≡ false = ne_eqb s.input q.placed.addr (λ e. f.0 (sym e)) in
     (rw other h.0, placed_more s rest (a + length_of q) qs f.1 h.1)
 
--- where the map has them
+-- the new addresses by the map
 pub placed_from : (a : ℕ) (ps : List Piece) → AreOnce ps → PlacedFrom (new (laid_from a ps)) a ps
 placed_from a [] once = tt
 placed_from a (p ∷ ps) once = (
@@ -117,7 +117,7 @@ pub end_above : (a : ℕ) (ps : List Piece) → a ≤ end_from a ps
 end_above a [] = omega arith
 end_above a (p ∷ ps) = let h = end_above (a + length_of p) ps in omega (arith, h)
 
--- they fill one stretch
+-- the spans fill one stretch
 pub stretch : (a : ℕ) (ps : List Piece) (x : ℕ) → a ≤ x → x < end_from a ps → Any (λ s. has_byte x s ≡ true) (laid_from a ps)
 stretch a [] x h k = absurd (omega (arith, h, k))
 stretch a (p ∷ ps) x h k = elim (cases_lt x (a + length_of p)) [

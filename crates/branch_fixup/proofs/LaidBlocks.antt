@@ -1,4 +1,4 @@
--- The spans of blocks in an order: each with bytes is the first one of its block, or follows the one before it.
+-- The spans of blocks in an order: each non-empty span is the first one of its block, or follows the one before it.
 use Rattle.std.proofs.Common.{◌≡◌, ℕ, zero, suc, ◌+◌, ◌-◌, ◌<◌, ◌≤◌, ◌⊎◌, ◌∙◌, inl, inr, List, [], ◌∷◌, ◌++◌, refl, sym, ap, subst}
 use Rattle.std.proofs.Common.{arith, Some, map, take, drop}
 use Rattle.std.specs.Prelude.{Contains, slice_get, option_map}
@@ -46,7 +46,7 @@ ascend_strip c end (q ∷ qs) last x h lens =
           (ascend_strip (c + q.len) end qs last x h.1 (λ p has. lens p (Contains-there q (qs ++ last ∷ []) p has))),
     )
 
--- a span is one of a piece
+-- a span is the span of a piece
 record OfPiece (ps : List Piece) (t : Span) : Type 0 where
   p : Piece
   among : Contains ps p
@@ -74,7 +74,7 @@ from_on c a (p ∷ ps) h t d =
     by more (inl e) = subst (λ (s : Span). c ≤ s.input) e h.0
     by more (inr k) = let x = h.0 in let y = more k in omega (arith, x, y)
 
--- the first with bytes of some spans, at which they begin
+-- the first non-empty one of some spans, at their start
 record Leads (spans : List Span) (a : ℕ) (t : Span) : Type 0 where
   out : t.out ≡ a
   first : (u : Span) → Contains spans u → 0 < u.len → t.input ≤ u.input
@@ -116,7 +116,7 @@ one_strip c a (p ∷ ps) h t d some =
           omega (arith, x, y)
       pick u some less (inr k) = f.last u k some less
 
-    -- the first piece has no bytes, or is followed by the first one of the rest
+    -- the first piece is empty, or is followed by the first one of the rest
     after : Contains (laid_from (a + length_of p) ps) t → Leads (laid_from (a + length_of p) ps) (a + length_of p) t →
         (length_of p ≡ zero) ⊎ (zero < length_of p) →
         Leads (span_for a p ∷ laid_from (a + length_of p) ps) a t ⊎ Follows (span_for a p ∷ laid_from (a + length_of p) ps) t
@@ -150,7 +150,7 @@ one_strip c a (p ∷ ps) h t d some =
       found (inl l) = after k l (eq-zero-or-pos (length_of p))
       found (inr f) = inr (follows f)
 
--- The spans of the k-th block.
+-- The spans of the block with index k.
 abbrev part : ℕ → List Strip → List Form → ℕ → List Span
 part k [] fs a = []
 part k (s ∷ ss) [] a = []
@@ -254,7 +254,7 @@ module _ (code : ProgramCode) (blocks : List Block) (order : List ℕ) (laid : A
   abbrev spans_at : ℕ → List Span
   spans_at k = part k (strips_of code.funcs blocks order) fs base
 
-  -- where another span lies: in the same block, or before all of it, or behind all of it
+  -- where another span is: in the same block, or before or after all of it in the old code
   data Beside (k : ℕ) (r : Part k) (v : Span) : Type 0 where
     Within : Contains (laid_from r.from (pieces_of_strip r.s r.form)) v → Beside k r v
     Below : ((p : Placed) → Contains (insts_in r.s) p → v.input < p.addr) → Beside k r v

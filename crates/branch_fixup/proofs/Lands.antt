@@ -85,7 +85,7 @@ far_reach p h = by (is_branch (action_at p)) (p.len == 2) refl refl
 suc_not_zero : (n : ℕ) → (suc n == 0) ≡ false
 suc_not_zero n = ne_eqb (suc n) 0 (λ e. absurd (omega (arith, e)))
 
--- with a target, what saves nothing and is no branch is a plain jump
+-- an action with a target that saves no return address and isn't a branch is a plain jump
 plain_by : (a : ℕ) (x : Action) (t : ℕ) → target a x ≡ Some t → is_branch x ≡ false → is_call x ≡ false → is_plain_jump x ≡ true
 plain_by a (Branch test wanted rs1 rs2 imm) t h b c = absurd (cc)
 plain_by a (Jump zero imm) t h b c = refl
@@ -101,7 +101,7 @@ plain_by a action.Fence t h b c = absurd (cc)
 plain_by a SystemCall t h b c = absurd (cc)
 plain_by a Breakpoint t h b c = absurd (cc)
 
--- outside functions that move as one piece, what is kept as it is ends no block
+-- outside functions that move as one piece, an instruction with a target that stays unchanged doesn't end a block
 kept_goes_on : (alone : Bool) (x : Action) (fall t next : Option ℕ) (j : Bool) →
     Kept j ≡ ending false alone x fall t next → (a to : ℕ) → target a x ≡ Some to →
     (is_branch x ≡ false) × (is_plain_jump x ≡ false)
@@ -175,7 +175,7 @@ module _ (code : ProgramCode) (blocks : List Block) (order : List ℕ) (laid : A
       (form_at fs k) ≡ piece_length s.last.len (form_at fs k)
   size k s at = ap (λ (n : ℕ). piece_length n (form_at fs k)) (ends.are_block_ends k s (slice_get_within ss k s at) at).len
 
-  -- what is somewhere in the k-th block
+  -- an address in the last instruction of the block with index k
   in_last : (k : ℕ) (s : Strip) → slice_get ss k ≡ Some s → (from extra : ℕ) →
       from + first_in s.inner s.last ≡ base + block_offset ts fs k + s.last.addr →
       extra ≤ piece_length s.last.len (form_at fs k) → IsIn k (from + extra)
@@ -319,7 +319,7 @@ module _ (code : ProgramCode) (blocks : List Block) (order : List ℕ) (laid : A
           let plan = planned code blocks are order perm k s at in
           inner_goes_on code plan.b s plan.of w p has
 
-  -- a JAL to where the block falls
+  -- a JAL to the block's fall-through address reaches
   fall_lands : (k : ℕ) (s : Strip) → slice_get ss k ≡ Some s → is_some s.fall ≡ true → (from extra : ℕ) →
       from + first_in s.inner s.last ≡ base + block_offset ts fs k + s.last.addr →
       extra ≤ piece_length s.last.len (form_at fs k) → lands (jal (from + extra) (f (s.last.addr + s.last.len))) ≡ true
@@ -334,7 +334,7 @@ module _ (code : ProgramCode) (blocks : List Block) (order : List ℕ) (laid : A
           (near_reach code blocks order laid are perm ts zs ends fs base len table near k s a (from + extra) at
           (inl i) c.0 (in_last k s at from extra e h))
 
-  -- a JAL to where a form leads
+  -- a JAL to the target of a form reaches
   lead_lands : (k : ℕ) (s : Strip) → slice_get ss k ≡ Some s → (a : ℕ) → lead_of s (form_at fs k) ≡ Some a →
       (from extra : ℕ) → from + first_in s.inner s.last ≡ base + block_offset ts fs k + s.last.addr →
       extra ≤ piece_length s.last.len (form_at fs k) → lands (jal (from + extra) (f a)) ≡ true
@@ -359,7 +359,7 @@ module _ (code : ProgramCode) (blocks : List Block) (order : List ℕ) (laid : A
       by form.Jump g i = absurd (cc)
       by form.Dropped g i = absurd (cc)
 
-  -- what is enough reaches
+  -- a form that is enough reaches
   enough_lands : (k : ℕ) (s : Strip) → slice_get ss k ≡ Some s → (a reach : ℕ) → lead_of s (form_at fs k) ≡ Some a →
       form_reach (form_at fs k) ≡ Some reach → (from : ℕ) → from + first_in s.inner s.last ≡ base + block_offset ts fs k +
       s.last.addr → reaches reach from (f a) ≡ true

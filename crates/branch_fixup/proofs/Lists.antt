@@ -1,4 +1,4 @@
--- Elements of lists, by their places.
+-- Items of lists, by their indices.
 use Rattle.std.proofs.Common.{◌≡◌, ℕ, zero, suc, ◌+◌, ◌<◌, List, [], ◌∷◌, ◌++◌, Some, Bool, true, false, cond, refl, sym}
 use Rattle.std.proofs.Common.{ap, ◌∙◌, subst, arith, inl, inr, ◌⊎◌, take, drop}
 use Rattle.std.specs.Prelude.{Contains, slice_get, flat_map, find, is_some}
@@ -38,7 +38,7 @@ flat_at f (x ∷ xs) zero a b h c = Contains-append_left (f x) (flat_map f xs) b
     (subst (λ (y : _). Contains (f y) b) (sym (same_Some x a h)) c)
 flat_at f (x ∷ xs) (suc i) a b h c = Contains-append_right (f x) (flat_map f xs) b (flat_at f xs i a b h c)
 
--- where an element of one of the lists is
+-- the list that contains an item, and the item's index in it
 pub record InFlat {A B : Type 0} (f : A → List B) (xs : List A) (b : B) : Type 0 where
   pub i : ℕ
   pub a : A
@@ -63,7 +63,7 @@ pub record Found {X : Type 0} (p : X → Bool) (xs : List X) : Type 0 where
 found_there : {X : Type 0} (p : X → Bool) (y : X) (ys : List X) → Found p ys → Found p (y ∷ ys)
 found_there p y ys f = record { k = suc f.k; x = f.x; at = f.at; passes = f.passes }
 
--- one passes, or none does
+-- an item passes, or none does
 pub look : {X : Type 0} (p : X → Bool) (xs : List X) → Found p xs ⊎ ((k : ℕ) (x : X) → slice_get xs k ≡ Some x → p x ≡ false)
 look p [] = inr (λ k x h. absurd (cc))
 look p (y ∷ ys) = by (p y) refl (look p ys)

@@ -1,4 +1,4 @@
--- All that is said of forms and spans, from ends, growth and the plan.
+-- All facts of forms and spans, from block ends, growth and the plan.
 use Rattle.std.proofs.Common.{◌≡◌, ℕ, zero, suc, ◌+◌, ◌*◌, ◌%◌, ◌<◌, ◌≤◌, List, [], ◌∷◌, ◌++◌, length, map, take, drop, Option}
 use Rattle.std.proofs.Common.{Some, None, refl, sym, ap, ◌∙◌, subst, arith, get_or, zero-add, All}
 use Rattle.std.specs.Prelude.{slice_get, IsTrue, sum_by}
@@ -83,7 +83,7 @@ module _ (funcs : List Func) (blocks : List Block) (order : List ℕ) (laid : Ar
       let low = input_total code blocks laid are in
       block_ends_are ss strips ts zs ends (omega (arith, sum, total, low))
 
-  -- the shortest forms are a beginning
+  -- the shortest forms are a valid start of growing
   pub start : AreGrown ts zs
   start = record {
     one_each = let f = made.forms in let t = made.block_ends in omega (arith, f, t);
@@ -155,7 +155,7 @@ module _ (funcs : List Func) (blocks : List Block) (order : List ℕ) (laid : Ar
     pub are_short : All (λ s. s.len ≤ 12) (spans_of ss base fs)
     are_short = short_spans base ss fs strips
 
--- All of it.
+-- All facts together.
 pub record IsMade (funcs : List Func) (blocks : List Block) (order : List ℕ) (base : ℕ) (fs : List Form) : Type 0 where
   pub count : length fs ≡ length order
   pub forms : AreForms (strips_of funcs blocks order) base fs
@@ -165,7 +165,7 @@ pub record IsMade (funcs : List Func) (blocks : List Block) (order : List ℕ) (
   pub room : new_code_end (strips_of funcs blocks order) base fs ≤ base + sum_by (worst_size_of_block funcs) blocks
   pub short : All (λ s. s.len ≤ 12) (spans_of (strips_of funcs blocks order) base fs)
 
--- what a plan is for which there are forms
+-- the conditions on a plan for which there are forms
 pub record IsGiven (funcs : List Func) (blocks : List Block) (order : List ℕ) (base : ℕ) : Type 0 where
   pub laid : AreLaidOut funcs
   pub direct : AreDirect funcs
@@ -208,7 +208,7 @@ is_made funcs blocks order base g slice ts now zs forms_now fs e d h made grown 
       short = are_short funcs blocks order g.laid g.blocks_of g.perm base ts zs made_2 fs grown_2 same_2;
     }
 
--- the forms that were found, and the vector in which they then stand
+-- the forms that were found, and the vector that then holds them
 pub record AreFound (funcs : List Func) (blocks : List Block) (order : List ℕ) (base : ℕ) (fs kept : List Form) : Type 0 where
   pub made : IsMade funcs blocks order base fs
   pub same : kept ≡ fs

@@ -34,7 +34,7 @@ use Rattle.branch_fixup.proofs.Planned.{InBlock, Planned, in_block, planned}
 use Rattle.branch_fixup.proofs.BlockEndFacts.{IsOfTable}
 use Rattle.branch_fixup.proofs.BlockEndsFound.{strip_address}
 
--- Pieces and the blocks that they are of.
+-- Pieces and their blocks.
 
 pub inst_piece : (inner : List Placed) (last : Placed) (x : Form) (p : Placed) → Contains (inner ++ last ∷ []) p →
     (q : Piece) × Contains (map as_it_is inner ++ record { placed = last; form = x } ∷ []) q × (q.placed ≡ p)
@@ -78,7 +78,7 @@ from_strip (t ∷ ss) (f ∷ fs) q c = elim (Contains-append_cases (pieces_of_st
   | inr later ↦ let r = from_strip ss fs q later in record { j = suc r.j; s = r.s; at = r.at; has = r.has }
 ]
 
--- Their lengths are even, and those of forms that aren't left out aren't 0.
+-- Lengths are even, and forms that aren't left out don't have the length 0.
 
 pub form_even : (n : ℕ) (f : Form) → n % 2 ≡ 0 → piece_length n f % 2 ≡ 0
 form_even n form.Plain h = h
@@ -182,7 +182,7 @@ module _ (code : ProgramCode) (blocks : List Block) (order : List ℕ) (laid : A
   strips : AreStrips ss
   strips = are_strips code blocks order laid are perm
 
-  -- A named address is the first one of its block, or of a function that moves as one piece.
+  -- A named address is the first one of its block, or is in a function that moves as one piece.
   named_bytes : (q : Piece) → Contains (pieces_of ss fs) q → IsNamed code q.placed.addr → 0 < length_of q
   named_bytes q c is_named = by r.s.whole refl
     where
@@ -204,7 +204,7 @@ module _ (code : ProgramCode) (blocks : List Block) (order : List ℕ) (laid : A
       bytes : (p : Placed) → Contains (insts_in r.s) p → 0 < p.len
       bytes p h = let l = (some_length p (lens p h)).0 in omega (arith, l)
 
-      -- it begins the block
+      -- the address is the first one of its block
       first : r.s.whole ≡ false → q.placed.addr ≡ first_in r.s.inner r.s.last
       first w =
           let x = plan.of in

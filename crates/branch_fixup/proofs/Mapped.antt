@@ -1,4 +1,4 @@
--- The spans of blocks are a valid map. A jump that is left out isn't the first instruction of its block, so nothing names it.
+-- The spans of blocks are a valid map. A jump that is left out isn't the first instruction of its block, so it isn't named.
 use Rattle.std.proofs.Common.{◌≡◌, ◌≢◌, ℕ, zero, suc, ◌+◌, ◌%◌, ◌<◌, List, [], ◌∷◌, ◌++◌, length, Option, Bool, true, false, refl}
 use Rattle.std.proofs.Common.{sym, ap, ◌∙◌, subst, arith, inl, inr, All, get_or}
 use Rattle.std.specs.Prelude.{Any, Contains, map, not, ◌&&◌, if◌then◌else◌}
@@ -20,7 +20,7 @@ use Rattle.branch_fixup.specs.Endings.{Goes, LeftOut, ending, end_of_form, begin
 use Rattle.branch_fixup.specs.Strips.{is_alone, first_in}
 use Rattle.branch_fixup.proofs.Laid.{IsFresh, AreOnce, AreEven, once_each, disjoint, are_placed}
 
--- Of one block: an instruction that is its first one has bytes.
+-- One block: its first instruction has bytes.
 
 pub form_length : (n : ℕ) (f : Form) → 0 < n → (f ≡ form.Dropped → ⊥) → 0 < piece_length n f
 form_length n form.Plain h k = h
@@ -121,7 +121,7 @@ span_of a (q ∷ qs) p c = elim (Contains-cons_cases q qs p c) [
   | inr later ↦ let (k, s, within, is, h) = span_of (a + length_of q) qs p later in (suc k, s, omega (arith, within), is, h)
 ]
 
--- the pieces are the instructions, and those with a name have bytes
+-- the pieces are exactly the instructions, and pieces with names have bytes
 pub record AreAll (IsInput IsNamed : ℕ → Type 0) (ps : List Piece) : Type 0 where
   pub each : (a : ℕ) → IsInput a → (p : Piece) × Contains ps p × (p.placed.addr ≡ a)
   pub only : (p : Piece) → Contains ps p → IsInput p.placed.addr

@@ -1,4 +1,4 @@
--- Blocks near one another reach one another.
+-- Blocks that are near each other can reach each other.
 use Rattle.std.proofs.Common.{◌≡◌, ℕ, zero, suc, ◌+◌, ◌-◌, ◌<◌, ◌≤◌, ◌^◌, List, [], ◌∷◌, ◌++◌, length, take, drop, Option, Some}
 use Rattle.std.proofs.Common.{true, refl, sym, ap, ◌∙◌, arith, inl, inr, ◌⊎◌, get_or}
 use Rattle.std.specs.Prelude.{slice_get, Contains, Any, IsSomeAnd, sum_by, nat_lt, nat_le}
@@ -35,7 +35,7 @@ use Rattle.branch_fixup.proofs.BlockEndFacts.{IsOfTable, block_ends_of}
 use Rattle.branch_fixup.proofs.BlockEndsFound.{at_by}
 use Rattle.rb_bytes.proofs.ListLemmas.{slice_get_found}
 
--- moving both ends changes no reach
+-- moving both ends by the same distance doesn't change whether it reaches
 pub shift_reach : (reach p t from to first a : ℕ) → from + first ≡ a + p → to + first ≡ a + t → reaches reach p t ≡ true →
     reaches reach from to ≡ true
 shift_reach reach p t from to first a e f h =
@@ -44,7 +44,7 @@ shift_reach reach p t from to first a e f h =
     let back = leb-true p (t + reach) x.1 in
     reach_if reach from to (omega (arith, e, f, far)) (omega (arith, e, f, back))
 
--- two addresses in a stretch of a million bytes
+-- two addresses in a stretch of 1,000,000 bytes
 in_stretch : (low high from to : ℕ) → high ≤ low + 1000000 → low ≤ from → from ≤ high → low ≤ to → to ≤ high →
     reaches (2 ^ 20) from to ≡ true
 in_stretch low high from to h a b c d = reach_if (2 ^ 20) from to (omega (arith, h, a, b, c, d)) (omega (arith, h, a, b, c, d))
@@ -129,7 +129,7 @@ module _ (code : ProgramCode) (blocks : List Block) (order : List ℕ) (laid : A
     pub low : base + block_offset ts fs k ≤ from
     pub high : from ≤ base + block_offset ts fs (suc k)
 
-  -- where a code address is
+  -- the block of a code address
   pub record Found (a : ℕ) : Type 0 where
     pub j : ℕ
     pub t : Strip
@@ -173,7 +173,7 @@ module _ (code : ProgramCode) (blocks : List Block) (order : List ℕ) (laid : A
         IsSomeAnd (block_in blocks order k) (λ b. BlockHolds code.funcs b a)
     holds k s a plan h = rw (plan.place, plan.block, plan.of.strip_is) h
 
-    -- A JAL in a block reaches what that leads to.
+    -- A JAL in a block reaches each address to which the block leads.
     pub near_reach : (k : ℕ) (s : Strip) (a from : ℕ) → slice_get ss k ≡ Some s →
         ((s.fall ≡ Some a) ⊎ Any (λ p. target_of p ≡ Some a) (insts_in s)) → is_code_address code.funcs a ≡ true →
         In k from → reaches (2 ^ 20) from (f a) ≡ true

@@ -1,4 +1,4 @@
--- A plan's order: all places of a list, each once.
+-- A plan's order: each index of a list, once.
 use Rattle.std.proofs.Common.{◌≡◌, ◌≢◌, ℕ, zero, suc, ◌+◌, ◌<◌, List, [], ◌∷◌, ◌++◌, length, Some, sym, ap, ◌∙◌, arith}
 use Rattle.std.proofs.Common.{inl, inr, All, zero-add}
 use Rattle.std.specs.Prelude.{slice_get, AllPairs}
@@ -64,7 +64,7 @@ pub order_all_within : (blocks : List Block) (order : List ℕ) → HasAllBlocks
 order_all_within blocks order is = All-permutation (λ x. x < length blocks) (range_with_len 0 (length blocks)) order is
     (range_below (length blocks))
 
--- An order that has each place once is a permutation.
+-- An order that has each index once is a permutation.
 
 pub range_more : (a n : ℕ) → range_with_len a (suc n) ≡ range_with_len a n ++ (a + n) ∷ []
 range_more a zero = ap (λ (x : ℕ). x ∷ []) (let e : a ≡ a + 0 = omega arith in e)

@@ -1,4 +1,4 @@
--- Where the instructions of a plan's blocks are in the new code.
+-- The new addresses of the instructions of a plan's blocks.
 use Rattle.std.proofs.Common.{◌≡◌, ◌≢◌, ℕ, suc, ◌+◌, ◌<◌, ◌≤◌, List, [], ◌∷◌, ◌++◌, length, map, Option, Some, None, refl, sym}
 use Rattle.std.proofs.Common.{ap, subst, arith, inl, inr, All, get_or}
 use Rattle.std.specs.Prelude.{slice_get, Contains, Any, IsSomeAnd}
@@ -28,7 +28,7 @@ use Rattle.branch_fixup.proofs.Orders.{order_once}
 use Rattle.branch_fixup.proofs.Rounds.{form_length}
 use Rattle.branch_fixup.proofs.Planned.{planned, strip_follows, strip_length}
 
--- What a strip is, whatever it comes from.
+-- Properties of strips, for any origin.
 pub record IsStrip (s : Strip) : Type 0 where
   pub follow : Follow (first_in s.inner s.last) (insts_in s) (s.last.addr + s.last.len)
   pub lengths : (p : Placed) → Contains (insts_in s) p → HasLength p
@@ -66,7 +66,7 @@ are_strips code blocks order laid are perm = record { each = each; differ = diff
           ]
         ]
 
--- No instruction is there twice.
+-- No instruction occurs twice.
 
 fresh_append : (a : ℕ) (ps qs : List Piece) → IsFresh a ps → IsFresh a qs → IsFresh a (ps ++ qs)
 fresh_append a [] qs f g = g
@@ -143,7 +143,7 @@ strips_once (s ∷ ss) are (g ∷ gs) =
     (λ p c. fresh_strips s ss gs (λ j t at. are.differ 0 (suc j) s t refl at (omega arith)) p.placed
     (piece_inst s.inner s.last g p c))
 
--- An instruction is as far into its block as in the input.
+-- The offset of an instruction in its block is the same as in the input.
 
 place_in : (f : ℕ → ℕ) (a c end : ℕ) (inner : List Placed) (last : Placed) (x : Form) →
     Follow c (inner ++ last ∷ []) end → PlacedFrom f a (map as_it_is inner ++ record { placed = last; form = x } ∷ []) →
@@ -164,7 +164,7 @@ pub strip_place : (f : ℕ → ℕ) (a : ℕ) (s : Strip) (x : Form) → IsStrip
 strip_place f a s x is h p has = place_in f a (first_in s.inner s.last)
     (s.last.addr + s.last.len) s.inner s.last x is.follow h p has
 
--- no instruction of a block is past its last one
+-- no instruction of a block comes after its last one
 up_to_last : (c end : ℕ) (inner : List Placed) (last : Placed) → Follow c (inner ++ last ∷ []) end → (p : Placed) →
     Contains (inner ++ last ∷ []) p → (p.addr ≤ last.addr) × (c ≤ p.addr)
 up_to_last c end [] last h p has = elim (Contains-cons_cases last [] p has) [
@@ -193,7 +193,7 @@ pub before_is : (c end : ℕ) (inner : List Placed) (last : Placed) → Follow c
 before_is c end [] last h = let k = h.0 in omega (arith, k)
 before_is c end (q ∷ qs) last h = let r = before_is (c + q.len) end qs last h.1 in omega (arith, r)
 
--- The place of an address.
+-- The block and the offset of an address.
 pub record AtPlace (ss : List Strip) (j offset a : ℕ) : Type 0 where
   pub s : Strip
   pub p : Placed
@@ -227,7 +227,7 @@ address_at ts ss fs base are block_ends len j offset a is =
     let g : f h.p.addr ≡ f a = ap f h.addr in
     omega (arith, r, sum, addr, g)
 
--- no span is long
+-- all spans are short
 
 short_append : (a : ℕ) (ps qs : List Piece) → ((p : Piece) → Contains ps p → length_of p ≤ 12) →
     ((b : ℕ) → All (λ s. s.len ≤ 12) (laid_from b qs)) → All (λ s. s.len ≤ 12) (laid_from a (ps ++ qs))

@@ -60,7 +60,7 @@ strip_for code b x =
       },
     )
 
--- Its instructions are those of the block.
+-- The instructions of a strip are the instructions of its block.
 
 pub record InBlock (func : Func) (first last : ℕ) (p : Placed) : Type 0 where
   pub i : ℕ
@@ -103,7 +103,7 @@ block_in_insts code b s x p i low high at =
     subst (λ (ps : List Placed). Contains ps p) (sym (insts_are code b s x))
     (at_contains (take (suc (b.last - b.first)) (drop b.first x.func.insts.items)) (i - b.first) p here)
 
--- Before the last one none ends a block, unless the function moves as one piece.
+-- No instruction before the last one ends a block, unless the function moves as one piece.
 
 inner_at : (code : ProgramCode) (b : Block) (s : Strip) (x : StripOf code b s) (p : Placed) → Contains s.inner p →
     (i : ℕ) × (b.first ≤ i) × (i < b.last) × (slice_get x.func.insts.items i ≡ Some p)
@@ -139,7 +139,7 @@ inner_goes_on code b s x whole p c =
     by_jump i low high at true e = absurd (ends i low high at (inr e))
     by_jump i low high at false e = refl
 
--- They follow one another.
+-- The instructions follow one another without gaps.
 
 first_addr : (a : ℕ) (inner : List Placed) (last : Placed) (end : ℕ) → Follow a (inner ++ last ∷ []) end → first_in inner last ≡ a
 first_addr a [] last end h = h.0

@@ -35,7 +35,7 @@ pub place-more : (ts : List BlockEnd) (fs : List Form) (k : ℕ) →
     block_offset ts fs (k + 1) ≡ block_offset ts fs k + block_length ts fs k
 place-more ts fs k = rw (add-one k) refl
 
--- no place is far from the start
+-- all starts are low
 place_most : (ts : List BlockEnd) (fs : List Form) → AreBlockEnds ts → (i : ℕ) → i ≤ length ts →
     block_offset ts fs i ≤ sum_by most_of (take i ts)
 place_most ts fs block_ends zero within = omega arith
@@ -67,7 +67,7 @@ pushed ts fs v w k at len old e is i h = rw is (elim (cases_lt i (k + 1)) [
       ∙ ap (block_offset ts fs) (sym same)
 ])
 
--- A form that isn't enough grows by one step, and the one before it is the next shorter one.
+-- A form that doesn't reach grows by one step, and its next shorter form is then the old one.
 pub record GrowsBy (len : ℕ) (f : Form) : Type 0 where
   pub back : shorter len (longer f) ≡ Some f
   pub one_less : left_of (longer f) + 1 ≡ left_of f
@@ -205,7 +205,7 @@ pub enough_more : (grew : Bool) (A B : Type 0) (P : ℕ → Type 0) (i : ℕ) �
 enough_more true A B P i here h = h
 enough_more false A B P i here h = (h.0, below_more P i h.1 here)
 
--- growing keeps how a block ends
+-- growing doesn't change the ending of a block
 
 end_longer : (f : Form) → end_of_form (longer f) ≡ end_of_form f
 end_longer (form.Branch inverted Half jump) = refl

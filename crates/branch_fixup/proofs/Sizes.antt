@@ -92,7 +92,7 @@ jump_long len imm = refl
 pub inst_within : (p : Placed) → p.len ≤ 4 → p.len ≤ worst_length p
 inst_within p h = let e = worst_by p (action_at p) refl in let l = long_enough p.len (action_at p) h in omega (arith, e, l)
 
--- what is added where a block falls into another one
+-- the length of the jump that may be added for a block that falls through
 abbrev extra : Option ℕ → ℕ
 extra fall = if is_some fall then 4 else 0
 
@@ -120,7 +120,7 @@ kept_falls false alone action.Fence None t next h = absurd (cc)
 kept_falls false alone SystemCall None t next h = absurd (cc)
 kept_falls false alone Breakpoint None t next h = absurd (cc)
 
--- the last instruction, with what is added after it
+-- the last instruction, with the jump that is added after it
 last_within : (s : Strip) (next : Option ℕ) (g : Form) → s.last.len ≤ 4 → IsOfTable s next g →
     piece_length s.last.len g ≤ worst_length s.last + extra s.fall
 last_within s next form.Plain short h = let l = inst_within s.last short in omega (arith, l)
@@ -151,7 +151,7 @@ last_within s next (form.Goto half) short h =
     by false w = omega (arith, w)
 last_within s next form.Dropped short h = omega arith
 
--- The same in a function that moves as one piece.
+-- the last instruction of a block in a function that moves as one piece
 whole_within : (s : Strip) (next : Option ℕ) (g : Form) → s.whole ≡ true → IsOfTable s next g →
     piece_length s.last.len g ≤ s.last.len + extra s.fall
 whole_within s next g whole h = by g h
@@ -214,7 +214,7 @@ worst_of_block : (code : ProgramCode) (b : Block) (s : Strip) → (x : StripOf c
     (drop b.first x.func.insts.items)) + added_jump x.func b.last
 worst_of_block code b s x whole = rw (x.at, whole) refl
 
--- so many bytes for the last instruction
+-- at most n bytes for the last instruction
 fits_in : (code : ProgramCode) (b : Block) (s : Strip) → AreLaidOut code.funcs → StripOf code b s → (n : ℕ) →
     (s.whole ≡ true → n ≤ s.last.len + extra s.fall) → n ≤ worst_length s.last + extra s.fall ⊎ (s.whole ≡ true) →
     before_of s.inner + n ≤ worst_size_of_block code.funcs b
@@ -306,12 +306,12 @@ order_sum w blocks order perm =
     (λ i b at. ap (λ (k : ℕ). option_map_or w (slice_get blocks k) 0) (zero-add i)
     ∙ ap (λ (o : Option Block). option_map_or w o 0) at)
 
--- all blocks in an order take what they take in another one
+-- the blocks in an order have the same total as in any other order
 pub total_is : (funcs : List Func) (blocks : List Block) (order : List ℕ) → HasAllBlocks blocks order →
     worst_total funcs blocks order ≡ sum_by (worst_size_of_block funcs) blocks
 total_is funcs blocks order perm = order_sum (worst_size_of_block funcs) blocks order perm
 
--- the sum of what block ends need at most
+-- the sum of the greatest lengths of block ends
 pub block_ends_sum : (w : ℕ → ℕ) (ts : List BlockEnd) (order : List ℕ) → length ts ≡ length order →
     ((k m : ℕ) → slice_get order k ≡ Some m → most_of (end_at ts k) ≤ 7 * w m) → sum_by most_of ts ≤ 7 * sum_by w order
 block_ends_sum w [] order l h = omega arith

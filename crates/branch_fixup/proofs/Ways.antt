@@ -1,4 +1,4 @@
--- Ways that get longer while forms grow one at a time.
+-- Ways that become longer while forms grow one at a time.
 use Rattle.std.proofs.Common.{◌≡◌, ℕ, zero, suc, ◌+◌, ◌-◌, ◌^◌, ◌<◌, ◌≤◌, List, length, Option, Some, None, Bool, true, false}
 use Rattle.std.proofs.Common.{refl, sym, ap, subst, arith, inl, inr}
 use Rattle.std.specs.Prelude.{slice_index, slice_set, nat_lt, nat_le, ◌&&◌, ◌||◌, if◌then◌else◌, MatchBool, sum_by}
@@ -16,7 +16,7 @@ use Rattle.branch_fixup.proofs.Grown.{IsBelow, ahead, back, gap, rises, short_mo
 use Rattle.branch_fixup.proofs.Rounds.{at_other, at_same, below_grow, grow_step, place_low}
 use Rattle.rb_bytes.proofs.ListLemmas.{zeros}
 
--- The places of forms are starts.
+-- The starts that forms give are possible starts.
 
 pub apart_of : (ts : List BlockEnd) (fs : List Form) (i j : ℕ) → i < j →
     block_offset ts fs i + (end_at ts i).before ≤ block_offset ts fs j
@@ -93,7 +93,7 @@ not_enough_by ts places fs k more f block_ends starts k_in l h = by (form_reach 
     by None h = h
     by (Some reach) h = split reach (nat_lt k (end_at ts k).to) refl h
 
--- It stays below the size of all code.
+-- The lower bound is below the size of all code.
 pub longer_low : (ts : List BlockEnd) (places : List ℕ) (fs : List Form) (k more : ℕ) → AreBlockEnds ts → AreStarts ts places →
     k < length ts → IsLonger ts places fs k more → more < 2 ^ 62
 longer_low ts places fs k more block_ends starts k_in l = elim (cases_order k (end_at ts k).to) [
@@ -119,7 +119,7 @@ longer_low ts places fs k more block_ends starts k_in l = elim (cases_order k (e
     to_in : (end_at ts k).to < length ts
     to_in = block_ends.to_block k k_in
 
--- A growth of one form.
+-- One form grows.
 
 place_before : (ts : List BlockEnd) (fs : List Form) (p : ℕ) (x : Form) (i : ℕ) → i ≤ p →
     block_offset ts (slice_set fs p x) i ≡ block_offset ts fs i
@@ -165,7 +165,7 @@ module _ (ts : List BlockEnd) (places : List ℕ) (fs : List Form) (p : ℕ) (p_
   abbrev grown : List Form
   grown = slice_set fs p (longer (form_at fs p))
 
-  -- ways don't get shorter
+  -- ways don't become shorter
   pub still_longer : (k more : ℕ) → IsLonger ts places fs k more → IsLonger ts places grown k more
   still_longer k more l = record {
     ahead = λ le.
@@ -178,7 +178,7 @@ module _ (ts : List BlockEnd) (places : List ℕ) (fs : List Form) (p : ℕ) (p_
         omega (arith, m, g);
   }
 
-  -- those over it get longer
+  -- ways over the block become longer
   pub longer_over : (k more bytes : ℕ) →
       bytes + piece_length (end_at ts p).len (form_at fs p) ≡ piece_length (end_at ts p).len (longer (form_at fs p)) →
       crosses ts k p ≡ true → IsLonger ts places fs k more → IsLonger ts places grown k (more + bytes)
@@ -218,7 +218,7 @@ module _ (ts : List BlockEnd) (places : List ℕ) (fs : List Form) (p : ℕ) (p_
       }) in
       record { one_each = r.len; needed = r.needed; fits = r.fits }
 
--- The step of a loop over blocks: the way of one gets longer by the bytes.
+-- A step of the loop over blocks: the way of one block becomes longer by `bytes`.
 
 pub add_longer : (ts : List BlockEnd) (places : List ℕ) (fs : List Form) (mores : List ℕ) (p bytes k : ℕ) →
     length mores ≡ length ts → k < length ts → crosses ts k p ≡ true → AreLonger ts places fs mores →
@@ -241,7 +241,7 @@ pub later_over : (ts : List BlockEnd) (places : List ℕ) (fs : List Form) (more
     AreLongerOver ts places fs mores p bytes k → AreLongerOver ts places fs mores p bytes (k + 1)
 later_over ts places fs mores p bytes k more j le j_in over = more j (omega (arith, le)) j_in over
 
--- What growths leave to grow.
+-- The forms that are left to grow.
 
 pub fewer_yes : (grew : Bool) (olds fs news : List Form) →
     MatchBool grew (sum_by left_of fs < sum_by left_of olds) (fs ≡ olds) → sum_by left_of news < sum_by left_of fs →
@@ -255,7 +255,7 @@ pub fewer_no : (grew : Bool) (olds fs news : List Form) → news ≡ fs →
 fewer_no grew olds fs news e h =
     subst (λ (l : List Form). MatchBool grew (sum_by left_of l < sum_by left_of olds) (l ≡ olds)) (sym e) h
 
--- No way is known to be longer at the start.
+-- At the start no way is known to be longer.
 pub none_longer : (ts : List BlockEnd) (places : List ℕ) (fs : List Form) (mores : List ℕ) → AreBlockEnds ts →
     ((i : ℕ) → i ≤ length ts → slice_index places i ≡ block_offset ts fs i) → ((i : ℕ) → slice_index mores i ≡ 0) →
     AreLonger ts places fs mores

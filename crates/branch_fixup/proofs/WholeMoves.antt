@@ -1,4 +1,4 @@
--- Functions that are whole move as one piece: each has one block, whose pieces are laid one after another.
+-- Functions that are whole move as one piece: each has one block, whose pieces are one after another.
 use Rattle.std.proofs.Common.{◌≡◌, ℕ, zero, suc, ◌+◌, ◌-◌, ◌<◌, List, [], ◌∷◌, ◌++◌, length, map, Some, true}
 use Rattle.std.proofs.Common.{refl, sym, ap, ◌∙◌, subst, arith, inl, inr, take, drop}
 use Rattle.std.specs.Prelude.{slice_get, Contains}
@@ -36,7 +36,7 @@ laid_move all a (p ∷ ps) sub =
       laid_move all (a + length_of p) ps (λ t c. sub t (Contains-there s (laid_from (a + length_of p) ps) t c)),
     )
 
--- the spans of a block are among those of all
+-- the spans of a block are among all spans
 record LaidStrip (ss : List Strip) (fs : List Form) (a : ℕ) (s : Strip) : Type 0 where
   form : Form
   from : ℕ

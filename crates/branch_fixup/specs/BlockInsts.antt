@@ -1,4 +1,4 @@
--- The instructions of a block, as the code has them.
+-- The instructions of a block, in the terms of the code.
 use Rattle.std.specs.Prelude.{ℕ, ◌==◌, Bool, false, List, slice_get}
 use Rattle.std.specs.Option.{option_map_or}
 use Rattle.rv_code.specs.declared.placed.Func.{Func}

@@ -1,4 +1,4 @@
--- How a block ends in the new code, by the block that follows it there.
+-- The ending of a block in the new code, by the block that follows it there.
 use Rattle.std.specs.Prelude.{ℕ, zero, ◌+◌, ◌==◌, ◌&&◌, not, if◌then◌else◌, Bool, true, false, Option, Some, None, List}
 use Rattle.std.specs.Option.{option_map_or}
 use Rattle.rv_code.specs.declared.action.Action.{Action}
@@ -10,17 +10,17 @@ use Rattle.rv_code.specs.declared.placed.Func.{Func}
 use Rattle.rv_code.specs.layout.ProgramCode.{is_code_address}
 use Rattle.rv_code.specs.layout.Flow.{falls_at}
 
--- The address into which the i-th instruction of a function falls, if it does and some function has an instruction
--- there.
+-- The address to which the instruction with index i of a function falls through, if it does and some function has an
+-- instruction there.
 abbrev pub fall_of : List Func → Func → ℕ → Placed → Option ℕ
 fall_of funcs func i p =
     if falls_at func i p && is_code_address funcs (p.addr + p.len) then Some (p.addr + p.len) else None
 
--- a form but for the size of its branch or jump
+-- a form, without the size of its branch or jump
 pub data End : Type 0 where
-  -- the last instruction as it is, and then perhaps an added jump
+  -- the last instruction unchanged, and an added jump if the flag is true
   Kept : Bool → End
-  -- a branch, of opposite sense or not, and then perhaps an added jump
+  -- a branch, with the opposite condition if the first flag is true, and an added jump if the second one is
   Branches : Bool → Bool → End
   Goes : End
   LeftOut : End
@@ -36,14 +36,13 @@ end_of_form form.Dropped = LeftOut
 abbrev pub begins_at : Option ℕ → Option ℕ → Bool
 begins_at next a = option_map_or (λ n. option_map_or (λ t. n == t) a false) next false
 
--- The end of a block whose last instruction does `last`: by the addresses into which that falls
--- and to which it goes, and the one at which the next block begins.
--- `whole` says that its function moves as one piece, `alone` that the block has no other instruction.
--- What falls nowhere counts as followed by what it falls into.
+-- The ending of a block with the last action `last`: `fall` is the address to which it falls through, `target` the one
+-- to which it goes, and `next` the start of the next block. `whole` says that its function moves as one piece, `alone`
+-- that the block has no other instruction. A block that doesn't fall through gets no added jump.
 abbrev pub ending : Bool → Bool → Action → Option ℕ → Option ℕ → Option ℕ → End
 ending whole alone last fall target next = if whole then Kept apart else by last
   where
-    -- the block falls into another one than the next
+    -- the block falls through to another block than the next one
     apart : Bool
     apart = option_map_or (λ f. not (begins_at next (Some f))) fall false
 

@@ -1,4 +1,4 @@
--- Which forms blocks in an order have: those of the table of endings, that reach, and that are locally the least.
+-- The forms of blocks in an order: forms by the table of endings that reach and are locally the shortest.
 use Rattle.std.specs.Prelude.{◌≡◌, ℕ, ◌==◌, if◌then◌else◌, true, false, IsTrue, IfSome, List, [], ◌∷◌, Option, Some}
 use Rattle.std.specs.Prelude.{None, slice_get, slice_set}
 use Rattle.std.specs.List.{list_all}
@@ -20,13 +20,13 @@ use Rattle.branch_fixup.specs.Pieces.{end_from}
 use Rattle.branch_fixup.specs.Distances.{lands, main_leap, AllLand}
 use Rattle.branch_fixup.specs.Strips.{Strip, is_alone, first_of, pieces_of, spans_of}
 
--- a form of two bytes stands only for an instruction that has two in the input
+-- a form of two bytes is only for an instruction that has two bytes in the input
 abbrev pub FitsLength : ℕ → Form → Type 0
 FitsLength len (form.Branch inverted Half jump) = len ≡ 2
 FitsLength len (form.Goto true) = len ≡ 2
 FitsLength len _ = Unit {0}
 
--- each block ends by the table, before the next one
+-- each block ends by the table, for the block that follows it
 abbrev pub EndByTable : List Strip → List Form → Type 0
 EndByTable [] [] = Unit {0}
 EndByTable [] (f ∷ fs) = ⊥
@@ -42,28 +42,29 @@ shorter len (form.Branch inverted Full jump) = if len == 2 then Some (form.Branc
 shorter len (form.Goto false) = if len == 2 then Some (form.Goto true) else None
 shorter len _ = None
 
--- an instruction in a form doesn't reach, where these are the spans
+-- an instruction in a form doesn't reach its target, with these spans
 abbrev pub FallsShort : List Span → Placed → Form → Type 0
 FallsShort spans p f = list_all lands (main_leap (new spans) (new spans p.addr) p f) ≡ false
 
--- The k-th block, which is in form f, can't have the next shorter one with all others as they are:
--- at the addresses that then follow it doesn't reach.
+-- The block with index k and the form f can't have the next shorter form if all other forms stay the same: at the
+-- addresses that follow from this, it doesn't reach.
 abbrev pub IsLeast : List Strip → ℕ → List Form → ℕ → Strip → Form → Type 0
 IsLeast ss base fs k s f = IfSome (shorter s.last.len f)
     (λ g. FallsShort (spans_of ss base (slice_set fs k g)) s.last g)
 
--- the forms of blocks, from an address on
+-- forms of blocks, for new code from address `base` on
 pub record AreForms (ss : List Strip) (base : ℕ) (fs : List Form) : Type 0 where
   pub by_table : EndByTable ss fs
   pub reach : AllLand (new (spans_of ss base fs)) base (pieces_of ss fs)
   pub least : (k : ℕ) (s : Strip) (f : Form) → slice_get ss k ≡ Some s → slice_get fs k ≡ Some f →
       IsLeast ss base fs k s f
 
--- where the new code ends
+-- the end of the new code
 abbrev pub new_code_end : List Strip → ℕ → List Form → ℕ
 new_code_end ss base fs = end_from base (pieces_of ss fs)
 
--- The spans are a valid map of functions, for whatever roles, code cells and entry point these are the blocks.
+-- The spans are a valid map of the functions, for all roles, code cells and entry points for which these are the
+-- blocks.
 abbrev pub AreMap : List Func → List Block → List Span → Type 0
 AreMap funcs blocks spans =
     (roles : List (ℕ × Role)) (cells : List CodeCell) (entry : ℕ) →

@@ -1,4 +1,4 @@
--- Forms that grow: blocks in their new order, each seen as how it ends.
+-- Growing forms: blocks in their new order, by their ends.
 use Rattle.std.specs.Prelude.{◌≡◌, ℕ, zero, suc, ◌+◌, ◌^◌, ◌<◌, ◌≤◌, Bool, true, false, IfSome, List, Option, Some}
 use Rattle.std.specs.Prelude.{None, length, sum_by, slice_index, slice_index_or, slice_set}
 use Rattle.std.specs.Option.{option_map_or}
@@ -19,12 +19,12 @@ form_at fs k = slice_index_or fs k form.Plain
 abbrev pub block_length : List BlockEnd → List Form → ℕ → ℕ
 block_length ts fs k = (end_at ts k).before + piece_length (end_at ts k).len (form_at fs k)
 
--- how far from the start of the code a block begins
+-- the start of a block, in bytes from the start of the code
 abbrev pub block_offset : List BlockEnd → List Form → ℕ → ℕ
 block_offset ts fs zero = 0
 block_offset ts fs (suc k) = block_offset ts fs k + block_length ts fs k
 
--- where its branch or jump is, and where that leads
+-- the address of a block's branch or jump, and its target
 abbrev pub from_at : List BlockEnd → List Form → ℕ → ℕ
 from_at ts fs k = block_offset ts fs k + (end_at ts k).before
 
@@ -38,11 +38,11 @@ form_reach (form.Branch inverted Full jump) = Some (2 ^ 12)
 form_reach (form.Goto true) = Some (2 ^ 11)
 form_reach _ = None
 
--- a form would reach where the block is
+-- a form would reach from the block to its target
 abbrev pub is_enough : List BlockEnd → List Form → ℕ → Form → Bool
 is_enough ts fs k f = option_map_or (λ reach. reaches reach (from_at ts fs k) (to_at ts fs k)) (form_reach f) true
 
--- the same where the blocks begin at these places
+-- a form would reach, if the blocks begin at these places
 abbrev pub is_enough_at : List BlockEnd → List ℕ → ℕ → Form → Bool
 is_enough_at ts places k f =
     option_map_or (λ reach.
@@ -57,18 +57,18 @@ longer (form.Branch inverted Full jump) = form.Branch inverted Long jump
 longer (form.Goto true) = form.Goto false
 longer f = f
 
--- the most bytes of a block: its last instruction takes at most 12, for a branch of the long form and a JAL
+-- the greatest length of a block: its last instruction takes at most 12 bytes, as a branch of the long form and a JAL
 abbrev pub most_of : BlockEnd → ℕ
 most_of t = t.before + 12
 
--- Each block leads to a block, and not past the last instruction of it. All have few bytes.
+-- Each block leads to a block, at most to the start of its last instruction. All blocks together are short.
 pub record AreBlockEnds (ts : List BlockEnd) : Type 0 where
   pub to_block : (k : ℕ) → k < length ts → (end_at ts k).to < length ts
   pub to_inside : (k : ℕ) → k < length ts → (end_at ts k).offset ≤ (end_at ts (end_at ts k).to).before
   pub short : (k : ℕ) → k < length ts → (end_at ts k).len ≤ 4
   pub low : sum_by most_of ts < 2 ^ 62
 
--- A form is needed: the next shorter one, with all others as they are, isn't enough.
+-- A form is needed: the next shorter one wouldn't reach if all other forms stayed the same.
 abbrev pub IsNeeded : List BlockEnd → List Form → ℕ → Type 0
 IsNeeded ts fs k =
     IfSome (shorter (end_at ts k).len (form_at fs k)) (λ f. is_enough ts (slice_set fs k f) k f ≡ false)
@@ -76,14 +76,14 @@ IsNeeded ts fs k =
 pub record AreEnough (ts : List BlockEnd) (fs : List Form) : Type 0 where
   pub enough : (k : ℕ) → k < length fs → is_enough ts fs k (form_at fs k) ≡ true
 
--- how often a form can still grow
+-- the number of times that a form can still grow
 abbrev pub left_of : Form → ℕ
 left_of (form.Branch inverted Half jump) = 2
 left_of (form.Branch inverted Full jump) = 1
 left_of (form.Goto true) = 1
 left_of _ = 0
 
--- forms that are needed, of which none of two bytes stands for four
+-- forms that are needed, and whose lengths fit the instructions
 pub record AreGrown (ts : List BlockEnd) (fs : List Form) : Type 0 where
   pub one_each : length fs ≡ length ts
   pub needed : (k : ℕ) → k < length ts → IsNeeded ts fs k

@@ -1,4 +1,4 @@
--- The new code, instruction by instruction: in which form each one is, how long that makes it, and so where it is.
+-- The new code, instruction by instruction: the form of each, its length, and its address.
 use Rattle.std.specs.Prelude.{◌≡◌, ℕ, ◌+◌, if◌then◌else◌, Bool, List, [], ◌∷◌}
 use Rattle.rv_code.specs.declared.layout.Form.{Form}
 use Rattle.rv_code.specs.declared.layout.Form.TheVariants.{Plain, Jump, Branch, Goto, Dropped}
@@ -7,7 +7,8 @@ use Rattle.rv_code.specs.declared.layout.Size.TheVariants.{Half, Full, Long}
 use Rattle.rv_code.specs.declared.placed.Placed.{Placed}
 use Rattle.addr_map.specs.declared.span.Span.{Span}
 
--- An instruction of the input, and its form in the new code. That of one that doesn't end a block is `Plain`.
+-- An instruction of the input, and its form in the new code. The form is `Plain` if the instruction doesn't end a
+-- block.
 pub record Piece : Type 0 where
   pub placed : Placed
   pub form : Form
@@ -22,11 +23,11 @@ bytes_of_size Half = 2
 bytes_of_size Full = 4
 bytes_of_size Long = 8
 
--- of a JAL, if one is added
+-- the length of an added JAL, if there is one
 abbrev pub bytes_of_jump : Bool → ℕ
 bytes_of_jump jump = if jump then 4 else 0
 
--- an instruction that has `len` bytes in the input, with what is added after it
+-- the length of an instruction that has `len` bytes in the input, with the jump that is added after it
 abbrev pub piece_length : ℕ → Form → ℕ
 piece_length len Plain = len
 piece_length len Jump = len + 4
@@ -37,18 +38,18 @@ piece_length len Dropped = 0
 abbrev pub length_of : Piece → ℕ
 length_of p = piece_length p.placed.len p.form
 
--- Pieces one after another from an address on: their spans. A jump that is left out has an empty one, at the address
--- at which the next piece begins.
+-- The spans of pieces, one after another from an address on. A jump that is left out has an empty span, at the address
+-- of the next piece.
 abbrev pub laid_from : ℕ → List Piece → List Span
 laid_from a [] = []
 laid_from a (p ∷ ps) = record { out = a; len = length_of p; input = p.placed.addr } ∷ laid_from (a + length_of p) ps
 
--- A map gives each piece's instruction the address at which the pieces before it end.
+-- A map gives each piece's instruction the address after the pieces before it.
 abbrev pub PlacedFrom : (ℕ → ℕ) → ℕ → List Piece → Type 0
 PlacedFrom new a [] = Unit {0}
 PlacedFrom new a (p ∷ ps) = (new p.placed.addr ≡ a) × PlacedFrom new (a + length_of p) ps
 
--- where they end
+-- the address after the last piece
 abbrev pub end_from : ℕ → List Piece → ℕ
 end_from a [] = a
 end_from a (p ∷ ps) = end_from (a + length_of p) ps

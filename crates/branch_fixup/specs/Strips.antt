@@ -1,5 +1,5 @@
--- The blocks in their new order, each with what the forms and the new code need of it, so that no list of functions
--- is looked up any more.
+-- The blocks in their new order, each with all that the forms and the new code need of it, so that functions aren't
+-- looked up again.
 use Rattle.std.specs.Prelude.{ℕ, ◌-◌, Bool, true, false, List, [], ◌∷◌, ◌++◌, Option, Some, None, map, take, drop}
 use Rattle.std.specs.Prelude.{slice_get, option_map, option_and_then}
 use Rattle.std.specs.List.{filter_map}
@@ -13,8 +13,8 @@ use Rattle.addr_map.specs.declared.span.Span.{Span}
 use Rattle.branch_fixup.specs.Pieces.{Piece, as_it_is, laid_from}
 use Rattle.branch_fixup.specs.Endings.{fall_of}
 
--- A block: its instructions before the last one, that one, whether its function moves as one piece, and the address
--- into which the last one falls.
+-- A block: its instructions before the last one, its last instruction, whether its function moves as one piece, and the
+-- address to which the last instruction falls through.
 pub record Strip : Type 0 where
   pub inner : List Placed
   pub last : Placed
@@ -32,11 +32,11 @@ strip_of funcs b = option_and_then of_func (func_of funcs b)
       fall = fall_of funcs func b.last p;
     }) (inst_at func b.last)
 
--- the blocks in an order, which has each as its place in the list of blocks
+-- the blocks in an order, which has their indices in the list of blocks
 abbrev pub strips_of : List Func → List Block → List ℕ → List Strip
 strips_of funcs blocks order = filter_map (λ k. option_and_then (strip_of funcs) (slice_get blocks k)) order
 
--- those of a plan
+-- the blocks in the order of a plan
 abbrev pub planned_strips : List Func → List Block → Plan → List Strip
 planned_strips funcs blocks plan = strips_of funcs blocks plan.order.items
 
@@ -47,7 +47,7 @@ abbrev pub is_alone : List Placed → Bool
 is_alone [] = true
 is_alone (p ∷ ps) = false
 
--- where a block begins
+-- the address of a block's first instruction
 abbrev pub first_in : List Placed → Placed → ℕ
 first_in [] last = last.addr
 first_in (p ∷ ps) last = p.addr
@@ -60,12 +60,12 @@ first_of (s ∷ ss) = Some (first_in s.inner s.last)
 abbrev pub pieces_of_strip : Strip → Form → List Piece
 pieces_of_strip s f = map as_it_is s.inner ++ record { placed = s.last; form = f } ∷ []
 
--- blocks with a form each
+-- the instructions of blocks, with one form for each block
 abbrev pub pieces_of : List Strip → List Form → List Piece
 pieces_of [] fs = []
 pieces_of (s ∷ ss) [] = []
 pieces_of (s ∷ ss) (f ∷ fs) = pieces_of_strip s f ++ pieces_of ss fs
 
--- their spans, from an address on
+-- the spans of blocks, from address `base` on
 abbrev pub spans_of : List Strip → ℕ → List Form → List Span
 spans_of ss base fs = laid_from base (pieces_of ss fs)

@@ -12,7 +12,7 @@ ghost use Rattle.branch_fixup.specs.BlockInsts.{seen, func_starts_at};
 use rv_code::flow::fall_target;
 use rv_code::{Block, Func, Placed};
 
-/// A block, by its instructions.
+/// The instructions of a block, and what the forms need of it.
 #[derive(Clone, Copy)]
 pub struct BlockInsts<'a> {
     /// The instructions before the last one.
@@ -20,7 +20,7 @@ pub struct BlockInsts<'a> {
     pub last: Placed,
     /// Whether its function moves as one piece.
     pub whole: bool,
-    /// The address into which the last instruction falls, if it falls into an instruction.
+    /// The address to which the last instruction falls through, if it does and an instruction is there.
     pub fall: Option<u64>,
 }
 
@@ -41,7 +41,7 @@ pub fn insts_of<'a>(funcs: &'a [Func], block: &Block) -> BlockInsts<'a>
     }
 }
 
-/// The instructions of the block at place `k` of the plan's order.
+/// The instructions of the block with index `k` in the plan's order.
 pub fn planned<'a>(funcs: &'a [Func], blocks: &[Block], order: &[usize], k: usize) -> BlockInsts<'a>
     requires laid { AreLaidOut funcs.now }
     requires blocks { AreBlocksOf funcs.now blocks.now }
@@ -52,7 +52,7 @@ pub fn planned<'a>(funcs: &'a [Func], blocks: &[Block], order: &[usize], k: usiz
     insts_of(funcs, &blocks[order[k]])
 }
 
-/// The old address at which the block at place `k` of the plan's order begins, or None behind the last place.
+/// The old address of the block with index `k` in the plan's order, or `None` past the last one.
 pub fn begins_of(funcs: &[Func], blocks: &[Block], order: &[usize], k: usize) -> Option<u64>
     requires laid { AreLaidOut funcs.now }
     requires blocks { AreBlocksOf funcs.now blocks.now }
@@ -76,8 +76,9 @@ pub fn first_address(block: &BlockInsts) -> u64
     }
 }
 
-// The address into which `inst` falls, if it does and an instruction is there. It stands at `place` in `func`, which is
-// function `index`; the last one falls into the next function, if that begins there.
+// The address to which `inst` falls through, if it does and an instruction is there. `inst` has the index `place` in
+// `func`, which is function `index`. A function's last instruction falls through to the next function, if that starts
+// at its end.
 fn fall_of(funcs: &[Func], index: usize, func: &Func, place: usize, inst: &Placed) -> Option<u64>
     requires laid { AreLaidOut funcs.now }
     requires func { slice_get funcs.now index ≡ Some func.now }

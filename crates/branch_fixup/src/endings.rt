@@ -1,4 +1,4 @@
-// How a block ends, by the block that follows it.
+// The ending of a block, by the block that follows it.
 ghost use Rattle.std.specs.Prelude.{◌≡◌, if◌then◌else◌};
 ghost use Rattle.rv_code.specs.layout.Flow.{action_at, target_of};
 ghost use Rattle.branch_fixup.specs.BlockInsts.{seen};
@@ -9,7 +9,7 @@ use crate::block_insts::BlockInsts;
 use rv_code::flow::target;
 use rv_code::{Action, Form, Size};
 
-// Whether the next block, which begins at `next`, begins at `address`; it doesn't where either is None.
+// Whether the next block, which begins at `next`, begins at `address`. False if either is `None`.
 fn begins_at(next: Option<u64>, address: Option<u64>) -> bool
     ensures { result ≡ begins_at next address }
 {
@@ -19,14 +19,15 @@ fn begins_at(next: Option<u64>, address: Option<u64>) -> bool
     }
 }
 
-// The last instruction as it is, and a jump after it where the block falls `apart`: into another block than the next.
+// The last instruction unchanged, with a jump after it if the block falls through to another block than the next one
+// (`apart`).
 fn kept(apart: bool) -> Form
     ensures { result ≡ (if apart then Form.Jump else Form.Plain) }
 {
     if apart { Form::Jump } else { Form::Plain }
 }
 
-/// The shortest form of a block, where the next one begins at `next`.
+/// The shortest form of a block, if the next block begins at `next`.
 pub fn shortest_form(block: &BlockInsts, next: Option<u64>) -> Form
     ensures { IsShortest (seen block.now) next result }
 {
@@ -38,7 +39,8 @@ pub fn shortest_form(block: &BlockInsts, next: Option<u64>) -> Form
     let half = block.last.len == 2;
     match block.last.inst.action() {
         Action::Branch { .. } => {
-            // Turned, the branch leads to where the block fell, and falls into its target, the next block.
+            // The inverted branch goes to the block's fall-through address, and falls through to its target, the next
+            // block.
             let inverted = apart && begins_at(next, to);
             let size = if half { Size::Half } else { Size::Full };
             Form::Branch {
@@ -51,7 +53,7 @@ pub fn shortest_form(block: &BlockInsts, next: Option<u64>) -> Form
             if rd != 0 {
                 return kept(apart);
             }
-            // A jump that begins its block may be named by a role or a cell, so it stays.
+            // A jump that begins its block may be named by a role or a cell, so it isn't dropped.
             if begins_at(next, to) && !block.inner.is_empty() {
                 return Form::Dropped;
             }
@@ -61,7 +63,7 @@ pub fn shortest_form(block: &BlockInsts, next: Option<u64>) -> Form
     }
 }
 
-/// Where the branch or jump of `form` goes, for a form that can grow; None for all others.
+/// The target of the branch or jump of `form`, if the form can grow; otherwise `None`.
 pub fn lead_of(block: &BlockInsts, form: Form) -> Option<u64>
     ensures { result ≡ lead_of (seen block.now) form }
 {

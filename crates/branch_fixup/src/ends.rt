@@ -15,7 +15,7 @@ use rv_code::functions::block_starts;
 use rv_code::{Block, Form, Func};
 use std::alloc::{AllocError, Global};
 
-/// How each block ends, and its shortest form, in the plan's order.
+/// The end of each block, and its shortest form, in the plan's order.
 pub fn ends(
     alloc: Global,
     funcs: &[Func],
@@ -37,7 +37,7 @@ pub fn ends(
         let block = planned(funcs, blocks, order, k);
         let form = shortest_form(&block, begins_of(funcs, blocks, order, k + 1));
         let start = first_address(&block);
-        // A form that can't grow leads nowhere that matters: the block's own start will do.
+        // The target of a form that can't grow doesn't matter: the block's own start will do.
         let (to, offset) = find(
             &starts,
             &places,

@@ -16,12 +16,12 @@ use rb_bytes::fault::NoMemory;
 use rv_code::{Block, Form, Func, Plan};
 use std::alloc::Global;
 
-/// One form for each block, in the plan's order, and the spans of all instructions, from `base` on: the new code is one
-/// stretch of bytes, with the blocks in that order. Each form reaches, and none could be the next shorter one with all
-/// others as they are.
+/// A form for each block, in the plan's order, and the spans of all instructions, from `base` on: the new code is one
+/// stretch of bytes, with the blocks in that order. Each branch and jump reaches its target, and no block could have
+/// the next shorter form if all other forms stayed the same.
 ///
-/// The blocks are all those of the functions. The plan has each once, and blocks between which code goes lie near one
-/// another in it. `base` is even and not 0, and with all blocks at their worst sizes the new code ends below 2^64.
+/// The blocks are all blocks of the functions. The plan has each once, and blocks between which control goes are near
+/// each other in it. `base` is even and not 0, and with all blocks at their worst sizes the new code ends below 2^64.
 pub fn forms(
     alloc: Global,
     funcs: &[Func],
@@ -42,7 +42,7 @@ pub fn forms(
         r.0.items) }
     ensures map { IfOk result (λ r. AreMap funcs.now blocks.now r.1.items) }
 
-    // The new code is one stretch, and takes no more than all worst sizes.
+    // The new code is one stretch, and is at most as long as all worst sizes together.
     ensures stretch { IfOk result (λ r.
         IsStretch r.1.items base (new_code_end (planned_strips funcs.now blocks.now plan.now) base r.0.items)) }
     ensures room { IfOk result (λ r.

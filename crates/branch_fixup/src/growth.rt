@@ -1,4 +1,4 @@
-// Forms that grow in rounds: each round is one pass over the blocks.
+// Growing forms in rounds: each round is one pass over the blocks.
 ghost use Rattle.std.specs.Prelude.{◌≡◌, ℕ, ◌+◌, ◌^◌, ◌<◌, ◌≤◌, length, IfOk, OnOk, MatchBool, map, slice_index};
 ghost use Rattle.std.specs.Prelude.{sum_by, true};
 ghost use Rattle.branch_fixup.specs.Endings.{end_of_form};
@@ -10,23 +10,23 @@ use crate::settling::settle;
 use rv_code::Form;
 use std::alloc::{AllocError, Global};
 
-// How many passes over all blocks may make forms grow before they grow one at a time.
+// The number of passes over all blocks after which forms grow one at a time.
 const PASSES: u8 = 8;
 
-/// The last instruction of a block, and where its branch or jump leads.
+/// The last instruction of a block, and the target of its branch or jump.
 #[derive(Clone, Copy)]
 pub struct BlockEnd {
-    /// How many bytes of the block stand before its last instruction.
+    /// The number of bytes of the block before its last instruction.
     pub before: u64,
     /// The length of the last instruction in the input, 2 or 4.
     pub len: u8,
-    /// The block to which its branch or jump leads, by its place in the new order.
+    /// The block to which its branch or jump goes, by its index in the new order.
     pub to: usize,
-    /// How many bytes into that block: not 0 only in functions that move as one piece.
+    /// The offset of the target in that block: not 0 only in functions that move as one piece.
     pub offset: u64,
 }
 
-// Where each block begins in `forms`, and where the last one ends, in bytes from the start of the new code.
+// The start of each block with these `forms`, and the end of the last one, in bytes from the start of the new code.
 pub(crate) fn places(
     alloc: Global,
     block_ends: &[BlockEnd],
@@ -52,7 +52,8 @@ pub(crate) fn places(
     Ok(places)
 }
 
-// Whether `form` reaches as that of block `k`, where blocks begin at `places`. A form that can't grow always does.
+// Whether block `k` would reach its target with `form`, if blocks begin at `places`. A form that can't grow always
+// reaches.
 fn is_enough(block_ends: &[BlockEnd], places: &[u64], k: usize, form: Form) -> bool
     requires inside { k < length block_ends.now }
     requires to_block { (end_at block_ends.now k).to < length block_ends.now }
@@ -71,7 +72,7 @@ fn is_enough(block_ends: &[BlockEnd], places: &[u64], k: usize, form: Form) -> b
     }
 }
 
-// Grows each form by one step that isn't enough where blocks begin at `places`. Tells whether one grew.
+// Grows each form by one step that doesn't reach if blocks begin at `places`. Returns whether one grew.
 fn grow_once(block_ends: &[BlockEnd], places: &[u64], forms: &mut [Form]) -> bool
     requires block_ends { AreBlockEnds block_ends.now }
     requires len { length places.now ≡ length block_ends.now + 1 }
@@ -94,7 +95,7 @@ fn grow_once(block_ends: &[BlockEnd], places: &[u64], forms: &mut [Form]) -> boo
     grew
 }
 
-/// Makes the shortest forms longer until each is enough. A form that grew doesn't shrink, so the rounds end.
+/// Makes the shortest forms longer until each reaches. A form that grew doesn't shrink, so the rounds end.
 pub fn grow(alloc: Global, block_ends: &[BlockEnd], forms: &mut [Form]) -> Result<(), AllocError>
     requires block_ends { AreBlockEnds block_ends.now }
     requires sound { AreGrown block_ends.now forms.old }

@@ -1,4 +1,4 @@
-// How long forms are, and how far they reach.
+// Lengths of forms, and how far they reach.
 ghost use Rattle.std.specs.Prelude.{◌≡◌, ◌+◌, ◌<◌, ◌≤◌, ◌^◌, IfSome};
 ghost use Rattle.branch_fixup.specs.Pieces.{bytes_of_size, piece_length};
 ghost use Rattle.branch_fixup.specs.Distances.{reaches};
@@ -6,7 +6,7 @@ ghost use Rattle.branch_fixup.specs.Growth.{form_reach, longer};
 
 use rv_code::{Form, Size};
 
-/// The bytes of a conditional branch. A long one is a branch of opposite sense over a jump.
+/// The length of a conditional branch. A long one is a branch with the opposite condition over a jump.
 pub fn bytes_of_size(size: Size) -> u8
     ensures { result ≡ bytes_of_size size }
 {
@@ -17,8 +17,8 @@ pub fn bytes_of_size(size: Size) -> u8
     }
 }
 
-/// How many bytes the new code has, in `form`, for an instruction of `len` bytes in the input, with a jump that is
-/// added after it.
+/// The length in the new code, in `form`, of an instruction of `len` bytes in the input, with the jump that is added
+/// after it.
 pub fn piece_length(len: u8, form: Form) -> u8
     requires { len < 252 }
     ensures { result ≡ piece_length len form }
@@ -32,8 +32,8 @@ pub fn piece_length(len: u8, form: Form) -> u8
     }
 }
 
-/// Whether a branch or jump at `from` reaches `to`: the distance is from -`reach` to before `reach`, the worth of its
-/// sign bit.
+/// Whether a branch or jump at `from` reaches `to`: the distance is from -`reach` to before `reach`, which is the value
+/// of the offset's sign bit.
 pub fn reaches(reach: u64, from: u64, to: u64) -> bool
     requires from_low { from + 2 ^ 32 ≤ 2 ^ 64 }
     requires to_low { to + 2 ^ 32 ≤ 2 ^ 64 }
@@ -43,8 +43,8 @@ pub fn reaches(reach: u64, from: u64, to: u64) -> bool
     to < from + reach && from <= to + reach
 }
 
-/// The reach of a form that can grow, for `reaches`: that of C.BEQZ, of BEQ or of C.J. A form that can't grow has None.
-/// RISC-V ISA manual, volume I, sections 2.5 and 26.4.
+/// The reach of a form that can grow, for `reaches`: the reach of C.BEQZ, of BEQ or of C.J. `None` for a form that
+/// can't grow. RISC-V ISA manual, volume I, sections 2.5 and 26.4.
 pub fn form_reach(form: Form) -> Option<u64>
     ensures value { result ≡ form_reach form }
     ensures short { IfSome result (λ reach. reach < 2 ^ 32) }
@@ -60,7 +60,7 @@ pub fn form_reach(form: Form) -> Option<u64>
     }
 }
 
-/// The next longer form. A form that can't grow stays as it is.
+/// The next longer form. A form that can't grow is returned unchanged.
 pub fn longer(form: Form) -> Form
     ensures { result ≡ longer form }
 {

@@ -1,4 +1,4 @@
-//! Forms: how each block ends in the new code, and so where each instruction stands.
+//! Forms: the ending of each block in the new code, which gives the new address of each instruction.
 #![tactic(auto)]
 
 pub mod block_insts;

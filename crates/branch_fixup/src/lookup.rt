@@ -1,11 +1,11 @@
-// Where an address of the input is in a plan.
+// Looking up addresses of the input in a plan.
 ghost use Rattle.std.specs.Prelude.{◌≡◌, ◌≢◌, ◌<◌, ◌≤◌, ℕ, IfOk, All, AllPairs, length, slice_index, slice_index_or};
 ghost use Rattle.branch_fixup.specs.Lookup.{ArePlaces, Finds};
 
 use rb_lanes::count_below;
 use std::alloc::{AllocError, Global};
 
-/// For each number below the length of `order` its place in it.
+/// For each number below the length of `order` its index in `order`.
 pub fn places_in(alloc: Global, order: &[usize]) -> Result<Vec<usize>, AllocError>
     requires below { All (λ m. m < length order.now) order.now }
     requires differ { AllPairs (λ m n. m ≢ n) order.now }
@@ -19,8 +19,8 @@ pub fn places_in(alloc: Global, order: &[usize]) -> Result<Vec<usize>, AllocErro
     Ok(places)
 }
 
-/// The block that holds `address`, by its place in the plan, and how many bytes into it that is. `starts` and `places`
-/// are those of each block, in the old order; the search begins at block `near`.
+/// The block that contains `address`, by its index in the plan, and the offset of `address` in it. `starts` and
+/// `places` have the start and the index of each block, in the old order; the search begins at block `near`.
 pub fn find(starts: &[u64], places: &[usize], near: usize, address: u64) -> (usize, u64)
     requires ascending { AllPairs (λ a b. a < b) starts.now }
     requires one_each { length places.now ≡ length starts.now }
@@ -33,7 +33,7 @@ pub fn find(starts: &[u64], places: &[usize], near: usize, address: u64) -> (usi
     (places[above - 1], address - starts[above - 1])
 }
 
-// How many of `starts`, which ascend, are at most `address`; about `near` are expected to be below it.
+// The number of `starts`, which ascend, that are at most `address`. The search begins at the guess `near`.
 fn count_up_to(starts: &[u64], near: usize, address: u64) -> usize
     requires { AllPairs (λ a b. a < b) starts.now }
     ensures bound { result ≤ length starts.now }

@@ -1,5 +1,5 @@
-// Forms that grow one after another. A form that grew makes only the ways over its block longer, so only the branches
-// and jumps that go there are looked at again.
+// Growing forms one at a time. A form that grew makes only the ways over its block longer, so only the branches and
+// jumps with such a way are looked at again.
 ghost use Rattle.std.specs.Prelude.{◌≡◌, ℕ, ◌+◌, ◌^◌, ◌<◌, ◌≤◌, length, All, IfOk, OnOk, MatchBool, map, slice_index};
 ghost use Rattle.std.specs.Prelude.{sum_by};
 ghost use Rattle.branch_fixup.specs.Endings.{end_of_form};
@@ -12,11 +12,11 @@ use rv_code::Form;
 use std::alloc::{AllocError, Global};
 use std::ops::Range;
 
-// How far a form that can grow reaches at most.
+// The longest reach of a form that can grow.
 const REACH: u64 = 1 << 12;
 
-/// Grows forms one at a time until each reaches. Ways of more than `REACH` bytes aren't followed: a form that can grow
-/// doesn't reach so far, so it grows anyway. That nothing is missed isn't proved, so a pass over all blocks has to
+/// Grows forms one at a time until each reaches. Ways of more than `REACH` bytes aren't tracked: a form that can grow
+/// doesn't reach that far, so it grows anyway. It isn't proved that no form is missed, so a pass over all blocks has to
 /// confirm it.
 pub fn settle(alloc: Global, block_ends: &[BlockEnd], forms: &mut [Form]) -> Result<(), AllocError>
     requires block_ends { AreBlockEnds block_ends.now }
@@ -37,12 +37,12 @@ pub fn settle(alloc: Global, block_ends: &[BlockEnd], forms: &mut [Form]) -> Res
     settling.grow_from(alloc, forms, &mut more, blocks)
 }
 
-// What stays the same while forms grow: the blocks, and where they began before. Beside it goes `more`: by how many
-// bytes the way of each block's branch or jump is longer since then.
+// The data that doesn't change while forms grow: the blocks, and their starts before. In addition there is a list
+// `more`: by how many bytes the way of each block's branch or jump has become longer since then.
 #[derive(Clone, Copy)]
 struct Settling<'a> {
     block_ends: &'a [BlockEnd],
-    /// Where each block began, and where the last one ended.
+    /// The start of each block, and the end of the last one.
     places: &'a [u64],
     crossings: &'a Crossings,
     ghost fit: { AreBlockEnds block_ends.now },
@@ -51,7 +51,7 @@ struct Settling<'a> {
 }
 
 impl<'a> Settling<'a> {
-    // Whether the branch or jump of block `k` goes past the end of block `p`, so that its way becomes longer when `p`
+    // Whether the branch or jump of block `k` goes over the end of block `p`, so that its way becomes longer when `p`
     // grows.
     fn crosses(&self, k: usize, p: usize) -> bool
         requires { k < length self.now.block_ends.now }
@@ -61,7 +61,7 @@ impl<'a> Settling<'a> {
         (k <= p && p < to) || (to <= p && p < k)
     }
 
-    // Whether `form` reaches as that of block `k`, where its way is longer by `more` bytes.
+    // Whether block `k` would reach its target with `form`, if its way is longer by `more` bytes.
     fn is_enough_by(&self, more: u64, k: usize, form: Form) -> bool
         requires inside { k < length self.now.block_ends.now }
         requires low { more < 2 ^ 62 }
@@ -82,8 +82,8 @@ impl<'a> Settling<'a> {
         }
     }
 
-    // Block `p` has grown by `bytes`: makes the ways over it longer, and adds to `short` the blocks whose forms don't
-    // reach any more.
+    // Block `p` has grown by `bytes`: makes the ways over it longer, and adds to `short` the blocks whose forms no
+    // longer reach.
     fn lengthen(
         &self,
         forms: &[Form],
@@ -114,8 +114,8 @@ impl<'a> Settling<'a> {
         Ok(())
     }
 
-    // Grows the form of block `k` by a step, if it doesn't reach, and tells whether it did. Adds to `short` the blocks
-    // whose forms don't reach then, perhaps `k` again.
+    // Grows the form of block `k` by a step, if it doesn't reach, and returns whether it did. Adds to `short` the
+    // blocks whose forms don't reach then, perhaps also `k`.
     fn grow_block(
         &self,
         forms: &mut [Form],
@@ -147,7 +147,7 @@ impl<'a> Settling<'a> {
         Ok(true)
     }
 
-    // Grows the form of each of `blocks` by a step, if it doesn't reach, and tells whether one grew. Adds to `short`
+    // Grows the form of each of `blocks` by a step, if it doesn't reach, and returns whether one grew. Adds to `short`
     // the blocks whose forms don't reach then.
     fn grow_blocks(
         &self,
@@ -175,7 +175,7 @@ impl<'a> Settling<'a> {
         Ok(grew)
     }
 
-    // The blocks whose forms don't reach before any has grown.
+    // The blocks whose forms don't reach before any form has grown.
     fn short_blocks(&self, alloc: Global, forms: &[Form]) -> Result<Vec<usize>, AllocError>
         requires { length forms.now ≡ length self.now.block_ends.now }
         ensures { IfOk result (λ short. All (λ k. k < length self.now.block_ends.now) short.items) }
@@ -189,7 +189,7 @@ impl<'a> Settling<'a> {
         Ok(short)
     }
 
-    // Grows `blocks`, then the blocks whose forms don't reach any more by that, and so on until none grows.
+    // Grows `blocks`, then the blocks whose forms no longer reach as a result, and so on until none grows.
     fn grow_from(
         &self,
         alloc: Global,
@@ -214,10 +214,10 @@ impl<'a> Settling<'a> {
     }
 }
 
-// Which blocks may have ways over a given block. Both lists ascend, so that `range` is found by binary search.
+// Which blocks may have ways over a given block. Both lists ascend, so `range` uses binary search.
 #[derive(Drop)]
 struct Crossings {
-    /// For each block, the last block up to which it or one before it leads.
+    /// For each block, the last block to which it or one before it leads.
     ends: Vec<usize>,
     /// For each block, the first block to which it or one after it leads.
     starts: Vec<usize>,
@@ -234,7 +234,7 @@ impl Crossings {
         Ok(Crossings { ends, starts })
     }
 
-    // A range of blocks that has all which lead over block `p`, of ways that `near` follows.
+    // A range of blocks that contains all blocks with a tracked way over block `p`.
     fn range(&self, p: usize) -> Range<usize>
         ensures { result.end ≤ length self.now.starts.items }
     {
@@ -244,7 +244,7 @@ impl Crossings {
     }
 }
 
-// The block to which the branch or jump of block `k` goes, if that is at most `REACH` away; otherwise `k` itself.
+// The block to which the branch or jump of block `k` goes, if it is at most `REACH` away; otherwise `k`.
 fn near(block_ends: &[BlockEnd], places: &[u64], k: usize) -> usize
     requires block_ends { AreBlockEnds block_ends.now }
     requires inside { k < length block_ends.now }
@@ -260,7 +260,7 @@ fn near(block_ends: &[BlockEnd], places: &[u64], k: usize) -> usize
     }
 }
 
-// `Crossings::ends`: the greatest of `near` so far, from the first block on.
+// `Crossings::ends`: the running maximum of `near`, from the first block on.
 fn ends_of(alloc: Global, block_ends: &[BlockEnd], places: &[u64]) -> Result<Vec<usize>, AllocError>
     requires block_ends { AreBlockEnds block_ends.now }
     requires starts { AreStarts block_ends.now places.now }
@@ -274,7 +274,7 @@ fn ends_of(alloc: Global, block_ends: &[BlockEnd], places: &[u64]) -> Result<Vec
     Ok(ends)
 }
 
-// `Crossings::starts`: the least of `near` so far, from the last block back.
+// `Crossings::starts`: the running minimum of `near`, from the last block back.
 fn starts_of(
     alloc: Global,
     block_ends: &[BlockEnd],

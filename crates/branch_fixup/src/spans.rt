@@ -1,4 +1,4 @@
-// Where the instructions stand.
+// The spans of instructions.
 ghost use Rattle.std.specs.Prelude.{◌≡◌, ◌+◌, ◌≤◌, ◌<◌, ◌^◌, ◌++◌, IfOk, length, map};
 ghost use Rattle.rv_code.specs.layout.FunctionLists.{AreLaidOut};
 ghost use Rattle.rv_code.specs.layout.BlockOrders.{HasAllBlocks};
@@ -13,8 +13,7 @@ use addr_map::Span;
 use rv_code::{Block, Form, Func, Placed};
 use std::alloc::{AllocError, Global};
 
-// Appends the spans of `insts`, which keep their lengths, from the address `at` on. Gives the address at which they
-// end.
+// Appends the spans of `insts`, which keep their lengths, from the address `at` on. Returns the address after them.
 fn put_inner(spans: &mut Vec<Span>, mut at: u64, insts: &[Placed]) -> Result<u64, AllocError>
     requires { end_from at (map as_it_is insts.now) < 2 ^ 64 }
     ensures spans { IfOk result (λ end. spans.new.items ≡ spans.old.items ++ laid_from at (map as_it_is insts.now)) }
@@ -31,8 +30,8 @@ fn put_inner(spans: &mut Vec<Span>, mut at: u64, insts: &[Placed]) -> Result<u64
     Ok(at)
 }
 
-// Appends the spans of a block from the address `at` on, with its last instruction in `form`. Gives the address at
-// which they end.
+// Appends the spans of a block from the address `at` on, with its last instruction in `form`. Returns the address after
+// them.
 fn put_block(
     spans: &mut Vec<Span>,
     at: u64,

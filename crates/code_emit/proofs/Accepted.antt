@@ -1,4 +1,4 @@
--- The code of an accepted file can be written anew.
+-- The code of an accepted file meets the conditions of `emit`.
 use Rattle.std.proofs.Common.{◌≡◌, ℕ, ◌+◌, ◌*◌, ◌^◌, ◌≤◌, Some, Bool, true, false, refl, sym, ap, ◌∙◌, subst, arith, inl, inr, ℤ}
 use Rattle.std.specs.Prelude.{All, Contains}
 use Rattle.rv_code.specs.declared.cell.CellKind.{CellKind}
@@ -30,7 +30,7 @@ use Rattle.move_law.proofs.code.InstLists.{code_at, function_code, inst_at, leng
 use Rattle.code_emit.specs.Inputs.{CanMove, FitsRole, IsLowCell, IsLowKind}
 use Rattle.code_emit.proofs.Flows.{code_low}
 
--- An AUIPC is no nop.
+-- An AUIPC isn't a nop.
 
 first_nop : (h : ℕ) → field h 0 2 ≡ 3 → h ≡ 0x0001 → ⊥
 first_nop h full e = omega (arith, full, e)
@@ -45,7 +45,7 @@ no_nop elf a rd upper is nop = by (immediates.full_at elf a (Auipc rd upper) is)
     by f (inl e) = first_nop (halfword_at elf a) f.is_full e
     by f (inr e) = second_nop (halfword_at elf a) (halfword_at elf (a + 2)) (f.row).opcode_is e.0
 
--- the AUIPC of a lower part lies low
+-- the AUIPC of a lower part has a low address
 abbrev IsHighLow : Role → Type 0
 IsHighLow (role.CallLo hi t) = hi ≤ address_end
 IsHighLow (role.Lo hi t) = hi ≤ address_end

@@ -33,7 +33,7 @@ use Rattle.code_emit.proofs.Flows.{strip_get}
 use Rattle.code_emit.proofs.Parts.{code_length, more_pieces}
 use Rattle.code_emit.proofs.Pieces.{block_can, block_placed, one_each, start_at}
 
--- what all is given
+-- the conditions on blocks, forms and map
 pub record IsGiven (funcs : List Func) (blocks : List Block) (order : List ℕ) (fs : List Form) (lines : List Span) : Type 0 where
   pub laid : AreLaidOut funcs
   pub direct : All (LeadsToCode funcs) (insts_of funcs)
@@ -42,12 +42,12 @@ pub record IsGiven (funcs : List Func) (blocks : List Block) (order : List ℕ) 
   pub insts : All CanMove (insts_of funcs)
   pub mapped : HaveMap (strips_of funcs blocks order) fs lines
 
--- a block whose last instruction is in a form, put where others end
+-- a block whose last instruction is in a form, put after other blocks
 pub record IsPut (lines : List Span) (s : Strip) (f : Form) (end here : ℕ) : Type 0 where
   pub here_is : here ≡ end
   pub fits : CanBePut (new lines) here (pieces_of_strip s f)
 
--- a function of addresses may be another one that gives the same
+-- a property of a function holds for any function with the same values
 made_same : (f g : ℕ → ℕ) (P : (ℕ → ℕ) → Type 0) → ((t : ℕ) → f t ≡ g t) → P f → P g
 made_same f g P same h = subst P (λ i t. same t i) h
 
@@ -87,7 +87,7 @@ module _ (funcs : List Func) (blocks : List Block) (order : List ℕ) (fs : List
         (same_new code blocks order g.laid g.direct g.blocks_of.are g.perm g.insts fs base lines m)
         (all_placed code blocks order g.laid g.direct g.blocks_of.are g.perm g.insts fs base lines m)
 
-    -- where the new code begins, if there are blocks
+    -- the start of the new code, if there are blocks
     pub starts : 0 < length order → option_map_or (new lines) (begins_of ss 0) 0 ≡ base
     starts some =
         let n = count in
@@ -95,14 +95,14 @@ module _ (funcs : List Func) (blocks : List Block) (order : List ℕ) (fs : List
         start_at (new lines) base ss fs (omega (arith, l, some)) (omega (arith, n, some)) are_placed
 
     module _ (k : ℕ) (s : Strip) (at : slice_get ss k ≡ Some s) (less : k < length fs) where
-      -- what stands before the k-th block, and what stands for it
+      -- the pieces before the block with index k, and their new code
       abbrev before : List Piece
       before = pieces_of (take k ss) (take k fs)
 
       abbrev own : List Piece
       own = pieces_of_strip s (get_or fs k form.Plain)
 
-      -- it is put behind the code of those before it
+      -- the block is put after the code of the blocks before it
       pub put_after : (start n : ℕ) (x : List ℕ) → start ≡ option_map_or (new lines) (begins_of ss 0) 0 → n ≡ length x →
           Adds [] x (made_from (new lines) base before) →
           IsPut lines s (get_or fs k form.Plain) (end_from base before) (start + n)
@@ -158,7 +158,7 @@ module _ (funcs : List Func) (blocks : List Block) (order : List ℕ) (fs : List
       goes_on r puts =
           each_goes_on code blocks order g.laid g.direct g.blocks_of.are g.perm g.insts fs base lines m r bytes puts adds
 
--- The same for an order that is equal.
+-- The same facts for an equal order.
 
 pub given_along : (funcs : List Func) (blocks : List Block) (o order : List ℕ) (fs : List Form) (lines : List Span) →
     o ≡ order → IsGiven funcs blocks order fs lines → IsGiven funcs blocks o fs lines

@@ -1,4 +1,4 @@
--- What is made of an instruction of the input has a word, where it reaches.
+-- The new code for an instruction of the input can be encoded, if it reaches.
 use Rattle.std.proofs.Common.{◌≡◌, ℕ, ◌+◌, ◌*◌, ◌%◌, ◌^◌, ◌<◌, ◌≤◌, List, [], ◌∷◌, ◌++◌, Option, Some, None, Bool, true, false}
 use Rattle.std.proofs.Common.{refl, sym, ap, ◌∙◌, subst, arith, inl, inr, ℤ, pos}
 use Rattle.std.specs.Prelude.{not, if◌then◌else◌}
@@ -45,7 +45,7 @@ half_can m e fits =
     subst (λ (n : ℕ). CanBeEncoded (record { inst = m.inst; bytes = n })) (sym e)
     (record { encodable = λ none _. none fits; length_is = refl })
 
--- an instruction of the input that is as it was
+-- an instruction of the input that is unchanged
 same_can : (half : ℕ) (next : Option ℕ) (i : Inst) (n : ℕ) → Decodes half next i n → CanBeEncoded (record { inst = i; bytes = n })
 same_can half next i n (inl d) =
     subst (λ (k : ℕ). CanBeEncoded (record { inst = i; bytes = k })) (sym d.two_bytes)
@@ -228,7 +228,7 @@ full_word half next i n (inl d) e = let f = d.two_bytes in absurd (omega (arith,
 full_word half None i n (inr d) e = absurd d.row
 full_word half (Some u) i n (inr d) e = record { word = u * 2 ^ 16 + half; row = d.row }
 
--- new addresses of roles lie low
+-- new addresses of roles are low
 abbrev pub AreLowRole : (ℕ → ℕ) → Role → Type 0
 AreLowRole f role.Plain = Unit {0}
 AreLowRole f (role.CallHi t) = f t ≤ 0x7fff_0000
@@ -268,7 +268,7 @@ module _ (f : ℕ → ℕ) (half : ℕ) (next : Option ℕ) (a : ℕ) (i : Inst)
   anew_can (role.AbsHi t) s l = number_can (f t) s.0 s.1 l
   anew_can (role.AbsLo t) s l = lower_can (pos (f t)) s.0 s.1
 
--- An instruction of the input that can stand in its form at a.
+-- An instruction of the input that can be in its form at address a.
 pub record Fitting (f : ℕ → ℕ) (a : ℕ) (p : Placed) (x : Form) : Type 0 where
   pub half : ℕ
   pub next : Option ℕ

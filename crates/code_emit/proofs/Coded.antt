@@ -1,4 +1,5 @@
--- Bytes that are added to code are the instruction that they encode, and instructions that stand in code stand in a file.
+-- Bytes that are appended decode as the instruction that was encoded, and instructions in the code are instructions in a file that contains
+-- it.
 use Rattle.std.proofs.Common.{◌≡◌, ℕ, ◌+◌, ◌-◌, ◌*◌, ◌/◌, ◌%◌, ◌^◌, ◌<◌, ◌≤◌, List, [], ◌∷◌, ◌++◌, length, Some, refl, sym, ap}
 use Rattle.std.proofs.Common.{◌∙◌, subst, arith, get_or}
 use Rattle.std.specs.Prelude.{slice_index}
@@ -63,7 +64,7 @@ adds_full old w inst e =
       stand = (record { within = omega (arith, len); some = omega arith; decodes = λ next is. rw (low, is refl, high) e }, tt);
     }
 
--- Adding goes on.
+-- Appending step by step.
 
 stays_in : (old new : List ℕ) (o : ℕ) (m : Made) → length old ≤ length new →
     ((i : ℕ) → i < length old → slice_index new i ≡ slice_index old i) → StandsIn old o m → StandsIn new o m

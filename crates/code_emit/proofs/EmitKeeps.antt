@@ -1,4 +1,4 @@
--- New code of all blocks keeps every instruction.
+-- The new code of all blocks keeps every instruction.
 use Rattle.std.proofs.Common.{◌≡◌, ℕ, ◌+◌, ◌^◌, ◌<◌, ◌≤◌, List, [], ◌∷◌, sym, ap, ◌∙◌, subst, arith}
 use Rattle.std.specs.Prelude.{All, Any, Contains}
 use Rattle.std.proofs.lemmas.List.Sorted.{Contains-permutation}

@@ -1,4 +1,4 @@
--- What a map's new addresses are like, and that all pieces of a plan can stand where they are put.
+-- Properties of a map's new addresses, and that all pieces of a plan can be encoded at their addresses.
 use Rattle.std.proofs.Common.{◌≡◌, ℕ, ◌+◌, ◌%◌, ◌^◌, ◌<◌, ◌≤◌, List, [], ◌∷◌, ◌++◌, Option, Some, None, true, false, refl, sym}
 use Rattle.std.proofs.Common.{ap, subst, arith, inl, inr}
 use Rattle.std.specs.Prelude.{All, Contains, IfSome, find, option_map, unwrap_or, ◌==◌, cond}
@@ -40,7 +40,7 @@ use Rattle.code_emit.proofs.Pieces.{inst_of, of_strip, tabled}
 
 -- New addresses.
 
--- what all spans' addresses are, and an address itself, its new one is
+-- a property of all spans' addresses and of an address holds for its new address
 new_has : (P : ℕ → Type 0) (spans : List Span) (t : ℕ) → ((s : Span) → Contains spans s → P s.out) → P t → P (new spans t)
 new_has P [] t each itself = itself
 new_has P (s ∷ ss) t each itself =
@@ -140,7 +140,7 @@ module _ (code : ProgramCode) (blocks : List Block) (order : List ℕ) (laid : A
   pub once : AreOnce ps
   once = strips_once ss (are_strips code blocks order laid are perm) fs
 
-  -- the lines of the map have the same new addresses
+  -- the lines of the map give the same new addresses
   pub same_new : (t : ℕ) → new (spans_of ss base fs) t ≡ new lines t
   same_new t =
       ap (λ (o : Option ℕ). unwrap_or o t)

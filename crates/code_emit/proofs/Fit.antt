@@ -1,4 +1,4 @@
--- What reaches has a word: distances and parts of addresses fit.
+-- A branch or jump that reaches has an encoding: distances and parts of addresses fit.
 use Rattle.std.proofs.Common.{◌≡◌, ℕ, suc, ◌+◌, ◌-◌, ◌%◌, ◌^◌, ◌<◌, ◌≤◌, true, refl, ap, arith, inl, inr, ℤ, pos, negsuc, ◌+ℤ◌}
 use Rattle.std.proofs.Common.{◌-ℤ◌, ◌*ℤ◌, ◌≤ℤ◌}
 use Rattle.std.specs.Prelude.{nat_lt, nat_le}

@@ -1,4 +1,4 @@
--- What the blocks of a plan are in the input: where each instruction of them goes on.
+-- The blocks of a plan in the input: which instruction follows each of theirs.
 use Rattle.std.proofs.Common.{◌≡◌, ℕ, suc, ◌+◌, ◌-◌, ◌^◌, ◌<◌, ◌≤◌, List, [], ◌∷◌, ◌++◌, Some, Bool, true, refl, sym, ap, ◌∙◌}
 use Rattle.std.proofs.Common.{arith, take, drop}
 use Rattle.std.specs.Prelude.{All, Contains, slice_get}

@@ -1,4 +1,4 @@
--- What stands in the new code for an instruction keeps it.
+-- The new code for an instruction keeps it.
 use Rattle.std.proofs.Common.{◌≡◌, ℕ, zero, suc, ◌+◌, ◌^◌, ◌<◌, ◌≤◌, List, [], ◌∷◌, ◌++◌, Option, Some, None, Bool, true, false}
 use Rattle.std.proofs.Common.{refl, sym, ap, ◌∙◌, subst, arith, ℤ, pos}
 use Rattle.std.specs.Prelude.{if◌then◌else◌, ◌==◌, ◌&&◌, not, IsTrue, IfSome, Any}
@@ -35,7 +35,7 @@ use Rattle.code_emit.proofs.Standing.{HasMade, HasAll, has_at, width_is}
 abbrev pub apart_of : Option ℕ → Option ℕ → Bool
 apart_of fall next = option_map_or (λ f. not (begins_at next (Some f))) fall false
 
--- An instruction at its place in the new code: where it falls, and which one follows.
+-- An instruction at its address in the new code, with the address to which it falls through and the one that follows in the new code.
 pub record Stands (r : Rewrite) (p : Placed) (form : Form) (fall after : Option ℕ) (a : ℕ) : Type 0 where
   pub out_is : out r p.addr ≡ a
   pub span : Any (λ s. (s.input ≡ p.addr) × (piece_length p.len form ≤ s.len)) r.spans
@@ -54,11 +54,11 @@ lead a t h k = omega (arith, ints, h, k)
 not_zero : (n : ℕ) → (suc n == 0) ≡ false
 not_zero n = ne_eqb (suc n) 0 (λ h. absurd (omega (arith, h)))
 
--- an added jump leads where it is to lead
+-- an added jump goes to its target
 leads : (r : Rewrite) (a t n : ℕ) → HasMade r.output a (Jal 0 (distance t a)) n → a < 2 ^ 63 → t < 2 ^ 63 → Goes r.output a t
 leads r a t n has h k = jumps (distance t a) (has_at r.output a (Jal 0 (distance t a)) n has) (lead a t h k)
 
--- the branch's own action, turned or not
+-- the action of a branch with another distance, or with the opposite condition
 branch_action : (i : Inst) (test : Test) (wanted : Bool) (rs1 rs2 : ℕ) (imm z : ℤ) →
     action_of i ≡ Branch test wanted rs1 rs2 imm → action_of (with_distance i z) ≡ Branch test wanted rs1 rs2 z
 branch_action (Beq a b c) test wanted rs1 rs2 imm z e = cc
@@ -87,7 +87,7 @@ jump_inst : (i : Inst) (rd : ℕ) (imm z : ℤ) → action_of i ≡ Jump rd imm 
 jump_inst (Jal a b) rd imm z e = cc
 jump_inst _ rd imm z e = absurd (cc)
 
--- what goes on is no jump that saves nothing
+-- an action that goes on isn't a jump that saves no return address
 not_plain : (x : Action) → IsTrue (goes_on x) → is_plain_jump x ≡ false
 not_plain (Jump zero imm) h = absurd (cc)
 not_plain (Jump (suc rd) imm) h = not_zero rd
@@ -118,7 +118,7 @@ module _ (r : Rewrite) (p : Placed) (f : Form) (fall after : Option ℕ) (a : �
         inside = (k, t, within, is, (e, omega (arith, h, fits, width)));
       }
 
-  -- from where it ends
+  -- the end of the instruction
   ends_at : (inst : Inst) (bytes : ℕ) → HasMade r.output a inst bytes → inst_end r p.addr ≡ plus (out r p.addr) bytes
   ends_at inst bytes has =
       ap (plus (out r p.addr))
@@ -132,7 +132,7 @@ module _ (r : Rewrite) (p : Placed) (f : Form) (fall after : Option ℕ) (a : �
       Goes r.output (inst_end r p.addr) to
   goes_from inst bytes to has h = subst (λ (q : ℕ). Goes r.output q to) (sym (ends_at inst bytes has)) h
 
-  -- Control goes on from e, where the jump stands or the next block begins.
+  -- Control goes on from e, which has the added jump or is the start of the next block.
   on : (b : Bool) (e : ℕ) → apart_of fall after ≡ b → e + bytes_of_jump b ≡ a + piece_length p.len f →
       HasAll r.output e (added (out r) p b e) → is_plain_jump (action_at p) ≡ false → GetsToNext r (Goes r.output) p e
   on b e is at has plain = rw (s.falls plain) (by b fall refl is at has)
@@ -160,7 +160,7 @@ module _ (r : Rewrite) (p : Placed) (f : Form) (fall after : Option ℕ) (a : �
   wrapped : (n : ℕ) (b : Bool) → n + bytes_of_jump b ≡ piece_length p.len f → plus a n ≡ a + n
   wrapped n b e = let room = s.room in plus_inside a n (omega (arith, e, room))
 
-  -- the same from an instruction's end
+  -- control goes on from the end of the instruction
   on_end : (b : Bool) (n : ℕ) → apart_of fall after ≡ b → n + bytes_of_jump b ≡ piece_length p.len f →
       HasAll r.output (a + n) (added (out r) p b (a + n)) → is_plain_jump (action_at p) ≡ false →
       GetsToNext r (Goes r.output) p (plus (out r p.addr) n)
@@ -176,7 +176,7 @@ module _ (r : Rewrite) (p : Placed) (f : Form) (fall after : Option ℕ) (a : �
       KeepsInst r (Goes r.output) p
   kept_keeps b is at has more = by (action_at p) refl
     where
-      -- what it is, by where it goes
+      -- the instruction, by its target
       is_kept : (o : Option ℕ) (i : Inst) → target_of p ≡ o →
           option_map_or (λ t. with_distance p.inst (distance (out r t) a)) o (made_anew (out r) p.addr p.role p.inst) ≡ i →
           HasMade r.output a i p.len
@@ -229,7 +229,7 @@ module _ (r : Rewrite) (p : Placed) (f : Form) (fall after : Option ℕ) (a : �
       by SystemCall e = plain (ap (target p.addr) e)
       by Breakpoint e = plain (ap (target p.addr) e)
 
-  -- It goes on where it falls.
+  -- Control goes on to the fall-through address.
   kept_goes_on : (b : Bool) → apart_of fall after ≡ b → p.len + bytes_of_jump b ≡ piece_length p.len f →
       HasMade r.output a (kept (out r) a p) p.len → HasAll r.output (a + p.len) (added (out r) p b (a + p.len)) →
       GoesOn r (Goes r.output) p
@@ -247,7 +247,7 @@ module _ (r : Rewrite) (p : Placed) (f : Form) (fall after : Option ℕ) (a : �
       by (Some n) k = subst (λ (q : ℕ). Goes r.output e (out r q)) (sym (s.fall_is n k)) goes
 
   module _ (test : Test) (wanted : Bool) (rs1 rs2 : ℕ) (imm : ℤ) (e : action_at p ≡ Branch test wanted rs1 rs2 imm) where
-    -- one that leads to its target
+    -- a branch that leads to its target
     straight : (jump : Bool) (size : Size) → apart_of fall after ≡ jump →
         bytes_of_size size + bytes_of_jump jump ≡ piece_length p.len f →
         HasAll r.output a
@@ -286,7 +286,7 @@ module _ (r : Rewrite) (p : Placed) (f : Form) (fall after : Option ℕ) (a : �
         (on jump (a + 8) is (omega (arith, len))
         (subst (λ (q : ℕ). HasAll r.output q (added (out r) p jump (a + 8))) past has.1.1) (ap is_plain_jump e)))
 
-    -- one that leads to where the input's falls, before its target
+    -- a branch that leads to its fall-through address, and is followed by its target
     inverted : (size : Size) → after ≡ Some (plus p.addr (unsigned64 imm)) → bytes_of_size size ≡ piece_length p.len f →
         HasAll r.output a (branch_to (out r (p.addr + p.len)) p.inst true size a) →
         KeepsBranch r (Goes r.output) p test wanted rs1 rs2 (plus p.addr (unsigned64 imm))
@@ -359,7 +359,7 @@ pub record InvertedBy (fall t after : Option ℕ) (inverted jump : Bool) : Type 
   pub inverted_is : inverted ≡ apart_of fall after && begins_at after t
   pub jump_is : jump ≡ apart_of fall after && not (apart_of fall after && begins_at after t)
 
--- of a branch that isn't in a whole function
+-- a branch that isn't in a whole function
 branches_by : (inverted jump whole alone : Bool) (test : Test) (wanted : Bool) (rs1 rs2 : ℕ) (imm : ℤ)
     (fall t after : Option ℕ) → Branches inverted jump ≡ ending whole alone (Branch test wanted rs1 rs2 imm) fall t after →
     InvertedBy fall t after inverted jump
@@ -458,7 +458,7 @@ branch_keeps true jump size r p fall after a s test wanted rs1 rs2 imm e by_tabl
     (first_all r a (branch_to (out r (p.addr + p.len)) p.inst true size a)
     (added (out r) p jump (a + bytes_of_size size)) s.stands)
 
--- An instruction that stands in a form of the table is kept.
+-- An instruction in a form of the table is kept.
 pub keeps : (r : Rewrite) (p : Placed) (f : Form) (whole alone : Bool) (fall after : Option ℕ) (a : ℕ) →
     Stands r p f fall after a → end_of_form f ≡ ending whole alone (action_at p) fall (target_of p) after →
     KeepsInst r (Goes r.output) p

@@ -1,4 +1,4 @@
--- The instruction after one, where it falls: the one that starts where it ends, and after a call the next one of its function.
+-- The instruction that follows one that falls through: the one that starts at its end; after a call it is the next one of its function.
 use Rattle.std.proofs.Common.{◌≡◌, ℕ, zero, suc, ◌+◌, ◌<◌, List, [], ◌∷◌, length, Option, Some, None, Bool, true, false, refl}
 use Rattle.std.proofs.Common.{sym, ap, ◌∙◌, subst, arith, inl, inr}
 use Rattle.std.specs.Prelude.{◌==◌, ◌&&◌, ◌||◌, not, if◌then◌else◌, is_some, option_map, slice_get}
@@ -67,7 +67,7 @@ next_of_at (h ∷ fs) (suc f) func x o at here other =
     rw (other 0 h refl (λ z. absurd (omega (arith, z))))
     (next_of_at fs f func x o at here (λ g k at_g apart. other (suc g) k at_g (λ z. apart (omega (arith, z)))))
 
--- What starts at an address.
+-- Instructions that start at an address.
 
 placed_is : (funcs : List Func) (a : ℕ) →
     option_map (λ q. q.addr) (placed_at funcs a) ≡ (if is_code_address funcs a then Some a else None)
@@ -79,7 +79,7 @@ placed_is funcs a = by (placed_at funcs a) refl
 
 module _ (funcs : List Func) (laid : AreLaidOut funcs) (f i : ℕ) (func : Func) (p : Placed)
     (at_f : slice_get funcs f ≡ Some func) (at_i : slice_get func.insts.items i ≡ Some p) where
-  -- no other instruction has its address
+  -- no other function has an instruction at this address
   others : (g : ℕ) (h : Func) → slice_get funcs g ≡ Some h → (g ≡ f → ⊥) → next_in h.insts.items p.addr ≡ None
   others g h at_g apart =
       next_in_none h.insts.items p.addr
@@ -101,7 +101,7 @@ module _ (funcs : List Func) (laid : AreLaidOut funcs) (f i : ℕ) (func : Func)
       (next_in_none func.insts.items p.addr
       (λ j r at_j less e. let k = once j r at_j e in absurd (omega (arith, k, less, last)))) others
 
-  -- where it falls
+  -- the address to which it falls through
   pub next_falls : is_plain_jump (action_at p) ≡ false → next_among funcs p ≡ fall_of funcs func i p
   next_falls plain = by (is_call (action_at p)) refl
     where
@@ -142,7 +142,7 @@ module _ (funcs : List Func) (laid : AreLaidOut funcs) (f i : ℕ) (func : Func)
           if_call false k ∙ ap (λ (a : ℕ). option_map (λ q. q.addr) (placed_at funcs a)) sum ∙ placed_is funcs (p.addr + p.len)
           ∙ sym (ap (λ (b : Bool). if b && is_code_address funcs (p.addr + p.len) then Some (p.addr + p.len) else None) falls)
 
-  -- before another one of its function
+  -- before another instruction of its function
   pub falls_before : suc i < length func.insts.items → is_plain_jump (action_at p) ≡ false →
       next_among funcs p ≡ Some (p.addr + p.len)
   falls_before less plain =

@@ -1,4 +1,4 @@
--- What is made of pieces, one after another.
+-- The new code of pieces, one after another.
 use Rattle.std.proofs.Common.{◌≡◌, ℕ, zero, suc, ◌+◌, ◌<◌, List, [], ◌∷◌, ◌++◌, length, refl, sym, ap, ◌∙◌, subst, arith, get_or}
 use Rattle.std.proofs.Common.{take, true, false}
 use Rattle.std.specs.Prelude.{All, map}
@@ -45,12 +45,12 @@ after_from f b o a (p ∷ ps) e =
     ap (λ (n : ℕ). b + n) (parts ∙ ap (λ (n : ℕ). after_made n (made_from f (a + length_of p) ps)) first)
     ∙ after_from f b (o + length_of p) (a + length_of p) ps (omega (arith, e))
 
--- the length of code of pieces
+-- the length of the code of pieces
 pub code_length : (f : ℕ → ℕ) (a : ℕ) (code : List ℕ) (ps : List Piece) → Adds [] code (made_from f a ps) →
     a + length code ≡ end_from a ps
 code_length f a code ps adds = ap (λ (n : ℕ). a + n) adds.length_is ∙ after_from f a 0 a ps (omega arith)
 
--- pieces of which all can stand
+-- the parts of pieces that can all be encoded
 pub can_parts : (f : ℕ → ℕ) (a : ℕ) (ps qs : List Piece) → AllCanBeEncoded (made_from f a (ps ++ qs)) →
     AllCanBeEncoded (made_from f a ps) × AllCanBeEncoded (made_from f (end_from a ps) qs)
 can_parts f a ps qs can =
@@ -94,7 +94,7 @@ inner_more f a at x y z ps i d within here g h =
     subst (λ (l : List Piece). Adds x z (made_from f a l)) (sym (map_more ps i d within))
     (one_more f a at x y z (map as_it_is (take i ps)) (as_it_is (get_or ps i d)) here g h)
 
--- the last one of a block
+-- the last piece of a block
 pub last_can : (f : ℕ → ℕ) (a : ℕ) (s : Strip) (x : Form) → AllCanBeEncoded (made_from f a (pieces_of_strip s x)) →
     AllCanBeEncoded (made f (end_from a (map as_it_is s.inner)) s.last x)
 last_can f a s x can =

@@ -1,4 +1,4 @@
--- The pieces of a plan: each is one of an instruction, and each instruction has one. Each ends by the table.
+-- The pieces of a plan: each is of an instruction, and each instruction has one. Each ends by the table.
 use Rattle.std.proofs.Common.{◌≡◌, ℕ, zero, suc, ◌<◌, ◌≤◌, List, [], ◌∷◌, ◌++◌, length, Option, Some, Bool, true, refl, sym}
 use Rattle.std.proofs.Common.{ap, ◌∙◌, subst, arith, inl, inr, get_or, take}
 use Rattle.std.specs.Prelude.{Contains, map, slice_get}
@@ -159,7 +159,7 @@ first_placed : (f : ℕ → ℕ) (a : ℕ) (inner : List Placed) (last : Placed)
 first_placed f a [] last x h = h.0
 first_placed f a (p ∷ ps) last x h = h.0
 
--- where the first one begins
+-- the start of the first block
 pub start_at : (f : ℕ → ℕ) (a : ℕ) (ss : List Strip) (fs : List Form) → 0 < length ss → 0 < length fs →
     PlacedFrom f a (pieces_of ss fs) → option_map_or f (begins_of ss 0) 0 ≡ a
 start_at f a [] fs some forms h = absurd (omega (arith, some))
@@ -167,7 +167,7 @@ start_at f a (t ∷ ss) [] some forms h = absurd (omega (arith, forms))
 start_at f a (t ∷ ss) (x ∷ fs) some forms h =
     first_placed f a t.inner t.last x (split_placed f a (pieces_of_strip t x) (pieces_of ss fs) h).0
 
--- where the pieces of the k-th one are
+-- the addresses of the pieces of the block with index k
 pub block_placed : (f : ℕ → ℕ) (a : ℕ) (ss : List Strip) (fs : List Form) (k : ℕ) (s : Strip) → slice_get ss k ≡ Some s →
     k < length fs → PlacedFrom f a (pieces_of ss fs) →
     PlacedFrom f (end_from a (pieces_of (take k ss) (take k fs))) (pieces_of_strip s (get_or fs k form.Plain))
@@ -183,7 +183,7 @@ block_placed f a (t ∷ ss) (x ∷ fs) (suc k) s at less h =
     (block_placed f (end_from a (pieces_of_strip t x)) ss fs k s at (omega (arith, less))
     (split_placed f a (pieces_of_strip t x) (pieces_of ss fs) h).1)
 
--- they can stand there
+-- the pieces of the block with index k can be encoded there
 pub block_can : (f : ℕ → ℕ) (a : ℕ) (ss : List Strip) (fs : List Form) (k : ℕ) (s : Strip) → slice_get ss k ≡ Some s →
     k < length fs → AllCanBeEncoded (made_from f a (pieces_of ss fs)) →
     AllCanBeEncoded (made_from f (end_from a (pieces_of (take k ss) (take k fs))) (pieces_of_strip s (get_or fs k form.Plain)))

@@ -1,4 +1,4 @@
--- The bytes of a map's spans are those of the new code.
+-- The bytes of a map's spans are bytes of the new code.
 use Rattle.std.proofs.Common.{◌≡◌, ℕ, ◌+◌, ◌-◌, ◌<◌, ◌≤◌, List, length, subst, arith}
 use Rattle.std.specs.Prelude.{All}
 use Rattle.std.proofs.lemmas.List.Elements.{All-contains}
@@ -15,7 +15,7 @@ use Rattle.branch_fixup.proofs.Laid.{inside, laid_above}
 use Rattle.code_emit.specs.Inputs.{AreMapped}
 use Rattle.code_emit.specs.Output.{Puts}
 
--- They may be executed and not written.
+-- The bytes of spans may be executed and not written.
 pub span_bytes : (ss : List Strip) (fs : List Form) (base : ℕ) (lines : List Span) → AreMapped ss fs base lines →
     (funcs : List Func) (bytes : List ℕ) → base + length bytes ≡ new_code_end ss base fs →
     (r : Rewrite) → Puts r funcs lines base bytes → All (λ s. AreCodeBytes r.output s.out s.len) lines

@@ -1,4 +1,4 @@
--- Instructions that stand in an executable, with their lengths.
+-- Instructions in an executable, with their lengths.
 use Rattle.std.proofs.Common.{◌≡◌, ℕ, ◌+◌, List, [], ◌∷◌, sym, subst}
 use Rattle.rv_code.specs.declared.inst.Inst.{Inst}
 use Rattle.elf_code.specs.Parts.{IsInstIn}
@@ -7,7 +7,7 @@ use Rattle.elf_image.specs.memory.Executables.{Executable, AreCodeBytes, memory_
 use Rattle.move_law.proofs.code.InstLists.{length_is}
 use Rattle.code_emit.specs.NewInsts.{Made}
 
--- an instruction of so many bytes
+-- an instruction of this length
 pub record HasMade (x : Executable) (a : ℕ) (inst : Inst) (bytes : ℕ) : Type 0 where
   pub is_inst : IsInstIn (memory_of x) a inst bytes
   pub code : AreCodeBytes x a bytes

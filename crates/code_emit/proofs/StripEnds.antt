@@ -1,4 +1,4 @@
--- Blocks that end by the table give pieces that do.
+-- The pieces of blocks that end by the table end by the table.
 use Rattle.std.proofs.Common.{◌≡◌, ℕ, zero, suc, ◌+◌, ◌^◌, ◌<◌, List, [], ◌∷◌, ◌++◌, Option, Some, Bool, true, false, refl, sym, ap, ◌∙◌}
 use Rattle.std.specs.Prelude.{map, not}
 use Rattle.std.proofs.lemmas.Bool.{eq-eqb}
@@ -17,8 +17,7 @@ use Rattle.branch_fixup.specs.Strips.{Strip, is_alone, first_in, first_of, piece
 use Rattle.branch_fixup.specs.Forms.{EndByTable}
 use Rattle.code_emit.proofs.Walk.{first_of as first_piece, Ends, AllEnd}
 
--- An instruction before the last one of its block: the next one is where it ends, and only in a whole function is it one that
--- ends blocks.
+-- An instruction before the last one of its block: the next one is at its end, and it ends a block only in a whole function.
 pub record IsInner (r : Rewrite) (whole : Bool) (p : Placed) (n : ℕ) : Type 0 where
   pub next_is : n ≡ p.addr + p.len
   pub falls : is_plain_jump (action_at p) ≡ false → next r p ≡ Some n
@@ -31,7 +30,7 @@ abbrev pub AllInner : Rewrite → Bool → List Placed → Placed → Type 0
 AllInner r whole [] last = Unit {0}
 AllInner r whole (p ∷ ps) last = IsInner r whole p (first_in ps last) × AllInner r whole ps last
 
--- what a block is in the input
+-- the flow of control of a block in the input
 pub record FlowsAs (r : Rewrite) (s : Strip) : Type 0 where
   pub inner : AllInner r s.whole s.inner s.last
   pub fall_is : (n : ℕ) → s.fall ≡ Some n → n ≡ s.last.addr + s.last.len

@@ -1,4 +1,4 @@
--- Pieces whose instructions stand one after another are all kept.
+-- Pieces whose instructions are one after another in the output are all kept.
 use Rattle.std.proofs.Common.{◌≡◌, ℕ, ◌+◌, ◌^◌, ◌<◌, ◌≤◌, List, [], ◌∷◌, ◌++◌, Option, Some, None, Bool, true, false, refl, sym}
 use Rattle.std.proofs.Common.{ap, ◌∙◌, subst, arith, inl, inr}
 use Rattle.std.specs.Prelude.{Any, Contains}
@@ -22,7 +22,7 @@ abbrev pub first_of : List Piece → Option ℕ
 first_of [] = None
 first_of (p ∷ ps) = Some p.placed.addr
 
--- An instruction's form is that of the table, before the next one.
+-- An instruction's form is by the table, for the instruction that follows.
 pub record Ends (r : Rewrite) (p : Piece) (after : Option ℕ) : Type 0 where
   pub whole : Bool
   pub alone : Bool

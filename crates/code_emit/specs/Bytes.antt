@@ -1,4 +1,4 @@
--- Bytes of the new code, and which instructions stand in them.
+-- The bytes of the new code, and the instructions in them.
 use Rattle.std.specs.Prelude.{◌≡◌, ℕ, ◌+◌, ◌*◌, ◌/◌, ◌%◌, ◌^◌, ◌<◌, ◌≤◌, ◌==◌, if◌then◌else◌, List, [], ◌∷◌, Option}
 use Rattle.std.specs.Prelude.{Some, length, slice_index}
 use Rattle.rv_code.specs.declared.inst.Inst.{Inst}
@@ -17,11 +17,11 @@ half_bytes h = h % 256 ∷ h / 256 ∷ []
 abbrev pub full_bytes : ℕ → List ℕ
 full_bytes w = w % 256 ∷ w / 256 % 256 ∷ w / 65536 % 256 ∷ w / 16777216 ∷ []
 
--- the halfword at a place of a list of bytes
+-- the halfword at an offset in a list of bytes
 abbrev pub half_in : List ℕ → ℕ → ℕ
 half_in code o = slice_index code o + 256 * slice_index code (o + 1)
 
--- an instruction stands at a place, whatever follows it
+-- the bytes from offset o on are an instruction, for any bytes after it
 pub record StandsIn (code : List ℕ) (o : ℕ) (m : Made) : Type 0 where
   pub within : o + m.bytes ≤ length code
   pub some : 2 ≤ m.bytes
@@ -36,13 +36,14 @@ abbrev pub after_made : ℕ → List Made → ℕ
 after_made o [] = o
 after_made o (m ∷ ms) = after_made (o + m.bytes) ms
 
--- These instructions were added to code, and nothing else.
+-- Exactly these instructions were appended to code.
 pub record Adds (old new : List ℕ) (ms : List Made) : Type 0 where
   pub keeps : (i : ℕ) → i < length old → slice_index new i ≡ slice_index old i
   pub length_is : length new ≡ after_made (length old) ms
   pub stand : AllStandIn new (length old) ms
 
--- The encoder finds a word of the instruction: it fits, or some halfword, or some two, are it.
+-- The encoder finds bytes for the instruction: it fits the width, or some halfword, or some pair of halfwords, decodes
+-- as it.
 abbrev pub IsEncodable : Width → Inst → Type 0
 IsEncodable want inst =
     (Fits want inst → ⊥) → ((half : ℕ) (next : Option ℕ) → Decodes half next inst (bytes want) → ⊥) → ⊥
@@ -59,7 +60,7 @@ abbrev pub AllCanBeEncoded : List Made → Type 0
 AllCanBeEncoded [] = Unit {0}
 AllCanBeEncoded (m ∷ ms) = CanBeEncoded m × AllCanBeEncoded ms
 
--- pieces from an address on: they stand where they were placed, can be encoded there, and end far below the limit
+-- pieces from an address on: the map has them there, they can be encoded there, and they end far below the limit
 pub record CanBePut (new : ℕ → ℕ) (at : ℕ) (pieces : List Piece) : Type 0 where
   pub placed : PlacedFrom new at pieces
   pub can : AllCanBeEncoded (made_from new at pieces)

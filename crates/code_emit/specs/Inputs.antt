@@ -1,4 +1,4 @@
--- What code is like that can be written anew, and which forms and map belong together.
+-- Conditions on code for which new code can be made, and which forms and map belong together.
 use Rattle.std.specs.Prelude.{◌≡◌, ◌⊎◌, ℕ, ◌+◌, ◌%◌, ◌^◌, ◌<◌, ◌≤◌, IfSome, List, Option}
 use Rattle.rv_code.specs.declared.cell.CellKind.{CellKind}
 use Rattle.rv_code.specs.declared.cell.CellKind.TheVariants.{Abs, Diff}
@@ -18,8 +18,8 @@ use Rattle.branch_fixup.specs.Forms.{AreForms, new_code_end}
 use Rattle.branch_fixup.specs.Strips.{Strip, spans_of}
 use Rattle.rv_code.specs.isa.AddressParts.{IsAuipc, IsLui, TakesLower}
 
--- A role fits an instruction of `bytes` bytes: it is of the kind that the role wants, and not compressed.
--- The addresses of roles lie at most at the limit of code.
+-- A role fits an instruction of `bytes` bytes: the instruction is of the role's kind, and not compressed. The addresses
+-- of roles are at most the limit of code.
 abbrev pub FitsRole : Role → Inst → ℕ → Type 0
 FitsRole role.Plain inst bytes = Unit {0}
 FitsRole (role.CallHi target) inst bytes = IsAuipc inst × (bytes ≡ 4) × (target ≤ address_end)
@@ -30,14 +30,14 @@ FitsRole (role.Lo hi target) inst bytes = TakesLower inst × (bytes ≡ 4) × (t
 FitsRole (role.AbsHi target) inst bytes = IsLui inst × (bytes ≡ 4) × (target ≤ address_end)
 FitsRole (role.AbsLo target) inst bytes = TakesLower inst × (bytes ≡ 4) × (target ≤ address_end)
 
--- an instruction of RV64IMC, whose role fits it
+-- an instruction of RV64IMC, with a role that fits it
 pub record CanMove (p : Placed) : Type 0 where
   pub half : ℕ
   pub next : Option ℕ
   pub decodes : Decodes half next p.inst p.len
   pub role : FitsRole p.role p.inst p.len
 
--- Cells have four or eight bytes, and name addresses at most at the limit.
+-- Cells have four or eight bytes, and name addresses that are at most the limit.
 abbrev pub IsLowKind : CellKind → Type 0
 IsLowKind (Abs to) = to ≤ address_end
 IsLowKind (Diff to from) = (to ≤ address_end) × (from ≤ address_end)
@@ -46,8 +46,8 @@ pub record IsLowCell (c : CodeCell) : Type 0 where
   pub width : (c.width ≡ 4) ⊎ (c.width ≡ 8)
   pub kind : IsLowKind c.kind
 
--- Forms and spans of blocks in an order, from an even address on: below the limit of code.
--- The map has these spans.
+-- The forms of blocks in an order, and the spans from an even address on, which end at or below the limit of code. The
+-- map has these spans.
 pub record AreMapped (ss : List Strip) (fs : List Form) (base : ℕ) (map : List Span) : Type 0 where
   pub forms : AreForms ss base fs
   pub map_is : AreInLineOrder (spans_of ss base fs) map
@@ -58,7 +58,7 @@ pub record HaveMap (ss : List Strip) (fs : List Form) (map : List Span) : Type 0
   pub base : ℕ
   pub mapped : AreMapped ss fs base map
 
--- for the functions that make single instructions
+-- conditions of functions that make single instructions
 
 -- new addresses of low ones are low
 abbrev pub AreLow : List Span → Type 0
@@ -73,7 +73,7 @@ IsLowRole (role.Lo hi target) = (hi < 2 ^ 62) × (target < 2 ^ 62)
 IsLowRole (role.AbsHi target) = target < 2 ^ 62
 IsLowRole (role.AbsLo target) = target < 2 ^ 62
 
--- the addresses that an instruction of the input speaks of are low
+-- the addresses that an instruction of the input names are low
 pub record HasLowTargets (p : Placed) : Type 0 where
   pub role : IsLowRole p.role
   pub goal : IfSome (target_of p) (λ t. t < 2 ^ 62)

@@ -1,4 +1,4 @@
--- What an output has that was written with the new code.
+-- An output that was written with the new code.
 use Rattle.std.specs.Prelude.{◌≡◌, ℕ, ◌+◌, ◌%◌, ◌^◌, ◌<◌, List, Some, length, slice_index}
 use Rattle.rv_code.specs.declared.cell.CodeCell.{CodeCell}
 use Rattle.rv_code.specs.declared.placed.Func.{Func}
@@ -7,7 +7,7 @@ use Rattle.move_law.specs.Rewrite.{Rewrite}
 use Rattle.elf_image.specs.memory.Executables.{Executable, AreCodeBytes, memory_of}
 use Rattle.code_emit.specs.NewInsts.{cell_number}
 
--- an executable has bytes of code from an address on, which may be executed and not written
+-- an executable has these bytes from an address on, and they may be executed and not written
 pub record HasCode (x : Executable) (base : ℕ) (code : List ℕ) : Type 0 where
   pub bytes : (i : ℕ) → i < length code → memory_of x (base + i) ≡ Some (slice_index code i)
   pub rights : AreCodeBytes x base (length code)

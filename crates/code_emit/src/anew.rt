@@ -13,14 +13,14 @@ use move_law::with_immediate;
 use rv_code::flow::target;
 use rv_code::{Inst, Placed, Role};
 
-/// The new address of the instruction at `a`. Any other address stays as it is.
+/// The new address of the instruction at `a`. If no instruction starts at `a`, the result is `a`.
 pub fn new_of(moved: &AddrMap, a: u64) -> u64
     ensures { result ≡ new moved.now a }
 {
     moved.moved(a).unwrap_or(a)
 }
 
-/// How far `to` is from `from`.
+/// The distance of `to` from `from`.
 pub fn distance(to: u64, from: u64) -> i64
     requires to_low { to < 2 ^ 62 }
     requires from_low { from < 2 ^ 62 }
@@ -36,7 +36,7 @@ fn number(n: u64) -> i64
     n as i64
 }
 
-// The upper part of a number, rounded so that the lower part fits 12 bits with its sign.
+// The upper part of a number, rounded so that the lower part fits in 12 bits with a sign.
 fn upper(v: i64) -> i64
     requires { v ≤ℤ pos (2 ^ 62) }
     ensures { result ≡ hi20 v }
@@ -44,7 +44,7 @@ fn upper(v: i64) -> i64
     (v + 0x800) >> 12
 }
 
-// The lower part of a number: what its upper part lacks.
+// The lower part of a number: the number minus its upper part.
 fn lower(v: i64) -> i64
     requires low { (pos 0 -ℤ pos (2 ^ 62)) ≤ℤ v }
     requires high { v ≤ℤ pos (2 ^ 62) }
@@ -53,7 +53,7 @@ fn lower(v: i64) -> i64
     v - 4096 * upper(v)
 }
 
-/// A branch or a JAL with another distance; any other instruction stays as it is.
+/// A branch or a JAL with another distance. Any other instruction is returned unchanged.
 pub fn with_distance(inst: &Inst, imm: i64) -> Inst
     ensures { result ≡ with_distance inst.now imm }
 {
@@ -69,7 +69,7 @@ pub fn with_distance(inst: &Inst, imm: i64) -> Inst
     }
 }
 
-/// A branch with its sense turned, if `opposite`; any other instruction stays as it is.
+/// A branch with the opposite condition, if `opposite`. Any other instruction is returned unchanged.
 pub fn turned(opposite: bool, inst: &Inst) -> Inst
     ensures { result ≡ turned opposite inst.now }
 {
@@ -87,8 +87,8 @@ pub fn turned(opposite: bool, inst: &Inst) -> Inst
     }
 }
 
-// The instruction `p`, which is no branch and no JAL, for its new address `a`: with the part of a new address that its
-// role asks for.
+// The instruction `p`, which isn't a branch or a JAL, for its new address `a`: with the part of a new address that its
+// role says.
 fn anew(moved: &AddrMap, a: u64, p: &Placed) -> Inst
     requires here { a ≡ new moved.now p.now.addr }
     requires low { a < 2 ^ 62 }
@@ -126,7 +126,7 @@ pub(crate) fn kept(moved: &AddrMap, a: u64, p: &Placed) -> Inst
     }
 }
 
-/// Where the branch or JAL `p` goes in the new code; 0 for another instruction.
+/// The new address of the target of the branch or JAL `p`; 0 for any other instruction.
 pub fn new_target(moved: &AddrMap, p: &Placed) -> u64
     requires lows { AreLow moved.now }
     requires targets { HasLowTargets p.now }

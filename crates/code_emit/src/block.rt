@@ -14,7 +14,7 @@ use branch_fixup::block_insts::BlockInsts;
 use rv_code::{Form, Placed};
 use std::alloc::AllocError;
 
-// Appends instructions that keep their widths, from the new address `at` on. Gives the address at which they end.
+// Appends instructions that keep their widths, from the new address `at` on. Returns the address after them.
 fn put_inner(
     code: &mut Vec<u8>,
     moved: &AddrMap,

@@ -10,7 +10,7 @@ use addr_map::AddrMap;
 use rv_code::{CellKind, CodeCell};
 use std::alloc::{AllocError, Global};
 
-// What a cell holds: a new address, or the distance of two, in two's complement.
+// The new number of a cell: a new address, or the distance between two, in two's complement.
 fn number(moved: &AddrMap, kind: &CellKind) -> u64
     requires lows { AreLow moved.now }
     requires labels { IsLowKind kind.now }
@@ -24,7 +24,7 @@ fn number(moved: &AddrMap, kind: &CellKind) -> u64
     }
 }
 
-// The address of a cell, its width in bytes and its new content, as far as the width holds it.
+// The address of a cell, its width in bytes and its new content, reduced to the width.
 fn content(moved: &AddrMap, cell: &CodeCell) -> (u64, u8, u64)
     requires lows { AreLow moved.now }
     requires cell { IsLowCell cell.now }
@@ -39,7 +39,7 @@ fn content(moved: &AddrMap, cell: &CodeCell) -> (u64, u8, u64)
     (cell.addr, cell.width, content)
 }
 
-/// The address, the width in bytes and the new content of each cell, in their order.
+/// The address, the width in bytes and the new content of each cell, in the same order.
 pub fn contents(
     alloc: Global,
     moved: &AddrMap,

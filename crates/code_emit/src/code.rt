@@ -20,7 +20,7 @@ fn push_full(code: &mut Vec<u8>, word: u32) -> Result<(), AllocError>
     code.extend_from_slice(&word.to_le_bytes())
 }
 
-/// Appends an instruction in the width `want`, in which it has an encoding.
+/// Appends an instruction in a width for which it has an encoding.
 #[tactic(auto, using(crate::proofs::Coded::adds_half, crate::proofs::Coded::adds_full))]
 pub fn push(code: &mut Vec<u8>, inst: &Inst, want: Width) -> Result<(), AllocError>
     requires { IsEncodable want inst.now }

@@ -25,7 +25,7 @@ use rb_bytes::fault::NoMemory;
 use rv_code::{Block, CodeCell, Emitted, Form, Func, Plan};
 use std::alloc::{AllocError, Global};
 
-// Where the new code begins: the new address of the first block.
+// The start of the new code: the new address of the first block.
 fn code_start(funcs: &[Func], blocks: &[Block], order: &[usize], moved: &AddrMap) -> u64
     requires laid { AreLaidOut funcs.now }
     requires blocks { AreBlocksOf funcs.now blocks.now }
@@ -71,9 +71,8 @@ fn code(
 
 /// The bytes of the new code, and for each code cell its address, its width in bytes and its new content.
 ///
-/// The blocks are all those of the functions, the plan has each once, and the forms, one for each block in the plan's
-/// order, are those that `branch_fixup::forms` gives. The map has its spans, and all of them end at most at 7fff0000
-/// (hexadecimal).
+/// The blocks are all blocks of the functions, and the plan has each once. The forms, one for each block in the plan's
+/// order, are the result of `branch_fixup::forms`, and the map has its spans. All spans end at most at 0x7fff0000.
 pub fn emit(
     alloc: Global,
     funcs: &[Func],
@@ -91,19 +90,20 @@ pub fn emit(
     requires cells { All IsLowCell cells.now }
     requires mapped { HaveMap (strips_of funcs.now blocks.now plan.now.order.items) forms.now moved.now }
 
-    // the code is that of one stretch of bytes
+    // the code is one stretch of bytes
     ensures length { IfOk result
         (λ e. (base : ℕ) → AreMapped (strips_of funcs.now blocks.now plan.now.order.items) forms.now base moved.now →
         base + length e.code.items ≡ new_code_end (strips_of funcs.now blocks.now plan.now.order.items) base
         forms.now) }
 
-    // its instructions are those of the blocks in their forms, and no others
+    // the instructions of the code are exactly those of the blocks in their forms
     ensures made { IfOk result
         (λ e. (base : ℕ) → AreMapped (strips_of funcs.now blocks.now plan.now.order.items) forms.now base moved.now →
         Adds [] e.code.items
         (made_from (new moved.now) base (pieces_of (strips_of funcs.now blocks.now plan.now.order.items) forms.now))) }
 
-    // in every rewrite with this map that has the code there, each instruction is kept, and goes on to what followed it
+    // in every rewrite with this map and this code, each instruction is kept, and control goes on from it to what
+    // followed it
     ensures insts { IfOk result
         (λ e. (base : ℕ) → AreMapped (strips_of funcs.now blocks.now plan.now.order.items) forms.now base moved.now →
         (r : Rewrite) → Puts r funcs.now moved.now base e.code.items →

@@ -1,4 +1,4 @@
-// What stands in the new code for one instruction.
+// The new code for one instruction.
 ghost use Rattle.std.specs.Prelude.{◌≡◌, ◌<◌, ◌+◌, ◌^◌, OnOk, [], ◌∷◌, if◌then◌else◌};
 ghost use Rattle.addr_map.specs.Spans.{new};
 ghost use Rattle.code_emit.specs.NewInsts.{jump_to, branch_to, added, made};
@@ -43,7 +43,7 @@ fn put_jump(code: &mut Vec<u8>, to: u64, a: u64) -> Result<(), AllocError>
     put(code, &jump, 4)
 }
 
-// Appends a branch to `to`, at `a`. A long one is the branch of opposite sense over a jump.
+// Appends a branch to `to`, at `a`. A long one is a branch with the opposite condition over a jump.
 #[tactic(auto, using(crate::proofs::Coded::adds_both))]
 fn put_branch(
     code: &mut Vec<u8>,
@@ -76,7 +76,7 @@ fn put_branch(
     }
 }
 
-// Where the branch `p` is to lead in the new code: to its target, or to what followed it where it is `inverted`.
+// The new address to which the branch `p` has to lead: its target, or its fall-through address if it is `inverted`.
 fn branch_goal(moved: &AddrMap, p: &Placed, inverted: bool) -> u64
     requires lows { AreLow moved.now }
     requires targets { HasLowTargets p.now }
@@ -91,7 +91,7 @@ fn branch_goal(moved: &AddrMap, p: &Placed, inverted: bool) -> u64
     }
 }
 
-// Appends a jump to what followed `p`, at `a`, if `jump` says so.
+// Appends a jump to the fall-through address of `p`, at `a`, if `jump` is true.
 #[tactic(auto, using(crate::proofs::Coded::adds_none))]
 fn put_added(
     code: &mut Vec<u8>,
@@ -113,7 +113,7 @@ fn put_added(
     }
 }
 
-// Appends the branch `p`, at `a`, with the jump after it if `jump` says so.
+// Appends the branch `p`, at `a`, with the jump after it if `jump` is true.
 fn put_whole_branch(
     code: &mut Vec<u8>,
     moved: &AddrMap,

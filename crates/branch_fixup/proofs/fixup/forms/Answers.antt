@@ -20,7 +20,7 @@ given c =
     let q = c.requires in
     record { laid = q.laid; direct = q.direct; blocks_of = q.blocks; perm = q.order; near = q.near; even = q.even; some = q.some }
 
--- what was grown, also as it is passed on
+-- the grown forms, also in the vector that is passed on
 found : (c : In_ok-grow) → IsGiven c.args.funcs.now c.args.blocks.now c.args.plan.now.order.items c.args.base →
     AreFound c.args.funcs.now c.args.blocks.now c.args.plan.now.order.items c.args.base c.grow.new.forms
     (take c.in_ok-block_ends.forms.len (c.grow.new.forms ++ drop (length c.grow.new.forms) c.in_ok-block_ends.forms.items))
