@@ -1,4 +1,4 @@
--- Blocks as stretches of instructions that lie one behind another.
+-- Blocks as stretches of instructions that are one after another.
 use Rattle.std.proofs.Common.{◌≡◌, ◌⊎◌, ℕ, ◌+◌, ◌-◌, ◌<◌, ◌≤◌, ◌∙◌, Bool, true, false, List, [], ◌∷◌, length, get_or, take, drop, map}
 use Rattle.std.proofs.Common.{filter, All, AllPairs, Option, Some, None, arith, inl, inr, refl, sym, ap, subst}
 use Rattle.std.specs.Prelude.{◌&&◌, nat_lt, nat_le, slice_get, IsSomeAnd}
@@ -33,7 +33,7 @@ pub record IsPart (funcs : List Func) (b : Block) : Type 0 where
   pub some : b.first ≤ b.last
   pub inside : b.last < length func.insts.items
 
--- the address of an instruction by its place
+-- the address of an instruction by its index
 abbrev addr_at : Func → ℕ → Placed → ℕ
 addr_at func i d = (get_or func.insts.items i d).addr
 
@@ -75,7 +75,7 @@ module _ (funcs : List Func) (b : Block) (is : IsPart funcs b) where
       let at = slice_get-get_or is.func.insts.items b.first d (omega (arith, some, inside)) in
       rw (is.of, at) refl
 
-  -- an instruction of the block by its place
+  -- an instruction of the block by its index
   at_place : (k : ℕ) (d : Placed) → k < length insts → (get_or insts k d).addr ≡ addr_at is.func (b.first + k) d
   at_place k d less =
       let n = count_is in
@@ -122,7 +122,7 @@ module _ (funcs : List Func) (b : Block) (is : IsPart funcs b) where
     has_none_above past = has_is ∙ list_any_none test insts (λ k d less.
         let from = from_start k d less in above_range low high (get_or insts k d).addr (omega (arith, from, past)))
 
-    -- a block that ends before an address up to which there is nothing in the range
+    -- a block without an instruction in the range: all of its instructions are below it
     pub has_none_below : ((k : ℕ) (d : Placed) → k < length insts → (get_or insts k d).addr < low) →
         has_inst_in funcs low high b ≡ false
     has_none_below before = has_is ∙ list_any_none test insts (λ k d less.
@@ -143,7 +143,7 @@ part_of code b laid is = by (func_of code.funcs b) refl is where
     inside = block.inside;
   }
 
--- each instruction of an earlier block stands before the start of a later one
+-- each instruction of an earlier block is before the start of a later block
 ends_before : (code : ProgramCode) (b c : Block) → AreLaidOut code.funcs → (is : IsPart code.funcs b) (other : IsPart code.funcs c) →
     IsBlock code b → IsBlock code c → IsBefore b c → (k : ℕ) (d : Placed) → k < length (insts code.funcs b is) →
     (get_or (insts code.funcs b is) k d).addr < block_start code.funcs c
@@ -218,7 +218,7 @@ are_stretches code blocks laid are low high some = record {
 
 -- The blocks of functions.
 module _ (funcs : List Func) (blocks : List Block) (laid : AreLaidOut funcs) (of : AreBlocksOf funcs blocks) where
-  -- where blocks start, ascending
+  -- the starts of blocks ascend
   pub starts_ascend : (starts : List ℕ) → starts ≡ map (block_start funcs) blocks → IsNonDecreasing starts
   starts_ascend starts same =
       subst (λ (ns : List ℕ). IsNonDecreasing ns) (sym same) (λ i j d up within. ascend i j d up within (cases_lt i j))
@@ -269,9 +269,9 @@ none_in_empty funcs low high empty b = by (func_of funcs b) where
   by None = refl
   by (Some func) = list_any_none _ (take (b.last + 1 - b.first) (drop b.first func.insts.items)) (λ k d less. none _)
 
--- What the code counts.
+-- The blocks that the code counts.
 
--- blocks in a range, by where blocks start and by whether the last one that starts before the range has an instruction in it
+-- the number of blocks in a range: those that start in it, and the last one that starts below it, if it has an instruction in the range
 module _ (funcs : List Func) (blocks : List Block) (laid : AreLaidOut funcs) (of : AreBlocksOf funcs blocks) (starts : List ℕ)
     (same : starts ≡ map (block_start funcs) blocks) where
   starts_below : (n : ℕ) →
@@ -313,7 +313,7 @@ module _ (funcs : List Func) (blocks : List Block) (laid : AreLaidOut funcs) (of
 abbrev in_it : ℕ → ℕ → Placed → Bool
 in_it low high p = nat_le low p.addr && nat_lt p.addr high
 
--- the first instruction at the start of the range or above decides
+-- the first instruction at or above the start of the range decides
 module _ (low high : ℕ) (ps : List Placed) (rise : IsNonDecreasingBy (λ p. p.addr) ps) (k : ℕ)
     (point : IsPartitionPoint (λ p. nat_lt p.addr low ≡ true) (λ p. nat_lt p.addr low ≡ false) ps k) where
   before_point : (i : ℕ) (d : Placed) → i < k → in_it low high (get_or ps i d) ≡ false
@@ -360,7 +360,7 @@ insts_ascend funcs b func laid of =
     all : IsNonDecreasingBy (λ p. p.addr) func.insts.items
     all i j d up within = by i j d up within (cases_lt i j)
 
--- What a search among the instructions of a block finds.
+-- The result of a search among the instructions of a block.
 pub record IsSearched (funcs : List Func) (low high : ℕ) (b : Block) (ps : List Placed) (k : ℕ) : Type 0 where
   pub at : (d : Placed) → k < length ps → nat_lt (get_or ps k d).addr high ≡ has_inst_in funcs low high b
   pub past : length ps ≤ k → nat_lt k (length ps) ≡ has_inst_in funcs low high b

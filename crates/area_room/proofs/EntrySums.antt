@@ -1,4 +1,4 @@
--- What entries need, by what is counted of each.
+-- The need of all entries, from the numbers that are counted for each.
 use Rattle.std.proofs.Common.{◌≡◌, ℕ, ◌+◌, ◌*◌, Bool, List, [], ◌∷◌, ap, arith, refl}
 use Rattle.std.specs.Prelude.{flat_map, sum_by}
 use Rattle.std.specs.List.Sorted.{IsPermutation}
@@ -17,7 +17,7 @@ entries_need-permutation funcs blocks xs ys entries same = ap (λ (f : Fde → �
       ap (λ (n : ℕ). (count (has_inst_in funcs f.start f.end) blocks + f.rows + n) * size_of f)
       (count-permutation (is_strictly_between f.start f.end) xs ys same)
 
--- both bounds of each
+-- both bounds of each entry
 pub count_bounds : {X : Type 0} (start end : X → ℕ) (p : ℕ → Bool) (xs : List X) →
     count p (flat_map (λ x. start x ∷ end x ∷ []) xs) ≡ count (λ x. p (start x)) xs + count (λ x. p (end x)) xs
 count_bounds start end p [] = refl

@@ -1,4 +1,4 @@
--- What an unwind table needs, by its entries as the code keeps them.
+-- The need of an unwind table, by its entries in the terms of the code.
 use Rattle.std.proofs.Common.{◌≡◌, ℕ, ◌+◌, ◌*◌, ◌∙◌, Bool, true, Option, Some, None, List, [], ◌∷◌, length, map, ap, arith, sym, Bor, codes}
 use Rattle.std.specs.Prelude.{flat_map, sum_by, is_some, if◌then◌else◌}
 use Rattle.std.specs.Option.{option_copied}
@@ -42,7 +42,7 @@ module _ (funcs : List Func) (blocks : List Block) (list : List Fde) where
       (λ (f : ReadFde). pieces_of funcs blocks (bounds_of (map fde_of list)) f * size_of f) fde_of list
       ∙ ap (λ (g : Fde → ℕ). sum_by g list) (λ i f. one f i)
 
--- sums of parts that are capped
+-- sums of saturating sums
 capped_sum : (cies entries : ℕ) → capped (capped (capped (cies * 64) + 64) + capped entries) ≡ capped (64 + 64 * cies + entries)
 capped_sum cies entries = omega arith
 

@@ -1,4 +1,4 @@
--- How much room the entries that are made of one entry of an unwind table need, by what the code keeps of that one.
+-- How much room the entries need that replace one entry of an unwind table, in the terms of the code.
 use Rattle.std.specs.Prelude.{◌+◌, ◌-◌, ◌*◌, ◌&&◌, ℕ, Bool, List, [], ◌∷◌, nat_le, nat_lt, length, filter, flat_map}
 use Rattle.std.specs.Prelude.{take, drop, sum_by}
 use Rattle.std.specs.Option.{option_map_or}
@@ -24,16 +24,16 @@ is_strictly_between low high a = nat_lt low a && nat_lt a high
 abbrev pub bounds_of : List Fde → List ℕ
 bounds_of entries = flat_map (λ f. f.start ∷ f.end ∷ []) entries
 
--- how many entries are made of one at most
+-- the greatest number of entries that replace one
 abbrev pub pieces_of : List Func → List Block → List ℕ → Fde → ℕ
 pieces_of funcs blocks bounds f =
     length (filter (has_inst_in funcs f.start f.end) blocks) + f.rows
     + length (filter (is_strictly_between f.start f.end) bounds)
 
--- how many bytes each of them has at most
+-- the greatest size in bytes of each of them
 abbrev pub size_of : Fde → ℕ
 size_of f = 64 + 24 * (f.registers + 1) + f.bytes
 
--- the need of all entries, of which some are bounds
+-- the need of all entries, with the list of bounds of all entries
 abbrev pub entries_need : List Func → List Block → List ℕ → List Fde → ℕ
 entries_need funcs blocks bounds entries = sum_by (λ f. pieces_of funcs blocks bounds f * size_of f) entries

@@ -9,8 +9,8 @@ ghost use Rattle.area_room.specs.Need.{AreBlocksOf};
 use crate::bounds::count_below;
 use rv_code::{Block, Func};
 
-/// How many blocks have an instruction that starts from `low` to before `high`: those that start there, and perhaps the
-/// last one that starts below `low`. `starts` has where each block starts, ascending.
+/// The number of blocks with an instruction that starts from `low` to before `high`: the blocks that start there, and
+/// possibly the last one that starts below `low`. `starts` has the start of each block, ascending.
 pub(crate) fn count_blocks_in(
     funcs: &[Func],
     blocks: &[Block],

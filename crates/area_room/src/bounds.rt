@@ -1,4 +1,4 @@
-// Numbers counted in ascending lists.
+// Counting in ascending lists.
 ghost use Rattle.std.specs.Prelude.{◌≡◌, nat_le, nat_lt, length, filter, IfOk};
 ghost use Rattle.std.specs.List.Sorted.{IsNonDecreasing, IsPermutation};
 ghost use Rattle.area_room.specs.EntryNeeds.{bounds_of, is_strictly_between};
@@ -37,7 +37,7 @@ fn count_up_to(numbers: &[u64], last: u64) -> usize
     numbers.partition_point(|n| *n <= last)
 }
 
-/// How many of `numbers`, which ascend, lie strictly between `low` and `high`.
+/// How many of `numbers`, which ascend, are strictly between `low` and `high`.
 pub(crate) fn count_between(numbers: &[u64], low: u64, high: u64) -> usize
     requires { IsNonDecreasing numbers.now }
     ensures { result ≡ length (filter (is_strictly_between low high) numbers.now) }

@@ -1,4 +1,4 @@
-// How many bytes unwind tables need that are loaded.
+// Upper bounds on the size of unwind tables that are loaded.
 ghost use Rattle.std.specs.Prelude.{◌≡◌, ◌*◌, IfOk, map};
 ghost use Rattle.std.specs.List.Sorted.{IsNonDecreasing};
 ghost use Rattle.rv_code.specs.layout.Blocks.{block_start};
@@ -20,19 +20,19 @@ use rv_code::{Block, Func};
 use std::alloc::Global;
 use table_core::section::held_by;
 
-// For the end of a table, the head of its index, and the alignment of both.
+// For the end of a table, the header of its index, and the alignment of both.
 const TABLE_NEED: u64 = 64;
 
-// For an entry that others share (a CIE).
+// For a CIE.
 const CIE_NEED: u64 = 64;
 
-// For the fields of an entry, its pair in the index and its first row, beside the rules and the expressions.
+// For the fields of an FDE, its pair in the index and its first row, without the rules and the expressions.
 const ENTRY_NEED: u64 = 64;
 
-// For the rule of a register, or of the frame address.
+// For the rule of a register, or of the canonical frame address.
 const RULE_NEED: u64 = 24;
 
-/// How many bytes `.eh_frame` and its index take at most in the new area, if the file loads one.
+/// The greatest size in bytes of `.eh_frame` and its index in the new area, if the file loads one.
 pub(crate) fn frame_need(
     alloc: Global,
     elf: &Elf<'_>,
@@ -53,7 +53,7 @@ pub(crate) fn frame_need(
     Ok(cies.saturating_add(TABLE_NEED).saturating_add(entries))
 }
 
-// How many bytes all entries take at most that are made of `entries`.
+// The greatest size in bytes of all entries that can replace `entries`.
 fn entries_need(
     alloc: Global,
     funcs: &[Func],
@@ -71,8 +71,8 @@ fn entries_need(
     Ok(need)
 }
 
-// The sum of what is needed for each of `entries`. `starts` has where each block starts, and `bounds` the starts and
-// ends of all entries; both ascend.
+// The sum of the needs of `entries`. `starts` has the start of each block, and `bounds` the starts and ends of all
+// entries; both ascend.
 fn sum_of_needs(
     funcs: &[Func],
     blocks: &[Block],
@@ -93,8 +93,8 @@ fn sum_of_needs(
     sum
 }
 
-// How many bytes the entries take at most that are made of `entry`: there are no more of them than blocks in its range,
-// rows, and bounds of other entries strictly inside its range together.
+// The greatest size in bytes of the entries that replace `entry`. Their number is at most the number of blocks in its
+// range, plus its rows, plus the bounds of other entries strictly inside its range.
 fn entry_need(funcs: &[Func], blocks: &[Block], starts: &[u64], bounds: &[u64], entry: &Fde) -> u64
     requires laid { AreLaidOut funcs.now }
     requires blocks { AreBlocksOf funcs.now blocks.now }
@@ -110,8 +110,8 @@ fn entry_need(funcs: &[Func], blocks: &[Block], starts: &[u64], bounds: &[u64], 
     pieces.saturating_mul(piece_size(entry))
 }
 
-// The most bytes of one entry that is made of `entry`. Beside the rules of its registers it has that of the frame
-// address.
+// The greatest size of one entry that replaces `entry`. Besides the rules of its registers it has the rule of the
+// canonical frame address.
 fn piece_size(entry: &Fde) -> u64
     ensures { result ≡ capped (size_of entry.now) }
 {

@@ -1,4 +1,4 @@
-//! How many bytes new code and its tables take at most; and, of `file_room`, where a file has room for them.
+//! Upper bounds on the size of new code and its tables; and, from `file_room`, where a file has room for them.
 #![tactic(auto)]
 
 mod block_counts;

@@ -1,4 +1,4 @@
-// How many bytes the new area takes at most.
+// The greatest size of the new area.
 ghost use Rattle.std.specs.Prelude.{◌≡◌, IfOk};
 ghost use Rattle.rv_code.specs.layout.FunctionLists.{AreLaidOut};
 ghost use Rattle.area_room.specs.Need as spec;
@@ -11,7 +11,7 @@ use rb_bytes::fault::NoMemory;
 use rv_code::{Block, Func, worst_size_of_block};
 use std::alloc::Global;
 
-// The sum of the worst sizes of all blocks, or the greatest number of 64 bits.
+// The sum of the worst sizes of all blocks, saturating at 2^64 - 1.
 fn code_need(funcs: &[Func], blocks: &[Block]) -> u64
     ensures { result ≡ capped (spec.code_need funcs.now blocks.now) }
 {
@@ -22,9 +22,9 @@ fn code_need(funcs: &[Func], blocks: &[Block]) -> u64
     sum
 }
 
-/// How many bytes the new area takes at most: the worst sizes of all blocks, and what the unwind table that the file
-/// loads and its index need. In a malformed table the entries before the first malformed one count. A sum that doesn't
-/// fit is given as the greatest number of 64 bits.
+/// The greatest size in bytes of the new area: the worst sizes of all blocks, and the need of the unwind table that the
+/// file loads, with its index. In a malformed table the entries before the first malformed one are counted. Sums
+/// saturate at 2^64 - 1.
 pub fn need(alloc: Global, elf: &Elf<'_>, funcs: &[Func], blocks: &[Block]) -> Result<u64, NoMemory>
     requires laid { AreLaidOut funcs.now }
     requires blocks { spec.AreBlocksOf funcs.now blocks.now }

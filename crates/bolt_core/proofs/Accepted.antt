@@ -1,4 +1,4 @@
--- What holds of a program that is accepted, and why one is refused.
+-- Properties of an accepted program, and reasons to refuse one.
 use Rattle.std.proofs.Common.{◌≡◌, ◌∙◌, ap, sym, subst, ℕ, All, List, Some, None}
 use Rattle.rb_bytes.specs.FirstFault.{IsFree, IsRefusalBy}
 use Rattle.rb_bytes.specs.declared.fault.Refusal.{Refusal}
@@ -71,7 +71,7 @@ pub no_room_by : {funcs : List Func} {blocks : List Block} (p : ReadProgram) →
 no_room_by p same_funcs same_blocks r is =
     subst (λ (x : Program). IsRefusalFor (λ fault. no_program_room x ≡ Some fault) r) (same_program p same_funcs same_blocks) is
 
--- what is read of a file keeps the file
+-- reading keeps the bytes of the file
 pub read_again : {file : List ℕ} {x : Program} → IsProgramOf file x → IsElfOf x.elf.file.now x.elf
 read_again {x = x} is =
     let read = (is.faultless).read in

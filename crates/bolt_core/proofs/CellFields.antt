@@ -1,4 +1,4 @@
--- The code cells of an accepted file can hold their new content, and share no byte.
+-- The code cells of an accepted file have room for their new contents, and share no byte.
 use Rattle.std.proofs.Common.{◌≡◌, sym, subst, ℕ, ◌+◌, ◌%◌, ◌^◌, ◌<◌, ◌≤◌, ◌⊎◌, inl, inr, true, List, arith, map}
 use Rattle.std.specs.Prelude.{All, AllPairs}
 use Rattle.std.proofs.lemmas.List.Elements.{All-map}

@@ -1,4 +1,4 @@
--- The number of a cell is that of its symbol.
+-- The number of a cell is the number of its symbol.
 use Rattle.std.proofs.Common.{◌≡◌, refl}
 use Rattle.rv_code.specs.declared.cell.CellKind.{CellKind}
 use Rattle.rv_code.specs.declared.cell.CellKind.TheVariants.{Abs, Diff}

@@ -1,4 +1,4 @@
--- In accepted code branches and jumps lead to code; and where no branch leaves a whole function, they reach in it.
+-- In accepted code, branches and jumps lead to code; and if no branch leaves a whole function, the short ones in it reach their targets.
 use Rattle.std.proofs.Common.{◌≡◌, ◌∙◌, refl, sym, subst, ℕ, ◌+◌, ◌<◌, ◌≤◌, ◌⊎◌, inl, inr, Some, Bool, true, false, List, [], ◌∷◌, arith}
 use Rattle.std.specs.Prelude.{Contains, IsTrue}
 use Rattle.std.proofs.lemmas.List.Elements.{All-contains}
@@ -27,7 +27,7 @@ use Rattle.branch_fixup.specs.Inputs.{AreDirect, KeepsShort, LeadsToCode, StaysI
 use Rattle.func_place.specs.Faults.{HasPlacementFault}
 use Rattle.bolt_core.proofs.ShortReach.{stays}
 
--- A JAL of two bytes saves nothing.
+-- A JAL of two bytes saves no return address.
 
 no_call : (row : rows.Row) (half a t : ℕ) → target a (action_of (rows.expansion row half)) ≡ Some t →
     is_call (action_of (rows.expansion row half)) ≡ false
@@ -103,7 +103,7 @@ module _ (elf : Elf) where
           subst (λ (x : Placed). StartsIn elf start end x.addr) same (subst (StartsIn elf start end) (sym are.0) here)
       by (inr k) rest = rest k
 
--- an instruction of a function lies in it
+-- an instruction of a function is within it
 pub lies_in : (func : Func) → IsLaidOut func → (p : Placed) → Contains func.insts.items p → (func.start ≤ p.addr) × (p.addr < func.end)
 lies_in func laid p (k, within, is) =
     subst (λ (q : Placed). (func.start ≤ q.addr) × (q.addr < func.end)) is (inst_bounds func laid k p within)

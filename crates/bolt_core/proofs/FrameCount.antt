@@ -1,4 +1,4 @@
--- The count of the entries of a written frame table: its runs take no more room than `need` has for them.
+-- The number of entries of a written frame table: its runs take at most the room that `need` has for them.
 use Rattle.std.proofs.Common.{◌≡◌, ◌≢◌, ℕ, zero, ◌+◌, ◌-◌, ◌*◌, ◌<◌, ◌≤◌, ◌⊎◌, ◌∙◌, inl, inr, List, [], ◌∷◌, ◌++◌, length, refl, sym, ap}
 use Rattle.std.proofs.Common.{subst, arith, Option, Some, None, Bool, true, false, cond, sum_by, map, filter, take, drop}
 use Rattle.std.specs.Prelude.{Contains, AllPairs, nat_le, option_map, option_and_then, ◌||◌}
@@ -54,7 +54,7 @@ row_among a (r ∷ rs) found row e = by (nat_le r.start a) (row_among a rs (cond
   by false (inl f) = inl f
   by b (inr (q, c, f)) = inr (q, Contains-there r rs q c, f)
 
--- every row of a made entry fits
+-- every row of an entry that the reader makes fits
 made_fits : (f : Fde) → IsMade f → (r : PlacedRow) → Contains f.rows r → RowFits (instructions_of f) r.row
 made_fits f made =
     let all = instructions_of f in
@@ -113,7 +113,7 @@ module _ (is_marked : Fde → Bool) (list : List Fde) (made : (f : Fde) → Cont
   abbrev at : ℕ → Option FrameAnswer
   at = answer_at is_marked list
 
-  -- an answer takes no more room than its entry counts for
+  -- an answer takes at most the room that is counted for its entry
   answer_fits : (f : Fde) → IsMade f → (a : ℕ) (x : FrameAnswer) → answer_of is_marked f a ≡ Some x → run_size x ≤ piece_size f
   answer_fits f m a x e = by (row_at a f.rows None) refl e where
     fits : (row : RowValue) → RowFits (instructions_of f) row → x.row ≡ row → run_size x ≤ piece_size f
@@ -183,7 +183,7 @@ module _ (is_marked : Fde → Bool) (list : List Fde) (made : (f : Fde) → Cont
     by None f g = absurd (cc)
     by (Some f) g h = from f g h
 
-  -- the count
+  -- the sum over all runs
   pub frame_count : (spans : List Span) → AllPairs ShareNoByte spans → AllPairs (λ (s t : Span). s.input ≢ t.input) spans →
       IsLaidByBlocks blocks (block_start funcs) (HasInst funcs) spans → (runs : List (Run FrameAnswer)) →
       AreRunsOf (carried (answer_at is_marked list) spans) runs →

@@ -1,4 +1,4 @@
--- What `need` has for frames is enough for the runs of `.eh_frame` over blocks in an order.
+-- The need for frames is enough for the runs of `.eh_frame`, for blocks in any order.
 use Rattle.std.proofs.Common.{ℕ, ◌+◌, ◌*◌, ◌≤◌, List, sum_by, arith, codes, false}
 use Rattle.std.specs.Prelude.{Contains, ◌⊎◌}
 use Rattle.std.proofs.Common.{inl, inr}
@@ -29,7 +29,7 @@ use Rattle.bolt_core.proofs.FrameCount.{frame_count}
 use Rattle.branch_fixup.proofs.LaidBlocks.{laid_by_blocks}
 use Rattle.cfi_rows.proofs.MadeEntries.{are_made}
 
--- Spans in another order lie as they do.
+-- Properties of spans that don't depend on their order.
 module _ {B : Type 0} (blocks : List B) (start : B → ℕ) (Holds : B → ℕ → Type 0) (spans lines : List Span)
     (same : IsPermutation spans lines) where
   there : (s : Span) → Contains lines s → Contains spans s
@@ -53,7 +53,7 @@ module _ {B : Type 0} (blocks : List B) (start : B → ℕ) (Holds : B → ℕ �
       last = λ u k bytes less. f.last u (there u k) bytes less;
     })
 
--- the longest runs of `.eh_frame` take no more than `need` has for its entries
+-- the longest runs of `.eh_frame` take at most the room that `need` has for its entries
 pub frame_sum_fits : (elf : Elf) (code : ProgramCode) (blocks : List Block) (order : List ℕ) (fs : List Form) (base : ℕ) →
     AreLaidOut code.funcs → AreBlocks code blocks → HasAllBlocks blocks order → (spans : List Span) →
     AreInLineOrder (spans_of (strips_of code.funcs blocks order) base fs) spans → (runs : List (Run FrameAnswer)) →

@@ -1,4 +1,4 @@
--- An index of a written unwind table can be made: the table can be read, and lies low.
+-- The index of a written unwind table can be made: the table can be read, and has low addresses.
 use Rattle.std.proofs.Common.{◌≡◌, ◌∙◌, ℕ, ◌+◌, ◌≤◌, true, false, arith}
 use Rattle.std.specs.Prelude.{IsTrue}
 use Rattle.std.specs.List.{list_any}

@@ -1,4 +1,4 @@
--- What is said of the tables that are given to be written, by their names.
+-- The list of tables, looked up by their names.
 use Rattle.std.proofs.Common.{◌≡◌, ◌∙◌, ap, append_assoc, refl, sym, ℕ, List, [], ◌∷◌, ◌++◌, Option, Some, None, Bool, true, false, length}
 use Rattle.std.proofs.Common.{map, cond}
 use Rattle.std.proofs.lemmas.Bool.{false_from_ne_true}
@@ -16,7 +16,7 @@ use Rattle.bolt_core.specs.GivenTables.{DebugContents, ReadTable, debug_listed, 
 use Rattle.rb_bytes.proofs.Tests.{clash}
 use Rattle.elf_write.proofs.GivenTables.{same_bytes}
 
--- the first with a name, as it is seen
+-- the first table with a name
 abbrev pub seen : List ℕ → List (List ℕ × List ℕ) → Option (List ℕ × List ℕ)
 seen name xs = find (λ (x : List ℕ × List ℕ). bytes_eq x.0 name) xs
 
@@ -49,13 +49,13 @@ given_by (Some t) = refl
 
 -- The names of all differ.
 
--- a table of another name is passed
+-- a table with another name is skipped
 past_if : (name other : List ℕ) (o : Option (List ℕ)) (rest : List (List ℕ × List ℕ)) → bytes_eq other name ≡ false →
     seen name (table_if other o ++ rest) ≡ seen name rest
 past_if name other None rest e = refl
 past_if name other (Some bytes) rest e = rw e refl
 
--- one that is found in front stays found
+-- a table that is found in a list is found in a longer list
 kept_front : (name : List ℕ) (xs rest : List (List ℕ × List ℕ)) (x : List ℕ × List ℕ) → seen name xs ≡ Some x →
     seen name (xs ++ rest) ≡ Some x
 kept_front name [] rest x e = absurd (cc)
@@ -97,7 +97,7 @@ module _ (frames index ranges : Option (List ℕ)) (debug : DebugContents) where
   abbrev behind : List (List ℕ × List ℕ)
   behind = debug_listed debug ++ table_if (codes ".debug_rnglists") ranges
 
-  -- the two in front, one after another
+  -- the first two tables, one after another
   in_row : all ≡ table_if (codes ".eh_frame") frames ++ (table_if (codes ".eh_frame_hdr") index ++ behind)
   in_row = append_assoc (table_if (codes ".eh_frame") frames) (table_if (codes ".eh_frame_hdr") index) behind
 
@@ -127,7 +127,7 @@ module _ (frames index ranges : Option (List ℕ)) (debug : DebugContents) where
       ∙ ap bytes_of (past_if (codes ".eh_frame_hdr") (codes ".eh_frame") frames (table_if (codes ".eh_frame_hdr") index ++ behind) refl)
       ∙ bytes_front (codes ".eh_frame_hdr") index behind refl (none_if (codes ".eh_frame_hdr") (codes ".debug_rnglists") ranges refl)
 
-  -- another name is looked up behind these two
+  -- any other name is looked up after these two
   seen_behind : (name : List ℕ) → bytes_eq (codes ".eh_frame") name ≡ false → bytes_eq (codes ".eh_frame_hdr") name ≡ false →
       seen name all ≡ seen name behind
   seen_behind name a b =
@@ -135,7 +135,7 @@ module _ (frames index ranges : Option (List ℕ)) (debug : DebugContents) where
       ∙ past_if name (codes ".eh_frame") frames (table_if (codes ".eh_frame_hdr") index ++ behind) a
       ∙ past_if name (codes ".eh_frame_hdr") index behind b
 
--- a name that differs from one differs from it either way
+-- two names that differ, in either order
 other_way : (x name : List ℕ) → bytes_eq name x ≡ false → bytes_eq x name ≡ false
 other_way x name e =
     false_from_ne_true (bytes_eq x name) (λ h. let same = same_bytes x name h in
@@ -145,7 +145,7 @@ no_debug : (x name : List ℕ) → names_debug x ≡ false → names_debug name 
 no_debug x name e debug =
     false_from_ne_true (bytes_eq x name) (λ h. clash (names_debug x) (ap names_debug (same_bytes x name h) ∙ debug) e)
 
--- a name that is none of theirs is passed
+-- a name that isn't in a list is skipped
 pass_all : (name : List ℕ) (xs rest : List (List ℕ × List ℕ)) →
     list_any (bytes_eq name) (map (λ (x : List ℕ × List ℕ). x.0) xs) ≡ false → seen name (xs ++ rest) ≡ seen name rest
 pass_all name [] rest e = refl
@@ -172,7 +172,7 @@ any_snoc p (y ∷ xs) x e = by (p y) e (any_snoc p xs x)
     by false h more = more h
     by true h more = absurd (cc)
 
--- those that are written anew are all
+-- the list has all tables that are rewritten
 unlisted : (name : List ℕ) (ranges : Option (List ℕ)) (debug : DebugContents) → is_one_of written_names name ≡ false →
     seen name (debug_listed debug ++ table_if (codes ".debug_rnglists") ranges) ≡ None
 unlisted name ranges debug other =
@@ -213,7 +213,7 @@ module _ (tables : List ReadTable) (frames index ranges : Option (List ℕ)) (de
         ∙ seen_behind frames index ranges debug name (no_debug (codes ".eh_frame") name refl is_debug)
         (no_debug (codes ".eh_frame_hdr") name refl is_debug)
 
-    -- a table that is always given
+    -- a table that is always in the list
     pub debug_bytes : (x : List ℕ × List ℕ) → seen name (debug_listed debug) ≡ Some x → bytes_called tables name ≡ x.1
     debug_bytes x is =
         bytes_by (found name tables)

@@ -1,4 +1,4 @@
--- What holds of the spans of a map in whatever order.
+-- Properties of the spans of a map that don't depend on their order.
 use Rattle.std.proofs.Common.{◌≡◌, ◌≢◌, ◌∙◌, refl, sym, ℕ, ◌+◌, ◌<◌, Bool, true, false, List, [], ◌∷◌, arith}
 use Rattle.std.specs.Prelude.{◌&&◌, Any, Contains, IsPermutation, find, is_some, nat_le, nat_lt, option_map, sum_by}
 use Rattle.std.specs.List.{list_any}
@@ -73,7 +73,7 @@ some_code spans start n a is (k, s, within, at, (of, some)) =
     let high = ltb-true s.out (start + n) parts.1 in
     omega (arith, low, high)
 
--- How many bytes it has.
+-- The size of the new code.
 
 laid_sum : (a : ℕ) (ps : List Piece) → a + sum_by (λ s. s.len) (laid_from a ps) ≡ end_from a ps
 laid_sum a [] = omega arith

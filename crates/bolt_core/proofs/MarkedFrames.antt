@@ -1,5 +1,5 @@
--- A map under which whole functions move as one piece allows that frame tables are written anew: the range of a marked
--- entry has instructions of one function, which is whole and begins where the range does.
+-- If whole functions move as one piece, frame tables can be rewritten: the range of a marked entry has instructions of one function, which
+-- is whole and starts at the start of the range.
 use Rattle.std.proofs.Common.{◌≡◌, ℕ, ◌+◌, ◌<◌, ◌≤◌, List, [], ◌∷◌, Option, Some, None, Bool, true, false}
 use Rattle.std.proofs.Common.{refl, sym, ap, ◌∙◌, subst, arith, inl, inr}
 use Rattle.std.specs.Prelude.{◌==◌, ◌&&◌, not, Contains, IsTrue, All, AllPairs, Any, filter, is_some, nat_le, nat_lt}
@@ -162,7 +162,7 @@ module _ (spans : List Span) (once : AllPairs (λ s t. s.input ≢ t.input) span
     laid_of func c = All-contains IsLaidOut funcs func laid.each c
 
     module _ (f : Fde) (listed : Contains (eh_frames elf).list f) (marked : IsTrue (is_marked_by (cuts_of elf) f)) where
-      -- a cut begins the range, and none is strictly inside
+      -- a cut is at the start of the range, and none is strictly inside
       abbrev at_cut : Bool
       at_cut = list_any (λ (c : ℕ). c == f.start) (cuts_of elf)
 
@@ -247,7 +247,7 @@ module _ (spans : List Span) (once : AllPairs (λ s t. s.input ≢ t.input) span
               let (k, within, is) = in_map (λ (g : Fde). (g.start, g.end)) (filter test (eh_frames elf).list) f kept in
               (k, (f.start, f.end), within, is, (low, high))
 
-      -- two instructions of the range are of one function
+      -- two instructions of the range are of the same function
       one_func : (g h : Func) → Contains funcs g → Contains funcs h → g.start ≡ h.start → g ≡ h
       one_func g h cg ch same =
           one_of (λ (x y : Func). x.start ≢ y.start) funcs g h
@@ -264,7 +264,7 @@ module _ (spans : List Span) (once : AllPairs (λ s t. s.input ≢ t.input) span
         abbrev moves : (a : ℕ) × MoveAsOne spans a w.func.insts.items
         moves = whole w.func w.contains w.is_whole
 
-        -- where the start went
+        -- the new address of the start
         first : (a c end : ℕ) (ps : List Placed) → MoveAsOne spans a ps → Follow c ps end → (q : Placed) → Contains ps q →
             new spans c ≡ a
         first a c end [] m g q has = absurd (Contains-nil q has)

@@ -1,4 +1,4 @@
--- Blocks into which code leads lie near one another, where those of tied functions do.
+-- Blocks to which code leads are near each other, if blocks of tied functions are.
 use Rattle.std.proofs.Common.{◌≡◌, ◌∙◌, refl, sym, subst, ℕ, ◌+◌, Option, Some, None, Bool, true, false, List, inl, inr, ◌⊎◌, cond}
 use Rattle.std.specs.Prelude.{◌&&◌, Any, IsSomeAnd, slice_get, slice_index, option_and_then}
 use Rattle.std.proofs.lemmas.Option.{slice_get_within, get_or_from_slice_get}
@@ -24,7 +24,7 @@ fall_parts false v e a h = absurd (cc)
 
 module _ (code : ProgramCode) (blocks : List Block) (are : AreBlocks code blocks) (laid : AreLaidOut code.funcs)
     (order : List ℕ) where
-  -- the block at a place of the order
+  -- the block with index k of the order
   record Stands (k : ℕ) (P : Block → Type 0) : Type 0 where
     pub m : ℕ
     pub b : Block

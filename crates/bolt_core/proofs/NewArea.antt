@@ -1,4 +1,4 @@
--- Where new code goes that has room.
+-- The address of new code that has room.
 use Rattle.std.proofs.Common.{◌≡◌, refl, ℕ, ◌+◌, ◌-◌, ◌*◌, ◌/◌, ◌%◌, ◌<◌, ◌≤◌, Some, None, Bool, true, false, List, cond, arith}
 use Rattle.std.specs.Prelude.{◌&&◌, nat_lt}
 use Rattle.std.proofs.lemmas.Bool.{ltb-false}
@@ -21,7 +21,7 @@ use Rattle.file_room.proofs.Limits.{fold-min-le}
 low_limit : (segments : List Segment) → area_limit segments ≤ address_end
 low_limit segments = fold-min-le (pages_from (code_end segments) segments) address_end
 
--- the numbers of both places
+-- both conditions of room, as numbers
 pub record Fits (n start have : ℕ) : Type 0 where
   pub within : n ≤ have
   pub low : start + n ≤ address_end
@@ -54,12 +54,12 @@ pub fits_somewhere : (segments : List Segment) (n : ℕ) → no_room segments n 
 fits_somewhere segments n none some =
     fits_in segments n (is_tight segments n) refl (no_fault (has_no_room segments n) (no_room_fault segments n) none) some
 
--- The code and its unwind table are no longer than what is needed.
+-- The code and its unwind table are at most as long as what is needed.
 
 uncapped : (n limit : ℕ) → capped n ≤ limit → limit ≤ address_end → n ≤ capped n
 uncapped n limit low high = omega (arith, low, high)
 
--- what ends within addresses isn't capped
+-- a sum that ends within the addresses doesn't saturate
 pub needed : (n start : ℕ) → start + n ≤ address_end → n ≤ capped n
 needed n start low = uncapped n address_end (omega (arith, low)) (omega arith)
 
@@ -68,7 +68,7 @@ pub record HasRoom (elf : Elf) (funcs : List Func) (blocks : List Block) : Type 
       address_end
   pub within : code_need funcs blocks ≤ cond (is_tight elf.segments.items (need elf funcs blocks))
       (room_above elf.segments.items) (room elf.segments.items)
-  -- with the unwind table
+  -- the code with the unwind table
   pub all : Fits (code_need funcs blocks + frame_need elf funcs blocks)
       (area_start_of elf.segments.items (is_tight elf.segments.items (need elf funcs blocks)))
       (cond (is_tight elf.segments.items (need elf funcs blocks)) (room_above elf.segments.items) (room elf.segments.items))

@@ -1,4 +1,4 @@
--- At which place a file passes the first of its limits.
+-- The place at which a file exceeds the first of its limits.
 use Rattle.std.proofs.Common.{◌≡◌, ◌∙◌, refl, ℕ, ◌<◌, ◌≤◌, List, arith, length, ap}
 use Rattle.rb_bytes.specs.Fault.{fault_at}
 use Rattle.rb_bytes.specs.declared.fault.Fault.{Fault}

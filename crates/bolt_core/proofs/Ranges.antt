@@ -1,4 +1,4 @@
--- Lists that are gathered over the numbers below one.
+-- Lists that are collected over the numbers below a bound.
 use Rattle.std.proofs.Common.{◌≡◌, ◌∙◌, sym, ap, refl, ℕ, suc, ◌+◌, Option, Some, None, List, [], ◌∷◌, ◌++◌, arith}
 use Rattle.std.specs.List.{cons_option, filter_map, range_with_len}
 use Rattle.std.specs.Option.{option_to_list}

@@ -79,7 +79,7 @@ module _ {file profile : List ℕ} {x : Program} (input : IsInput file profile x
   keeps_so_far : KeepsRunsSoFar x w spans
   keeps_so_far = λ args given fit n trace run. simulation_law.so_far (rewrite_of x w spans) keeps args given fit n trace run
 
--- counts that are equal one by one
+-- counts that are equal field by field
 pub counted : (functions instructions bytes hot ignored instructions' bytes' hot' ignored' : ℕ) → instructions ≡ instructions' →
     bytes ≡ bytes' → hot ≡ hot' → ignored ≡ ignored' →
     ◌≡◌ {A = RewriteCounts}
@@ -93,11 +93,11 @@ counted functions instructions bytes hot ignored instructions' bytes' hot' ignor
   ignored = h i;
 }
 
--- what a slice of bytes holds are bytes
+-- the items of a slice of bytes are bytes
 pub all_bytes : (bytes : List ℕ) → ((k : ℕ) → Fits w8 (get_or bytes k 0)) → All (λ b. b < 256) bytes
 all_bytes bytes fit = λ k d within. subst (λ n. n < 256) (get_or_default bytes k 0 d within) (Fits-lt-pow (fit k))
 
--- the hot blocks are those whose weights are positive
+-- the hot blocks are those with positive weights
 count_from : {X : Type 0} (weight : X → ℕ) (n : ℕ) (xs : List X) →
     fold (λ (a : ℕ) (b : ℕ). a + cond (nat_lt 0 b) 1 0) n (map weight xs)
     ≡ fold (λ (a : ℕ) (x : X). a + cond (nat_lt 0 (weight x)) 1 0) n xs
@@ -218,7 +218,7 @@ module _ {file profile : List ℕ} (elf : Elf) (funcs : List Func) (refs : Refs)
             is_faithful elf funcs refs blocks sound_code (input.program).blocks_are stands order spans emitted moved given sizes w
             written
 
-        -- what is read of the file has the tables, which answer as the input's did
+        -- the tables that are read of the written file have the input's answers
         abbrev Answers : List ℕ → Type 0
         Answers names = (T : HasNewTables elf given emitted.code.items funcs names spans (is_tight_program x) w)
             × CarriesTables spans elf T.new

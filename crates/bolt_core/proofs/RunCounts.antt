@@ -1,4 +1,4 @@
--- The count: the runs of carried answers weigh no more than the places at which they can begin.
+-- Counting runs: the runs of carried answers weigh at most as much as the places at which they can begin.
 use Rattle.std.proofs.Common.{◌≡◌, ◌≢◌, ℕ, zero, suc, ◌*◌, ◌<◌, ◌≤◌, ◌⊎◌, ◌∙◌, inl, inr, List, [], ◌∷◌, length, sym, ap, subst}
 use Rattle.std.proofs.Common.{arith, get_or, Option, Some, sum_by}
 use Rattle.std.specs.Prelude.{Contains, AllPairs}
@@ -16,7 +16,7 @@ once_head : (u t : Span) (us : List Span) → AllPairs (λ (s t : Span). s.input
 once_head u t us once (k, within, is) =
     subst (λ (x : Span). u.input ≢ x.input) is (once zero (suc k) t (omega arith) (omega (arith, within)))
 
--- where an instruction went
+-- the new address of an instruction
 once_out : (spans : List Span) → AllPairs (λ (s t : Span). s.input ≢ t.input) spans → (s t : Span) → Contains spans s → Contains spans t →
     s.input ≡ t.input → s.out ≡ t.out
 once_out [] once s t c d same = absurd (Contains-nil s c)
@@ -32,8 +32,8 @@ once_out (u ∷ us) once s t c d same =
 
 module _ {A B F : Type 0} (at : ℕ → Option A) (weight : A → ℕ) (blocks : List B) (start : B → ℕ) (Holds : B → ℕ → Type 0)
     (list : List F) (cuts : F → List ℕ) (size : F → ℕ) where
-  -- An answer comes from an owner, which has a cut where it begins to be given: at the start of each block with an
-  -- instruction that has it, and between an instruction that hasn't and a later one that has it.
+  -- An answer comes from an owner's entry, which has a cut where the answer begins: at the start of each block with an instruction that has
+  -- it, and between an instruction without it and a later one with it.
   pub record Source (a : ℕ) (x : A) : Type 0 where
     pub f : F
     pub among : Contains list f

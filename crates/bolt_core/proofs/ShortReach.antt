@@ -1,4 +1,4 @@
--- In a whole function that no branch leaves, what reaches less far than a JAL reaches where it goes.
+-- In a whole function that no branch leaves, an instruction that reaches less far than a JAL reaches its target.
 use Rattle.std.proofs.Common.{◌≡◌, ℕ, ◌+◌, ◌*◌, ◌^◌, ◌<◌, ◌≤◌, Option, Some, None, sym, ap, ◌∙◌, subst, arith, inl, inr, ◌⊎◌, ℤ, pos, ◌-ℤ◌}
 use Rattle.std.proofs.Common.{refl, Bool, true, false, List}
 use Rattle.std.specs.Prelude.{◌&&◌, ◌||◌, ◌==◌, not, nat_lt, nat_le, if◌then◌else◌, Contains, IsTrue}
@@ -45,7 +45,7 @@ near_by half n high room = by (nat_lt n half) refl
     by true e = inl (ltb-true n half e)
     by false e = inr (negative half n (ltb-false n half e) high room)
 
--- what reaches less far than a JAL, by the bytes of the instruction
+-- the offset of an instruction that reaches less far than a JAL, by its length in bytes
 abbrev NearOffset : ℕ → Inst → Type 0
 NearOffset bytes (Jal rd imm) = bytes ≡ 2 → IsNear (2 ^ 11) (unsigned64 imm)
 NearOffset bytes (Beq rs1 rs2 imm) = IsNear (if bytes == 2 then 2 ^ 8 else 2 ^ 12) (unsigned64 imm)
@@ -84,7 +84,7 @@ near_offset half None i bytes (inr d) = absurd d.row
 near_offset half (Some upper) i bytes (inr d) =
     subst (λ (n : ℕ). NearOffset n i) (sym d.four_bytes) (near_full (upper * 2 ^ 16 + half) i d.row)
 
--- so the target lies within it, where both addresses are low
+-- an offset within a reach has its target within the reach, if both addresses are low
 reach_near : (reach a u : ℕ) → reach ≤ 2 ^ 20 → a < 2 ^ 32 → plus a u < 2 ^ 32 → IsNear reach u →
     reaches reach a (plus a u) ≡ true
 reach_near reach a u small low there (inl near) =
@@ -132,10 +132,10 @@ reach_inst len a t (Bltu rs1 rs2 imm) near goes low there short = of_branch len 
 reach_inst len a t (Bgeu rs1 rs2 imm) near goes low there short = of_branch len a t imm near goes low there
 reach_inst len a t _ near goes low there short = absurd (cc)
 
--- The functions of a program in which no branch leaves a whole one.
+-- The functions of a program in which no branch leaves a whole function.
 module _ (elf : Elf) (funcs : List Func) (blocks : List Block) (laid : AreLaidOut funcs)
     (free : IsFree (HasPlacementFault funcs blocks)) where
-  -- where a short branch of a whole function goes
+  -- the target of a short branch of a whole function is in the function
   inside : (func : Func) (p : Placed) → Contains funcs func → Contains func.insts.items p → IsTrue func.whole →
       IsTrue (is_short p) → (t : ℕ) → target_of p ≡ Some t → func_holds t func ≡ true
   inside func p (k, within, is) (j, inner, at) whole short t goes = by (func_holds t func) refl

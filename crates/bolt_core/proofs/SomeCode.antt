@@ -1,4 +1,4 @@
--- An accepted file has code: its entry point names an instruction.
+-- An accepted file has code: its entry point is an instruction.
 use Rattle.std.proofs.Common.{◌≡◌, ◌∙◌, refl, sym, ◌<◌, Bool, true, false, List, inr, get_or, arith}
 use Rattle.std.proofs.lemmas.List.Sums.{get_or-le-sum_by}
 use Rattle.std.proofs.lemmas.Option.{slice_get_within, get_or_from_slice_get}

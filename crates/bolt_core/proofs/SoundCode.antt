@@ -1,4 +1,4 @@
--- What holds of the code of a file in which no fault was found.
+-- Properties of the code of a file without faults.
 use Rattle.std.proofs.Common.{◌<◌, sym, subst, inr, ℕ, List}
 use Rattle.std.specs.Prelude.{All}
 use Rattle.rv_code.specs.declared.placed.Block.{Block}
@@ -22,7 +22,7 @@ use Rattle.program.specs.Program.{Program}
 use Rattle.bolt_core.specs.Refusals.{IsInput}
 use Rattle.bolt_core.proofs.Direct.{are_direct}
 
--- a file that was read and its code, without any fault
+-- a file that was read, with its code, without any fault
 pub record IsSoundCode (elf : Elf) (code : ProgramCode) : Type 0 where
   pub bytes : All (λ b. b < 256) elf.file.now
   pub read : IsElfOf elf.file.now elf

@@ -1,4 +1,4 @@
--- Of moved code: its whole functions move as one piece, so its unwind table can be carried, and there is room for that.
+-- Moved code: its whole functions move as one piece, so its unwind table can be carried, and there is room for the table.
 use Rattle.std.proofs.Common.{◌≡◌, ◌∙◌, ap, sym, subst, ℕ, ◌+◌, ◌*◌, ◌≤◌, ◌<◌, ◌^◌, List, Bool, length, arith}
 use Rattle.std.specs.Prelude.{Contains, IsTrue, if◌then◌else◌, sum_by}
 use Rattle.std.proofs.lemmas.List.Sorted.{Contains-permutation, IsPermutation-sym}
@@ -51,7 +51,7 @@ module _ (elf : Elf) (code : ProgramCode) (blocks : List Block) (laid : AreLaidO
       subst (λ (m : Fde → Bool). AllowsFrames m (read_as t.frames).list spans) (sym comes.marks)
       (subst (λ (f : Frames). AllowsFrames (is_marked_by (cuts_of elf)) f.list spans) (sym (read_is t elf comes)) of_file)
 
-  -- what a loaded table needs
+  -- the need of a loaded table
   needed : IsTrue t.has_section → frame_need elf code.funcs blocks ≡ need_of code.funcs blocks (eh_frames elf)
   needed has = ap (λ (b : Bool). if b then need_of code.funcs blocks (eh_frames elf) else 0) (sym comes.there ∙ has)
 
@@ -64,7 +64,7 @@ module _ (elf : Elf) (code : ProgramCode) (blocks : List Block) (laid : AreLaidO
       let need = needed has in
       omega (arith, fits, cies, need)
 
-  -- no span goes past the end of the code
+  -- no span ends after the code
   span_end : (s : Span) → Contains spans s → s.out + s.len ≤ base + length emitted.code.items
   span_end s is_in =
       let lines = spans_of (strips_of code.funcs blocks order) base moved.forms in

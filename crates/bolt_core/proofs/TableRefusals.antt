@@ -1,4 +1,4 @@
--- A file whose program doesn't tell of its unwind table itself is refused for the faults of its tables.
+-- A file whose program doesn't register its unwind table itself is refused for the faults of its tables.
 use Rattle.std.proofs.Common.{ℕ, ◌<◌, ◌≤◌, List, arith}
 use Rattle.elf_image.specs.declared.elf.Elf.{Elf}
 use Rattle.rb_bytes.specs.FirstFault.{IsFree, IsRefusalBy}
@@ -18,7 +18,7 @@ use Rattle.table_set.proofs.SoundUnits.{units_sound}
 use Rattle.bolt_core.specs.TableFaults.{HasCarryingFault}
 
 module _ (elf : Elf) where
-  -- no fault of tables is that of a registration
+  -- no fault of tables is a fault of registration
   from_tables : (kind : FaultKind) (place : ℕ) → tables.HasTableFault elf kind place → HasCarryingFault elf kind place
   from_tables fault.RegisteredFrames place has = absurd (cc)
   from_tables kind place has = has
@@ -40,15 +40,15 @@ module _ (elf : Elf) where
     }
     tables_refused refusal.Memory is = tt
 
-  -- those of debug data are among them
+  -- the faults of debug data are among the faults of tables
   pub debug_free : IsFree (HasCarryingFault elf) → IsFree (tables.HasDebugFault elf)
   debug_free free kind place has = free kind place (from_tables kind place has.1)
 
-  -- its units can be read
+  -- the file's units can be read
   pub sound_units : IsFree (HasCarryingFault elf) → IsFree (HasDwarfFault (unit_fault_places (sections_of elf)))
   sound_units free = units_sound elf (λ kind place has. free kind place (from_tables kind place has))
 
--- the declarations of units don't weigh too much
+-- the abbreviations of units don't weigh too much
 pub light_declarations : (elf : Elf) (spans : List Span) → (IsTooHeavy elf spans → ⊥) → abbrev_weight (sections_of elf) ≤ weight_limit
 light_declarations elf spans light = by (abbrev_weight (sections_of elf)) (λ over. light (abbreviations over))
   where

@@ -1,4 +1,4 @@
--- The new area with its tables takes no more than is needed.
+-- The new area with its tables takes at most the bytes that are needed.
 use Rattle.std.proofs.Common.{◌∙◌, ℕ, ◌+◌, ◌-◌, ◌≤◌, List, Option, Some, None, Bool, length, arith, sym}
 use Rattle.std.specs.Prelude.{All, IsTrue, nat_le, nat_lt}
 use Rattle.std.proofs.lemmas.Bool.{and_parts, ltb-true}
@@ -19,7 +19,7 @@ up_8 n = omega arith
 up_4 : (n : ℕ) → rounded_up 4 n ≤ n + 3
 up_4 n = omega arith
 
--- where the index stands, by the bytes before it
+-- the address of the index, by the bytes before it
 index_upto : (n eh p : ℕ) → p ≤ n + 7 → rounded_up 4 (p + eh) ≤ n + eh + 10
 index_upto n eh p x = let y = up_4 (p + eh) in omega (arith, x, y)
 
@@ -28,7 +28,7 @@ index_within start code end eh low =
     let y = index_upto (start + code) (length eh) (frames_at start code) (up_8 (start + code)) in
     omega (arith, y, low)
 
--- what the sizes of tables take at most, with the bytes between them
+-- the greatest sizes of tables, with the padding between them
 abbrev pub SizesFit : Option ℕ → Option ℕ → ℕ → Type 0
 SizesFit None None more = Unit {0}
 SizesFit None (Some index) more = ⊥
@@ -56,7 +56,7 @@ area_fits segments tight code code_need more (Some eh) (Some index) c s =
     by : (start p q : ℕ) → p ≤ start + code + 7 → q ≤ p + eh + 3 → q + index - start ≤ code_need + more
     by start p q x y = omega (arith, x, y, c, s)
 
--- Entries that begin in the new code begin below its end.
+-- Entries that start in the new code start before its end.
 pub starts_low : (spans : List Span) (start end limit : ℕ) (list : List Fde) → IsStretch spans start end → end ≤ limit →
     All (λ (f : Fde). IsTrue (is_new_code spans f.start)) list → All (λ (f : Fde). f.start ≤ limit) list
 starts_low spans start end limit list stretch low starts =

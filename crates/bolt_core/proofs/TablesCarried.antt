@@ -1,4 +1,4 @@
--- A written file in which the new tables stand answers as its input did.
+-- A written file that contains the new tables has the input's answers.
 use Rattle.std.proofs.Common.{◌≡◌, ◌∙◌, ap, refl, sym, subst, ℕ, ◌+◌, ◌*◌, ◌≤◌, List, [], ◌∷◌, Option, Some, None, Bool}
 use Rattle.std.proofs.Common.{suc, true, false, length, arith}
 use Rattle.std.proofs.lemmas.Bool.Decides.{nat_tests}
@@ -52,7 +52,7 @@ use Rattle.bolt_core.proofs.ListedTables.{debug_bytes, debug_given, frames_bytes
 use Rattle.bolt_core.proofs.ListedTables.{ranges_bytes, ranges_given_is, seen}
 use Rattle.bolt_core.proofs.TableRoom.{SizesFit}
 
--- What a file holds, in the terms of tables.
+-- The contents of a file, in the terms of tables.
 
 held_from : (f : Elf) (name bytes : List ℕ) (a : ℕ) → HoldsAt f name a bytes → held f name ≡ record { bytes = bytes; address = a }
 held_from f name bytes a h = by (section_called f.sections.items name) h
@@ -87,7 +87,7 @@ none_of (Some xs) h = absurd (cc)
 not_zero : (n : ℕ) → (suc n == 0) ≡ false
 not_zero n = grind (arith, nat_tests)
 
--- an empty table has no entries, wherever it stands
+-- an empty table has no entries, at any address
 none_listed : (a b : ℕ) → (frames false a []).list ≡ (frames false b []).list
 unfolding walk
 none_listed a b = refl
@@ -97,7 +97,7 @@ alone : (b : Bool) → (b || false) ≡ false → b ≡ false
 alone false h = refl
 alone true h = absurd (cc)
 
--- the table of ranges is one that is written anew
+-- the table of ranges is one of the rewritten tables
 not_ranges : (name : List ℕ) → name ≡ codes ".debug_rnglists" → is_one_of written_names name ≡ false → ⊥
 not_ranges name same other =
     clash (is_one_of written_names name) (ap (is_one_of written_names) same) other
@@ -145,7 +145,7 @@ module _ (elf : Elf) (t : AllTables) (comes : AllComeFrom t elf) (spans : List S
   size_index : table_size given (codes ".eh_frame_hdr") ≡ option_map length made.are_listed.index
   size_index = index_size given listed_frames made.are_listed.index ranges debug made.are_listed.are
 
-  -- How large they are.
+  -- The sizes of the tables.
 
   module _ (more : ℕ) (room : IsTrue t.eh.has_section → (runs : List (Run FrameAnswer)) →
       AreRunsOf (carried (eh_says t.eh) spans) runs →
@@ -182,7 +182,7 @@ module _ (elf : Elf) (t : AllTables) (comes : AllComeFrom t elf) (spans : List S
             (sym (unloaded e))
             (subst (λ (o : Option (List ℕ)). SizesFit None (option_map length o) more) (sym no_index) tt)
 
-  -- What the written file answers.
+  -- The answers of the written file.
 
   module _ (new : Elf) (tight : Bool) (start_is : start ≡ area_start_of elf.segments.items tight)
       (stand : TablesStand elf new given (area_for elf given code tight)) where
@@ -237,7 +237,7 @@ module _ (elf : Elf) (t : AllTables) (comes : AllComeFrom t elf) (spans : List S
       place = λ e. subst (ComesAfter spans) (sym (ap (λ (h : Held). h.address) (frames_held e))) made.after;
     }
 
-    -- A section of debug data holds what is given for it; one that the input hasn't holds nothing.
+    -- A section of debug data has the contents that are given for it; a section that the input doesn't have is empty.
     debug_stands : (name bytes : List ℕ) → names_debug name ≡ true → bytes_eq name (codes ".debug_rnglists") ≡ false →
         seen name (debug_listed debug) ≡ Some (name, bytes) →
         (section_called elf.sections.items name ≡ None → bytes ≡ []) → bytes_of new name ≡ bytes
@@ -256,7 +256,7 @@ module _ (elf : Elf) (t : AllTables) (comes : AllComeFrom t elf) (spans : List S
             ∙ debug_bytes given listed_frames made.are_listed.index ranges debug made.are_listed.are name is_debug (name, bytes) listed_is
         by None e = none_held new name (stand.absent name is_debug e (λ adds same. differs same)) ∙ sym (empty e)
 
-    -- Any other holds what it held.
+    -- Any other section keeps its contents.
     others_stand : (name : List ℕ) → IsTrue (names_debug name) → is_one_of written_names name ≡ false →
         is_one_of dropped_names name ≡ false → bytes_of new name ≡ bytes_of elf name
     others_stand name is_debug other kept_name = by (section_called elf.sections.items name) refl
@@ -275,7 +275,7 @@ module _ (elf : Elf) (t : AllTables) (comes : AllComeFrom t elf) (spans : List S
         by None e =
             none_held new name (stand.absent name is_debug e (λ adds same. not_ranges name same other)) ∙ sym (none_held elf name e)
 
-    -- That of ranges is added where ranges are written.
+    -- The section of ranges is added if ranges are written.
     ranges_stand : bytes_of new (codes ".debug_rnglists") ≡ made.written.ranges.bytes.items
     ranges_stand = by (section_called elf.sections.items (codes ".debug_rnglists")) refl made.written.ranges.bytes.items refl
       where
@@ -363,7 +363,7 @@ module _ (elf : Elf) (t : AllTables) (comes : AllComeFrom t elf) (spans : List S
         (subst (λ (h : Held). IsIndexOf (frames_at start (length code)) h.address (frames false (frames_at start (length code)) eh).list
         h.bytes) (sym (index_held loads x is)) index.is)
 
-    -- what is so of the unwind table where it comes after the new code is so where it stands
+    -- a property of the unwind table at any address after the new code holds at its address
     of_eh : (P : List Fde → Type 0) → ((at : ℕ) → ComesAfter spans at → P (frames false at eh).list) →
         P (frames_of false (held new eh_name)).list
     of_eh P all = by (has_frames elf) refl
@@ -379,7 +379,7 @@ module _ (elf : Elf) (t : AllTables) (comes : AllComeFrom t elf) (spans : List S
             (subst P (none_listed (frames_at start (length code)) (held new eh_name).address)
             (subst (λ (l : List ℕ). P (frames false (frames_at start (length code)) l).list) none here))
 
-    -- what is so of a written table wherever it stands is so where it stands
+    -- a property of a written table at any address holds at its address
     of_frames : (debug : Bool) (name bytes : List ℕ) (P : List Fde → Type 0) → ((at : ℕ) → P (frames debug at bytes).list)
         → bytes_of new name ≡ bytes → P (frames_of debug (held new name)).list
     of_frames debug name bytes P all is =

@@ -1,4 +1,4 @@
--- What was written of a program is a faithful rewrite of it.
+-- The written file of a program is a faithful rewrite of it.
 use Rattle.std.proofs.Common.{◌≡◌, subst, ℕ, ◌+◌, ◌-◌, ◌≤◌, Bool, List, length, arith}
 use Rattle.std.specs.Prelude.{codes, sum_by}
 use Rattle.rv_code.specs.declared.layout.Emitted.{Emitted}

@@ -1,4 +1,4 @@
--- The tables that are written anew, by the names of their sections.
+-- The rewritten tables, by the names of their sections.
 use Rattle.std.specs.Prelude.{◌≡◌, ◌==◌, ◌++◌, ◌||◌, ℕ, not, List, [], ◌∷◌, Option, Some, None, is_some, String, Vec}
 use Rattle.std.specs.Prelude.{string_bytes, codes, if◌then◌else◌, length, map}
 use Rattle.std.specs.declared.alloc.Global.{Global}
@@ -9,7 +9,7 @@ use Rattle.dw_unit.specs.Tables.{sections_of}
 use Rattle.range_loc_rewrite.specs.ListTables.{AreWithoutHighAddresses}
 use Rattle.frame_rewrite.specs.Index.{has_frames, has_index}
 
--- a table as the code keeps it
+-- a table, in the terms of the code
 abbrev pub ReadTable : Type 0
 ReadTable = String Global × Vec ℕ Global
 
@@ -21,7 +21,7 @@ abbrev pub table_if : List ℕ → Option (List ℕ) → List (List ℕ × List 
 table_if name None = []
 table_if name (Some bytes) = (name, bytes) ∷ []
 
--- the contents of debug tables, but for that of ranges
+-- the contents of debug tables, without the table of ranges
 pub record DebugContents : Type 0 where
   pub info : List ℕ
   pub abbrevs : List ℕ
@@ -37,7 +37,7 @@ debug_listed d =
     ∷ (codes ".debug_line", d.lines) ∷ (codes ".debug_loclists", d.locations) ∷ (codes ".debug_aranges", d.aranges)
     ∷ (codes ".debug_frame", d.frames) ∷ []
 
--- The table of ranges, where the file has one or ranges are written: entries with a low and a high address get some.
+-- The table of ranges, if the file has one or if ranges are written: entries with a low and a high address get ranges.
 abbrev pub ranges_given : Elf → List ℕ → Option (List ℕ)
 ranges_given elf bytes =
     if is_some (section_called elf.sections.items (codes ".debug_rnglists"))
@@ -53,7 +53,7 @@ pub record AreGivenFor (elf : Elf) (tables : List ReadTable) : Type 0 where
   pub frames : Option (List ℕ)
   pub index : Option (List ℕ)
   pub ranges : List ℕ
-  -- where the file has no table of ranges, ranges are written only for entries with a high address
+  -- if the file has no table of ranges, ranges are written only for entries with a high address
   pub no_ranges : bytes_of elf (codes ".debug_rnglists") ≡ [] → AreWithoutHighAddresses (sections_of elf) → ranges ≡ []
   pub debug : DebugContents
   pub are : map table_seen tables ≡ listed frames index (ranges_given elf ranges) debug

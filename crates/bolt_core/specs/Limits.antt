@@ -1,4 +1,4 @@
--- Limits on what is rewritten, beside that on the length of files.
+-- Limits on files that are rewritten, other than their lengths.
 use Rattle.std.specs.Prelude.{◌≡◌, ◌<◌, ℕ, List}
 use Rattle.rv_code.specs.declared.placed.Func.{Func}
 use Rattle.elf_image.specs.declared.elf.Elf.{Elf}
@@ -8,12 +8,12 @@ use Rattle.elf_write.specs.NameWeight.{name_weight}
 use Rattle.rb_bytes.specs.declared.limit.TheConstants.{HEADERS, WEIGHTS}
 use Rattle.program.specs.Limits.{IsCodeTooLarge}
 
--- the most section headers, and the most program headers
+-- the limit on section headers, and on program headers
 abbrev pub header_limit : ℕ
 header_limit = 65000
 
--- The places at which a file with these functions passes a limit: its code, its functions, its headers,
--- or the names that are written. `cold` has the addresses of the cold parts that stand apart.
+-- The places at which a file with these functions exceeds a limit: on its code, its functions, its headers, or the
+-- names that are written. `cold` has the addresses of the cold parts that get a name.
 pub data IsTooLarge (elf : Elf) (funcs : List Func) (cold : List ℕ) (place : ℕ) : Type 0 where
   large_code : IsCodeTooLarge elf.file.now funcs place → IsTooLarge elf funcs cold place
   many_sections : place ≡ HEADERS → header_limit < e_shnum elf.file.now → IsTooLarge elf funcs cold place

@@ -14,12 +14,11 @@ use Rattle.block_layout.specs.Parts.{AreChains}
 use Rattle.func_place.specs.Placement.{IsPlacement}
 use Rattle.program.specs.Program.{Program}
 
--- what a profile counts, from one instruction of the program to another
+-- the counts of a profile, from one instruction of the program to another
 abbrev pub counts_of : Program → List ℕ → ℕ → ℕ → ℕ
 counts_of x profile = count_in profile x.elf x.code.funcs
 
--- The hot and the cold part of each function: blocks are linked along the edges between them, by counts of pairs of
--- instructions.
+-- The hot and the cold part of each function: blocks are linked along edges, by counts of pairs of instructions.
 pub record ArePartsOf (counts : ℕ → ℕ → ℕ) (pairs : List Counted) (funcs : List Func) (cells : List CodeCell)
     (blocks : List Block) (parts : Chains) : Type 0 where
   pub pairs_are : ArePairs counts pairs
@@ -33,17 +32,17 @@ pub record ArePartsOf (counts : ℕ → ℕ → ℕ) (pairs : List Counted) (fun
 abbrev pub ArePartsBy : Program → List ℕ → List Counted → Chains → Type 0
 ArePartsBy x profile pairs parts = ArePartsOf (counts_of x profile) pairs x.code.funcs x.code.cells x.blocks parts
 
--- The order of all blocks, each by its place in the list of blocks.
+-- The order of all blocks, each by its index in the list of blocks.
 pub record IsProfileOrder (x : Program) (profile : List ℕ) (pairs : List Counted) (parts : Chains)
     (order : List ℕ) : Type 0 where
   pub parts_are : ArePartsBy x profile pairs parts
   pub placed : IsPlacement x.code.funcs x.blocks parts pairs (block_weight pairs x.code.funcs) order
 
--- how many blocks are hot
+-- the number of hot blocks
 abbrev pub hot_count : Program → List Counted → ℕ
 hot_count x pairs = count_by (is_hot_block pairs x.code.funcs) x.blocks
 
--- the address in the input of the first instruction of a function's cold part, if it has a hot and a cold one
+-- the address in the input of the first instruction of a function's cold part, if it has a hot and a cold part
 abbrev pub cold_start : List Func → List Block → List ℕ → List ℕ → Option ℕ
 cold_start funcs blocks [] cold = None
 cold_start funcs blocks (h ∷ hs) [] = None

@@ -1,5 +1,5 @@
--- Which files and profiles are refused, for which fault.
--- A fault is looked for only where those before it are absent.
+-- Which files and profiles are refused, for which fault. A fault is only reported if the faults of higher precedence
+-- are absent.
 use Rattle.std.specs.Prelude.{◌≡◌, ◌≤◌, ◌<◌, ℕ, List, Some, None, length}
 use Rattle.rb_bytes.specs.Fault.{fault_at}
 use Rattle.rb_bytes.specs.FirstFault.{IsAnswered, IsFree}
@@ -31,19 +31,19 @@ pub record IsInput (file profile : List ℕ) (x : Program) : Type 0 where
   pub program : IsProgramOf file x
   pub profile_fits : length profile ≤ file_limit
 
--- nothing keeps a program's code from being placed, and its tables from being carried
+-- there is no fault of placement, and no fault of tables that prevents carrying them
 pub record CanMove (x : Program) : Type 0 where
   pub placed : IsFree (HasPlacementFault x.code.funcs x.blocks)
   pub carried : IsFree (HasCarryingFault x.elf)
 
--- and its new code has room
+-- there is no such fault, and the new code has room
 pub record CanStand (x : Program) : Type 0 where
   pub moves : CanMove x
   pub room : no_program_room x ≡ None
 
--- Length comes first, of the file and then of the profile; then why the file isn't read as a program; what keeps its
--- code from being placed; what keeps its tables from being carried; want of room; and then the other limits. Those of
--- its code come first, for which its parts needn't be known, and the weights of tables are the last.
+-- The order of precedence: the lengths of the file and of the profile; why the file isn't read as a program; faults of
+-- placement; faults of tables; missing room; and then the other limits. Of these, the limits on code come first, since
+-- they don't depend on its parts, and the weights of tables are last.
 pub data IsRefused (file profile : List ℕ) (fault : Fault) : Type 0 where
   long_file : file_limit < length file → fault ≡ fault_at TooLarge FILE_BYTES → IsRefused file profile fault
   long_profile : length file ≤ file_limit → file_limit < length profile → fault ≡ fault_at TooLarge PROFILE_BYTES →
@@ -67,6 +67,6 @@ pub data IsRefused (file profile : List ℕ) (fault : Fault) : Type 0 where
       (spans : List Span) (code : List ℕ) → IsLaidOutBy x order spans code → IsTooHeavy x.elf spans →
       fault ≡ fault_at TooLarge WEIGHTS → IsRefused file profile fault
 
--- a refusal names a fault for which the file or the profile is refused; memory may run out at any time
+-- the refusal is a fault for which the file or the profile is refused, or memory ran out, which can happen at any time
 abbrev pub IsRefusal : List ℕ → List ℕ → Refusal → Type 0
 IsRefusal file profile = IsRefusalFor (IsRefused file profile)

@@ -1,4 +1,4 @@
--- What is counted of a rewrite.
+-- The counts in the summary of a rewrite.
 use Rattle.std.specs.Prelude.{ℕ}
 use Rattle.bolt_core.specs.declared.rewriting.Rewritten.{Rewritten}
 
@@ -9,7 +9,7 @@ pub record RewriteCounts : Type 0 where
   pub hot : ℕ
   pub ignored : ℕ
 
--- the counts of a rewrite as the code keeps it
+-- the counts of a rewrite, in the terms of the code
 abbrev pub counts_seen : Rewritten → RewriteCounts
 counts_seen r = record {
   functions = r.functions;

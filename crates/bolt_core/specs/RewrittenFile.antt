@@ -1,4 +1,4 @@
--- What a rewritten file is to its input and its profile.
+-- The properties of a rewritten file, by its input and its profile.
 use Rattle.std.specs.Prelude.{◌≡◌, ◌+◌, ◌-◌, ◌*◌, ◌≤◌, ℕ, List, IfSome, length, sum_by}
 use Rattle.rv_code.specs.declared.layout.Chains.{Chains}
 use Rattle.rv_code.specs.layout.Flow.{insts_of}
@@ -40,29 +40,28 @@ rewrite_of x written spans = record {
   spans = spans;
 }
 
--- Each run of the input that ends on the symbol machine is matched by one of the written file on the byte
--- machine, with the same arguments and input, the same system calls and the same status.
+-- Each run of the input that ends on the symbol machine is matched by a run of the written file on the byte machine,
+-- with the same arguments and input, the same system calls and the same status.
 abbrev pub KeepsRuns : Program → List ℕ → List Span → Type 0
 KeepsRuns x written spans = (args : List (List ℕ)) (input : List ℕ) → FitStack args →
     (n : ℕ) (trace : List Event) (status : ℕ) → SymRuns (program (rewrite_of x written spans)) args input n trace status
     →
     (m : ℕ) × (m ≤ 3 * n + 1) × Runs written args input m trace status
 
--- Every other run is matched as far as it goes.
+-- The first steps of every other run are matched.
 abbrev pub KeepsRunsSoFar : Program → List ℕ → List Span → Type 0
 KeepsRunsSoFar x written spans = (args : List (List ℕ)) (input : List ℕ) → FitStack args →
     (n : ℕ) (trace : List Event) → SymRunsSoFar (program (rewrite_of x written spans)) args input n trace →
     (m : ℕ) × (m ≤ 3 * n) × RunsSoFar written args input m trace
 
--- The sections and symbols of the written file:
--- those that follow from the input and the map, with these tables.
+-- The sections and symbols of the written file follow from the input and the map, with these tables.
 abbrev pub FollowsTables : Program → Chains → List ReadTable → List ℕ → List Span → List ℕ → Type 0
 FollowsTables x parts given code spans written =
     HasNewTables x.elf given code x.code.funcs (cold_starts x.code.funcs x.blocks parts) spans
     (is_tight_program x) written
 
--- The program headers of the written file are those of the input, of which the executable segment's may grow;
--- and one more where the new code has a segment of its own.
+-- The program headers of the written file are those of the input, of which the executable segment's may grow; and one
+-- more if the new code has a segment of its own.
 abbrev pub FollowsSegments : Program → List ReadTable → List ℕ → List ℕ → Type 0
 FollowsSegments x given code written =
     let segments = x.elf.segments.items in
@@ -71,7 +70,7 @@ FollowsSegments x given code written =
     IfSome (executable_segment segments) (λ e. AreNewHeaders shift.from shift.by area e.0 segments
     (segments_of written))
 
--- what is counted of a rewrite
+-- the counts in the summary of a rewrite
 abbrev pub counts_of_rewrite : Program → List ℕ → List Counted → List Span → RewriteCounts
 counts_of_rewrite x profile pairs spans = record {
   functions = length x.code.funcs;
@@ -92,29 +91,31 @@ pub record IsRewritten (file profile written : List ℕ) (spans : List Span) (co
   pub fits : (place : ℕ) →
       IsTooLarge program.elf program.code.funcs (cold_starts program.code.funcs program.blocks parts) place → ⊥
   pub light : IsTooHeavy program.elf spans → ⊥
-  -- the written file is one that its reader accepts, and a faithful rewrite, so it keeps the runs of the input
+  -- the reader accepts the written file, and it is a faithful rewrite, so it keeps the runs of the input
   pub sound : IsSound written
   pub faithful : IsFaithful (rewrite_of program written spans)
   pub runs : KeepsRuns program written spans
   pub so_far : KeepsRunsSoFar program written spans
-  -- the new code stands in the profile's order, and is one stretch from the new area's start on
+  -- the new code is in the profile's order, and is one stretch from the new area's start on
   pub ordered : IsProfileOrder program profile pairs parts order
   pub code : List ℕ
   pub laid_out : IsLaidOutBy program order spans code
-  -- these are the bytes of the new code; headers, sections and symbols follow the input's, and name the new code
+  -- this stretch has the bytes of the new code; headers, sections and symbols follow the input's, and name the new code
   pub stretch : IsStretch spans (new_start program) (new_start program + length code)
   pub code_stands : HoldsBytes written (segments_of written) (new_start program) code
   pub given : List ReadTable
   pub are_given : AreGivenFor program.elf given
   pub tables : FollowsTables program parts given code spans written
   pub headers : FollowsSegments program given code written
-  -- the new area takes no more bytes than were found to be needed
+  -- the new area takes at most the bytes that were found to be needed
   pub needed : (area_for program.elf given code (is_tight_program program)).end
       - (area_for program.elf given code (is_tight_program program)).start ≤ needed_bytes program
-  -- at each byte of the new code all tables answer as they did at the byte's owner, and other debug data is kept
+  -- at each byte of the new code all tables have the answers that they had at the byte's owner, and other debug data is
+  -- kept
   pub answers : CarriesTables spans program.elf tables.new
-  -- up to where no byte moves, bytes that no segment loads are as they were, and those of a table that is replaced
+  -- before the offset from which bytes move, bytes that no segment loads are unchanged, except those of a table that is
+  -- replaced
   pub front : KeepsFront program.elf (is_tight_program program) written
-  -- and behind that, bytes that a segment names and doesn't load have moved with it
+  -- after this offset, bytes that a segment names and doesn't load have moved with it
   pub behind : KeepsBehind program.elf (area_for program.elf given code (is_tight_program program)) written
   pub counted : counts ≡ counts_of_rewrite program profile pairs spans

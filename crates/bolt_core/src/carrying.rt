@@ -1,4 +1,4 @@
-// Tables are written anew for moved code.
+// Rewriting tables for moved code.
 ghost use Rattle.std.specs.Prelude.{◌+◌, ◌≤◌, AllPairs, IfOk};
 ghost use Rattle.rb_bytes.specs.FirstFault.{IsFree};
 ghost use Rattle.rv_code.specs.layout.FunctionLists.{address_end};
@@ -20,9 +20,9 @@ use rb_bytes::fault::NoMemory;
 use std::alloc::Global;
 use table_set::{AllTables, carry_all};
 
-/// The tables of a file, written anew by the map to the new code, and the index of its unwind table, by the names of
-/// their sections. The new code has `code` bytes from `start` on, and behind it there is room for the unwind table and
-/// its index, which are loaded.
+/// The tables of a file, rewritten for the new code by the map, and the index of its unwind table, by the names of
+/// their sections. The new code has `code` bytes from `start` on. After it there is room for the unwind table and its
+/// index, which are loaded.
 pub fn new_tables(
     alloc: Global,
     elf: &Elf<'_>,

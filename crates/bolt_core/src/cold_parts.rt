@@ -1,4 +1,4 @@
-// Where the cold parts of functions begin.
+// The starts of the cold parts of functions.
 ghost use Rattle.std.specs.Prelude.{◌≡◌, IfOk};
 ghost use Rattle.block_layout.specs.EdgeCounts.{first_address};
 ghost use Rattle.rv_code.specs.layout.BlockOrders.{list_of};
@@ -9,7 +9,7 @@ use rb_bytes::lists::push_some;
 use rv_code::{Block, Chains, Func};
 use std::alloc::Global;
 
-// The address of the first instruction of the block at the index `place`; 0 where there is none.
+// The address of the first instruction of the block with index `place`; 0 if there is none.
 fn first_address(funcs: &[Func], blocks: &[Block], place: usize) -> u64
     ensures { result ≡ first_address funcs.now blocks.now place }
 {
@@ -25,7 +25,7 @@ fn first_address(funcs: &[Func], blocks: &[Block], place: usize) -> u64
     inst.addr
 }
 
-// The blocks of one part of the function at the index `place`, of the lists of all functions.
+// The blocks of one part of the function with index `place`, from the lists of all functions.
 fn list_at(lists: &[Vec<usize>], place: usize) -> &[usize]
     ensures { result.now ≡ list_of lists.now place }
 {
@@ -35,7 +35,7 @@ fn list_at(lists: &[Vec<usize>], place: usize) -> &[usize]
     }
 }
 
-// Where the cold part of a function begins in the input, if it has a hot and a cold one. `hot` and `cold` are the
+// The start of a function's cold part in the input, if the function has a hot and a cold part. `hot` and `cold` are the
 // indices of their blocks.
 fn cold_start(funcs: &[Func], blocks: &[Block], hot: &[usize], cold: &[usize]) -> Option<u64>
     ensures { result ≡ cold_start funcs.now blocks.now hot.now cold.now }
@@ -47,7 +47,7 @@ fn cold_start(funcs: &[Func], blocks: &[Block], hot: &[usize], cold: &[usize]) -
     Some(first_address(funcs, blocks, *place))
 }
 
-/// For each function with a hot and a cold part the address in the input of the cold part's first instruction, in the
+/// For each function with a hot and a cold part, the address in the input of the cold part's first instruction, in the
 /// order of functions.
 pub fn cold_starts(
     alloc: Global,

@@ -1,12 +1,12 @@
-// What the summary of a rewrite counts.
+// The counts in the summary of a rewrite.
 ghost use Rattle.std.specs.Prelude.{◌≡◌, IfOk, count_by, length, nat_lt};
 ghost use Rattle.rv_code.specs.layout.Flow.{insts_of};
 
 use rb_bytes::fault::NoMemory;
 use rv_code::Func;
 
-/// How many instructions functions have together. The sum can't overflow, since they fit in memory; were it to, that
-/// would be answered as want of memory.
+/// The number of instructions of all functions. The sum can't overflow, since all instructions are in memory; the
+/// overflow check gives `NoMemory`.
 pub fn count_insts(funcs: &[Func]) -> Result<u64, NoMemory>
     ensures { IfOk result (λ count. count ≡ length (insts_of funcs.now)) }
 {
@@ -17,7 +17,7 @@ pub fn count_insts(funcs: &[Func]) -> Result<u64, NoMemory>
     Ok(count)
 }
 
-/// How many blocks are hot: how many of their weights aren't 0.
+/// The number of hot blocks: of weights that aren't 0.
 pub fn count_hot(weights: &[u128]) -> u64
     ensures { result ≡ count_by (nat_lt 0) weights.now }
 {

@@ -1,4 +1,4 @@
-//! The whole rewrite of a file, by a profile.
+//! Rewriting a file by a profile.
 #![tactic(auto)]
 
 mod carrying;

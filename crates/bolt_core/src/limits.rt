@@ -1,4 +1,4 @@
-// Limits on what is rewritten.
+// Limits on files that are rewritten.
 ghost use Rattle.std.specs.Prelude.{ℕ, ◌≤◌, ◌^◌, All, AllPairs, IfErr, List, OnOk, length};
 ghost use Rattle.rb_bytes.specs.FirstFault.{IsFree};
 ghost use Rattle.rv_code.specs.layout.FunctionLists.{AreLaidOut};
@@ -32,15 +32,15 @@ use rv_code::Func;
 use std::alloc::Global;
 use table_set::{AllTables, is_too_heavy};
 
-// The most section headers, and the most program headers. A written file has a few more, whose number has to fit a
-// field of 16 bits, and stay below SHN_LORESERVE (0xff00) for sections.
+// The limit on section headers, and on program headers. A written file has a few more. Their number has to fit in a
+// field of 16 bits, and for sections to be below SHN_LORESERVE (0xff00).
 const HEADER_LIMIT: usize = 65_000;
 
-// The most blocks: as many as the most code that a file may have, 16 MiB, holds at two bytes each. With more of them a
-// program passes that limit, and `check_sizes` would refuse it.
+// The limit on blocks: 16 MiB, the size limit of code, has room for as many of two bytes each. A program with more
+// blocks exceeds that size limit, and `check_sizes` would refuse it.
 const MOST_BLOCKS: usize = 1 << 23;
 
-/// Refuses a file that is too long, at 0 (`FILE_BYTES`), or else a profile, at 1 (`PROFILE_BYTES`).
+/// Refuses a file that is too long, at 0 (`FILE_BYTES`); otherwise a profile that is too long, at 1 (`PROFILE_BYTES`).
 pub fn check_lengths(file: &[u8], profile: &[u8]) -> Result<(), Refusal>
     ensures fit { OnOk result (Fit file.now profile.now) }
     ensures refused { IfErr result (IsRefusal file.now profile.now) }
@@ -54,9 +54,9 @@ pub fn check_lengths(file: &[u8], profile: &[u8]) -> Result<(), Refusal>
     Ok(())
 }
 
-/// Refuses a program that has more blocks than one within the limits, before they are laid out, which would take much
-/// memory. Its fault is the first of those for which no layout is needed: of its functions and tables, of room, and of
-/// its code. One of them is there, but for want of memory.
+/// Refuses a program with more blocks than a program within the limits can have, before they are laid out, which would
+/// take much memory. The error is its first fault that needs no layout: of its functions and tables, of room, or of its
+/// code. There is such a fault, unless memory runs out.
 pub fn check_blocks(alloc: Global, program: &Program<'_>) -> Result<(), Refusal>
     requires fields { IsElfOf program.now.elf.file.now program.now.elf }
     requires laid { AreLaidOut program.now.funcs.items }
@@ -78,9 +78,9 @@ pub fn check_blocks(alloc: Global, program: &Program<'_>) -> Result<(), Refusal>
     Err(Refusal::Memory)
 }
 
-/// Refuses a program that passes one of the other limits: on its code, at 2 (`CODE_BYTES`) and 3 (`FUNCTIONS`), on its
-/// headers, at 5 (`HEADERS`), or on the names that are written, at 6 (`WEIGHTS`). `cold` has the addresses in the input
-/// of the cold parts that get a name.
+/// Refuses a program that exceeds another limit: on its code, at 2 (`CODE_BYTES`) and 3 (`FUNCTIONS`), on its headers,
+/// at 5 (`HEADERS`), or on the names that are written, at 6 (`WEIGHTS`). `cold` has the addresses in the input of the
+/// cold parts that get a name.
 pub fn check_sizes(
     alloc: Global,
     elf: &Elf<'_>,
@@ -106,7 +106,7 @@ pub fn check_sizes(
     Ok(())
 }
 
-/// Refuses a program one of whose tables would weigh too much when it is written for `map`, at 6 (`WEIGHTS`).
+/// Refuses a program with a table that would weigh too much when written for `map`, at 6 (`WEIGHTS`).
 pub fn check_weight(
     alloc: Global,
     elf: &Elf<'_>,

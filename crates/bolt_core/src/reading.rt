@@ -1,4 +1,4 @@
-// Tables are read.
+// Reading tables.
 ghost use Rattle.std.specs.Prelude.{IfErr, IfOk, OnOk};
 ghost use Rattle.rb_bytes.specs.FirstFault.{IsFree, IsRefusalBy};
 ghost use Rattle.table_set.specs.AllTables.{AllComeFrom};
@@ -10,8 +10,8 @@ use rb_bytes::fault::{Fault, FaultKind, Refusal};
 use std::alloc::Global;
 use table_set::{AllTables, read_all};
 
-/// Reads the tables that are carried to moved code, or refuses a file for what keeps them from that:
-/// `RegisteredFrames`, or else the fault of tables with the lowest number.
+/// Reads the tables that are carried to moved code, or refuses a file: for `RegisteredFrames`, otherwise for the fault
+/// of tables with the lowest number.
 pub fn read_tables(alloc: Global, elf: &Elf<'_>) -> Result<AllTables, Refusal>
     ensures come { IfOk result (λ tables. AllComeFrom tables elf.now) }
     ensures free { OnOk result (IsFree (HasCarryingFault elf.now)) }

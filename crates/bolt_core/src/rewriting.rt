@@ -1,4 +1,4 @@
-// A file rewritten by a profile.
+// Rewriting a file by a profile.
 ghost use Rattle.std.specs.Prelude.{◌≡◌, ◌+◌, ◌%◌, ◌<◌, ◌≤◌, All, IfErr, IfOk, map, sum_by};
 ghost use Rattle.rv_code.specs.layout.BlockOrders.{HasAllBlocks, HaveAllBlocks};
 ghost use Rattle.rv_code.specs.layout.Flow.{insts_of};
@@ -28,34 +28,34 @@ use rv_code::{Block, Chains, Emitted, Func, Plan};
 use rv_reloc::Refs;
 use std::alloc::Global;
 
-/// A rewritten file, and what was counted of it.
+/// A rewritten file, and the counts of its summary.
 #[derive(Drop)]
 pub struct Rewritten {
     /// The bytes of the written file, which the reader accepts.
     pub file: Vec<u8>,
-    /// Where each instruction of the input went: a span for each.
+    /// The new address of each instruction of the input: a span for each.
     pub map: AddrMap,
-    /// How many functions were moved: all of the input's.
+    /// The number of functions that were moved: all functions of the input.
     pub functions: u64,
-    /// How many instructions the input's functions have.
+    /// The number of instructions of the input's functions.
     pub instructions: u64,
-    /// How many bytes the new code has.
+    /// The size of the new code in bytes.
     pub bytes: u64,
-    /// How many blocks are hot: those whose weight by the profile isn't 0.
+    /// The number of hot blocks: blocks whose weight by the profile isn't 0.
     pub hot: u64,
-    /// How many lines of the profile say nothing of the file, and are ignored.
+    /// The number of lines of the profile that name no pair of instructions of the file, and are ignored.
     pub ignored: u64,
 }
 
-// Does nothing: its clause tells the proof of its caller that what a slice of bytes holds is below 256.
+// Does nothing: its clause gives the proof of its caller that the items of a slice of bytes are below 256.
 fn are_bytes(bytes: &[u8])
     ensures { All (λ b. b < 256) bytes.now }
 {}
 
-/// Rewrites a file so that its code lies in the order that a profile asks for, or says why it is refused, or that
-/// memory ran out.
+/// Rewrites a file so that its code is in the order that a profile asks for. The error is the fault for which the file
+/// is refused, or that memory ran out.
 ///
-/// The order of the passes is that of the faults for which a file is refused (`specs/Refusals.antt`).
+/// The order of the passes is the order of the faults for which a file is refused (`specs/Refusals.antt`).
 pub fn rewrite(alloc: Global, file: &[u8], profile: &[u8]) -> Result<Rewritten, Refusal>
     ensures rewritten { IfOk result (λ r. IsRewritten file.now profile.now r.file.items r.map (counts_seen r)) }
     ensures refused { IfErr result (IsRefusal file.now profile.now) }
@@ -92,8 +92,8 @@ pub fn rewrite(alloc: Global, file: &[u8], profile: &[u8]) -> Result<Rewritten, 
     })
 }
 
-// The hot and the cold part of each function: chains of blocks between which control often went along an edge, also
-// along those of jumps through tables. `weights` are those that the counts give to blocks.
+// The hot and the cold part of each function: chains of blocks between which control often took an edge, also edges of
+// jumps through tables. `weights` are the weights of blocks by the counts.
 fn parts(
     alloc: Global,
     funcs: &[Func],
@@ -116,7 +116,7 @@ fn parts(
 }
 
 // The new code of the blocks in the order of `plan`, from the address `start` on, and the map to it. Forms that reach
-// come first, since they give the map, by which the bytes and the code cells are made.
+// come first, since they give the map, which is needed for the bytes and the code cells.
 fn moved_code(
     alloc: Global,
     funcs: &[Func],

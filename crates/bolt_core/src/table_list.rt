@@ -1,4 +1,4 @@
-// The tables that are given to be written.
+// The list of tables for the written file.
 ghost use Rattle.std.specs.Prelude.{◌≡◌, ◌++◌, IfOk, IfSome, IsTrue, OnOk, Option, Some, None, if◌then◌else◌, is_some};
 ghost use Rattle.std.specs.Prelude.{map, option_map};
 ghost use Rattle.frame_rewrite.specs.Index.{has_frames, has_index};
@@ -22,15 +22,15 @@ fn has_frames(elf: &Elf) -> bool
     elf.section_called(EH_FRAME).is_some()
 }
 
-// Whether a file has an unwind table that programs find by an index, which a program header names.
+// Whether a file has an unwind table with an index for programs, which a program header names.
 fn has_index(elf: &Elf) -> bool
     ensures { result ≡ has_index elf.now }
 {
     has_frames(elf) && has_index_header(&elf.segments)
 }
 
-// The index of the written unwind table `frames`, which stands behind the new code, of `code` bytes from `start` on;
-// none where the file has none.
+// The index of the written unwind table `frames`, which comes after the new code, of `code` bytes from `start` on.
+// `None` if the file has no index.
 fn new_index(
     alloc: Global,
     elf: &Elf,
@@ -50,7 +50,7 @@ fn new_index(
     Ok(Some(index))
 }
 
-// Adds the table `contents` under `name`, that of its section, if there is one.
+// Adds the table `contents` under the name of its section, if there is one.
 fn add_table(
     alloc: Global,
     tables: &mut Vec<Table>,
@@ -66,14 +66,14 @@ fn add_table(
     Ok(())
 }
 
-// The unwind table `frames`, where the file loads one.
+// The unwind table `frames`, if the file loads one.
 fn loaded(elf: &Elf, frames: Vec<u8>) -> Option<Vec<u8>>
     ensures { option_map (λ bytes. bytes.items) result ≡ (if has_frames elf.now then Some frames.items else None) }
 {
     if has_frames(elf) { Some(frames) } else { None }
 }
 
-// The table of ranges `ranges`, where the file has one or any were written.
+// The table of ranges `ranges`, if the file has one or any were written.
 fn ranges_if(elf: &Elf, ranges: Vec<u8>) -> Option<Vec<u8>>
     ensures { option_map (λ bytes. bytes.items) result ≡ ranges_given elf.now ranges.items }
 {
@@ -84,7 +84,7 @@ fn ranges_if(elf: &Elf, ranges: Vec<u8>) -> Option<Vec<u8>>
     }
 }
 
-/// The tables of a file in their new contents, and the index of its unwind table, by the names of their sections. The
+/// The tables of a file with their new contents, and the index of its unwind table, by the names of their sections. The
 /// new code has `code` bytes from `start` on.
 pub fn listed(
     alloc: Global,

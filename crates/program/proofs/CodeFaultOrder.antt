@@ -1,4 +1,4 @@
--- The faults of references come before those of functions.
+-- The faults of references come before the faults of functions.
 use Rattle.std.proofs.Common.{◌≤◌, ℕ, List, inl, inr, arith}
 use Rattle.rb_bytes.specs.Fault.{number_of}
 use Rattle.rb_bytes.specs.declared.fault.Fault.{Fault}

@@ -1,4 +1,4 @@
--- The bytes of code of a file that was read.
+-- The size of the code of a file that was read.
 use Rattle.std.proofs.Common.{◌≡◌, ◌∙◌, sym, ap, subst, refl, ℕ, suc, ◌+◌, ◌-◌, ◌≤◌, ◌<◌, List, [], ◌∷◌, Some, length, map, take}
 use Rattle.std.proofs.Common.{get_or, arith, cond}
 use Rattle.std.proofs.lemmas.List.{take_all}
@@ -11,7 +11,7 @@ use Rattle.elf_image.specs.file.Sections.{section_header, section_headers, holds
 use Rattle.program.specs.Limits.{code_size_limit, header_code_bytes}
 use Rattle.program.specs.internal.ReadSections.{section_code_bytes}
 
--- a section that was read has the bytes of code of its header
+-- the code size of a section that was read is the code size by its header
 same_code : (file : List ℕ) (index : ℕ) (s : Section) → IsSectionAt file index s → section_code_bytes s ≡ header_code_bytes
     (section_header file index)
 same_code file index s is = ap (λ (f : ℕ). cond (holds_code f) s.size 0) is.flags ∙ ap
@@ -36,7 +36,7 @@ code_size file elf is =
     (is.sections.each i s at))
     ∙ ap (λ (n : ℕ). sum_by header_code_bytes (map (section_header file) (range_with_len 0 n))) is.sections.count_is
 
--- What is left of the limit, after the sections before an index: one more section; one that doesn't fit; and all of them.
+-- The rest of the limit after the sections before an index: one more section; one that doesn't fit; and all of them.
 module _ (items seen : List Section) (same : seen ≡ items) (i room : ℕ)
     (left : room + sum_by section_code_bytes (take i items) ≡ code_size_limit) where
   module _ (size : ℕ) (d : Section) (within : i < length seen) (is : size ≡ section_code_bytes (get_or seen i d)) where

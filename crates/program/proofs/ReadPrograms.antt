@@ -1,4 +1,4 @@
--- What was read of a file is a program, or a reason for which none is read.
+-- The result of reading a file is a program, or a reason why it isn't read.
 use Rattle.std.proofs.Common.{◌≡◌, refl, subst, ℕ, ◌≤◌, List, length}
 use Rattle.rb_bytes.specs.FirstFault.{IsAnswered, IsFree, IsRefusalBy}
 use Rattle.rb_bytes.specs.declared.fault.Refusal.{Refusal}
@@ -27,7 +27,7 @@ module _ (file : List ℕ) (elf : Elf) (read : IsElfOf file elf) (fits : length 
   is_plain : IsPlain file
   is_plain = record { fits = fits; sound = sound }
 
-  -- `whole` are the ranges as a slice
+  -- `whole` are the tabled ranges, as a slice
   module _ (whole : List (ℕ × ℕ)) (whole_is : whole ≡ tabled elf) where
     code_refused : (r : Refusal) → IsRefusalBy (HasCodeFault elf whole) r → IsRefusalFor (IsUnreadable file) r
     code_refused (refusal.Fault fault) has =
@@ -43,7 +43,7 @@ module _ (file : List ℕ) (elf : Elf) (read : IsElfOf file elf) (fits : length 
           IsRefusalFor (IsUnreadable file) r
       functions_refused r has = code_refused r (refused_function elf whole r references_free has)
 
-      -- `given` are the functions as a slice of those that were read
+      -- `given` are the functions that were read, as a slice
       pub program_read : (funcs given : List Func) (refs : Refs) (blocks : List Block) → given ≡ funcs →
           AreRefs elf whole refs → AreFunctions elf whole funcs → IsFree (HasFunctionFault elf whole) →
           AreBlocks (code_of given refs elf.entry) blocks → IsProgramOf file (program_of elf funcs refs blocks)

@@ -17,30 +17,30 @@ use Rattle.program.specs.Limits.{file_limit}
 use Rattle.program.specs.declared.program.Program.{Program as ReadProgram}
 
 pub record Program : Type 0 where
-  -- the file as its reader keeps it
+  -- the file, as its reader represents it
   pub elf : Elf
   pub code : ProgramCode
   pub blocks : List Block
 
--- a program by what the code keeps of it
+-- a program, in the terms of the code
 abbrev pub program_of : Elf → List Func → Refs → List Block → Program
 program_of elf funcs refs blocks = record { elf = elf; code = code_of funcs refs elf.entry; blocks = blocks }
 
 abbrev pub program_seen : ReadProgram → Program
 program_seen read = program_of read.elf read.funcs.items read.refs read.blocks.items
 
--- a file within the limit in which the reader finds nothing wrong
+-- a file within the size limit in which the reader finds no fault
 pub record IsPlain (file : List ℕ) : Type 0 where
   pub fits : length file ≤ file_limit
   pub sound : IsSound file
 
--- a file like that, and `elf`, what its reader keeps of it; no fault is present in its code
+-- such a file, with its reader's representation `elf`; its code has no fault
 pub record IsFaultless (file : List ℕ) (elf : Elf) : Type 0 where
   pub plain : IsPlain file
   pub read : IsElfOf file elf
   pub no_fault : IsFree (HasCodeFault elf (tabled elf))
 
--- the program `x` of a file in which no fault is present
+-- x is the program of a file without faults
 pub record IsProgramOf (file : List ℕ) (x : Program) : Type 0 where
   pub faultless : IsFaultless file x.elf
   pub code_is : IsCodeOf x.elf (tabled x.elf) x.code

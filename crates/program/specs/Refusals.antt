@@ -1,5 +1,4 @@
--- Why a file isn't read as a program.
--- A fault is looked for only where those before it are absent.
+-- Why a file isn't read as a program. A fault is only reported if the faults of higher precedence are absent.
 use Rattle.std.specs.Prelude.{ℕ, List}
 use Rattle.rb_bytes.specs.FirstFault.{IsAnswered}
 use Rattle.rb_bytes.specs.declared.fault.Fault.{Fault}
@@ -12,13 +11,13 @@ use Rattle.elf_code.specs.CodeFaults.{HasCodeFault}
 use Rattle.cfi_rows.specs.Frames.{tabled}
 use Rattle.program.specs.Program.{IsPlain}
 
--- What is wrong in the file comes first, and then what is wrong in its code. Whether it is too long is judged before.
+-- Faults of the file come first, then faults of its code. The file's length is checked before these.
 pub data IsUnreadable (file : List ℕ) (fault : Fault) : Type 0 where
   unsound : IsFirstFault file fault → IsUnreadable file fault
   bad_code : IsPlain file → (elf : Elf) → IsElfOf file elf → IsAnswered (HasCodeFault elf (tabled elf)) fault →
       IsUnreadable file fault
 
--- a refusal names a fault of which P holds; memory may run out at any time
+-- the refusal is a fault that satisfies P, or memory ran out, which can happen at any time
 abbrev pub IsRefusalFor : (Fault → Type 0) → Refusal → Type 0
 IsRefusalFor P (refusal.Fault fault) = P fault
 IsRefusalFor P refusal.Memory = Unit {0}

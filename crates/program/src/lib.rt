@@ -1,4 +1,5 @@
-//! Programs: files that were read, with the functions and blocks of their code, and the faults for which none is read.
+//! Programs: files that were read, with the functions and blocks of their code; and the faults for which a file isn't
+//! read.
 #![tactic(auto)]
 
 mod limits;

@@ -10,16 +10,16 @@ use rb_bytes::fault::{Fault, FaultKind, Refusal};
 use rb_bytes::limit::{CODE_BYTES, FUNCTIONS};
 use rv_code::Func;
 
-/// The most bytes of a file, and of a profile: 64 MiB.
+/// The size limit of a file, and of a profile, in bytes: 64 MiB.
 pub const FILE_LIMIT: usize = 64 * 1024 * 1024;
 
-// The most bytes that the sections of code may have together: 16 MiB.
+// The limit on the sum of the sizes of code sections, in bytes: 16 MiB.
 const CODE_LIMIT: u64 = 16 * 1024 * 1024;
 
-// The most functions that a file may have.
+// The limit on the number of functions.
 const FUNCTION_LIMIT: usize = 200_000;
 
-// How many bytes of code a section has.
+// The size of a section in bytes, if it has code.
 fn code_bytes(section: &Section<'_>) -> u64
     ensures { result ≡ section_code_bytes section.now }
 {
@@ -30,7 +30,7 @@ fn code_bytes(section: &Section<'_>) -> u64
     }
 }
 
-/// Whether the sections of code have more bytes together than the limit.
+/// Whether the code sections are larger together than the limit.
 pub fn has_too_much_code(elf: &Elf<'_>) -> bool
     requires { IsElfOf elf.now.file.now elf.now }
     ensures { IsTrue result ↔ HasTooMuchCode elf.now.file.now }
@@ -46,7 +46,7 @@ pub fn has_too_much_code(elf: &Elf<'_>) -> bool
     false
 }
 
-/// Refuses a file whose code passes a limit: `TooLarge` at 2 (`CODE_BYTES`) for its size, or else at 3 (`FUNCTIONS`)
+/// Refuses a file whose code exceeds a limit: `TooLarge` at 2 (`CODE_BYTES`) for its size, otherwise at 3 (`FUNCTIONS`)
 /// for the number of its functions.
 pub fn check_code(elf: &Elf<'_>, funcs: &[Func]) -> Result<(), Refusal>
     requires { IsElfOf elf.now.file.now elf.now }

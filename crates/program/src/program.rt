@@ -1,13 +1,13 @@
-// What is read of a file with its code.
+// A file that was read, with its code.
 use elf_image::Elf;
 use rv_code::{Block, Func};
 use rv_reloc::Refs;
 
-/// A file that was read, with the functions of its code, what points at these, and their blocks.
+/// A file that was read, with the functions of its code, the references to them, and their blocks.
 #[derive(Drop)]
 pub struct Program<'file> {
     pub elf: Elf<'file>,
-    /// The functions, by address.
+    /// The functions, in order of their addresses.
     pub funcs: Vec<Func>,
     /// The roles of instructions and the code cells.
     pub refs: Refs,

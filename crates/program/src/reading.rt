@@ -1,4 +1,4 @@
-// A file is read as a program.
+// Reading a file as a program.
 ghost use Rattle.std.specs.Prelude.{◌≤◌, IfErr, IfOk, length};
 ghost use Rattle.program.specs.Limits.{file_limit};
 ghost use Rattle.program.specs.Program.{IsProgramOf, program_seen};
@@ -9,8 +9,8 @@ use cfi_rows::tabled;
 use rb_bytes::fault::Refusal;
 use std::alloc::Global;
 
-/// Reads a file with its code. Of the faults 1 to 17 that are present the one with the lowest number is answered, at
-/// its lowest place, or out of memory.
+/// Reads a file with its code. If some of the faults 1 to 17 are present, the error is the one with the lowest number,
+/// at its lowest place; or memory ran out.
 pub fn read_program<'file>(alloc: Global, file: &'file [u8]) -> Result<Program<'file>, Refusal>
     requires { length file.now ≤ file_limit }
     ensures program { IfOk result (λ program. IsProgramOf file.now (program_seen program)) }

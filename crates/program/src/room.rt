@@ -1,4 +1,4 @@
-// Where the new code of a program goes.
+// The address of a program's new code.
 ghost use Rattle.std.specs.Prelude.{◌≡◌, ◌<◌, IfErr, IfOk, None, OnOk, Some};
 ghost use Rattle.rv_code.specs.layout.FunctionLists.{AreLaidOut};
 ghost use Rattle.area_room.specs.Need.{AreBlocksOf};
@@ -11,7 +11,7 @@ use area_room::{area_start_of, need, no_room};
 use rb_bytes::fault::{NoMemory, Refusal};
 use std::alloc::Global;
 
-/// Whether the new area has no room behind the executable segment, so that it gets a segment of its own.
+/// Whether there is no room for the new area after the executable segment, so that it gets a segment of its own.
 pub fn is_tight(alloc: Global, program: &Program<'_>) -> Result<bool, NoMemory>
     requires laid { AreLaidOut program.now.funcs.items }
     requires blocks { AreBlocksOf program.now.funcs.items program.now.blocks.items }

@@ -1,4 +1,4 @@
--- The index of a written unwind table, and the tables that are given to be written.
+-- The index of a written unwind table, and the list of tables for the written file.
 use Rattle.std.specs.Prelude.{◌≡◌, ◌+◌, ◌*◌, ◌≤◌, ℕ, All, false, List, Option, Some, None, IfSome, is_some, length, map}
 use Rattle.std.specs.Prelude.{if◌then◌else◌}
 use Rattle.rv_code.specs.layout.FunctionLists.{address_end}
@@ -8,14 +8,14 @@ use Rattle.cfi_rows.specs.Entries.{frames}
 use Rattle.frame_rewrite.specs.Index.{IsIndexOf, has_frames, has_index}
 use Rattle.bolt_core.specs.GivenTables.{DebugContents, ReadTable, listed, ranges_given, table_seen}
 
--- where the table and its index stand, in an area that starts at `start` with `code` bytes of code
+-- the address of the table, in an area that starts at `start` with `code` bytes of code
 abbrev pub frames_at : ℕ → ℕ → ℕ
 frames_at start code = rounded_up 8 (start + code)
 
 abbrev pub index_at : ℕ → ℕ → List ℕ → ℕ
 index_at start code eh = rounded_up 4 (frames_at start code + length eh)
 
--- The table can be read where it stands, and its addresses fit the index.
+-- The table can be read at its address, and its addresses fit the index.
 pub record CanIndex (start code : ℕ) (eh : List ℕ) : Type 0 where
   pub sound : (frames false (frames_at start code) eh).bad ≡ None
   pub starts : All (λ f. f.start ≤ address_end) (frames false (frames_at start code) eh).list
@@ -25,8 +25,8 @@ pub record IsIndexFor (start code : ℕ) (eh index : List ℕ) : Type 0 where
   pub is : IsIndexOf (frames_at start code) (index_at start code eh) (frames false (frames_at start code) eh).list index
   pub size : length index ≡ 12 + 8 * length (frames false (frames_at start code) eh).list
 
--- the tables that are given for a file, by the new contents of the unwind table, of that of ranges, and of other
--- debug tables
+-- the list of a file's tables, by the new contents of the unwind table, of the table of ranges, and of the other debug
+-- tables
 pub record AreListed (elf : Elf) (start code : ℕ) (eh ranges : List ℕ) (debug : DebugContents)
     (tables : List ReadTable) :
     Type 0 where

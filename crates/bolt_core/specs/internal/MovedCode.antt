@@ -18,7 +18,8 @@ use Rattle.code_emit.specs.Inputs.{AreMapped}
 use Rattle.code_emit.specs.NewInsts.{made_from}
 use Rattle.code_emit.specs.Output.{Puts, new_cell}
 
--- in each rewrite that has this code where the map says, the instructions are kept, and go on to what followed them
+-- in each rewrite that has this code at the map's addresses, the instructions are kept, and control goes on from them
+-- to what followed
 abbrev pub KeepsAll : List Func → List Span → Emitted → ℕ → Type 0
 KeepsAll funcs spans emitted base =
     (r : Rewrite) → Puts r funcs spans base emitted.code.items →

@@ -1,8 +1,8 @@
--- What was read of sections.
+-- Sections that were read.
 use Rattle.std.specs.Prelude.{ℕ, if◌then◌else◌}
 use Rattle.elf_image.specs.declared.section.Section.{Section}
 use Rattle.elf_image.specs.file.Sections.{holds_code}
 
--- how many bytes of code a section has that was read, as `header_code_bytes` says of its header
+-- the size of a section in bytes, if it has code; `header_code_bytes` gives it by the section's header
 abbrev pub section_code_bytes : Section → ℕ
 section_code_bytes section = if holds_code section.flags then section.size else 0

@@ -4,7 +4,7 @@ use Rattle.rv_code.specs.layout.BlockOrders.{list_of}
 use Rattle.bolt_core.specs.ProfileOrder.{cold_start}
 use Rattle.bolt_core.proofs.cold_parts.cold_starts.Given as goal
 
--- those of the functions so far
+-- the starts for the functions so far
 abbrev pub invariant-loop-f : goal.invariant-loop-f
 invariant-loop-f l =
     l.starts.items

@@ -10,7 +10,7 @@ use Rattle.edge_profile.proofs.BlockLists.{AreApart-blocks}
 use Rattle.block_layout.proofs.Premises.{IsInner-edges, ordered-edges}
 use Rattle.bolt_core.proofs.rewriting.parts.Goals as goal
 
--- the targets of jumps through tables, and the edges by these, as slices
+-- the targets of jumps through tables, and the edges with these, as slices
 record FoundEdges (funcs : List Func) (blocks : List Block) (cells : List CodeCell) (targets edges : List (ℕ × ℕ)) : Type 0 where
   pub targets_are : AreTablePairs funcs cells targets
   pub edges_are : AreEdges funcs cells blocks edges

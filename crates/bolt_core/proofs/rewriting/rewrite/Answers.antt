@@ -30,14 +30,14 @@ use Rattle.bolt_core.proofs.rewriting.rewrite.Goals as goal
 input_read : {file profile : List ℕ} {x : Program} → Fit file profile → IsProgramOf file x → IsInput file profile x
 input_read fit is = record { program = is; profile_fits = fit.profile_fits }
 
--- What is known once the slices are taken.
+-- Facts after the slices are taken.
 given : (c : After-as_slice-blocks) → IsInput c.args.file.now c.args.profile.now
     (program_of c.in_ok-program.program.elf c.as_slice-funcs.result.now c.in_ok-program.program.refs c.as_slice-blocks.result.now)
 given c =
     input_of c.in_ok-program.program c.as_slice-funcs.ensures.value c.as_slice-blocks.ensures.value c.in_ok-program.ensures.program
     c.in_ok-check_lengths.ensures.fit
 
--- Once the new code has a place.
+-- Facts after the new code has an address.
 standing : (c : In_ok-start) → CanStand
     (program_of c.in_ok-program.program.elf c.as_slice-funcs.result.now c.in_ok-program.program.refs c.as_slice-blocks.result.now)
 standing c =
@@ -50,7 +50,7 @@ starting c =
     start_by c.in_ok-program.program c.as_slice-funcs.ensures.value c.as_slice-blocks.ensures.value c.in_ok-start.start
     c.in_ok-start.ensures.start
 
--- Once the parts of functions are known, and in which order they come.
+-- Facts after the parts of functions and their order are known.
 parted : (c : In_ok-parts) → IsInput c.args.file.now c.args.profile.now
     (program_of c.in_ok-program.program.elf c.as_slice-funcs.result.now c.in_ok-program.program.refs c.as_slice-blocks.result.now) →
     ArePartsBy

@@ -21,11 +21,11 @@ still : (P : List ℕ → Type 0) (o : Option (Vec ℕ Global)) → IfSome o (λ
 still P None h = tt
 still P (Some bytes) h = h
 
--- one more is added behind those that were
+-- one more table is added after the others
 added : (front xs old new more : Seen) → new ≡ old ++ more → old ≡ front ++ xs → new ≡ front ++ (xs ++ more)
 added front xs old new more e f = e ∙ ap (λ (ys : Seen). ys ++ more) f ∙ append_assoc front xs more
 
--- debug tables are added one after another, and that of ranges behind them
+-- debug tables are added one after another, and the table of ranges after them
 listed_is : (front : Seen) (d : DebugContents) (ranges : Option (List ℕ)) (t2 t3 t4 t5 t6 t7 t8 t9 t10 : Seen) → t2 ≡ front →
     t3 ≡ t2 ++ (codes ".debug_info", d.info) ∷ [] → t4 ≡ t3 ++ (codes ".debug_abbrev", d.abbrevs) ∷ [] →
     t5 ≡ t4 ++ (codes ".debug_addr", d.addr) ∷ [] → t6 ≡ t5 ++ (codes ".debug_line", d.lines) ∷ [] →
