@@ -1,4 +1,4 @@
--- Arguments that are commands, and arguments that are none.
+-- Examples of arguments that are commands, and of arguments that aren't.
 use Rattle.std.proofs.Common.{◌≡◌, ℕ, List, [], ◌∷◌, Option, Some, None, codes, refl}
 use Rattle.cli_args.specs.CommandLine.{Command, Frames, Lookup, Record, Repair, Run, Sample, Verify, command_of}
 
@@ -33,7 +33,7 @@ hyphens_twice : command_of (run ∷ codes "f" ∷ codes "--" ∷ codes "--" ∷ 
 unfolding run run_of_f
 hyphens_twice = refl
 
--- the option takes the two hyphens, which are no number
+-- the option takes the two hyphens as its value, which isn't a number
 hyphens_taken : command_of (run ∷ codes "--steps" ∷ codes "--" ∷ codes "f" ∷ []) ≡ None
 unfolding run
 hyphens_taken = refl
@@ -78,7 +78,7 @@ repaired_profile = refl
 repaired_over : command_of (codes "repair" ∷ codes "f" ∷ codes "p" ∷ codes "p" ∷ []) ≡ None
 repaired_over = refl
 
--- an address of digits of either case, of which there have to be some
+-- an address has digits in upper or lower case, at least one
 address_prefixed : command_of (codes "lookup" ∷ codes "f" ∷ codes "0x1Fa" ∷ []) ≡
     Some (Lookup (record { file = codes "f"; address = 0x1fa }))
 address_prefixed = refl

@@ -1,10 +1,10 @@
--- Options that stand in one argument.
+-- Options with a value in their own argument.
 use Rattle.std.proofs.Common.{◌≡◌, ℕ, ◌<◌, Bool, true, false, List, [], ◌∷◌, length, refl, arith, Some, None}
 use Rattle.std.specs.List.{list_any, position_or_len, before_first, after_first}
 use Rattle.std.proofs.lemmas.Grind.{common_steps}
 use Rattle.cli_args.specs.CommandLine.{Named, option_of, is_equals}
 
--- the first place that passes is past the end where none passes, and before it where one does
+-- the first index that passes is the length of the list if no item passes, and below it if one does
 list_any-past_end : {X : Type 0} (p : X → Bool) (xs : List X) → position_or_len p xs ≡ length xs → list_any p xs ≡ false
 list_any-past_end p [] h = refl
 list_any-past_end p (x ∷ xs) h = grind (arith, common_steps, list_any-past_end p xs)

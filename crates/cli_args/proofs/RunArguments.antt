@@ -5,7 +5,7 @@ use Rattle.std.proofs.lemmas.Bool.Decides.{nat_tests}
 use Rattle.rv_memory.specs.Limits.{IsWithinLimits}
 use Rattle.cli_args.specs.CommandLine.{symbols_of, holds_zero, are_program_args}
 
--- whether `--symbols` is there, after it was or wasn't
+-- whether `--symbols` occurs, given whether it occurred before
 abbrev pub symbols_after : Bool → List (Option (List ℕ)) → Option Bool
 symbols_after false values = symbols_of values
 symbols_after true [] = Some true
@@ -16,7 +16,7 @@ pub symbols_of_more : (value : Option (List ℕ)) (values : List (Option (List �
 symbols_of_more value [] = refl
 symbols_of_more value (next ∷ values) = refl
 
--- at most so many arguments, of at most so many bytes together, and no byte of them zero
+-- at most `most_args` arguments, of at most `most_bytes` bytes in all, and no byte of them is zero
 abbrev pub fits : ℕ → ℕ → List (List ℕ) → Bool
 fits most_args most_bytes args =
     nat_le (length args) most_args && nat_le (sum_by (λ arg. length arg) args) most_bytes

@@ -1,9 +1,9 @@
--- The limit that `--steps` sets, value after value.
+-- The limit that `--steps` sets, one value after another.
 use Rattle.std.proofs.Common.{◌≡◌, ℕ, List, [], ◌∷◌, refl, Option, Some, None}
 use Rattle.rb_bytes.specs.Text.{decimal_number}
 use Rattle.cli_args.specs.CommandLine.{limit_of}
 
--- the limit that the values of `--steps` say after the one that was read, if one was
+-- the limit that the values of `--steps` give after the value that was read, if there was one
 abbrev pub limit_after : Option ℕ → List (Option (List ℕ)) → Option ℕ
 limit_after None values = limit_of values
 limit_after (Some limit) [] = Some limit

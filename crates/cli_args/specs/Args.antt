@@ -26,7 +26,7 @@ pub record RewriteNames : Type 0 where
 abbrev pub names_read : RewriteArgs → RewriteNames
 names_read a = record { inputs = inputs_read a.inputs; out = a.out.now; map = a.map.now }
 
--- the file of a run, the arguments that the program gets, and the most steps that it does
+-- the file of a run, the arguments that the program gets, and the limit on its steps
 pub record RunArgs : Type 0 where
   pub file : List ℕ
   pub args : List (List ℕ)

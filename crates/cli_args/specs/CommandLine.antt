@@ -1,4 +1,4 @@
--- Which arguments are which command.
+-- Which command the arguments are.
 use Rattle.std.specs.Prelude.{ℕ, ◌&&◌, ◌||◌, ◌==◌, nat_eq, nat_lt, nat_le, not, if◌then◌else◌, Bool, true, false, List}
 use Rattle.std.specs.Prelude.{[], ◌∷◌, length, map, sum_by, option_and_then, Option, Some, None, codes}
 use Rattle.std.specs.List.{starts_with, list_all, list_any, before_first, after_first}
@@ -10,24 +10,24 @@ use Rattle.cli_args.specs.Args.{InputNames, LookupArgs, RecordArgs, RepairNames,
 use Rattle.cli_args.specs.Args.{VerifyNames}
 use Rattle.cli_args.specs.Words.{address_of, sample_number_of}
 
--- an argument that begins with a hyphen, but for the hyphen alone
+-- an argument that begins with a hyphen, except the argument `-`
 abbrev pub is_option : List ℕ → Bool
 is_option arg = nat_lt 1 (length arg) && starts_with nat_eq arg (codes "-")
 
--- the option that says the most steps of a run
+-- the option for the limit on the steps of a run
 abbrev pub steps_name : List ℕ
 steps_name = codes "--steps"
 
--- the option that runs a file on the symbol machine, and has no value
+-- the option for a run on the symbol machine, which has no value
 abbrev pub symbols_name : List ℕ
 symbols_name = codes "--symbols"
 
--- an option whose value is the next argument, whatever that is
+-- an option whose value is the next argument, of any form
 abbrev pub takes_value : List ℕ → Bool
 takes_value arg = bytes_eq arg steps_name
 
--- A token of a command: an argument that is no option, or an option. An option's value is the argument after
--- it, or stands in its own argument after the first `=`, as in `--name=value`.
+-- A token of a command: an argument that isn't an option, or an option. An option's value is the next argument, or
+-- follows the first `=` in its own argument, as in `--name=value`.
 pub data Token : Type 0 where
   Positional : List ℕ → Token
   Named : List ℕ → Option (List ℕ) → Token
@@ -35,21 +35,21 @@ pub data Token : Type 0 where
 abbrev pub is_equals : ℕ → Bool
 is_equals character = character == byte "="
 
--- the option that `arg` is without the argument behind it
+-- the option in `arg`, without the next argument
 abbrev pub option_of : List ℕ → Token
 option_of arg =
     if list_any is_equals arg
     then Named (before_first is_equals arg) (Some (after_first is_equals arg))
     else Named arg None
 
--- what the next argument may be
+-- what kind of argument may come next
 pub data Expected : Type 0 where
   AnyToken : Expected
   ValueOf : List ℕ → Expected
   OnlyPositional : Expected
 
--- The tokens that arguments are read as. The first `--` that is no option's value is none of them, and all
--- arguments after it are positional.
+-- The tokens of arguments. The first `--` that isn't an option's value is no token, and all arguments after it are
+-- positional.
 abbrev pub tokens : Expected → List (List ℕ) → List Token
 tokens AnyToken [] = []
 tokens (ValueOf name) [] = Named name None ∷ []
@@ -63,20 +63,20 @@ tokens AnyToken (arg ∷ args) =
 tokens (ValueOf name) (arg ∷ args) = Named name (Some arg) ∷ tokens AnyToken args
 tokens OnlyPositional (arg ∷ args) = Positional arg ∷ tokens OnlyPositional args
 
--- the arguments that are no options
+-- the positional arguments
 abbrev pub positionals : List Token → List (List ℕ)
 positionals [] = []
 positionals (Positional arg ∷ rest) = arg ∷ positionals rest
 positionals (Named name value ∷ rest) = positionals rest
 
--- the values that the option of a name is given, one each time that it stands there
+-- the values of all occurrences of the option with this name
 abbrev pub values_of : List ℕ → List Token → List (Option (List ℕ))
 values_of name [] = []
 values_of name (Positional arg ∷ rest) = values_of name rest
 values_of name (Named other value ∷ rest) =
     if bytes_eq other name then value ∷ values_of name rest else values_of name rest
 
--- `IN PROFILE OUT MAP`, where OUT and MAP differ
+-- `IN PROFILE OUT MAP`, with different OUT and MAP
 abbrev pub rewrite_names_of : List Token → Option RewriteNames
 rewrite_names_of (Positional file ∷ Positional profile ∷ Positional out ∷ Positional map ∷ []) =
     if bytes_eq out map
@@ -89,7 +89,7 @@ abbrev pub map_of : List Token → Option InputNames
 map_of (Positional file ∷ Positional profile ∷ []) = Some (record { file = file; profile = profile })
 map_of _ = None
 
--- `IN PROFILE OUT`, which all differ
+-- `IN PROFILE OUT`, all different
 abbrev pub repair_of : List Token → Option RepairNames
 repair_of (Positional file ∷ Positional profile ∷ Positional out ∷ []) =
     if bytes_eq file profile || (bytes_eq file out || bytes_eq profile out)
@@ -103,7 +103,7 @@ lookup_of (Positional file ∷ Positional word ∷ []) =
     option_map (λ address. record { file = file; address = address }) (address_of word)
 lookup_of _ = None
 
--- `N OUT PROFILE`, where OUT and PROFILE differ
+-- `N OUT PROFILE`, with different OUT and PROFILE
 abbrev pub sample_of : List Token → Option SampleArgs
 sample_of (Positional digits ∷ Positional file ∷ Positional profile ∷ []) =
     if bytes_eq file profile
@@ -117,19 +117,19 @@ verify_of (Positional input ∷ Positional output ∷ Positional map ∷ []) =
     Some (record { input = input; output = output; map = map })
 verify_of _ = None
 
--- the most steps of a run: `--steps` says it, once, or not at all
+-- the limit on the steps of a run: `--steps` may occur once or not at all
 abbrev pub limit_of : List (Option (List ℕ)) → Option ℕ
 limit_of [] = Some 100000000
 limit_of (Some digits ∷ []) = decimal_number digits
 limit_of _ = None
 
--- whether `--symbols` is there, once, or not at all
+-- whether `--symbols` occurs: once, or not at all
 abbrev pub symbols_of : List (Option (List ℕ)) → Option Bool
 symbols_of [] = Some false
 symbols_of (value ∷ []) = Some true
 symbols_of _ = None
 
--- a positional token, or an option that `run` has
+-- a positional token, or an option of `run`
 abbrev pub is_run_token : Token → Bool
 is_run_token (Positional arg) = true
 is_run_token (Named name None) = bytes_eq name steps_name || bytes_eq name symbols_name
@@ -138,7 +138,7 @@ is_run_token (Named name (Some value)) = bytes_eq name steps_name
 abbrev pub holds_zero : List ℕ → Bool
 holds_zero arg = list_any (λ character. character == 0) arg
 
--- `args` are few and short enough to be given to a program, and no byte of them is zero
+-- `args` are few and short enough for a program, and none of their bytes is zero
 abbrev pub are_program_args : List (List ℕ) → Bool
 are_program_args args =
     nat_le (length args) most_args && nat_le (sum_by (λ arg. length arg) args) most_arg_bytes
@@ -150,12 +150,12 @@ run_args_of [] limit = None
 run_args_of (file ∷ args) limit =
     if are_program_args args then Some (record { file = file; args = args; limit = limit }) else None
 
--- a positional token, or the option that `record` has
+-- a positional token, or the option of `record`
 abbrev pub is_record_token : Token → Bool
 is_record_token (Positional arg) = true
 is_record_token (Named name value) = bytes_eq name steps_name
 
--- `FILE OUT [WORDS]`, where FILE and OUT differ
+-- `FILE OUT [WORDS]`, with different FILE and OUT
 abbrev pub record_args_of : List (List ℕ) → ℕ → Option RecordArgs
 record_args_of (file ∷ out ∷ args) limit =
     if bytes_eq file out
@@ -163,7 +163,7 @@ record_args_of (file ∷ out ∷ args) limit =
     else option_map (λ run. record { run = run; out = out }) (run_args_of (file ∷ args) limit)
 record_args_of _ limit = None
 
--- the arguments of a command, with `--steps` anywhere among them
+-- the arguments of `record`, with `--steps` anywhere among them
 abbrev pub record_of : List Token → Option RecordArgs
 record_of tokens =
     if list_all is_record_token tokens
@@ -174,10 +174,10 @@ pub data Command : Type 0 where
   Rewrite : RewriteNames → Command
   -- prints the map of a rewrite
   Map : InputNames → Command
-  -- on the byte machine, and on the symbol machine
+  -- runs a file on the byte machine, or on the symbol machine
   Run : RunArgs → Command
   RunSymbols : RunArgs → Command
-  -- on the byte machine, with a profile of the run
+  -- runs a file on the byte machine, and writes a profile of the run
   Record : RecordArgs → Command
   Repair : RepairNames → Command
   Lookup : LookupArgs → Command
@@ -189,7 +189,7 @@ abbrev pub run_command : Bool → RunArgs → Command
 run_command false args = Run args
 run_command true args = RunSymbols args
 
--- `FILE [WORDS]`, and `--steps` and `--symbols` anywhere among them
+-- `FILE [WORDS]`, with `--steps` and `--symbols` anywhere among them
 abbrev pub run_of : List Token → Option Command
 run_of tokens =
     if list_all is_run_token tokens

@@ -1,4 +1,4 @@
--- How tokens and commands that were read are seen in definitions.
+-- Tokens and commands that were read, in the terms of the definitions.
 use Rattle.std.specs.Prelude.{◌≢◌, Bool, true, false, List, [], ◌∷◌, map, string_bytes}
 use Rattle.std.specs.Option.{option_map}
 use Rattle.rv_memory.specs.Limits.{IsWithinLimits}
@@ -27,7 +27,7 @@ expected false = OnlyPositional
 abbrev pub tokens_of : Tokens → List Token
 tokens_of t = tokens (expected t.options) (map string_bytes t.args.now)
 
--- no token comes next, or an option
+-- the next token isn't positional: there is none, or it is an option
 abbrev pub IsNoPositional : List Token → Type 0
 IsNoPositional [] = Unit {0}
 IsNoPositional (Positional arg ∷ rest) = ⊥
@@ -51,7 +51,7 @@ command_read (read.Sample a) = Sample (sample_given a)
 command_read (read.Verify a) = Verify (verify_given a)
 command_read (read.Frames a) = Frames (lookup_given a)
 
--- the output and the map of a rewrite have different names, and so have the two files of a sample
+-- the output and the map of a rewrite have different names, and so do the two files of a sample
 abbrev pub NamesDiffer : CommandRead → Type 0
 NamesDiffer (read.Rewrite a) = a.out.now ≢ a.map.now
 NamesDiffer (read.Map a) = Unit {0}
@@ -64,7 +64,7 @@ NamesDiffer (read.Sample a) = a.file.now ≢ a.profile.now
 NamesDiffer (read.Verify a) = Unit {0}
 NamesDiffer (read.Frames a) = Unit {0}
 
--- the arguments of a run may be given to a program, and there is such a sample
+-- the arguments of a run may be given to a program, and a sample's number is valid
 abbrev pub ArgsFit : CommandRead → Type 0
 ArgsFit (read.Rewrite a) = Unit {0}
 ArgsFit (read.Map a) = Unit {0}

@@ -1,15 +1,15 @@
--- Words that are numbers: an address, and the number of a sample.
+-- Arguments that are numbers: an address, and the number of a sample.
 use Rattle.std.specs.Prelude.{ℕ, ◌&&◌, List, Option, Some, None, nat_eq, nat_le, codes, drop, if◌then◌else◌}
 use Rattle.std.specs.Prelude.{option_and_then}
 use Rattle.std.specs.Char.{is_ascii_hexdigit}
 use Rattle.std.specs.List.{starts_with}
 use Rattle.rb_bytes.specs.Text.{decimal_number, number_of_digits}
 
--- what stands behind `0x`, or all of a word without it
+-- the part of a word after `0x`, or all of a word without it
 abbrev pub unprefixed : List ℕ → List ℕ
 unprefixed word = if starts_with nat_eq word (codes "0x") then drop 2 word else word
 
--- The address that 1 to 16 hexadecimal digits write, of either case.
+-- The address that 1 to 16 hexadecimal digits write, in upper or lower case.
 abbrev pub address_of : List ℕ → Option ℕ
 address_of word = number_of_digits 16 16 is_ascii_hexdigit (unprefixed word)
 

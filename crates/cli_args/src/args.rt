@@ -15,8 +15,7 @@ pub struct RewriteArgs<'a> {
     pub map: &'a str,
 }
 
-/// The file that is run, the arguments that the program gets, without the file's name, and the most steps that it may
-/// do.
+/// The file that is run, the arguments that the program gets, without the file's name, and the limit on its steps.
 #[derive(Clone, Copy)]
 pub struct RunArgs<'a> {
     pub file: &'a str,

@@ -1,4 +1,4 @@
-// The command line: the arguments that the program is started with, and the tokens that they are read as.
+// The command line: the arguments of the program, and the tokens as which they are read.
 ghost use Rattle.std.specs.Prelude.{◌≡◌, ◌≢◌, ◌∷◌, [], map, string_bytes, IfSome, IfNone, IfOk};
 ghost use Rattle.std.specs.Option.{option_map};
 ghost use Rattle.std.specs.List.{list_all};
@@ -23,13 +23,13 @@ use std::alloc::Global;
 // The option that limits a run's steps.
 const STEPS: &str = "--steps";
 
-// The option that runs a file on the symbol machine.
+// The option for a run on the symbol machine.
 const SYMBOLS: &str = "--symbols";
 
-// The most steps of a run without `--steps`.
+// The limit on the steps of a run without `--steps`.
 const DEFAULT_LIMIT: u64 = 100_000_000;
 
-/// The file of `run`, and the most steps that it may do. `tokens` are those behind the file's name, of which
+/// The file of `run`, and the limit on its steps. `tokens` are the tokens after the file's name, from which
 /// [`program_args`] makes the program's arguments.
 #[derive(Clone, Copy)]
 pub struct RunTokens<'a> {
@@ -38,7 +38,7 @@ pub struct RunTokens<'a> {
     pub tokens: Tokens<'a>,
 }
 
-/// The run that `record` does, and the name of the file for its profile. The tokens of the run are those behind both
+/// The run that `record` does, and the name of the file for its profile. The tokens of the run are those after both
 /// names.
 #[derive(Clone, Copy)]
 pub struct RecordTokens<'a> {
@@ -61,7 +61,7 @@ pub enum Command<'a> {
     Frames(LookupArgs<'a>),
 }
 
-/// A token behind the name of a command: an argument that is no option, or an option with its value, where it has one.
+/// A token after the name of a command: an argument that isn't an option, or an option, with its value if it has one.
 #[derive(Clone, Copy)]
 pub enum Token<'a> {
     Positional(&'a str),
@@ -71,22 +71,22 @@ pub enum Token<'a> {
     },
 }
 
-/// The tokens that weren't read yet: `args` are the arguments in which they stand, and `options` says whether options
-/// may be among them, which none are behind `--`.
+/// The tokens that weren't read yet. `args` are their arguments, and `options` says whether there may be options among
+/// them: not after `--`.
 #[derive(Clone, Copy)]
 pub struct Tokens<'a> {
     pub args: &'a [String],
     pub options: bool,
 }
 
-// Whether an argument has the form of an option: a hyphen, and something behind it.
+// Whether an argument has the form of an option: a hyphen that is followed by something.
 fn is_option(arg: &str) -> bool
     ensures { result ≡ is_option arg.now }
 {
     arg.len() > 1 && arg.as_bytes().starts_with(b"-")
 }
 
-// The option that `arg` is without the argument behind it: `NAME=VALUE`, or a name alone.
+// The option in `arg`, without the next argument: `NAME=VALUE`, or only a name.
 fn option(arg: &str) -> Token<'_>
     ensures { token_read result ≡ option_of arg.now }
 {
@@ -103,7 +103,7 @@ fn option(arg: &str) -> Token<'_>
 }
 
 impl<'a> Tokens<'a> {
-    // The next argument, whatever it is.
+    // The next argument, of any kind.
     fn next_arg(&mut self) -> Option<&'a str>
         ensures options { self.new.options ≡ self.old.options }
         ensures some { IfSome result (λ arg.
@@ -148,7 +148,7 @@ impl<'a> Iterator for Tokens<'a> {
     }
 }
 
-// The next token, if it is positional. It is taken off `tokens`, whatever it is.
+// The next token, if it is positional. A token of any kind is removed from `tokens`.
 fn next_positional<'a>(tokens: &mut Tokens<'a>) -> Option<&'a str>
     ensures found { IfSome result (λ arg. tokens_of tokens.old ≡ Positional arg.now ∷ tokens_of tokens.new) }
     ensures none { IfNone result (IsNoPositional (tokens_of tokens.old)) }
@@ -252,7 +252,7 @@ fn verify_args(mut tokens: Tokens<'_>) -> Option<VerifyArgs<'_>>
     Some(VerifyArgs { input, output, map })
 }
 
-// Whether no options but those of `run` are among the tokens: `--steps`, and `--symbols` without a value.
+// Whether the tokens have no options other than those of `run`: `--steps`, and `--symbols` without a value.
 fn has_only_run_options(tokens: Tokens<'_>) -> bool
     ensures { result ≡ list_all is_run_token (tokens_of tokens.entry) }
 {
@@ -272,8 +272,8 @@ fn has_only_run_options(tokens: Tokens<'_>) -> bool
     true
 }
 
-// The most steps of a run: those of `--steps`, or the default without it. None where `--steps` is there twice, or its
-// value is no number.
+// The limit on the steps of a run: the value of `--steps`, or the default without it. `None` if `--steps` occurs twice,
+// or if its value isn't a number.
 #[tactic(auto, using(crate::proofs::StepLimit::of_none, crate::proofs::StepLimit::of_bad, crate::proofs::StepLimit::of_number))]
 fn limit(tokens: Tokens<'_>) -> Option<u64>
     ensures { result ≡ limit_of (values_of steps_name (tokens_of tokens.entry)) }
@@ -294,7 +294,7 @@ fn limit(tokens: Tokens<'_>) -> Option<u64>
     Some(limit.unwrap_or(DEFAULT_LIMIT))
 }
 
-// Whether a file is run on the symbol machine. None where `--symbols` is there twice.
+// Whether a file is run on the symbol machine. `None` if `--symbols` occurs twice.
 #[tactic(auto, using(crate::proofs::RunArguments::symbols_of_more))]
 fn symbols(tokens: Tokens<'_>) -> Option<bool>
     ensures { result ≡ symbols_of (values_of symbols_name (tokens_of tokens.entry)) }
@@ -315,8 +315,8 @@ fn symbols(tokens: Tokens<'_>) -> Option<bool>
     Some(symbols)
 }
 
-// The first positional token. It is taken off `tokens` with the options before it, which `limit` and `symbols` read
-// from a copy.
+// The first positional token. It is removed from `tokens` together with the options before it, which `limit` and
+// `symbols` read from a copy.
 fn first_positional<'a>(tokens: &mut Tokens<'a>) -> Option<&'a str>
     ensures some { IfSome result (λ arg.
         positionals (tokens_of tokens.old) ≡ arg.now ∷ positionals (tokens_of tokens.new)) }
@@ -337,7 +337,7 @@ fn holds_zero(arg: &str) -> bool
 }
 
 // Whether the positional tokens may be given to a program as its arguments: there are at most `MOST_ARGS`, they have at
-// most `MOST_ARG_BYTES` together, and none has a zero byte, since each is ended by one in memory.
+// most `MOST_ARG_BYTES` bytes in all, and none contains a zero byte, which ends an argument in memory.
 fn are_program_args(tokens: Tokens<'_>) -> bool
     ensures { result ≡ are_program_args (positionals (tokens_of tokens.entry)) }
 {
@@ -383,7 +383,7 @@ fn run_args(mut tokens: Tokens<'_>) -> Option<Command<'_>>
     }
 }
 
-// Whether no options but `--steps` are among the tokens.
+// Whether the tokens have no options other than `--steps`.
 fn has_only_record_options(tokens: Tokens<'_>) -> bool
     ensures { result ≡ list_all is_record_token (tokens_of tokens.entry) }
 {
@@ -399,7 +399,7 @@ fn has_only_record_options(tokens: Tokens<'_>) -> bool
     true
 }
 
-// The arguments of `record`. The file and its profile must have names that differ.
+// The arguments of `record`. The file and its profile must have different names.
 #[tactic(auto, using(crate::proofs::RunArguments::within_limits))]
 fn record_args(mut tokens: Tokens<'_>) -> Option<RecordTokens<'_>>
     ensures command { option_map record_read result ≡ record_of (tokens_of tokens.entry) }
@@ -422,7 +422,7 @@ fn record_args(mut tokens: Tokens<'_>) -> Option<RecordTokens<'_>>
     Some(RecordTokens { run, out })
 }
 
-/// The command that `args` are, without the program's own name, if they are one. Takes no memory.
+/// The command that `args` are, without the program's own name; `None` if they are no command. Uses no memory.
 pub fn parse(args: &[String]) -> Option<Command<'_>>
     ensures command { option_map command_read result ≡ command_of (map string_bytes args.now) }
     ensures apart { IfSome result NamesDiffer }
@@ -449,7 +449,7 @@ pub fn parse(args: &[String]) -> Option<Command<'_>>
     }
 }
 
-/// The arguments that the program of a run gets: the positional tokens behind the names of files.
+/// The arguments that the program of a run gets: the positional tokens after the names of files.
 pub fn program_args(alloc: Global, args: &RunTokens<'_>) -> Result<Vec<String>, NoMemory>
     ensures { IfOk result (λ list. map string_bytes list.items ≡ (run_read args.now).args) }
 {

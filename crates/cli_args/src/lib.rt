@@ -1,4 +1,4 @@
-//! The command line: which arguments are which command.
+//! The command line: which command the arguments are.
 #![tactic(auto)]
 
 mod args;

@@ -1,4 +1,4 @@
-// Words that are numbers: an address, and the number of a sample.
+// Arguments that are numbers: an address, and the number of a sample.
 ghost use Rattle.std.specs.Prelude.{◌≡◌, ◌+◌, ◌*◌, ◌^◌, IfSome, IsTrue, Some, None, if◌then◌else◌, nat_lt};
 ghost use Rattle.std.specs.Char as char;
 ghost use Rattle.std.specs.List.{list_all};
@@ -8,13 +8,13 @@ ghost use Rattle.cli_args.specs.Words as spec;
 
 use rb_bytes::number::decimal_number;
 
-// The most hexadecimal digits of an address: those of 64 bits.
+// The greatest number of hexadecimal digits of an address, which has 64 bits.
 const MOST_DIGITS: usize = 16;
 
-// How many samples there are.
+// The number of samples.
 const SAMPLE_COUNT: u64 = 1000;
 
-/// The address that 1 to 16 hexadecimal digits of either case write, with or without `0x` before them.
+/// The address that 1 to 16 hexadecimal digits write, in upper or lower case, with or without `0x` before them.
 pub fn address(word: &[u8]) -> Option<u64>
     ensures { result ≡ spec.address_of word.now }
 {
@@ -43,7 +43,7 @@ pub fn sample_number(digits: &[u8]) -> Option<u16>
     Some(number as u16)
 }
 
-// What stands behind `0x`, or all of `word` where it doesn't begin so.
+// The part of `word` after `0x`, or all of `word` if it doesn't begin with `0x`.
 fn unprefixed(word: &[u8]) -> &[u8]
     ensures { result.now ≡ spec.unprefixed word.now }
 {
@@ -73,7 +73,7 @@ fn value(digits: &[u8]) -> Option<u64>
     Some(value)
 }
 
-// `value` with one more hexadecimal digit behind it.
+// `value` with one more hexadecimal digit appended.
 fn appended(value: u64, digit: u64) -> Option<u64>
     ensures { result ≡ (if nat_lt (value * 16 + digit) (2 ^ 64) then Some (value * 16 + digit) else None) }
 {

@@ -4,11 +4,11 @@ use Rattle.rb_io.specs.FaultCounts.{Rose}
 use Rattle.rb_io.specs.Names.{NeverFalls}
 use Rattle.rb_io.specs.Views.{FilesSeen, FilesGoOn}
 
--- a count that rose after another call that it didn't fall in
+-- a count that rose in the second call, and didn't fall in the first
 pub rose_after : (before between after : ℕ) → before ≤ between → Rose between after → Rose before after
 rose_after before between after le rose = λ below. let later : between < after = rose below in omega arith
 
--- a count that rose before another call that it didn't fall in
+-- a count that rose in the first call, and didn't fall in the second
 pub rose_before : (before between after : ℕ) → between ≤ after → Rose before between → Rose before after
 rose_before before between after le rose = λ below. let earlier : before < between = rose (omega arith) in omega arith
 

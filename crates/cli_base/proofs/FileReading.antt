@@ -1,4 +1,4 @@
--- How a command ends where its file can't be read.
+-- The result of a command if its file can't be read.
 use Rattle.std.proofs.Common.{◌≡◌, ℕ, List}
 use Rattle.rb_io.specs.Views.{FilesSeen, SinkSeen}
 use Rattle.cli_base.specs.Reading.{IsUnread, at_file, no_memory}

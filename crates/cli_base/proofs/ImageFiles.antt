@@ -1,4 +1,4 @@
--- What the test of its code tells of a file that was read.
+-- The test of the code's size, for a file that was read.
 use Rattle.std.proofs.Common.{◌≡◌, sym, subst, Bool, true, false, ℕ, List, IsTrue}
 use Rattle.std.specs.Prelude.{◌↔◌}
 use Rattle.elf_image.specs.declared.elf.Elf.{Elf}

@@ -1,4 +1,4 @@
--- How commands end that make nothing of an input and its profile.
+-- The results of commands that make no output of an input and its profile.
 use Rattle.std.proofs.Common.{inl, inr, ◌≡◌, ◌⊎◌, ◌∙◌, sym, ap, subst, ℕ, List, Option, Some, None, Vec, IsTrue, IsSomeAnd}
 use Rattle.std.specs.declared.alloc.Global.{Global}
 use Rattle.rb_io.specs.Names.{Unchanged}
@@ -22,7 +22,7 @@ use Rattle.cli_base.specs.World.{World}
 use Rattle.cli_base.specs.declared.status.Status.{Status}
 use Rattle.cli_base.specs.declared.status.Status.TheVariants as status
 
--- a fact of what was read is one of what there is
+-- a fact of the bytes that were read is a fact of the files
 of_inputs : (w : World) (names : InputNames) (file profile : List ℕ) (P : List ℕ → List ℕ → Type 0) →
     AreRead w.files.content names file profile → P file profile → OfInputs w names P
 of_inputs w names file profile P read p =
@@ -46,7 +46,7 @@ exclude (Some f) None P Q h x y = absurd x
 exclude (Some f) (Some p) P Q h x y = h f p x y
 
 module _ (Refused : List ℕ → List ℕ → Fault → Type 0) where
-  -- how a refusal ends, where its fault is present and the files are as they were
+  -- the result of a refusal, if its fault is present and the files are unchanged
   pub refuses : (answer : Status) (fault : Fault) (names : InputNames) (old new : World)
       → LinePrinted answer (status.Refused fault) (refused_line fault) old.output new.output
       → Unchanged old.files.content new.files.content → HasInputFault Refused names old fault
@@ -58,7 +58,7 @@ module _ (Refused : List ℕ → List ℕ → Fault → Type 0) where
   refuses answer fault names old new (none_printed is kept) same present =
       no_memory is (record { unprinted = kept; unwritten = same })
 
-  -- how a command ends where one of the files can't be read
+  -- the result of a command if one of the files can't be read
   pub unread : (answer : Status) (names : InputNames) (old new : World)
       → IsUnreadable names.file old.files new.files answer ⊎ IsUnreadable names.profile old.files new.files answer
       → IsSilent old new → IsStopped Refused names old new answer
@@ -67,7 +67,7 @@ module _ (Refused : List ℕ → List ℕ → Fault → Type 0) where
   unread answer names old new (inl (unread_memory is)) silent = no_memory is silent
   unread answer names old new (inr (unread_memory is)) silent = no_memory is silent
 
-  -- How a refusal of what was read ends, or want of memory.
+  -- The result of a refusal of files that were read, or of running out of memory.
   pub is_stopped : (answer : Status) (r : Refusal) (names : InputNames) (old new : World) (file profile : List ℕ)
       → Refuses r answer old.output new.output → Unchanged old.files.content new.files.content
       → (IsTrue old.files.told → AreRead old.files.content names file profile) → IsRefusalFor (Refused file profile) r
@@ -78,7 +78,7 @@ module _ (Refused : List ℕ → List ℕ → Fault → Type 0) where
   is_stopped answer refusal.Memory names old new file profile kept same read why =
       no_memory kept.0 (record { unprinted = kept.1; unwritten = same })
 
-  -- an answer of two files that are too long, as one of all for which they are refused
+  -- an answer for two files that are too long is an answer for any larger set of refusals
   pub stops_too : ((file profile : List ℕ) (fault : Fault) → IsTooLong file profile fault → Refused file profile fault) →
       (names : InputNames) (old new : World) (answer : Status) → IsStopped IsTooLong names old new answer →
       IsStopped Refused names old new answer
@@ -97,7 +97,7 @@ module _ (Refused : List ℕ → List ℕ → Fault → Type 0) where
       exclude (old.files.content names.file) (old.files.content names.profile) (λ f p. Refused f p fault) (IsAccepted Refused)
       (λ f p is_refused accepts. accepts fault is_refused) (present told) accepted
 
-  -- nothing stops a command but want of memory where no fault is present and no count rose
+  -- if there is no fault and no count rose, a command is only stopped by running out of memory
   pub stopped_completes : (names : InputNames) (old new : World) (answer : Status)
       → IsStopped Refused names old new answer → IsTrue old.files.told
       → OfInputs old names (IsAccepted Refused) → NoInputErrors names old new → IsOkOrNoMemory answer
@@ -136,7 +136,7 @@ are_both content names file profile both = record {
   profile_is = given_is (content names.profile) profile both.profile_given;
 }
 
--- files that were read, at the slices that they were passed as
+-- files that were read, as the slices that were passed
 pub are_read : (content : List ℕ → Option (List ℕ)) (names : InputNames) (file profile file_now profile_now : List ℕ) →
     file_now ≡ file → profile_now ≡ profile → AreRead content names file profile → AreRead content names file_now profile_now
 are_read content names file profile file_now profile_now e f read = record {
@@ -144,7 +144,7 @@ are_read content names file profile file_now profile_now e f read = record {
   profile_is = read.profile_is ∙ ap (λ (xs : List ℕ). Some xs) (sym f);
 }
 
--- The world between reading and writing is the old one, but for counts of faults of files that may have risen.
+-- The world between reading and writing is the old one, except that counts of faults of files may have risen.
 pub record IsBetween (old mid : World) : Type 0 where
   pub contents : Unchanged old.files.content mid.files.content
   pub go_on : FilesGoOn old.files mid.files

@@ -1,4 +1,4 @@
--- What was read of a file is its program, or a reason for which it is none.
+-- The result of reading a file is its program, or a reason why it isn't one.
 use Rattle.std.proofs.Common.{◌≡◌, sym, subst, ℕ, ◌≤◌, List, length}
 use Rattle.rb_bytes.specs.declared.fault.Refusal.{Refusal}
 use Rattle.rb_bytes.specs.declared.fault.Refusal.TheVariants as refusal
@@ -15,7 +15,7 @@ module _ (file : List ℕ) where
   unreadable_refused fits (refusal.Fault fault) is = unreadable fits is
   unreadable_refused fits refusal.Memory is = tt
 
-  -- `given` are its functions as a slice
+  -- `given` are its functions, as a slice
   module _ (p : Program) (given : List Func) (is : IsProgramOf file (program_seen p)) (same : given ≡ p.funcs.items) where
     refused : (r : Refusal) → IsRefusalFor (IsLimitFault (IsCodeTooLarge file p.funcs.items)) r →
         IsRefusalFor (IsNoProgram file) r

@@ -1,4 +1,4 @@
--- What reading an input and its profile comes to, each within the limit.
+-- The result of reading an input and its profile, each within the size limit.
 use Rattle.std.specs.Prelude.{ℕ, List, Option, Vec}
 use Rattle.std.specs.declared.alloc.Global.{Global}
 use Rattle.program.specs.Limits.{file_limit}

@@ -1,5 +1,5 @@
--- Files that are images, for the commands that look at nothing but what a file loads: those in which the reader finds
--- nothing wrong, and whose code passes no limit.
+-- Files that are images, for the commands that use only the bytes that a file loads: files in which the reader finds no
+-- fault, and whose code is within the size limit.
 use Rattle.std.specs.Prelude.{◌≡◌, ℕ, ◌<◌, ◌≤◌, List, length}
 use Rattle.rb_bytes.specs.Fault.{fault_at}
 use Rattle.rb_bytes.specs.declared.fault.Fault.{Fault}
@@ -13,7 +13,7 @@ pub record IsImageFile (file : List ℕ) : Type 0 where
   pub sound : IsSound file
   pub code_fits : HasTooMuchCode file → ⊥
 
--- Why a file is none: its length comes first, then what is wrong in it, and then the size of its code.
+-- Why a file isn't an image. The order of precedence: its length, then its faults, then the size of its code.
 pub data IsNoImage (file : List ℕ) (fault : Fault) : Type 0 where
   too_long : file_limit < length file → fault ≡ fault_at TooLarge FILE_BYTES → IsNoImage file fault
   unsound : length file ≤ file_limit → IsFirstFault file fault → IsNoImage file fault

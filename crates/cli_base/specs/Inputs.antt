@@ -1,4 +1,4 @@
--- An input and its profile, and how a command ends that makes nothing of them.
+-- An input and its profile, and the results of a command that makes no output of them.
 use Rattle.std.specs.Prelude.{◌≡◌, ◌⊎◌, ◌<◌, ◌≤◌, ℕ, List, Option, Some, IsTrue, IsSomeAnd, length}
 use Rattle.rb_bytes.specs.Fault.{fault_at}
 use Rattle.rb_bytes.specs.declared.fault.Fault.{Fault}
@@ -13,34 +13,34 @@ use Rattle.cli_base.specs.World.{World, ReadRose}
 use Rattle.cli_base.specs.declared.status.Status.{Status}
 use Rattle.cli_base.specs.declared.status.Status.TheVariants as status
 
--- P holds of the contents of the input and of the profile, both being there
+-- the input and the profile exist, and their contents satisfy P
 abbrev pub OfInputs : World → InputNames → (List ℕ → List ℕ → Type 0) → Type 0
 OfInputs w names P =
     IsSomeAnd (w.files.content names.file) (λ file. IsSomeAnd (w.files.content names.profile)
     (λ profile. P file profile))
 
--- both files were read whole, and are these bytes
+-- both files were read completely, and have these bytes
 pub record AreRead (content : List ℕ → Option (List ℕ)) (names : InputNames) (file profile : List ℕ) : Type 0 where
   pub file_is : content names.file ≡ Some file
   pub profile_is : content names.profile ≡ Some profile
 
--- Length is judged first, of the file and then of the profile.
+-- The lengths are checked first, of the file and then of the profile.
 pub data IsTooLong (file profile : List ℕ) (fault : Fault) : Type 0 where
   long_file : file_limit < length file → fault ≡ fault_at TooLarge FILE_BYTES → IsTooLong file profile fault
   long_profile : length file ≤ file_limit → file_limit < length profile → fault ≡ fault_at TooLarge PROFILE_BYTES →
       IsTooLong file profile fault
 
--- Refused says for which faults an input and its profile are refused.
+-- `Refused` says for which faults an input and its profile are refused.
 module _ (Refused : List ℕ → List ℕ → Fault → Type 0) where
-  -- no such fault is present
+  -- there is no such fault
   abbrev pub IsAccepted : List ℕ → List ℕ → Type 0
   IsAccepted file profile = (fault : Fault) → Refused file profile fault → ⊥
 
-  -- a fault is present, where files are told
+  -- there is such a fault, if files are transparent
   abbrev pub HasInputFault : InputNames → World → Fault → Type 0
   HasInputFault names w fault = IsTrue w.files.told → OfInputs w names (λ file profile. Refused file profile fault)
 
-  -- A command stopped before it made anything, and no file was written.
+  -- A command stopped before it made any output, and wrote no file.
   pub data IsStopped (names : InputNames) (old new : World) (answer : Status) : Type 0 where
     refused : (fault : Fault) → answer ≡ status.Refused fault → HasInputFault names old fault
         → PrintsOnly (refused_line fault) old new → IsStopped names old new answer

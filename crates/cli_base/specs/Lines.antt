@@ -10,7 +10,7 @@ use Rattle.rv_code.specs.declared.cause.Cause.TheVariants.{Fetch, Illegal, Load,
 use Rattle.sym_machine.specs.declared.outcome.Reason.{Reason}
 use Rattle.sym_machine.specs.declared.outcome.Reason.TheVariants as reason
 
--- how a refusal ends: want of room has what is needed and what there is
+-- the end of a refusal: for NoRoom, the bytes that are needed and that there are
 abbrev pub refused_end : FaultKind → ℕ → ℕ → List ℕ
 refused_end NoRoom need room = codes ": need " ++ decimal need ++ codes " room " ++ decimal room ++ codes "\n"
 refused_end _ need room = codes "\n"
@@ -24,7 +24,7 @@ refused_front fault =
 abbrev pub refused_line : Fault → List ℕ
 refused_line fault = refused_front fault ++ refused_end fault.kind fault.need fault.room
 
--- how a run ended, after how many steps
+-- the end of a run, after this number of steps
 
 abbrev pub after_steps : ℕ → List ℕ
 after_steps steps = codes " after " ++ decimal steps ++ codes " steps]\n"

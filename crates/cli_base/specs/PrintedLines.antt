@@ -1,4 +1,4 @@
--- What a command does that prints one line, or nothing, and writes no file.
+-- The effect of a command that prints one line, or nothing, and writes no file.
 use Rattle.std.specs.Prelude.{◌≡◌, ℕ, List}
 use Rattle.rb_io.specs.FaultCounts.{Rose}
 use Rattle.rb_io.specs.Names.{Unchanged}
@@ -15,7 +15,7 @@ pub record IsSilent (old new : World) : Type 0 where
   pub unprinted : new.output.taken ≡ old.output.taken
   pub unwritten : Unchanged old.files.content new.files.content
 
--- printing a line fails: a proper prefix of it was taken
+-- printing a line fails: a proper prefix of it was written
 pub record FailsToPrint (line : List ℕ) (old new : World) : Type 0 where
   pub cause : Rose old.output.faults new.output.faults
   pub front : TakesPrefix old.output.taken new.output.taken line

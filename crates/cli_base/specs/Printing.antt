@@ -1,4 +1,4 @@
--- What printing a line comes to.
+-- The result of printing a line.
 use Rattle.std.specs.Prelude.{◌≡◌, ℕ, List}
 use Rattle.rb_io.specs.FaultCounts.{Rose}
 use Rattle.rb_io.specs.TakenText.{TakesAll, TakesPrefix}
@@ -9,7 +9,7 @@ use Rattle.cli_base.specs.Lines.{refused_line}
 use Rattle.cli_base.specs.declared.status.Status.{Status}
 use Rattle.cli_base.specs.declared.status.Status.TheVariants as status
 
--- The line was printed, and `done` answered; or a prefix of it; or none of it, out of memory.
+-- The line was printed, and the answer is `done`; or only a prefix of it; or none of it, since memory ran out.
 pub data LinePrinted (answer done : Status) (text : List ℕ) (before after : SinkSeen) : Type 0 where
   all_printed : answer ≡ done → TakesAll before.taken after.taken text → LinePrinted answer done text before after
   prefix_printed : answer ≡ status.WriteFault → Rose before.faults after.faults →

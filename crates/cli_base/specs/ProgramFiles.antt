@@ -1,5 +1,5 @@
--- Files that are programs, for the commands that read code but no tables: those that are read, and whose code passes no
--- limit.
+-- Files that are programs, for the commands that use code but no tables: files that can be read, and whose code is
+-- within the limits.
 use Rattle.std.specs.Prelude.{◌≡◌, ℕ, ◌<◌, ◌≤◌, List, length}
 use Rattle.rb_bytes.specs.Fault.{fault_at}
 use Rattle.rb_bytes.specs.declared.fault.Fault.{Fault}
@@ -20,7 +20,8 @@ pub record IsProgramFile (file : List ℕ) : Type 0 where
   pub funcs_are : AreFunctions elf (tabled elf) funcs
   pub within : (place : ℕ) → IsCodeTooLarge file funcs place → ⊥
 
--- Why a file is none: its length comes first, then why it isn't read, and then the size of its code.
+-- Why a file isn't a program. The order of precedence: its length, then the faults of reading it, then the size of its
+-- code.
 pub data IsNoProgram (file : List ℕ) (fault : Fault) : Type 0 where
   too_long : file_limit < length file → fault ≡ fault_at TooLarge FILE_BYTES → IsNoProgram file fault
   unreadable : length file ≤ file_limit → IsUnreadable file fault → IsNoProgram file fault

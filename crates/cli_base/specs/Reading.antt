@@ -1,4 +1,4 @@
--- Why a file isn't read, and what was printed then.
+-- Why a file isn't read, and what is printed then.
 use Rattle.std.specs.Prelude.{◌≡◌, ◌<◌, ℕ, List, length, IsSomeAnd, IsTrue}
 use Rattle.rb_bytes.specs.Fault.{fault_at}
 use Rattle.rb_bytes.specs.declared.fault.Fault.{Fault}

@@ -1,4 +1,4 @@
--- The numbers that the program ends with, and which answers say how a run came out.
+-- The exit status of each answer, and the answers that are results of a run.
 use Rattle.std.specs.Prelude.{ℕ, Bool, true, false}
 use Rattle.cli_base.specs.declared.status.Status.{Status}
 use Rattle.cli_base.specs.declared.status.Status.TheVariants as status
@@ -16,7 +16,7 @@ exit_number status.OutOfSteps = 226
 exit_number (status.Stuck pc reason) = 227
 exit_number (status.Unfaithful clause place) = 228
 
--- an answer says how a run came out
+-- an answer is the result of a run
 abbrev pub is_outcome : Status → Bool
 is_outcome (status.Ended value) = true
 is_outcome (status.Trapped pc cause) = true

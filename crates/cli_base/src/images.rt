@@ -1,4 +1,4 @@
-// A file read as an image, for commands that look at nothing but what it loads.
+// Reading a file as an image, for commands that use only the bytes that it loads.
 ghost use Rattle.std.specs.Prelude.{◌≤◌, length, IfErr, IfOk, OnOk};
 ghost use Rattle.elf_image.specs.file.ParsedFile.{IsElfOf};
 ghost use Rattle.program.specs.Limits.{file_limit};
@@ -11,7 +11,7 @@ use rb_bytes::fault::{Fault, FaultKind, Refusal};
 use rb_bytes::limit::CODE_BYTES;
 use std::alloc::Global;
 
-/// The image of a file of at most 64 MiB, or the fault for which it is none: one of 1 to 8, and then `TooLarge` at 2
+/// The image of a file of at most 64 MiB, or the fault for which it isn't one: one of 1 to 8, otherwise `TooLarge` at 2
 /// (`CODE_BYTES`).
 pub fn file_image<'file>(alloc: Global, file: &'file [u8]) -> Result<Elf<'file>, Refusal>
     requires fits { length file.now ≤ file_limit }

@@ -1,4 +1,4 @@
-// An input read with its profile, for the commands that take both.
+// Reading an input with its profile, for the commands that take both.
 ghost use Rattle.std.specs.Prelude.{◌≡◌, ◌⊎◌, ◌≤◌, length, IfErr, IfOk, IsTrue, OnOk};
 ghost use Rattle.rb_io.specs.Names.{Unchanged};
 ghost use Rattle.rb_io.specs.Views.{FilesGoOn, SourceSeen};
@@ -26,7 +26,7 @@ pub struct Inputs {
     pub profile: Vec<u8>,
 }
 
-// Reads the input and then its profile, before either is judged. None is a file that is too long.
+// Reads the input and then its profile, before either is checked. `None` for a file that is too long.
 fn read_both<F: Files>(
     alloc: Global,
     args: &InputArgs<'_>,
@@ -47,8 +47,8 @@ fn read_both<F: Files>(
     Ok((file, profile))
 }
 
-/// Reads an input and its profile. The error is how the command ends. Where a file is too long, the line that refuses
-/// it has been printed, or its printing failed.
+/// Reads an input and its profile. The error is the command's result. If a file is too long, the line that refuses it
+/// has been printed, or its printing failed.
 pub fn read_inputs<F: Files, O: Sink>(
     alloc: Global,
     args: &InputArgs<'_>,
@@ -60,7 +60,7 @@ pub fn read_inputs<F: Files, O: Sink>(
     ensures file_fits { IfOk result (λ inputs. length inputs.file.items ≤ file_limit) }
     ensures profile_fits { IfOk result (λ inputs. length inputs.profile.items ≤ file_limit) }
     ensures unprinted { OnOk result (O.seen out.new ≡ O.seen out.old) }
-    // Standard input can be any: it stays as it was.
+    // For any standard input, which is unchanged.
     ensures stopped { (input : SourceSeen) → IfErr result (IsStopped IsTooLong (inputs_read args.now)
         (world (F.seen files.old) input (O.seen out.old)) (world (F.seen files.new) input (O.seen out.new))) }
     ensures kept { Unchanged (F.seen files.old).content (F.seen files.new).content }

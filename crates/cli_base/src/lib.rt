@@ -1,4 +1,4 @@
-//! What the commands share: how they end, the lines that say it, refusals, and the reading of files.
+//! What the commands share: their results, the lines that show these, refusals, and the reading of files.
 #![tactic(auto)]
 
 mod images;

@@ -25,7 +25,7 @@ fn put_refused_end(line: &mut Vec<u8>, fault: &Fault) -> Result<(), NoMemory>
     Ok(())
 }
 
-/// The front of the line for a file that is refused: `refused NUMBER NAME at PLACE`.
+/// The beginning of the line for a file that is refused: `refused NUMBER NAME at PLACE`.
 pub fn refused_front(alloc: Global, fault: &Fault) -> Result<Vec<u8>, NoMemory>
     ensures { IfOk result (λ line. line.items ≡ refused_front fault.now) }
 {
@@ -57,7 +57,7 @@ fn put_after_steps(line: &mut Vec<u8>, steps: u64) -> Result<(), NoMemory>
     Ok(())
 }
 
-// Appends why a run stopped, where, and after how many steps.
+// Appends why a run stopped, at which pc, and after how many steps.
 fn put_stop(line: &mut Vec<u8>, why: &[u8], pc: u64, steps: u64) -> Result<(), NoMemory>
     ensures { OnOk result
         (line.new.items ≡ line.old.items ++ why.now ++ codes " at " ++ hexadecimal pc ++ after_steps steps) }
@@ -79,7 +79,7 @@ pub fn ended(alloc: Global, status: u8, steps: u64) -> Result<Vec<u8>, NoMemory>
     Ok(line)
 }
 
-/// The line for a run that did all its steps, and goes on.
+/// The line for a run that reached its limit of steps.
 pub fn out_of_steps(alloc: Global, steps: u64) -> Result<Vec<u8>, NoMemory>
     ensures { IfOk result (λ line. line.items ≡ out_of_steps_line steps) }
 {
@@ -117,7 +117,7 @@ fn reason_name(reason: Reason) -> &'static [u8]
     }
 }
 
-/// The line for a run that a trap stopped at the address `pc`.
+/// The line for a run that ended with a trap at the address `pc`.
 pub fn trapped(alloc: Global, pc: u64, cause: Cause, steps: u64) -> Result<Vec<u8>, NoMemory>
     ensures { IfOk result (λ line. line.items ≡ trapped_line pc cause steps) }
 {
@@ -126,7 +126,7 @@ pub fn trapped(alloc: Global, pc: u64, cause: Cause, steps: u64) -> Result<Vec<u
     Ok(line)
 }
 
-/// The line for a run in which the symbol machine got stuck at the address `pc`.
+/// The line for a run in which the symbol machine is stuck at the address `pc`.
 pub fn stuck(alloc: Global, pc: u64, reason: Reason, steps: u64) -> Result<Vec<u8>, NoMemory>
     ensures { IfOk result (λ line. line.items ≡ stuck_line pc reason steps) }
 {

@@ -1,4 +1,4 @@
-// Lines printed whole.
+// Printing a whole line.
 ghost use Rattle.std.specs.Prelude.{◌≡◌, ◌≤◌, ℕ, List, IfOk};
 ghost use Rattle.cli_base.specs.Printing.{LinePrinted};
 
@@ -6,8 +6,8 @@ use crate::status::Status;
 use rb_bytes::fault::NoMemory;
 use rb_io::{Put, Sink, print_all};
 
-/// Prints `line`, if there was memory to make it, and answers `done` once all of it is taken; else `NoMemory` or
-/// `WriteFault`.
+/// Prints `line`, if there was memory to make it. The result is `done` after all of it was written, otherwise
+/// `NoMemory` or `WriteFault`.
 pub fn print_line<O: Sink>(line: Result<Vec<u8>, NoMemory>, done: Status, out: &mut O) -> Status
     ensures printed { (text : List ℕ) → IfOk line (λ l. l.items ≡ text) →
         LinePrinted result done text (O.seen out.old) (O.seen out.new) }

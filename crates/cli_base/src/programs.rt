@@ -1,4 +1,4 @@
-// A file read as a program, for commands that read code but no tables.
+// Reading a file as a program, for commands that use its code but no tables.
 ghost use Rattle.std.specs.Prelude.{◌≤◌, length, IfErr, IfOk};
 ghost use Rattle.program.specs.Limits.{file_limit};
 ghost use Rattle.program.specs.Program.{program_seen};
@@ -9,8 +9,8 @@ use program::{Program, check_code, read_program};
 use rb_bytes::fault::Refusal;
 use std::alloc::Global;
 
-/// The program of a file of at most 64 MiB, or the fault for which it is none: one of 1 to 17, and then `TooLarge` at 2
-/// (`CODE_BYTES`) or 3 (`FUNCTIONS`).
+/// The program of a file of at most 64 MiB, or the fault for which it isn't one: one of 1 to 17, otherwise `TooLarge`
+/// at 2 (`CODE_BYTES`) or 3 (`FUNCTIONS`).
 pub fn file_program<'file>(alloc: Global, file: &'file [u8]) -> Result<Program<'file>, Refusal>
     requires { length file.now ≤ file_limit }
     ensures program { IfOk result (λ program. IsFileProgram file.now (program_seen program)) }

@@ -1,4 +1,4 @@
-// Files that are read whole.
+// Reading whole files.
 ghost use Rattle.std.specs.Prelude.{◌≡◌, ◌≤◌, length, IfOk, IfErr, IsTrue, OnOk, Some};
 ghost use Rattle.rb_io.specs.Names.{Unchanged};
 ghost use Rattle.rb_io.specs.Views.{FilesGoOn};
@@ -12,8 +12,8 @@ use rb_bytes::limit::FILE_BYTES;
 use rb_io::{Files, ReadAll, Sink};
 use std::alloc::Global;
 
-/// The content of a file, or None where it has more than `limit` bytes. The error is how the command ends: the file
-/// can't be read, or memory is wanting.
+/// The content of a file, or `None` if it has more than `limit` bytes. The error is the command's result: the file
+/// can't be read, or memory ran out.
 pub fn read_within<F: Files>(
     alloc: Global,
     name: &str,
@@ -36,7 +36,7 @@ pub fn read_within<F: Files>(
     }
 }
 
-/// The content of a file of at most `limit` bytes. The error is how the command ends. For a longer file the line that
+/// The content of a file of at most `limit` bytes. The error is the command's result. For a longer file the line that
 /// refuses it has been printed, or its printing failed.
 pub fn read_file<F: Files, O: Sink>(
     alloc: Global,

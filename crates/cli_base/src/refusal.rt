@@ -1,4 +1,4 @@
-// How a command ends by a refusal.
+// The result of a command that refuses a file.
 ghost use Rattle.std.specs.Prelude.{◌≤◌};
 ghost use Rattle.cli_base.specs.Printing.{Refuses};
 
@@ -9,7 +9,7 @@ use rb_bytes::fault::Refusal;
 use rb_io::Sink;
 use std::alloc::Global;
 
-/// Prints the line of a refusal, and says how the command ends.
+/// Prints the line of a refusal, and returns the command's result.
 pub fn refuse<O: Sink>(alloc: Global, refusal: Refusal, out: &mut O) -> Status
     ensures refused { Refuses refusal result (O.seen out.old) (O.seen out.new) }
     ensures never_falls { (O.seen out.old).faults ≤ (O.seen out.new).faults }

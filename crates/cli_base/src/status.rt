@@ -1,4 +1,4 @@
-// How a command ends.
+// Results of commands.
 ghost use Rattle.std.specs.Prelude.{◌≡◌};
 ghost use Rattle.cli_base.specs.Status.{exit_number, is_outcome};
 
@@ -7,18 +7,18 @@ use rb_bytes::fault::Fault;
 use rv_code::Cause;
 use sym_machine::Reason;
 
-/// How a command ended. The program exits with its number.
+/// The result of a command. The program exits with its number.
 #[derive(Clone, Copy, Debug)]
 pub enum Status {
-    /// The command was done whole.
+    /// The command was done completely.
     Ok,
-    /// The program that was run ended with this status. It may be any byte, also one of the numbers 220 to 228.
+    /// The program that was run ended with this status. The status can be any byte, even one of the numbers 220 to 228.
     Ended(u8),
     /// The arguments are no command.
     Usage,
-    /// A file is refused: why, and where.
+    /// A file is refused, for this fault.
     Refused(Fault),
-    /// A file, or input that a run asks for, could not be read.
+    /// A file, or the input of a run, could not be read.
     ReadFault,
     /// A file, a line, or the output of a run could not be written.
     WriteFault,
@@ -26,11 +26,11 @@ pub enum Status {
     NoMemory,
     /// The program that was run trapped, at this pc.
     Trapped(u64, Cause),
-    /// The program that was run goes on after as many steps as it was given.
+    /// The program that was run reached its limit of steps.
     OutOfSteps,
-    /// The symbol machine got stuck in the program that was run, at this pc.
+    /// The symbol machine is stuck in the program that was run, at this pc.
     Stuck(u64, Reason),
-    /// An output and a map are no faithful rewrite: the first clause that is false, at its lowest place.
+    /// An output and a map aren't a faithful rewrite: the first clause that is false, at its lowest place.
     Unfaithful(Clause, u64),
 }
 
@@ -54,7 +54,7 @@ impl Status {
         }
     }
 
-    /// Whether it says how a run came out, so that a closing line is printed.
+    /// Whether it is the result of a run, so that a closing line is printed.
     pub fn is_outcome(self) -> bool
         ensures { result ≡ is_outcome self }
     {

@@ -1,4 +1,4 @@
--- Lists made of the numbers from 0 on, one number more at a time.
+-- Lists that are made of the numbers from 0 on, one number at a time.
 use Rattle.std.proofs.Common.{◌≡◌, ◌∙◌, ◌<◌, ℕ, ◌+◌, Bool, true, length, get_or, take, List, [], ◌∷◌, ◌++◌, map, flat_map, refl, sym, ap}
 use Rattle.std.proofs.Common.{append_assoc, append-nil, zero-add}
 use Rattle.std.specs.Prelude.{cond}
@@ -22,13 +22,13 @@ pub flat_map-range_more : {X : Type 0} (f : ℕ → List X) (n : ℕ) →
 flat_map-range_more f n = ap (λ xs. flat_map f xs) (range_more n) ∙ flat_map-append f (range_with_len 0 n) (n ∷ [])
     ∙ ap (λ xs. flat_map f (range_with_len 0 n) ++ xs) (append-nil (f n))
 
--- the lines of one function more
+-- the lines of one more function
 pub lines_more : (n k : ℕ) (t0 t1 t2 : List ℕ) → t0 ≡ flat_map (function_lines n) (range_with_len 0 k) → t1 ≡ t0 ++ own_lines k →
     t2 ≡ t1 ++ call_line n k → t2 ≡ flat_map (function_lines n) (range_with_len 0 (k + 1))
 lines_more n k t0 t1 t2 e0 e1 e2 = e2 ∙ ap (λ t. t ++ call_line n k) e1 ∙ append_assoc t0 (own_lines k) (call_line n k)
     ∙ ap (λ t. t ++ function_lines n k) e0 ∙ sym (flat_map-range_more (function_lines n) k)
 
--- Loops that compare the items of a list with what is made of numbers.
+-- Loops that compare the items of a list with items that are made of numbers.
 
 pub same_more : {X : Type 0} (xs ys : List X) (i : ℕ) (d : X) → i < length xs → i < length ys → get_or xs i d ≡ get_or ys i d →
     take i xs ≡ take i ys → take (i + 1) xs ≡ take (i + 1) ys

@@ -1,4 +1,4 @@
--- That a file which was read has the code of a sample.
+-- A file that was read has the code of a sample.
 use Rattle.std.specs.Prelude.{◌≡◌, ℕ, List, map, filter}
 use Rattle.rv_code.specs.declared.cell.CodeCell.{CodeCell}
 use Rattle.rv_code.specs.declared.placed.Func.{Func}
@@ -14,7 +14,7 @@ func_shape f = record { start = f.start; end = f.end; insts = f.insts.items }
 abbrev pub symbol_shape : Symbol → SymbolShape
 symbol_shape s = record { name = s.name.now; value = s.value; size = s.size }
 
--- the functions that symbols name, in the order of the table
+-- the symbols that name functions, in the order of the table
 abbrev pub function_symbols : List Symbol → List SymbolShape
 function_symbols symbols = map symbol_shape (filter names_function symbols)
 

@@ -1,5 +1,5 @@
 -- The code of a sample: n functions, each of which calls the next one, and the code at the entry point, which calls the
--- first. Which addresses it names, and which symbols name it.
+-- first; the data fields with code addresses; and the symbols that name functions.
 use Rattle.std.specs.Prelude.{◌+◌, ◌*◌, ◌==◌, ◌++◌, ℕ, pos, negsuc, ◌-ℤ◌, Bool, List, [], ◌∷◌, map, if◌then◌else◌}
 use Rattle.std.specs.Prelude.{codes, decimal}
 use Rattle.std.specs.List.{range_with_len}
@@ -12,7 +12,7 @@ use Rattle.rv_code.specs.declared.placed.Role.TheVariants.{Plain, CallHi, CallLo
 use Rattle.rv_code.specs.declared.cell.CodeCell.{CodeCell}
 use Rattle.rv_code.specs.declared.cell.CellKind.TheVariants.{Abs}
 
--- where function k starts, and the entry point, behind n functions
+-- the start of function k; function_at n is the entry point, after n functions
 abbrev pub function_at : ℕ → ℕ
 function_at k = 0x11000 + 48 * k
 
@@ -29,14 +29,14 @@ call_high at to = placed at (Auipc 1 (hi20 (pos to -ℤ pos at))) (CallHi to)
 abbrev pub call_low : ℕ → ℕ → Placed
 call_low at to = placed (at + 4) (Jalr 1 1 (lo12 (pos to -ℤ pos at))) (CallLo at to)
 
--- The call of the next function, at an address. The last function has two instructions that do nothing instead.
+-- The first instruction of the call of the next function. The last function has two nops instead of the call.
 abbrev pub next_high : (is_last : Bool) → ℕ → ℕ → Placed
 next_high is_last at to = if is_last then plain at (Addi 0 0 (pos 0)) else call_high at to
 
 abbrev pub next_low : (is_last : Bool) → ℕ → ℕ → Placed
 next_low is_last at to = if is_last then plain (at + 4) (Addi 0 0 (pos 0)) else call_low at to
 
--- function k at an address a; the next function is at another
+-- the function at address a; the next function is at `next`
 abbrev pub function_insts : (is_last : Bool) → (a next : ℕ) → List Placed
 function_insts is_last a next =
     plain a (Addi 2 2 (negsuc 15))
@@ -63,7 +63,7 @@ start_insts a =
     ∷ plain (a + 0x10) Ecall
     ∷ []
 
--- a function as a file has it: its range, and its instructions
+-- a function of a file: its range, and its instructions
 pub record FuncShape : Type 0 where
   pub start : ℕ
   pub end : ℕ
@@ -79,7 +79,7 @@ function_shape n k = record {
 abbrev pub start_shape : ℕ → FuncShape
 start_shape n = record { start = function_at n; end = function_at n + 20; insts = start_insts (function_at n) }
 
--- function k, behind all of which is the code at the entry point
+-- function k; for k = n it is the code at the entry point, which comes after all functions
 abbrev pub sample_function : ℕ → ℕ → FuncShape
 sample_function n k = if k == n then start_shape n else function_shape n k
 
@@ -93,7 +93,7 @@ sample_cell k = record { addr = 0x800000 + 8 * k; width = 8; kind = Abs (functio
 abbrev pub sample_cells : ℕ → List CodeCell
 sample_cells n = map sample_cell (range_with_len 0 n)
 
--- the symbols of functions: name, value and size
+-- a function's symbol: name, value and size
 pub record SymbolShape : Type 0 where
   pub name : List ℕ
   pub value : ℕ
@@ -108,7 +108,7 @@ start_name = codes "_start"
 abbrev pub shape : List ℕ → ℕ → ℕ → SymbolShape
 shape name value size = record { name = name; value = value; size = size }
 
--- that of function k; number n, behind all functions, is that of the entry point
+-- the symbol of function k; for k = n it is the entry point's
 abbrev pub sample_symbol : ℕ → ℕ → SymbolShape
 sample_symbol n k = if k == n then shape start_name (function_at k) 20 else shape (function_name k) (function_at k) 48
 

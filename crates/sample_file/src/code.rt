@@ -1,4 +1,4 @@
-// The code of a sample: its instructions at their places, with the parts of addresses that they have.
+// The code of a sample: its instructions with their addresses, and the parts of addresses that they have.
 ghost use Rattle.std.specs.Prelude.{◌≡◌, ◌+◌, ◌-◌, ◌*◌, ◌<◌, ◌≤◌, ◌^◌, pos, ◌-ℤ◌, ◌≤ℤ◌};
 ghost use Rattle.rv_code.specs.isa.HiLo.{hi20, lo12};
 ghost use Rattle.sample_file.specs.SampleCode.{placed, plain, call_high, call_low, next_high, next_low, function_insts};
@@ -11,7 +11,7 @@ use rv_code::{Inst, Placed, RETURN_ADDRESS, Role, STACK_POINTER, Width, ZERO};
 use rv_encode::{Word, encode};
 use std::alloc::Global;
 
-// Registers by their names in calls. psABI, "Integer Register Convention".
+// Registers by their ABI names. psABI, "Integer Register Convention".
 const T0: u8 = 5;
 
 const A0: u8 = 10;
@@ -38,7 +38,7 @@ fn plain(addr: u64, inst: Inst) -> Placed
     placed(addr, inst, Role::Plain)
 }
 
-// How far `to` is from `from`.
+// The distance of `to` from `from`.
 fn distance(to: u64, from: u64) -> i64
     requires to_low { to < 2 ^ 62 }
     requires from_low { from < 2 ^ 62 }
@@ -47,7 +47,7 @@ fn distance(to: u64, from: u64) -> i64
     to as i64 - from as i64
 }
 
-// The upper part of a number, rounded so that the lower part fits 12 bits with its sign.
+// The upper part of a number, rounded so that the lower part fits in 12 bits with a sign.
 fn upper(v: i64) -> i64
     requires { v ≤ℤ pos (2 ^ 62) }
     ensures { result ≡ hi20 v }
@@ -55,7 +55,7 @@ fn upper(v: i64) -> i64
     (v + 0x800) >> 12
 }
 
-// The lower part of a number: what its upper part lacks.
+// The lower part of a number: the number minus its upper part.
 fn lower(v: i64) -> i64
     requires low { (pos 0 -ℤ pos (2 ^ 62)) ≤ℤ v }
     requires high { v ≤ℤ pos (2 ^ 62) }
@@ -78,7 +78,7 @@ fn call_high(at: u64, to: u64) -> Placed
     placed(at, inst, Role::CallHi { target: to })
 }
 
-// The JALR behind the AUIPC at `at`.
+// The JALR after the AUIPC at `at`.
 fn call_low(at: u64, to: u64) -> Placed
     requires at_low { at < 2 ^ 62 }
     requires to_low { to < 2 ^ 62 }
@@ -99,8 +99,8 @@ const NOP: Inst = Inst::Addi {
     imm: 0,
 };
 
-// `next_high` and `next_low` are the two instructions that call the function at `to`, in the last function two nops.
-// Both are given `at`, where the first of them stands.
+// `next_high` and `next_low` are the two instructions that call the function at `to`; in the last function they are two
+// nops. `at` is the address of the first one for both calls.
 fn next_high(is_last: bool, at: u64, to: u64) -> Placed
     requires at_low { at < 2 ^ 62 }
     requires to_low { to < 2 ^ 62 }
@@ -131,7 +131,7 @@ fn addi(rd: u8, rs1: u8, imm: i64) -> Inst
     Inst::Addi { rd, rs1, imm }
 }
 
-// Sets T0 to 1 where the argument is odd, and else to 0.
+// Sets T0 to 1 if the argument is odd, otherwise to 0.
 fn is_odd() -> Inst
     ensures { result ≡ Inst.Andi 5 10 (pos 1) }
 {
@@ -142,7 +142,7 @@ fn is_odd() -> Inst
     }
 }
 
-// Passes over the two instructions for odd numbers, to 12 bytes from itself.
+// Skips the two instructions for odd numbers: the target is 12 bytes after the branch.
 fn skip_if_even() -> Inst
     ensures { result ≡ Inst.Beq 5 0 (pos 12) }
 {
@@ -183,7 +183,7 @@ fn ret() -> Inst
     }
 }
 
-/// A function at an address `a`, which calls the one at `next` unless it is the last one.
+/// The function at address `a`, which calls the one at `next` unless it is the last one.
 pub fn function_insts(is_last: bool, a: u64, next: u64) -> [Placed; 12]
     requires a_low { a < 2 ^ 32 }
     requires next_low { next < 2 ^ 32 }
@@ -205,7 +205,7 @@ pub fn function_insts(is_last: bool, a: u64, next: u64) -> [Placed; 12]
     ]
 }
 
-/// The code at the entry point, which calls the first function and exits with its answer.
+/// The code at the entry point, which calls the first function and exits with its result.
 pub fn start_insts(a: u64) -> [Placed; 5]
     requires { a < 2 ^ 32 }
     ensures { result ≡ start_insts a }
@@ -219,12 +219,12 @@ pub fn start_insts(a: u64) -> [Placed; 5]
     ]
 }
 
-// Appends the words of instructions.
+// Appends the bytes of instructions.
 fn put_insts(code: &mut Vec<u8>, insts: &[Placed]) -> Result<(), NoMemory> {
     for placed in insts {
         match encode(&placed.inst, Width::Full) {
             Some(Word::Full(word)) => put_u32(code, word)?,
-            // Not reached: each instruction of a sample has a word of four bytes.
+            // Unreachable: each instruction of a sample has an encoding of four bytes.
             _ => return Err(NoMemory),
         }
     }

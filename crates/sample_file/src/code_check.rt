@@ -1,5 +1,5 @@
-// Whether a file that was read has the code of a sample. Sample `n` has `n` functions, with the numbers `k` from 0 on,
-// and behind them the code at the entry point, which counts as number `n`.
+// Whether a file that was read has the code of a sample. Sample `n` has `n` functions, with the numbers `k` from 0 on;
+// the code at the entry point comes after them, and counts as number `n`.
 ghost use Rattle.std.specs.Prelude.{◌≡◌, ◌+◌, ◌≤◌, ◌<◌, ℕ, IsTrue, IfOk, map, filter};
 ghost use Rattle.elf_image.specs.file.Cuts.{names_function};
 ghost use Rattle.sample_file.specs.SampleCode.{function_shape, start_shape, sample_function, sample_functions};
@@ -133,7 +133,8 @@ fn are_symbols(alloc: Global, symbols: &[Symbol<'_>], n: u64) -> Result<bool, No
     Ok(k == n + 1)
 }
 
-/// Whether a file has the code of sample `n`. `funcs` and `cells` are the functions and the data fields found in it.
+/// Whether a file has the code of sample `n`. `funcs` and `cells` are the file's functions and data fields with code
+/// addresses.
 pub fn has_sample_code(
     alloc: Global,
     elf: &Elf<'_>,

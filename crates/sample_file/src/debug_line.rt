@@ -10,31 +10,31 @@ use table_core::DWARF_VERSION;
 // The size of addresses, and of segment selectors.
 const SIZES: &[u8] = b"\x08\0";
 
-// The header's fields behind its length: `minimum_instruction_length` and `maximum_operations_per_instruction` 1,
-// `default_is_stmt` true, `line_base` -5, `line_range` 14, `opcode_base` 13, and how many operands each of the 12
-// standard operations has. Section 6.2.4.
+// The header's fields after its length: `minimum_instruction_length` and `maximum_operations_per_instruction` 1,
+// `default_is_stmt` true, `line_base` -5, `line_range` 14, `opcode_base` 13, and the number of operands of each of the
+// 12 standard opcodes. Section 6.2.4.
 const FIELDS: &[u8] = b"\x01\x01\x01\xfb\x0e\x0d\0\x01\x01\x01\x01\0\0\0\x01\0\0\x01";
 
-// The directory `/s`, and one file in it twice, each time by its name and the directory's number: rows begin with the
-// file of number 1, and that of number 0 is the unit's own.
+// The directory `/s`, and one file in it twice, each time by its name and the directory's number: rows begin with file
+// 1, and file 0 is the unit's own.
 const NAMES: &[u8] = b"\x01\x01\x08\x01/s\0\x02\x01\x08\x02\x0b\x02sample.c\0\0sample.c\0\0";
 
-// The operations of a program that append a row, advance the address, and advance the line.
+// The opcodes that append a row, advance the address, and advance the line.
 const DW_LNS_copy: u8 = 1;
 
 const DW_LNS_advance_pc: u8 = 2;
 
 const DW_LNS_advance_line: u8 = 3;
 
-// The operations that set the address, and that end the sequence, each behind a zero and its length.
+// The extended opcodes that set the address, and that end the sequence, each after a zero and its length.
 const SET_ADDRESS: &[u8] = b"\0\x09\x02";
 
 const END_SEQUENCE: &[u8] = b"\0\x01\x01";
 
-// Where the rows of a function stand in it, by bytes from its start. Each has one line more than the one before it.
+// The offsets of a function's rows. Each row has the line number of the one before it plus 1.
 const ROWS: [u64; 4] = [0, 0x10, 0x18, 0x1c];
 
-// How far the first line of a function is behind the last one of the function before it.
+// The difference between the first line of a function and the last line of the function before it.
 const LINES_BETWEEN: i64 = 7;
 
 fn put_advance(program: &mut Vec<u8>, by: u64) -> Result<(), NoMemory> {
@@ -51,8 +51,8 @@ fn put_row(program: &mut Vec<u8>, lines: i64) -> Result<(), NoMemory> {
     Ok(())
 }
 
-// Appends the rows of a function. Before, the program stands at the first byte of the first function (`is_first`), or
-// at the last row of the function before this one.
+// Appends the rows of a function. Before this, the program's address is the first byte of the first function
+// (`is_first`), or the last row of the function before this one.
 fn put_rows(program: &mut Vec<u8>, is_first: bool) -> Result<(), NoMemory> {
     if is_first {
         program.push(DW_LNS_copy)?;

@@ -1,4 +1,4 @@
-// A sample's file, of its parts. gABI, "ELF Header" and "Program Header".
+// Putting a sample's file together. gABI, "ELF Header" and "Program Header".
 ghost use Rattle.std.specs.Prelude.{◌≤◌};
 
 use crate::code::code;
@@ -21,7 +21,8 @@ use std::alloc::Global;
 // The flag of a section that may be written. gABI, "Section Attribute Flags".
 const SHF_WRITE: u64 = 1;
 
-// The indices of sections to which others refer, beside that of the code: pointers, the symbol table and its names.
+// The indices of sections to which other sections refer, in addition to the code: pointers, the symbol table and its
+// names.
 const POINTERS: u32 = 4;
 
 const SYMBOLS: u32 = 10;
@@ -30,13 +31,13 @@ const SYMBOL_NAMES: u32 = 11;
 
 const SECTION_NAMES: u16 = 12;
 
-/// How many section headers a sample has.
+/// The number of section headers of a sample.
 pub const SECTION_COUNT: u16 = 13;
 
-/// How many program headers a sample has.
+/// The number of program headers of a sample.
 pub const SEGMENT_COUNT: u16 = 3;
 
-// How many bytes the headers in front have: the file's, and those of the segments.
+// The sizes of the headers at the start: the file's header, and the program headers.
 const FILE_HEADER: u64 = EHDR_SIZE as u64;
 
 const FRONT: u64 = FILE_HEADER + SEGMENT_COUNT as u64 * PHDR_SIZE as u64;
@@ -44,7 +45,7 @@ const FRONT: u64 = FILE_HEADER + SEGMENT_COUNT as u64 * PHDR_SIZE as u64;
 // The alignment of segments.
 const PAGE: u64 = 0x1000;
 
-// What is loaded: the code, the unwind table and its index one behind another, and the pointers in a segment of their
+// The loaded parts: the code, the unwind table and its index in one segment, and the pointers in a segment of their
 // own.
 #[derive(Drop)]
 struct Memory {
@@ -57,20 +58,20 @@ struct Memory {
 }
 
 impl Memory {
-    // How many bytes of the file the executable segment has.
+    // The size of the executable segment in the file.
     fn code_size(&self) -> u64 {
         self.index_at
             .saturating_add(self.index.len() as u64)
             .saturating_sub(BASE)
     }
 
-    // Where the writable segment stands in the file.
+    // The offset of the writable segment in the file.
     fn data_offset(&self) -> u64 {
         round_up(self.code_size(), PAGE)
     }
 }
 
-// Makes all that is loaded, and says where it is.
+// Makes all loaded parts, with their addresses.
 fn load(alloc: Global, n: u64) -> Result<Memory, NoMemory>
     requires { n ≤ 1000 }
 {
@@ -90,7 +91,7 @@ fn load(alloc: Global, n: u64) -> Result<Memory, NoMemory>
     })
 }
 
-// Adds what is loaded. A byte stands as far from the file's beginning as from the segment's start.
+// Adds the loaded sections. A byte has the same offset in the file as in its segment.
 fn add_loaded(sections: &mut Sections, x: &Memory) -> Result<(), NoMemory> {
     sections.fill(CODE - BASE)?;
     sections.add(
@@ -133,7 +134,7 @@ fn add_symbols(sections: &mut Sections, alloc: Global, n: u64) -> Result<(), NoM
     sections.add(b".strtab", unloaded(SHT_STRTAB), &symbols.names)
 }
 
-// A segment that comes whole from the file.
+// A segment all of whose bytes are in the file.
 fn whole_segment(
     kind: u32,
     flags: u32,
@@ -154,7 +155,7 @@ fn whole_segment(
     }
 }
 
-// The code, the pointers, and the index of the unwind table.
+// The segments of the code, of the pointers, and of the index of the unwind table.
 fn segments(x: &Memory) -> [Segment; 3] {
     let index_offset = x.index_at.saturating_sub(BASE);
     let index_size = x.index.len() as u64;
@@ -176,10 +177,10 @@ fn segments(x: &Memory) -> [Segment; 3] {
 // The version of the format.
 const EV_CURRENT: u32 = 1;
 
-// Appends the file's header. `sections_at` is where the section headers stand.
+// Appends the file's header. `sections_at` is the offset of the section headers.
 fn put_file_header(file: &mut Vec<u8>, entry: u64, sections_at: u64) -> Result<(), NoMemory> {
     file.extend_from_slice(IDENTIFICATION)?;
-    // `EI_OSABI` and `EI_ABIVERSION`, which are none, and zeros up to `EI_NIDENT`.
+    // `EI_OSABI` and `EI_ABIVERSION` are 0, and so is the padding up to `EI_NIDENT`.
     file.extend_from_slice(&[0; 9])?;
     put_u16(file, ET_EXEC)?;
     put_u16(file, EM_RISCV)?;
@@ -192,7 +193,7 @@ fn put_file_header(file: &mut Vec<u8>, entry: u64, sections_at: u64) -> Result<(
     put_sizes(file)
 }
 
-// Appends the sizes and counts of headers, with which the file's header ends.
+// Appends the sizes and counts of headers, which are the end of the file's header.
 fn put_sizes(file: &mut Vec<u8>) -> Result<(), NoMemory> {
     put_u16(file, EHDR_SIZE as u16)?;
     put_u16(file, PHDR_SIZE as u16)?;

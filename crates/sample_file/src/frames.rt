@@ -7,16 +7,16 @@ use rb_bytes::fault::NoMemory;
 use rb_bytes::little::put_u32;
 use std::alloc::Global;
 
-// The common entry: its length, id 0, version 1, the augmentation, code and data alignment, the return register, the
-// encoding of addresses (relative, in four bytes), and that the frame address is the stack pointer.
+// The CIE: its length, id 0, version 1, the augmentation, code and data alignment, the return register, the encoding of
+// addresses (relative, in four bytes), and the rule that the canonical frame address is the stack pointer.
 const COMMON: &[u8] = b"\x14\0\0\0\0\0\0\0\x01zR\0\x01\x78\x01\x01\x1b\x0c\x02\0\0\0\0\0";
 
-// The operations of a function: behind its first instruction the frame has 16 bytes, and behind the second the return
-// address stands in it; that ends before the last instruction but one, and the frame before the last. Four nops fill
-// the entry up.
+// The call frame instructions of a function: after its first instruction the frame has 16 bytes, and after the second
+// one the return address is saved in it. The return address is restored before the last instruction but one, and the
+// frame removed before the last one. Four nops are padding.
 const OPERATIONS: &[u8] = b"\x44\x0e\x10\x44\x81\x01\x60\xc1\x44\x0e\0\0\0\0\0";
 
-// The bytes of a function's entry, and those behind its length.
+// The size of a function's FDE, and its size without the length field.
 const ENTRY_SIZE: u64 = 32;
 
 const ENTRY_LENGTH: u32 = 28;
@@ -25,7 +25,7 @@ const ENTRY_LENGTH: u32 = 28;
 // (four bytes) and of the entries (relative to the index).
 const INDEX_FRONT: &[u8] = b"\x01\x1b\x03\x3b";
 
-// Where the entry of function `k` stands in the table.
+// The offset of the FDE of function `k` in the table.
 fn entry_place(k: u64) -> u64
     requires { k ≤ 1000 }
 {

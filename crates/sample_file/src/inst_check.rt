@@ -1,4 +1,4 @@
-// Whether instructions are the same.
+// Comparing instructions.
 ghost use Rattle.std.specs.Prelude.{◌≡◌, IsTrue};
 
 use rv_code::{Placed, Role};
@@ -16,7 +16,7 @@ fn same_placed(x: &Placed, y: &Placed) -> bool
     x.addr == y.addr && x.len == y.len && is_same(&x.inst, &y.inst) && same_role(&x.role, &y.role)
 }
 
-/// Whether two lists have the same instructions at the same places.
+/// Whether two lists have the same instructions at the same addresses.
 pub fn same_insts(xs: &[Placed], ys: &[Placed]) -> bool
     ensures { IsTrue result → xs.now ≡ ys.now }
 {

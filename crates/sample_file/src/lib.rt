@@ -1,4 +1,4 @@
-//! The files of sample programs and their profiles, and whether the code that was read of a file is that of one.
+//! The files of sample programs and their profiles, and whether the code that was read of a file is a sample's.
 #![tactic(auto)]
 
 mod code;

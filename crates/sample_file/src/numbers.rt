@@ -1,4 +1,4 @@
-// Numbers that are appended to a table, the lowest byte first, and texts.
+// Appending little-endian numbers and texts to a table.
 use rb_bytes::fault::NoMemory;
 use rb_bytes::little::put_u32;
 
@@ -7,7 +7,7 @@ pub fn low(n: u64) -> u32 {
     (n % (1 << 32)) as u32
 }
 
-/// Appends how far `to` is from `from`, in 32 bits.
+/// Appends the distance of `to` from `from`, in 32 bits.
 pub fn put_distance(out: &mut Vec<u8>, to: u64, from: u64) -> Result<(), NoMemory> {
     put_u32(out, low(to.wrapping_sub(from)))
 }
@@ -19,7 +19,7 @@ pub fn put_text(out: &mut Vec<u8>, text: &[u8]) -> Result<(), NoMemory> {
     Ok(())
 }
 
-/// Appends bytes behind their length, in 32 bits.
+/// Appends the length of `bytes` in 32 bits, and then `bytes`.
 pub fn put_unit(out: &mut Vec<u8>, bytes: &[u8]) -> Result<(), NoMemory> {
     put_u32(out, low(bytes.len() as u64))?;
     out.extend_from_slice(bytes)?;

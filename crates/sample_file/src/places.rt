@@ -1,23 +1,23 @@
-// Where the parts of a sample are loaded, and how large they are.
+// The addresses of a sample's parts, and their sizes.
 ghost use Rattle.std.specs.Prelude.{◌≡◌, ◌≤◌};
 ghost use Rattle.sample_file.specs.SampleCode.{function_at};
 
-/// Where the executable segment starts.
+/// The start of the executable segment.
 pub const BASE: u64 = 0x10000;
 
-/// Where the code starts.
+/// The start of the code.
 pub const CODE: u64 = 0x11000;
 
-/// Where the writable segment starts.
+/// The start of the writable segment.
 pub const DATA: u64 = 0x800000;
 
-/// The bytes of a function's code.
+/// The size of a function's code in bytes.
 pub const FUNCTION_SIZE: u64 = 48;
 
-/// The bytes of the code at the entry point.
+/// The size of the code at the entry point in bytes.
 pub const START_SIZE: u64 = 20;
 
-/// Where function `k` starts. Behind the last one is the entry point.
+/// The start of function `k`. The entry point comes after the last function.
 pub fn function_at(k: u64) -> u64
     requires { k ≤ 1000 }
     ensures { result ≡ function_at k }
@@ -25,7 +25,7 @@ pub fn function_at(k: u64) -> u64
     CODE + FUNCTION_SIZE * k
 }
 
-/// The first multiple of `align` at or above `n`, or `n` itself where there is none below 2^64.
+/// The least multiple of `align` that is at least `n`, or `n` if there is none below 2^64.
 pub fn round_up(n: u64, align: u64) -> u64 {
     n.checked_next_multiple_of(align).unwrap_or(n)
 }

@@ -20,8 +20,8 @@ pub fn function_name(alloc: Global, k: u64) -> Result<Vec<u8>, NoMemory>
     Ok(name)
 }
 
-// Appends a line of count 1, from `at` in the function `from` to `there` in the function `to`; both offsets are
-// hexadecimal.
+// Appends a line with count 1, from the offset `at` in the function `from` to the offset `there` in the function `to`;
+// both offsets are hexadecimal.
 fn put_edge(
     text: &mut Vec<u8>,
     from: &[u8],
@@ -43,8 +43,8 @@ fn put_edge(
     Ok(())
 }
 
-// Appends the edges in function `k`. The first function gets 0, and each adds an odd number, so those with an even `k`
-// get even numbers.
+// Appends the edges in function `k`. The first function gets 0, and each adds an odd number, so functions with an even
+// `k` get even numbers.
 fn put_own_lines(text: &mut Vec<u8>, name: &[u8], k: u64) -> Result<(), NoMemory>
     requires { name.now ≡ function_name k }
     ensures { OnOk result (text.new.items ≡ text.old.items ++ own_lines k) }
@@ -59,7 +59,7 @@ fn put_own_lines(text: &mut Vec<u8>, name: &[u8], k: u64) -> Result<(), NoMemory
     Ok(())
 }
 
-// Appends the call of the next function by function `k`, which the last of `n` hasn't.
+// Appends the edge from function `k` to the next function, unless `k` is the last of `n`.
 fn put_call_line(
     text: &mut Vec<u8>,
     alloc: Global,

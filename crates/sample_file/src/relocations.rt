@@ -1,4 +1,4 @@
-// The relocations of a sample: those of its calls, and those of its pointers. psABI, "Relocations".
+// The relocations of a sample: of its calls, and of its pointers. psABI, "Relocations".
 ghost use Rattle.std.specs.Prelude.{◌≤◌};
 
 use crate::places::{DATA, function_at};
@@ -7,12 +7,12 @@ use rb_bytes::fault::NoMemory;
 use rb_bytes::little::put_u64;
 use std::alloc::Global;
 
-// How far behind its start a function calls the next one, and the code at the entry point the first.
+// The offset of a function's call of the next one, and the offset of the entry code's call of the first function.
 const CALL: u64 = 0x1c;
 
 const START_CALL: u64 = 4;
 
-// Appends a relocation of the symbol of function `k`, which is `k` + 1, behind the null symbol.
+// Appends a relocation for the symbol of function `k`, whose index is `k` + 1, after the null symbol.
 fn put_relocation(table: &mut Vec<u8>, place: u64, k: u64, kind: u32) -> Result<(), NoMemory>
     requires { k ≤ 1000 }
 {
@@ -44,7 +44,7 @@ pub fn pointers(alloc: Global, n: u64) -> Result<Vec<u8>, NoMemory>
     Ok(table)
 }
 
-/// The pointers themselves, one to each of `n` functions.
+/// The pointers, one to each of `n` functions.
 pub fn data(alloc: Global, n: u64) -> Result<Vec<u8>, NoMemory>
     requires { n ≤ 1000 }
 {

@@ -1,4 +1,4 @@
-// The sections of a sample: their contents one behind another, and then their headers. gABI, "Section Header".
+// The sections of a sample: their contents one after another, and then their headers. gABI, "Section Header".
 use crate::numbers::{low, put_text};
 use crate::places::round_up;
 use elf_image::SectionHeader;
@@ -13,10 +13,10 @@ use std::alloc::Global;
 /// The index of the section with the code.
 pub const TEXT: u16 = 1;
 
-// The flag of relocations: the header's `info` is the index of the section that they change.
+// The flag of relocations: the header's `info` is the index of the section to which they apply.
 const SHF_INFO_LINK: u64 = 0x40;
 
-/// The header of a section that isn't loaded. Its name, place and size come with its contents.
+/// The header of a section that isn't loaded. Its name, offset and size are set together with its contents.
 pub fn unloaded(kind: u32) -> SectionHeader {
     SectionHeader {
         name: 0,
@@ -42,7 +42,7 @@ pub fn loaded(flags: u64, addr: u64, align: u64) -> SectionHeader {
     }
 }
 
-/// The header of relocations that change the section of index `section`. `symbols` is the index of the symbol table.
+/// The header of relocations of the section with index `section`. `symbols` is the index of the symbol table.
 pub fn relocations(symbols: u32, section: u32) -> SectionHeader {
     SectionHeader {
         flags: SHF_INFO_LINK,
@@ -54,7 +54,8 @@ pub fn relocations(symbols: u32, section: u32) -> SectionHeader {
     }
 }
 
-/// The header of a symbol table whose names are in the section of index `names`. All but the null symbol are global.
+/// The header of a symbol table whose names are in the section with index `names`. All symbols except the null symbol
+/// are global.
 pub fn symbol_table(names: u32) -> SectionHeader {
     SectionHeader {
         link: names,
@@ -65,18 +66,18 @@ pub fn symbol_table(names: u32) -> SectionHeader {
     }
 }
 
-/// The sections of a file whose headers in front take `front` bytes.
+/// The sections of a file whose headers at the start take `front` bytes.
 #[derive(Drop)]
 pub struct Sections {
     front: u64,
-    /// The bytes of the file behind the headers in front.
+    /// The bytes of the file after the headers at the start.
     pub bytes: Vec<u8>,
     names: Vec<u8>,
     headers: Vec<SectionHeader>,
 }
 
 impl Sections {
-    /// No section but the null one.
+    /// Only the null section.
     pub fn new(alloc: Global, front: u64) -> Result<Sections, NoMemory> {
         let mut names = Vec::new(alloc);
         names.push(0)?;
@@ -107,8 +108,8 @@ impl Sections {
         Ok(())
     }
 
-    // Appends `header`, with its name and its place and size in the file. The contents, of `size` bytes, begin at the
-    // end of the file.
+    // Appends `header`, with its name, and its offset and size in the file. The contents, of `size` bytes, begin at the
+    // current end of the file.
     fn add_header(
         &mut self,
         name: &[u8],
@@ -125,7 +126,7 @@ impl Sections {
         put_text(&mut self.names, name)
     }
 
-    /// Adds a section with the contents `bytes`, at a multiple of the header's alignment. The header's name, place and
+    /// Adds a section with the contents `bytes`, at a multiple of the header's alignment. The header's name, offset and
     /// size are set.
     pub fn add(
         &mut self,
@@ -139,8 +140,8 @@ impl Sections {
         Ok(())
     }
 
-    /// Adds the section of the sections' names, with its own `name` among them, and then the headers. Answers where the
-    /// headers begin.
+    /// Adds the section of section names, which includes its own `name`, and then the headers. Returns the offset of
+    /// the headers.
     pub fn close(&mut self, name: &[u8]) -> Result<u64, NoMemory> {
         let size = self
             .names

@@ -1,4 +1,4 @@
--- No table of a file with few functions and entries weighs too much, under whichever valid map it is carried.
+-- No table of a file with few functions and entries weighs too much, for any valid map.
 use Rattle.std.proofs.Common.{◌≡◌, ◌≤◌, ◌<◌, ◌+◌, ◌*◌, ℕ, List, [], length, Option, Some, IsTrue, IfSome, subst, arith}
 use Rattle.std.specs.Prelude.{Contains}
 use Rattle.std.proofs.lemmas.List.Concat.{length-flat_map}
@@ -66,7 +66,7 @@ module _ (elf : Elf) (funcs : List Func) (light : AreLightTables elf funcs) wher
         let l = few in
         omega (arith, w, l, over)
 
-    -- without a part that depends on the answer
+    -- the weight without the part that depends on the answer
     plain : {A : Type 0} (at : ℕ → Option A) (n : ℕ) → IsWeightOf (λ _. 0) (carried at spans) n → n ≤ 384384
     plain {A = A} at n is =
         let w = weight_within at (λ (x : A). 0) 32 spans map.disjoint (λ s c x e. omega arith) n is in

@@ -34,7 +34,7 @@ no_sum w (x ∷ xs) zeros =
     let rest = no_sum w xs (λ y c. zeros y (Contains-there x xs y c)) in
     omega (arith, e, here, rest)
 
--- a sum of weights of which each is within a bound
+-- a sum of weights, each of which is within a bound
 pub sum_within : {X : Type 0} (Weighs : X → ℕ → Type 0) (most : ℕ) (xs : List X) →
     ((x : X) → Contains xs x → (n : ℕ) → Weighs x n → n ≤ most) → (n : ℕ) → IsSumOf Weighs xs n → n ≤ most * length xs
 sum_within Weighs most [] within n none = omega arith
@@ -95,7 +95,7 @@ module _ (s : Sections) (listless : All (λ (e : ListedEntry). All (λ a. IsTrue
       ap (λ (attrs : List Attr). distinct (filter_map (list_offset locations_kind section u) attrs))
       (filter_none (has_list locations_kind) (flat_map (λ (e : Entry). e.attrs) u.entries) (no_list u is_in))
 
--- As many entries are asked for their ranges as there are.
+-- The number of entries whose ranges are asked for is the number of entries.
 
 same_lengths : {X Y Z : Type 0} (f : X → List Y) (g : X → List Z) → ((x : X) → length (f x) ≡ length (g x)) → (xs : List X) →
     length (flat_map f xs) ≡ length (flat_map g xs)

@@ -1,4 +1,4 @@
--- Names don't weigh too much where there are few functions, and the names of symbols are short.
+-- Names don't weigh too much if there are few functions, and the names of symbols are short.
 use Rattle.std.proofs.Common.{◌≡◌, ◌≤◌, ◌+◌, ◌*◌, ◌-◌, ◌^◌, ℕ, List, [], All, Option, Some, None, length, sum_by, min, refl, arith}
 use Rattle.std.specs.Prelude.{◌&&◌, ◌==◌, option_and_then}
 use Rattle.std.specs.Option.{option_map_or}

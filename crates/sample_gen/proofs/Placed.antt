@@ -1,4 +1,4 @@
--- Code can be placed that is near itself wherever it is put, and of which no function moves as one piece.
+-- Code can be placed if it is near itself in any layout, and none of its functions moves as one piece.
 use Rattle.std.proofs.Common.{◌≡◌, ◌≤◌, ◌<◌, ◌+◌, ◌-◌, ℕ, Bool, true, false, IsTrue, List, [], ◌∷◌, All, arith, ap, subst}
 use Rattle.std.proofs.Common.{length, take, get_or, ◌&&◌, if◌then◌else◌, ◌==◌}
 use Rattle.std.specs.Prelude.{slice_index}
@@ -13,7 +13,7 @@ use Rattle.rv_code.specs.layout.WorstSizes.{near_limit, worst_size_of_block}
 use Rattle.func_place.specs.Faults.{HasPlacementFault, IsKeptBranch}
 use Rattle.func_place.specs.Units.{unit_size}
 
--- What is left of the limit, after the blocks before an index: after one block more, and after all of them.
+-- The rest of the limit after the blocks before an index: after one more block, and after all of them.
 module _ (w : Block → ℕ) (blocks : List Block) (i room : ℕ) (left : room + sum_by w (take i blocks) ≡ near_limit) where
   pub left_after : (size : ℕ) (d : Block) → i < length blocks → size ≡ w (get_or blocks i d) → size ≤ room →
       room - size + sum_by w (take (i + 1) blocks) ≡ near_limit
@@ -22,7 +22,7 @@ module _ (w : Block → ℕ) (blocks : List Block) (i room : ℕ) (left : room +
   pub all_fit : length blocks ≤ i → sum_by w blocks ≤ near_limit
   all_fit past = let whole = ap (λ (bs : List Block). sum_by w bs) (take_all i blocks past) in omega (arith, whole, left)
 
--- the sum over some isn't above that over all
+-- the sum over some items is at most the sum over all
 sum_of_some : {X : Type 0} (t : X → Bool) (w : X → ℕ) (xs : List X) →
     sum_by (λ x. if t x then w x else 0) xs ≤ sum_by w xs
 sum_of_some t w [] = omega arith

@@ -1,5 +1,5 @@
--- What tables weigh under a valid map is bounded by how many instructions the map is of: no two runs begin at one span, and no two
--- spans are of one instruction.
+-- The weight of tables under a valid map is bounded by the number of instructions of the map: no two runs begin at one span, and no two
+-- spans belong to one instruction.
 use Rattle.std.proofs.Common.{◌≡◌, ◌≢◌, ◌∙◌, ◌≤◌, ◌+◌, ◌*◌, ◌==◌, ℕ, true, List, [], ◌∷◌, All, length, sum_by}
 use Rattle.std.proofs.Common.{Option, Some, None, IsTrue, sym, subst, refl, arith}
 use Rattle.std.specs.Prelude.{AllPairs, Contains, find, is_some}
@@ -56,7 +56,7 @@ module _ (funcs : List Func) (spans : List Span) (only : All (λ s. IsTrue (is_c
       let right = sum_same 1 (insts_of funcs) in
       omega (arith, all, left, right)
 
--- A table, of whose answers at the instructions of a map each weighs no more than so much.
+-- A table whose answers at the instructions of a map each weigh at most `most`.
 module _ {A : Type 0} (at : ℕ → Option A) (weight : A → ℕ) (most : ℕ) (spans : List Span) (disjoint : AllPairs ShareNoByte spans)
     (light : (s : Span) → Contains spans s → (x : A) → at s.input ≡ Some x → run_weight + weight x ≤ most) where
   abbrev Begins : Run A → Span → Type 0

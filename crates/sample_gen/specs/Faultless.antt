@@ -1,4 +1,4 @@
--- That nothing keeps a program from being rewritten.
+-- A program has no fault for which a rewrite would refuse it.
 use Rattle.std.specs.Prelude.{◌≡◌, ◌≤◌, ℕ, IsTrue, List, None, length}
 use Rattle.rb_bytes.specs.FirstFault.{IsFree}
 use Rattle.rv_code.specs.layout.ProgramCode.{IsNamed, is_code_address}
@@ -19,22 +19,21 @@ use Rattle.table_set.specs.TableLimits.{IsTooHeavy}
 abbrev pub IsCodeMap : Program → List Span → Type 0
 IsCodeMap x = IsMap (λ a. IsTrue (is_code_address x.code.funcs a)) (IsNamed x.code)
 
--- No fault is present for which a rewrite looks.
+-- None of the faults of a rewrite is present.
 pub record HasNoFault (file profile : List ℕ) (x : Program) : Type 0 where
-  -- the file can be read, and its code
+  -- the file and its code can be read
   pub read : IsProgramOf file x
   pub profile_fits : length profile ≤ file_limit
-  -- its code can be placed, and its tables carried
+  -- the code can be placed, and the tables carried
   pub placed : IsFree (HasPlacementFault x.code.funcs x.blocks)
   pub unregistered : (place : ℕ) → IsRegisteredFrames x.elf place → ⊥
   pub tables : IsFree (HasTableFault x.elf)
-  -- there is room, and neither code nor headers pass a limit
+  -- there is room, and neither code nor headers exceed a limit
   pub room : no_program_room x ≡ None
   pub code_fits : (place : ℕ) → IsCodeTooLarge file x.code.funcs place → ⊥
   pub sections : e_shnum file ≡ 13
   pub segments : e_phnum file ≡ 3
-  -- Names don't weigh too much, whichever functions get a cold part that stands apart, given by its address; nor do
-  -- tables, under whichever map they are carried.
+  -- Names don't weigh too much, for any list of cold parts that get a name; nor do tables, for any valid map.
   pub names_fit : (cold : List ℕ) → length cold ≤ length x.code.funcs →
       name_weight x.elf x.code.funcs cold ≤ weight_limit
   pub tables_fit : (spans : List Span) → IsCodeMap x spans → IsTooHeavy x.elf spans → ⊥

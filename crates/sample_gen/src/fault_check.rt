@@ -1,4 +1,4 @@
-// Whether a program can be rewritten: that no fault keeps it from that.
+// Whether a program has no fault for which a rewrite would refuse it.
 ghost use Rattle.std.specs.Prelude.{◌≡◌, ◌≤◌, ℕ, All, IsTrue, IfOk, OnOk, false, length, sum_by};
 ghost use Rattle.rb_bytes.specs.FirstFault.{IsFree};
 ghost use Rattle.rv_code.specs.layout.WorstSizes as worst;
@@ -21,7 +21,7 @@ use sample_file::file::{SECTION_COUNT, SEGMENT_COUNT};
 use std::alloc::Global;
 use table_set::read_all;
 
-// Whether a jump reaches from anywhere to anywhere in the code, wherever its blocks are put.
+// Whether a jump reaches every address of the code, wherever its blocks are put.
 fn is_near(funcs: &[Func], blocks: &[Block]) -> bool
     ensures { IsTrue result → sum_by (worst.worst_size_of_block funcs.now) blocks.now ≤ worst.near_limit }
 {
@@ -43,15 +43,15 @@ fn none_whole(funcs: &[Func]) -> bool
     funcs.iter().all(|f| !f.whole)
 }
 
-// Whether no fault keeps code from being placed.
+// Whether there is no fault of placement.
 fn can_be_placed(funcs: &[Func], blocks: &[Block]) -> bool
     ensures { IsTrue result → IsFree (HasPlacementFault funcs.now blocks.now) }
 {
     none_whole(funcs) && is_near(funcs, blocks)
 }
 
-// Whether a program has as few section and program headers as a sample, and `profile` is within the limit of a
-// profile's size.
+// Whether a program has as few section and program headers as a sample, and `profile` is within the size limit of a
+// profile.
 fn is_small(program: &Program<'_>, profile: &[u8]) -> bool
     ensures sections { IsTrue result → length program.now.elf.sections.items ≡ 13 }
     ensures segments { IsTrue result → length program.now.elf.segments.items ≡ 3 }
@@ -62,8 +62,8 @@ fn is_small(program: &Program<'_>, profile: &[u8]) -> bool
         && profile.len() <= FILE_LIMIT
 }
 
-// Whether all tables of a file, whose functions are `funcs`, can be carried and don't weigh too much; or a fault of
-// one.
+// Whether all tables of a file, whose functions are `funcs`, can be carried and don't weigh too much. The error is a
+// fault of a table, or that memory ran out.
 fn have_sound_tables(alloc: Global, elf: &Elf<'_>, funcs: &[Func]) -> Result<bool, Refusal>
     ensures registered { IfOk result (λ b. IsTrue b → (place : ℕ) → IsRegisteredFrames elf.now place → ⊥) }
     ensures tables { OnOk result (IsFree (HasTableFault elf.now)) }
@@ -77,7 +77,8 @@ fn have_sound_tables(alloc: Global, elf: &Elf<'_>, funcs: &[Func]) -> Result<boo
     Ok(light)
 }
 
-/// Whether nothing keeps the program of a file from being rewritten by a profile; or a fault that does.
+/// Whether the program of a file has no fault for which a rewrite by this profile would refuse it. The error is such a
+/// fault, or that memory ran out.
 pub fn is_faultless(alloc: Global, program: &Program<'_>, profile: &[u8]) -> Result<bool, Refusal>
     requires { IsProgramOf program.now.elf.file.now (program_seen program.now) }
     ensures { IfOk result (λ b. IsTrue b → HasNoFault program.now.elf.file.now profile.now
@@ -93,7 +94,7 @@ pub fn is_faultless(alloc: Global, program: &Program<'_>, profile: &[u8]) -> Res
     if !has_light_names(alloc, elf, &program.funcs)? {
         return Ok(false);
     }
-    // Both refuse the program where a fault is present; where the new code starts doesn't matter here.
+    // Both refuse the program if a fault is present; the start of the new code doesn't matter here.
     new_start(alloc, program)?;
     check_code(elf, &program.funcs)?;
     Ok(true)

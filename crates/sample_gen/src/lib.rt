@@ -1,4 +1,4 @@
-//! Sample programs: files as a usual compiler and linker lay them out, each with a profile.
+//! Sample programs: files with the layout of a usual compiler and linker, each with a profile.
 #![tactic(auto)]
 
 mod fault_check;

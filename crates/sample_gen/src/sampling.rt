@@ -1,4 +1,4 @@
-// Samples, as they are made and then read back.
+// Samples: made, and then read back.
 ghost use Rattle.std.specs.Prelude.{◌≡◌, ◌≤◌, IfOk, IsTrue};
 ghost use Rattle.sample_file.specs.SampleText.{sample_profile};
 ghost use Rattle.sample_gen.specs.Sample.{IsSample};
@@ -11,7 +11,8 @@ use sample_file::file::file;
 use sample_file::profile::profile;
 use std::alloc::Global;
 
-// Whether a file is sample `n` with its profile; or a fault that keeps it from being rewritten.
+// Whether a file is sample `n` with its profile. The error is a fault for which it can't be rewritten, or that memory
+// ran out.
 fn is_sample(alloc: Global, file: &[u8], profile: &[u8], n: u64) -> Result<bool, Refusal>
     requires n { n ≤ 1000 }
     requires profile { profile.now ≡ sample_profile n }
@@ -29,9 +30,9 @@ fn is_sample(alloc: Global, file: &[u8], profile: &[u8], n: u64) -> Result<bool,
 
 /// Sample `n`, from 1 to 1000: a file, and its profile.
 ///
-/// The file is made, and then read back as any other: that its code, symbols and pointers are those of the sample, and
-/// that nothing keeps it from being rewritten. Want of memory is answered too where that isn't so, which no sample
-/// comes to.
+/// The file is made, and then read back like any other, to check that its code, symbols and pointers are the sample's,
+/// and that it has no fault for which a rewrite would refuse it. `NoMemory` also if this isn't so, which happens for no
+/// sample.
 pub fn sample(alloc: Global, n: u16) -> Result<(Vec<u8>, Vec<u8>), NoMemory>
     requires some { 1 ≤ n }
     requires few { n ≤ 1000 }

@@ -1,5 +1,5 @@
-// Whether nothing that is written of a program weighs too much, wherever its code goes: a sample has so few functions,
-// instructions and entries of debugging information that no map makes runs enough.
+// Whether all tables and names that are written of a program stay below the weight limit, for any new layout of its
+// code: a sample has so few functions, instructions and debugging entries that no map makes enough runs.
 ghost use Rattle.std.specs.Prelude.{◌≡◌, ◌≤◌, ℕ, All, IfOk, IsTrue, List, length};
 ghost use Rattle.rv_code.specs.declared.placed.Placed.{Placed};
 ghost use Rattle.rv_code.specs.layout.FunctionLists.{AreLaidOut};
@@ -24,16 +24,17 @@ use std::alloc::Global;
 use table_core::ByAddress;
 use table_core::form::{DW_FORM_loclistx, DW_FORM_rnglistx, DW_FORM_sec_offset};
 
-// How many functions a sample has at most, one of them at the entry point, and how many instructions each has.
+// The greatest number of functions of a sample, one of them at the entry point, and the greatest number of instructions
+// of each.
 const MOST_FUNCTIONS: usize = 1001;
 
 const MOST_INSTS: usize = 12;
 
-// How many entries of debugging information it has at most: one for the unit, and one for each function but the code at
-// the entry point.
+// The greatest number of debugging entries: one for the unit, and one for each function except the code at the entry
+// point.
 const MOST_ENTRIES: usize = 1001;
 
-// What names may weigh while no cold part gets one, and how many bytes a symbol's name may have.
+// The limit on the weight of names without any cold part's, and the limit on the length of a symbol's name in bytes.
 const MOST_NAMES: u64 = 1_000_000_000;
 
 const LONGEST_NAME: usize = 1000;
@@ -45,8 +46,8 @@ fn are_short(symbols: &[Symbol<'_>]) -> bool
     symbols.iter().all(|s| s.name.len() <= LONGEST_NAME)
 }
 
-/// Whether the names of a file, whose functions are `funcs`, don't weigh too much, whichever functions get a cold part
-/// that stands apart.
+/// Whether the names of a file, whose functions are `funcs`, don't weigh too much, for any choice of functions with a
+/// cold part that gets a name.
 pub fn has_light_names(alloc: Global, elf: &Elf<'_>, funcs: &[Func]) -> Result<bool, NoMemory>
     requires { AreLaidOut funcs.now }
     ensures { IfOk result (λ b. IsTrue b → (cold : List ℕ) → length cold ≤ length funcs.now →
@@ -59,7 +60,7 @@ pub fn has_light_names(alloc: Global, elf: &Elf<'_>, funcs: &[Func]) -> Result<b
     Ok(weight <= MOST_NAMES)
 }
 
-// Whether at most one row of line programs is in force at an address.
+// Whether at most one row of line programs applies to an address.
 fn has_one_row(alloc: Global, lines: &Lines, a: u64) -> Result<bool, NoMemory>
     ensures { IfOk result (λ b. IsTrue b → HasOneRow lines.now a) }
 {
@@ -89,7 +90,8 @@ fn is_light_func(alloc: Global, lines: &Lines, func: &Func) -> Result<bool, NoMe
     have_one_row(alloc, lines, &func.insts)
 }
 
-// Whether there are few functions, each of few instructions, with at most one row of line programs for each of these.
+// Whether there are few functions, each with few instructions, to each of which at most one row of line programs
+// applies.
 fn are_light_funcs(alloc: Global, lines: &Lines, funcs: &[Func]) -> Result<bool, NoMemory>
     ensures { IfOk result (λ b. IsTrue b → AreLightFuncs lines.now funcs.now) }
 {
@@ -104,7 +106,7 @@ fn are_light_funcs(alloc: Global, lines: &Lines, funcs: &[Func]) -> Result<bool,
     Ok(true)
 }
 
-// Whether an attribute uses no index of a list, and names no list of locations.
+// Whether an attribute has no index of a list, and refers to no location list.
 fn is_listless(attr: &Attr) -> bool
     ensures { result ≡ is_listless attr.now }
 {
@@ -126,8 +128,8 @@ fn has_no_lists(entries: &[Entry]) -> bool
     entries.iter().all(|entry| are_listless(&entry.attrs))
 }
 
-// Whether a file has few entries of debugging information, none of which uses a list, and few declarations of these;
-// or a fault of units.
+// Whether a file has few debugging entries, none of which uses a list, and few abbreviations. The error is a fault of
+// units, or that memory ran out.
 fn has_light_units(alloc: Global, elf: &Elf<'_>) -> Result<bool, Refusal>
     ensures { IfOk result (λ b. IsTrue b → AreLightUnits (sections_of elf.now)) }
 {
@@ -136,8 +138,8 @@ fn has_light_units(alloc: Global, elf: &Elf<'_>) -> Result<bool, Refusal>
     Ok(entries.len() <= MOST_ENTRIES && weight <= WEIGHT_LIMIT && has_no_lists(&entries))
 }
 
-/// Whether no table of a file, whose functions are `funcs`, weighs too much, under whichever map it is carried; or a
-/// fault of units.
+/// Whether no table of a file, whose functions are `funcs`, weighs too much, for any map. The error is a fault of
+/// units, or that memory ran out.
 pub fn are_light_tables(
     alloc: Global,
     elf: &Elf<'_>,
