@@ -11,7 +11,7 @@ use rb_io::{HostSink, HostSource};
 use std::env;
 use std::process::ExitCode;
 
-// The arguments that the program is started with, without its own name, if there is memory for them.
+// The program's arguments, without its own name. `None` if there isn't enough memory for them.
 fn read_args(rt: &HostRuntime) -> Option<Vec<String>> {
     let mut args = Vec::new(rt.alloc());
     let Ok(given) = env::args(rt) else {

@@ -1,5 +1,4 @@
--- What `repair` and `verify` read is refused for at most one fault, and for none where a profile is repaired, or a verdict
--- is there.
+-- `repair` and `verify` refuse their files for at most one fault, and for none if a profile is repaired, or if there is a verdict.
 use Rattle.std.proofs.Common.{◌≡◌, ◌∙◌, ap, sym, ℕ, List, arith}
 use Rattle.rb_bytes.specs.declared.fault.Fault.{Fault}
 use Rattle.map_check.specs.declared.clause.Verdict.{Verdict}

@@ -1,4 +1,4 @@
--- Of the faults that are present at most one is answered.
+-- Of the faults that are present, at most one is reported.
 use Rattle.std.proofs.Common.{◌≡◌, ◌∙◌, ◌≤◌, ◌⊎◌, ℕ, ap, inl, inr, refl, subst, sym, arith, if◌then◌else◌}
 use Rattle.std.specs.Prelude.{◌==◌}
 use Rattle.std.proofs.lemmas.Bool.{cases_order}
@@ -40,7 +40,7 @@ kind_of n =
     else if n == 27 then fault.NoRoom
     else fault.TooLarge
 
--- a number tells its kind, but for the second of the two that share one
+-- a number belongs to one kind of fault, except for the second of the two kinds that share a number
 numbered : (kind : FaultKind) → (kind ≡ fault.BareAuipc) ⊎ (kind_of (number_of kind) ≡ kind)
 numbered fault.NotElf = inr refl
 numbered fault.Truncated = inr refl
@@ -114,7 +114,7 @@ module _ (Has : FaultKind → ℕ → Type 0) (apart : AreApart Has) where
 pub none_answered : (Has : FaultKind → ℕ → Type 0) (f : Fault) → IsAnswered Has f → IsFree Has → ⊥
 none_answered Has f is free = free f.kind f.place is.present
 
--- of a limit that is passed at the same places
+-- the first exceeded limit, for two predicates that agree
 pub one_limit : (P Q : ℕ → Type 0) → ((p : ℕ) → P p → Q p) → ((p : ℕ) → Q p → P p) → (f g : Fault) → IsLimitFault P f →
     IsLimitFault Q g → f ≡ g
 one_limit P Q to from f g one other =

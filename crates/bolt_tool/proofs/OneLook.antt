@@ -1,4 +1,4 @@
--- What tables answer, and a file's fault for which they don't, is one whichever reading it is said of.
+-- The answers of tables, and the fault for which a file isn't looked up, are the same for each reading of the file.
 use Rattle.std.proofs.Common.{◌≡◌, ◌∙◌, true, false, refl, sym, subst, ℕ, List, None, Some, arith}
 use Rattle.std.specs.Prelude.{◌≢◌, codes}
 use Rattle.std.specs.Option.{option_or}

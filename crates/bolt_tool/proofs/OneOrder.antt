@@ -1,4 +1,4 @@
--- Of a set there is one list in a strict order.
+-- A set has at most one list in a strict order.
 use Rattle.std.proofs.Common.{◌≡◌, ◌⊎◌, ◌∙◌, ℕ, zero, suc, List, [], ◌∷◌, refl, sym, ap, subst, inl, inr, ⊎_elim, arith}
 use Rattle.std.specs.Prelude.{AllPairs, Contains}
 use Rattle.rb_bytes.proofs.Members.{Contains-cons_cases, Contains-there}

@@ -1,4 +1,4 @@
--- A file is no image, or no program, for at most one fault; and for none where it is one.
+-- A file isn't an image, or isn't a program, for at most one fault; and for none if it is one.
 use Rattle.std.proofs.Common.{◌≡◌, ◌∙◌, sym, subst, ℕ, List, inl, inr, arith}
 use Rattle.rb_bytes.specs.FirstFault.{IsAnswered}
 use Rattle.rb_bytes.specs.declared.fault.Fault.{Fault}
@@ -44,7 +44,7 @@ no_image file f (IsNoImage.too_long long is) of = let fits = of.fits in absurd (
 no_image file f (IsNoImage.unsound fits has) of = none_answered (HasFault file) f has of.sound
 no_image file f (IsNoImage.much_code fits sound much is) of = of.code_fits much
 
--- A function's part has all bytes of what stands there.
+-- A function's part contains all bytes of each of its instructions.
 
 part_of : (elf : Elf) (tabled : List (ℕ × ℕ)) (start end : ℕ) → IsFunctionPart elf tabled start end → IsPart elf start end
 part_of elf tabled start end (IsFunctionPart.code s n part some) = part.part

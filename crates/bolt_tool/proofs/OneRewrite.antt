@@ -1,4 +1,4 @@
--- Of one reading a file is refused with a profile for at most one fault, and for none where it is rewritten.
+-- For one reading, a file is refused with a profile for at most one fault, and for none if it is rewritten.
 use Rattle.std.proofs.Common.{◌≡◌, ◌∙◌, ◌<◌, ◌≤◌, refl, sym, subst, ℕ, List, [], Some, None, arith}
 use Rattle.std.specs.List.{filter_map, range_with_len}
 use Rattle.std.specs.Prelude.{length, slice_index_or}
@@ -36,7 +36,7 @@ use Rattle.bolt_tool.proofs.OneLook.{no_place as nowhere}
 use Rattle.bolt_tool.proofs.OneOrder.{one_listing, one_pair_list, pair_strict}
 use Rattle.bolt_tool.proofs.OneProgram.{one_unreadable}
 
--- The lists that a profile and a program make are one.
+-- The lists that a profile and a program make are unique.
 
 same_pairs : (counts : ℕ → ℕ → ℕ) (xs ys : List Counted) → ArePairs counts xs → ArePairs counts ys → xs ≡ ys
 same_pairs counts = one_listing IsCountedBefore (λ p q. pair_strict (p.0, p.1) (q.0, q.1)) (IsCountOf counts)
@@ -46,7 +46,7 @@ module _ (x : Program) (profile : List ℕ) where
       AreEdges x.code.funcs x.code.cells x.blocks ys → xs ≡ ys
   same_edges = one_pair_list (IsEdgeIn x.code.funcs x.code.cells x.blocks)
 
-  -- the cold parts of the functions, and where they start
+  -- the cold parts of the functions, and their starts
   record IsColdBy (cold : List ℕ) : Type 0 where
     pub pairs : List Counted
     pub parts : Chains
@@ -72,7 +72,7 @@ module _ (x : Program) (profile : List ℕ) where
   abbrev Passes : List ℕ → ℕ → Type 0
   Passes cold = IsTooLarge x.elf x.code.funcs cold
 
-  -- the limit for which it is refused: one on its code, another one, or one on the weight of a table
+  -- the limit for which the file is refused: one on its code, another one, or one on the weight of a table
   data Limit (f : Fault) : Type 0 where
     code : IsLimitFault PassesCode f → Limit f
     other : (cold : List ℕ) → IsColdBy cold → IsLimitFault (Passes cold) f → Limit f
@@ -143,7 +143,7 @@ module _ (x : Program) (profile : List ℕ) where
   one_stage law f g (limit stands is) (room moves is') = absurd (some_none g is' stands.room)
   one_stage law f g (limit stands is) (limit stands' is') = one_limit_of law f g is is'
 
--- Why a file is refused, of the reading `x`.
+-- Why a file is refused, for the reading `x`.
 data Reason (file profile : List ℕ) (x : Program) (f : Fault) : Type 0 where
   file_long : file_limit < length file → f ≡ fault_at fault.TooLarge FILE_BYTES → Reason file profile x f
   profile_long : length file ≤ file_limit → file_limit < length profile → f ≡ fault_at fault.TooLarge PROFILE_BYTES →

@@ -1,4 +1,4 @@
--- At most one fault is the one for which a command refuses what it reads, and none where it is done.
+-- A command refuses its files for at most one fault, and for none if it is done.
 use Rattle.block_layout.specs.Laws.{PartsLaw}
 use Rattle.bolt_tool.specs.RefusalLaw.{RefusalLaw}
 use Rattle.bolt_tool.proofs.OneClaim.{none_judged, none_repaired, one_line, one_refusal, one_repair}

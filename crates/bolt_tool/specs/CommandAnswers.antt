@@ -24,7 +24,7 @@ use Rattle.cli_run.specs.run.ByteRuns.{byte_mode}
 use Rattle.cli_run.specs.run.RunAnswers.{CompletesRun, RunAnswers}
 use Rattle.cli_run.specs.run.SymbolRuns.{symbol_mode}
 
--- the answers to arguments that are no command
+-- the answers to arguments that aren't a command
 abbrev pub UsageAnswers : Status → World → World → Type 0
 UsageAnswers status.Usage old new = PrintsOnly usage_line old new
 UsageAnswers status.WriteFault old new = FailsAtLine usage_line old new
@@ -45,9 +45,8 @@ CommandAnswers (Some (Frames args)) answer old new = LookAnswers (looking_up que
     new answer
 CommandAnswers None answer old new = UsageAnswers answer old new
 
--- A rewrite is done, a map is printed, a profile is repaired, an address is looked up, a sample is made and an output
--- is judged, or memory runs out, where no fault is present and no count rose. A run of a file that can be run answers
--- how that comes out.
+-- If there is no fault and no count rose, the command is done, or memory runs out: a rewrite, a map, a repair, a
+-- look-up, a sample or a verdict. A run of a file that can be run has the run's result as its answer.
 abbrev pub Completes : Option Command → Status → World → World → Type 0
 Completes (Some (Rewrite names)) answer old new = RewriteCompletes names answer old new
 Completes (Some (Map names)) answer old new = MapCompletes names answer old new
@@ -63,19 +62,19 @@ Completes (Some (Frames args)) answer old new = LookCompletes (looking_up questi
     old new
 Completes None answer old new = Unit {0}
 
--- the command doesn't touch standard input
+-- the command doesn't use standard input
 abbrev pub LeavesInput : Option Command → Type 0
 LeavesInput (Some (Run args)) = ⊥
 LeavesInput (Some (RunSymbols args)) = ⊥
 LeavesInput (Some (Record args)) = ⊥
 LeavesInput _ = Unit {0}
 
--- What a command does, or arguments that are none: its answer, and the world after it.
+-- A command, or arguments that aren't a command: the answer, and the world after it.
 abbrev pub Serves : Option Command → Status → World → World → Type 0
 Serves command answer old new = IsServed (CommandAnswers command answer old new) (Completes command answer old new) old
     new
 
--- standard input stays as it was after a refusal, and by a command that doesn't touch it
+-- standard input is unchanged after a refusal, and by a command that doesn't use it
 abbrev pub KeepsInput : {Input : Type 0} → Option Command → Status → Input → Input → Type 0
 KeepsInput command answer old new = IsInputKept (LeavesInput command) answer old new
 

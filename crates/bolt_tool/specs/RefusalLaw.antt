@@ -1,4 +1,4 @@
--- Refusals, as statements of all files. What a command reads is refused for at most one fault, and for none where the
+-- Refusals, as statements about all files. A command refuses its files for at most one fault, and for none if the
 -- command is done.
 use Rattle.std.specs.Prelude.{◌≡◌, ℕ, List}
 use Rattle.rb_bytes.specs.declared.fault.Fault.{Fault}
@@ -16,13 +16,13 @@ use Rattle.cli_check.specs.VerifiedFiles.{IsRefusedBy, IsVerdictOn}
 use Rattle.cli_look.specs.LookingUp.{CannotLookUp, IsAnswerAt}
 use Rattle.cli_look.specs.declared.question.Question.{Question}
 
--- at most one fault is one that `Refuses` says, and none where `Done` holds
+-- `Refuses` holds for at most one fault, and for none if `Done` holds
 pub record IsOneOrNone (Refuses : Fault → Type 0) (Done : Type 0) : Type 0 where
   pub one : (f g : Fault) → Refuses f → Refuses g → f ≡ g
   pub none : (f : Fault) → Refuses f → Done → ⊥
 
--- A refusal of a file that can be read is of its reading `x`; one for the weight of a table is of the layout of the new
--- code whose map is `spans`, too.
+-- A refusal of a file that can be read refers to its reading `x`; a refusal for the weight of a table also refers to
+-- the layout of the new code with the map `spans`.
 abbrev pub IsOfReading : (x : Program) (spans : List Span) {file profile : List ℕ} {fault : Fault} →
     IsRefused file profile fault → Type 0
 IsOfReading x spans (long_file long is) = Unit {0}
@@ -52,10 +52,10 @@ pub record RefusalLaw : Type 0 where
       IsOneOrNone (λ fault. (line : List ℕ) × IsRefusedBy input output map fault line) (IsVerdictOn input output map v)
   pub verdict_lines : (input output map : List ℕ) (f g : Fault) (l m : List ℕ) → IsRefusedBy input output map f l →
       IsRefusedBy input output map g m → l ≡ m
-  -- `rewrite` and `map`, of each reading of the file, whatever the layout
+  -- `rewrite` and `map`, for each reading of the file and any layout
   pub rewrites : (file profile : List ℕ) (x : Program) (s t : List Span) (f g : Fault) (r : IsRefused file profile f)
       (q : IsRefused file profile g) → IsOfReading x s r → IsOfReading x t q → f ≡ g
-  -- and of what was rewritten, with its reading and its layout
+  -- a rewrite that was made, with its reading and its layout
   pub rewritten : (file profile written : List ℕ) (spans : List Span) (counts : RewriteCounts)
       (made : IsRewritten file profile written spans counts) (f : Fault) (r : IsRefused file profile f) →
       IsOfReading made.program spans r → ⊥

@@ -1,4 +1,4 @@
-// The command that the arguments are is done.
+// Doing the command that the arguments are.
 ghost use Rattle.std.specs.Prelude.{map, string_bytes, None, Some};
 ghost use Rattle.rb_io.specs.Views.{SourceSeen};
 ghost use Rattle.bolt_tool.specs.CommandAnswers.{KeepsInput, Serves};
@@ -57,10 +57,10 @@ fn perform<F: Files, I: Source, O: Sink>(
     }
 }
 
-/// Does what `args` say, which don't hold the program's own name.
+/// Does what `args` say; they don't include the program's own name.
 ///
-/// `input` is standard input, and `out` standard output. What holds at the end depends on the answer. Of the bytes of
-/// files and streams that don't tell them (`rb_io`) nothing is said.
+/// `input` is standard input, and `out` standard output. The contract says what holds at the end, by the answer. It
+/// says nothing about the bytes of opaque files and streams (`rb_io`).
 pub fn tool<F: Files, I: Source, O: Sink>(
     alloc: Global,
     args: &[String],

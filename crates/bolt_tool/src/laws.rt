@@ -1,11 +1,11 @@
-// Laws of the commands together.
+// Laws about all commands.
 ghost use Rattle.bolt_tool.specs.RefusalLaw.{RefusalLaw};
 
 use block_layout::parts_law;
 
-/// Does nothing: its clause is a law, which rests on that of the parts of functions. What a command reads is refused
-/// for at most one fault, and for none if the command is done. For `rewrite` and `map` that is said of the faults from
-/// 18 on within one reading of the file, and of the weight of a table within one layout of the new code.
+/// A law, which depends on the law of the parts of functions: a command refuses its files for at most one fault, and
+/// for none if the command is done. For `rewrite` and `map` the faults from 18 on are compared within one reading of
+/// the file, and the weights of tables within one layout of the new code. The function does nothing.
 pub fn refusal_law()
     ensures { RefusalLaw }
 {

@@ -1,4 +1,4 @@
-// The commands `run` and `record`: the list of the program's arguments is made of the tokens, which takes memory,
+// The commands `run` and `record`: the list of the program's arguments, which needs memory, is made of the tokens
 // before the file is read.
 ghost use Rattle.std.specs.Prelude.{Some};
 ghost use Rattle.rv_memory.specs.Limits.{IsWithinLimits};

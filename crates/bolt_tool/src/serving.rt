@@ -1,4 +1,4 @@
-// What the process does, over any files and streams.
+// The process, for any files and streams.
 ghost use Rattle.std.specs.Prelude.{map, string_bytes};
 ghost use Rattle.bolt_tool.specs.CommandAnswers.{Exits};
 ghost use Rattle.cli_args.specs.CommandLine.{command_of};
@@ -9,7 +9,7 @@ use rb_io::{Files, Sink, Source};
 use std::alloc::Global;
 use std::process::ExitCode;
 
-/// Does what `args` say, which don't hold the program's own name, and gives the code that the process exits with.
+/// Does what `args` say, without the program's own name, and returns the exit code of the process.
 ///
 /// `input` is standard input, and `out` standard output.
 pub fn serve<F: Files, I: Source, O: Sink>(

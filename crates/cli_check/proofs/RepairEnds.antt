@@ -1,4 +1,4 @@
--- From what the steps of `repair` come to, to the answers of the whole.
+-- From the results of the steps of `repair` to its answers.
 use Rattle.std.proofs.Common.{◌∙◌, ◌≤◌, ap, sym, subst, ℕ, List, IsTrue}
 use Rattle.rb_bytes.specs.declared.fault.Fault.{Fault}
 use Rattle.rb_io.specs.FaultCounts.{Rose}
@@ -18,7 +18,7 @@ use Rattle.cli_check.specs.RepairedFiles.{CannotRepair, too_long}
 pub long_refused : (file profile : List ℕ) (fault : Fault) → IsTooLong file profile fault → CannotRepair file profile fault
 long_refused file profile fault is = too_long is
 
--- what was made is written after both files were read
+-- the repair is written after both files were read
 module _ (names : RepairNames) (written printed : List ℕ) (old mid new : World) (between : IsBetween old mid)
     (made : IsRepairOfFiles names.inputs old.files written printed) where
   holds : HoldsFile names.out written mid new → HoldsFile names.out written old new
@@ -40,7 +40,7 @@ module _ (names : RepairNames) (written printed : List ℕ) (old mid new : World
         front = subst (λ (s : SinkSeen). TakesPrefix s.taken new.output.taken printed) between.output_is print.front;
       })
 
--- Each answer but Ok and want of memory has a cause.
+-- Each answer other than Ok and running out of memory has a cause.
 completes : (names : RepairNames) (old new : World) (answer : Status) → RepairAnswers names old new answer →
     IsTrue old.files.told → OfInputs old names.inputs (IsAccepted CannotRepair) → NoneRoseRepairing names old new →
     IsOkOrNoMemory answer

@@ -1,4 +1,4 @@
--- What the steps of a repair ask, and what they make together.
+-- The conditions of the steps of a repair, and their joint result.
 use Rattle.std.proofs.Common.{◌≡◌, ◌∙◌, ◌<◌, ◌^◌, ◌≤◌, ℕ, List, None, sym, subst, length}
 use Rattle.rb_bytes.specs.declared.fault.FaultKind.TheVariants.{Truncated}
 use Rattle.rb_bytes.specs.declared.fault.Refusal.{Refusal}
@@ -39,7 +39,7 @@ use Rattle.program.proofs.Programs.{laid_out}
 use Rattle.cli_base.specs.ProgramFiles.{IsFileProgram, IsNoProgram}
 use Rattle.cli_check.specs.RepairedFiles.{CannotRepair, IsRepairOf, no_program}
 
--- a file that is no program keeps a profile from being repaired
+-- a profile of a file that isn't a program isn't repaired
 pub no_program_refused : (file given profile : List ℕ) → given ≡ file → length profile ≤ file_limit → (r : Refusal) →
     IsRefusalFor (IsNoProgram given) r → IsRefusalFor (CannotRepair file profile) r
 no_program_refused file given profile same fits (refusal.Fault fault) is =

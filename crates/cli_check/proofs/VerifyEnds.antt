@@ -1,4 +1,4 @@
--- From what the steps of `verify` come to, to the answers of the whole.
+-- From the results of the steps of `verify` to its answers.
 use Rattle.std.proofs.Common.{◌≡◌, ◌≤◌, ℕ, IsTrue, List, None, Option, Some, inl, inr, refl, subst, sym}
 use Rattle.std.specs.Prelude.{IsSomeAnd}
 use Rattle.rb_bytes.specs.declared.fault.Fault.{Fault}
@@ -23,7 +23,7 @@ use Rattle.cli_check.specs.declared.given.Given.{Given}
 use Rattle.cli_check.specs.declared.judging.Judged.{Judged}
 use Rattle.cli_check.specs.declared.judging.Judged.TheVariants as found
 
--- a fact of what was given is one of what there is
+-- a fact of the bytes that were read is a fact of the files
 of_given : (given : Given) (a b c : Option (List ℕ)) (P : List ℕ → List ℕ → List ℕ → Type 0) →
     IsSomeAnd a (AreBytesGiven file_limit given.input) → IsSomeAnd b (AreBytesGiven file_limit given.output) →
     IsSomeAnd c (AreBytesGiven map_limit given.map) → ((i o m : List ℕ) → AreFilesGiven given i o m → P i o m) →
@@ -51,7 +51,7 @@ module _ (names : VerifyNames) (old new : World) (unwritten : Unchanged old.file
       of_given given (old.files.content names.input) (old.files.content names.output) (old.files.content names.map) P
       (are told).input (are told).output (are told).map holds
 
-  -- how a line ends that tells of a verdict or of a refusal
+  -- the result of printing the line of a verdict or of a refusal
 
   says : (answer : Status) (v : Verdict) → LinePrinted answer (status_of v) (verdict_line v) old.output new.output →
       OfTold old names (λ i o m. IsVerdictOn i o m v) → VerifyAnswers names old new answer
@@ -89,7 +89,7 @@ module _ (names : VerifyNames) (old new : World) (unwritten : Unchanged old.file
   ungiven answer (output (unread_memory is)) kept = out_of_memory answer is kept
   ungiven answer (map (unread_memory is)) kept = out_of_memory answer is kept
 
--- Each answer but a verdict and want of memory has a cause.
+-- Each answer other than a verdict and running out of memory has a cause.
 completes : (names : VerifyNames) (old new : World) (answer : Status) → VerifyAnswers names old new answer →
     IsTrue old.files.told → OfFiles old names AreAccepted → NoneRoseVerifying names old new → IsJudgedOrNoMemory answer
 completes names old new answer (judged v is on prints) told accepted quiet = subst IsJudgedOrNoMemory (sym is) (by v)

@@ -1,4 +1,4 @@
--- What reading the three files comes to.
+-- The result of reading the three files.
 use Rattle.std.specs.Prelude.{ℕ, List, Option}
 use Rattle.rb_io.specs.Views.{FilesSeen}
 use Rattle.program.specs.Limits.{file_limit}
@@ -7,7 +7,7 @@ use Rattle.cli_base.specs.declared.status.Status.{Status}
 use Rattle.cli_args.specs.Args.{VerifyNames}
 use Rattle.cli_check.specs.declared.given.Given.{Given}
 
--- the most bytes of a map
+-- the size limit of a map in bytes
 abbrev pub map_limit : ℕ
 map_limit = 200000000
 

@@ -13,15 +13,15 @@ use Rattle.cli_base.specs.declared.status.Status.{Status}
 use Rattle.cli_base.specs.declared.status.Status.TheVariants as status
 use Rattle.cli_check.specs.RepairedFiles.{CannotRepair, IsRepairOf}
 
--- both files were read, and this was made of them
+-- both files were read, and this is a repair of them
 pub record IsRepairOfFiles (names : InputNames) (files : FilesSeen) (written printed : List ℕ) : Type 0 where
   pub file : List ℕ
   pub profile : List ℕ
   pub are_read : IsTrue files.told → AreRead files.content names file profile
   pub repair : IsRepairOf file profile written printed
 
--- The profile was written and the lines printed; or the write fails, of the file, which alone may have changed, or of
--- the lines; or nothing was written.
+-- The profile was written and the lines printed; or a write fails: of the file, and only this file may have changed, or
+-- of the lines; or nothing was written.
 pub data RepairAnswers (names : RepairNames) (old new : World) (answer : Status) : Type 0 where
   done : answer ≡ status.Ok → (written printed : List ℕ) → IsRepairOfFiles names.inputs old.files written printed
       → HoldsFile names.out written old new → TakesAll old.output.taken new.output.taken printed
@@ -33,12 +33,12 @@ pub data RepairAnswers (names : RepairNames) (old new : World) (answer : Status)
       → HoldsFile names.out written old new → FailsToPrint printed old new → RepairAnswers names old new answer
   stopped : IsStopped CannotRepair names.inputs old new answer → RepairAnswers names old new answer
 
--- no count of faults rose, of the file that is written neither
+-- no count of faults rose, nor that of the file that is written
 pub record NoneRoseRepairing (names : RepairNames) (old new : World) : Type 0 where
   pub others : NoInputErrors names.inputs old new
   pub out : WriteRose old new names.out → ⊥
 
--- it is done, or memory runs out, where no fault is present and no count rose
+-- the command is done, or memory runs out, if there is no fault and no count rose
 abbrev pub RepairCompletes : RepairNames → Status → World → World → Type 0
 RepairCompletes names answer old new =
     IsTrue old.files.told → OfInputs old names.inputs (IsAccepted CannotRepair) → NoneRoseRepairing names old new →

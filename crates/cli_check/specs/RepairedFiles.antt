@@ -1,4 +1,4 @@
--- Which profile of which file is repaired, to which text, with which lines.
+-- Repairs: of which profiles of which files, with which text and lines.
 use Rattle.std.specs.Prelude.{◌≡◌, ◌≤◌, ℕ, List, length}
 use Rattle.rb_bytes.specs.declared.fault.Fault.{Fault}
 use Rattle.rv_code.specs.layout.Edges.{AreEdges}
@@ -13,14 +13,14 @@ use Rattle.program.specs.Program.{Program}
 use Rattle.cli_base.specs.Inputs.{IsTooLong}
 use Rattle.cli_base.specs.ProgramFiles.{IsFileProgram, IsNoProgram}
 
--- Length is judged first, and then why the file is no program.
+-- The order of precedence: the lengths of both files, then the faults for which the file isn't a program.
 pub data CannotRepair (file profile : List ℕ) (fault : Fault) : Type 0 where
   too_long : IsTooLong file profile fault → CannotRepair file profile fault
   no_program : length profile ≤ file_limit → IsNoProgram file fault → CannotRepair file profile fault
 
 -- Flows on all links of the file's functions balance at each block, and prices show that they change the profile's
--- counts least. Read as a profile of the file, what is written has the flow of each edge, and the old count of each
--- other pair; and the lines are those of these flows and prices.
+-- counts least. Read as a profile of the file, the written text has the flow of each edge and the old count of each
+-- other pair; the lines are those of these flows and prices.
 pub record IsRepairOf (file profile written printed : List ℕ) : Type 0 where
   pub profile_fits : length profile ≤ file_limit
   pub program : Program

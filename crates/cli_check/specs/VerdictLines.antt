@@ -1,4 +1,4 @@
--- What a verdict is answered by: its line, and how the command ends.
+-- The line of a verdict, and the command's result.
 use Rattle.std.specs.Prelude.{◌≡◌, ◌⊎◌, ℕ, List, ◌++◌, codes}
 use Rattle.rb_bytes.specs.Text.{hexadecimal}
 use Rattle.rb_bytes.specs.declared.fault.Fault.{Fault}

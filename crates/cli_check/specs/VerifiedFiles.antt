@@ -1,4 +1,4 @@
--- Which claim three files make, and which of them is refused for which fault.
+-- The claim that three files make, and which of them is refused for which fault.
 use Rattle.std.specs.Prelude.{◌≡◌, ◌<◌, ◌≤◌, ℕ, List, length}
 use Rattle.rb_bytes.specs.Fault.{fault_at}
 use Rattle.rb_bytes.specs.declared.fault.Fault.{Fault}
@@ -16,7 +16,7 @@ use Rattle.cli_base.specs.ProgramFiles.{IsFileProgram, IsNoProgram}
 use Rattle.cli_check.specs.GivenFiles.{map_limit}
 use Rattle.cli_check.specs.VerdictLines.{refused_output_line}
 
--- an output that is an image, as the reader keeps it
+-- an output that is an image, with its reader's representation
 pub record IsOutputFile (file : List ℕ) (elf : Elf) : Type 0 where
   pub read : IsElfOf file elf
   pub image : IsImageFile file
@@ -30,7 +30,7 @@ claim_of program output map = record {
   text = map;
 }
 
--- The input is judged first, then the output, and then the length of the map. Each is refused by a line.
+-- The input is checked first, then the output, and then the length of the map. Each is refused with its own line.
 pub data IsRefusedBy (input output map : List ℕ) (fault : Fault) (line : List ℕ) : Type 0 where
   by_input : IsNoProgram input fault → line ≡ refused_line fault → IsRefusedBy input output map fault line
   by_output : (program : Program) → IsFileProgram input program → IsNoImage output fault →

@@ -12,19 +12,19 @@ use Rattle.cli_check.specs.VerdictLines.{IsRefusalLine, status_of, verdict_line}
 use Rattle.cli_check.specs.VerifiedFiles.{IsRefusedBy, IsVerdictOn}
 use Rattle.cli_args.specs.Args.{VerifyNames}
 
--- P holds of the contents of the three files, all being there
+-- all three files exist, and their contents satisfy P
 abbrev pub OfFiles : World → VerifyNames → (List ℕ → List ℕ → List ℕ → Type 0) → Type 0
 OfFiles w names P =
     IsSomeAnd (w.files.content names.input) (λ input.
     IsSomeAnd (w.files.content names.output) (λ output.
     IsSomeAnd (w.files.content names.map) (λ map. P input output map)))
 
--- the same, where files are told
+-- the contents of the three files satisfy P, if files are transparent
 abbrev pub OfTold : World → VerifyNames → (List ℕ → List ℕ → List ℕ → Type 0) → Type 0
 OfTold w names P = IsTrue w.files.told → OfFiles w names P
 
--- No file was written. A verdict is printed, or a refusal; or its line fails; or a file can't be read, or memory ran
--- out, and nothing was printed. A refusal's line is one of its fault, also where files aren't told.
+-- No file was written. A verdict is printed, or a refusal; or printing its line fails; or a file can't be read, or
+-- memory ran out, and nothing was printed. A refusal's line is one of the lines of its fault, even if files are opaque.
 pub data VerifyAnswers (names : VerifyNames) (old new : World) (answer : Status) : Type 0 where
   judged : (v : Verdict) → answer ≡ status_of v → OfTold old names (λ i o m. IsVerdictOn i o m v) →
       PrintsOnly (verdict_line v) old new → VerifyAnswers names old new answer
@@ -41,7 +41,7 @@ pub data VerifyAnswers (names : VerifyNames) (old new : World) (answer : Status)
       VerifyAnswers names old new answer
   no_memory : answer ≡ status.NoMemory → IsSilent old new → VerifyAnswers names old new answer
 
--- no fault is present
+-- there is no fault
 abbrev pub AreAccepted : List ℕ → List ℕ → List ℕ → Type 0
 AreAccepted input output map = (fault : Fault) (line : List ℕ) → IsRefusedBy input output map fault line → ⊥
 
@@ -52,14 +52,14 @@ pub record NoneRoseVerifying (names : VerifyNames) (old new : World) : Type 0 wh
   pub map : ReadRose old new names.map → ⊥
   pub line : Rose old.output.faults new.output.faults → ⊥
 
--- a verdict, or want of memory
+-- the answer is a verdict, or that memory ran out
 abbrev pub IsJudgedOrNoMemory : Status → Type 0
 IsJudgedOrNoMemory status.Ok = Unit {0}
 IsJudgedOrNoMemory (status.Unfaithful clause place) = Unit {0}
 IsJudgedOrNoMemory status.NoMemory = Unit {0}
 IsJudgedOrNoMemory _ = ⊥
 
--- it is judged, or memory runs out, where no fault is present and no count rose
+-- there is a verdict, or memory runs out, if there is no fault and no count rose
 abbrev pub VerifyCompletes : VerifyNames → Status → World → World → Type 0
 VerifyCompletes names answer old new =
     IsTrue old.files.told → OfFiles old names AreAccepted → NoneRoseVerifying names old new → IsJudgedOrNoMemory answer

@@ -1,4 +1,4 @@
-// The three files of `verify`, all of which are read before any is judged.
+// Reading the three files of `verify`, all before any is checked.
 ghost use Rattle.std.specs.Prelude.{IfErr, IfOk, IsTrue};
 ghost use Rattle.rb_io.specs.Names.{Unchanged};
 ghost use Rattle.rb_io.specs.Views.{FilesGoOn};
@@ -13,11 +13,11 @@ use program::FILE_LIMIT;
 use rb_io::Files;
 use std::alloc::Global;
 
-/// The most bytes of a map. That of 16 MiB of code, the most that a file may have, is shorter: 2^23 instructions, and
-/// for each a line of at most 21 bytes.
+/// The size limit of a map in bytes. The map of 16 MiB of code, the size limit of code, is shorter: 2^23 instructions,
+/// with a line of at most 21 bytes for each.
 pub const MAP_LIMIT: usize = 200_000_000;
 
-/// The bytes of an input, an output and a map. None is a file that is too long.
+/// The bytes of an input, an output and a map. `None` for a file that is too long.
 #[derive(Drop)]
 pub struct Given {
     pub input: Option<Vec<u8>>,
@@ -25,7 +25,7 @@ pub struct Given {
     pub map: Option<Vec<u8>>,
 }
 
-/// Reads an input, an output and a map. The error is how the command ends.
+/// Reads an input, an output and a map. The error is the command's result.
 pub fn read_given<F: Files>(
     alloc: Global,
     args: &VerifyArgs<'_>,

@@ -1,4 +1,4 @@
-// The three files of `verify`, judged one after another.
+// Checking the three files of `verify`, one after another.
 ghost use Rattle.std.specs.Prelude.{◌≡◌, ℕ, List, IfErr, IfOk};
 ghost use Rattle.program.specs.Limits.{file_limit};
 ghost use Rattle.program.specs.Program.{program_seen};
@@ -21,7 +21,7 @@ use rb_bytes::fault::{Fault, FaultKind, NoMemory, Refusal};
 use rb_bytes::limit::{FILE_BYTES, MAP_BYTES};
 use std::alloc::Global;
 
-/// What judging comes to.
+/// The result of checking the files.
 #[derive(Clone, Copy)]
 pub enum Judged {
     /// No file is refused, and this is the verdict on them.
@@ -55,7 +55,7 @@ fn verdict(
     )
 }
 
-// An output, or why it is refused. Nothing but what it loads counts, so it is read as an image.
+// An output, or why it is refused. Only the bytes that it loads matter, so it is read as an image.
 fn read_output<'file>(alloc: Global, file: &'file Option<Vec<u8>>) -> Result<Elf<'file>, Refusal>
     requires { FitsLimit file_limit file.now }
     ensures output { IfOk result (λ elf. IsOutputFile elf.file.now elf) }
@@ -85,7 +85,7 @@ fn read_input<'file>(alloc: Global, file: &'file Option<Vec<u8>>) -> Result<Prog
     }
 }
 
-// The fault of a refusal, or want of memory where that is what it says.
+// The fault of a refusal, or `NoMemory` if the refusal is that memory ran out.
 fn fault_of(answer: Refusal) -> Result<Fault, NoMemory>
     ensures { IfOk result (λ fault. answer ≡ refusal.Fault fault) }
 {
@@ -95,7 +95,7 @@ fn fault_of(answer: Refusal) -> Result<Fault, NoMemory>
     }
 }
 
-// Judges an output and a map against an input that was read with its code.
+// Checks an output and a map against an input that was read with its code.
 fn judge_output(alloc: Global, program: &Program<'_>, given: &Given) -> Result<Judged, NoMemory>
     requires program { IsFileProgram program.now.elf.file.now (program_seen program.now) }
     requires output { FitsLimit file_limit given.now.output }
@@ -115,7 +115,7 @@ fn judge_output(alloc: Global, program: &Program<'_>, given: &Given) -> Result<J
     }
 }
 
-/// Judges the three files: the input first, then the output, then the length of the map, and then the map.
+/// Checks the three files: the input first, then the output, then the length of the map, and then the map.
 pub fn judge(alloc: Global, given: &Given) -> Result<Judged, NoMemory>
     requires input { FitsLimit file_limit given.now.input }
     requires output { FitsLimit file_limit given.now.output }

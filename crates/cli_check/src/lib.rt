@@ -1,5 +1,5 @@
-//! The commands that check what others made of a program: `repair`, which repairs a profile, and `verify`,
-//! which tells whether an output and a map are a faithful rewrite.
+//! The commands that check profiles and outputs: `repair`, which repairs a profile, and `verify`, which decides whether
+//! an output and a map are a faithful rewrite.
 #![tactic(auto)]
 
 mod given;

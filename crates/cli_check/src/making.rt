@@ -1,4 +1,4 @@
-// A profile repaired, with the lines that show that no other one changes less.
+// Repairing a profile, with the lines that show that no other repaired profile changes less.
 ghost use Rattle.std.specs.Prelude.{◌+◌, ◌/◌, ◌<◌, ◌≤◌, ◌^◌, length, IfErr, IfOk, OnOk};
 ghost use Rattle.rv_code.specs.layout.Edges.{AreEdges};
 ghost use Rattle.program.specs.Limits.{file_limit};
@@ -13,19 +13,19 @@ use program::Program;
 use rb_bytes::fault::{NoMemory, Refusal};
 use std::alloc::Global;
 
-// How many edges a program may have beyond one for each two bytes of its file. What compilers make stays below a tenth
-// of that.
+// The number of edges that a program may have in addition to half the number of bytes of its file. Programs of
+// compilers have less than a tenth of this.
 const EDGES_BESIDE: usize = 1 << 21;
 
-/// The text of a repaired profile, and the lines that are printed: those that show that no other profile changes less.
+/// The text of a repaired profile, and the lines that show that no other repaired profile changes less.
 #[derive(Drop)]
 pub struct Outputs {
     pub profile: Vec<u8>,
     pub lines: Vec<u8>,
 }
 
-/// Repairs the profile of an input, each of at most 64 MiB, or says which fault keeps it from that: one of 1 to 17, or
-/// `TooLarge` at 2 (`CODE_BYTES`) or 3 (`FUNCTIONS`).
+/// Repairs the profile of an input, each of at most 64 MiB. The error is the fault for which the profile can't be
+/// repaired, or that memory ran out: one of 1 to 17, or `TooLarge` at 2 (`CODE_BYTES`) or 3 (`FUNCTIONS`).
 pub fn repaired(alloc: Global, inputs: &Inputs) -> Result<Outputs, Refusal>
     requires file { length inputs.now.file.items ≤ file_limit }
     requires profile { length inputs.now.profile.items ≤ file_limit }
@@ -38,7 +38,7 @@ pub fn repaired(alloc: Global, inputs: &Inputs) -> Result<Outputs, Refusal>
     Ok(made)
 }
 
-// The edges between the blocks of a program, those of jumps through tables among them.
+// The edges between the blocks of a program, including those of jumps through tables.
 fn edges_of(alloc: Global, program: &Program<'_>) -> Result<Vec<(usize, usize)>, NoMemory>
     requires { IsFileProgram program.now.elf.file.now (program_seen program.now) }
     ensures { IfOk result (λ edges.
@@ -50,8 +50,8 @@ fn edges_of(alloc: Global, program: &Program<'_>) -> Result<Vec<(usize, usize)>,
     cfg_build::edges(alloc, funcs, blocks, &targets)
 }
 
-// Answers want of memory for very many edges, as huge jump tables make them, or branches that are nearly all of the
-// code: flows on them would take much of it.
+// `NoMemory` for very many edges, as huge jump tables make them, or code that consists almost only of branches: flows
+// on them would need much memory.
 fn check_edges(edges: &[(usize, usize)], file: &[u8]) -> Result<(), NoMemory>
     ensures few { OnOk result (length edges.now ≤ length file.now / 2 + 2 ^ 21) }
     ensures many { IfErr result (λ _. length file.now / 2 + 2 ^ 21 < length edges.now) }

@@ -1,5 +1,5 @@
-// The command `repair`. All is made before the profile is written, and that before the lines are printed, so that a
-// file that is refused changes nothing.
+// The command `repair`. The profile and the lines are made first; then the profile is written, and then the lines are
+// printed. So a file that is refused changes nothing.
 ghost use Rattle.std.specs.Prelude.{◌≤◌};
 ghost use Rattle.rb_io.specs.Views.{FilesGoOn, SourceSeen};
 ghost use Rattle.cli_base.specs.World.{world};
@@ -41,7 +41,7 @@ pub fn repair<F: Files, O: Sink>(
     files: &mut F,
     out: &mut O,
 ) -> Status
-    // Standard input can be any: it stays as it was.
+    // For any standard input, which is unchanged.
     ensures { (input : SourceSeen) → RepairServes (repair_given args.now) result
         (world (F.seen files.old) input (O.seen out.old)) (world (F.seen files.new) input (O.seen out.new)) }
 {

@@ -45,7 +45,7 @@ pub fn verdict_line(alloc: Global, verdict: Verdict) -> Result<Vec<u8>, NoMemory
     }
 }
 
-/// The line for an output that is refused: as for any file, with ` in OUT` behind it.
+/// The line for an output that is refused: the line for any file, followed by ` in OUT`.
 pub fn refused_output(alloc: Global, fault: &Fault) -> Result<Vec<u8>, NoMemory>
     ensures { IfOk result (λ line. line.items ≡ refused_output_line fault.now) }
 {
@@ -54,7 +54,7 @@ pub fn refused_output(alloc: Global, fault: &Fault) -> Result<Vec<u8>, NoMemory>
     Ok(line)
 }
 
-/// How a command ends that printed a verdict.
+/// The result of a command that printed a verdict.
 pub fn status_of(verdict: Verdict) -> Status
     ensures { result ≡ status_of verdict }
 {

@@ -1,4 +1,4 @@
-// The command `verify`: three files are read, then judged, and then the verdict is printed.
+// The command `verify`: three files are read, then checked, and then the verdict is printed.
 ghost use Rattle.std.specs.Prelude.{◌≤◌};
 ghost use Rattle.rb_io.specs.Views.{SourceSeen};
 ghost use Rattle.cli_base.specs.World.{world};
@@ -16,7 +16,7 @@ use rb_bytes::fault::{NoMemory, Refusal};
 use rb_io::{Files, Sink};
 use std::alloc::Global;
 
-// Prints what judging came to, and says how the command ends.
+// Prints the result of the check, and returns the command's result.
 fn announce<O: Sink>(alloc: Global, judged: Judged, out: &mut O) -> Status
     ensures announced { Announces judged result (O.seen out.old) (O.seen out.new) }
     ensures never_falls { (O.seen out.old).faults ≤ (O.seen out.new).faults }
@@ -39,7 +39,7 @@ pub fn verify<F: Files, O: Sink>(
     files: &mut F,
     out: &mut O,
 ) -> Status
-    // Standard input can be any: it stays as it was.
+    // For any standard input, which is unchanged.
     ensures { (input : SourceSeen) → VerifyServes (verify_given args.now) result
         (world (F.seen files.old) input (O.seen out.old)) (world (F.seen files.new) input (O.seen out.new)) }
 {

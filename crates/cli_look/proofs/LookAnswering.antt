@@ -1,4 +1,4 @@
--- From what the steps of a command that looks at one file come to, to the answers of the whole.
+-- From the results of the steps of a command that looks at one file to its answers.
 use Rattle.std.proofs.Common.{◌≡◌, ◌<◌, ◌≤◌, refl, sym, subst, ℕ, List, Option, Some, None, IsTrue, IsSomeAnd, length}
 use Rattle.rb_bytes.specs.Fault.{fault_at}
 use Rattle.rb_bytes.specs.declared.fault.Fault.{Fault}
@@ -22,7 +22,7 @@ use Rattle.cli_base.specs.declared.status.Status.TheVariants as status
 use Rattle.cli_look.specs.LookAnswers.{HasLookFault, IsSaidOf, LookAnswers, LookServes, Looking, NoneRoseLooking}
 use Rattle.cli_look.specs.LookAnswers.{at_file, at_refusal, at_text, no_memory, printed, refused}
 
--- what holds of a content that is there, and what follows from it
+-- a property of a file's content implies a weaker one
 implied : (content : Option (List ℕ)) (P Q : List ℕ → Type 0) → ((file : List ℕ) → P file → Q file) → IsSomeAnd content P →
     IsSomeAnd content Q
 implied None P Q h p = absurd p
@@ -30,7 +30,7 @@ implied (Some file) P Q h p = h file p
 
 module _ (look : Looking) (name : List ℕ) (old new : World) where
   module _ (answer : Status) (same : Unchanged old.files.content new.files.content) where
-    -- the line of a fault that is present was printed, or a part of it
+    -- the line of a fault that is present was printed, or a prefix of it
     refuses : (fault : Fault) → HasLookFault look name old fault →
         LinePrinted answer (status.Refused fault) (refused_line fault) old.output new.output → LookAnswers look name old new answer
     refuses fault present (all_printed is taken) =
@@ -49,14 +49,14 @@ module _ (look : Looking) (name : List ℕ) (old new : World) where
     unread long (reading.at_file is rose taken) = at_file is rose (record { unprinted = taken; unwritten = same })
     unread long (reading.no_memory is taken) = no_memory is (record { unprinted = taken; unwritten = same })
 
-    -- it was, and is refused
+    -- the file was read, and is refused
     pub read_refused : (file : List ℕ) (r : Refusal) → (IsTrue old.files.told → old.files.content name ≡ Some file) →
         IsRefusalFor (look.Refuses file) r → Refuses r answer old.output new.output → LookAnswers look name old new answer
     read_refused file (refusal.Fault fault) is why prints =
         refuses fault (λ told. subst (λ (o : Option (List ℕ)). IsSomeAnd o (λ f. look.Refuses f fault)) (sym (is told)) why) prints
     read_refused file refusal.Memory is why kept = no_memory kept.0 (record { unprinted = kept.1; unwritten = same })
 
-  -- The text was printed, or a part of it. Nothing was printed before.
+  -- The text was printed, or a prefix of it. Nothing was printed before.
   module _ (mid : SinkSeen) (unprinted : mid ≡ old.output) (text shown : List ℕ) (passed : shown ≡ text)
       (said : IsSaidOf look name old text) (same : Unchanged old.files.content new.files.content) where
     pub prints : TakesAll mid.taken new.output.taken shown → LookAnswers look name old new status.Ok
@@ -79,7 +79,7 @@ module _ (look : Looking) (name : List ℕ) (old new : World) where
       unwritten = same;
     })
 
-  -- where no fault is present and no count rose, it is done or memory ran out
+  -- if there is no fault and no count rose, the command is done, or memory ran out
   completes : (answer : Status) → LookAnswers look name old new answer → IsTrue old.files.told → (file : List ℕ) →
       old.files.content name ≡ Some file → ((fault : Fault) → look.Refuses file fault → ⊥) → NoneRoseLooking look name old new →
       IsOkOrNoMemory answer

@@ -14,6 +14,6 @@ pub by_tables : (q : Question) (file : List ℕ) (elf : Elf) (r : Refusal) → I
 by_tables q file elf (refusal.Fault fault) read why = bad_table elf read why
 by_tables q file elf refusal.Memory read why = tt
 
--- what a test would have told isn't so, where the test fails
+-- a property that a test detects is false if the test fails
 pub denied : (P : Type 0) (answer : Bool) → (P → IsTrue answer) → answer ≡ false → P → ⊥
 denied P answer tells fails p = let holds = tells p in absurd (cc)

@@ -1,5 +1,5 @@
--- What holds at the end of a command that reads one file and prints what is said of it, by its answer. It writes no
--- file.
+-- What holds at the end of a command that reads one file and prints a text about it, by its answer. The command writes
+-- no file.
 use Rattle.std.specs.Prelude.{◌≡◌, ℕ, List, Some, IsTrue, IsSomeAnd}
 use Rattle.rb_bytes.specs.declared.fault.Fault.{Fault}
 use Rattle.rb_io.specs.FaultCounts.{Rose}
@@ -11,19 +11,19 @@ use Rattle.cli_base.specs.World.{World, ReadRose}
 use Rattle.cli_base.specs.declared.status.Status.{Status}
 use Rattle.cli_base.specs.declared.status.Status.TheVariants as status
 
--- What is said of a file, and for which faults it is refused.
+-- The texts that may be printed about a file, and the faults for which it is refused.
 pub record Looking : Type 1 where
   pub Says : List ℕ → List ℕ → Type 0
   pub Refuses : List ℕ → Fault → Type 0
 
 module _ (look : Looking) (name : List ℕ) where
-  -- the file was read, and this text says it
+  -- the file was read, and this is a text about it
   pub record IsSaidOf (w : World) (text : List ℕ) : Type 0 where
     pub file : List ℕ
     pub file_is : IsTrue w.files.told → w.files.content name ≡ Some file
     pub says : look.Says file text
 
-  -- a fault is present in it, where files are told
+  -- the file has a fault, if files are transparent
   abbrev pub HasLookFault : World → Fault → Type 0
   HasLookFault w fault = IsTrue w.files.told → IsSomeAnd (w.files.content name) (λ file. look.Refuses file fault)
 
@@ -46,7 +46,7 @@ module _ (look : Looking) (name : List ℕ) where
     pub file : ReadRose old new name → ⊥
     pub line : Rose old.output.faults new.output.faults → ⊥
 
-  -- It is done, or memory runs out, where no fault is present and no count rose.
+  -- The command is done, or memory runs out, if there is no fault and no count rose.
   abbrev pub LookCompletes : Status → World → World → Type 0
   LookCompletes answer old new =
       IsTrue old.files.told → (file : List ℕ) → old.files.content name ≡ Some file →

@@ -1,4 +1,4 @@
--- What the tables of a file answer at an address, and for which faults the file is refused.
+-- The answers of a file's tables at an address, and the faults for which the file is refused.
 use Rattle.std.specs.Prelude.{◌≡◌, ◌<◌, ◌≤◌, ℕ, List, length}
 use Rattle.rb_bytes.specs.Fault.{fault_at}
 use Rattle.rb_bytes.specs.FirstFault.{IsAnswered, IsFree}
@@ -13,14 +13,14 @@ use Rattle.cli_look.specs.LookAnswers.{Looking}
 use Rattle.cli_look.specs.Questions.{HasFaultFor, answer_text}
 use Rattle.cli_look.specs.declared.question.Question.{Question}
 
--- a file within the limit in which its reader finds nothing wrong, as the reader keeps it
+-- a file within the size limit in which its reader finds no fault, with its reader's representation
 pub record IsSoundElf (file : List ℕ) (elf : Elf) : Type 0 where
   pub fits : length file ≤ file_limit
   pub sound : IsSound file
   pub read : IsElfOf file elf
 
 module _ (question : Question) where
-  -- no fault is present, and this is the answer at an address
+  -- there is no fault, and this is the answer at an address
   pub record IsAnswerAt (address : ℕ) (file text : List ℕ) : Type 0 where
     pub elf : Elf
     pub read : IsSoundElf file elf
@@ -28,7 +28,7 @@ module _ (question : Question) where
     pub code_fits : HasTooMuchCode file → ⊥
     pub text_is : text ≡ answer_text question address elf
 
-  -- Length comes first; then what is wrong in the file, and in its tables; and then the size of its code.
+  -- The order of precedence: the file's length, its faults, faults of its tables, and then the size of its code.
   pub data CannotLookUp (file : List ℕ) (fault : Fault) : Type 0 where
     too_long : file_limit < length file → fault ≡ fault_at TooLarge FILE_BYTES → CannotLookUp file fault
     unsound : length file ≤ file_limit → IsFirstFault file fault → CannotLookUp file fault
@@ -37,6 +37,6 @@ module _ (question : Question) where
     much_code : (elf : Elf) → IsSoundElf file elf → IsFree (HasFaultFor question elf) → HasTooMuchCode file
         → fault ≡ fault_at TooLarge CODE_BYTES → CannotLookUp file fault
 
--- what a command prints and refuses that asks `question` of `address`
+-- the texts and the refusals of a command with this question about an address
 abbrev pub looking_up : Question → ℕ → Looking
 looking_up question address = record { Says = IsAnswerAt question address; Refuses = CannotLookUp question }

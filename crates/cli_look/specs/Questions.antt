@@ -1,4 +1,4 @@
--- What is asked of the tables of a file at an address, and for which faults of these it is refused.
+-- Questions to the tables of a file about an address, and the faults of tables for which each is refused.
 use Rattle.std.specs.Prelude.{ℕ, List}
 use Rattle.rb_bytes.specs.declared.fault.FaultKind.{FaultKind}
 use Rattle.elf_image.specs.declared.elf.Elf.{Elf}
@@ -12,7 +12,7 @@ abbrev pub answer_text : Question → ℕ → Elf → List ℕ
 answer_text question.Report address elf = report elf address
 answer_text question.Frames address elf = frames_text elf address
 
--- functions are found without frame tables
+-- functions are found without the unwind tables
 abbrev pub HasFaultFor : Question → Elf → FaultKind → ℕ → Type 0
 HasFaultFor question.Report elf = HasTableFault elf
 HasFaultFor question.Frames elf = HasDebugFault elf

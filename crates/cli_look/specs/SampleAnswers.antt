@@ -15,23 +15,23 @@ use Rattle.cli_args.specs.Args.{SampleArgs}
 
 module _ (args : SampleArgs) where
   module _ (file profile : List ℕ) (old new : World) where
-    -- the file holds its bytes, where files are told
+    -- the file has its bytes, if files are transparent
     abbrev pub HoldsFile : Type 0
     HoldsFile = IsTrue old.files.told → new.files.content args.file ≡ Some file
 
-    -- other names than these two have what they had
+    -- all other files are unchanged
     abbrev pub OthersKept : Type 0
     OthersKept = (name : List ℕ) → name ≢ args.file → name ≢ args.profile →
         new.files.content name ≡ old.files.content name
 
-    -- both hold their bytes
+    -- both files have their bytes
     pub record HoldBoth : Type 0 where
       pub file_holds : HoldsFile
       pub profile_holds : IsTrue old.files.told → new.files.content args.profile ≡ Some profile
       pub others : OthersKept
 
-    -- Both files were written and the line printed; or a write fails: of the file, which alone may have changed, of the
-    -- profile, after the file, or of the line, after both.
+    -- Both files were written and the line printed; or a write fails: of the file, and only this file may have changed;
+    -- of the profile, after the file; or of the line, after both.
     pub data SampleWritten (line : List ℕ) (answer : Status) : Type 0 where
       all_written : answer ≡ status.Ok → HoldBoth → TakesAll old.output.taken new.output.taken line →
           SampleWritten line answer
@@ -43,7 +43,7 @@ module _ (args : SampleArgs) where
       fails_at_line : answer ≡ status.WriteFault → HoldBoth → FailsToPrint line old new → SampleWritten line answer
 
   module _ (old new : World) where
-    -- the sample was made, and then written so; or memory ran out before anything was
+    -- the sample was made, and then written in this way; or memory ran out before anything was written
     pub data SampleAnswers (answer : Status) : Type 0 where
       made : (file profile : List ℕ) → IsSample args.number file profile
           → SampleWritten file profile old new (sample_line args.number) answer → SampleAnswers answer
@@ -55,7 +55,7 @@ module _ (args : SampleArgs) where
       pub profile : WriteRose old new args.profile → ⊥
       pub line : Rose old.output.faults new.output.faults → ⊥
 
-  -- It is done, or memory runs out, where no count rose.
+  -- The command is done, or memory runs out, if no count rose.
   abbrev pub SampleCompletes : Status → World → World → Type 0
   SampleCompletes answer old new = NoneRoseSampling old new → IsOkOrNoMemory answer
 

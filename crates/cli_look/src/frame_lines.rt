@@ -8,7 +8,7 @@ use rb_bytes::fault::NoMemory;
 use rb_bytes::text::put_decimal;
 use std::alloc::Global;
 
-// Appends the name of a function, and the path of the file in which control is.
+// Appends the name of a function, and the path of the source file.
 fn put_file(text: &mut Vec<u8>, name: &[u8], path: &[u8]) -> Result<(), NoMemory>
     ensures { OnOk result (text.new.items ≡ text.old.items ++ (name.now ++ codes " " ++ path.now ++ codes ":")) }
 {
@@ -39,7 +39,7 @@ fn put_frames(text: &mut Vec<u8>, frames: &[Frame]) -> Result<(), NoMemory>
     Ok(())
 }
 
-/// A line for each function, `NAME PATH:LINE:COLUMN`, or one that says that there is none.
+/// A line for each function, `NAME PATH:LINE:COLUMN`, or a line that says that there is none.
 pub fn frames_text(alloc: Global, frames: &[Frame]) -> Result<Vec<u8>, NoMemory>
     ensures { IfOk result (λ text. text.items ≡ or_none (flat_map frame_line frames.now)) }
 {

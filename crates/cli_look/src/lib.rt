@@ -1,4 +1,4 @@
-//! Commands that make files to look at, and look at files.
+//! Commands that make sample files, and that show what a file's tables say.
 #![tactic(auto)]
 
 mod frame_lines;

@@ -6,7 +6,7 @@ use rb_bytes::fault::NoMemory;
 use rb_bytes::text::put_decimal;
 use std::alloc::Global;
 
-/// The line for the sample with the number `number`, which was written.
+/// The line for the sample with this number, which was written.
 pub fn sampled(alloc: Global, number: u16) -> Result<Vec<u8>, NoMemory>
     ensures { IfOk result (λ line. line.items ≡ sample_line number) }
 {

@@ -1,4 +1,5 @@
-// The commands `lookup` and `frames`: a file is read whole, and what its tables answer at an address is printed.
+// The commands `lookup` and `frames`: a file is read completely, and the answers of its tables at an address are
+// printed.
 ghost use Rattle.std.specs.Prelude.{◌≤◌, IfErr, IfOk, length};
 ghost use Rattle.rb_io.specs.Views.{SourceSeen};
 ghost use Rattle.cli_base.specs.World.{world};
@@ -30,7 +31,7 @@ fn answer_in(
 {
     let elf = elf_image::read(alloc, file)?;
     let text = answer(alloc, &elf, question, address)?;
-    // `TooLarge` has the highest number, so it is answered only where no table has a fault.
+    // `TooLarge` has the highest number, so it is only reported if no table has a fault.
     if has_too_much_code(&elf) {
         return Err(Refusal::Fault(Fault::at(FaultKind::TooLarge, CODE_BYTES)));
     }
@@ -45,7 +46,7 @@ pub fn look_up<F: Files, O: Sink>(
     files: &mut F,
     out: &mut O,
 ) -> Status
-    // Standard input can be any: it stays as it was.
+    // For any standard input, which is unchanged.
     ensures { (input : SourceSeen) → LookServes (looking_up question (lookup_given args.now).address)
         (lookup_given args.now).file result
         (world (F.seen files.old) input (O.seen out.old)) (world (F.seen files.new) input (O.seen out.new)) }

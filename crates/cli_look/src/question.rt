@@ -1,4 +1,4 @@
-// What is asked of the tables of a file at an address.
+// Questions to the tables of a file about an address.
 ghost use Rattle.std.specs.Prelude.{◌≡◌, IfErr, IfOk, OnOk};
 ghost use Rattle.rb_bytes.specs.FirstFault.{IsFree, IsRefusalBy};
 ghost use Rattle.cli_look.specs.Questions.{HasFaultFor, answer_text};
@@ -10,16 +10,16 @@ use lookup_core::look;
 use rb_bytes::fault::Refusal;
 use std::alloc::Global;
 
-/// What is asked of a file's tables at an address.
+/// A question to a file's tables about an address.
 #[derive(Clone, Copy)]
 pub enum Question {
-    /// All that the tables say of the address.
+    /// Everything that the tables say about the address.
     Report,
-    /// The functions that the address belongs to, inlined ones among them, and where control is in each.
+    /// The functions that contain the address, including inlined ones, and the source position in each.
     Frames,
 }
 
-/// The answer as lines, or the fault with the lowest number of the tables that `question` needs.
+/// The answer as lines; or the fault with the lowest number, of the tables that the question needs.
 pub fn answer(
     alloc: Global,
     elf: &Elf<'_>,

@@ -1,4 +1,4 @@
-// The command `sample`: a sample is made, and only then are its file, its profile and the line written.
+// The command `sample`: a sample is made, and then its file, its profile and the line are written.
 ghost use Rattle.std.specs.Prelude.{◌≢◌, ◌≤◌};
 ghost use Rattle.rb_io.specs.Views.{FilesGoOn, SourceSeen};
 ghost use Rattle.cli_base.specs.World.{world};
@@ -48,7 +48,7 @@ pub fn sample<F: Files, O: Sink>(
 ) -> Status
     requires number { IsSampleNumber args.now.number }
     requires apart { args.now.file.now ≢ args.now.profile.now }
-    // Standard input can be any: it stays as it was.
+    // For any standard input, which is unchanged.
     ensures { (input : SourceSeen) → SampleServes (sample_given args.now) result
         (world (F.seen files.old) input (O.seen out.old)) (world (F.seen files.new) input (O.seen out.new)) }
 {

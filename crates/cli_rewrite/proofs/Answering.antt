@@ -1,4 +1,4 @@
--- From what the steps of `rewrite` and `map` come to, to the answers of the whole.
+-- From the results of the steps of `rewrite` and `map` to their answers.
 use Rattle.std.proofs.Common.{◌≡◌, ◌∙◌, refl, ap, subst, ℕ, List, IsTrue}
 use Rattle.rb_io.specs.FaultCounts.{Rose}
 use Rattle.rb_io.specs.Names.{Unchanged}
@@ -60,7 +60,7 @@ module _ (names : RewriteNames) (written map summary : List ℕ) (old mid new : 
   line_taken : TakesAll mid.output.taken new.output.taken summary → TakesAll old.output.taken new.output.taken summary
   line_taken = subst (λ (s : SinkSeen). TakesAll s.taken new.output.taken summary) between.output_is
 
--- the texts that were written are those of what was made
+-- the texts that were written are the texts about the rewrite
 texts_are : (answer : Status) (names : RewriteNames) (made : MadeRewrite) (texts : Texts) (mid new : World) →
     AreTextsOf made texts
     → OutputsWritten answer names made.written texts.map.items texts.summary.items mid new
@@ -85,7 +85,7 @@ module _ (names : RewriteNames) (made : MadeRewrite) (old mid new : World) (betw
       → OutputsWritten answer names made.written texts.map.items texts.summary.items mid new → RewriteAnswers names old new answer
   writes texts is answer written = ends answer (texts_are answer names made texts mid new is written)
 
--- the map of what was made was printed, whole or in part
+-- the map of the rewrite was printed, completely or in part
 module _ (names : InputNames) (made : MadeRewrite) (old mid new : World) (between : IsBetween old mid)
     (of : IsMadeOf names old.files made)
     (same : Unchanged old.files.content new.files.content) where

@@ -1,4 +1,4 @@
--- Each answer of `rewrite` and `map` but Ok and want of memory has a cause: a fault that is present, or a count that rose.
+-- Each answer of `rewrite` and `map` other than Ok and running out of memory has a cause: a fault that is present, or a count that rose.
 use Rattle.std.proofs.Common.{◌≤◌, sym, subst, ℕ, List, IsTrue}
 use Rattle.rb_io.specs.Views.{FilesGoOn}
 use Rattle.bolt_core.specs.Refusals.{IsRefused}

@@ -1,4 +1,4 @@
--- Where a file was rewritten, the functions at each byte of new code are those of its owner.
+-- In a rewritten file, the functions at each byte of new code are the functions at its owner.
 use Rattle.rb_bytes.specs.FirstFault.{IsFree}
 use Rattle.elf_image.specs.declared.elf.Elf.{Elf}
 use Rattle.table_set.specs.TableFaults.{HasDebugFault}

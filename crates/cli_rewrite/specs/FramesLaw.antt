@@ -1,4 +1,4 @@
--- The functions of addresses in a file that was rewritten, as a statement of all files and profiles.
+-- The functions at addresses of a rewritten file, as a statement about all files and profiles.
 use Rattle.std.specs.Prelude.{◌≡◌, ℕ, List, Some}
 use Rattle.addr_map.specs.Spans.{owner}
 use Rattle.addr_map.specs.declared.span.Span.{Span}
@@ -6,7 +6,8 @@ use Rattle.bolt_core.specs.RewriteCounts.{RewriteCounts}
 use Rattle.bolt_core.specs.RewrittenFile.{IsRewritten}
 use Rattle.inline_frames.specs.Frames.{frames}
 
--- At each byte of the new code they are, with the place of control in each, those of the input at the byte's owner.
+-- At each byte of the new code, the functions, with the source position in each, are those at the byte's owner in the
+-- input.
 abbrev pub FramesLaw : Type 0
 FramesLaw =
     (file profile written : List ℕ) (spans : List Span) (counts : RewriteCounts)

@@ -1,4 +1,4 @@
--- What is made of an input and its profile.
+-- The rewrite of an input by its profile.
 use Rattle.std.specs.Prelude.{ℕ, List, IsTrue}
 use Rattle.rb_io.specs.Views.{FilesSeen}
 use Rattle.addr_map.specs.declared.span.Span.{Span}
@@ -8,13 +8,13 @@ use Rattle.bolt_core.specs.declared.rewriting.Rewritten.{Rewritten}
 use Rattle.cli_base.specs.Inputs.{AreRead}
 use Rattle.cli_args.specs.Args.{InputNames}
 
--- what a rewrite makes: the bytes of the output, the map, and what was counted
+-- the result of a rewrite: the bytes of the output, the map, and the counts
 pub record MadeRewrite : Type 0 where
   pub written : List ℕ
   pub spans : List Span
   pub counts : RewriteCounts
 
--- as the code keeps it
+-- a rewrite, in the terms of the code
 abbrev pub made_by : Rewritten → MadeRewrite
 made_by r = record { written = r.file.items; spans = r.map; counts = counts_seen r }
 

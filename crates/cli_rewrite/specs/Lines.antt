@@ -2,7 +2,7 @@
 use Rattle.std.specs.Prelude.{ℕ, List, ◌++◌, codes, decimal}
 use Rattle.bolt_core.specs.RewriteCounts.{RewriteCounts}
 
--- what was moved
+-- the counts of the rewrite
 abbrev pub summary_line : RewriteCounts → List ℕ
 summary_line counts =
     codes "moved " ++ decimal counts.functions ++ codes " functions, " ++ decimal counts.instructions

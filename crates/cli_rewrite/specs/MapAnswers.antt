@@ -19,7 +19,7 @@ pub data MapAnswers (names : InputNames) (old new : World) (answer : Status) : T
       → FailsAtLine (map_text made.spans) old new → MapAnswers names old new answer
   stopped : IsStopped IsRefused names old new answer → MapAnswers names old new answer
 
--- it is printed, or memory runs out, where no fault is present and no count rose
+-- the map is printed, or memory runs out, if there is no fault and no count rose
 abbrev pub MapCompletes : InputNames → Status → World → World → Type 0
 MapCompletes names answer old new =
     IsTrue old.files.told → OfInputs old names (IsAccepted IsRefused) → NoInputErrors names old new →

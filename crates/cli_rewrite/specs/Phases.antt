@@ -1,4 +1,4 @@
--- What the last steps of a command come to.
+-- The results of the last steps of a command.
 use Rattle.std.specs.Prelude.{◌≡◌, ℕ, List}
 use Rattle.rb_io.specs.TakenText.{TakesAll}
 use Rattle.addr_map.specs.MapText.{map_text}
@@ -11,7 +11,7 @@ use Rattle.cli_base.specs.declared.status.Status.{Status}
 use Rattle.cli_base.specs.declared.status.Status.TheVariants as status
 use Rattle.cli_rewrite.specs.declared.rewriting.Texts.{Texts}
 
--- the texts that say what was made
+-- the texts about a rewrite
 pub record AreTextsOf (made : MadeRewrite) (texts : Texts) : Type 0 where
   pub map_is : texts.map.items ≡ map_text made.spans
   pub summary_is : texts.summary.items ≡ summary_line made.counts

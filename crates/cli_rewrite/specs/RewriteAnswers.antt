@@ -14,23 +14,23 @@ use Rattle.cli_args.specs.Args.{RewriteNames}
 use Rattle.cli_base.specs.Served.{IsServed}
 use Rattle.cli_base.specs.World.{World, WriteRose}
 
--- other names than those of the output and of the map have what they had
+-- all files other than the output and the map are unchanged
 abbrev pub OthersKept : RewriteNames → World → World → Type 0
 OthersKept names old new =
     (name : List ℕ) → name ≢ names.out → name ≢ names.map → new.files.content name ≡ old.files.content name
 
--- the output holds these bytes, where files are told
+-- the output has these bytes, if files are transparent
 abbrev pub HoldsOut : RewriteNames → List ℕ → World → World → Type 0
 HoldsOut names written old new = IsTrue old.files.told → new.files.content names.out ≡ Some written
 
--- both files hold their bytes, and no other name changed
+-- both files have their bytes, and no other file changed
 pub record HoldBoth (names : RewriteNames) (written map : List ℕ) (old new : World) : Type 0 where
   pub out : HoldsOut names written old new
   pub map_is : IsTrue old.files.told → new.files.content names.map ≡ Some map
   pub others : OthersKept names old new
 
--- A write fails: of the output, which alone may have changed; of the map, after the output; or of the summary, after
--- both.
+-- A write fails: of the output, and only this file may have changed; of the map, after the output; or of the summary,
+-- after both.
 pub data StopsWriting (names : RewriteNames) (written map summary : List ℕ) (old new : World) : Type 0 where
   at_out : WriteRose old new names.out → new.output.taken ≡ old.output.taken
       → UnchangedBut names.out old.files.content new.files.content → StopsWriting names written map summary old new
@@ -49,13 +49,13 @@ pub data RewriteAnswers (names : RewriteNames) (old new : World) (answer : Statu
       → RewriteAnswers names old new answer
   stopped : IsStopped IsRefused names.inputs old new answer → RewriteAnswers names old new answer
 
--- no count of faults rose, of the files that are written neither
+-- no count of faults rose, nor those of the files that are written
 pub record NoneRoseWriting (names : RewriteNames) (old new : World) : Type 0 where
   pub others : NoInputErrors names.inputs old new
   pub out : WriteRose old new names.out → ⊥
   pub map : WriteRose old new names.map → ⊥
 
--- it is done, or memory runs out, where no fault is present and no count rose
+-- the command is done, or memory runs out, if there is no fault and no count rose
 abbrev pub RewriteCompletes : RewriteNames → Status → World → World → Type 0
 RewriteCompletes names answer old new =
     IsTrue old.files.told → OfInputs old names.inputs (IsAccepted IsRefused) → NoneRoseWriting names old new →

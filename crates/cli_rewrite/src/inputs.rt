@@ -1,4 +1,4 @@
-// An input and its profile are read, and a rewrite is made of them, for `rewrite` and `map`.
+// Reading an input and its profile, and rewriting the input, for `rewrite` and `map`.
 ghost use Rattle.std.specs.Prelude.{◌≡◌, ◌≤◌, IfErr, IfOk, OnOk};
 ghost use Rattle.rb_io.specs.Names.{Unchanged};
 ghost use Rattle.rb_io.specs.Views.{FilesGoOn, SourceSeen};
@@ -14,7 +14,7 @@ use cli_base::{Status, read_inputs, refuse};
 use rb_io::{Files, Sink};
 use std::alloc::Global;
 
-/// Rewrites an input by its profile, and writes no file. The error is how the command ends. For a refusal the line has
+/// Rewrites an input by its profile, and writes no file. The error is the command's result. For a refusal the line has
 /// been printed, or its printing failed.
 pub fn rewrite_inputs<F: Files, O: Sink>(
     alloc: Global,
@@ -24,7 +24,7 @@ pub fn rewrite_inputs<F: Files, O: Sink>(
 ) -> Result<Rewritten, Status>
     ensures made { IfOk result (λ r. IsMadeOf (inputs_read args.now) (F.seen files.old) (made_by r)) }
     ensures unprinted { OnOk result (O.seen out.new ≡ O.seen out.old) }
-    // Standard input can be any: it stays as it was.
+    // For any standard input, which is unchanged.
     ensures stopped { (input : SourceSeen) → IfErr result (IsStopped IsRefused (inputs_read args.now)
         (world (F.seen files.old) input (O.seen out.old)) (world (F.seen files.new) input (O.seen out.new))) }
     ensures kept { Unchanged (F.seen files.old).content (F.seen files.new).content }

@@ -1,4 +1,4 @@
-//! The commands that rewrite a file: `rewrite`, and `map`, which prints where code went.
+//! The commands that rewrite a file: `rewrite`, and `map`, which prints the map from old to new code.
 #![tactic(auto)]
 
 ghost use Rattle.cli_rewrite.specs.FramesLaw.{FramesLaw};
@@ -11,8 +11,8 @@ pub mod rewriting;
 pub use mapping::print_map;
 pub use rewriting::rewrite;
 
-/// Does nothing: its clause is a law. Where a file was rewritten, the functions at each byte of new code are those of
-/// the byte's owner, with the place of control in each.
+/// A law: in a rewritten file, the functions at each byte of new code, with the source position in each, are those at
+/// the byte's owner in the input. The function does nothing.
 pub fn frames_law()
     ensures { FramesLaw }
 {}

@@ -17,7 +17,7 @@ pub fn print_map<F: Files, O: Sink>(
     files: &mut F,
     out: &mut O,
 ) -> Status
-    // Standard input can be any: it stays as it was.
+    // For any standard input, which is unchanged.
     ensures { (input : SourceSeen) → MapServes (inputs_read args.now) result
         (world (F.seen files.old) input (O.seen out.old)) (world (F.seen files.new) input (O.seen out.new)) }
 {

@@ -1,5 +1,5 @@
-// The command `rewrite`: a rewrite is made, with all texts that say what it is, and only then are the output, the map
-// and the summary written.
+// The command `rewrite`: a rewrite is made, with all texts about it, and then the output, the map and the summary are
+// written.
 ghost use Rattle.std.specs.Prelude.{◌≡◌, ◌≢◌, ◌≤◌, IfOk};
 ghost use Rattle.rb_io.specs.Views.{FilesGoOn, SourceSeen};
 ghost use Rattle.cli_args.specs.Args.{names_read};
@@ -17,7 +17,7 @@ use rb_bytes::fault::NoMemory;
 use rb_io::{Files, Put, Sink, Wrote, print_all};
 use std::alloc::Global;
 
-/// The texts that say what a rewrite made.
+/// The texts about a rewrite.
 #[derive(Drop)]
 pub struct Texts {
     /// The text of its map.
@@ -35,7 +35,7 @@ fn texts_of(alloc: Global, rewritten: &Rewritten) -> Result<Texts, NoMemory>
     Ok(Texts { map, summary })
 }
 
-// Writes the output, then the map, and then prints the summary. The first that fails ends the command.
+// Writes the output, then the map, and then prints the summary. The first failure ends the command.
 fn write_outputs<F: Files, O: Sink>(
     args: &RewriteArgs<'_>,
     files: &mut F,
@@ -70,7 +70,7 @@ pub fn rewrite<F: Files, O: Sink>(
     out: &mut O,
 ) -> Status
     requires { args.now.out.now ≢ args.now.map.now }
-    // Standard input can be any: it stays as it was.
+    // For any standard input, which is unchanged.
     ensures { (input : SourceSeen) → RewriteServes (names_read args.now) result
         (world (F.seen files.old) input (O.seen out.old)) (world (F.seen files.new) input (O.seen out.new)) }
 {

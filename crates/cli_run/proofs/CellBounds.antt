@@ -23,7 +23,7 @@ use Rattle.elf_image.proofs.ReadLists.{get_or-segments}
 
 -- Widths.
 
--- which relocations say how wide a difference is that can be a cell
+-- the relocations of a difference that can be a cell have at least 32 bits
 wide : (kind bits : ℕ) → same_width (Bits bits) (plus_width kind) ≡ true →
     (is_add kind || is_pc_difference kind) ≡ true → 32 ≤ bits
 wide kind bits same can = add32 (kind == 35) refl

@@ -1,4 +1,4 @@
--- What is printed and written after a run, by whether its answer says how it came out.
+-- What is printed and written after a run, by whether it was interrupted.
 use Rattle.std.proofs.Common.{◌≡◌, ◌∙◌, ap, subst, sym, true, false, ℕ, List}
 use Rattle.rb_io.specs.Names.{Unchanged}
 use Rattle.rb_io.specs.Views.{SinkSeen}
@@ -43,7 +43,7 @@ module _ (result : Status) (steps : ℕ) (before after : SinkSeen) where
   nothing_closes (status.Unfaithful clause place) is same kept = (same, kept)
 
 module _ (result : Status) (out text : List ℕ) (steps : ℕ) (old new : World) where
-  -- the answer says how the run came out, and the profile was written
+  -- the run wasn't interrupted, and the profile was written
   finished_by : (end : Answer Cause) → is_outcome (status_of status.Trapped end) ≡ true →
       ProfileWritten result (status_of status.Trapped end) out text (closing_line (status_of status.Trapped end) steps) old new →
       Finished result out text steps old new end
@@ -60,7 +60,7 @@ module _ (result : Status) (out text : List ℕ) (steps : ℕ) (old new : World)
       finished_by end (ap is_outcome (sym same) ∙ is)
       (subst (λ (s : Status). ProfileWritten result s out text (closing_line s steps) old new) same text_written)
 
-  -- it doesn't, and nothing was written
+  -- the run was interrupted, and nothing was written
   left_by : (end : Answer Cause) → is_outcome (status_of status.Trapped end) ≡ false → result ≡ status_of status.Trapped end →
       Unchanged old.files.content new.files.content → new.output.taken ≡ old.output.taken →
       Finished result out text steps old new end

@@ -20,7 +20,7 @@ use Rattle.cli_base.proofs.FaultCounts.{rose_after}
 use Rattle.cli_run.proofs.RunAnswering.{IsLawful, IsFileServed, ending_said, stop_said, some_said, other_exact}
 use Rattle.cli_run.proofs.SymbolRunAnswering.{not_both}
 
--- the profile still holds its text, and the others what they had
+-- the profile still has its text, and the other files are unchanged
 still_holds : (out text : List ℕ) (old new : World) (files : FilesSeen) → Unchanged old.files.content files.content
     → FilesGoOn old.files files
     → HoldsFile out text (record { files = files; input = old.input; output = old.output }) new → HoldsFile out text old new
@@ -29,7 +29,7 @@ still_holds out text old new files same go_on holds = record {
   others = record { others = λ name apart. holds.others.others name apart ∙ same.each name };
 }
 
--- a run that got under way refuses no file, so it may have read its input
+-- a run that started isn't refused, so it may have read its input
 module _ (program : Program) (args : RecordArgs) (old_world new_world : World) (answer : Status) where
   not_refused : (fault : Fault) → RecordsRun program args old_world new_world answer → answer ≡ status.Refused fault → ⊥
   not_refused fault (recorded (Ends value) text so profiled holds) same = absurd (cc)
@@ -56,14 +56,14 @@ lawful = record {
 }
 
 module _ (args : RecordArgs) (old new : World) where
-  -- a run that got under way
+  -- a run that started
   goes_under_way : (answer : Status) (file : List ℕ) (program : Program)
       → (IsTrue old.files.told → old.files.content args.run.file ≡ Some file) → IsFileProgram file program
       → RecordsRun program args old new answer → RecordAnswers args old new answer
   goes_under_way answer file program is program_is run =
       under_way (record { file = file; file_is = is; program = program; program_is = program_is; run = run })
 
-  -- what holds from after the file was read on, when nothing was printed, holds from before it
+  -- facts of the world after the file was read, if nothing was printed, are facts of the world before
   after_reading : (program : Program) (files : FilesSeen) (answer : Status) → Unchanged old.files.content files.content
       → FilesGoOn old.files files
       → RecordsRun program args (record { files = files; input = old.input; output = old.output }) new answer
@@ -92,7 +92,7 @@ module _ (args : RecordArgs) (old new : World) where
   after_reading program files answer same go_on (stopped stops kept) =
       stopped stops (record { each = λ name. kept.each name ∙ same.each name })
 
-  -- Where all is quiet, the answer of a run that got under way says how it came out.
+  -- If there are no errors, the answer of a run that started is its result.
   module _ (file : List ℕ) (told : IsTrue old.files.told) (is : old.files.content args.run.file ≡ Some file)
       (can : record_mode.CanRun file) (quiet : NoneRoseRecording args old new) (answer : Status) where
     recorded_said : (program : Program) → RecordsRun program args old new answer → IsRunAnswer answer
@@ -135,7 +135,7 @@ module _ (args : RecordArgs) (old new : World) where
         };
       }
 
-  -- the whole of it, by what is served of the file
+  -- all facts together, from what was done for the file
   pub serves : (answer : Status) → IsRecordServed answer → FilesGoOn old.files new.files
       → old.input.faults ≤ new.input.faults → old.output.faults ≤ new.output.faults → RecordServes args answer old new
   serves answer served go_on input output = record {

@@ -1,4 +1,4 @@
--- From what a recorded run and the last steps come to, to the answers of a run that is recorded.
+-- From the results of a recorded run and of its last steps to the answers of `record`.
 use Rattle.std.proofs.Common.{◌≡◌, ◌∙◌, subst, refl, ℕ, ◌≤◌, ◌⊎◌, List, inl, inr}
 use Rattle.rb_io.specs.TakenText.{TakesAll, TakesPrefix}
 use Rattle.rb_io.specs.Views.{SinkSeen}
@@ -30,7 +30,7 @@ use Rattle.cli_base.specs.declared.status.Status.{Status}
 use Rattle.cli_base.proofs.FaultCounts.{rose_after}
 use Rattle.cli_run.proofs.RunEnds.{came_on, came_ended, came_halted, comes_out, unclosed, stops, only, step_answer, Came}
 
--- a recorded run of the functions and blocks by other names of them
+-- a recorded run of the functions and blocks, as slices
 pub by_names : (elf : Elf) (args : List (List ℕ)) (limit : ℕ) (before after : Outside) (funcs funcs' : List Func)
     (blocks blocks' : List Block) (n : ℕ) (text : List ℕ) (a : Answer Cause) → funcs ≡ funcs' → blocks ≡ blocks'
     → Records (start elf.file.now args) limit before after elf funcs blocks n text a
@@ -39,13 +39,13 @@ by_names elf args limit before after funcs funcs' blocks blocks' n text a same_f
     subst (λ (fs : List Func). Records (start elf.file.now args) limit before after elf fs blocks' n text a) same_funcs
     (subst (λ (bs : List Block). Records (start elf.file.now args) limit before after elf funcs bs n text a) same_blocks r)
 
--- The run ends with what was taken by `output`, and then the profile is written.
+-- The output of the run is `output`, and then the profile is written.
 module _ (program : Program) (args : RecordArgs) (steps : ℕ) (text : List ℕ) (old new : World) (output : SinkSeen)
     (writes_rise : old.output.faults ≤ output.faults) (writes_last : output.faults ≤ new.output.faults) where
   abbrev machine : Loaded ℕ ℕ Cause
   machine = record_machine program args.run.args
 
-  -- between the run and the writing
+  -- the world between the run and the writing
   abbrev between : World
   between = record { files = old.files; input = new.input; output = output }
 
@@ -75,7 +75,7 @@ module _ (program : Program) (args : RecordArgs) (steps : ℕ) (text : List ℕ)
       r.starts (λ input. refl)
       (λ pc cause result steps b c printed. printed) refl refl writes_rise writes_last Takes ending line came
 
-  -- a run that came out, and its profile
+  -- a run that wasn't interrupted, and its profile
   came_out : (a : Answer Cause) (r : Runs a) (ending : Ending Cause) (came : CameSo a r ending)
       (moves : List Move) (state : ByteState) → ByteMoves (machine.start came.input) (moving_steps ending steps) moves state
       → IsEdgeText program.elf program.code.funcs (taken program.code.funcs program.blocks moves) text → (result : Status)

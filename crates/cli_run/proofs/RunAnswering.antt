@@ -1,4 +1,4 @@
--- From what the steps of `run` come to, to the answers of the whole, in either mode.
+-- From the results of the steps of `run` to its answers, in either mode.
 use Rattle.std.proofs.Common.{◌≡◌, ◌∙◌, ◌<◌, ◌≤◌, ◌⊎◌, sym, ap, subst, inl, inr, ℕ, List, length, Option, Some, None, IsTrue, IsSomeAnd}
 use Rattle.std.specs.Prelude.{unwrap_or}
 use Rattle.rb_io.specs.Names.{Unchanged}
@@ -36,24 +36,24 @@ present_fault : (content : Option (List ℕ)) (file : List ℕ) (P : List ℕ �
     P file → IsSomeAnd content P
 present_fault content file P is why = subst (λ (o : Option (List ℕ)). IsSomeAnd o P) (sym is) why
 
--- a file that was read into a buffer is passed on as a slice of it
+-- a file that was read into a buffer is passed as a slice
 pub passed_is : (content : Option (List ℕ)) (buffer slice : List ℕ) → slice ≡ buffer → content ≡ Some buffer →
     content ≡ Some slice
 passed_is content buffer slice passed is = is ∙ ap Some (sym passed)
 
--- two names of a file's content
+-- the content of a file is unique
 same_content : (content : Option (List ℕ)) (one other : List ℕ) → content ≡ Some one → content ≡ Some other → one ≡ other
 same_content content one other is is' = ap (λ o. unwrap_or o one) (sym is ∙ is')
 
--- What a mode has to say of itself: a file that is too long can't be run, none can be run and refused, and that a machine
--- halts is said by an answer of runs.
+-- The conditions on a mode: a file that is too long can't be run, none can be both run and refused, and an answer of runs reports that a
+-- machine halted.
 pub record IsLawful {P V X C : Type 0} (mode : Mode P V X C) : Type 0 where
   pub long_cannot : (file : List ℕ) → file_limit < length file → mode.CannotRun file (fault_at TooLarge 0)
   pub not_both : (file : List ℕ) (fault : Fault) → mode.CannotRun file fault → mode.CanRun file → ⊥
   pub halts : (program : P) (args : List (List ℕ)) (pc : ℕ) (cause : C) → IsRunAnswer
       ((mode.machine program args).halted pc cause)
 
--- The answer of a run, and that it is complete, where Q says that all is quiet. U holds of a run that got under way.
+-- The answer of a run, and that it is complete if Q, which says that there are no errors, holds. U holds for a run that started.
 pub record IsFileServed {P V X C : Type 0} (mode : Mode P V X C) (args : RunArgs) (U Q : Type 0) (old new : World)
     (answer : Status) : Type 0 where
   pub done : FileAnswers mode args U old new answer
@@ -64,7 +64,7 @@ abbrev pub IsRunServed : {P V X C : Type 0} → Mode P V X C → RunArgs → Wor
 IsRunServed mode args old new answer =
     IsFileServed mode args (IsUnderWay mode args old new answer) (NoRunErrors args old new) old new answer
 
--- the whole of it, by what is served of the file
+-- all facts together, from what was done for the file
 pub serves : {P V X C : Type 0} (mode : Mode P V X C) (args : RunArgs) (old new : World) (answer : Status) →
     IsRunServed mode args old new answer → FilesGoOn old.files new.files → old.input.faults ≤ new.input.faults
     → old.output.faults ≤ new.output.faults → RunServes mode args answer old new
@@ -77,7 +77,7 @@ serves mode args old new answer served go_on input output = record {
 }
 
 module _ {P V X C : Type 0} (mode : Mode P V X C) (args : RunArgs) (old new : World) where
-  -- a refusal, where its fault is present and the files and the input are as they were
+  -- a refusal, if its fault is present and the files and the input are unchanged
   pub refuses : (U : Type 0) (answer : Status) (fault : Fault)
       → LinePrinted answer (status.Refused fault) (refused_line fault) old.output new.output
       → Unchanged old.files.content new.files.content → HasRunFault mode args old fault → new.input ≡ old.input
@@ -91,7 +91,7 @@ module _ {P V X C : Type 0} (mode : Mode P V X C) (args : RunArgs) (old new : Wo
 
   module _ (law : IsLawful mode) (file : List ℕ) (told : IsTrue old.files.told) (is : old.files.content args.file ≡ Some file)
       (can_run : mode.CanRun file) where
-    -- no fault of the file is present
+    -- the file has no fault
     pub none_present : (fault : Fault) → HasRunFault mode args old fault → ⊥
     none_present fault present =
         law.not_both file fault (subst (λ (o : Option (List ℕ)). IsSomeAnd o (λ f. mode.CannotRun f fault)) is (present told))
@@ -102,7 +102,7 @@ module _ {P V X C : Type 0} (mode : Mode P V X C) (args : RunArgs) (old new : Wo
     ending_said program (HaltsAt pc cause) = law.halts program args.args pc cause
     ending_said program RunsOn = tt
 
-    -- no run that was cut short had a cause, where all is quiet
+    -- without errors, an interrupted run has no cause other than memory
     pub stop_said : (program : P) (answer : Status) → NoRunErrors args old new →
         StopsRun (mode.machine program args.args) args.limit (outside old) (outside new) answer → IsRunAnswer answer
     stop_said program answer quiet (at_input so rose stops) = absurd (quiet.input rose)
@@ -115,7 +115,7 @@ module _ {P V X C : Type 0} (mode : Mode P V X C) (args : RunArgs) (old new : Wo
     run_said program answer quiet (at_closing so rose ending out) = absurd (quiet.out rose)
     run_said program answer quiet (stopped stops) = stop_said program answer quiet stops
 
-    -- what is said where it got under way
+    -- the answer of a run that started
     pub some_said : (U : Type 0) (answer : Status) → (U → IsRunAnswer answer) → NoRunErrors args old new →
         FileAnswers mode args U old new answer → IsRunAnswer answer
     some_said U answer said quiet (under_way way) = said way
@@ -134,7 +134,7 @@ module _ {P V X C : Type 0} (mode : Mode P V X C) (args : RunArgs) (old new : Wo
       exactly = exact;
     }
 
-  -- a run that got under way refuses no file
+  -- a run that started isn't refused
   pub run_not_refused : IsLawful mode → (program : P) (before after : Outside) (answer : Status) (fault : Fault) →
       AnswersRun (mode.machine program args.args) args.limit before after answer → answer ≡ status.Refused fault → ⊥
   run_not_refused law program before after answer fault (came_out (Ends value) so out) same = absurd (cc)
@@ -146,7 +146,7 @@ module _ {P V X C : Type 0} (mode : Mode P V X C) (args : RunArgs) (old new : Wo
   run_not_refused law program before after answer fault (stopped (at_output so rose stops)) same = absurd (cc)
   run_not_refused law program before after answer fault (stopped (out_of_memory so stops)) same = absurd (cc)
 
-  -- what is exact for a file's content by one of its names is so by the other
+  -- an answer that is exact for a file's content is exact for an equal content
   pub other_exact : (answer : Status) (one other : List ℕ) (program : P) → old.files.content args.file ≡ Some one
       → old.files.content args.file ≡ Some other → mode.IsProgram one program
       → IsExact (mode.machine program args.args) args.limit old.input.left answer
@@ -158,7 +158,7 @@ module _ {P V X C : Type 0} (mode : Mode P V X C) (args : RunArgs) (old new : Wo
         (subst (λ f. mode.IsProgram f program) (same_content (old.files.content args.file) one other is is') program_is, exact),
       )
 
-  -- Nothing is run, and the files and the input are as they were.
+  -- Nothing is run, and the files and the input are unchanged.
   module _ (law : IsLawful mode) {U Q : Type 0} (quiet : Q → NoRunErrors args old new) (answer : Status)
       (same : Unchanged old.files.content new.files.content) (unread : new.input ≡ old.input) where
     fault_answered : (fault : Fault) → LinePrinted answer (status.Refused fault) (refused_line fault) old.output new.output →
@@ -174,7 +174,7 @@ module _ {P V X C : Type 0} (mode : Mode P V X C) (args : RunArgs) (old new : Wo
       completes = λ told file is can. record { some = λ q. subst IsRunAnswer (sym so) tt; exactly = inl (no_memory so) };
     }
 
-    -- for the file wasn't read
+    -- the file wasn't read
     pub file_unread : IsUnread args.file file_limit old.files new.files old.output new.output answer → IsFileServed mode args U Q old new
         answer
     file_unread (reading.too_long fault so long printed) =
@@ -194,14 +194,14 @@ module _ {P V X C : Type 0} (mode : Mode P V X C) (args : RunArgs) (old new : Wo
         (is told) why)
     refusal_answered file refusal.Memory is why kept = no_memory_answered kept.0 kept.1
 
-    -- for the file is refused, or memory is wanting, after it was read and nothing was printed
+    -- the file is refused, or memory ran out, after it was read and before anything was printed
     pub file_refused : (file : List ℕ) (r : Refusal) (mid : SinkSeen) → mid ≡ old.output
         → (IsTrue old.files.told → old.files.content args.file ≡ Some file) → IsRefusalFor (mode.CannotRun file) r
         → Refuses r answer mid new.output → IsFileServed mode args U Q old new answer
     file_refused file r mid unprinted is why refuses =
         refusal_answered file r is why (subst (λ (o : SinkSeen). Refuses r answer o new.output) unprinted refuses)
 
-  -- the run got under way, after the file was read and nothing was printed
+  -- the run started, after the file was read and before anything was printed
   pub run_answered : IsLawful mode → (answer : Status) → Unchanged old.files.content new.files.content
       → (file : List ℕ) (program : P) (mid : SinkSeen) → mid ≡ old.output
       → (IsTrue old.files.told → old.files.content args.file ≡ Some file) → mode.IsProgram file program

@@ -1,4 +1,4 @@
--- From what a machine's run and the closing line come to, to the answers of a run.
+-- From the results of a machine's run and of the closing line to the answers of a run.
 use Rattle.std.proofs.Common.{◌≡◌, ◌∙◌, refl, sym, ap, subst, ℕ, ◌≤◌, ◌⊎◌, inl, inr, ⊎_elim, List, [], Some, arith}
 use Rattle.std.specs.Prelude.{unwrap_or}
 use Rattle.std.specs.Io.KnownBytes.{append_known}
@@ -22,7 +22,7 @@ use Rattle.cli_base.specs.declared.status.Status.{Status}
 use Rattle.cli_base.specs.declared.status.Status.TheVariants as status
 use Rattle.cli_base.proofs.FaultCounts.{rose_after, rose_before}
 
--- nothing was done
+-- no step was done
 no_step : {V X C : Type 0} (machine : Loaded V X C) (limit : ℕ) (now : Outside) →
     ((input : List ℕ) → (machine.start input).input ≡ input) → StopsAnywhere machine limit now now
 unfolding output
@@ -43,7 +43,7 @@ no_step machine limit now keeps =
       );
     }
 
--- a run that didn't start, for want of memory
+-- a run that didn't start, since memory ran out
 pub unstarted : {V X C : Type 0} (machine : Loaded V X C) (limit : ℕ) (now : Outside) →
     ((input : List ℕ) → (machine.start input).input ≡ input) → IsAnsweredRun machine limit now now status.NoMemory
 unstarted machine limit now keeps = record {
@@ -51,25 +51,25 @@ unstarted machine limit now keeps = record {
   exact = λ input is ending n trace rest run. inr (no_memory refl);
 }
 
--- The machine says that it halts by an answer that has a line.
+-- The answer that reports that the machine halted has a line.
 abbrev pub SaysHalts : {C : Type 0} → (ℕ → C → Status) → Type 0
 SaysHalts {C} halted = (pc : ℕ) (cause : C) (result : Status) (steps : ℕ) (before after : SinkSeen) →
     Closed result steps before after (halted pc cause) → SaysEnding result steps before after (halted pc cause)
 
--- the machine's answer for how a run comes out
+-- the machine's answer for the result of a run
 abbrev pub step_answer : {C : Type 0} → Ending C → Answer C
 step_answer (Ends value) = end.Ended value
 step_answer (HaltsAt pc cause) = end.Halted pc cause
 step_answer RunsOn = end.Going
 
--- A machine M keeps the state that `state_of` says. Its run and the closing line: `mid` is between them.
+-- A machine M represents the state that `state_of` gives. Its run and the closing line: `mid` is the world between them.
 module _ {M V X C : Type 0} (state_of : M → List ℕ → State V X) (machine : Loaded V X C) (limit : ℕ) (old new : M) (steps : ℕ)
     (before mid after : Outside)
     (loaded : (input : List ℕ) → state_of old input ≡ machine.start input)
     (keeps : (input : List ℕ) → (state_of new input).input ≡ input) (halts : SaysHalts machine.halted)
     (left_same : after.input.left ≡ mid.input.left) (reads_same : after.input.faults ≡ mid.input.faults)
     (writes_rise : before.output.faults ≤ mid.output.faults) (writes_last : mid.output.faults ≤ after.output.faults) where
-  -- the run came out so
+  -- the run has this result
   pub record Came (ending : Ending C) : Type 0 where
     pub input : List ℕ
     pub input_is : before.input.left ≡ as_told before.input.left input
@@ -205,7 +205,7 @@ module _ {M V X C : Type 0} (state_of : M → List ℕ → State V X) (machine :
       at_closing is (rose_after _ _ _ writes_rise rose) ending (comes_out TakesPrefix ending taken came)
   closed answer ending came (none_printed is same) = stopped (out_of_memory is (unclosed same ending came))
 
-  -- a fault of the source or the sink, or want of memory, after which nothing was printed
+  -- a read or write error, or running out of memory, after which nothing was printed
   pub stops : (a : Answer C) (answer : Status) → IsInterrupted a
       → RunsSomeInput state_of machine.step a limit steps old new before mid → answer ≡ status_of machine.halted a
       → after.output.taken ≡ mid.output.taken → StopsRun machine limit before after answer
@@ -302,7 +302,7 @@ module _ {M V X C : Type 0} (state_of : M → List ℕ → State V X) (machine :
       before.input.left ≡ Some input → given ≡ input
   same_input given input is told_so = ap (λ o. unwrap_or o given) (sym (ap (λ o. as_told o given) told_so) ∙ sym is ∙ told_so)
 
-  -- the answer is the only one, where it says how the run came out
+  -- the answer is unique, if it is the result of the run
   pub only : (a : Answer C) (answer : Status) → RunsSomeInput state_of machine.step a limit steps old new before mid
       → (IsInterrupted a → IsCutShort answer)
       → ((ending : Ending C) → a ≡ step_answer ending → SaysSo answer ending) → IsExact machine limit before.input.left answer

@@ -19,7 +19,7 @@ use Rattle.cli_run.proofs.ByteRunAnswering as by_bytes
 use Rattle.cli_run.proofs.RunAnswering.{file_unread, serves}
 use Rattle.cli_run.proofs.SymbolRunAnswering as by_symbols
 
--- a run that got under way may have read its input, since it refuses no file
+-- a run that started may have read its input, since it isn't refused
 pub run_keeps_input : {Input : Type 0} (answer : Status) (old new : Input) →
     ((fault : Fault) → answer ≡ status.Refused fault → ⊥) → IsInputKept ⊥ answer old new
 run_keeps_input answer old new not_refused =
@@ -38,7 +38,7 @@ module _ (args : RunArgs) (old new : World) (answer : Status) (same : Unchanged 
   unread_serves Symbols = serves symbol_mode args old new answer
       (file_unread symbol_mode args old new by_symbols.lawful (λ quiet. quiet) answer same unread is) go_on input_faults output
 
--- memory ran out, and nothing was done
+-- memory ran out before anything was done
 pub no_memory_serves : (mode : RunMode) (args : RunArgs) (w : World) → ServesRun mode args status.NoMemory w w
 no_memory_serves mode args w =
     unread_serves args w w status.NoMemory (record { each = λ name. refl }) refl (no_memory refl refl)

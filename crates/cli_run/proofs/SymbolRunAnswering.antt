@@ -18,7 +18,7 @@ use Rattle.cli_base.specs.ProgramFiles.{unreadable}
 use Rattle.cli_run.proofs.RunAnswering.{IsLawful}
 use Rattle.cli_run.proofs.TabledRanges.{same_tabled}
 
--- as many functions pass the same limits
+-- the limits only depend on the number of functions
 pub by_count : (file : List ℕ) (funcs funcs' : List Func) → length funcs ≡ length funcs' → (place : ℕ) →
     IsCodeTooLarge file funcs place → IsCodeTooLarge file funcs' place
 by_count file funcs funcs' same place (much_code e much) = much_code e much
@@ -33,7 +33,7 @@ readable file fault (bad_code plain other is has) elf faultless =
     (sym (same_tabled file other elf is faultless.read)) faultless.no_fault in
     one.0.free.1 free fault.kind fault.place has.present
 
--- as many functions, whichever reading they are made of
+-- the number of functions is the same for each reading of the file
 pub same_count : (file : List ℕ) (elf elf' : Elf) → IsElfOf file elf → IsElfOf file elf' → (funcs funcs' : List Func) →
     AreFunctions elf (tabled elf) funcs → AreFunctions elf' (tabled elf') funcs' → length funcs ≡ length funcs'
 same_count file elf elf' read read' funcs funcs' are are' =
@@ -56,7 +56,7 @@ lawful = record {
   halts = λ program args pc why. tt;
 }
 
--- what is read of a file keeps the file
+-- reading keeps the bytes of the file
 pub own_file : (file : List ℕ) (program : Program) → IsFileProgram file program →
     IsFileProgram program.elf.file.now program
 own_file file program is = subst (λ f. IsFileProgram f program) (sym is.program.faultless.read.file_is) is

@@ -1,4 +1,4 @@
--- The ranges of code with exception tables are those of the file, whichever reading they are taken of.
+-- The ranges of code with exception tables depend only on the file, not on the reading of it.
 use Rattle.std.proofs.Common.{◌≡◌, ◌∙◌, refl, sym, ap, ℕ, List, [], ◌∷◌, Some, Bool, true, false, map, filter}
 use Rattle.std.specs.Prelude.{if◌then◌else◌, codes, nat_lt}
 use Rattle.elf_image.specs.declared.elf.Elf.{Elf}
@@ -11,7 +11,7 @@ use Rattle.table_core.specs.Sections.{Held, held, held_by}
 use Rattle.cfi_rows.specs.Entries.{Fde}
 use Rattle.cfi_rows.specs.Frames.{frames_of, tabled}
 
--- what a section holds doesn't depend on where its name stands
+-- the contents of a section don't depend on the index of its name
 bare_held : (name file : List ℕ) (xs : List Section) →
     held_by file (section_called xs name) ≡ held_by file (section_called (map bare xs) name)
 bare_held name file [] = refl

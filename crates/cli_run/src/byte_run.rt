@@ -16,7 +16,7 @@ use rb_io::{Sink, Source};
 use rv_machine::Machine;
 use std::alloc::Global;
 
-/// Runs a file that was read, with the arguments and for the steps that `args` says, and prints how the run came out.
+/// Runs a file that was read, with the arguments and the limit of steps of `args`, and prints the result of the run.
 pub fn run_elf<I: Source, O: Sink>(
     alloc: Global,
     args: &RunArgs<'_>,

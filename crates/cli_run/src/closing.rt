@@ -1,4 +1,4 @@
-// How runs end.
+// The ends of runs.
 ghost use Rattle.std.specs.Prelude.{◌≡◌, ◌≤◌, IfOk};
 ghost use Rattle.rv_machine.specs.StepResults.{answered};
 ghost use Rattle.cli_run.specs.run.RunOutcomes.{closing_line};
@@ -10,7 +10,7 @@ use rb_io::Sink;
 use rv_machine::Stepped;
 use std::alloc::Global;
 
-/// The answer to how a run on the byte machine came out, or why it didn't.
+/// The command's result for a run on the byte machine, or for a run that was interrupted.
 pub fn status_of(end: Stepped) -> Status
     ensures { result ≡ status_of Status.Trapped (answered end) }
 {
@@ -24,8 +24,8 @@ pub fn status_of(end: Stepped) -> Status
     }
 }
 
-/// The line that says how a run came out; no bytes where `came` says that it didn't, for want of memory or by a fault
-/// of input or output.
+/// The closing line, which shows the result of a run. It is empty if `came` isn't a result, because memory ran out or
+/// an I/O error occurred.
 pub fn closing_line(alloc: Global, came: Status, steps: u64) -> Result<Vec<u8>, NoMemory>
     ensures { IfOk result (λ line. line.items ≡ closing_line came steps) }
 {
@@ -38,7 +38,7 @@ pub fn closing_line(alloc: Global, came: Status, steps: u64) -> Result<Vec<u8>, 
     }
 }
 
-/// Prints how a run came out, where `came` says that it did, and gives how the command ends.
+/// Prints the closing line, if `came` is the result of a run, and returns the command's result.
 pub fn close<O: Sink>(alloc: Global, came: Status, steps: u64, out: &mut O) -> Status
     ensures closed { Closed result steps (O.seen out.old) (O.seen out.new) came }
     ensures never_falls { (O.seen out.old).faults ≤ (O.seen out.new).faults }

@@ -1,5 +1,5 @@
-// The command `record`: the file is read whole, and runs on the byte machine. A profile of the run is written, and then
-// its closing line.
+// The command `record`: the file is read completely, and runs on the byte machine. A profile of the run is written, and
+// then its closing line.
 ghost use Rattle.std.specs.Prelude.{◌≤◌};
 ghost use Rattle.rb_io.specs.Views.{FilesGoOn, SourceSeen};
 ghost use Rattle.rv_memory.specs.Limits.{IsWithinLimits};
@@ -21,8 +21,8 @@ use program::{FILE_LIMIT, Program};
 use rb_io::{Files, Put, Sink, Source, Wrote, print_all};
 use std::alloc::Global;
 
-// Writes the profile of a run that came out to the file `name`, and then prints how it did. The line is made first, so
-// that want of memory leaves the file as it was.
+// Writes the profile of a run to the file `name`, and then prints the closing line. The line is made first, so that the
+// file is unchanged if memory runs out.
 fn write_profile<F: Files, O: Sink>(
     alloc: Global,
     name: &str,
@@ -49,7 +49,7 @@ fn write_profile<F: Files, O: Sink>(
     }
 }
 
-// Writes the profile and the closing line after a run, if it came out.
+// Writes the profile and the closing line after a run that wasn't interrupted.
 fn finish<F: Files, O: Sink>(
     alloc: Global,
     name: &str,
@@ -116,7 +116,7 @@ pub fn record<F: Files, I: Source, O: Sink>(
     ensures serves { RecordServes (record_given args.now) result
         (world (F.seen files.old) (I.seen input.old) (O.seen out.old))
         (world (F.seen files.new) (I.seen input.new) (O.seen out.new)) }
-    // A run may read standard input; after a refusal it stays as it was.
+    // A run may read standard input; after a refusal it is unchanged.
     ensures input_kept { IsInputKept ⊥ result input.old input.new }
 {
     let file = match read_file(alloc, args.run.file, FILE_LIMIT, files, out) {

@@ -1,4 +1,4 @@
-// The command `run`: the file is read whole, and then runs on the byte machine or, with `--symbols`, on the symbol
+// The command `run`: the file is read completely, and then runs on the byte machine or, with `--symbols`, on the symbol
 // machine.
 ghost use Rattle.rv_memory.specs.Limits.{IsWithinLimits};
 ghost use Rattle.cli_base.specs.Served.{IsInputKept};
@@ -14,7 +14,7 @@ use program::FILE_LIMIT;
 use rb_io::{Files, Sink, Source};
 use std::alloc::Global;
 
-/// The machine that a file runs on.
+/// The machine on which a file runs.
 #[derive(Clone, Copy)]
 pub enum RunMode {
     /// The byte machine, `rv_machine`.
@@ -36,7 +36,7 @@ pub fn run<F: Files, I: Source, O: Sink>(
     ensures serves { ServesRun mode (run_given args.now) result
         (world (F.seen files.old) (I.seen input.old) (O.seen out.old))
         (world (F.seen files.new) (I.seen input.new) (O.seen out.new)) }
-    // A run may read standard input; after a refusal it stays as it was.
+    // A run may read standard input; after a refusal it is unchanged.
     ensures input_kept { IsInputKept ⊥ result input.old input.new }
 {
     let file = match read_file(alloc, args.file, FILE_LIMIT, files, out) {

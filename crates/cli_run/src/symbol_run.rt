@@ -18,7 +18,7 @@ use rb_io::{Sink, Source};
 use std::alloc::Global;
 use sym_machine::{SymMachine, SymStepped};
 
-// The answer to how a run on the symbol machine came out, or why it didn't.
+// The command's result for a run on the symbol machine, or for a run that was interrupted.
 fn status_of(end: SymStepped) -> Status
     ensures { result ≡ status_of Status.Stuck (answered end) }
 {
@@ -32,7 +32,7 @@ fn status_of(end: SymStepped) -> Status
     }
 }
 
-/// Runs a program, with the arguments and for the steps that `args` says, and prints how the run came out.
+/// Runs a program, with the arguments and the limit of steps of `args`, and prints the result of the run.
 pub fn run_program<I: Source, O: Sink>(
     alloc: Global,
     program: &Program<'_>,

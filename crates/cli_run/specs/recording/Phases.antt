@@ -1,4 +1,4 @@
--- What the last steps of a run that is recorded come to.
+-- The results of the last steps of a recorded run.
 use Rattle.std.specs.Prelude.{◌≡◌, ℕ, List}
 use Rattle.rb_io.specs.FaultCounts.{Rose}
 use Rattle.rb_io.specs.Names.{Unchanged, UnchangedBut}
@@ -12,8 +12,8 @@ use Rattle.cli_base.specs.WrittenFiles.{HoldsFile}
 use Rattle.cli_base.specs.declared.status.Status.{Status}
 use Rattle.cli_base.specs.declared.status.Status.TheVariants as status
 
--- The profile was written and then the line printed, and `came` answered; or the profile fails, or the line; or
--- neither was written, out of memory.
+-- The profile was written, then the line printed, and the answer is `came`; or writing the profile fails, or printing
+-- the line; or neither was written, since memory ran out.
 pub data ProfileWritten (result came : Status) (out text line : List ℕ) (old new : World) : Type 0 where
   written : result ≡ came → HoldsFile out text old new → TakesAll old.output.taken new.output.taken line
       → ProfileWritten result came out text line old new
@@ -25,13 +25,14 @@ pub data ProfileWritten (result came : Status) (out text line : List ℕ) (old n
   unwritten : result ≡ status.NoMemory → Unchanged old.files.content new.files.content
       → new.output.taken ≡ old.output.taken → ProfileWritten result came out text line old new
 
--- nothing was written, and `came` answered
+-- nothing was written, and the answer is `came`
 pub record LeavesAll (result came : Status) (old new : World) : Type 0 where
   pub result_is : result ≡ came
   pub unwritten : Unchanged old.files.content new.files.content
   pub unprinted : new.output.taken ≡ old.output.taken
 
--- After a run that came out its profile is written, and nothing after an I/O error, or out of memory.
+-- The profile is written after a run that wasn't interrupted. After an I/O error, or if memory ran out, nothing is
+-- written.
 module _ (result : Status) (out text : List ℕ) (steps : ℕ) (old new : World) where
   abbrev pub SaysProfile : Status → Type 0
   SaysProfile came = ProfileWritten result came out text (closing_line came steps) old new

@@ -1,4 +1,4 @@
--- What holds at the end of a run that is recorded, by its answer.
+-- What holds at the end of a recorded run, by its answer.
 use Rattle.std.specs.Prelude.{◌≡◌, ℕ, List, Some, IsTrue}
 use Rattle.rb_io.specs.FaultCounts.{Rose}
 use Rattle.rb_io.specs.Names.{Unchanged, UnchangedBut}
@@ -22,13 +22,13 @@ use Rattle.cli_base.specs.WrittenFiles.{HoldsFile}
 use Rattle.cli_base.specs.declared.status.Status.{Status}
 use Rattle.cli_base.specs.declared.status.Status.TheVariants as status
 
--- nothing of the line was taken
+-- nothing of the line was written
 abbrev pub TakesNone : Taking
 TakesNone before after line = after ≡ before
 
 module _ (program : Program) (args : RecordArgs) (old new : World) where
-  -- The run comes out so, and the text is that of its moves: a line for each pair that was taken, by which a profile of
-  -- the file says just how often each pair was taken.
+  -- The run has this result, and the text is the profile of its moves: a line for each pair that was taken. Read as a
+  -- profile of the file, the text says exactly how often each pair was taken.
   pub record IsProfiled (Takes : Taking) (ending : Ending Cause) (text : List ℕ) : Type 0 where
     pub comes_out :
         ComesOut (record_machine program args.run.args) args.run.limit (outside old) (outside new) Takes ending
@@ -39,7 +39,7 @@ module _ (program : Program) (args : RecordArgs) (old new : World) where
         moves state
     pub text_is : IsEdgeText program.elf program.code.funcs (taken program.code.funcs program.blocks moves) text
 
-  -- how a run is answered that got under way
+  -- the possible answers of a run that started
   pub data RecordsRun (answer : Status) : Type 0 where
     recorded : (ending : Ending Cause) (text : List ℕ) →
         answer ≡ answer_of (record_machine program args.run.args) ending
@@ -53,13 +53,13 @@ module _ (program : Program) (args : RecordArgs) (old new : World) where
     stopped : StopsRun (record_machine program args.run.args) args.run.limit (outside old) (outside new) answer
         → Unchanged old.files.content new.files.content → RecordsRun answer
 
--- how a recorded run is answered that got under way, and that this is exact
+-- the answer of a recorded run that started, and that it is exact
 pub record IsAnsweredRecording (program : Program) (args : RecordArgs) (old new : World)
     (answer : Status) : Type 0 where
   pub records : RecordsRun program args old new answer
   pub exact : IsExact (record_machine program args.run.args) args.run.limit old.input.left answer
 
--- the file was read and has no fault, and the machine with its program answered so
+-- the file was read and has no fault, and the run of its program has this answer
 pub record IsRecording (args : RecordArgs) (old new : World) (answer : Status) : Type 0 where
   pub file : List ℕ
   pub file_is : IsTrue old.files.told → old.files.content args.run.file ≡ Some file
@@ -70,12 +70,12 @@ pub record IsRecording (args : RecordArgs) (old new : World) (answer : Status) :
 abbrev pub RecordAnswers : RecordArgs → World → World → Status → Type 0
 RecordAnswers args old new answer = FileAnswers record_mode args.run (IsRecording args old new answer) old new answer
 
--- no count of faults rose, of the file that is written neither
+-- no count of faults rose, nor that of the file that is written
 pub record NoneRoseRecording (args : RecordArgs) (old new : World) : Type 0 where
   pub others : NoRunErrors args.run old new
   pub out : WriteRose old new args.out → ⊥
 
--- of a file that can be run
+-- the answer for a file that can be run
 abbrev pub RecordCompletes : RecordArgs → Status → World → World → Type 0
 RecordCompletes args answer old new =
     IsTrue old.files.told → (file : List ℕ) → old.files.content args.run.file ≡ Some file → record_mode.CanRun file →

@@ -1,5 +1,4 @@
--- Runs that are recorded. They are runs on the byte machine, and what is recorded of them are moves between the
--- blocks of the file's code.
+-- Recorded runs: runs on the byte machine, of which the moves between the blocks of the file's code are recorded.
 use Rattle.std.specs.Prelude.{◌-◌, ℕ, List}
 use Rattle.rv_code.specs.declared.cause.Cause.{Cause}
 use Rattle.program.specs.Program.{Program}
@@ -11,7 +10,7 @@ use Rattle.cli_base.specs.ProgramFiles.{IsProgramFile, IsNoProgram, IsFileProgra
 abbrev pub record_machine : Program → List (List ℕ) → Loaded ℕ ℕ Cause
 record_machine program args = byte_machine program.elf.file.now args
 
--- `record` takes the files that `run --symbols` takes, and runs them on the byte machine
+-- `record` accepts the files that `run --symbols` accepts, and runs them on the byte machine
 abbrev pub record_mode : Mode Program ℕ ℕ Cause
 record_mode = record {
   IsProgram = IsFileProgram;
@@ -20,7 +19,7 @@ record_mode = record {
   CannotRun = IsNoProgram;
 }
 
--- how many of the steps that count make a move: all but one that ends
+-- the number of counted steps that make a move: all except one that ends the program
 abbrev pub moving_steps : Ending Cause → ℕ → ℕ
 moving_steps (Ends value) n = n - 1
 moving_steps _ n = n

@@ -1,4 +1,4 @@
--- Runs on the byte machine, which is given the whole file.
+-- Runs on the byte machine, which gets the whole file.
 use Rattle.std.specs.Prelude.{◌≡◌, ℕ, List}
 use Rattle.rv_code.specs.declared.cause.Cause.{Cause}
 use Rattle.rv_code.specs.machine.Step.{Steps}
@@ -11,7 +11,7 @@ use Rattle.cli_base.specs.declared.status.Status.TheVariants as status
 abbrev pub byte_machine : List ℕ → List (List ℕ) → Loaded ℕ ℕ Cause
 byte_machine file args = record { step = Steps; start = start file args; halted = status.Trapped }
 
--- the machine is given all of a file that can be run
+-- the machine gets all bytes of a file that can be run
 pub record IsByteProgram (file program : List ℕ) : Type 0 where
   pub program_is : program ≡ file
   pub image : IsImageFile file

@@ -1,4 +1,4 @@
--- What the last steps of a run come to.
+-- The results of the last steps of a run.
 use Rattle.std.specs.Prelude.{◌≡◌, ℕ}
 use Rattle.rb_io.specs.Views.{SinkSeen}
 use Rattle.run_core.specs.Answers.{Answer}
@@ -8,7 +8,7 @@ use Rattle.cli_run.specs.run.RunOutcomes.{closing_line}
 use Rattle.cli_base.specs.declared.status.Status.{Status}
 use Rattle.cli_base.specs.declared.status.Status.TheVariants as status
 
--- the answer to what a run on a machine came to, and `halted` says that the machine halts
+-- the command's result for the result of a machine's run; `halted` gives it if the machine halts
 abbrev pub status_of : {C : Type 0} → (ℕ → C → Status) → Answer C → Status
 status_of halted answer.Going = status.OutOfSteps
 status_of halted (answer.Ended value) = status.Ended value
@@ -17,8 +17,8 @@ status_of halted answer.ReadFault = status.ReadFault
 status_of halted answer.WriteFault = status.WriteFault
 status_of halted answer.Memory = status.NoMemory
 
--- After a run that came out the closing line was printed, or a prefix of it, or none of it. Nothing is printed after an
--- I/O error, or out of memory.
+-- After a run that wasn't interrupted the closing line was printed, or a prefix of it, or none of it. After an I/O
+-- error, or if memory ran out, nothing is printed.
 module _ (result : Status) (steps : ℕ) (before after : SinkSeen) where
   abbrev pub SaysEnding : Status → Type 0
   SaysEnding came = LinePrinted result came (closing_line came steps) before after

@@ -1,4 +1,4 @@
--- What the command `run` serves, by the machine that the file runs on.
+-- What the command `run` does, by the machine on which the file runs.
 use Rattle.cli_base.specs.World.{World}
 use Rattle.cli_base.specs.declared.status.Status.{Status}
 use Rattle.cli_args.specs.Args.{RunArgs}

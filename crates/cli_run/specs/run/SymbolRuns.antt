@@ -1,4 +1,4 @@
--- Runs on the symbol machine, which is given a file's functions and code cells, and whether the file is tight.
+-- Runs on the symbol machine, which gets a file's functions and code cells, and whether the file is tight.
 use Rattle.std.specs.Prelude.{ℕ, List}
 use Rattle.sym_machine.specs.SymStart.{SymProgram, program_start}
 use Rattle.sym_machine.specs.SymStep.{SymSteps}
@@ -12,7 +12,7 @@ use Rattle.cli_run.specs.run.RunOutcomes.{Loaded}
 use Rattle.cli_run.specs.run.Modes.{Mode}
 use Rattle.cli_base.specs.declared.status.Status.TheVariants as status
 
--- what the machine is given
+-- the program that the machine gets
 abbrev pub symbol_program : Program → SymProgram
 symbol_program x = record { elf = x.elf; funcs = x.code.funcs; cells = x.code.cells; tight = is_tight_program x }
 

@@ -7,7 +7,7 @@ use Rattle.cli_args.specs.CommandLineViews.{command_read}
 use Rattle.cli_args.specs.declared.command_line.Command.{Command}
 use Rattle.bolt_tool.proofs.commands.perform.Goals as goal
 
--- what a command does that takes no input, whatever the input is
+-- a command that doesn't use standard input, for any input
 untouched : (command done : Command) (answer : Status) (f g : FilesSeen) (input : SourceSeen) (o p : SinkSeen) → command ≡ done →
     ((any : SourceSeen) → Serves (Some (command_read done)) answer (world f any o) (world g any p)) →
     Serves (Some (command_read command)) answer (world f input o) (world g input p)

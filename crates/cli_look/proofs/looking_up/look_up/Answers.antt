@@ -37,7 +37,7 @@ returns-in-Err-answer_in g c = λ input.
     (λ told. c.in-Ok.ensures.read told ∙ ap (λ (f : List ℕ). Some f) (sym c.deref.ensures.value))
     c.in-Err-answer_in.ensures.fault says) c.in-Ok.ensures.files_go_on (omega arith) (omega arith)
 
--- Once there was a text to print.
+-- Facts after there was a text to print.
 module _ (g : Over) (c : After-print_all g) (input : SourceSeen) where
   abbrev look : Looking
   look = looking_up c.args.question c.args.args.now.address

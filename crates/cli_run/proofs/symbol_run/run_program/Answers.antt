@@ -29,7 +29,7 @@ pub returns-in_default-load-clause-ran : goal.returns-in_default-load-clause-ran
 returns-in_default-load-clause-ran g c = ends.unstarted (symbol_machine (program_seen c.args.program.now)
     (run_given c.args.args.now).args) c.args.args.now.limit _ (λ input. refl)
 
--- the machine starts as the file's program does
+-- the machine starts in the start state of the file's program
 started : (m : SymMachine) (elf : Elf) (given tight : Bool) (given_cells cells : List CodeCell) (args : List (List ℕ)) →
     given ≡ tight → given_cells ≡ cells → ((input : List ℕ) → state_of m input ≡ sym_start elf given_cells given args input) →
     (input : List ℕ) → state_of m input ≡ sym_start elf cells tight args input
