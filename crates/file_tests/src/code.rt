@@ -1,18 +1,18 @@
-// The code of each file: the entry point, which calls a function `f` of two ways, and ends with what it gives.
+// The code of each file: the entry point, which calls a function `f` with two paths, and exits with its result.
 use std::alloc::Global;
 use test_files::BuildError;
 use test_files::assembly::push_assembly;
 
-/// The size of the entry point's code, and of that of `f` behind it.
+/// The size of the entry point's code, and of the code of `f`, which comes after it.
 pub const START_SIZE: u64 = 16;
 
 pub const F_SIZE: u64 = 20;
 
-/// Of the two ways through `f` the one by its branch is taken.
+/// The profile: of the two paths through `f`, the one by its branch is taken.
 pub const PROFILE: &[u8] = b"1 f 0 1 f c 0 5\n1 f c 1 f 10 0 5\n";
 
-/// The code. The call is the pair that a compiler writes, which has a relocation, if `is_pair` says so, and else a JAL,
-/// which needs none.
+/// The code. If `is_pair`, the call is the pair of instructions that a compiler writes, which has a relocation;
+/// otherwise it is a JAL, which needs none.
 pub fn code(alloc: Global, is_pair: bool) -> Result<Vec<u8>, BuildError> {
     let call = if is_pair {
         "auipc ra,0; jalr ra,16(ra)"

@@ -1,5 +1,5 @@
 // The tables of a file whose sections a tool copied one by one: symbols, their names and relocations have the first
-// headers, and stand in another order than these.
+// headers, and the tables are in another order than the headers.
 use crate::code::{F_SIZE, START_SIZE};
 use crate::places::Places;
 use elf_image::relocation::{R_RISCV_CALL_PLT, RELA_SIZE, SHT_RELA};
@@ -10,7 +10,7 @@ use test_files::parts::{SHF_INFO_LINK, STB_GLOBAL};
 use test_files::tables::{NULL_SYMBOL, RelaEntry, SymbolEntry, push_relocation, push_symbol};
 use test_files::{BuildError, ElfFile, Section};
 
-// The names of the entry point and of `f`, and where they begin.
+// The names of the entry point and of `f`, and their offsets.
 const NAMES: &[u8] = b"\0_start\0f\0";
 
 const START_NAME: u32 = 1;
@@ -25,10 +25,10 @@ const SYMBOL_NAMES: u32 = 2;
 // The index of the symbol of `f`.
 const F: u32 = 2;
 
-// Where the symbols stand, behind all that is loaded and before the other tables.
+// The offset of the symbols, which come after everything that is loaded and before the other tables.
 const SYMBOLS_OFFSET: u64 = 0x5000;
 
-// The index of the header of the code, which stands behind those of three tables and of the constants.
+// The index of the header of the code, which comes after those of three tables and of the constants.
 fn code_index(places: &Places) -> u16 {
     if places.constants.is_some() { 5 } else { 4 }
 }

@@ -1,4 +1,4 @@
-// What files have besides their code and data.
+// The parts of files in addition to their code and data.
 use crate::places::{BASE, Place, Places};
 use elf_image::Segment;
 use elf_image::header::EHDR_SIZE;
@@ -8,29 +8,30 @@ use elf_image::segment::{PF_R, PF_W, PHDR_SIZE, PT_LOAD};
 use test_files::parts::SHF_WRITE;
 use test_files::{BuildError, ElfFile, Piece, Section};
 
-/// What a file has besides its code and data.
+/// A part of a file in addition to its code and data.
 #[derive(Clone, Copy, PartialEq, Eq, Debug)]
 pub enum Extra {
     Nothing,
-    /// Six notes that aren't loaded, and one that is where a segment loads the headers, each with a program header.
+    /// Six notes that aren't loaded, and one in the segment that loads the headers, each with a program header.
     Notes,
-    /// Eight segments more, of which every other one has a section.
+    /// Eight more segments, of which every other one has a section.
     Segments,
-    /// A program header of the table of program headers.
+    /// A program header for the table of program headers.
     OwnTable,
-    /// One that names other bytes, as a tool leaves it that moved the table.
+    /// A program header for other bytes, as a tool leaves it that moved the table.
     ForeignTable,
-    /// Headers of the stack, of attributes and of data that is made constant.
+    /// Program headers of the stack, of attributes and of data that becomes read-only.
     StackAndAttributes,
-    /// Memory that the file has no bytes of, behind the data.
+    /// Memory after the data for which the file has no bytes.
     Zeroed,
     /// Thread storage, with bytes and without.
     ThreadStorage,
-    /// Sections that are empty, of no type, of a large alignment, without bytes, or over those of others.
+    /// Sections that are empty, without a type, with a large alignment, without bytes, or over the bytes of other
+    /// sections.
     Loose,
-    /// A pointer to `f` over the end of one segment and the beginning of the next, which lie apart in the file.
+    /// A pointer to `f` that is half in one segment and half in the next, which are apart in the file.
     HalvedPointer,
-    /// Loaded relocations, of which there are none, under the name of a debug table.
+    /// A loaded section of relocations that is empty, with the name of a debug table.
     DebugRelocations,
 }
 
@@ -85,7 +86,7 @@ fn header(kind: u32, place: Place, size: u64) -> Segment {
     }
 }
 
-/// Adds what comes before all other program headers.
+/// Adds the program headers that come before all others.
 pub fn add_front(file: &mut ElfFile<'_>, extra: Extra, places: &Places) -> Result<(), BuildError> {
     let offset = EHDR_SIZE as u64;
     let addr = if places.loads_headers() {
@@ -117,7 +118,7 @@ pub fn add_front(file: &mut ElfFile<'_>, extra: Extra, places: &Places) -> Resul
     Ok(())
 }
 
-/// Adds what a file has besides its code and data.
+/// Adds the additional part of a file.
 pub fn add_extra<'a>(
     file: &mut ElfFile<'a>,
     extra: Extra,
@@ -144,7 +145,7 @@ const NOTE_SIZE: u64 = 20;
 
 const NOTES_OFFSET: u64 = 0x3000;
 
-// A note that the first segment loads, behind the program headers.
+// A note that the first segment loads, after the program headers.
 const LOADED_NOTE: Place = Place {
     addr: BASE + 0x380,
     offset: 0x380,
@@ -174,7 +175,7 @@ fn add_notes(file: &mut ElfFile<'_>, places: &Places) -> Result<(), BuildError> 
     Ok(())
 }
 
-// A segment of these bytes, which no section names.
+// A segment of these bytes, without a section.
 fn add_bare_segment<'a>(
     file: &mut ElfFile<'a>,
     flags: u32,
@@ -193,7 +194,7 @@ fn add_bare_segment<'a>(
     Ok(())
 }
 
-// Segments of 8 bytes, on one page of the file and each on a page of its own in memory.
+// Segments of 8 bytes, on one page of the file and each on its own page in memory.
 fn add_segments(file: &mut ElfFile<'_>) -> Result<(), BuildError> {
     for index in 0u8..8 {
         let offset = 0x3000 + index as u64 * 0x200;
@@ -233,10 +234,10 @@ fn add_attributes(file: &mut ElfFile<'_>, places: &Places) -> Result<(), BuildEr
     Ok(())
 }
 
-// How much memory is zeroed.
+// The size of the zeroed memory.
 const ZEROED: u64 = 0x4321;
 
-// Where other memory than that of the code and the data is loaded.
+// The address and offset of loaded memory other than the code and the data.
 const ELSEWHERE: Place = Place {
     addr: 0x30_0000,
     offset: 0x3000,
@@ -315,7 +316,7 @@ fn add_loose(file: &mut ElfFile<'_>, places: &Places) -> Result<(), BuildError> 
     Ok(())
 }
 
-/// Where the pointer in two segments stands. A section that has no bytes in the file holds both halves.
+/// The address and offset of the pointer in two segments. A section that has no bytes in the file contains both halves.
 pub const HALVES: Place = Place {
     addr: 0x50_0ffc,
     offset: 0x3ffc,

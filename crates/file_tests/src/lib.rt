@@ -1,4 +1,4 @@
-//! Files of the shapes that linkers and binary tools make are rewritten, and none is answered out of memory.
+//! Files of the shapes that linkers and binary tools make: each is rewritten, and none gives out of memory.
 #![tactic(auto)]
 
 #[cfg(test)]

@@ -1,24 +1,24 @@
-// Where the parts of a file lie, as linkers lay them.
+// Layouts of files, as linkers make them.
 
-/// Where something begins, in memory and in the file.
+/// The start of a part, in memory and in the file.
 #[derive(Clone, Copy, PartialEq, Eq, Debug)]
 pub struct Place {
     pub addr: u64,
     pub offset: u64,
 }
 
-/// Where the parts of a file lie. The program headers stand behind the file's header.
+/// The layout of a file. The program headers come after the file's header.
 #[derive(Clone, Copy, PartialEq, Eq, Debug)]
 pub struct Places {
     /// Constants of 16 bytes, in a segment of their own that begins with the file's header.
     pub constants: Option<Place>,
-    /// The executable segment, which begins with the file's header where its offset is 0.
+    /// The executable segment. It begins with the file's header if its offset is 0.
     pub segment: Place,
-    /// The instructions in it, of 36 bytes, with which it ends.
+    /// The address of the instructions, 36 bytes at the end of the segment.
     pub code: u64,
-    /// Data of 8 bytes, in a segment that may be written.
+    /// Data of 8 bytes, in a writable segment.
     pub data: Option<Place>,
-    /// Whether there is too little room behind the code, so that new code gets a segment of its own.
+    /// Whether there is too little room after the code, so that new code gets a segment of its own.
     pub is_tight: bool,
 }
 
@@ -29,10 +29,10 @@ impl Places {
     }
 }
 
-/// Where the first segment is loaded that begins with the file's header.
+/// The address of the first segment, which begins with the file's header.
 pub const BASE: u64 = 0x10000;
 
-// GNU ld by `-z noseparate-code`: headers and code in one segment, and data on a page of its own.
+// GNU ld with `-z noseparate-code`: headers and code in one segment, and data on a page of its own.
 const JOINED: Places = Places {
     constants: None,
     segment: Place {
@@ -57,7 +57,7 @@ const JOINED_TIGHT: Places = Places {
     ..JOINED
 };
 
-// Data follows the code in the file, and is loaded pages above it; all else is as in `JOINED`.
+// The data comes after the code in the file, and pages above it in memory; all other parts are as in `JOINED`.
 const FOLLOWING: Places = Places {
     data: Some(Place {
         addr: 0x11_0428,
@@ -74,7 +74,7 @@ const FOLLOWING_TIGHT: Places = Places {
     ..JOINED_TIGHT
 };
 
-// GNU ld by `-z separate-code`: headers with constants, code, and data, each on pages of their own.
+// GNU ld with `-z separate-code`: headers with constants, code, and data, each on pages of their own.
 const SEPARATE: Places = Places {
     constants: Some(Place {
         addr: 0x10400,
@@ -102,7 +102,7 @@ const SEPARATE_TIGHT: Places = Places {
     ..SEPARATE
 };
 
-// lld: the same segments, which follow one another in the file, and are loaded a page above.
+// lld: the same segments. They follow one another in the file, and each is loaded on the page after the one before it.
 const PACKED: Places = Places {
     constants: Some(Place {
         addr: 0x10400,
@@ -137,7 +137,7 @@ const PACKED_TIGHT: Places = Places {
     is_tight: true,
 };
 
-// No segment loads the headers, as with a script that leaves them out.
+// No segment loads the headers, as with a linker script that leaves them out.
 const APART: Places = Places {
     constants: None,
     segment: Place {
@@ -162,7 +162,7 @@ const APART_TIGHT: Places = Places {
     ..APART
 };
 
-// Data below the code, as a script for a processor with flash memory lays it.
+// Data below the code, as a linker script for a processor with flash memory has it.
 const DATA_BELOW: Places = Places {
     data: Some(Place {
         addr: 0x8000,
@@ -171,7 +171,7 @@ const DATA_BELOW: Places = Places {
     ..JOINED
 };
 
-// Code alone.
+// Code without data.
 const ALONE: Places = Places {
     data: None,
     ..JOINED

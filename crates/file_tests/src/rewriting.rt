@@ -1,4 +1,4 @@
-// Files are rewritten, and what the written ones must have.
+// Rewriting files, and checking the written ones.
 use crate::code::PROFILE;
 use crate::extras::EXTRAS;
 use crate::places::LAYOUTS;
@@ -12,7 +12,7 @@ use std::alloc::Global;
 use std::process::Abort;
 use std::test::Fail;
 
-// Whether a section's header says nothing but `flags`, as that of a section that was dropped.
+// Whether a section's header has only these flags and no other information, as for a section that was dropped.
 fn is_dropped(section: &Section<'_>, flags: u64) -> bool {
     let numbers = [
         section.addr,
@@ -25,7 +25,7 @@ fn is_dropped(section: &Section<'_>, flags: u64) -> bool {
     numbers == [0; 5] && words == [0; 3] && section.flags == flags
 }
 
-// The file as it is read, which has to succeed.
+// The file as it is read, which must succeed.
 fn accepted<'a>(alloc: Global, file: &'a [u8]) -> Result<Elf<'a>, Fail> {
     match read(alloc, file) {
         Ok(elf) => Ok(elf),
@@ -33,7 +33,7 @@ fn accepted<'a>(alloc: Global, file: &'a [u8]) -> Result<Elf<'a>, Fail> {
     }
 }
 
-// The flags that are left of a section of relocations: that it was loaded, where it bears the name of a debug table.
+// The flags that remain for a section of relocations: SHF_ALLOC if it was loaded and has the name of a debug table.
 fn flags_left(section: &Section<'_>) -> u64 {
     if names_debug(section.name) {
         section.flags & SHF_ALLOC
@@ -42,7 +42,7 @@ fn flags_left(section: &Section<'_>) -> u64 {
     }
 }
 
-// Whether the null section says nothing, and those of relocations no more than `flags_left`.
+// Whether the null section has no information, and sections of relocations have only `flags_left`.
 fn has_dropped(input: &Elf<'_>, output: &Elf<'_>) -> bool {
     let has_null = output
         .sections
@@ -52,7 +52,7 @@ fn has_dropped(input: &Elf<'_>, output: &Elf<'_>) -> bool {
     has_null && pairs.all(|(old, new)| old.kind != SHT_RELA || is_dropped(new, flags_left(old)))
 }
 
-// Whether the part of `f` that isn't run has a symbol.
+// Whether the cold part of `f` has a symbol.
 fn has_cold_symbol(output: &Elf<'_>) -> bool {
     output
         .symbols
@@ -60,7 +60,8 @@ fn has_cold_symbol(output: &Elf<'_>) -> bool {
         .any(|symbol| symbol.name == b"f.cold".as_slice())
 }
 
-// The file of a shape is rewritten, to one that is read, with the segments and sections that it has to have.
+// Rewrites the file of a shape, and checks that the written file can be read and has the segments and sections that it
+// must have.
 fn check(rt: &impl Abort, alloc: Global, shape: &Shape) -> Result<(), Fail> {
     let file = build(alloc, shape)?;
     let result = rewrite(alloc, &file, PROFILE);

@@ -1,4 +1,4 @@
-// A file's shape, and the file.
+// The shape of a file, and the file.
 use crate::code::{F_SIZE, START_SIZE, code};
 use crate::copied::{add_copied, relocations, symbols};
 use crate::extras::{Extra, HALVES, add_extra, add_front};
@@ -13,20 +13,20 @@ use test_files::bytes::patch;
 use test_files::parts::STB_LOCAL;
 use test_files::{BuildError, ElfFile, Section, Symbol, of_code, of_section};
 
-/// Which symbols, relocations and sections a file has.
+/// The symbols, relocations and sections of a file.
 #[derive(Clone, Copy, PartialEq, Eq, Debug)]
 pub enum Tables {
     /// All, in a linker's order.
     Whole,
-    /// All but symbols: relocations have addresses.
+    /// All except symbols: relocations have addresses.
     NoSymbols,
-    /// All but relocations.
+    /// All except relocations.
     NoRelocations,
     /// Neither symbols nor relocations.
     Stripped,
     /// All, but no section has a name.
     NoNames,
-    /// All, as a tool leaves them that copied the sections.
+    /// All, as a tool leaves them that copied the sections one by one.
     Copied,
 }
 
@@ -55,7 +55,7 @@ pub struct Shape {
     pub extra: Extra,
 }
 
-// The entry point, `f`, and a place in it.
+// The symbols of the entry point, of `f`, and of an address in `f`.
 fn add_symbols(file: &mut ElfFile<'_>, start: u64) -> Result<(), BuildError> {
     let f = start.saturating_add(START_SIZE);
     file.symbols.push(Symbol {
@@ -118,7 +118,7 @@ fn add_segments<'a>(
     Ok(())
 }
 
-// Gives each section the name at the front of the table of names, which is empty.
+// Gives each section the name at the start of the table of names, which is empty.
 fn take_names(file: &mut [u8]) {
     if file.len() < EHDR_SIZE {
         return;

@@ -1,8 +1,8 @@
-// Which arguments are which command, and what programs are given.
+// Which command the arguments are, and which arguments programs get.
 use crate::sessions::{commands_refuse, play_rows};
 use std::test::Fail;
 
-// The input and the profile that they name are there: only the arguments are wrong.
+// The input and the profile exist: only the arguments are wrong.
 const NO_COMMANDS: [&str; 64] = [
     "$",
     "$ rewrite",

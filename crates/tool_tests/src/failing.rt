@@ -1,11 +1,12 @@
-// Calls of files and streams that fail, each in turn: what a command answers, and what is written then.
+// Calls of files and streams that fail, each in turn: the answer of a command, and the files that are written by then.
 use crate::sessions::{files_with, play, play_rows};
 use std::alloc::Global;
 use std::process::Abort;
 use std::test::Fail;
 use test_files::words::file_in_words;
 
-// The reads and writes of files are numbered together, from 1. The last number is one more than a command's calls.
+// The reads and writes of files are numbered together, from 1. The last number is the number of a command's calls plus
+// 1.
 const FILES: &str = "\
 # The input and the profile are read, the output and the map are written, and a line is printed.
 like countdown
@@ -79,8 +80,8 @@ like exit7
 - fail files 2 => $ sample 1 out map | 223 WriteFault | none map | $ run out | 5 Ended(5) [ended 5 after 15 steps]/
 - fail files 3 => $ sample 1 out map | 0 Ok sample 1/";
 
-// A line that standard output doesn't take, or not whole: files are written before it. Each command has an output of
-// its own.
+// A line that standard output doesn't accept, or not completely: files are written before it. Each command has an
+// output of its own.
 const OUTPUT: &str = "\
 # A map, and what a repair changed.
 like countdown
@@ -167,7 +168,7 @@ frames FILE ADDR/
 - room printed 6 => $ rewrite in profile out map | 223 WriteFault refuse | none out | none map
      | $ nothing | 223 WriteFault usage:";
 
-// Calls of standard input are numbered by themselves.
+// Calls of standard input are numbered separately.
 const INPUT: &str = "\
 # A program that copies its input byte by byte. A fourth read finds its end, and a fifth isn't made.
 code .text 10078 addi sp,sp,-16; addi a0,zero,0; addi a1,sp,0; addi a2,zero,1; addi a7,zero,63; ecall; beq a0,zero,20; \
@@ -191,8 +192,8 @@ input abc
   => $ run --steps 3 in | 226 OutOfSteps [out of steps after 3 steps]/ | $ run --steps 4 in | 222 ReadFault
      | $ run --symbols --steps 4 in | 222 ReadFault | $ record --steps 4 in out | 222 ReadFault | none out";
 
-// Prints the map of a program of 65 instructions, of which each has a line, where a call of standard output fails: the
-// answer, and how many lines are taken then.
+// Prints the map of a program of 65 instructions, each of which has a line, with a call of standard output that fails:
+// checks the answer, and the number of lines written by then.
 fn check_long_map(
     rt: &impl Abort,
     alloc: Global,

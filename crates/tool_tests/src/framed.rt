@@ -1,4 +1,4 @@
-// The functions that an address belongs to, inlined ones among them.
+// The functions that contain an address, including inlined ones.
 use crate::sessions::play_rows;
 use std::test::Fail;
 

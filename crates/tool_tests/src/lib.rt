@@ -1,5 +1,5 @@
-//! Sessions with the top call: which arguments are which command, files that are refused, rewrites and their maps, and
-//! runs. Texts, numbers and headers are worked out by hand.
+//! Sessions with the top call: commands by their arguments, files that are refused, rewrites and their maps, and runs.
+//! Texts, numbers and headers are worked out by hand.
 #![tactic(auto)]
 
 #[cfg(test)]

@@ -1,4 +1,4 @@
-// Files that pass a limit.
+// Files that exceed a limit.
 use crate::sessions::{commands_refuse, files_with, input, play};
 use elf_image::section::SHDR_SIZE;
 use elf_image::segment::{PF_R, PF_X};
@@ -10,7 +10,7 @@ use test_files::file::{BASE, CODE};
 use test_files::words::{file_in_words, rows};
 use test_files::{ElfFile, Section};
 
-// One more byte than the longest file that is read has.
+// The size limit of a file plus 1.
 const TOO_LONG: usize = 64 * 1024 * 1024 + 1;
 
 #[test]
@@ -60,7 +60,7 @@ fn returning(
     files_with(alloc, "", file_in_words(alloc, &words)?)
 }
 
-// 16,800,000 bytes of code, and 16,777,216 are allowed.
+// 16,800,000 bytes of code; the limit is 16,777,216.
 #[test]
 fn too_much_code(rt: HostRuntime) -> Result<(), Fail> {
     let alloc = rt.alloc();
@@ -100,7 +100,7 @@ profile 10084 4 10084
 - patch 3c e9fd | size 3f7ae0 => 221 TooLarge 5 0 0 refused 28 TooLarge at 5/
 - headers last | patch 38 e9fd | size 378c58 => 221 TooLarge 5 0 0 refused 28 TooLarge at 5/";
 
-// What the commands answer that write no program.
+// The answers of the commands that write no program.
 const READ: &str = "\
 $ run in | 7 Ended(7) [ended 7 after 4 steps]/ | $ run --symbols in | 7 Ended(7) [ended 7 after 4 steps]/ \
 | $ record in out | 7 Ended(7) [ended 7 after 4 steps]/ | $ repair in profile out | 0 Ok 2 links, total change 0/ \
@@ -118,13 +118,13 @@ fn too_many_headers(rt: HostRuntime) -> Result<(), Fail> {
     Ok(())
 }
 
-// How many sections share one name, and its length.
+// The number of sections with the same name, and the length of the name.
 const NAMED: usize = 4_100;
 
 const NAME_LENGTH: usize = 1_000_000;
 
-// A file of `NAMED` sections of one instruction, which returns. The first has the name, and the headers of the others,
-// which stand at the end of the file before that of `.shstrtab`, are given its place.
+// A file of `NAMED` sections of one instruction, which returns. The first section has the name, and the headers of the
+// others, which are at the end of the file before the header of `.shstrtab`, get the offset of this name.
 fn named_alike(alloc: Global) -> Result<Vec<u8>, Fail> {
     let back = [0x67, 0x80, 0, 0];
     let name = vec![in alloc; b'n'; NAME_LENGTH]?;
@@ -146,7 +146,7 @@ fn named_alike(alloc: Global) -> Result<Vec<u8>, Fail> {
     Ok(bytes)
 }
 
-// Each section of code gets a name of its own in the output: 4,100 names of 1,000,000 bytes and more.
+// Each section of code gets a name of its own in the output: 4,100 names of more than 1,000,000 bytes each.
 #[test]
 fn names_that_are_too_long(rt: HostRuntime) -> Result<(), Fail> {
     let alloc = rt.alloc();

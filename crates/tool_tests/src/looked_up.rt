@@ -1,4 +1,4 @@
-// Sample programs, and what the tables of files say at an address.
+// Sample programs, and the answers of files' tables at an address.
 use crate::sessions::play_rows;
 use std::test::Fail;
 

@@ -1,5 +1,5 @@
-// Files that are cut, and tables that are malformed in one place: for which fault they are refused, and those beside
-// them that are not. Offsets are worked out by hand, by the ELF standard and DWARF 5.
+// Truncated files, and tables that are malformed in one place: the fault for which each is refused, next to similar
+// ones that aren't refused. Offsets are worked out by hand, from the ELF standard and DWARF 5.
 use crate::sessions::{files_with, input, play};
 use std::alloc::Global;
 use std::process::Abort;
@@ -29,8 +29,8 @@ fn refusals(alloc: Global, commands: &[&str], answer: &str) -> Result<String, Fa
     Ok(session)
 }
 
-// For what the first `size` bytes of the example are refused: its header is cut, or the program header, the segment, or
-// the section headers.
+// The fault for which the first `size` bytes of the example are refused: its header is truncated, or the program
+// header, the segment, or the section headers.
 fn refusal_of_prefix(size: usize) -> &'static str {
     if size < 7 {
         "221 NotElf 0 0 0 refused 1 NotElf at 0/"
@@ -65,7 +65,7 @@ fn prefixes_of_the_example(rt: HostRuntime) -> Result<(), Fail> {
 
 const DEPTH: usize = 20_000;
 
-// A unit whose entries have one child each, down to a depth. Their declaration has no attributes.
+// A unit whose entries have one child each, to a given depth. Their abbreviation has no attributes.
 #[test]
 fn entries_nested_deep(rt: HostRuntime) -> Result<(), Fail> {
     let alloc = rt.alloc();
@@ -87,8 +87,8 @@ $ run in | 7 Ended(7) [ended 7 after 4 steps]/ | $ lookup in 10078 | 0 Ok none/ 
     play(&rt, alloc, &mut files, "entries nested deep", session)
 }
 
-// Plays the rows of a table, each of which says of its file how all of `commands` refuse it; or what `lookup` prints at
-// 10078, and then also at 10090 of the output, where the code went.
+// Plays the rows of a table. Each row says how all of `commands` refuse its file; or what `lookup` prints at 10078, and
+// then also at 10090 of the output, the new address of the code.
 fn check_tables(
     rt: &impl Abort,
     alloc: Global,
@@ -110,7 +110,7 @@ fn check_tables(
     Ok(())
 }
 
-// The commands that look for faults of frame tables.
+// The commands that look for faults of unwind tables.
 const FRAME_READERS: [&str; 3] = [
     "lookup in 10078",
     "rewrite in profile out map",
@@ -125,7 +125,7 @@ const DEBUG_READERS: [&str; 4] = [
     "map in profile",
 ];
 
-// Tables of frames. The first entry is a common one, of version 4, of 20 bytes; those for code begin at 14.
+// Unwind tables. The first entry is a CIE of version 4, of 20 bytes; the FDEs begin at offset 14.
 const FRAMES: &str = "\
 # A common entry, and one for the code that is right; then one that names a common entry past the section, and one that
 # names an entry for code.
@@ -180,7 +180,7 @@ like countdown
 00
   => 221 FrameFault 18 0 0 refused 21 FrameFault at 18/";
 
-// Units of debugging entries. The header takes c bytes, and the entry has the declaration 1.
+// Units of debugging entries. The header takes c bytes, and the entry has the abbreviation code 1.
 const UNITS: &str = "\
 # A form that the entry names (DW_FORM_indirect): of a number in LEB128, of itself and then that, of a value in the
 # declaration, an unknown one, and one of more than 64 bits.
@@ -220,7 +220,7 @@ unloaded .debug_info 0 0a00000005000108000000000105
   => 221 DwarfFault 0 0 0 refused 25 DwarfFault at 0/
 - unloaded .debug_abbrev 0 818080 => 221 DwarfFault 0 0 0 refused 25 DwarfFault at 0/";
 
-// Lists of ranges and of locations, behind a table's header of c bytes.
+// Lists of ranges and of locations, after a table's header of c bytes.
 const LISTS: &str = "\
 # A list of ranges with a pair of offsets, one of which has more than 64 bits, or runs past the section.
 like exit7
@@ -251,7 +251,7 @@ unloaded .debug_info 0 0d0000000500010800000000010c000000
 - unloaded .debug_loclists 0 15000000050008000000000005ffffffffffffffffff015000
   => 221 DwarfFault 0 0 0 refused 25 DwarfFault at 0/";
 
-// Tables of lines: a unit with a directory, a file twice, and a sequence from 10078 on.
+// Line tables: a unit with a directory, a file twice, and a sequence from 10078 on.
 const LINES: &str = "\
 # A sequence of 16 bytes with a row; an advance of more than 64 bits, and one that runs past the unit.
 like exit7

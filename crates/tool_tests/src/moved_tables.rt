@@ -1,9 +1,9 @@
-// Debug tables of programs that are rewritten: what they say of moved code, as `lookup` prints it.
+// Debug tables of rewritten programs: their answers for moved code, as `lookup` prints them.
 use crate::sessions::play_rows;
 use std::test::Fail;
 
-// In each row new code stands from 10090 on: 8 bytes of 10078, 4 of the third instruction at 10080, 4 of the second
-// one at 1007c, and 8 of the last two at 10088. The jump back at 10084 is left out.
+// In each row the new code begins at 10090: 8 bytes of 10078, 4 of the third instruction at 10080, 4 of the second one
+// at 1007c, and 8 of the last two at 10088. The jump back at 10084 is left out.
 const COVERED: &str = "\
 # The loop with a unit from 10078 to 10090, and a block in it of 8 bytes from 10080 on. Entries are at c and 19; both
 # have a DW_AT_low_pc, and a DW_AT_high_pc in DW_FORM_data4.

@@ -1,4 +1,4 @@
-// Branches whose targets move away: the shortest form that reaches is taken, and functions of the greatest size.
+// Branches whose targets move away: the shortest form that reaches is taken. Functions of the greatest size.
 use crate::sessions::play_rows;
 use std::test::Fail;
 

@@ -2,7 +2,7 @@
 use crate::sessions::commands_refuse;
 use std::test::Fail;
 
-// The number of the answer, the fault with its place, what it needs and the room for it, and the line.
+// Each row has the number of the answer, the fault with its place, the need and the room, and the line.
 const HEADERS: &str = "\
 # Other kinds of files: flags, and a type.
 like exit7
@@ -68,7 +68,7 @@ like exit7
 - code .text 10078 jal zero,2; addi a0,a0,7; exit => 221 BadTarget 10078 0 0 refused 17 BadTarget at 10078/";
 
 // The unwind table of a loop: a CIE, an FDE for its 24 bytes with DW_CFA_advance_loc 8 and DW_CFA_def_cfa_offset 16,
-// and the end. The last one names an exception table at 10000. The line table is that of one unit, with a directory, a
+// and the end mark. The last FDE names an exception table at 10000. The line table has one unit, with a directory, a
 // file twice, and a sequence of three rows.
 const FRAMES: &str = "\
 # Another version of a CIE.

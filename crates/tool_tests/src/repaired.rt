@@ -1,9 +1,9 @@
-// Profiles that are repaired: counts that balance, at the least change, with prices that show it.
+// Profiles that are repaired: counts that balance, with the least change, and prices that show it.
 use crate::sessions::play_rows;
 use std::test::Fail;
 
-// The blocks of the loop are at 10078, 1007c, 10080 and 10088. A price is what a unit more at the end of a link than
-// at its start costs, by which each link below can be judged.
+// The blocks of the loop are at 10078, 1007c, 10080 and 10088. The price at the end of a link minus the price at its
+// start is at most the cost of one more unit of flow on the link, so each link below can be checked.
 const REPAIRED: &str = "\
 # Three times around the loop, and five times out of it: the way out isn't taken, which changes five counts.
 like countdown

@@ -1,4 +1,5 @@
-// Programs that are rewritten: their maps and new code, worked out by hand, and how they and their outputs run.
+// Programs that are rewritten: their maps and new code, worked out by hand, and the runs of the programs and of their
+// outputs.
 use crate::sessions::play_rows;
 use std::test::Fail;
 

@@ -1,4 +1,4 @@
-// Runs on both machines: how they end, and profiles of runs.
+// Runs on both machines: their ends, and profiles of runs.
 use crate::sessions::play_rows;
 use std::test::Fail;
 

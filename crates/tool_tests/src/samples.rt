@@ -9,7 +9,7 @@ use test_files::samples::{
 };
 use test_files::words::file_in_words;
 
-// Plays a session with a sample, and answers the files after it.
+// Plays a session with a sample, and returns the files after it.
 fn play_sample(
     rt: &impl Abort,
     alloc: Global,
@@ -39,7 +39,7 @@ link 11000 11010 0 0/link 11000 11018 1 1/link 11010 1101c 0 0/link 11018 1101c 
     Ok(())
 }
 
-// The entry point, then of each function the part that runs, and then the parts that don't.
+// The entry point, then the hot part of each function, and then the cold parts.
 const THREE_FUNCTIONS_MAP: &[u8] = b"\
 11150 4 11090
 11154 4 11094
@@ -84,7 +84,7 @@ const THREE_FUNCTIONS_MAP: &[u8] = b"\
 111f0 4 11074
 ";
 
-// Callers stand before what they call, and cold parts of functions behind all that is hot.
+// Callers come before the functions that they call, and the cold parts of functions after all hot code.
 #[test]
 fn three_functions_are_split(rt: HostRuntime) -> Result<(), Fail> {
     let session = "\

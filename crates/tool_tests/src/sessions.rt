@@ -1,4 +1,4 @@
-// Sessions with the tool: what it answers and prints, and what the files have then.
+// Sessions with the tool: its answers and prints, and the contents of the files afterwards.
 use bolt_tool::tool;
 use cli_base::Status;
 use rb_io::{MemFiles, MemSink, MemSource};
@@ -11,7 +11,7 @@ fn text(alloc: Global, text: &str) -> Result<String, Fail> {
     Ok(String::from_str(alloc, text)?)
 }
 
-// The number that the line `name` says, in hexadecimal, or `default` where there is no such line.
+// The hexadecimal number in the line `name`, or `default` if there is no such line.
 fn number_said(words: &str, name: &str, default: u64) -> Result<u64, Fail> {
     match said(words, name) {
         Some(digits) => Ok(hexadecimal(digits)?),
@@ -31,8 +31,8 @@ fn profile(alloc: Global, words: &str) -> Result<Vec<u8>, Fail> {
     Ok(bytes)
 }
 
-/// Files with an input, the profile of `words` (`profile LINE`, as many as there are), and room for outputs and for
-/// maps: `room files SIZE`. A call of the files may fail: `fail files NUMBER`.
+/// Files with an input, the profile of `words` (all lines `profile LINE`), and room for outputs and for maps: `room
+/// files SIZE`. A call of the files may fail: `fail files NUMBER`.
 pub fn files_with(alloc: Global, words: &str, input: Vec<u8>) -> Result<MemFiles, Fail> {
     let fail = number_said(words, "fail files ", 0)?;
     let room = number_said(words, "room files ", 0x1_0000)? as usize;
@@ -98,7 +98,7 @@ fn push_shown(shown: &mut String, bytes: &[u8]) -> Result<(), Fail> {
     Ok(())
 }
 
-// Runs the tool on arguments, and shows the answer and what it printed.
+// Runs the tool with arguments, and returns the answer and the printed text.
 fn answer(alloc: Global, files: &mut MemFiles, words: &str, line: &str) -> Result<String, Fail> {
     let mut args = Vec::new(alloc);
     for word in line.split(' ').skip(1) {
@@ -119,8 +119,8 @@ fn answer(alloc: Global, files: &mut MemFiles, words: &str, line: &str) -> Resul
     Ok(shown)
 }
 
-// What is wanted of a file: that there is `none`, its whole `text`, how it `starts` or `ends`, or `bytes` from an
-// offset on.
+// A check of a file: that it doesn't exist (`none`), its whole `text`, how it `starts` or `ends`, or its `bytes` from
+// an offset on.
 fn check_file(
     rt: &impl Abort,
     alloc: Global,
@@ -153,7 +153,7 @@ fn check_file(
     Ok(())
 }
 
-// Puts bytes over those of a file: its name, the offset and the bytes.
+// Overwrites bytes of a file: its name, the offset and the bytes.
 fn patch(alloc: Global, files: &mut MemFiles, words: &str) -> Result<(), Fail> {
     let (name, rest) = words.split_once(' ').ok_or("no name")?;
     let (offset, digits) = rest.split_once(' ').ok_or("no bytes")?;
@@ -170,15 +170,15 @@ fn patch(alloc: Global, files: &mut MemFiles, words: &str) -> Result<(), Fail> {
     Ok(())
 }
 
-/// Plays a session with these files. Its parts, with ` | ` between them, are
+/// Plays a session with these files. Its parts, separated by ` | `, are
 ///
-/// - `$ ARGS`: the tool is run; `*COUNT*SIZE` stands for COUNT arguments of SIZE bytes each
-/// - `NUMBER STATUS PRINTED`: its answer and what it printed, with `/` for the end of a line
-/// - `patch FILE OFFSET BYTES`: these bytes stand in the file from there on
+/// - `$ ARGS`: the tool is run; `*COUNT*SIZE` means COUNT arguments of SIZE bytes each
+/// - `NUMBER STATUS PRINTED`: its answer and its output, with `/` for the end of a line
+/// - `patch FILE OFFSET BYTES`: these bytes are written into the file at this offset
 /// - `none FILE`, `text FILE TEXT`, `starts FILE TEXT`, `ends FILE TEXT`, `bytes FILE OFFSET BYTES`
 ///
-/// The words have standard input, `input TEXT`, and how many bytes standard output takes, `room printed SIZE`. A call
-/// of either may fail: `fail input NUMBER`, `fail printed NUMBER`.
+/// `words` has standard input, `input TEXT`, and the number of bytes that standard output accepts, `room printed SIZE`.
+/// A call of either may fail: `fail input NUMBER`, `fail printed NUMBER`.
 pub fn play(
     rt: &impl Abort,
     alloc: Global,
@@ -220,7 +220,7 @@ pub fn play_rows(rt: &impl Abort, alloc: Global, table: &str) -> Result<(), Fail
     Ok(())
 }
 
-/// Gives each of `commands` the file of each row, which says what it answers and prints; nothing is written.
+/// Runs each of `commands` on the file of each row, which has the answer and the output; nothing is written.
 pub fn commands_refuse(
     rt: &impl Abort,
     alloc: Global,

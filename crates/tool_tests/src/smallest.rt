@@ -1,13 +1,13 @@
-// The smallest example, rewritten to a file that is written out; maps that are printed; and files that aren't
+// The smallest example, rewritten to a file that is given in full; maps that are printed; and files that aren't
 // rewritten.
 use crate::sessions::{files_with, play, play_rows};
 use std::alloc::Global;
 use std::test::Fail;
 use test_files::words::{file_in_words, hexadecimal, push_bytes};
 
-// The example with its code moved, worked out by hand: the segment grows to a0, the names stand there with `.old.text`
-// and `.text` behind them, and four section headers at c8, of which the first stays. A line is the width of its numbers
-// and the numbers, or bytes.
+// The example with its code moved, worked out by hand: the segment grows to a0 and is followed by the names, with
+// `.old.text` and `.text` at their end, and four section headers at c8, of which the first is unchanged. A line is the
+// width of its numbers and the numbers, or bytes.
 const MOVED: &str = "\
 bytes 7f454c46020101000000000000000000
 2 2 f3

@@ -1,4 +1,4 @@
-// Outputs and maps that are judged: faithful, or the first clause that is false, at its lowest place.
+// Outputs and maps that are checked: faithful, or the first clause that is false, at its lowest place.
 use crate::sessions::{files_with, play, play_rows};
 use rb_io::MemFiles;
 use std::alloc::Global;
@@ -7,7 +7,7 @@ use std::test::Fail;
 use test_files::bytes::patch;
 use test_files::words::file_in_words;
 
-// A file with itself, and with lines of the profile as the map.
+// A file with itself as the output, and with lines of the profile as the map.
 const JUDGED: &str = "\
 # A map of its instructions to themselves, in any order.
 like exit7
@@ -43,7 +43,7 @@ const LOOP: &str = "\
 profile 1 @10078 c 1 @10078 4 0 3
 profile 1 @10078 4 1 @10078 10 0 1";
 
-// The loop, rewritten: its branch is turned, and nothing is left of the jump.
+// The loop, rewritten: its branch is inverted, and the jump is left out.
 fn rewritten(rt: &impl Abort, alloc: Global) -> Result<MemFiles, Fail> {
     let words = "\
 code .text 10078 addi a0,zero,3; beq a0,zero,12; addi a0,a0,-1; jal zero,-8; exit";
@@ -54,7 +54,7 @@ code .text 10078 addi a0,zero,3; beq a0,zero,12; addi a0,a0,-1; jal zero,-8; exi
     Ok(files)
 }
 
-// The branch at the end of the loop goes to itself, where it was turned.
+// The branch at the end of the loop, which was inverted, gets its old condition back.
 #[test]
 fn a_changed_branch_is_found(rt: HostRuntime) -> Result<(), Fail> {
     let alloc = rt.alloc();
