@@ -1,4 +1,4 @@
--- The value of digits, one more at a time.
+-- The value of a text of digits, digit by digit.
 use Rattle.std.proofs.Common.{◌≡◌, ◌<◌, ◌≤◌, ◌+◌, ◌*◌, ◌∙◌, ℕ, Bool, true, false, List, [], ◌∷◌, length, get_or, take}
 use Rattle.std.proofs.Common.{arith, refl, ap, sym, ◌^◌, cond, Some, None}
 use Rattle.std.specs.Prelude.{◌&&◌, ◌||◌, nat_lt, if◌then◌else◌}
@@ -13,7 +13,7 @@ use Rattle.std.specs.Str.Parse.{digits_value}
 use Rattle.std.proofs.lemmas.Str.Parse.{digits_value-take-le}
 use Rattle.std.proofs.lemmas.Int.Digits.{digits_value_more}
 
--- a decimal digit is a hexadecimal one
+-- A decimal digit is a hexadecimal one.
 pub hex_from_decimal : (ds : List ℕ) → list_all is_ascii_digit ds ≡ true → list_all is_lower_hex_digit ds ≡ true
 hex_from_decimal [] all = refl
 hex_from_decimal (c ∷ ds) all = both (is_ascii_digit c) (is_in_range 97 102 c) (list_all is_ascii_digit ds)
@@ -23,7 +23,7 @@ hex_from_decimal (c ∷ ds) all = both (is_ascii_digit c) (is_in_range 97 102 c)
     both true b r s rest all = rest all
     both false b r s rest all = absurd (cc)
 
--- more digits make no smaller number
+-- More digits never make a smaller number.
 pub too_large : (radix v d : ℕ) (ds : List ℕ) (i : ℕ) → 0 < radix → i < length ds → v ≡ digits_value radix (take i ds)
     → d ≡ digit_value (get_or ds i 0) → 2 ^ 64 ≤ v * radix + d → 2 ^ 64 ≤ digits_value radix ds
 too_large radix v d ds i some within is digit large =

@@ -1,4 +1,4 @@
--- A list that gets the members of a set, one item of another list after another.
+-- A list that gains the members of a set while a loop goes over the items of another list.
 use Rattle.std.proofs.Common.{◌≡◌, ◌∙◌, sym, subst, ap, ℕ, ◌+◌, ◌<◌, ◌⊎◌, inl, inr, ⊎_elim, ◌↔◌, List, [], ◌∷◌, ◌++◌, take}
 use Rattle.std.proofs.Common.{length, slice_index_or, arith}
 use Rattle.std.specs.List.{Contains, Any}
@@ -19,7 +19,7 @@ Any-push_cases P xs y (k, x, within, is, holds) =
     (λ (same : y ≡ x). inr (subst P (sym same) holds))
     (Contains-push_cases xs y x (k, within, is))
 
--- what an item of a list gives
+-- The members that an item of the list gives.
 abbrev pub Given : {A B : Type 0} → (A → B → Type 0) → List A → B → Type 0
 Given Gives items a = Any (λ x. Gives x a) items
 
@@ -48,7 +48,7 @@ pub gains_all : {A B : Type 0} (Gives : A → B → Type 0) (items : List A) (i 
     Gains xs now (Given Gives (take i items)) → Gains xs now (Given Gives items)
 gains_all {A} Gives items i xs now all = subst (λ (ys : List A). Gains xs now (Given Gives ys)) (take_all i items (omega arith))
 
--- one
+-- A list with one more member.
 pub gains_one : {B : Type 0} (xs now : List B) (x : B) → now ≡ xs ++ x ∷ [] → Gains xs now (λ a. x ≡ a)
 gains_one {B} xs now x is a = (
   (λ in_now. Contains-push_cases xs x a (subst (λ (ys : List B). Contains ys a) is in_now)),

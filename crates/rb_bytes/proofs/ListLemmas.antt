@@ -1,4 +1,5 @@
--- Options and lists: what a search finds or doesn't, lists of lists, lists of what a function gives, and items that go in pairs.
+-- Options and lists: results of searches, lists of lists, maps over lists, and lists whose elements are related
+-- pairwise.
 use Rattle.std.proofs.Common.{◌≡◌, ℕ, zero, suc, ◌<◌, List, [], ◌∷◌, ◌++◌, length, map, Option, Some, None, Bool, true, false}
 use Rattle.std.proofs.Common.{cond, refl, sym, ap, ◌∙◌, subst, arith, inl, inr, ◌⊎◌, ⊎_elim, All, get_or, ◌≤◌, take, sum_by}
 use Rattle.std.specs.Prelude.{AllPairs, Contains, IfSome, find, flat_map, slice_index_or, ◌||◌, slice_index, replicate, slice_get}
@@ -14,13 +15,13 @@ use Rattle.std.proofs.lemmas.List.Kept.{AllPairs-cons}
 use Rattle.rb_bytes.proofs.Searches.{find-finds}
 use Rattle.rb_bytes.proofs.Members.{Contains-cons_cases, Contains-there}
 
--- what holds of the value, if there is one, holds of this one
+-- What holds for the value of an option holds for x, if x is the value.
 pub if_found : {A : Type 0} (P : A → Type 0) (o : Option A) (x : A) → o ≡ Some x → IfSome o P → P x
 if_found {A} P o x e h = subst (λ (o : Option A). IfSome o P) e h
 
 -- Searches.
 
--- what a search doesn't find isn't there
+-- A search that finds nothing: no element passes.
 pub find_none : {X : Type 0} (p : X → Bool) (xs : List X) (x : X) → find p xs ≡ None → Contains xs x → p x ≡ true → ⊥
 find_none p xs x e is_in passes = let (y, found) = find-finds p xs x is_in passes in absurd (cc)
 
@@ -59,7 +60,7 @@ from_flat {X} {Y} f (z ∷ zs) y is_in = by (Contains-append_cases (f z) (flat_m
     by (inl k) rest = (z, (zero, omega arith, refl), k)
     by (inr k) rest = let (x, x_in, y_in) = rest k in (x, Contains-there z zs x x_in, y_in)
 
--- What a function gives.
+-- Maps over lists.
 
 pub in_map : {X Y : Type 0} (f : X → Y) (xs : List X) (x : X) → Contains xs x → Contains (map f xs) (f x)
 in_map f xs x (k, within, is) =
@@ -91,7 +92,7 @@ pairs_in R S xs f pairs = λ i j d less within.
     f (get_or xs i d) (get_or xs j d) (Contains-get_or xs i d (omega (arith, less, within))) (Contains-get_or xs j d within)
     (pairs i j d less within)
 
--- Lists in which each item goes with each later one.
+-- Lists in which each element is related to each later one.
 
 pub all_of : {X : Type 0} (P : X → Type 0) (xs : List X) → ((x : X) → Contains xs x → P x) → All P xs
 all_of P xs f = λ k d within. f (get_or xs k d) (Contains-get_or xs k d within)
@@ -131,12 +132,12 @@ module _ {X : Type 0} (R : X → X → Type 0) where
           subst (λ z. (p q : X) → Contains (f y) p → Contains (f z) q → R p q) is
           (between zero (suc k) z (omega arith) (omega (arith, inside)))
 
--- Items of a list in which each two differ.
+-- Lists whose elements differ pairwise.
 
 same_item : {X : Type 0} (xs : List X) (j : ℕ) (x y : X) → j < length xs → slice_index_or xs j x ≡ slice_index_or xs j y
 same_item xs j x y h = get_or_default xs j x y h
 
--- two that don't differ are one
+-- Two members that are related in neither order are equal.
 pub one_of : {X : Type 0} (R : X → X → Type 0) (xs : List X) (x y : X) → AllPairs R xs → Contains xs x → Contains xs y →
     (R x y → ⊥) → (R y x → ⊥) → x ≡ y
 one_of {X} R xs x y pairs (i, i_in, i_is) (j, j_in, j_is) not_xy not_yx =
@@ -166,19 +167,19 @@ slice_get_found [] i within = absurd (omega arith)
 slice_get_found (x ∷ xs) zero within = (x, refl)
 slice_get_found (x ∷ xs) (suc i) within = slice_get_found xs i (omega arith)
 
--- an element of a list that has one
+-- An element of a list that isn't empty.
 pub any_element : {X : Type 0} (xs : List X) (k : ℕ) → k < length xs → X
 any_element [] k within = absurd (omega arith)
 any_element (x ∷ xs) k within = x
 
--- a place of a member
+-- An index of a member.
 pub contains_at : {X : Type 0} (xs : List X) (x : X) → Contains xs x → (k : ℕ) × (slice_get xs k ≡ Some x)
 contains_at xs x (k, within, is) = (k, slice_get-get_or xs k x within ∙ ap Some is)
 
 pub taken_less : {X : Type 0} (n : ℕ) (xs : List X) → length (take n xs) ≤ n
 taken_less n xs = grind (arith, common_steps)
 
--- a sum over what a function gives
+-- A sum over a map.
 pub sum_by-map : {X Y : Type 0} (f : Y → ℕ) (g : X → Y) (xs : List X) → sum_by f (map g xs) ≡ sum_by (λ x. f (g x)) xs
 sum_by-map f g [] = refl
 sum_by-map f g (x ∷ xs) =
@@ -187,7 +188,7 @@ sum_by-map f g (x ∷ xs) =
     let c = sum_by-map f g xs in
     omega (arith, a, b, c)
 
--- numbers of which each is less than the next
+-- A list of numbers in which each is less than the next.
 pub rising : (xs : List ℕ) → AllPairs (λ a b. a < b) xs → IsNonDecreasingBy (λ a. a) xs
 rising xs up i j d upto within =
     ⊎_elim

@@ -2,7 +2,7 @@
 use Rattle.std.proofs.Common.{◌≡◌, refl, ℕ, zero, suc, ◌/◌, ◌%◌, ◌^◌, arith}
 use Rattle.std.specs.Int.{byte_at}
 
--- a byte of a number's bytes
+-- Byte i of a number.
 pub byte_at-power : (i v : ℕ) → byte_at i v ≡ v / 256 ^ i % 256
 byte_at-power zero v = omega arith
 byte_at-power (suc i) v = refl

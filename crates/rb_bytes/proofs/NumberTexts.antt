@@ -1,4 +1,4 @@
--- The texts of numbers: which digits they have, and that they are read as those numbers.
+-- The texts of numbers: their digits, and that each text is read back as its number.
 use Rattle.std.proofs.Common.{◌≡◌, ◌≢◌, ◌<◌, ◌≤◌, ◌+◌, ◌-◌, ◌/◌, ◌%◌, ◌^◌, ◌∙◌, ℕ, suc, zero, Bool, true, false, List, [], ◌∷◌}
 use Rattle.std.proofs.Common.{length, arith, refl, ap, subst, cond, Some, ⊎_elim}
 use Rattle.std.specs.Prelude.{◌==◌, ◌&&◌, ◌||◌, nat_lt, decimal, slice_index}
@@ -22,7 +22,7 @@ or_true : (b : Bool) → (b || true) ≡ true
 or_true true = refl
 or_true false = refl
 
--- Digits of the base 16.
+-- Digits in base 16.
 
 glyph_low : (d : ℕ) → d < 10 → digit_glyph false d ≡ 48 + d
 glyph_low d less = ap (λ b. cond b (48 + d) (87 + d)) (lt-ltb d 10 less)
@@ -38,7 +38,7 @@ glyph_lower d less = ⊎_elim
     (in_range 97 102 (87 + d) (omega arith) (omega arith)) ∙ or_true (is_ascii_digit (87 + d)))
     (cases_lt d 10)
 
--- no digit but that of 0 is `0`
+-- Only the digit 0 is printed as `0`.
 glyph_some : (d : ℕ) → d ≢ 0 → digit_glyph false d ≢ 48
 glyph_some d some = ⊎_elim
     (λ (low : d < 10). λ (e : digit_glyph false d ≡ 48). let is = glyph_low d low in some (omega (arith, e, is)))
@@ -119,12 +119,12 @@ first_onto (suc k) n text less some = at (n / 16 == 0) refl
         zero_is : (m : ℕ) → m ≤ 0 → m ≡ 0
         zero_is m z = omega arith
 
--- decimal digits
+-- Decimal digits.
 decimal_digits : (ds : List ℕ) → AllDigits 10 ds → list_all is_ascii_digit ds ≡ true
 decimal_digits [] all = refl
 decimal_digits (c ∷ ds) all = let here = digit_from_value c all.0 in rw (in_range 48 57 c here.0 here.1) (decimal_digits ds all.1)
 
--- digits that write a number are read as it
+-- The digits of a number are read back as the number.
 number_read : (n radix most : ℕ) (is_digit : ℕ → Bool) (ds : List ℕ) → n < 2 ^ 64 → 0 < length ds → length ds ≤ most
     → list_all is_digit ds ≡ true → digits_value radix ds ≡ n → number_of_digits radix most is_digit ds ≡ Some n
 number_read n radix most is_digit ds fits some short all value =
@@ -175,7 +175,7 @@ and_false false = refl
 pub positive : (n : ℕ) → n ≢ 0 → 0 < n
 positive n some = ⊎_elim (λ (m : 0 < n). m) (λ (z : n ≤ 0). absurd (some (omega arith))) (cases_lt 0 n)
 
--- no text of a number has a zero before another digit
+-- The text of a number has no leading zero.
 pub no_zero_first : (text : List ℕ) → slice_index text 0 ≢ 48 → (nat_lt 1 (length text) && (slice_index text 0 == 48)) ≡ false
 no_zero_first text other =
     ap (λ b. nat_lt 1 (length text) && b) (ne_eqb (slice_index text 0) 48 other) ∙ and_false (nat_lt 1 (length text))

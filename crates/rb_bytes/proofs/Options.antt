@@ -1,4 +1,4 @@
--- What holds of the value that an option has, and what was found of two.
+-- Facts on the value of an option, and on the first of two options.
 use Rattle.std.proofs.Common.{◌≡◌, ◌∙◌, ◌⊎◌, inl, inr, refl, sym, subst, false, true, Option, Some, None, IsSome, option_map}
 use Rattle.std.specs.Option.{option_or}
 use Rattle.std.specs.Prelude.{IsSomeAnd}
@@ -9,12 +9,12 @@ some_and {A} P o x is holds = subst (λ (o : Option A). IsSomeAnd o P) (sym is) 
 pub of_some : {A : Type 0} (P : A → Type 0) (o : Option A) (x : A) → o ≡ Some x → IsSomeAnd o P → P x
 of_some {A} P o x is holds = subst (λ (o : Option A). IsSomeAnd o P) is holds
 
--- the value, if that is what is said
+-- The value, if the option has one.
 pub the_some : {A : Type 0} (P : A → Type 0) (o : Option A) → IsSomeAnd o P → (x : A) × (o ≡ Some x) × P x
 the_some P None holds = absurd holds
 the_some P (Some x) holds = (x, refl, holds)
 
--- What was found, and what wasn't.
+-- Options that are known to have a value, or to have none.
 
 pub option_cases : {A : Type 0} (o : Option A) → (o ≡ None) ⊎ ((x : A) × (o ≡ Some x))
 option_cases None = inl refl
@@ -33,7 +33,7 @@ pub none_of : {A : Type 0} (o : Option A) → ((x : A) → o ≡ Some x → ⊥)
 none_of None never = refl
 none_of (Some x) never = absurd (never x refl)
 
--- The first of two that is there.
+-- The first of two options that has a value.
 
 pub both_none : {A : Type 0} (a b : Option A) → option_or a b ≡ None → (a ≡ None) × (b ≡ None)
 both_none None b e = (refl, e)

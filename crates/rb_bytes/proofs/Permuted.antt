@@ -1,4 +1,4 @@
--- Pairs of a list in another order.
+-- Pairs of elements of a list in another order.
 use Rattle.std.proofs.Common.{◌≢◌, ◌<◌, ℕ, cond, arith, ◌≡◌, ◌≤◌, ◌∙◌, true, false, List, length, get_or, set, sym, ap}
 use Rattle.std.proofs.Common.{⊎_elim, length-set, get_or-set_other, get_or-set_same}
 use Rattle.std.specs.Prelude.{◌==◌, AllPairs, IsPermutation}
@@ -8,7 +8,7 @@ use Rattle.std.proofs.lemmas.Bool.{cases_lt, cases_eq, eq-eqb, ne_eqb}
 use Rattle.std.proofs.lemmas.List.Edits.{swap_is}
 use Rattle.std.proofs.lemmas.List.Sorted.{IsPermutation-keeps}
 
--- the place from which an exchange of i and j takes the element at k
+-- The index of the element that is at index k after the elements at i and j are swapped.
 from : ℕ → ℕ → ℕ → ℕ
 from i j k = cond (k == j) i (cond (k == i) j k)
 
@@ -44,7 +44,7 @@ module _ {X : Type 0} where
       (cases_eq k i))
       (cases_eq k j))
 
-  -- what holds of any two elements, in either order, holds of them in any order
+  -- A symmetric relation of all pairs of elements holds in any order of the list.
   pub AllPairs-permutation : (R : X → X → Type 0) → ((x y : X) → R x y → R y x) → (xs ys : List X) → IsPermutation xs ys
       → AllPairs R xs → AllPairs R ys
   AllPairs-permutation R flip xs ys p all = IsPermutation-keeps xs (AllPairs R) all step ys p

@@ -1,4 +1,4 @@
--- How many members of an ascending list lie in a range.
+-- The number of members of an ascending list that are in a range.
 use Rattle.std.proofs.Common.{◌≡◌, ℕ, zero, suc, ◌+◌, ◌-◌, ◌<◌, ◌≤◌, ◌∙◌, Bool, true, false, cond, List, [], ◌∷◌, length, get_or, map}
 use Rattle.std.proofs.Common.{All, AllPairs, arith, refl, sym, ap, filter}
 use Rattle.std.specs.Prelude.{◌&&◌, nat_lt, nat_le}
@@ -9,11 +9,11 @@ use Rattle.std.proofs.lemmas.Grind.{common_steps}
 use Rattle.std.proofs.lemmas.List.Sums.{sum_by-cons}
 use Rattle.std.proofs.lemmas.List.Sorted.{sum_by-IsPermutation}
 
--- how many members pass a test
+-- The number of members that pass a test.
 abbrev pub count : {X : Type 0} → (X → Bool) → List X → ℕ
 count p xs = length (filter p xs)
 
--- one more where a member passes
+-- 1 if a member passes, and 0 otherwise.
 abbrev pub one : Bool → ℕ
 one b = cond b 1 0
 
@@ -51,7 +51,7 @@ count-none p (x ∷ xs) no_one =
     let c = count-none p xs no_one in
     omega (arith, a, b, c)
 
--- The members before a place pass, and those behind it don't.
+-- The members before index k pass and the others don't.
 pub count-partition : {X : Type 0} (p : X → Bool) (xs : List X) (k : ℕ) → k ≤ length xs →
     ((i : ℕ) (d : X) → i < k → p (get_or xs i d) ≡ true) →
     ((i : ℕ) (d : X) → k ≤ i → i < length xs → p (get_or xs i d) ≡ false) → count p xs ≡ k
@@ -69,7 +69,7 @@ count-partition p (x ∷ xs) (suc k) within low high =
     (λ i d from less. high (suc i) d (omega (arith, from)) (omega (arith, less))) in
     omega (arith, a, b, c)
 
--- Strictly inside a range lie those below its end that aren't up to its start.
+-- The numbers strictly inside a range are those below its end without those up to its start.
 module _ (low high : ℕ) (some : low < high) where
   inside_one : (n : ℕ) → one (nat_lt low n && nat_lt n high) + one (nat_le n low) ≡ one (nat_lt n high)
   inside_one n = grind (arith, common_steps)
@@ -88,7 +88,7 @@ module _ (low high : ℕ) (some : low < high) where
 pub none_inside : (low high n : ℕ) → high ≤ low → (nat_lt low n && nat_lt n high) ≡ false
 none_inside low high n no_room = grind (arith, common_steps)
 
--- The members reach over some numbers from where each starts, and lie one behind another.
+-- Each member covers numbers from its start on, and the members follow each other.
 module _ {B : Type 0} (start : B → ℕ) (has : B → Bool) (low high : ℕ) (some : low < high) where
   pub record AreStretches (xs : List B) : Type 0 where
     pub inside : All (λ b. low ≤ start b → start b < high → has b ≡ true) xs
@@ -116,13 +116,13 @@ module _ {B : Type 0} (start : B → ℕ) (has : B → Bool) (low high : ℕ) (s
       let d = below_up xs in
       omega (arith, a, b, c, d)
 
-  -- those in the range are those that start in it, and perhaps the last one that starts before it
+  -- The members in the range are those that start in it, and possibly the last one that starts before it.
   pub record IsCounted (xs : List B) : Type 0 where
     pub none_before : below low xs ≡ 0 → count has xs ≡ below high xs
     pub some_before : (d : B) → 0 < below low xs →
         count has xs + below low xs ≡ below high xs + one (has (get_or xs (below low xs - 1) d))
 
-  -- where the first one starts at the range's start or above, none starts below that
+  -- If the first member starts at `low` or above, no member starts below `low`.
   none_below : (x : B) (xs : List B) → AreStretches (x ∷ xs) → low ≤ start x → below low xs ≡ 0
   none_below x xs are from =
       count-partition (λ b. nat_lt (start b) low) xs 0 (omega arith) (λ i d less. absurd (omega (arith, less)))
@@ -134,7 +134,7 @@ module _ {B : Type 0} (start : B → ℕ) (has : B → Bool) (low high : ℕ) (s
       not_below : (n : ℕ) → low ≤ n → nat_lt n low ≡ false
       not_below n past = grind (arith, common_steps)
 
-  -- where a later one starts below the range, the first one has nothing in it
+  -- If a later member starts below `low`, the first one has nothing in the range.
   passed : (x : B) (xs : List B) → AreStretches (x ∷ xs) → 0 < below low xs → has x ≡ false
   passed x [] are some_below = absurd (omega (arith, some_below))
   passed x (y ∷ ys) are some_below = by (nat_lt (start y) low) refl where

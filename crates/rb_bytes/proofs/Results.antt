@@ -1,4 +1,4 @@
--- What holds of results that are known.
+-- Facts on known results.
 use Rattle.std.proofs.Common.{◌≡◌, sym, subst, true}
 use Rattle.std.specs.Prelude.{Result, Ok, Err, IsOkAnd, OnErr}
 use Rattle.std.specs.Result.{is_err}

@@ -1,9 +1,9 @@
--- What a search of a list finds, and what a filter keeps.
+-- Results of searches and filters of lists.
 use Rattle.std.proofs.Common.{◌≡◌, ◌∙◌, sym, ap, refl, Bool, true, false, cond, List, [], ◌∷◌, Some, None, arith, inl, inr}
 use Rattle.std.specs.List.{Contains, find, filter}
 use Rattle.rb_bytes.proofs.Members.{Contains-cons_cases, Contains-there}
 
--- what a search finds passes, and is in the list
+-- The element found passes and is a member.
 pub find-found : {X : Type 0} (p : X → Bool) (xs : List X) (x : X) → find p xs ≡ Some x → (p x ≡ true) × Contains xs x
 find-found p [] x found = cc
 find-found {X} p (y ∷ ys) x found =
@@ -13,7 +13,7 @@ find-found {X} p (y ∷ ys) x found =
     ]
     refl found
 
--- a search finds something where an element passes
+-- A search finds an element if a member passes.
 pub find-finds : {X : Type 0} (p : X → Bool) (xs : List X) (x : X) → Contains xs x → p x ≡ true → (y : X) × (find p xs ≡ Some y)
 find-finds p [] x (k, within, is) passes = absurd (omega arith)
 find-finds {X} p (y ∷ ys) x is_in passes =
@@ -26,7 +26,7 @@ find-finds {X} p (y ∷ ys) x is_in passes =
     ]
     refl
 
--- and nothing where none does
+-- A search finds nothing if no member passes.
 pub find-none : {X : Type 0} (p : X → Bool) (xs : List X) → ((x : X) → Contains xs x → p x ≡ false) → find p xs ≡ None
 find-none {X} p xs fails =
     elim (find p xs) as (λ r. find p xs ≡ r → r ≡ None) [
@@ -35,7 +35,7 @@ find-none {X} p xs fails =
     ]
     refl
 
--- the only element that passes is found
+-- A search finds the only member that passes.
 pub find-only : {X : Type 0} (p : X → Bool) (xs : List X) (x : X) → Contains xs x → p x ≡ true →
     ((y : X) → Contains xs y → p y ≡ true → y ≡ x) → find p xs ≡ Some x
 find-only p xs x is_in passes only =
@@ -43,7 +43,7 @@ find-only p xs x is_in passes only =
     let found = find-found p xs y is in
     is ∙ ap (λ z. Some z) (only y found.1 found.0)
 
--- what a filter keeps
+-- Members that pass are in the filtered list.
 pub Contains-filter : {X : Type 0} (p : X → Bool) (xs : List X) (x : X) → Contains xs x → p x ≡ true → Contains (filter p xs) x
 Contains-filter p [] x (k, within, is) passes = absurd (omega arith)
 Contains-filter {X} p (y ∷ ys) x is_in passes =

@@ -1,4 +1,4 @@
--- Signed LEB128 numbers: their values, and that the spelling is read back and is the shortest.
+-- Signed LEB128 numbers: their values, and that the encoding is read back and is the shortest.
 use Rattle.std.proofs.Common.{◌≡◌, ◌<◌, ◌≤◌, ◌+◌, ◌-◌, ◌*◌, ◌/◌, ◌%◌, ◌^◌, ℕ, zero, suc, ℤ, pos, negsuc, ◌+ℤ◌, ◌*ℤ◌, ◌-ℤ◌}
 use Rattle.std.proofs.Common.{List, [], ◌∷◌, ◌++◌, true, false, nat_lt, arith, refl, sym, ◌∙◌, ap, take, drop, length, Ok}
 use Rattle.std.proofs.Common.{inl, inr, length-append, length-take, length-drop, append_assoc}
@@ -15,11 +15,11 @@ use Rattle.rb_bytes.proofs.ReaderAnswers.{ok_from_tests}
 use Rattle.rb_bytes.specs.Leb.{leb_length, signed_bits, sleb_from, sleb_value, sleb_at, low_bits, high_bits, fits_seven_bits}
 use Rattle.rb_bytes.specs.Leb.{fits_i64, sleb_within, sleb, IsShortestSleb}
 
--- seven bits below a number
+-- Seven bits below a negative number.
 below_neg : (low n : ℕ) → low < 128 → pos low +ℤ pos 128 *ℤ negsuc n ≡ negsuc (128 * n + (127 - low))
 below_neg low n h = omega (arith, ints)
 
--- how large the number is then
+-- The magnitude of a number with seven bits appended below.
 mag-below-ge : (low : ℕ) (z : ℤ) → low < 128 → 128 * mag z ≤ mag (pos low +ℤ pos 128 *ℤ z)
 mag-below-ge low (pos n) h = omega arith
 mag-below-ge low (negsuc n) h = rw (below_neg low n h) (omega arith)
@@ -28,7 +28,7 @@ mag-below-lt : (low m : ℕ) (z : ℤ) → low < 128 → mag z < m → mag (pos 
 mag-below-lt low m (pos n) h lt = omega arith
 mag-below-lt low m (negsuc n) h lt = rw (below_neg low n h) (omega arith)
 
--- the value of bytes that are not all
+-- The bytes from index i on have no greater magnitude than all bytes.
 sleb_value-drop-le : (i byte : ℕ) (bytes : List ℕ) → i ≤ length bytes →
     mag (sleb_value (drop i (byte ∷ bytes))) ≤ mag (sleb_from byte bytes)
 sleb_value-drop-le zero byte bytes h = omega arith
@@ -49,7 +49,7 @@ fits-shifted z lt =
     let shifted : mag (z *ℤ pos 128) < 2 ^ 63 = rw e (omega (arith, mag-below-lt 0 (2 ^ 56) z (omega arith) lt)) in
     record { sfits = shifted }
 
--- a number that seven bits more make too large for 64 bits
+-- If the value of a suffix times 128 doesn't fit 64 bits, the value of all bytes doesn't fit either.
 pub sleb_value-too_large : (i : ℕ) (bytes : List ℕ) → 0 < i → i < length bytes →
     (FitsSigned w64 (sleb_value (drop i bytes) *ℤ pos 128) → ⊥) → FitsSigned w64 (sleb_value bytes) → ⊥
 sleb_value-too_large i [] p h large fits = absurd (omega arith)
@@ -60,7 +60,7 @@ sleb_value-too_large i (byte ∷ bytes) p h large fits =
       | inr ge ↦ omega (arith, sleb_value-drop-mul-le i byte bytes p (omega arith), fits.sfits)
     ]
 
--- the seven bits of a byte, by their sign
+-- The seven bits of a byte, by their sign.
 signed_bits-pos : (byte : ℕ) → byte % 128 < 64 → signed_bits byte ≡ pos (byte % 128)
 signed_bits-pos byte lt = grind arith
 
@@ -75,7 +75,7 @@ signed_bits-mag-lt byte = elim (cases_lt (byte % 128) 64) [
   | inr ge ↦ rw (signed_bits-neg byte ge) (omega arith)
 ]
 
--- k bytes and one more have 64 values of each sign for each value of k bytes
+-- The magnitude of the value of k + 1 bytes is below 64 * 128^k.
 sleb_from-mag-lt : (byte : ℕ) (bytes : List ℕ) → mag (sleb_from byte bytes) < 64 * 128 ^ length bytes
 sleb_from-mag-lt byte [] = omega (arith, signed_bits-mag-lt byte, pow-zero 128)
 sleb_from-mag-lt byte (next ∷ bytes) =
@@ -92,7 +92,7 @@ sleb_value-mag-lt (byte ∷ bytes) h =
     let e : suc (length bytes) - 1 ≡ length bytes = omega arith in
     rw e (sleb_from-mag-lt byte bytes)
 
--- the spelling's bytes
+-- The bytes of the encoding.
 
 sleb_within-last : (k : ℕ) (z : ℤ) → fits_seven_bits z ≡ true → sleb_within k z ≡ low_bits z ∷ []
 sleb_within-last zero z e = refl
@@ -157,7 +157,7 @@ sleb_within-more (suc k) z lt = elim (cases_lt (mag z) 64) [
       ∙ sym (sleb_within-next k z e)
 ]
 
--- the spelling is read back
+-- The encoding is read back.
 
 leb_length-last : (byte : ℕ) (rest : List ℕ) → byte < 128 → leb_length (byte ∷ rest) ≡ 1
 leb_length-last byte rest lt = grind arith
@@ -201,13 +201,13 @@ sleb_value-sleb_within (suc k) z lt = elim (cases_lt (mag z) 64) [
       ∙ low-high z)
 ]
 
--- reading
+-- Reading.
 
 fits_i64-true : (z : ℤ) → mag z < 2 ^ 63 → fits_i64 z ≡ true
 fits_i64-true (pos n) lt = grind arith
 fits_i64-true (negsuc n) lt = grind arith
 
--- the number at the front of `spelling ++ rest` is `spelling`
+-- The number at the front of `spelling ++ rest` has the bytes `spelling`.
 sleb_at-append : (z : ℤ) (spelling rest : List ℕ) → leb_length (spelling ++ rest) ≡ length spelling → sleb_value spelling ≡ z →
     fits_i64 z ≡ true → sleb_at (spelling ++ rest) ≡ Ok (z, rest)
 sleb_at-append z spelling rest e value fits =
@@ -215,7 +215,7 @@ sleb_at-append z spelling rest e value fits =
     let long : nat_lt (length (spelling ++ rest)) (length spelling) ≡ false = grind arith in
     rw (e, take_at spelling rest _ refl, drop_at spelling rest _ refl, value, fits, long) refl
 
--- what an answer says
+-- What a result `Ok` implies.
 sleb_at-ok : (z : ℤ) (bytes rest : List ℕ) → sleb_at bytes ≡ Ok (z, rest) → (leb_length bytes ≤ length bytes)
     × (sleb_value (take (leb_length bytes) bytes) ≡ z) × (drop (leb_length bytes) bytes ≡ rest)
 sleb_at-ok z bytes rest e =
@@ -224,7 +224,7 @@ sleb_at-ok z bytes rest e =
     let long = p.0 in
     (grind (arith, common_steps), ap (λ q. q.0) p.1, ap (λ q. q.1) p.1)
 
--- a number that k bytes are read as takes no more than k bytes
+-- The encoding of a number that k bytes are read as has at most k bytes.
 sleb_within-le-read : (j k : ℕ) (z : ℤ) (bytes rest : List ℕ) → 0 < k → k ≤ length bytes → sleb_value (take k bytes) ≡ z →
     drop k bytes ≡ rest → length (sleb_within j z) + length rest ≤ length bytes
 sleb_within-le-read j k z bytes rest h enough value e =
@@ -246,7 +246,7 @@ IsShortestSleb-mag z lt = record {
 pub IsShortestSleb-sleb : (z : ℤ) → FitsSigned w64 z → IsShortestSleb z (sleb z)
 IsShortestSleb-sleb z fits = IsShortestSleb-mag z fits.sfits
 
--- what the writer's loop cites
+-- Lemmas for the writer's loop.
 
 pub length-sleb-le : (z : ℤ) → length (sleb z) ≤ 10
 unfolding sleb

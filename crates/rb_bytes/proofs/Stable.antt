@@ -1,4 +1,4 @@
--- What isn't false, where that can be decided.
+-- Double negation of decidable propositions.
 use Rattle.std.proofs.Common.{◌≡◌, ℕ, ◌<◌, Bool, true, false, refl, arith, inl, inr}
 use Rattle.std.specs.Prelude.{nat_eq}
 use Rattle.std.proofs.lemmas.Bool.{cases_lt, eqb-true, eqb-false}

@@ -1,4 +1,4 @@
--- Facts on tests, and on numbers.
+-- Facts on tests and on numbers.
 use Rattle.std.proofs.Common.{◌≡◌, ◌≢◌, ◌<◌, ◌+◌, ◌-◌, ◌↔◌, ℕ, suc, Bool, true, false, not, IsTrue, refl, sym, ◌&&◌, ap, arith, nat_cmp}
 use Rattle.std.proofs.Common.{ℤ, pos, negsuc, ◌≤ℤ◌}
 use Rattle.std.specs.BTreeMap.{is_at}
@@ -28,11 +28,11 @@ pub if_not : {C : Type 0} (b : Bool) → IsTrue b ↔ C → IsTrue (not b) ↔ (
 if_not true test = (λ wrong. let never : false ≡ true = wrong in cc, λ wrong. absurd (wrong (test.0 refl)))
 if_not false test = (λ _ is. let never : false ≡ true = test.1 is in cc, λ _. refl)
 
--- another key than the one that is looked for
+-- A key that differs from the searched one.
 pub at_key : (k q : ℕ) → k ≢ q → is_at (nat_cmp k) q ≡ false
 at_key k q ne = grind (arith, common_steps)
 
--- what is left of n steps before one of them
+-- Steps left of n before step i.
 pub less_one : (n i : ℕ) → i < n → n - i ≡ suc (n - (i + 1))
 less_one n i h = omega arith
 

@@ -1,4 +1,4 @@
--- The first zero byte, as a search finds it, ends the text at the front.
+-- The text at the front ends at the first zero byte that a search finds.
 use Rattle.std.proofs.Common.{◌≡◌, ◌<◌, ◌+◌, ℕ, List, Some, None, Ok, Err, arith, take, drop, length}
 use Rattle.std.proofs.lemmas.List.Sums.{position_or_len_is}
 use Rattle.std.proofs.lemmas.Grind.{common_steps}

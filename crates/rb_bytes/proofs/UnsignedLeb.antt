@@ -1,4 +1,4 @@
--- Unsigned LEB128 numbers: their values, and that the spelling is read back and is the shortest.
+-- Unsigned LEB128 numbers: their values, and that the encoding is read back and is the shortest.
 use Rattle.std.proofs.Common.{◌≡◌, ◌≢◌, ◌<◌, ◌≤◌, ◌+◌, ◌-◌, ◌*◌, ◌/◌, ◌%◌, ◌^◌, ℕ, zero, suc, List, [], ◌∷◌, ◌++◌, Bool, true}
 use Rattle.std.proofs.Common.{false, nat_lt, arith, refl, sym, ◌∙◌, ap, take, drop, length, Ok, length-append, length-take}
 use Rattle.std.proofs.Common.{length-drop, append_assoc}
@@ -9,13 +9,13 @@ use Rattle.rb_bytes.specs.declared.gap.Gap.TheVariants.{Short, Wide}
 use Rattle.rb_bytes.proofs.ReaderAnswers.{ok_from_tests}
 use Rattle.rb_bytes.specs.Leb.{leb_length, uleb_value, uleb_at, uleb_within, uleb, IsShortestUleb}
 
--- the bytes from a place on have no greater value
+-- The bytes from index i on have no greater value than all bytes.
 uleb_value-drop-le : (i : ℕ) (bytes : List ℕ) → uleb_value (drop i bytes) ≤ uleb_value bytes
 uleb_value-drop-le zero bytes = grind (arith, common_steps)
 uleb_value-drop-le (suc i) [] = omega arith
 uleb_value-drop-le (suc i) (byte ∷ bytes) = omega (arith, uleb_value-drop-le i bytes)
 
--- and if they aren't all, one at least 128 times less
+-- If i is above 0, the value is at least 128 times less.
 pub uleb_value-drop-mul-le : (i : ℕ) (bytes : List ℕ) → 0 < i → 128 * uleb_value (drop i bytes) ≤ uleb_value bytes
 uleb_value-drop-mul-le zero bytes h = absurd (omega arith)
 uleb_value-drop-mul-le (suc i) [] h = omega arith
@@ -25,7 +25,7 @@ uleb_value-lt : (bytes : List ℕ) → uleb_value bytes < 128 ^ length bytes
 uleb_value-lt [] = omega (arith, pow-zero 128)
 uleb_value-lt (byte ∷ bytes) = omega (arith, uleb_value-lt bytes, pow-succ' 128 (length bytes))
 
--- the number has at most seven bits a byte
+-- Each byte holds at most seven bits of the number.
 quotient-lt : (k n : ℕ) → n < 128 ^ suc k → n / 128 < 128 ^ k
 quotient-lt k n lt = let e = pow-succ' 128 k in omega (arith, rw e at lt)
 
@@ -46,7 +46,7 @@ length-uleb_within-le (suc k) (suc zero) n h lt = let small : n < 128 = omega ar
 length-uleb_within-le (suc k) (suc (suc j)) n h lt =
     let ih = length-uleb_within-le k (suc j) (n / 128) (omega arith) (quotient-lt (suc j) n lt) in grind arith
 
--- the spelling, byte by byte
+-- The bytes of the encoding.
 
 uleb_within-more : (k n : ℕ) → n < 128 ^ suc k → uleb_within (suc k) n ≡ uleb_within k n
 uleb_within-more zero n lt = let small : n < 128 = omega arith in grind arith
@@ -82,9 +82,9 @@ pub length-uleb-pos : (n : ℕ) → 0 < length (uleb n)
 unfolding uleb
 length-uleb-pos n = length-uleb_within-pos 9 n
 
--- reading
+-- Reading.
 
--- the number at the front of `spelling ++ rest` is `spelling`
+-- The number at the front of `spelling ++ rest` has the bytes `spelling`.
 uleb_at-append : (spelling rest : List ℕ) → leb_length (spelling ++ rest) ≡ length spelling → uleb_value spelling < 2 ^ 64 →
     uleb_at (spelling ++ rest) ≡ Ok (uleb_value spelling, rest)
 uleb_at-append spelling rest e lt =
@@ -99,7 +99,7 @@ uleb_at-ok n bytes rest e =
     let long = p.0 in
     (grind (arith, common_steps), ap (λ q. q.0) p.1, ap (λ q. q.1) p.1)
 
--- a number that k bytes are read as takes no more than k bytes
+-- The encoding of a number that k bytes are read as has at most k bytes.
 uleb_within-le-read : (j k n : ℕ) (bytes rest : List ℕ) → 0 < k → k ≤ length bytes → uleb_value (take k bytes) ≡ n →
     drop k bytes ≡ rest → length (uleb_within j n) + length rest ≤ length bytes
 uleb_within-le-read j k n bytes rest h enough value e =

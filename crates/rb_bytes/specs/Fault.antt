@@ -1,4 +1,4 @@
--- The kinds of refusal: their numbers and names.
+-- Kinds of refusal: their numbers and names.
 use Rattle.std.specs.Prelude.{ℕ, List, codes}
 use Rattle.rb_bytes.specs.declared.fault.Fault.{Fault}
 use Rattle.rb_bytes.specs.declared.fault.FaultKind.{FaultKind}
@@ -10,7 +10,7 @@ use Rattle.rb_bytes.specs.declared.fault.FaultKind.TheVariants.{BadTarget, UnitT
 use Rattle.rb_bytes.specs.declared.fault.FaultKind.TheVariants.{FrameFault, DwarfVersion, DwarfForm, HighPcForm}
 use Rattle.rb_bytes.specs.declared.fault.FaultKind.TheVariants.{DwarfFault, LineFault, NoRoom, TooLarge}
 
--- the number of a kind; two kinds share the number 16
+-- The number of a kind. Two kinds share the number 16.
 abbrev pub number_of : FaultKind → ℕ
 number_of NotElf = 1
 number_of Truncated = 2
@@ -42,7 +42,7 @@ number_of LineFault = 26
 number_of NoRoom = 27
 number_of TooLarge = 28
 
--- the name of a kind, in ASCII
+-- The name of a kind, in ASCII.
 abbrev pub name_of : FaultKind → List ℕ
 name_of NotElf = codes "NotElf"
 name_of Truncated = codes "Truncated"
@@ -74,6 +74,6 @@ name_of LineFault = codes "LineFault"
 name_of NoRoom = codes "NoRoom"
 name_of TooLarge = codes "TooLarge"
 
--- a fault of a kind that has no need and no room
+-- A fault with no need and no room.
 abbrev pub fault_at : FaultKind → ℕ → Fault
 fault_at kind place = record { kind = kind; place = place; need = 0; room = 0 }

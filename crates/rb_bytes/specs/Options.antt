@@ -1,4 +1,4 @@
--- Values that there are on a condition.
+-- A value that is present only under a condition.
 use Rattle.std.specs.Prelude.{Bool, Option, Some, None, if◌then◌else◌}
 
 abbrev pub only_if : {A : Type 0} → Bool → A → Option A

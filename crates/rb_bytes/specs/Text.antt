@@ -7,15 +7,15 @@ use Rattle.std.specs.Int.{is_in_range}
 use Rattle.std.specs.List.{list_all}
 use Rattle.std.specs.Str.Parse.{digits_value}
 
--- a number of at most 64 digits in lower-case hexadecimal, the highest digit first and not zero, but for zero, which
--- is `0`; what `{:x}` prints
+-- A number of at most 64 digits in lower-case hexadecimal, with no leading zeros; zero is `0`. This is what `{:x}`
+-- prints.
 abbrev pub hexadecimal : ℕ → List ℕ
 hexadecimal n = digits 16 false n
 
 abbrev pub is_lower_hex_digit : ℕ → Bool
 is_lower_hex_digit c = is_ascii_digit c || is_in_range 97 102 c
 
--- the number below 2^64 that digits write, if there is one digit at least and `most` at most
+-- The number below 2^64 that between 1 and `most` digits write.
 abbrev pub number_of_digits : (radix most : ℕ) → (ℕ → Bool) → List ℕ → Option ℕ
 number_of_digits radix most is_digit digits =
     if nat_lt 0 (length digits) && nat_le (length digits) most && list_all is_digit digits

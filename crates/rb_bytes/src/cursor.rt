@@ -10,7 +10,7 @@ use byteorder::{ByteOrder, LittleEndian};
 use memchr::memchr;
 use std::marker::Model;
 
-/// The bytes that are still to be read, and how many were. After a [`Gap`] it is as before.
+/// The bytes that are not read yet, and the number of bytes read. After a [`Gap`] the cursor is as before the call.
 #[derive(Drop)]
 pub struct Cursor<'a> {
     rest: &'a [u8],
@@ -29,7 +29,7 @@ impl<'a> Model for Cursor<'a> {
 }
 
 impl<'a> Cursor<'a> {
-    /// A cursor at the front of some bytes.
+    /// A cursor at the front of `bytes`.
     pub fn new(bytes: &'a [u8]) -> Cursor<'a>
         ensures { result ≡ whole_reading bytes.now }
     {
@@ -39,21 +39,21 @@ impl<'a> Cursor<'a> {
         }
     }
 
-    /// How many bytes were read.
+    /// The number of bytes read.
     pub fn place(&self) -> usize
         ensures { result ≡ self.now.place }
     {
         self.place
     }
 
-    /// How many bytes are left.
+    /// The number of bytes left.
     pub fn left(&self) -> usize
         ensures { result ≡ length self.now.left }
     {
         self.rest.len()
     }
 
-    /// The next `n` bytes. [`Gap::Short`] exactly where fewer are left.
+    /// The next `n` bytes. [`Gap::Short`] if fewer are left.
     pub fn take(&mut self, n: usize) -> Result<&'a [u8], Gap>
         ensures read { IfOk result (λ s. bytes_at n self.old.left ≡ Ok (s.now, self.new.left)) }
         ensures gap { IfErr result (λ gap. bytes_at n self.old.left ≡ Err gap) }
@@ -69,7 +69,7 @@ impl<'a> Cursor<'a> {
         Ok(bytes)
     }
 
-    /// The next byte. [`Gap::Short`] exactly where none is left.
+    /// The next byte. [`Gap::Short`] if none is left.
     pub fn u8(&mut self) -> Result<u8, Gap>
         ensures read { IfOk result (λ x. number_read 1 self.old.left ≡ Ok (x, self.new.left)) }
         ensures gap { IfErr result (λ gap. number_read 1 self.old.left ≡ Err gap) }
@@ -80,7 +80,7 @@ impl<'a> Cursor<'a> {
         Ok(bytes[0])
     }
 
-    /// The little-endian number in the next two bytes. [`Gap::Short`] exactly where fewer are left.
+    /// The little-endian number in the next two bytes. [`Gap::Short`] if fewer are left.
     pub fn u16(&mut self) -> Result<u16, Gap>
         ensures read { IfOk result (λ x. number_read 2 self.old.left ≡ Ok (x, self.new.left)) }
         ensures gap { IfErr result (λ gap. number_read 2 self.old.left ≡ Err gap) }
@@ -91,7 +91,7 @@ impl<'a> Cursor<'a> {
         Ok(LittleEndian::read_u16(bytes))
     }
 
-    /// The little-endian number in the next four bytes. [`Gap::Short`] exactly where fewer are left.
+    /// The little-endian number in the next four bytes. [`Gap::Short`] if fewer are left.
     pub fn u32(&mut self) -> Result<u32, Gap>
         ensures read { IfOk result (λ x. number_read 4 self.old.left ≡ Ok (x, self.new.left)) }
         ensures gap { IfErr result (λ gap. number_read 4 self.old.left ≡ Err gap) }
@@ -102,8 +102,7 @@ impl<'a> Cursor<'a> {
         Ok(LittleEndian::read_u32(bytes))
     }
 
-    /// The little-endian number in the next eight bytes. [`Gap::Short`] exactly where fewer are
-    /// left.
+    /// The little-endian number in the next eight bytes. [`Gap::Short`] if fewer are left.
     pub fn u64(&mut self) -> Result<u64, Gap>
         ensures read { IfOk result (λ x. number_read 8 self.old.left ≡ Ok (x, self.new.left)) }
         ensures gap { IfErr result (λ gap. number_read 8 self.old.left ≡ Err gap) }
@@ -114,8 +113,7 @@ impl<'a> Cursor<'a> {
         Ok(LittleEndian::read_u64(bytes))
     }
 
-    /// The bytes up to the next zero byte, which is passed too. [`Gap::Short`] exactly where no
-    /// zero byte is left.
+    /// The bytes up to the next zero byte, which the cursor also passes. [`Gap::Short`] if no zero byte is left.
     pub fn text(&mut self) -> Result<&'a [u8], Gap>
         ensures read { IfOk result (λ s. text_at self.old.left ≡ Ok (s.now, self.new.left)) }
         ensures gap { IfErr result (λ gap. text_at self.old.left ≡ Err gap) }
@@ -132,9 +130,8 @@ impl<'a> Cursor<'a> {
         Ok(text)
     }
 
-    /// The unsigned LEB128 number at the front, of any length. [`Gap::Short`] exactly where the
-    /// bytes end before it does, and [`Gap::Wide`] exactly where it is whole and its value does
-    /// not fit. DWARF 5, section 7.6.
+    /// The unsigned LEB128 number at the front, of any length. [`Gap::Short`] if the bytes end inside the number,
+    /// [`Gap::Wide`] if the number is complete and does not fit 64 bits. DWARF 5, section 7.6.
     pub fn uleb(&mut self) -> Result<u64, Gap>
         ensures read { IfOk result (λ x. uleb_at self.old.left ≡ Ok (x, self.new.left)) }
         ensures gap { IfErr result (λ gap. uleb_at self.old.left ≡ Err gap) }
@@ -153,8 +150,7 @@ impl<'a> Cursor<'a> {
         Ok(number)
     }
 
-    /// The signed LEB128 number at the front, of any length, with the refusals of
-    /// [`Cursor::uleb`].
+    /// The signed LEB128 number at the front, of any length. Its gaps are those that [`Cursor::uleb`] has.
     pub fn sleb(&mut self) -> Result<i64, Gap>
         ensures read { IfOk result (λ x. sleb_at self.old.left ≡ Ok (x, self.new.left)) }
         ensures gap { IfErr result (λ gap. sleb_at self.old.left ≡ Err gap) }
@@ -168,7 +164,7 @@ impl<'a> Cursor<'a> {
         Ok(number)
     }
 
-    // The unsigned LEB128 number at the front, where it takes one byte, which isn't passed.
+    // The unsigned LEB128 number at the front, if it takes one byte. The cursor does not move.
     fn short_uleb(&self) -> Option<u8>
         ensures read { IfSome result (λ x. uleb_at self.now.left ≡ Ok (x, drop 1 self.now.left)) }
         ensures one { IfSome result (λ _. leb_length self.now.left ≡ 1) }
@@ -178,8 +174,8 @@ impl<'a> Cursor<'a> {
         if byte < leb::BASE { Some(byte) } else { None }
     }
 
-    // The bytes of the LEB128 number at the front, none of which is passed. `Gap::Short` exactly where the bytes end
-    // before it does.
+    // The bytes of the LEB128 number at the front. The cursor does not move. `Gap::Short` if the bytes end inside the
+    // number.
     fn leb_spelling(&self) -> Result<&'a [u8], Gap>
         ensures read { IfOk result (λ s. s.now ≡ take (leb_length self.now.left) self.now.left) }
         ensures whole { IfOk result (λ s. length s.now ≡ leb_length self.now.left) }
@@ -192,7 +188,7 @@ impl<'a> Cursor<'a> {
         Ok(spelling)
     }
 
-    // Goes past n bytes.
+    // Moves the cursor past `n` bytes.
     fn pass(&mut self, n: usize)
         requires { n ≤ length self.old.left }
         ensures passes { Passes n self.old self.new }

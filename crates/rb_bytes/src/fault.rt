@@ -1,34 +1,37 @@
-// Why a file is refused, and want of memory.
+// Why a file is refused, and the error for running out of memory.
 ghost use Rattle.std.specs.Prelude.{◌≡◌, ◌<◌, ◌≤◌};
 ghost use Rattle.rb_bytes.specs.Fault.{number_of, name_of, fault_at};
 
 use std::alloc::{AllocError, AllocFailed};
 use thiserror::Error;
 
-/// What is wrong with a file. A fault's place is printed in hexadecimal; where a variant speaks
-/// of an offset, it is one in the file unless it says otherwise.
+/// What is wrong with a file. Reports print a fault's place in hexadecimal. An offset is an offset in the file unless
+/// the variant says otherwise.
 #[derive(Clone, Copy, PartialEq, Eq, Debug)]
 pub enum FaultKind {
-    /// The identification or the machine is not that of a 64-bit little-endian RISC-V ELF file.
-    /// Place: 0. gABI, "ELF Header".
+    /// The identification or the machine is not the one of a 64-bit little-endian RISC-V ELF file. Place: 0. gABI, "ELF
+    /// Header".
     NotElf,
-    /// A structure does not lie whole in the file, or an entry size or an index of the header
-    /// is wrong. Place: the offset of the structure, or of the header's field.
+    /// A structure is not completely in the file, or an entry size or an index in the header is wrong. Place: the
+    /// offset of
+    /// the structure, or of the header's field.
     Truncated,
-    /// The header's flags ask for more than the compressed extension. Place: their offset, 30
-    /// in hexadecimal. psABI, "File Header".
+    /// The header's flags require more than the compressed extension. Place: the offset of the flags, 30 in
+    /// hexadecimal.
+    /// psABI, "File Header".
     Flags,
-    /// The file is not a static executable. Place: the offset of the file type, 10 in
-    /// hexadecimal, or of the program header that asks for a dynamic linker (PT_INTERP) or
-    /// describes dynamic linking (PT_DYNAMIC).
+    /// The file is not a static executable. Place: the offset of the file type, 10 in hexadecimal, or of the program
+    /// header that asks for a dynamic linker (PT_INTERP) or describes dynamic linking (PT_DYNAMIC).
     NotStatic,
-    /// The loaded segments do not lie as they must: one of them executable (or two, in a file that
-    /// was rewritten), no two sharing an address or a byte of the file, and all sections with code
-    /// in executable ones. Place: the offset of the program header concerned, of their table or of
-    /// the section header; where no segment is executable, that of the header's field that names
-    /// the table, 20 in hexadecimal.
+    /// The loaded segments break a rule: exactly one is executable (or two, in a file that was rewritten), no two share
+    /// an
+    /// address or a byte of the file, and all sections with code are in executable segments. Place: the offset of the
+    /// program
+    /// header concerned, of the table of program headers, or of the section header; if no segment is executable, the
+    /// offset of
+    /// the header's field `e_phoff`, 20 in hexadecimal.
     ExecSegments,
-    /// The executable segment may be written. Place: the offset of its program header.
+    /// The executable segment is writable. Place: the offset of its program header.
     WritableCode,
     /// A byte is loaded at 7fff0000 (hexadecimal) or above. Place: the first such address.
     HighAddress,
@@ -41,56 +44,52 @@ pub enum FaultKind {
     RelocMismatch,
     /// Two low parts of one AUIPC differ. Place: the address of the AUIPC.
     LoMismatch,
-    /// A difference of code addresses is kept in too few bits. Place: the address of its field.
+    /// The field for a difference of code addresses has too few bits. Place: the address of the field.
     NarrowDiff,
-    /// The file selects routines when it starts. Place: the symbol's value, the section's
-    /// address, or the address that the relocation applies to.
+    /// The file selects routines when it starts (ifuncs or a PLT). Place: the symbol's value, the section's address, or
+    /// the address that the relocation applies to.
     IfuncOrPlt,
-    /// The file is one that was rewritten before. Place: the index of the section that says so.
+    /// The file was rewritten before. Place: the index of the section that says so.
     AlreadyMoved,
-    /// The entry point starts no instruction of a function. Place: the entry point.
+    /// The entry point is not the start of an instruction of a function. Place: the entry point.
     BadEntry,
-    /// Bytes of code are no instruction. Place: their address.
+    /// Bytes of code are not an instruction. Place: their address.
     BadInstruction,
-    /// An AUIPC has no relocation that says what it stands for. Place: its address.
+    /// An AUIPC has no relocation that says what it refers to. Place: its address.
     BareAuipc,
-    /// A branch, jump or call goes to no instruction of a function. Place: the address of the
-    /// instruction.
+    /// A branch, jump or call does not go to an instruction of a function. Place: the address of the branch, jump or
+    /// call.
     BadTarget,
-    /// Functions that lead into each other by branches and JALs, or one function alone, take more
-    /// than 1,000,000 bytes: a JAL reaches 1,048,576 (ISA manual, section 2.5). Place: their lowest
-    /// address.
+    /// Functions that lead into each other by branches and JALs, or a single function, take more than 1,000,000 bytes:
+    /// a
+    /// JAL reaches 1,048,576 (ISA manual, section 2.5). Place: their lowest address.
     UnitTooLong,
     /// A branch, or a jump of two bytes, leaves a function that is moved whole. Place: its address.
     KeptBranch,
-    /// The program registers its unwind tables by hand. Place: the address of the section that
-    /// holds them.
+    /// The program registers its unwind tables itself. Place: the address of the section with these tables.
     RegisteredFrames,
     /// An unwind table is malformed. Place: the offset of the entry in its section.
     FrameFault,
     /// A debug table has a version that is not supported. Place: the offset of the unit in its
     /// section.
     DwarfVersion,
-    /// An attribute has a form that is not supported. Place: the offset of the declaration in
-    /// the section of abbreviations.
+    /// An attribute has a form that is not supported. Place: the offset of its declaration in `.debug_abbrev`.
     DwarfForm,
-    /// An end of code is given in a form that is not supported. Place: the offset of the
-    /// declaration in the section of abbreviations.
+    /// DW_AT_high_pc has a form that is not supported. Place: the offset of its declaration in `.debug_abbrev`.
     HighPcForm,
     /// A debug table is malformed. Place: the offset of the unit in its section.
     DwarfFault,
     /// A line program is malformed. Place: the offset of the unit in its section.
     LineFault,
-    /// The new code and tables need more room than there is. Place: the address where the new
-    /// area starts. This kind alone has a need and a room, in bytes.
+    /// The new code and tables need more room than there is. Place: the address at which the new area starts. Only this
+    /// kind has a need and a room, in bytes.
     NoRoom,
-    /// A limit on sizes is passed. Place: which one, of those in `limit`.
+    /// A size limit is exceeded. Place: the number of the limit, from module `limit`.
     TooLarge,
 }
 
 impl FaultKind {
-    /// The number that stands in the printed line. `BadInstruction` and `BareAuipc`, which are looked
-    /// for together, share 16.
+    /// The number in the printed line. `BadInstruction` and `BareAuipc`, which are searched for together, share 16.
     pub fn number(self) -> u8
         ensures { result ≡ number_of self }
     {
@@ -126,7 +125,7 @@ impl FaultKind {
         }
     }
 
-    /// The name that stands in the printed line: the variant's own.
+    /// The name in the printed line: the name of the variant.
     pub fn name(self) -> &'static str
         ensures { result.now ≡ name_of self }
     {
@@ -164,8 +163,8 @@ impl FaultKind {
     }
 }
 
-/// A file is refused: why, and where. Each [`FaultKind`] says what its place is. `need` and `room`
-/// are in bytes, and 0 for every kind but [`FaultKind::NoRoom`].
+/// Why a file is refused, and at which place. Each [`FaultKind`] says what its place is. `need` and `room` are in
+/// bytes, and are 0 except for [`FaultKind::NoRoom`].
 #[derive(Clone, Copy, PartialEq, Eq, Debug)]
 pub struct Fault {
     pub kind: FaultKind,
@@ -175,7 +174,7 @@ pub struct Fault {
 }
 
 impl Fault {
-    /// A fault of a kind that has no need and no room.
+    /// A fault with no need and no room.
     pub fn at(kind: FaultKind, place: u64) -> Fault
         ensures { result ≡ fault_at kind place }
     {
@@ -188,12 +187,12 @@ impl Fault {
     }
 }
 
-/// Memory could not be had.
+/// Memory ran out.
 #[derive(Clone, Copy, PartialEq, Eq, Debug, Error)]
 #[error("out of memory")]
 pub struct NoMemory;
 
-/// A file is refused, or memory could not be had.
+/// A file is refused, or memory ran out.
 #[derive(Clone, Copy, PartialEq, Eq, Debug, Error)]
 pub enum Refusal {
     #[error("refused: {}", .0.kind.name())]

@@ -1,13 +1,13 @@
 // Why a value cannot be read.
 use thiserror::Error;
 
-/// Why a value cannot be read at a place.
+/// Why no value can be read at the front of some bytes.
 #[derive(Clone, Copy, PartialEq, Eq, Debug, Error)]
 pub enum Gap {
     /// The bytes end before the value does.
     #[error("too few bytes are left")]
     Short,
-    /// A whole LEB128 number is there, and its value does not fit 64 bits.
+    /// A complete LEB128 number is there, but its value does not fit 64 bits.
     #[error("a number does not fit 64 bits")]
     Wide,
 }

@@ -7,20 +7,20 @@ ghost use Rattle.rb_bytes.specs.Leb.{fits_seven_bits, uleb, sleb, IsShortestUleb
 
 use crate::fault::NoMemory;
 
-/// Each byte carries one digit in this base, and is below it only if it is the last.
+/// The base of a digit, of which each byte has one. A byte is below the base only if it is the last.
 pub(crate) const BASE: u8 = 128;
 
-// A number of 64 bits takes at most ten bytes of seven bits each.
+// A 64-bit number takes at most ten bytes of seven bits each.
 const MAX_LENGTH: usize = 10;
 
-/// The place of the byte that ends the number at the front.
+/// The index of the last byte of the number at the front.
 pub(crate) fn end_at(left: &[u8]) -> Option<usize>
     ensures { result ≡ position is_last left.now }
 {
     left.iter().position(|byte| *byte < BASE)
 }
 
-/// The value of an unsigned number's bytes, if it fits.
+/// The value of the bytes of an unsigned number, if it fits 64 bits.
 pub(crate) fn unsigned_value(bytes: &[u8]) -> Option<u64>
     ensures { SomeIff result (uleb_value bytes.now < 2 ^ 64) (uleb_value bytes.now) }
 {
@@ -32,7 +32,7 @@ pub(crate) fn unsigned_value(bytes: &[u8]) -> Option<u64>
     Some(value)
 }
 
-// The low seven bits of a number's last byte, as a signed number.
+// The low seven bits of the last byte of a number, sign-extended.
 fn sign_extended(byte: u8) -> i64
     ensures { result ≡ signed_bits byte }
 {
@@ -40,7 +40,7 @@ fn sign_extended(byte: u8) -> i64
     if bits < 64 { bits } else { bits - BASE as i64 }
 }
 
-/// The value of a signed number's bytes, if it fits.
+/// The value of the bytes of a signed number, if it fits 64 bits.
 pub(crate) fn signed_value(bytes: &[u8]) -> Option<i64>
     requires { 0 < length bytes.now }
     ensures { SomeIff result (FitsSigned w64 (sleb_value bytes.now)) (sleb_value bytes.now) }
@@ -53,14 +53,14 @@ pub(crate) fn signed_value(bytes: &[u8]) -> Option<i64>
     Some(value)
 }
 
-/// Appends the shortest spelling of an unsigned number.
+/// Appends the shortest encoding of an unsigned number. After an error the bytes are as before.
 #[tactic(auto, using(crate::proofs::UnsignedLeb::spellings))]
 pub fn put_uleb(out: &mut Vec<u8>, v: u64) -> Result<(), NoMemory>
     ensures ok { OnOk result (out.new.items ≡ out.old.items ++ uleb v) }
     ensures err { OnErr result (out.new.items ≡ out.old.items) }
     ensures shortest { IsShortestUleb v (uleb v) }
 {
-    // With this room no `push` below can fail.
+    // After this call no `push` below can fail.
     out.reserve(MAX_LENGTH)?;
     let mut rest = v;
     'bytes: while rest >= BASE as u64 {
@@ -71,7 +71,7 @@ pub fn put_uleb(out: &mut Vec<u8>, v: u64) -> Result<(), NoMemory>
     Ok(())
 }
 
-// Whether seven bits hold the number, its sign with it.
+// Whether seven bits can hold the number including its sign.
 fn fits_seven_bits(value: i64) -> bool
     ensures { result ≡ fits_seven_bits value }
 {
@@ -85,21 +85,21 @@ fn low_bits(value: i64) -> u8
     (value.cast_unsigned() % BASE as u64) as u8
 }
 
-// The bits above the seven lowest, the sign among them.
+// The bits above the seven lowest, with the sign.
 fn high_bits(value: i64) -> i64
     ensures { result ≡ high_bits value }
 {
     value >> 7
 }
 
-/// Appends the shortest spelling of a signed number.
+/// Appends the shortest encoding of a signed number. After an error the bytes are as before.
 #[tactic(auto, using(crate::proofs::SignedLeb::spellings))]
 pub fn put_sleb(out: &mut Vec<u8>, v: i64) -> Result<(), NoMemory>
     ensures ok { OnOk result (out.new.items ≡ out.old.items ++ sleb v) }
     ensures err { OnErr result (out.new.items ≡ out.old.items) }
     ensures shortest { IsShortestSleb v (sleb v) }
 {
-    // With this room no `push` below can fail.
+    // After this call no `push` below can fail.
     out.reserve(MAX_LENGTH)?;
     let mut rest = v;
     'bytes: while !fits_seven_bits(rest) {

@@ -1,5 +1,5 @@
-//! Bytes read and written: a cursor, LEB128 numbers, numbers as text, and the kinds of refusal
-//! that every crate above answers with.
+//! Reads and writes bytes: a cursor, LEB128 numbers, numbers as text, and the kinds of refusal that all other crates
+//! use.
 #![tactic(auto)]
 
 pub mod cursor;

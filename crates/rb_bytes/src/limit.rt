@@ -1,22 +1,22 @@
-//! Places of `FaultKind::TooLarge`: which limit on sizes is passed.
+//! Places of `FaultKind::TooLarge`: the limit that is exceeded.
 
-/// How many bytes the file has.
+/// The number of bytes of the file.
 pub const FILE_BYTES: u64 = 0;
 
-/// How many bytes the profile has.
+/// The number of bytes of the profile.
 pub const PROFILE_BYTES: u64 = 1;
 
-/// How many bytes of code the file has.
+/// The number of bytes of code.
 pub const CODE_BYTES: u64 = 2;
 
-/// How many functions the file has.
+/// The number of functions.
 pub const FUNCTIONS: u64 = 3;
 
-/// How many bytes the text of a map has.
+/// The number of bytes of the text of the map.
 pub const MAP_BYTES: u64 = 4;
 
-/// How many headers of sections or segments the file has.
+/// The number of section headers or program headers.
 pub const HEADERS: u64 = 5;
 
-/// What the tables or names that are written weigh.
+/// The weight of the tables or names that are written.
 pub const WEIGHTS: u64 = 6;

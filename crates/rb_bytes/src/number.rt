@@ -5,12 +5,12 @@ ghost use Rattle.std.specs.List.{list_all};
 ghost use Rattle.std.specs.Str.Parse.{digits_value};
 ghost use Rattle.rb_bytes.specs.Text.{is_lower_hex_digit, hex_number, decimal_number};
 
-// How many digits the greatest number of 64 bits has, in hexadecimal and in decimal.
+// The digits of the greatest 64-bit number in hexadecimal, and in decimal.
 const HEX_DIGITS: usize = 16;
 
 const DECIMAL_DIGITS: usize = 20;
 
-/// The number that 1 to 16 lower-case hexadecimal digits write; none for any other text.
+/// The number that 1 to 16 lower-case hexadecimal digits write; `None` for any other text.
 pub fn hex_number(digits: &[u8]) -> Option<u64>
     ensures { result ≡ hex_number digits.now }
 {
@@ -26,7 +26,7 @@ pub fn hex_number(digits: &[u8]) -> Option<u64>
     value(digits, 16)
 }
 
-/// The number that 1 to 20 decimal digits write, if it is below 2^64; none for any other text.
+/// The number below 2^64 that 1 to 20 decimal digits write; `None` for any other text.
 pub fn decimal_number(digits: &[u8]) -> Option<u64>
     ensures { result ≡ decimal_number digits.now }
 {
@@ -60,7 +60,7 @@ fn is_lower_hex_digit(c: u8) -> bool
     c.is_ascii_digit() || (c >= b'a' && c <= b'f')
 }
 
-// The number that digits write in base `radix`, if it is below 2^64. Decimal digits are hexadecimal ones too.
+// The number below 2^64 that digits in base `radix` write. Decimal digits are also hexadecimal ones.
 fn value(digits: &[u8], radix: u64) -> Option<u64>
     requires digits { IsTrue (list_all is_lower_hex_digit digits.now) }
     requires radix { 0 < radix }
@@ -74,7 +74,7 @@ fn value(digits: &[u8], radix: u64) -> Option<u64>
     Some(value)
 }
 
-// A number with one more digit.
+// `value` with one more digit.
 fn appended(value: u64, radix: u64, digit: u64) -> Option<u64>
     ensures { result ≡ (if nat_lt (value * radix + digit) (2 ^ 64) then Some (value * radix + digit) else None) }
 {

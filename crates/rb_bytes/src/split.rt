@@ -1,9 +1,9 @@
-// Text cut at a byte.
+// Splits text at a byte.
 ghost use Rattle.std.specs.Prelude.{◌≡◌, ◌==◌, ◌++◌, ◌∷◌, false, All, IfSome, IfNone};
 
 use memchr::memchr;
 
-/// The text before the first byte that equals `byte`, and the text after it; none where no byte does.
+/// The text before the first byte that equals `byte`, and the text after it. `None` if there is no such byte.
 pub fn split_once(text: &[u8], byte: u8) -> Option<(&[u8], &[u8])>
     ensures parts { IfSome result (λ p. text.now ≡ p.0.now ++ byte ∷ p.1.now) }
     ensures first { IfSome result (λ p. All (λ c. (c == byte) ≡ false) p.0.now) }

@@ -6,7 +6,7 @@ ghost use Rattle.rb_bytes.specs.Text.{hexadecimal};
 use crate::fault::NoMemory;
 use itoa::Buffer;
 
-// A number of 64 bits has at most 16 hexadecimal digits.
+// A 64-bit number has at most 16 hexadecimal digits.
 const HEX_LENGTH: usize = 16;
 
 fn hex_digit(digit: u8) -> u8
@@ -20,8 +20,8 @@ fn hex_digit(digit: u8) -> u8
     }
 }
 
-/// Writes the number in lower-case hexadecimal, with no leading zeros, so that its last digit stands just before the
-/// place `end`; zero is `0`. Answers the place of the first digit.
+/// Writes `v` to `buf` in lower-case hexadecimal with no leading zeros, so that the last digit is just before index
+/// `end`; zero is `0`. Returns the index of the first digit.
 #[tactic(auto, using(crate::proofs::HexDigits::hex_onto_start))]
 pub fn write_hex(v: u64, buf: &mut [u8], end: usize) -> usize
     requires room { 16 ≤ end }

@@ -1,4 +1,4 @@
--- The spelling of `rest` follows what is written, and there is room for it.
+-- The encoding of `rest` is still to be written, and there is room for it.
 use Rattle.std.proofs.Common.{◌≡◌, ◌≤◌, ◌+◌, ◌++◌, length, vec_len, vec_capacity}
 use Rattle.rb_bytes.specs.Leb.{uleb}
 use Rattle.rb_bytes.proofs.leb.put_uleb.Given as goal

@@ -1,4 +1,4 @@
--- The bytes from `index` on have this value.
+-- `value` is the value of the bytes from `index` on.
 use Rattle.std.proofs.Common.{◌≡◌, ◌<◌, ◌^◌, drop}
 use Rattle.rb_bytes.specs.Leb.{uleb_value}
 use Rattle.rb_bytes.proofs.leb.unsigned_value.Given as goal

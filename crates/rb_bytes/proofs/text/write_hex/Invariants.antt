@@ -1,4 +1,4 @@
--- The digits written so far stand before `end`, and those of `rest` come before them.
+-- The digits written so far end at `end`, and the digits of `rest` come before them.
 use Rattle.std.proofs.Common.{◌≡◌, ◌+◌, ◌-◌, ◌<◌, ◌≤◌, ◌^◌, ◌++◌, drop}
 use Rattle.rb_bytes.specs.Text.{hexadecimal}
 use Rattle.rb_bytes.proofs.HexDigits.{hex_onto}
