@@ -1,4 +1,4 @@
--- Where control goes, worst sizes and parts of numbers, on small examples: each equation holds by computing.
+-- Fall-through, targets, worst sizes and address parts of small examples. Each equation holds by computation.
 use Rattle.std.specs.Prelude.{◌≡◌, ℕ, Some, None, true, false, refl, pos, negsuc}
 use Rattle.rv_code.specs.declared.inst.Inst.{Inst}
 use Rattle.rv_code.specs.declared.inst.Inst.TheVariants.{Addi, Beq, Jal, Jalr, Ecall}
@@ -9,7 +9,7 @@ use Rattle.rv_code.specs.layout.Flow.{target, falls}
 use Rattle.rv_code.specs.isa.HiLo.{hi20, lo12}
 use Rattle.rv_code.specs.layout.WorstSizes.{worst_length}
 
--- Falling. The second argument says whether the instruction is the last of its function.
+-- Fall-through. The second argument says whether the instruction is the last of its function.
 
 last_one_falls : falls (action_of (Addi 10 0 (pos 4))) true ≡ true
 last_one_falls = refl
@@ -29,7 +29,7 @@ return_goes_away = refl
 call_falls : falls (action_of (Jalr 1 1 (pos 8))) false ≡ true
 call_falls = refl
 
--- it is taken not to return
+-- A call at the end of a function is assumed not to return.
 last_call_goes_away : falls (action_of (Jalr 1 1 (pos 8))) true ≡ false
 last_call_goes_away = refl
 
@@ -41,7 +41,7 @@ target_of_branch = refl
 target_of_jump : target 0x10084 (action_of (Jal 0 (negsuc 7))) ≡ Some 0x1007c
 target_of_jump = refl
 
--- that of a JALR isn't in the instruction
+-- The target of a JALR isn't in the instruction.
 target_of_return : target 0x10084 (action_of (Jalr 0 1 (pos 0))) ≡ None
 target_of_return = refl
 
@@ -62,7 +62,7 @@ worst_of_compressed_addition : worst_length (placed (Addi 10 10 (pos 4)) 2) ≡ 
 unfolding placed
 worst_of_compressed_addition = refl
 
--- Parts of numbers: a lower part from 800 on is negative, and the upper one is one more.
+-- Address parts: a lower part of 0x800 or more is negative, and the upper part is one more.
 
 upper_of_7ff : hi20 (pos 0x107ff) ≡ pos 0x10
 upper_of_7ff = refl
@@ -76,7 +76,7 @@ upper_of_800 = refl
 lower_of_800 : lo12 (pos 0x10800) ≡ negsuc 2047
 lower_of_800 = refl
 
--- a distance back: -8 is 0 and -8
+-- A backward distance: -8 has the parts 0 and -8.
 upper_of_negative : hi20 (negsuc 7) ≡ pos 0
 upper_of_negative = refl
 

@@ -1,4 +1,4 @@
-// The instructions by what they do to a machine.
+// Instructions by their effect on a machine.
 ghost use Rattle.std.specs.Prelude.{◌≡◌, ◌<◌, ◌^◌};
 ghost use Rattle.rv_code.specs.isa.Action.{action_of};
 ghost use Rattle.rv_code.specs.isa.Op.{holds};
@@ -7,17 +7,17 @@ ghost use Rattle.rv_code.specs.isa.Extension.{bytes_of, extended};
 use crate::inst::Inst;
 use crate::op::Op;
 
-/// Where an operation's operand comes from.
+/// The source of an operand.
 #[derive(Clone, Copy)]
 pub enum Operand {
-    /// A register's value.
+    /// The value of a register.
     Register(u8),
     /// An immediate, sign-extended to 64 bits.
     Immediate(i64),
 }
 
-/// What a conditional branch tests. BNE, BGE and BGEU test the same as BEQ, BLT and BLTU, and want the opposite answer.
-/// ISA manual, section 2.5.
+/// The test of a conditional branch. BNE, BGE and BGEU use the tests of BEQ, BLT and BLTU with the opposite result. ISA
+/// manual, section 2.5.
 #[derive(Clone, Copy)]
 pub enum Test {
     Equal,
@@ -26,7 +26,7 @@ pub enum Test {
 }
 
 impl Test {
-    /// Whether the test holds of two numbers of 64 bits.
+    /// Whether the test holds for two 64-bit numbers.
     pub fn holds(self, left: u64, right: u64) -> bool
         ensures { result ≡ holds self left right }
     {
@@ -38,8 +38,8 @@ impl Test {
     }
 }
 
-/// How a loaded number fills a register: its bits, and whether by its sign or by zeros.
-/// ISA manual, sections 2.6 and 4.3.
+/// How a loaded number fills a register: its number of bits, and sign extension or zero extension. ISA manual, sections
+/// 2.6 and 4.3.
 #[derive(Clone, Copy)]
 pub enum Extension {
     Signed8,
@@ -52,7 +52,7 @@ pub enum Extension {
 }
 
 impl Extension {
-    /// How many bytes are loaded: 1, 2, 4 or 8.
+    /// The number of bytes loaded: 1, 2, 4 or 8.
     pub fn bytes(self) -> u8
         ensures { result ≡ bytes_of self }
     {
@@ -64,7 +64,7 @@ impl Extension {
         }
     }
 
-    /// A loaded number of that many bytes in 64 bits.
+    /// The loaded number, extended to 64 bits.
     pub fn extend(self, number: u64) -> u64
         requires { number < 256 ^ bytes_of self }
         ensures { result ≡ extended self number }
@@ -78,17 +78,17 @@ impl Extension {
     }
 }
 
-/// What an instruction does. Both machines go by these eleven cases.
+/// The effect of an instruction. Both machines execute these eleven cases.
 #[derive(Clone, Copy)]
 pub enum Action {
-    /// Writes the operation's result.
+    /// Writes the result of the operation.
     Compute {
         op: Op,
         rd: u8,
         left: Operand,
         right: Operand,
     },
-    /// Goes to pc + imm where the test holds, or, with `wanted` false, where it doesn't.
+    /// Goes to pc + imm if the test holds or, if `wanted` is false, if it doesn't hold.
     Branch {
         test: Test,
         wanted: bool,
@@ -131,7 +131,7 @@ pub enum Action {
         rs2: u8,
         imm: i64,
     },
-    /// FENCE: nothing, on a machine with one thread.
+    /// FENCE: no effect on a machine with one thread.
     Fence,
     /// ECALL: a system call.
     SystemCall,
@@ -140,7 +140,7 @@ pub enum Action {
 }
 
 impl Inst {
-    /// What the instruction does.
+    /// The effect of the instruction.
     pub fn action(&self) -> Action
         ensures { result ≡ action_of self.now }
     {
@@ -248,7 +248,7 @@ fn store(bytes: u8, rs1: u8, rs2: u8, imm: i64) -> Action
     }
 }
 
-// An operation on a register and a constant.
+// An operation on a register and an immediate.
 fn on_immediate(op: Op, rd: u8, rs1: u8, imm: i64) -> Action
     ensures { result ≡ Action.Compute op rd (Operand.Register rs1) (Operand.Immediate imm) }
 {

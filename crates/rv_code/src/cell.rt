@@ -1,6 +1,6 @@
-// Data fields that hold code addresses.
+// Data fields that contain code addresses.
 
-/// What a data field holds. All fields are addresses of the input.
+/// The content of a data field. All addresses are addresses of the input.
 #[derive(Clone, Copy, PartialEq, Eq)]
 pub enum CellKind {
     /// The address `to`.
@@ -9,12 +9,12 @@ pub enum CellKind {
     Diff { to: u64, from: u64 },
 }
 
-/// A data field that holds a code address or a distance between labels.
+/// A data field that contains a code address or a distance between two addresses of labels.
 #[derive(Clone, Copy)]
 pub struct CodeCell {
-    /// The address of its first byte.
+    /// The address of the first byte.
     pub addr: u64,
-    /// Its width in bytes, 4 or 8.
+    /// The width in bytes, 4 or 8.
     pub width: u8,
     pub kind: CellKind,
 }

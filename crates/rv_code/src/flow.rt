@@ -1,4 +1,4 @@
-// Where control goes after an instruction. ISA manual, section 2.5.
+// Control flow of instructions. ISA manual, section 2.5.
 ghost use Rattle.std.specs.Prelude.{◌≡◌, ◌+◌, ◌<◌, ◌^◌, ◌↔◌, IsTrue, length};
 ghost use Rattle.rv_code.specs.isa.Action.{action_of};
 ghost use Rattle.rv_code.specs.isa.TwosComplement.{unsigned64};
@@ -10,7 +10,7 @@ use crate::inst::Inst;
 use crate::placed::{Func, Placed};
 use crate::register::ZERO;
 
-/// Where a JAL at an address goes, or a conditional branch that is taken; none for other instructions.
+/// The target of a JAL or of a taken conditional branch at `address`; `None` for other instructions.
 pub fn target(address: u64, inst: &Inst) -> Option<u64>
     ensures { result ≡ flow.target address (action_of inst.now) }
 {
@@ -26,14 +26,14 @@ pub fn target(address: u64, inst: &Inst) -> Option<u64>
     }
 }
 
-/// The address at a distance from another, modulo 2^64.
+/// The address at a distance from `address`, modulo 2^64.
 pub fn moved_by(address: u64, distance: i64) -> u64
     ensures { result ≡ plus address (unsigned64 distance) }
 {
     address.wrapping_add(distance.cast_unsigned())
 }
 
-/// Whether a block ends with an instruction: a conditional branch, or a jump that saves no return address.
+/// Whether an instruction ends a block: a conditional branch, or a jump that saves no return address.
 pub fn ends_block(inst: &Placed) -> bool
     ensures { IsTrue result ↔ EndsBlock inst.now }
 {
@@ -75,15 +75,15 @@ pub fn is_branch(inst: &Inst) -> bool
     }
 }
 
-/// Whether control goes on from an instruction to the next one. A call that is the last instruction of
-/// its function is taken not to return.
+/// Whether an instruction falls through to the next one. A call that is the last instruction of its function is
+/// assumed not to return.
 pub fn falls(inst: &Inst, is_last: bool) -> bool
     ensures { result ≡ flow.falls (action_of inst.now) is_last }
 {
     !(is_plain_jump(inst) || (is_call(inst) && is_last))
 }
 
-/// The address after the instruction `inst`, which has the index `place` in `func.insts`, if control goes on to it.
+/// The address after the instruction `inst`, which has the index `place` in `func.insts`, if it falls through.
 pub fn fall_target(func: &Func, place: usize, inst: &Placed) -> Option<u64>
     requires inside { place < length func.now.insts.items }
     requires room { inst.now.addr + inst.now.len < 2 ^ 64 }

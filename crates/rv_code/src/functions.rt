@@ -1,4 +1,4 @@
-// Functions by the addresses that lie in them, and where they and their blocks begin.
+// Finds functions by address, and starts of functions and blocks.
 ghost use Rattle.std.specs.Prelude.{◌≡◌, ◌<◌, ◌≤◌, ℕ, All, IfOk, length, map, slice_index_or};
 ghost use Rattle.std.specs.List.Sorted.{IsNonDecreasingBy};
 ghost use Rattle.rv_code.specs.declared.placed.Func.{Func};
@@ -9,14 +9,14 @@ ghost use Rattle.rv_code.specs.layout.FunctionMembers as functions;
 use crate::placed::{Block, Func};
 use std::alloc::{AllocError, Global};
 
-/// Whether an address lies in a function.
+/// Whether `address` is in the function.
 pub fn func_holds(func: &Func, address: u64) -> bool
     ensures { result ≡ functions.func_holds address func.now }
 {
     func.start <= address && address < func.end
 }
 
-/// The place in the list of the function in which an address lies. A binary search.
+/// The index of the function that contains `address`, by a binary search.
 pub fn function_at(funcs: &[Func], address: u64) -> Option<usize>
     requires { AreLaidOut funcs.now }
     ensures { result ≡ functions.function_at funcs.now address }
@@ -29,7 +29,7 @@ pub fn function_at(funcs: &[Func], address: u64) -> Option<usize>
     }
 }
 
-/// How many functions start at an address or below it. A binary search.
+/// The number of functions that start at or below `address`, by a binary search.
 pub fn starts_up_to(funcs: &[Func], address: u64) -> usize
     requires { IsNonDecreasingBy (λ f. f.start) funcs.now }
     ensures bound { result ≤ length funcs.now }
@@ -40,7 +40,7 @@ pub fn starts_up_to(funcs: &[Func], address: u64) -> usize
     funcs.partition_point(|f| f.start <= address)
 }
 
-/// The address at which a block begins.
+/// The address of the first instruction of a block.
 pub fn block_start(funcs: &[Func], block: &Block) -> u64
     requires { functions.IsOfFunction funcs.now block.now }
     ensures { result ≡ block_start funcs.now block.now }
@@ -48,7 +48,7 @@ pub fn block_start(funcs: &[Func], block: &Block) -> u64
     funcs[block.func].insts[block.first].addr
 }
 
-/// Where each block begins, in the order of the list.
+/// The start address of each block, in the order of `blocks`.
 pub fn block_starts(alloc: Global, funcs: &[Func], blocks: &[Block]) -> Result<Vec<u64>, AllocError>
     requires { All (functions.IsOfFunction funcs.now) blocks.now }
     ensures { IfOk result (λ starts. starts.items ≡ map (block_start funcs.now) blocks.now) }

@@ -1,11 +1,12 @@
-// The instructions, with the fields that their formats have.
+// Instructions with the fields of their formats.
 
-/// An instruction of RV64I or M. A compressed form is the instruction that it expands to.
+/// An instruction of RV64I or M. A compressed instruction is represented by the one that it expands to.
 ///
-/// `rd`, `rs1` and `rs2` are register numbers from 0 to 31. `imm` is the signed immediate: of jumps,
-/// branches, loads and stores a count of bytes; for `Lui` and `Auipc` it is bits 31:12 alone, as a
-/// signed number of 20 bits; and for a shift it is the amount. `Fence` keeps its fields as format I
-/// has them. ISA manual (volume I, version 20240411), chapters 2, 4 and 13.
+/// `rd`, `rs1` and `rs2` are register numbers from 0 to 31. `imm` is the signed immediate: for jumps, branches, loads
+/// and
+/// stores a number of bytes; for `Lui` and `Auipc` bits 31:12 as a signed 20-bit number; and for shifts the amount.
+/// `Fence`
+/// keeps the fields of format I. ISA manual (volume I, version 20240411), chapters 2, 4 and 13.
 #[derive(Clone, Copy, Debug)]
 pub enum Inst {
     Lui { rd: u8, imm: i64 },

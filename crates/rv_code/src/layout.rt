@@ -1,7 +1,7 @@
-// What one step of the layout hands to the next.
+// Data that one step of the layout passes to the next.
 
-/// The blocks of each function, split by heat. A block is its place in the list of blocks, and the
-/// lists go by function, in the order of the list of functions.
+/// The blocks of each function, split into a hot and a cold part. A block is its index in the list of blocks, and
+/// the outer lists have the order of the list of functions.
 #[derive(Drop)]
 pub struct Chains {
     /// The blocks of each function's hot part, in their new order.
@@ -10,21 +10,21 @@ pub struct Chains {
     pub cold: Vec<Vec<usize>>,
 }
 
-/// The new order of the code.
+/// The new order of code.
 #[derive(Drop)]
 pub struct Plan {
-    /// All blocks in their new order, each as its place in the list of blocks.
+    /// All blocks in their new order, each as its index in the list of blocks.
     pub order: Vec<usize>,
 }
 
 /// The encoding of a conditional branch.
 #[derive(Clone, Copy)]
 pub enum Size {
-    /// The compressed branch, of two bytes.
+    /// The compressed two-byte branch.
     Half,
-    /// The branch of four bytes.
+    /// The four-byte branch.
     Full,
-    /// The branch of four bytes of opposite sense, which skips the `JAL x0` that follows it.
+    /// The inverted four-byte branch over a `JAL x0` that follows it.
     Long,
 }
 
@@ -33,15 +33,15 @@ pub enum Size {
 pub enum Form {
     /// As in the input, with nothing added.
     Plain,
-    /// As in the input, and then an added `JAL x0`.
+    /// As in the input, followed by an added `JAL x0`.
     Jump,
-    /// A conditional branch, of opposite sense where `inverted`; a `JAL x0` follows where `jump`.
+    /// A conditional branch, with its condition inverted if `inverted`, and followed by a `JAL x0` if `jump`.
     Branch {
         inverted: bool,
         size: Size,
         jump: bool,
     },
-    /// A jump that is kept: of two bytes where `half`, else of four.
+    /// A jump that is kept, with two bytes if `half`, and otherwise four.
     Goto {
         half: bool,
     },
@@ -49,11 +49,11 @@ pub enum Form {
     Dropped,
 }
 
-/// The new code, and the new content of the fields that hold code addresses.
+/// The new code, and the new contents of the fields with code addresses.
 #[derive(Drop)]
 pub struct Emitted {
     /// The bytes of the new code.
     pub code: Vec<u8>,
-    /// For each field its address, its width in bytes and its content as a little-endian number.
+    /// For each field its address, its width in bytes, and its content as a little-endian number.
     pub cells: Vec<(u64, u8, u64)>,
 }

@@ -1,4 +1,4 @@
-//! Instructions of RV64IMC, what they do to a machine, and the types that the crates above share.
+//! Instructions of RV64IMC, their effect on a machine, and types that are shared by the other crates.
 #![tactic(auto)]
 
 pub mod action;

@@ -4,9 +4,9 @@ ghost use Rattle.std.specs.Int.RustNames.{int_div, int_rem};
 ghost use Rattle.rv_code.specs.isa.TwosComplement.{unsigned64, low32, signed32, sign_extended32};
 ghost use Rattle.rv_code.specs.isa.Op.{apply, upper64};
 
-/// An operation on two numbers of 64 bits. The immediate forms of the instructions share it: `ADDI` is
-/// `Add` of a register and a constant. The names with `w` work on the low 32 bits and sign-extend.
-/// ISA manual, sections 2.4, 4.2, 13.1 and 13.2.
+/// An operation on two 64-bit numbers. Instructions with an immediate share it: `ADDI` is `Add` of a register and a
+/// constant. Operations whose names end in `w` work on the low 32 bits and sign-extend. ISA manual, sections 2.4, 4.2,
+/// 13.1 and 13.2.
 #[derive(Clone, Copy)]
 pub enum Op {
     Add,
@@ -40,8 +40,9 @@ pub enum Op {
 }
 
 impl Op {
-    /// The operation's result on two numbers of 64 bits. Nothing traps: a division by zero gives all
-    /// bits set, or the dividend as remainder.
+    /// The result of the operation on two 64-bit numbers. Nothing traps: the quotient of a division by zero has all
+    /// bits
+    /// set, and the remainder is the dividend.
     pub fn apply(self, left: u64, right: u64) -> u64
         ensures { result ≡ apply self left right }
     {
@@ -189,7 +190,7 @@ fn product(left: i64, right: i64) -> i128
     i128::from(left) * i128::from(right)
 }
 
-// The high 64 bits of a product of 128 bits.
+// The high 64 bits of a 128-bit product.
 fn upper64(product: i128) -> u64
     ensures { result ≡ upper64 product }
 {

@@ -1,8 +1,8 @@
-// Instructions at their places, and the functions and blocks that they form.
+// Instructions at their addresses, functions and blocks.
 
 use crate::inst::Inst;
 
-/// How wide an instruction's encoding is. ISA manual, section 1.5.
+/// The width of an instruction's encoding. ISA manual, section 1.5.
 #[derive(Clone, Copy)]
 pub enum Width {
     /// Two bytes.
@@ -11,10 +11,11 @@ pub enum Width {
     Full,
 }
 
-/// Which part of a code address an instruction's immediate holds, named by the assembler's operators.
+/// The part of a code address that an instruction's immediate has, named by the assembler's operators.
 ///
-/// All fields are addresses: `target` is the address that both parts together give, and `hi` is that
-/// of the AUIPC with the upper part. psABI, section "Relocations".
+/// All fields are addresses: `target` is the address that both parts give together, and `hi` is the address of the
+/// AUIPC
+/// with the upper part. psABI, section "Relocations".
 #[derive(Clone, Copy, PartialEq, Eq)]
 pub enum Role {
     /// No part of an address.
@@ -33,47 +34,47 @@ pub enum Role {
     AbsLo { target: u64 },
 }
 
-/// An instruction at its place in the input.
+/// An instruction at its address in the input.
 #[derive(Clone, Copy)]
 pub struct Placed {
-    /// The address of its first byte.
+    /// The address of the first byte.
     pub addr: u64,
-    /// Its length in bytes, 2 or 4.
+    /// The length in bytes, 2 or 4.
     pub len: u8,
     pub inst: Inst,
     pub role: Role,
 }
 
-/// A function: its bytes go from `start` to before `end`.
+/// A function with the bytes from `start` to before `end`.
 #[derive(Drop)]
 pub struct Func {
-    /// The address of its first byte.
+    /// The address of the first byte.
     pub start: u64,
-    /// The address after its last byte.
+    /// The address after the last byte.
     pub end: u64,
-    /// Whether it is whole: it moves as one piece, since an exception table names places in it.
+    /// Whether the function moves as one piece, since an exception table names addresses in it.
     pub whole: bool,
-    /// Its instructions, by address.
+    /// The instructions, by address.
     pub insts: Vec<Placed>,
 }
 
-/// Where an instruction stands among functions.
+/// The position of an instruction in a list of functions.
 #[derive(Clone, Copy)]
 pub struct InstPlace {
-    /// The function's place in the list of functions.
+    /// The index of the function in the list of functions.
     pub func: usize,
-    /// The instruction's place in the function's `insts`.
+    /// The index of the instruction in the function's `insts`.
     pub inst: usize,
 }
 
-/// A basic block: a stretch of one function's instructions that is entered only at its first. A function that moves as
-/// one piece is one block.
+/// A basic block: a sequence of one function's instructions that is only entered at its first instruction. A function
+/// that moves as one piece is a single block.
 #[derive(Clone, Copy)]
 pub struct Block {
-    /// The function's place in the list of functions.
+    /// The index of the function in the list of functions.
     pub func: usize,
-    /// The place of its first instruction in the function's `insts`.
+    /// The index of the first instruction in the function's `insts`.
     pub first: usize,
-    /// The place of its last instruction in the function's `insts`.
+    /// The index of the last instruction in the function's `insts`.
     pub last: usize,
 }

@@ -1,4 +1,4 @@
-// The registers that have a use of their own. psABI, section "Integer Register Convention".
+// Registers with a special use. psABI, section "Integer Register Convention".
 
 /// x0, which reads as 0.
 pub const ZERO: u8 = 0;

@@ -1,4 +1,4 @@
-// Worst sizes: the most bytes that code can take wherever it is put.
+// Worst sizes: the most bytes that code can take, wherever it is put.
 ghost use Rattle.std.specs.Prelude.{◌≡◌, ◌+◌, ◌-◌, ◌*◌, ◌≤◌, ◌^◌, take, drop, length, sum_by};
 ghost use Rattle.rv_code.specs.layout.WorstSizes as worst;
 
@@ -6,11 +6,11 @@ use crate::flow::falls;
 use crate::inst::Inst;
 use crate::placed::{Block, Func, Placed};
 
-/// Code of at most this worst size may be put in any order: a JAL, which reaches 2^20 bytes either way, leads from
-/// anywhere in it to anywhere.
+/// Code of at most this worst size may be put in any order: a JAL reaches 2^20 bytes in both directions, so it reaches
+/// everything in that code.
 pub const NEAR_LIMIT: u128 = 1_000_000;
 
-/// The most bytes that a block takes wherever it is put, 0 if its function isn't in the list. A whole function is one
+/// The most bytes that a block takes wherever it is put, or 0 if its function isn't in `funcs`. A whole function is one
 /// block.
 pub fn worst_size_of_block(funcs: &[Func], block: &Block) -> u128
     ensures is { result ≡ worst.worst_size_of_block funcs.now block.now }
@@ -28,7 +28,7 @@ pub fn worst_size_of_block(funcs: &[Func], block: &Block) -> u128
     }
 }
 
-// The most bytes that a whole function takes: its instructions stay as they are, and a jump may be added behind them.
+// The most bytes that a whole function takes: its instructions stay the same, and a jump may be added after them.
 fn worst_whole_size(func: &Func) -> u128
     ensures is { result ≡ worst.worst_whole_size func.now }
     ensures small { result ≤ 2 ^ 67 }
@@ -44,7 +44,7 @@ fn worst_block_size(func: &Func, first: usize, last: usize) -> u128
     worst_lengths(insts_between(func, first, last)) + added_jump(func, last)
 }
 
-// The instructions of a function from index `first` to `last`, as far as there are any.
+// The instructions of a function from index `first` to `last`, without indices past the end.
 fn insts_between(func: &Func, first: usize, last: usize) -> &[Placed]
     ensures { result.now ≡ take (last + 1 - first) (drop first func.now.insts.items) }
 {
@@ -69,8 +69,8 @@ fn worst_lengths(insts: &[Placed]) -> u128
     size
 }
 
-// The most bytes that an instruction takes: a branch may become one of opposite sense over a JAL, and C.J a JAL; all
-// others keep their length.
+// The most bytes that an instruction takes: a branch may become an inverted branch over a JAL, and C.J a JAL. Other
+// instructions keep their length.
 fn worst_length(inst: &Placed) -> u8
     ensures { result ≡ worst.worst_length inst.now }
 {
@@ -86,7 +86,7 @@ fn worst_length(inst: &Placed) -> u8
     }
 }
 
-// The bytes of the JAL that may be added after the instruction at `index`, where control goes on from it.
+// The bytes of the JAL that is added after the instruction at `index`, if it falls through.
 fn added_jump(func: &Func, index: usize) -> u128
     ensures is { result ≡ worst.added_jump func.now index }
     ensures small { result ≤ 4 }

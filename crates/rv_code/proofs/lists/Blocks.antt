@@ -1,4 +1,4 @@
--- The blocks of a program.
+-- Blocks of a program.
 use Rattle.std.proofs.Common.{◌<◌, ◌≤◌, List, Option, Some, None, length, get_or, All, ⊎_elim}
 use Rattle.std.specs.Prelude.{IsSomeAnd}
 use Rattle.std.proofs.lemmas.Bool.{cases_lt}
@@ -9,7 +9,7 @@ use Rattle.rv_code.specs.layout.Blocks.{AreBlocks, IsBlockOf, func_of}
 use Rattle.rv_code.specs.layout.FunctionMembers.{IsOfFunction}
 use Rattle.rv_code.specs.layout.ProgramCode.{ProgramCode}
 
--- each has some of its function's instructions
+-- Each block is a range of its function's instructions.
 pub blocks_of_functions : (code : ProgramCode) (blocks : List Block) → AreBlocks code blocks →
     All (IsOfFunction code.funcs) blocks
 blocks_of_functions code blocks are k d within =
@@ -23,7 +23,7 @@ blocks_of_functions code blocks are k d within =
     at None is = is
     at (Some func) is = (is.some, is.inside)
 
--- a later block of a function begins behind an earlier one
+-- A later block of a function begins after the end of an earlier one.
 pub no_overlap : (code : ProgramCode) (b c : Block) (found : Option Func) → b.first < c.first →
     IsSomeAnd found (λ func. IsBlockOf code func b.first b.last) → IsSomeAnd found (λ func. IsBlockOf code func c.first c.last) →
     b.last < c.first

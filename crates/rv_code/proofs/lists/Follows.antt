@@ -1,4 +1,4 @@
--- Instructions that follow one another, and functions that are laid out.
+-- Instructions that follow one another, and functions that ascend without overlap.
 use Rattle.std.proofs.Common.{◌≡◌, ℕ, zero, suc, ◌+◌, ◌<◌, ◌≤◌, List, [], ◌∷◌, length, get_or, Some, AllPairs, sym, ap, ◌∙◌}
 use Rattle.std.proofs.Common.{subst, arith, inl, inr, take, drop}
 use Rattle.std.specs.Prelude.{Contains, slice_get}
@@ -10,7 +10,7 @@ use Rattle.rv_code.specs.declared.placed.Placed.{Placed}
 use Rattle.rv_code.specs.declared.placed.Func.{Func}
 use Rattle.rv_code.specs.layout.FunctionLists.{Follow, HasLength, IsLaidOut, AreLaidOut}
 
--- the bytes of instructions
+-- The total length of instructions.
 abbrev pub before_of : List Placed → ℕ
 before_of [] = 0
 before_of (p ∷ ps) = p.len + before_of ps
@@ -19,7 +19,7 @@ pub follow_upto : (a : ℕ) (ps : List Placed) (end : ℕ) → Follow a ps end �
 follow_upto a [] end f = omega (arith, f)
 follow_upto a (p ∷ ps) end f = let rest = follow_upto (a + p.len) ps end f.1 in omega arith
 
--- each lies between the two ends
+-- Each instruction is between the two ends.
 pub follow_bounds : (a : ℕ) (ps : List Placed) (end : ℕ) → Follow a ps end → (k : ℕ) (d : Placed) → k < length ps →
     (a ≤ (get_or ps k d).addr) × ((get_or ps k d).addr + (get_or ps k d).len ≤ end)
 follow_bounds a [] end f k d within = absurd (omega (arith, within))
@@ -32,7 +32,7 @@ follow_bounds a (p ∷ ps) end f (suc k) d within =
     let low = rest.0 in
     (omega arith, rest.1)
 
--- a later one starts at the end of an earlier one or above it
+-- A later instruction starts at or after the end of an earlier one.
 pub follow_order : (a : ℕ) (ps : List Placed) (end : ℕ) → Follow a ps end →
     AllPairs (λ p q. p.addr + p.len ≤ q.addr) ps
 follow_order a [] end f = λ i j d less within. absurd (omega (arith, within))
@@ -57,7 +57,7 @@ follow_up a ps end i j p q f at_i at_j less =
     (subst (λ (x : Placed). x.addr + x.len ≤ (get_or ps j p).addr) (get_or_from_slice_get ps i p p at_i)
     (follow_order a ps end f i j p less (slice_get_within ps j q at_j)))
 
--- the next one, and the last one
+-- The next instruction, and the last one.
 pub follow_next : (a : ℕ) (ps : List Placed) (end : ℕ) (i : ℕ) (p q : Placed) → Follow a ps end →
     slice_get ps i ≡ Some p → slice_get ps (suc i) ≡ Some q → q.addr ≡ p.addr + p.len
 follow_next a [] end i p q h at_i at_j = absurd (cc)
@@ -95,7 +95,7 @@ follow_take (suc n) a (p ∷ ps) end h =
     let e : a + p.len + before_of (take n ps) ≡ a + (p.len + before_of (take n ps)) = omega arith in
     (h.0, subst (λ (x : ℕ). Follow (a + p.len) (take n ps) x) e (follow_take n (a + p.len) ps end h.1))
 
--- Of functions.
+-- Functions.
 
 pub at_contains : {X : Type 0} (xs : List X) (k : ℕ) (x : X) → slice_get xs k ≡ Some x → Contains xs x
 at_contains xs k x at = (k, slice_get_within xs k x at, get_or_from_slice_get xs k x x at)
@@ -110,7 +110,7 @@ pub some_length : (p : Placed) → HasLength p → (2 ≤ p.len) × (p.len ≤ 4
 some_length p (inl two) = (omega (arith, two), omega (arith, two))
 some_length p (inr four) = (omega (arith, four), omega (arith, four))
 
--- the instructions of a function lie in it, and ascend
+-- The instructions of a function are in it and ascend.
 pub inst_bounds : (func : Func) → IsLaidOut func → (k : ℕ) (d : Placed) → k < length func.insts.items →
     (func.start ≤ (get_or func.insts.items k d).addr) × ((get_or func.insts.items k d).addr < func.end)
 inst_bounds func laid k d within =
@@ -135,7 +135,7 @@ funcs_apart funcs f g func other laid at_f at_g less =
     let z = ap (λ (y : Func). y.start) k in
     omega (arith, h, x, z)
 
--- no two instructions have one address
+-- No two instructions have the same address.
 pub inst_once : (funcs : List Func) (f g i j : ℕ) (func other : Func) (p q : Placed) → AreLaidOut funcs →
     slice_get funcs f ≡ Some func → slice_get funcs g ≡ Some other → slice_get func.insts.items i ≡ Some p →
     slice_get other.insts.items j ≡ Some q → p.addr ≡ q.addr → (f ≡ g) × (i ≡ j)

@@ -1,4 +1,4 @@
--- The function in which an address lies.
+-- The function that contains an address.
 use Rattle.std.proofs.Common.{◌≡◌, ◌≢◌, sym, ap, refl, cond, ℕ, ◌<◌, ◌≤◌, ◌&&◌, ⊎_elim, Bool, true, false, Some, None, List, []}
 use Rattle.std.proofs.Common.{◌∷◌, length, get_or, arith, ◌∙◌}
 use Rattle.std.specs.Prelude.{nat_lt, nat_le, slice_get}
@@ -31,7 +31,7 @@ above a s e high = grind (arith, common_steps)
 pub held_bounds : (a s e : ℕ) → (nat_le s a && nat_lt a e) ≡ true → (s ≤ a) × (a < e)
 held_bounds a s e h = (grind (arith, common_steps), grind (arith, common_steps))
 
--- the first function that ends above an address
+-- k is the index of the first function that ends above a.
 pub record IsAbove (funcs : List Func) (a k : ℕ) : Type 0 where
   pub within : k ≤ length funcs
   pub low : (j : ℕ) (d : Func) → j < k → (get_or funcs j d).end ≤ a
@@ -51,7 +51,7 @@ function_at-found funcs a k d is lt low =
     (get_or funcs j d).end (is.low j d j_lt)) (λ _. held a (get_or funcs k d).start (get_or funcs k d).end low high) in
     some_below (position_or_len (func_holds a) funcs) (length funcs) k first lt
 
--- none of the functions above starts at the address or below it
+-- If function k starts above the address, no function contains the address.
 pub function_at-absent : (funcs : List Func) (a k : ℕ) → AreLaidOut funcs → IsAbove funcs a k → ((d : Func) →
     k < length funcs → a < (get_or funcs k d).start) → function_at funcs a ≡ None
 function_at-absent [] a k are is high = refl
@@ -75,7 +75,7 @@ above_test n a h = grind (arith, common_steps)
 below_test : (n a : ℕ) → nat_le n a ≡ true → n ≤ a
 below_test n a h = grind (arith, common_steps)
 
--- what `partition_point` finds
+-- The result of `partition_point`.
 pub above_from : (funcs : List Func) (a k : ℕ) → k ≤ length funcs →
     IsPartitionPoint (λ f. nat_le f.end a ≡ true) (λ f. nat_le f.end a ≡ false) funcs k → IsAbove funcs a k
 above_from funcs a k within point = record {
@@ -84,7 +84,7 @@ above_from funcs a k within point = record {
   high = λ j d le lt. above_test (get_or funcs j d).end a (point.1 j d le lt);
 }
 
--- a function that holds an address is the one that is found
+-- A function that contains the address is the one found.
 pub function_at-holds : (funcs : List Func) (a f g : ℕ) (func : Func) → AreLaidOut funcs → slice_get funcs f ≡ Some func →
     func_holds a func ≡ true → function_at funcs a ≡ Some g → g ≡ f
 function_at-holds funcs a f g func are is in_f found =

@@ -1,4 +1,4 @@
--- The low bytes of a number, the number that bytes spell, and the bytes of a list of numbers.
+-- The low bytes of a number, the number of a list of bytes, and the bytes of a list of numbers.
 use Rattle.std.proofs.Common.{◌≡◌, ℕ, zero, suc, ◌+◌, ◌-◌, ◌*◌, ◌/◌, ◌%◌, ◌^◌, ◌<◌, List, [], ◌∷◌, length, refl, sym}
 use Rattle.std.proofs.Common.{ap, ◌∙◌, arith, get_or, All, div-one}
 use Rattle.std.specs.Prelude.{flat_map}
@@ -13,13 +13,13 @@ unfolding low_bytes
 length_low_bytes zero x = refl
 length_low_bytes (suc n) x = ap suc (length_low_bytes n (x / 256))
 
--- the low byte, and the others
+-- The lowest byte and the bytes above it.
 pub low_rest : (x m : ℕ) → 0 < m → x % 256 + 256 * (x / 256 % m) ≡ x % (256 * m)
 low_rest x m h =
     let e : x % (m * 256) ≡ x / 256 % m * 256 + x % 256 = mod-mul x h (omega arith) in let f : m * 256 ≡ 256 * m =
     omega arith in let g : x % (256 * m) ≡ x % (m * 256) = rw f refl in omega (arith, e, g)
 
--- the bytes of a number spell it
+-- The number of a number's low bytes.
 pub little_low_bytes : (n x : ℕ) → little (low_bytes n x) ≡ x % 256 ^ n
 unfolding little low_bytes
 little_low_bytes zero x = omega arith
@@ -27,7 +27,7 @@ little_low_bytes (suc n) x =
     let e : 256 ^ suc n ≡ 256 * 256 ^ n = grind arith in let h : 0 < 256 ^ n = one-le-pow n 256 (omega arith) in
     rw (little_low_bytes n (x / 256), e) (low_rest x (256 ^ n) h)
 
--- a byte of a number's low bytes
+-- Byte i of a number's low bytes.
 pub low_bytes_at : (n x i : ℕ) → i < n → get_or (low_bytes n x) i 0 ≡ x / 256 ^ i % 256
 unfolding low_bytes
 low_bytes_at zero x i h = absurd (omega (arith, h))
@@ -37,7 +37,7 @@ low_bytes_at (suc n) x (suc i) h =
     low_bytes_at n (x / 256) i (omega (arith, h)) ∙ ap (λ (y : ℕ). y % 256) (div-div-eq-div-mul x 256 (256 ^ i)
     ∙ ap (λ (d : ℕ). x / d) (sym p))
 
--- a byte of the number that bytes are
+-- Byte i of the number of a list of bytes.
 pub little_at : (bs : List ℕ) (i : ℕ) → All (λ b. b < 256) bs → i < length bs → get_or bs i 0 ≡ little bs / 256 ^ i % 256
 unfolding little
 little_at [] i all h = absurd (omega (arith, h))
@@ -57,7 +57,7 @@ length_numbers (w ∷ ns) =
     let a = length-append (low_bytes 8 w) (flat_map (low_bytes 8) ns) in let b = length_low_bytes 8 w in
     let c = length_numbers ns in omega (arith, a, b, c)
 
--- a byte of numbers
+-- Byte i of number j in the bytes of a list of numbers.
 pub numbers_at : (ns : List ℕ) (j i : ℕ) → j < length ns → i < 8 →
     get_or (flat_map (low_bytes 8) ns) (8 * j + i) 0 ≡ get_or ns j 0 / 256 ^ i % 256
 numbers_at [] j i h k = absurd (omega (arith, h))

@@ -1,4 +1,4 @@
--- Where the steps are determined, a run is the only one.
+-- If the steps are deterministic, a run is the only one.
 use Rattle.std.proofs.Common.{◌≡◌, ◌∙◌, ◌+◌, ◌<◌, ◌≤◌, ℕ, zero, suc, List, [], ◌++◌, Option, refl, sym, ap, subst, arith}
 use Rattle.rv_code.specs.machine.Machine.{Event, events, Outcome, Going, SoFar, starts, more}
 use Rattle.std.proofs.Common.{⊎_elim}
@@ -6,7 +6,7 @@ use Rattle.std.proofs.lemmas.Bool.{cases_lt}
 use Rattle.rv_code.specs.machine.DeterminedRuns.{HasOneOutcome, IsDetermined, IsStop}
 
 module _ {S C : Type 0} (step : S → Outcome S C → Type 0) (s : S) where
-  -- the last of some steps, and those before it
+  -- The last of some steps, and the steps before it.
   record LastStep (n : ℕ) (trace : List Event) (u : S) : Type 0 where
     before : List Event
     event : Option Event
@@ -35,11 +35,11 @@ module _ {S C : Type 0} (step : S → Outcome S C → Type 0) (s : S) where
   same_going : (t u : S) (e f : Option Event) → ◌≡◌ {A = Outcome S C} (Going t e) (Going u f) → (t ≡ u) × (e ≡ f)
   same_going t u e f same = (cc, cc)
 
-  -- fewer steps are determined too
+  -- Fewer steps are deterministic, too.
   pub fewer : {m n : ℕ} → m ≤ n → IsDetermined step s n → IsDetermined step s m
   fewer few determined = record { one_outcome = λ k below. determined.one_outcome k (omega arith) }
 
-  -- as many steps come to one state, with the same calls
+  -- The same number of steps reach the same state, with the same calls.
   pub same_so_far : (n : ℕ) (trace trace' : List Event) (t t' : S) → IsDetermined step s n → SoFar step s n trace t →
       SoFar step s n trace' t' → (trace ≡ trace') × (t ≡ t')
   same_so_far zero trace trace' t t' determined here there =
@@ -55,13 +55,13 @@ module _ {S C : Type 0} (step : S → Outcome S C → Type 0) (s : S) where
       (determined.one_outcome n (omega arith) a.before a.state a.so_far (Going t a.event) (Going t' b.event) a.went went) in
       (a.trace_is ∙ ap (λ x. x ++ events a.event) before.0 ∙ ap (λ x. b.before ++ events x) both.1 ∙ sym b.trace_is, both.0)
 
-  -- after n steps, the next one doesn't go on
+  -- After n steps, the next step doesn't go on.
   pub record Stop (n : ℕ) (trace : List Event) (state : S) (outcome : Outcome S C) : Type 0 where
     pub so_far : SoFar step s n trace state
     pub comes_to : step state outcome
     pub is_stop : IsStop outcome
 
-  -- no more steps than those before it go on
+  -- At most k steps go on if the run stops after k steps.
   pub stop_is_last : {n k : ℕ} {trace front : List Event} {u t : S} {o : Outcome S C} → IsDetermined step s (suc k) →
       SoFar step s n trace u → Stop k front t o → n ≤ k
   stop_is_last determined starts stop = omega arith
@@ -79,7 +79,7 @@ module _ {S C : Type 0} (step : S → Outcome S C → Type 0) (s : S) where
       absurd (subst IsStop same stop.is_stop))
       (cases_lt n k)
 
-  -- two stops are one
+  -- Two stops are the same.
   pub same_stop : {n m : ℕ} {trace trace' : List Event} {t t' : S} {o o' : Outcome S C} → IsDetermined step s (suc n) →
       Stop n trace t o → Stop m trace' t' o' → (n ≡ m) × (trace ≡ trace') × (t ≡ t') × (o ≡ o')
   same_stop {n = n} {m = m} {trace = trace} {trace' = trace'} {t = t} {t' = t'} {o = o} {o' = o'} determined here there =
@@ -91,7 +91,7 @@ module _ {S C : Type 0} (step : S → Outcome S C → Type 0) (s : S) where
       let there' : step t o' = subst (λ x. step x o') (sym both.1) there.comes_to in
       (sym is, both.0, both.1, determined.one_outcome n (omega arith) trace t here.so_far o o' here.comes_to there')
 
-  -- where a run stops, all its steps are determined
+  -- If a run stops, all its steps are deterministic.
   pub stop_determines : {n : ℕ} {trace : List Event} {t : S} {o : Outcome S C} → IsDetermined step s (suc n) → Stop n trace t o →
       (limit : ℕ) → IsDetermined step s limit
   stop_determines determined stop limit = record {
@@ -99,7 +99,7 @@ module _ {S C : Type 0} (step : S → Outcome S C → Type 0) (s : S) where
         determined.one_outcome k (omega arith) front u so_far;
   }
 
-  -- one more step is determined
+  -- One more step is deterministic.
   pub more_determined : {n : ℕ} {trace : List Event} {t : S} → IsDetermined step s n →
       SoFar step s n trace t → HasOneOutcome step t → IsDetermined step s (n + 1)
   more_determined {n = n} {trace = trace} {t = t} determined so_far one = record {

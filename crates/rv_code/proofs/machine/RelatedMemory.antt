@@ -1,10 +1,10 @@
--- Registers and memory of two machines, byte by byte.
+-- Related registers and memories of two machines, byte by byte.
 use Rattle.std.proofs.Common.{◌≡◌, length, ℕ, zero, suc, ◌≤◌, List, [], ◌∷◌, Bool, true, false, refl, ap, ◌∙◌, arith}
 use Rattle.std.specs.Prelude.{if◌then◌else◌, ◌==◌}
 use Rattle.std.proofs.lemmas.Bool.{eqb-true, and_parts}
 use Rattle.rv_code.specs.machine.Machine.{plus, set_register, all_may, memory_bytes, put}
 
--- lists that are related place by place
+-- Lists that are related element by element.
 abbrev pub Alike : {A B : Type 0} → (A → B → Type 0) → List A → List B → Type 0
 Alike R [] [] = Unit {0}
 Alike R [] (y ∷ ys) = ⊥
@@ -41,7 +41,7 @@ put_alike {A} {B} R f g a q (x ∷ xs) (y ∷ ys) h old = cases (q == a) (put_al
     cases true r = h.0
     cases false r = r
 
--- an address that may not be written keeps its byte
+-- An address that may not be written keeps its byte.
 pub put_keeps : {A : Type 0} (f : ℕ → A) (may : ℕ → Bool) (a n q : ℕ) (xs : List A) → all_may may a n ≡ true →
     length xs ≤ n → (may q ≡ true → ⊥) → put f a xs q ≡ f q
 unfolding put all_may

@@ -3,7 +3,7 @@ use Rattle.std.proofs.Common.{ℕ, suc, ◌+◌, List, [], ◌++◌, sym, subst,
 use Rattle.std.proofs.lemmas.List.{append-nil}
 use Rattle.rv_code.specs.machine.Machine.{Event, events, Outcome, SoFar, starts, more}
 
--- steps after other steps
+-- Steps followed by other steps.
 pub join : {S C : Type 0} {step : S → Outcome S C → Type 0} {a b c : S} {n k : ℕ} {x y : List Event} →
     SoFar step a n x b → SoFar step b k y c → SoFar step a (n + k) (x ++ y) c
 join {S} {C} {step} {a} {b} {c} {n} {k} {x} {y} first starts =

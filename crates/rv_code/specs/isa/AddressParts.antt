@@ -1,4 +1,4 @@
--- The instructions that can have a part of an address in their immediate. psABI, "Relocations".
+-- Instructions whose immediate can be a part of an address. psABI, "Relocations".
 use Rattle.rv_code.specs.declared.inst.Inst.{Inst}
 use Rattle.rv_code.specs.declared.inst.Inst.TheVariants.{Lui, Auipc, Jalr, Lb, Lh, Lw, Ld, Lbu, Lhu, Lwu, Sb, Sh, Sw}
 use Rattle.rv_code.specs.declared.inst.Inst.TheVariants.{Sd, Addi}
@@ -11,7 +11,7 @@ abbrev pub IsLui : Inst → Type 0
 IsLui (Lui rd imm) = Unit {0}
 IsLui _ = ⊥
 
--- one with an immediate of 12 bits that can be a lower part
+-- The instruction has a 12-bit immediate that can be the lower part of an address.
 abbrev pub TakesLower : Inst → Type 0
 TakesLower (Addi rd rs1 imm) = Unit {0}
 TakesLower (Jalr rd rs1 imm) = Unit {0}

@@ -1,4 +1,4 @@
--- How loads fill a register (ISA manual, sections 2.6 and 4.3).
+-- How a loaded number fills a register (ISA manual, sections 2.6 and 4.3).
 use Rattle.std.specs.Prelude.{ℕ}
 use Rattle.std.specs.Int.{w8, w16, w32, cast_signed}
 use Rattle.rv_code.specs.isa.TwosComplement.{unsigned64}
@@ -6,7 +6,7 @@ use Rattle.rv_code.specs.declared.action.Extension.{Extension}
 use Rattle.rv_code.specs.declared.action.Extension.TheVariants.{Signed8, Signed16, Signed32, Whole64, Zero8, Zero16}
 use Rattle.rv_code.specs.declared.action.Extension.TheVariants.{Zero32}
 
--- how many bytes are loaded
+-- The number of bytes loaded.
 abbrev pub bytes_of : Extension → ℕ
 bytes_of Signed8 = 1
 bytes_of Signed16 = 2
@@ -16,7 +16,7 @@ bytes_of Zero8 = 1
 bytes_of Zero16 = 2
 bytes_of Zero32 = 4
 
--- a number of that many bytes in 64 bits: by its sign, or by zeros
+-- The loaded number in 64 bits, sign-extended or zero-extended.
 abbrev pub extended : Extension → ℕ → ℕ
 extended Signed8 n = unsigned64 (cast_signed w8 n)
 extended Signed16 n = unsigned64 (cast_signed w16 n)

@@ -1,4 +1,4 @@
--- The four-byte instructions: one case a row. ISA manual, chapter "RV32/64G Instruction Set Listings".
+-- Encodings of the four-byte instructions. ISA manual, chapter "RV32/64G Instruction Set Listings".
 use Rattle.std.specs.Prelude.{◌≡◌, ℕ, ℤ, pos}
 use Rattle.rv_code.specs.isa.Bits.{field, imm_b, imm_i, imm_j, imm_s, imm_u}
 use Rattle.rv_code.specs.declared.inst.Inst.{Inst}
@@ -9,7 +9,7 @@ use Rattle.rv_code.specs.declared.inst.Inst.TheVariants.{Srl, Sra, Or, And, Fenc
 use Rattle.rv_code.specs.declared.inst.Inst.TheVariants.{Sraiw, Addw, Subw, Sllw, Srlw, Sraw, Mul, Mulh, Mulhsu, Mulhu}
 use Rattle.rv_code.specs.declared.inst.Inst.TheVariants.{Div, Divu, Rem, Remu, Mulw, Divw, Divuw, Remw, Remuw}
 
--- The formats: which fields the word has. ISA manual, section 2.2.
+-- Formats: the fields of a word. ISA manual, section 2.2.
 
 pub record FormatR (word opcode funct3 funct7 rd rs1 rs2 : ℕ) : Type 0 where
   pub opcode_is : field word 0 7 ≡ opcode
@@ -26,7 +26,7 @@ pub record FormatI (word opcode funct3 rd rs1 : ℕ) (imm : ℤ) : Type 0 where
   pub rs1_is : field word 15 5 ≡ rs1
   pub imm_is : imm_i word ≡ imm
 
--- format I of a shift by an amount of six bits (section 4.2.1)
+-- Format I of a shift with a six-bit amount (section 4.2.1).
 pub record Shift64 (word opcode funct3 funct6 rd rs1 : ℕ) (amount : ℤ) : Type 0 where
   pub opcode_is : field word 0 7 ≡ opcode
   pub funct3_is : field word 12 3 ≡ funct3
@@ -35,7 +35,7 @@ pub record Shift64 (word opcode funct3 funct6 rd rs1 : ℕ) (amount : ℤ) : Typ
   pub rs1_is : field word 15 5 ≡ rs1
   pub amount_is : pos (field word 20 6) ≡ amount
 
--- format I of a shift by an amount of five bits (section 4.2.1)
+-- Format I of a shift with a five-bit amount (section 4.2.1).
 pub record Shift32 (word opcode funct3 funct7 rd rs1 : ℕ) (amount : ℤ) : Type 0 where
   pub opcode_is : field word 0 7 ≡ opcode
   pub funct3_is : field word 12 3 ≡ funct3
@@ -68,7 +68,7 @@ pub record FormatJ (word opcode rd : ℕ) (imm : ℤ) : Type 0 where
   pub rd_is : field word 7 5 ≡ rd
   pub imm_is : imm_j word ≡ imm
 
--- the four-byte word is this instruction
+-- The four-byte word encodes the instruction.
 abbrev pub IsFull : ℕ → Inst → Type 0
 -- sections 2.4.1 and 4.2.1, upper immediates
 IsFull word (Lui rd imm) = FormatU word 0x37 rd imm

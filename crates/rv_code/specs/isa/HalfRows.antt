@@ -1,12 +1,13 @@
--- The two-byte instructions: an enum of rows, the halfwords of a row, and the instruction of each.
--- ISA manual, chapter "C" Extension for Compressed Instructions, "RVC Instruction Set Listings".
+-- Encodings of the two-byte instructions: the rows of the manual's table, the halfwords of each row, and the
+-- instruction that each expands to. ISA manual, chapter "C" Extension for Compressed Instructions, "RVC Instruction Set
+-- Listings".
 use Rattle.std.specs.Prelude.{◌≡◌, ◌≢◌, ℕ, ◌+◌, ◌*◌, ◌^◌, pos}
 use Rattle.rv_code.specs.isa.Bits.{field, signed}
 use Rattle.rv_code.specs.declared.inst.Inst.{Inst}
 use Rattle.rv_code.specs.declared.inst.Inst.TheVariants.{Lui, Jal, Jalr, Beq, Bne, Lw, Ld, Sw, Sd, Addi, Andi, Slli}
 use Rattle.rv_code.specs.declared.inst.Inst.TheVariants.{Srli, Srai, Add, Sub, Xor, Or, And, Addiw, Addw, Subw, Ebreak}
 
--- the rows, by the manual's mnemonics; C_ADDI has C.NOP too
+-- The rows by the manual's mnemonics. C_ADDI includes C.NOP.
 pub data Row : Type 0 where
   C_ADDI4SPN : Row
   C_LW : Row
@@ -41,25 +42,25 @@ pub data Row : Type 0 where
   C_SWSP : Row
   C_SDSP : Row
 
--- Where the fields stand.
+-- Positions of fields.
 
--- the opening of a row: its quadrant in the low two bits, and funct3
+-- The quadrant (the low two bits) and funct3 of a row.
 pub record Opens (half quadrant funct3 : ℕ) : Type 0 where
   pub quadrant_is : field half 0 2 ≡ quadrant
   pub funct3_is : field half 13 3 ≡ funct3
 
--- a row of the arithmetic on registers 8 to 15 (quadrant 1, funct3 4), by its bits 11:10
+-- A row of the arithmetic on registers 8 to 15 (quadrant 1, funct3 4), with its bits 11:10.
 pub record OpensArithmetic (half kind : ℕ) : Type 0 where
   pub opens : Opens half 1 4
   pub kind_is : field half 10 2 ≡ kind
 
--- a row of that arithmetic between two registers, by its bit 12 and bits 6:5
+-- A row of the arithmetic between two of these registers, with its bit 12 and bits 6:5.
 pub record OpensPair (half bit12 funct2 : ℕ) : Type 0 where
   pub opens : OpensArithmetic half 3
   pub bit12_is : field half 12 1 ≡ bit12
   pub funct2_is : field half 5 2 ≡ funct2
 
--- a row of quadrant 2 with funct3 4, by its bit 12
+-- A row of quadrant 2 with funct3 4, with its bit 12.
 pub record OpensJump (half bit12 : ℕ) : Type 0 where
   pub opens : Opens half 2 4
   pub bit12_is : field half 12 1 ≡ bit12
@@ -70,17 +71,17 @@ rd half = field half 7 5
 abbrev pub rs2 : ℕ → ℕ
 rs2 half = field half 2 5
 
--- registers 8 to 15, in three bits: bits 9:7 for rs1' and the rd' of arithmetic, bits 4:2 for rs2' and the rd' of
--- loads and of C.ADDI4SPN
+-- Registers 8 to 15 as three bits: bits 9:7 for rs1' and for rd' of arithmetic, bits 4:2 for rs2' and for rd' of
+-- loads and of C.ADDI4SPN.
 abbrev pub upper_register : ℕ → ℕ
 upper_register half = 8 + field half 7 3
 
 abbrev pub lower_register : ℕ → ℕ
 lower_register half = 8 + field half 2 3
 
--- Immediates, before any sign.
+-- Immediates, before sign extension. A comment lists which bits of the halfword have which bits of the immediate.
 
--- bit 12 = imm[5], 6:2 = imm[4:0]; for C.LUI imm[17] and imm[16:12]
+-- 12 = imm[5], 6:2 = imm[4:0]; for C.LUI they are imm[17] and imm[16:12].
 abbrev pub six_bits : ℕ → ℕ
 six_bits half = field half 12 1 * 2 ^ 5 + field half 2 5
 
@@ -131,7 +132,7 @@ store_word_sp half = field half 7 2 * 2 ^ 6 + field half 9 4 * 2 ^ 2
 abbrev pub store_double_sp : ℕ → ℕ
 store_double_sp half = field half 7 3 * 2 ^ 6 + field half 10 3 * 2 ^ 3
 
--- the halfwords of a row
+-- The halfword belongs to the row.
 abbrev pub Matches : Row → ℕ → Type 0
 Matches C_ADDI4SPN half = Opens half 0 0 × (addi4spn_imm half ≢ 0)
 Matches C_LW half = Opens half 0 2
@@ -166,7 +167,7 @@ Matches C_ADD half = OpensJump half 1 × (rs2 half ≢ 0)
 Matches C_SWSP half = Opens half 2 6
 Matches C_SDSP half = Opens half 2 7
 
--- the instruction that a halfword of the row expands to
+-- The instruction that a halfword of the row expands to.
 abbrev pub expansion : Row → ℕ → Inst
 expansion C_ADDI4SPN half = Addi (lower_register half) 2 (pos (addi4spn_imm half))
 expansion C_LW half = Lw (lower_register half) (upper_register half) (pos (word_offset half))
@@ -201,6 +202,6 @@ expansion C_ADD half = Add (rd half) (rd half) (rs2 half)
 expansion C_SWSP half = Sw 2 (rs2 half) (pos (store_word_sp half))
 expansion C_SDSP half = Sd 2 (rs2 half) (pos (store_double_sp half))
 
--- the halfword is this instruction
+-- The halfword encodes the instruction.
 abbrev pub IsHalf : ℕ → Inst → Type 0
 IsHalf half inst = (row : Row) × Matches row half × (inst ≡ expansion row half)

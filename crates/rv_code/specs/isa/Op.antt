@@ -1,5 +1,5 @@
--- What the arithmetic and logic operations give, and what branches compare, on numbers of 64 bits.
--- Sections are those of the ISA manual, volume I.
+-- Results of the arithmetic and logic operations, and the tests of branches, on 64-bit numbers. Sections are those of
+-- the ISA manual, volume I.
 use Rattle.std.specs.Prelude.{ℕ, ◌+◌, ◌-◌, ◌*◌, ◌/◌, ◌%◌, ◌^◌, pos, ◌*ℤ◌, ℤ, Bool, nat_lt, int_lt, ◌==◌, if◌then◌else◌}
 use Rattle.std.specs.Prelude.{bit_and, bit_or, bit_xor}
 use Rattle.std.specs.Int.{w128, cast_unsigned, int_shr}
@@ -12,28 +12,28 @@ use Rattle.rv_code.specs.declared.op.Op.TheVariants.{Mulw, Divw, Divuw, Remw, Re
 use Rattle.rv_code.specs.declared.action.Test.{Test}
 use Rattle.rv_code.specs.declared.action.Test.TheVariants.{Equal, LessSigned, LessUnsigned}
 
--- what a conditional branch tests (2.5)
+-- The test of a conditional branch (2.5).
 abbrev pub holds : Test → ℕ → ℕ → Bool
 holds Equal left right = left == right
 holds LessSigned left right = int_lt (signed64 left) (signed64 right)
 holds LessUnsigned left right = nat_lt left right
 
--- a comparison as a number
+-- A comparison as a number.
 abbrev pub flag : Bool → ℕ
 flag b = if b then 1 else 0
 
--- what a division by zero gives: all bits set, which is also -1 (13.2)
+-- The result of an unsigned division by zero: all bits set, which as a signed number is -1 (13.2).
 abbrev pub all_ones : ℕ
 all_ones = 2 ^ 64 - 1
 
--- the high 64 bits of a product of 128 bits (13.1)
+-- The high 64 bits of a 128-bit product (13.1).
 abbrev pub upper64 : ℤ → ℕ
 upper64 product = cast_unsigned w128 product / 2 ^ 64
 
--- Quotients round toward zero, and a remainder has the dividend's sign. Where -2 ^ 63 is divided by -1, the
--- quotient 2 ^ 63 is the dividend in 64 bits, and the remainder is 0; the forms of 32 bits are alike (13.2).
+-- Quotients round toward zero, and a remainder has the dividend's sign. If -2^63 is divided by -1, the quotient is
+-- -2^63 and the remainder is 0; the 32-bit forms are similar (13.2).
 abbrev pub apply : Op → ℕ → ℕ → ℕ
--- integers of 64 bits (2.4, 4.2): a shift's amount is the low six bits
+-- 64-bit integers (2.4, 4.2). The amount of a shift is the low six bits.
 apply Add left right = (left + right) % 2 ^ 64
 apply Sub left right = (left + (2 ^ 64 - right)) % 2 ^ 64
 apply Sll left right = left * 2 ^ (right % 64) % 2 ^ 64
@@ -44,17 +44,18 @@ apply Srl left right = left / 2 ^ (right % 64)
 apply Sra left right = unsigned64 (int_shr (signed64 left) (right % 64))
 apply Or left right = bit_or left right
 apply And left right = bit_and left right
--- multiplication (13.1)
+-- Multiplication (13.1).
 apply Mul left right = left * right % 2 ^ 64
 apply Mulh left right = upper64 (signed64 left *ℤ signed64 right)
 apply Mulhsu left right = upper64 (signed64 left *ℤ pos right)
 apply Mulhu left right = left * right / 2 ^ 64
--- division (13.2)
+-- Division (13.2).
 apply Div left right = if right == 0 then all_ones else unsigned64 (int_div (signed64 left) (signed64 right))
 apply Divu left right = if right == 0 then all_ones else left / right
 apply Rem left right = if right == 0 then left else unsigned64 (int_rem (signed64 left) (signed64 right))
 apply Remu left right = if right == 0 then left else left % right
--- on the low 32 bits, the result sign-extended (4.2, 13.1, 13.2): a shift's amount is the low five bits
+-- Operations on the low 32 bits with a sign-extended result (4.2, 13.1, 13.2). The amount of a shift is the low five
+-- bits.
 apply Addw left right = sign_extended32 (left + right)
 apply Subw left right = sign_extended32 (left + (2 ^ 64 - right))
 apply Sllw left right = sign_extended32 (low32 left * 2 ^ (right % 32))

@@ -1,4 +1,4 @@
--- The code of a file as the layers above see it, and which addresses it names.
+-- The code of a file as later crates see it, and the addresses that it names.
 use Rattle.std.specs.Prelude.{◌≡◌, ◌⊎◌, ℕ, Bool, List, IsTrue, Some, Any, is_some}
 use Rattle.rv_code.specs.declared.placed.Func.{Func}
 use Rattle.rv_code.specs.declared.placed.Role.{Role}
@@ -8,7 +8,7 @@ use Rattle.rv_code.specs.declared.cell.CellKind.{CellKind}
 use Rattle.rv_code.specs.declared.cell.CellKind.TheVariants.{Abs, Diff}
 use Rattle.rv_code.specs.layout.Flow.{insts_of, placed_at, target_of}
 
--- A role names its target. It doesn't name the AUIPC whose lower part it is.
+-- A role names its target. It doesn't name the AUIPC at `hi`.
 abbrev pub RoleNames : Role → ℕ → Type 0
 RoleNames Plain a = ⊥
 RoleNames (CallHi target) a = target ≡ a
@@ -18,7 +18,7 @@ RoleNames (Lo hi target) a = target ≡ a
 RoleNames (AbsHi target) a = target ≡ a
 RoleNames (AbsLo target) a = target ≡ a
 
--- A cell names its label, or both labels of its difference.
+-- A cell names its address, or both addresses of its difference.
 abbrev pub KindNames : CellKind → ℕ → Type 0
 KindNames (Abs to) a = to ≡ a
 KindNames (Diff to from) a = (to ≡ a) ⊎ (from ≡ a)
@@ -26,7 +26,7 @@ KindNames (Diff to from) a = (to ≡ a) ⊎ (from ≡ a)
 abbrev pub CellNames : CodeCell → ℕ → Type 0
 CellNames cell a = KindNames cell.kind a
 
--- The functions of a file, the roles of instructions by their addresses, the code cells, and the entry point.
+-- The functions of a file, the roles of instructions by address, the code cells, and the entry point.
 pub record ProgramCode : Type 0 where
   pub funcs : List Func
   pub roles : List (ℕ × Role)
@@ -40,17 +40,17 @@ program_code funcs roles cells entry = record { funcs = funcs; roles = roles; ce
 abbrev pub is_code_address : List Func → ℕ → Bool
 is_code_address funcs a = is_some (placed_at funcs a)
 
--- a role, a cell or the entry point holds an address
+-- A role, a cell or the entry point has the address.
 pub data IsHeld (code : ProgramCode) (a : ℕ) : Type 0 where
   by_role : Any (λ r. RoleNames r.1 a) code.roles → IsHeld code a
   by_cell : Any (λ c. CellNames c a) code.cells → IsHeld code a
   by_entry : code.entry ≡ a → IsHeld code a
 
--- A named address is a code address that is held: it can be a value of the program.
+-- A named address is a code address that a role, a cell or the entry point has: the program can compute with it.
 pub record IsNamed (code : ProgramCode) (a : ℕ) : Type 0 where
   pub code_address : IsTrue (is_code_address code.funcs a)
   pub held : IsHeld code a
 
--- a branch or jump goes to an address
+-- A branch or jump has the target `a`.
 abbrev pub IsTarget : List Func → ℕ → Type 0
 IsTarget funcs a = Any (λ p. target_of p ≡ Some a) (insts_of funcs)

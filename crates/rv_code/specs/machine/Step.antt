@@ -1,4 +1,4 @@
--- One step of the byte machine, for every instruction.
+-- One step of the byte machine, for each instruction.
 use Rattle.std.specs.Prelude.{◌≡◌, ℕ, ◌*◌, ◌/◌, ◌%◌, ◌^◌, ◌&&◌, ◌||◌, ◌==◌, Bool, true, false, not, List, [], ◌∷◌}
 use Rattle.std.specs.Prelude.{Option, Some, None, length, take, drop, min}
 use Rattle.rv_code.specs.declared.inst.Inst.{Inst}
@@ -20,7 +20,7 @@ use Rattle.rv_code.specs.machine.Machine.{may_read, may_write, may_execute, with
 use Rattle.rv_code.specs.machine.Machine.{Brk, Unknown, call_of, most_moved, bad_file, no_such_call, Outcome, Going}
 use Rattle.rv_code.specs.machine.Machine.{Ended, Halts}
 
--- registers hold numbers of 64 bits, and memory holds bytes
+-- Registers have 64-bit numbers, and memory has bytes.
 abbrev pub ByteState : Type 0
 ByteState = State ℕ ℕ
 
@@ -30,16 +30,16 @@ ByteOutcome = Outcome ByteState Cause
 abbrev pub trap : ByteState → Cause → ByteOutcome
 trap s c = Halts s.pc c
 
--- goes to a pc
+-- Continues at a pc.
 abbrev pub goes_to : ByteState → ℕ → ByteOutcome
 goes_to s next = Going (record s { pc = next }) None
 
--- goes to the target of a branch that is taken, else to the next instruction
+-- Continues at the target if the branch is taken, and at the next instruction otherwise.
 abbrev pub branches : ByteState → ℕ → ℕ → Bool → ByteOutcome
 branches s next target true = goes_to s target
 branches s next target false = goes_to s next
 
--- goes to a pc with a register written
+-- Continues at a pc after writing a register.
 abbrev pub writes_register : ByteState → ℕ → ℕ → ℕ → ByteOutcome
 writes_register s next rd value = Going (record s { pc = next; registers = set_register rd value s.registers }) None
 
@@ -47,21 +47,21 @@ abbrev pub operand : ByteState → Operand → ℕ
 operand s (Register r) = s.registers r
 operand s (Immediate imm) = unsigned64 imm
 
--- the address that a register and an offset name
+-- The address given by a register and an offset.
 abbrev pub address : ByteState → ℕ → ℕ → ℕ
 address s rs1 offset = plus (s.registers rs1) offset
 
--- a load of the number at an address, if it may be read
+-- Loads the number at an address if it may be read.
 abbrev pub loads : ByteState → ℕ → ℕ → Extension → ℕ → Bool → ByteOutcome
 loads s next rd e a true = writes_register s next rd (extended e (little (memory_bytes s.memory a (bytes_of e))))
 loads s next rd e a false = trap s cause.Load
 
--- a store of bytes at an address, if they may be written
+-- Stores bytes at an address if they may be written.
 abbrev pub stores : ByteState → ℕ → ℕ → List ℕ → Bool → ByteOutcome
 stores s next a bytes true = Going (record s { pc = next; memory = put s.memory a bytes }) None
 stores s next a bytes false = trap s cause.Store
 
--- The registers of the calling convention. psABI, "Integer Register Convention".
+-- Registers of the calling convention. psABI, "Integer Register Convention".
 abbrev pub a0 : ℕ
 a0 = 10
 
@@ -74,25 +74,25 @@ a2 = 12
 abbrev pub a7 : ℕ
 a7 = 17
 
--- a system call comes back, with its result in a0
+-- A system call returns, with its result in a0.
 abbrev pub returns : ByteState → ℕ → Event → ByteOutcome
 returns s next e = Going (record s { pc = next; registers = set_register a0 e.result s.registers }) (Some e)
 
--- read: these bytes of the input go to a buffer, if all of the buffer may be written
+-- read: moves bytes of the input to a buffer if all of the buffer may be written.
 abbrev pub reads_input : ByteState → ℕ → ℕ → List ℕ → Bool → ByteOutcome
 reads_input s next at moved true =
     returns (record s { memory = put s.memory at moved; input = drop (length moved) s.input }) next
     (record { number = 63; used = 0 ∷ at ∷ s.registers a2 ∷ []; moved = moved; result = length moved })
 reads_input s next at moved false = trap s cause.Store
 
--- write: these bytes of a buffer go out, if all of the buffer may be read
+-- write: outputs the bytes of a buffer if all of it may be read.
 abbrev pub writes_output : ByteState → ℕ → ℕ → List ℕ → Bool → ByteOutcome
 writes_output s next file moved true =
     returns s next
     (record { number = 64; used = file ∷ s.registers a1 ∷ s.registers a2 ∷ []; moved = moved; result = length moved })
 writes_output s next file moved false = trap s cause.Load
 
--- read and write of a file that isn't open: the buffer isn't looked at
+-- read and write of a file that isn't open. The buffer isn't accessed.
 abbrev pub refuses_file : ByteState → ℕ → ℕ → ByteOutcome
 refuses_file s next number =
     returns s next
@@ -103,7 +103,7 @@ refuses_file s next number =
       result = bad_file;
     })
 
--- brk: the result is the break after it
+-- brk: the result is the break after the call.
 abbrev pub sets_break : ByteState → ℕ → ByteState → ByteOutcome
 sets_break s next t = returns t next (record {
   number = 214;
@@ -112,18 +112,18 @@ sets_break s next t = returns t next (record {
   result = t.program_break;
 })
 
--- how many bytes the buffer at a1 has: as many as a2 says, but at most 65536
+-- The size of the buffer at a1: the number in a2, at most 65536.
 abbrev pub buffer_size : ByteState → ℕ
 buffer_size s = min (s.registers a2) most_moved
 
--- read, of standard input or of another file
+-- read, of standard input or of another file.
 abbrev pub read_call : ByteState → ℕ → Bool → ByteOutcome
 read_call s next true =
     reads_input s next (s.registers a1) (take (buffer_size s) s.input)
     (all_may (may_write s) (s.registers a1) (buffer_size s))
 read_call s next false = refuses_file s next 63
 
--- write, to standard output or standard error or to another file
+-- write, to standard output, standard error or another file.
 abbrev pub write_call : ByteState → ℕ → Bool → ByteOutcome
 write_call s next true =
     writes_output s next (s.registers a0) (memory_bytes s.memory (s.registers a1) (buffer_size s))
@@ -137,7 +137,7 @@ calls s next Exit = Ended (s.registers a0 % 256)
 calls s next Brk = sets_break s next (with_break 0 (s.registers a0) s)
 calls s next Unknown = returns s next (record { number = s.registers a7; used = []; moved = []; result = no_such_call })
 
--- what an instruction does whose next one in memory is at a pc
+-- The effect of an instruction, if the next instruction in memory is at `next`.
 abbrev pub effect : Action → ℕ → ByteState → ByteOutcome
 effect (Compute op rd left right) next s = writes_register s next rd (apply op (operand s left) (operand s right))
 effect (Branch test true rs1 rs2 imm) next s =
@@ -161,14 +161,14 @@ effect Breakpoint next s = trap s cause.Break
 abbrev pub halfword : ByteState → ℕ → ℕ
 halfword s a = little (memory_bytes s.memory a 2)
 
--- What the decoder is given: the halfword at the pc, and the next one where the low bits of the first are
--- 11, which begin a longer form. ISA manual, section 1.5.
+-- The input of the decoder: the halfword at the pc, and the next halfword if the low bits of the first are 11,
+-- which begin a longer instruction. ISA manual, section 1.5.
 abbrev pub parcels : ByteState → Bool → Bool → Option (ℕ × Option ℕ)
 parcels s false more = Some (halfword s s.pc, None)
 parcels s true true = Some (halfword s s.pc, Some (halfword s (plus s.pc 2)))
 parcels s true false = None
 
--- There is nothing at an odd pc, or where a byte of these halfwords may not be executed.
+-- Nothing is fetched at an odd pc, or if a byte of these halfwords may not be executed.
 abbrev pub fetched_if : ByteState → Bool → Option (ℕ × Option ℕ)
 fetched_if s true = parcels s (halfword s s.pc % 4 == 3) (all_may (may_execute s) (plus s.pc 2) 2)
 fetched_if s false = None
@@ -176,7 +176,7 @@ fetched_if s false = None
 abbrev pub fetched : ByteState → Option (ℕ × Option ℕ)
 fetched s = fetched_if s (s.pc % 2 == 0 && all_may (may_execute s) s.pc 2)
 
--- The step from s comes to o.
+-- `o` is an outcome of the step from `s`.
 pub data Steps (s : ByteState) (o : ByteOutcome) : Type 0 where
   no_fetch : fetched s ≡ None → o ≡ trap s cause.Fetch → Steps s o
   illegal : (h : ℕ) (k : Option ℕ) → fetched s ≡ Some (h, k) → ((i : Inst) (w : ℕ) → Decodes h k i w → ⊥) →
