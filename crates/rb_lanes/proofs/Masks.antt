@@ -1,4 +1,4 @@
--- Marks as numbers with a bit for each halfword.
+-- Marks as numbers with one bit for each halfword.
 use Rattle.std.proofs.Common.{◌≡◌, ◌≢◌, ◌+◌, ◌*◌, ◌<◌, ◌≤◌, ◌/◌, ◌%◌, ◌^◌, ◌∙◌, ℕ, List, Bool, true, false, cond}
 use Rattle.std.proofs.Common.{map, length, take, drop, get_or, slice_set, bit_and, arith, refl, ap, ⊎_elim, below_more}
 use Rattle.std.proofs.Common.{length-drop, get_or-set_other, get_or-set_same}
@@ -13,15 +13,15 @@ use Rattle.std.proofs.lemmas.Nat.{and_mask}
 use Rattle.std.proofs.lemmas.Simd.{mask_l-lt, bit_mask_l, map-map, zip2_splat}
 use Rattle.rb_lanes.specs.Marks.{ends_in_ones, is_marked, marks_of}
 
--- the halfwords of group k
+-- The halfwords of group k.
 abbrev pub halves_at : List ℕ → ℕ → List ℕ
 halves_at halves k = take 64 (drop (64 * k) halves)
 
--- the first groups are as they must be
+-- The first `count` groups have the marks of their halfwords.
 abbrev pub AreMarks : List ℕ → List ℕ → ℕ → Type 0
 AreMarks groups halves count = (k : ℕ) → k < count → get_or groups k 0 ≡ marks_of (halves_at halves k)
 
--- before the first halfword is marked there is room for one more
+-- There is room for one more mark as long as the first halfword is not marked.
 pub mask_below : (marks i : ℕ) (halves : List ℕ) → marks ≡ marks_of (drop i halves) → 0 < i → length halves ≤ 64
     → marks < 2 ^ 63
 mask_below marks i halves e some short =
@@ -31,7 +31,7 @@ mask_below marks i halves e some short =
     let le : 2 ^ length ms ≤ 2 ^ 63 = pow_mono few in
     omega arith
 
--- the lanes whose two lowest bits were taken
+-- The lanes after a bitwise AND with 3.
 pub low_lanes : (xs : List ℕ) (n : ℕ) → length xs ≡ n
     → map (λ x. x == 3) (zip2 bit_and xs (replicate n 3)) ≡ map ends_in_ones xs
 low_lanes xs n e =
@@ -39,7 +39,7 @@ low_lanes xs n e =
     ∙ map-map (λ x. x == 3) (λ x. bit_and x 3) xs
     ∙ (λ i. map (λ x. and_mask x 2 i == 3) xs)
 
--- a bit of the group where it must stand
+-- A bit at its place in its group.
 marked : (groups halves : List ℕ) (i : ℕ) → get_or groups (i / 64) 0 ≡ marks_of (halves_at halves (i / 64))
     → is_marked groups i ≡ ends_in_ones (get_or halves i 0)
 marked groups halves i e =
@@ -60,13 +60,13 @@ marked groups halves i e =
     is_set true n e = rw e refl
     is_set false n e = rw e refl
 
--- what is split off for a group
+-- The halfwords that are split off for group i.
 pub front_of : (i n : ℕ) (halves rest front : List ℕ) → rest ≡ drop (64 * i) halves → n ≡ min 64 (length rest)
     → front ≡ take n rest
     → front ≡ halves_at halves i
 front_of i n halves rest front r m f = f ∙ ap (λ k. take k rest) m ∙ take_min 64 rest ∙ ap (take 64) r
 
--- what is left for the groups after it
+-- The halfwords left for the groups after group i.
 pub back_of : (i n : ℕ) (halves rest back : List ℕ) → rest ≡ drop (64 * i) halves → n ≡ min 64 (length rest) → back ≡ drop n rest
     → back ≡ drop (64 * (i + 1)) halves
 back_of i n halves rest back r m b =
@@ -77,7 +77,7 @@ back_of i n halves rest back r m b =
     ∙ drop-drop 64 (64 * i) halves
     ∙ ap (λ k. drop k halves) (omega arith)
 
--- one group more
+-- One more group is done.
 pub marks_more : (groups halves : List ℕ) (i group : ℕ) → i < length groups → AreMarks groups halves i
     → group ≡ marks_of (halves_at halves i)
     → AreMarks (slice_set groups i group) halves (i + 1)
@@ -86,7 +86,7 @@ marks_more groups halves i group lt before here =
     (λ k below. let ne : k ≢ i = omega arith in rw get_or-set_other (before k below))
     (rw get_or-set_same here)
 
--- all groups
+-- All groups are done.
 pub marks_all : (groups halves : List ℕ) → length halves ≤ 64 * length groups → AreMarks groups halves (length groups) → (i : ℕ)
     → is_marked groups i ≡ ends_in_ones (get_or halves i 0)
 marks_all groups halves room each i =

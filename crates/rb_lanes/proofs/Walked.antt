@@ -1,4 +1,4 @@
--- How many items of a list that goes up are below a number.
+-- The number of items of an ascending list that are below a number.
 use Rattle.std.proofs.Common.{ℕ, ◌≡◌, ◌+◌, ◌-◌, ◌<◌, ◌≤◌, ⊎_elim, ap, List, AllPairs, length, slice_index_or, arith}
 use Rattle.std.specs.List.Sorted.{IsNonDecreasingBy}
 use Rattle.std.proofs.lemmas.Bool.{cases_lt}
@@ -12,7 +12,7 @@ module _ {A : Type 0} (key : A → ℕ) (xs : List A) (up : AllPairs (λ x y. ke
       (λ (more : j ≤ i). let e : i ≡ j = omega arith in let s = ap (λ (k : ℕ). key (slice_index_or xs k d)) e in omega arith)
       (cases_lt i j)
 
-  -- the first n are, where the last of these is
+  -- If item n - 1 is below a, so are the items before it.
   pub first_below : (n a : ℕ) (d : A) → 0 < n → n ≤ length xs → key (slice_index_or xs (n - 1) d) < a →
       (k : ℕ) (e : A) → k < n → key (slice_index_or xs k e) < a
   first_below n a d some within less k e early =
@@ -28,7 +28,7 @@ module _ {A : Type 0} (key : A → ℕ) (xs : List A) (up : AllPairs (λ x y. ke
       omega arith)
       (cases_lt k (n - 1))
 
-  -- those from the n-th on aren't, where that isn't
+  -- If item n is not below a, neither are the items after it.
   pub rest_above : (n a : ℕ) (d : A) → n < length xs → a ≤ key (slice_index_or xs n d) →
       (k : ℕ) (e : A) → n ≤ k → k < length xs → a ≤ key (slice_index_or xs k e)
   rest_above n a d within high k e late inside =
@@ -43,7 +43,7 @@ module _ {A : Type 0} (key : A → ℕ) (xs : List A) (up : AllPairs (λ x y. ke
       omega arith)
       (cases_lt n k)
 
-  -- so is the n-th, where it is below
+  -- If the first n items and item n are below a, the first n + 1 are.
   pub next_below : (n a : ℕ) (d : A) → n < length xs → key (slice_index_or xs n d) < a →
       ((k : ℕ) (e : A) → k < n → key (slice_index_or xs k e) < a) →
       (k : ℕ) (e : A) → k < n + 1 → key (slice_index_or xs k e) < a

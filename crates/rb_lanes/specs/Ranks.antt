@@ -1,4 +1,4 @@
--- How many members of a list are at most a number.
+-- The number of members of a list that are at most x.
 use Rattle.std.specs.Prelude.{ℕ, List, count_by, nat_le}
 
 abbrev pub rank : List ℕ → ℕ → ℕ

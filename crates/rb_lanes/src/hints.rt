@@ -1,38 +1,39 @@
-// Look-ups in ascending lists that begin near the place looked for.
+// Searches in ascending lists that start near the expected index.
 ghost use Rattle.std.specs.Prelude.{◌↔◌, ◌<◌, ◌≤◌, ℕ, IsTrue, AllPairs, Contains, length, slice_index_or};
 
 use std::alloc::{AllocError, Global};
 
-// About how many members fall into one step of values.
+// The number of members for each step of values, on average.
 const MEMBERS: u64 = 8;
 
-// How many members a look-up goes over before it falls back to a binary search.
+// The number of members that a search walks over before it falls back to a binary search.
 const WALK: usize = 32;
 
-/// Where look-ups in an ascending list begin: its values are cut into steps of one size, and each step has the place
-/// of the first member in it or above. Only speed depends on that, since a look-up compares the members themselves.
+/// Start indexes for searches in an ascending list. The values are divided into steps of equal size, and each step has
+/// the index of the first member in the step or above. Hints only affect speed, since a search compares the members
+/// themselves.
 #[derive(Drop)]
 pub struct Hints {
     // The least value.
     base: u64,
-    // A step has 2^shift values.
+    // A step covers 2^shift values.
     shift: u32,
     firsts: Vec<usize>,
-    // How many members the list has.
+    // The number of members of the list.
     count: usize,
     ghost shift_is_low: { shift < 64 },
 }
 
 impl Hints {
-    /// The hints for an ascending list, in about an eighth of its memory. Those for a list that doesn't ascend are of
-    /// no use, and may take far more.
+    /// The hints for an ascending list. They take about an eighth of the list's memory. Hints for a list that doesn't
+    /// ascend are useless, and may take far more memory.
     pub fn new(alloc: Global, members: &[u64]) -> Result<Hints, AllocError> {
         let base = members.first().copied().unwrap_or(0);
         let shift = shift_for(members, base);
         let mut firsts = Vec::new(alloc);
         for place in 0..members.len() {
             let step = (members[place].saturating_sub(base) >> shift) as usize;
-            // Steps that were passed over have no member, and get this place too.
+            // Steps that were skipped have no member, and also get this index.
             if firsts.len() <= step {
                 firsts.resize(step.saturating_add(1), place)?;
             }
@@ -45,7 +46,7 @@ impl Hints {
         })
     }
 
-    /// About how many members are below `x`.
+    /// About the number of members below `x`.
     pub fn near(&self, x: u64) -> usize {
         let step = x.saturating_sub(self.base) >> self.shift;
         match self.firsts.get(step as usize) {
@@ -55,7 +56,7 @@ impl Hints {
     }
 }
 
-// The least shift by which there are about an eighth as many steps as members.
+// The least shift for which the list has at most about one step for every eight members.
 fn shift_for(members: &[u64], base: u64) -> u32
     ensures { result < 64 }
 {
@@ -68,7 +69,7 @@ fn shift_for(members: &[u64], base: u64) -> u32
     63
 }
 
-/// Whether `x` is a member of an ascending list, by hints for it.
+/// Whether `x` is a member of an ascending list. `hints` are those of the list.
 pub fn is_member(members: &[u64], hints: &Hints, x: u64) -> bool
     requires { AllPairs (λ a b. a < b) members.now }
     ensures { IsTrue result ↔ Contains members.now x }
@@ -77,8 +78,8 @@ pub fn is_member(members: &[u64], hints: &Hints, x: u64) -> bool
     is_member_from(members, &mut near, x)
 }
 
-/// Whether `x` is a member of an ascending list. The look-up begins at `near`, and sets it to how many members are
-/// below `x`: numbers that ascend walk along the list with it. A bad `near` costs time alone.
+/// Whether `x` is a member of an ascending list. The search starts at index `near`, and sets `near` to the number of
+/// members below `x`, so a sequence of ascending numbers walks along the list. A bad `near` only costs time.
 pub fn is_member_from(members: &[u64], near: &mut usize, x: u64) -> bool
     requires { AllPairs (λ a b. a < b) members.now }
     ensures { IsTrue result ↔ Contains members.now x }
@@ -91,7 +92,7 @@ pub fn is_member_from(members: &[u64], near: &mut usize, x: u64) -> bool
     members[below] == x
 }
 
-/// How many members of an ascending list are below `x`. `near` is about as many; a bad guess costs time alone.
+/// The number of members of an ascending list that are below `x`. `near` is a guess; a bad guess only costs time.
 pub fn count_below(members: &[u64], near: usize, x: u64) -> usize
     requires { AllPairs (λ a b. a < b) members.now }
     ensures bound { result ≤ length members.now }
@@ -112,7 +113,7 @@ pub fn count_below(members: &[u64], near: usize, x: u64) -> usize
     search_below(members, x)
 }
 
-/// How many members of an ascending list are below `x`, by a binary search.
+/// The number of members of an ascending list that are below `x`, by a binary search.
 pub fn search_below(members: &[u64], x: u64) -> usize
     requires { AllPairs (λ a b. a < b) members.now }
     ensures bound { result ≤ length members.now }
@@ -122,7 +123,7 @@ pub fn search_below(members: &[u64], x: u64) -> usize
     members.partition_point(|member| *member < x)
 }
 
-// Whether the first `count` members are below `x`, which the last of them tells.
+// Whether the first `count` members are below `x`. Only the last of these members is compared.
 fn are_below(members: &[u64], count: usize, x: u64) -> bool
     requires { AllPairs (λ a b. a < b) members.now }
     ensures bound { IsTrue result → count ≤ length members.now }

@@ -1,5 +1,5 @@
-//! Kernels on lanes: how many members of a list are at most a number, and which halfwords of code begin long
-//! instructions.
+//! Searches in sorted lists, and two kernels on SIMD lanes: counting the members of a list that are at most a number,
+//! and marking the halfwords of code that begin long instructions.
 #![tactic(auto)]
 
 mod hints;

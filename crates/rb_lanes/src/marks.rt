@@ -1,15 +1,15 @@
-// Which halfwords of code begin instructions of four bytes or more (ISA manual, volume I, section 1.5).
+// Marks the halfwords of code that begin instructions of four bytes or more (ISA manual, volume I, section 1.5).
 ghost use Rattle.std.specs.Prelude.{◌≡◌, ℕ, ◌*◌, ◌≤◌, length, slice_index};
 ghost use Rattle.rb_lanes.specs.Marks.{ends_in_ones, is_marked, marks_of};
 
 use std::simd::prelude::*;
 use std::simd::u16x64;
 
-// How many marks a number of 64 bits holds.
+// The number of marks in a 64-bit number.
 const MARKS: usize = 64;
 
-/// Marks the halfwords whose two lowest bits are set: bit `i % 64` of `out[i / 64]` becomes 1 exactly where both are
-/// set in `halves[i]`. All other bits become 0.
+/// Marks the halfwords whose two lowest bits are set. Bit `i % 64` of `out[i / 64]` becomes 1 if both bits are set in
+/// `halves[i]`, and all other bits become 0.
 pub fn length_marks(halves: &[u16], out: &mut [u64])
     requires { length halves.now ≤ 64 * length out.old }
     ensures { (i : ℕ) → is_marked out.new i ≡ ends_in_ones (slice_index halves.now i) }
@@ -22,7 +22,7 @@ pub fn length_marks(halves: &[u16], out: &mut [u64])
     }
 }
 
-// The marks of a group of halfwords, of which the last may have fewer than 64.
+// The marks of a group of halfwords. The last group may have fewer than 64.
 fn marks_of_group(halves: &[u16]) -> u64
     requires { length halves.now ≤ 64 }
     ensures { result ≡ marks_of halves.now }
@@ -34,7 +34,7 @@ fn marks_of_group(halves: &[u16]) -> u64
     }
 }
 
-// Marks in a plain loop, from the last halfword down.
+// The marks in a plain loop, from the last halfword to the first.
 #[tactic(auto, using(crate::proofs::Masks::mask_below))]
 fn marks_of_rest(halves: &[u16]) -> u64
     requires { length halves.now ≤ 64 }
@@ -49,7 +49,7 @@ fn marks_of_rest(halves: &[u16]) -> u64
     marks
 }
 
-// Marks of 64 halfwords, which are tested at once.
+// The marks of 64 halfwords, which are tested at once.
 fn marks_of_lanes(halves: &[u16]) -> u64
     requires { length halves.now ≡ MARKS }
     ensures { result ≡ marks_of halves.now }

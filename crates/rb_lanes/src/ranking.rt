@@ -1,14 +1,14 @@
-// How many members of a list are at most a number.
+// Counts the members of a list that are at most a number.
 ghost use Rattle.std.specs.Prelude.{◌≡◌, length};
 ghost use Rattle.rb_lanes.specs.Ranks.{rank};
 
 use std::simd::prelude::*;
 use std::simd::u64x8;
 
-// How many members are taken at once.
+// The number of members that are compared at once.
 const LANES: usize = 8;
 
-/// How many members are at most `x`. In an ascending list that is the place of the first member above `x`.
+/// The number of members that are at most `x`. In an ascending list this is the index of the first member above `x`.
 pub fn rank(xs: &[u64], x: u64) -> usize
     ensures { result ≡ rank xs.now x }
 {
@@ -22,14 +22,14 @@ pub fn rank(xs: &[u64], x: u64) -> usize
     count + rank_of_rest(rest, x)
 }
 
-// Counts in a plain loop.
+// The count in a plain loop.
 fn rank_of_rest(xs: &[u64], x: u64) -> usize
     ensures { result ≡ rank xs.now x }
 {
     xs.iter().filter(|y| **y <= x).count()
 }
 
-// Compares all members at once.
+// The count, with all members compared at once.
 fn rank_of_lanes(xs: &[u64], x: u64) -> u32
     requires { length xs.now ≡ LANES }
     ensures { result ≡ rank xs.now x }

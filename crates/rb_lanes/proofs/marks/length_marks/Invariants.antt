@@ -2,7 +2,7 @@ use Rattle.std.proofs.Common.{◌≡◌, ◌*◌, drop}
 use Rattle.rb_lanes.proofs.Masks.{AreMarks}
 use Rattle.rb_lanes.proofs.marks.length_marks.Given as goal
 
--- the groups so far have the marks of their halfwords
+-- The groups done so far have the marks of their halfwords.
 abbrev pub invariant-loop-marks : goal.invariant-loop-marks
 invariant-loop-marks l = record {
   rest : l.rest ≡ drop (64 * l.marks-index) l.halves;

@@ -2,7 +2,7 @@ use Rattle.std.proofs.Common.{◌≡◌, ◌≤◌, length, drop}
 use Rattle.rb_lanes.specs.Marks.{marks_of}
 use Rattle.rb_lanes.proofs.marks.marks_of_rest.Given as goal
 
--- the marks of the halfwords from i on
+-- `marks` has the marks of the halfwords from index i on.
 abbrev pub invariant-loop-i : goal.invariant-loop-i
 invariant-loop-i l = record {
   within : l.i ≤ length l.halves;
