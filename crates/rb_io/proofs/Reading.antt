@@ -2,7 +2,7 @@
 use Rattle.std.proofs.Common.{◌≡◌, ◌+◌, ◌∙◌, sym, ap, ℕ, List, take, drop, ◌++◌}
 use Rattle.std.proofs.lemmas.List.{take-append-drop, drop-drop}
 
--- what is left begins with the next n bytes, and what is left after them follows
+-- The remaining bytes are the next n, and then the bytes after them.
 pub drop-take-drop : (place n : ℕ) (bytes piece : List ℕ) → piece ≡ take n (drop place bytes) → drop place bytes ≡ piece
     ++ drop (place + n) bytes
 drop-take-drop place n bytes piece same =

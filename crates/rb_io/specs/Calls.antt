@@ -1,4 +1,4 @@
--- The calls of an object in memory, numbered from 1.
+-- The calls of an in-memory object, numbered from 1.
 use Rattle.std.specs.Prelude.{ℕ, Bool, ◌==◌, if◌then◌else◌}
 use Rattle.std.specs.List.{list_any}
 use Rattle.std.specs.Prelude.{Vec}
@@ -6,15 +6,15 @@ use Rattle.std.specs.declared.alloc.Global.{Global}
 use Rattle.rb_io.specs.FaultCounts.{one_more}
 use Rattle.rb_io.specs.declared.calls.Calls.{Calls}
 
--- no call and no fault yet, with the numbers of the calls that are to fail
+-- No call and no fault yet. `fail` has the numbers of the calls that are to fail.
 abbrev pub no_calls : Vec ℕ Global → Calls
 no_calls fail = record { fail = fail; made = 0; faults = 0 }
 
--- the next call's number is among those to fail
+-- The number of the next call is in `fail`.
 abbrev pub fails_next : Calls → Bool
 fails_next calls = list_any (λ number. number == one_more calls.made) calls.fail.items
 
--- one more call, and one more fault if it failed
+-- The counts after one more call. It is a fault if it failed.
 abbrev pub after_call : Calls → Bool → Calls
 after_call calls failed = record calls {
   made = one_more calls.made;

@@ -1,10 +1,10 @@
--- Counts of faults, which stop at the greatest u64.
+-- Counts of faults, which saturate at 2^64 - 1.
 use Rattle.std.specs.Prelude.{ℕ, ◌+◌, ◌-◌, ◌<◌, ◌^◌, min}
 
--- the count is greater now, or stands at the greatest u64
+-- The count rose, unless it is 2^64 - 1.
 abbrev pub Rose : ℕ → ℕ → Type 0
 Rose before now = now < 2 ^ 64 - 1 → before < now
 
--- one more, up to the greatest u64
+-- The count plus one, at most 2^64 - 1.
 abbrev pub one_more : ℕ → ℕ
 one_more count = min (count + 1) (2 ^ 64 - 1)

@@ -1,14 +1,14 @@
--- What is kept by name: a file's content, its room or its count of faults.
+-- Values by file name: contents, room or counts of faults.
 use Rattle.std.specs.Prelude.{◌≡◌, ◌≢◌, ◌≤◌, ℕ, List}
 
--- each name has what it had
+-- No name has another value than before.
 pub record Unchanged {A : Type 0} (old new : List ℕ → A) : Type 0 where
   pub each : (name : List ℕ) → new name ≡ old name
 
--- each name but this one has what it had
+-- No name except `but` has another value than before.
 pub record UnchangedBut {A : Type 0} (but : List ℕ) (old new : List ℕ → A) : Type 0 where
   pub others : (name : List ℕ) → name ≢ but → new name ≡ old name
 
--- no name has a lower count than it had
+-- No count of a name fell.
 pub record NeverFalls (old new : List ℕ → ℕ) : Type 0 where
   pub each : (name : List ℕ) → old name ≤ new name

@@ -1,9 +1,9 @@
-// The numbered calls of an object in memory, some of which are to fail.
+// The numbered calls of an in-memory object, some of which are to fail.
 ghost use Rattle.std.specs.Prelude.{◌≡◌, ◌≤◌, IsTrue};
 ghost use Rattle.rb_io.specs.Calls.{no_calls, fails_next, after_call};
 ghost use Rattle.rb_io.specs.FaultCounts.{Rose};
 
-/// Counts the calls from 1, and the faults. Both counts stop at `u64::MAX`.
+/// Counts the calls, numbered from 1, and the faults. Both counts saturate at `u64::MAX`.
 #[derive(Drop)]
 pub(crate) struct Calls {
     fail: Vec<u64>,
@@ -12,7 +12,7 @@ pub(crate) struct Calls {
 }
 
 impl Calls {
-    /// No call was made, and those of these numbers are to fail.
+    /// No call yet. `fail` has the numbers of the calls that are to fail.
     pub(crate) fn new(fail: Vec<u64>) -> Calls
         ensures { result ≡ no_calls fail }
     {
@@ -30,7 +30,7 @@ impl Calls {
         self.fail.contains(&self.made.saturating_add(1))
     }
 
-    /// Counts a call, and a fault if it failed.
+    /// Counts one call, and one fault if the call failed.
     pub(crate) fn count(&mut self, failed: bool)
         ensures after { self.new ≡ after_call self.old failed }
         ensures never_falls { self.old.faults ≤ self.new.faults }
@@ -42,7 +42,7 @@ impl Calls {
         }
     }
 
-    /// The faults so far.
+    /// The number of faults so far.
     pub(crate) fn faults(&self) -> u64
         ensures { result ≡ self.now.faults }
     {

@@ -1,7 +1,7 @@
-// Bytes copied to a buffer.
+// Copies bytes to a buffer.
 ghost use Rattle.std.specs.Prelude.{◌≡◌, length, take, drop, min};
 
-/// Copies the front of `bytes` over the front of `buf`, as far as both go, and answers how many bytes that is.
+/// Copies the front of `bytes` to the front of `buf`, up to the shorter length, and returns the number of bytes copied.
 pub(crate) fn copy_prefix(buf: &mut [u8], bytes: &[u8]) -> usize
     ensures value { result ≡ min (length buf.old) (length bytes.now) }
     ensures front { take result buf.new ≡ take result bytes.now }

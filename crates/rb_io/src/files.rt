@@ -4,38 +4,38 @@ ghost use Rattle.rb_io.specs.FaultCounts.{Rose};
 ghost use Rattle.rb_io.specs.Names.{Unchanged, UnchangedBut};
 ghost use Rattle.rb_io.specs.Views.{FilesSeen, FilesGoOn};
 
-/// What reading a whole file answers.
+/// The result of reading a whole file.
 #[derive(Clone, Copy, Debug, Drop)]
 pub enum ReadAll {
-    /// The whole content was read.
+    /// All bytes were read.
     Done,
-    /// The file holds more bytes than the limit.
+    /// The file has more bytes than the limit.
     TooLong,
-    /// The file is missing or could not be read.
+    /// The file doesn't exist or could not be read.
     Failed,
     /// Memory ran out.
     Memory,
 }
 
-/// What writing a whole file answers.
+/// The result of writing a whole file.
 #[derive(Clone, Copy, Debug, Drop)]
 pub enum Wrote {
-    /// The file holds the bytes.
+    /// The file has exactly the given bytes.
     Done,
-    /// The file could not be written, and may hold any bytes.
+    /// The file could not be written, and may have any bytes.
     Failed,
 }
 
 /// A finite map from names to bytes, with a count of read faults and a count of write faults for each name.
 ///
-/// The counts never fall, and stop at `u64::MAX`.
+/// The counts never fall, and saturate at `u64::MAX`.
 pub trait Files {
     /// The map and the counts.
     ghost seen: { Self → FilesSeen };
 
-    /// Reads the whole content of `name`, at most `limit` bytes, in place of what `into` holds.
+    /// Reads all bytes of `name`, if there are at most `limit`, and replaces the bytes of `into` with them.
     ///
-    /// A missing name is a read fault. After another answer than `Done`, `into` is empty.
+    /// A missing file is a read fault. `into` is empty unless the result is `Done`.
     fn read_all(&mut self, name: &str, limit: usize, into: &mut Vec<u8>) -> ReadAll
         ensures done { result ≡ ReadAll.Done → IsTrue (seen self.old).told →
             (seen self.old).content name.now ≡ Some into.new.items }
@@ -48,7 +48,7 @@ pub trait Files {
         ensures contents_kept { Unchanged (seen self.old).content (seen self.new).content }
         ensures goes_on { FilesGoOn (seen self.old) (seen self.new) };
 
-    /// Makes `bytes` the whole content of `name`. After `Failed` that name alone may hold any bytes.
+    /// Makes `bytes` the content of `name`. After `Failed` the file may have any bytes; other files are unchanged.
     fn write_all(&mut self, name: &str, bytes: &[u8]) -> Wrote
         ensures done { result ≡ Wrote.Done → IsTrue (seen self.old).told →
             (seen self.new).content name.now ≡ Some bytes.now }
@@ -57,11 +57,11 @@ pub trait Files {
         ensures others_kept { UnchangedBut name.now (seen self.old).content (seen self.new).content }
         ensures goes_on { FilesGoOn (seen self.old) (seen self.new) };
 
-    /// The read faults of `name` so far.
+    /// The number of read faults of `name` so far.
     fn read_faults(&self, name: &str) -> u64
         ensures { result ≡ (seen self.now).read_faults name.now };
 
-    /// The write faults of `name` so far.
+    /// The number of write faults of `name` so far.
     fn write_faults(&self, name: &str) -> u64
         ensures { result ≡ (seen self.now).write_faults name.now };
 }

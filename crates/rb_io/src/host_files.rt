@@ -1,4 +1,4 @@
-// Files of the system.
+// Files of the operating system.
 ghost use Rattle.std.specs.Prelude.{◌≡◌, ◌≤◌, None, false, [], length};
 
 use crate::files::{Files, ReadAll, Wrote};
@@ -6,21 +6,21 @@ use crate::whole_files::{rights_of, write_file};
 use std::fs;
 use std::io::Read;
 
-/// The files of the system, which tell nothing of their contents. One count has all faults, of every name, by reads and
-/// by writes.
+/// The files of the operating system. They are opaque: contracts see no contents. All names, reads and writes share
+/// one count of faults.
 ///
-/// A regular file, or one that isn't there, is written whole or not at all: under another name in its folder,
-/// `.sudrepka-` with a number, which is then renamed. A process that is killed may leave such a file, but no half one
-/// under a name that it was to write.
+/// A regular file, or one that doesn't exist, is written whole or not at all: as `.sudrepka-N` in its folder, which is
+/// then
+/// renamed. A killed process may leave such a file behind, but never a partial file under the name it was to write.
 #[derive(Drop)]
 pub struct HostFiles<'a, R> {
     rt: &'a R,
     faults: u64,
-    // A name whose file gets the permissions of another one, and the name of that.
+    // A name, and the name of another file whose permissions it gets.
     alike: Option<(&'a str, &'a str)>,
 }
 
-// How many bytes are read at a time.
+// The number of bytes that are read at a time.
 const PIECE: usize = 65536;
 
 impl<'a, R: std::rt::Files> HostFiles<'a, R> {
@@ -35,8 +35,9 @@ impl<'a, R: std::rt::Files> HostFiles<'a, R> {
         }
     }
 
-    /// The same files. Where `name` is written it gets the permissions that `like` has then, if the system allows it,
-    /// but no bits that let it run as its owner or group; only as a regular file, since a device keeps its own.
+    /// These files, except that writing `name` gives it the permissions that `like` has at that time, if the system
+    /// allows
+    /// it. Set-user-ID and set-group-ID bits are left out. Only regular files get permissions; a device keeps its own.
     pub fn with_permissions_of(self, like: &'a str, name: &'a str) -> Self
         ensures { result.faults ≡ self.entry.faults }
     {
@@ -47,7 +48,7 @@ impl<'a, R: std::rt::Files> HostFiles<'a, R> {
         }
     }
 
-    // The permissions that a file is to get, if there are some.
+    // The permissions that a file is to get, if any.
     fn rights_for(&self, name: &str) -> Option<u32> {
         match self.alike {
             Some((alike, like)) if alike == name => rights_of(self.rt, like),
@@ -96,7 +97,7 @@ impl<'a, R: std::rt::Files + AllocGlobal> Files for HostFiles<'a, R> {
     }
 }
 
-// Reads a file piece by piece, and ends as soon as it has more bytes than the limit.
+// Reads a file piece by piece, and stops once it has more bytes than the limit.
 fn read_file<R: std::rt::Files>(rt: &R, name: &str, limit: usize, into: &mut Vec<u8>) -> ReadAll
     requires { into.old.items ≡ [] }
     ensures { result ≡ ReadAll.Done → length into.new.items ≤ limit }
@@ -105,7 +106,7 @@ fn read_file<R: std::rt::Files>(rt: &R, name: &str, limit: usize, into: &mut Vec
         return ReadAll::Failed;
     };
     let mut piece = [0u8; PIECE];
-    // The bound, which no file reaches, shows that the loop ends.
+    // No file reaches this bound. It shows that the loop ends.
     for _ in 0..u64::MAX {
         match file.read(&mut piece) {
             Ok(0) => return ReadAll::Done,

@@ -1,4 +1,4 @@
-// Streams of the system.
+// Streams of the operating system.
 ghost use Rattle.std.specs.Prelude.{◌≡◌, ◌≤◌, ◌<◌, None, [], length, take};
 ghost use Rattle.std.specs.Io.KnownBytes.{Appends, Consumes, IsAtEnd, Keeps};
 ghost use Rattle.rb_io.specs.CallResults.{IfBytes, IfTook};
@@ -8,7 +8,7 @@ use crate::sink::{Put, Sink};
 use crate::source::{Got, Source};
 use std::io::{Read, Write};
 
-/// A stream of the system to read, which tells nothing of its bytes.
+/// An input stream of the operating system. As a `Source` it is opaque.
 #[derive(Drop)]
 pub struct HostSource<R> {
     stream: R,
@@ -16,7 +16,7 @@ pub struct HostSource<R> {
 }
 
 impl<R: Read> HostSource<R> {
-    /// Reads this stream.
+    /// A source that reads `stream`.
     pub fn new(stream: R) -> Self
         ensures { result.faults ≡ 0 }
     {
@@ -31,7 +31,7 @@ impl<R: Read> Source for HostSource<R> {
         ensures within { IfBytes result (λ n. n ≤ length buf.new) }
         ensures failed { result ≡ Got.Failed → Rose self.old.faults self.new.faults }
         ensures never_falls { self.old.faults ≤ self.new.faults }
-        // What the stream knows of its bytes is passed on.
+        // The bytes are consumed from the runtime's stream, as far as contracts see that stream.
         ensures passed_on { IfBytes result
             (λ n. Consumes (R.remaining self.old.stream) (R.remaining self.new.stream) (take n buf.new)) }
         ensures end { IfBytes result (λ n. n ≡ 0 → 0 < length buf.old → IsAtEnd (R.remaining self.new.stream)) }
@@ -51,7 +51,7 @@ impl<R: Read> Source for HostSource<R> {
     }
 }
 
-/// A stream of the system to write, which tells nothing of the bytes that it takes.
+/// An output stream of the operating system. As a `Sink` it is opaque.
 #[derive(Drop)]
 pub struct HostSink<W> {
     stream: W,
@@ -59,7 +59,7 @@ pub struct HostSink<W> {
 }
 
 impl<W: Write> HostSink<W> {
-    /// Writes to this stream.
+    /// A sink that writes to `stream`.
     pub fn new(stream: W) -> Self
         ensures { result.faults ≡ 0 }
     {
@@ -75,7 +75,7 @@ impl<W: Write> Sink for HostSink<W> {
         ensures some { IfTook result (λ n. n ≡ 0 → piece.now ≡ []) }
         ensures failed { result ≡ Put.Failed → Rose self.old.faults self.new.faults }
         ensures never_falls { self.old.faults ≤ self.new.faults }
-        // What the stream knows of its bytes is passed on.
+        // The bytes taken are appended to the runtime's stream, as far as contracts see that stream.
         ensures passed_on { IfTook result
             (λ n. Appends (W.contents self.old.stream) (W.contents self.new.stream) (take n piece.now)) }
         ensures stream_kept { result ≡ Put.Failed → Keeps (W.contents self.old.stream) (W.contents self.new.stream) }

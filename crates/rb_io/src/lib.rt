@@ -1,4 +1,4 @@
-//! The outside of the program: files by name, a source of bytes and a sink for bytes, in memory and of the system.
+//! Input and output of the program: files by name, sources and sinks of bytes, in memory and of the operating system.
 #![tactic(auto)]
 
 mod calls;

@@ -1,4 +1,4 @@
-// Files in memory.
+// In-memory files.
 ghost use Rattle.std.specs.Prelude.{◌≡◌, ◌≢◌, ◌≤◌, ◌<◌, List, ℕ, Some, None, IsTrue, IsSomeAnd, [], IfOk, OnOk, OnErr};
 ghost use Rattle.std.specs.Prelude.{length, max, string_bytes, true, unwrap_or, is_none};
 ghost use Rattle.std.specs.Option.{option_copied};
@@ -16,10 +16,10 @@ use crate::slot::Slot;
 use crate::slots::{Slots, make_room, overwrite};
 use std::alloc::Global;
 
-/// Files in memory, where the reads and writes of some numbers fail. They are numbered together, from 1.
+/// In-memory files. Reads and writes are numbered together, from 1, and chosen numbers fail.
 ///
-/// A write needs room that was made before it, and no memory. One count has all faults, of every name, by reads and by
-/// writes.
+/// A write uses room that was made before, so it allocates nothing. All names, reads and writes share one count of
+/// faults.
 #[derive(Drop)]
 pub struct MemFiles {
     slots: Slots,
@@ -28,7 +28,7 @@ pub struct MemFiles {
 }
 
 impl MemFiles {
-    /// No file, and the reads and writes of these numbers are to fail.
+    /// No files. `fail` has the numbers of the reads and writes that are to fail.
     pub fn new(alloc: Global, fail: Vec<u64>) -> MemFiles
         ensures contents { (name : List ℕ) → content result name ≡ None }
         ensures rooms { (name : List ℕ) → room_for result name ≡ None }
@@ -41,7 +41,7 @@ impl MemFiles {
         }
     }
 
-    /// Sets the content of a name, whose room is then the length of `bytes`. After an error all is as before.
+    /// Sets the bytes of a file, and its room to their number. After an error nothing has changed.
     ///
     /// This call has no number.
     pub fn put(&mut self, name: String, bytes: Vec<u8>) -> Result<(), NoMemory>
@@ -57,9 +57,9 @@ impl MemFiles {
         Ok(())
     }
 
-    /// Makes room for at least `room` bytes under a name, and leaves each content as it is.
+    /// Makes room for at least `room` bytes under a name. No content changes.
     ///
-    /// A name without a content has none until it is written: reading it fails. This call has no number.
+    /// A new name has no content, so reading it fails, until it is written. This call has no number.
     pub fn prepare(&mut self, name: String, room: usize) -> Result<(), NoMemory>
         ensures contents_kept { Unchanged (content self.old) (content self.new) }
         ensures room { OnOk result
@@ -73,7 +73,7 @@ impl MemFiles {
         Ok(())
     }
 
-    /// The content of a name, if the map has it.
+    /// The bytes of a file, if it exists.
     pub fn content(&self, name: &str) -> Option<&[u8]>
         ensures { option_copied result ≡ content self.now name.now }
     {
@@ -93,9 +93,9 @@ impl Files for MemFiles {
         ensures emptied { result ≢ ReadAll.Done → into.new.items ≡ [] }
         ensures contents_kept { Unchanged (content self.old) (content self.new) }
         ensures goes_on { FilesGoOn (files_seen self.old) (files_seen self.new) }
-        // It fails exactly where its number is to fail or the name isn't there.
+        // A read fails if its number is to fail or the file doesn't exist, and only then.
         ensures fails { read_failed result ≡ read_fails self.old name.now }
-        // Memory is wanted only for a content within the limit.
+        // Only a file within the limit needs memory.
         ensures memory { result ≡ ReadAll.Memory → IsSomeAnd (content self.old name.now)
             (λ bytes. length bytes ≤ limit) }
         ensures rooms_kept { Unchanged (room_for self.old) (room_for self.new) }
@@ -117,7 +117,8 @@ impl Files for MemFiles {
         ensures failed { result ≡ Wrote.Failed → Rose (calls_of self.old).faults (calls_of self.new).faults }
         ensures others_kept { UnchangedBut name.now (content self.old) (content self.new) }
         ensures goes_on { FilesGoOn (files_seen self.old) (files_seen self.new) }
-        // It fails exactly where its number is to fail or the name hasn't room for the bytes, and then changes no
+        // A write fails if its number is to fail or the name has no room for the bytes, and only then. It then changes
+        // no
         // content.
         ensures fails { write_failed result ≡ write_fails self.old name.now (length bytes.now) }
         ensures contents_kept { result ≡ Wrote.Failed → Unchanged (content self.old) (content self.new) }
@@ -138,7 +139,7 @@ impl Files for MemFiles {
     }
 }
 
-// Copies a content to an empty vector.
+// Copies the bytes of a file to an empty vector.
 fn read_content(content: Option<&[u8]>, limit: usize, into: &mut Vec<u8>) -> ReadAll
     requires { into.old.items ≡ [] }
     ensures done { result ≡ ReadAll.Done → option_copied content.entry ≡ Some into.new.items }

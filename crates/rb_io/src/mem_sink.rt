@@ -1,4 +1,4 @@
-// A sink in memory.
+// An in-memory sink.
 ghost use Rattle.std.specs.Prelude.{◌≡◌, ◌≤◌, [], IfOk, length, vec_capacity};
 
 use crate::calls::Calls;
@@ -6,7 +6,7 @@ use crate::no_memory::NoMemory;
 use crate::sink::{Put, Sink};
 use std::alloc::Global;
 
-/// Takes bytes into memory up to a room made before, where the writes of some numbers fail.
+/// Takes bytes into memory that was allocated before. Writes with chosen numbers fail.
 #[derive(Drop)]
 pub struct MemSink {
     bytes: Vec<u8>,
@@ -21,7 +21,7 @@ impl MemSink {
     ghost use Rattle.std.specs.Prelude.{◌++◌, ◌-◌, min, take};
     ghost use Rattle.rb_io.specs.MemSink.{bytes_taken, room_left, calls_of};
 
-    /// Makes room for `room` bytes. The writes of these numbers, counted from 1, are to fail.
+    /// Allocates room for `room` bytes. `fail` has the numbers, counted from 1, of the writes that are to fail.
     pub fn new(alloc: Global, room: usize, fail: Vec<u64>) -> Result<MemSink, NoMemory>
         ensures taken { IfOk result (λ sink. bytes_taken sink ≡ []) }
         ensures room { IfOk result (λ sink. room_left sink ≡ room) }
@@ -73,8 +73,9 @@ impl Sink for MemSink {
         ensures taken_kept { result ≡ Put.Failed → Some (bytes_taken self.new) ≡ Some (bytes_taken self.old) }
         ensures failed { result ≡ Put.Failed → Rose (calls_of self.old).faults (calls_of self.new).faults }
         ensures never_falls { (calls_of self.old).faults ≤ (calls_of self.new).faults }
-        // It fails exactly where its number is to fail or no room is left for a piece that is not empty, and else
-        // takes what fits.
+        // A write fails if its number is to fail or no room is left for a piece that isn't empty, and only then.
+        // Otherwise
+        // it takes as many bytes as there is room for.
         ensures answer { result ≡ write_answer self.old (length piece.now) }
         ensures room { room_left self.new ≡ room_after (room_left self.old) result }
         ensures calls { calls_of self.new ≡ after_call (calls_of self.old) (put_failed result) }

@@ -1,11 +1,11 @@
-// A source in memory.
+// An in-memory source.
 ghost use Rattle.std.specs.Prelude.{◌≡◌, ◌≤◌, length};
 
 use crate::calls::Calls;
 use crate::copy::copy_prefix;
 use crate::source::{Got, Source};
 
-/// Bytes in memory to be read, where the reads of some numbers fail.
+/// Bytes in memory to read. Reads with chosen numbers fail.
 #[derive(Drop)]
 pub struct MemSource {
     bytes: Vec<u8>,
@@ -18,7 +18,7 @@ impl MemSource {
     ghost use Rattle.rb_io.specs.Calls.{no_calls};
     ghost use Rattle.rb_io.specs.MemSource.{bytes_left, calls_of};
 
-    /// These bytes are left, and the reads of these numbers, counted from 1, are to fail.
+    /// A source with these bytes. `fail` has the numbers, counted from 1, of the reads that are to fail.
     pub fn new(bytes: Vec<u8>, fail: Vec<u64>) -> MemSource
         ensures left { bytes_left result ≡ bytes.items }
         ensures calls { calls_of result ≡ no_calls fail }
@@ -49,8 +49,9 @@ impl Source for MemSource {
         ensures left_kept { result ≡ Got.Failed → Some (bytes_left self.new) ≡ Some (bytes_left self.old) }
         ensures failed { result ≡ Got.Failed → Rose (calls_of self.old).faults (calls_of self.new).faults }
         ensures never_falls { (calls_of self.old).faults ≤ (calls_of self.new).faults }
-        // It fails exactly where its number is to fail, and moves as many bytes as there are and the buffer has room
-        // for.
+        // A read fails if its number is to fail, and only then. Otherwise it moves as many bytes as are left and fit in
+        // the
+        // buffer.
         ensures answer { result ≡ read_answer self.old (length buf.old) }
         ensures calls { calls_of self.new ≡ after_call (calls_of self.old) (got_failed result) }
         ensures rest_kept { IfBytes result (λ n. drop n buf.new ≡ drop n buf.old) }

@@ -1,4 +1,4 @@
-// The error of a call that fails for want of memory alone.
+// The error of calls that can only fail because memory runs out.
 
 use std::alloc::{AllocError, AllocFailed};
 use thiserror::Error;

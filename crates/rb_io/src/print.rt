@@ -1,4 +1,4 @@
-// Texts written whole.
+// Writes whole texts.
 ghost use Rattle.std.specs.Prelude.{◌≡◌, ◌≤◌, length};
 ghost use Rattle.rb_io.specs.CallResults.{IfTook};
 ghost use Rattle.rb_io.specs.FaultCounts.{Rose};
@@ -6,9 +6,9 @@ ghost use Rattle.rb_io.specs.TakenText.{TakesAll, TakesPrefix};
 
 use crate::sink::{Put, Sink};
 
-/// Writes `text` whole, piece by piece.
+/// Writes all of `text`, piece by piece.
 ///
-/// `Took` has the length of the text. After `Failed` the sink took a proper prefix of it, which may be empty.
+/// `Took` has the length of the text. After `Failed` the sink took a proper prefix of the text, which may be empty.
 pub fn print_all<O: Sink>(out: &mut O, text: &[u8]) -> Put
     ensures whole { IfTook result (λ n. n ≡ length text.now) }
     ensures all { IfTook result (λ n. TakesAll (O.seen out.old).taken (O.seen out.new).taken text.now) }

@@ -1,9 +1,9 @@
-// A file in memory, with room that was made before it is written.
+// An in-memory file, with room that is made before it is written.
 ghost use Rattle.std.specs.Prelude.{◌≡◌, ◌≤◌, length, vec_capacity};
 
 use std::alloc::{AllocError, Global};
 
-/// What a name has: room for a number of bytes, and a content unless the file is yet to be written.
+/// Room for a number of bytes, and the bytes of a file once it is written.
 #[derive(Drop)]
 pub(crate) struct Slot {
     bytes: Vec<u8>,
@@ -18,7 +18,7 @@ impl Slot {
     ghost use Rattle.std.specs.Option.{option_copied};
     ghost use Rattle.rb_io.specs.Slot.{content_of, room_of};
 
-    /// A file of these bytes, with room for no more.
+    /// A file with these bytes, and with room for exactly as many.
     pub(crate) fn with_content(bytes: Vec<u8>) -> Slot
         ensures content { content_of result ≡ Some bytes.items }
         ensures room { room_of result ≡ length bytes.items }
@@ -31,7 +31,7 @@ impl Slot {
         }
     }
 
-    /// Room for a file that is not there yet.
+    /// Room for a file that doesn't exist yet.
     pub(crate) fn with_room(alloc: Global, room: usize) -> Result<Slot, AllocError>
         ensures content { IfOk result (λ slot. content_of slot ≡ None) }
         ensures room { IfOk result (λ slot. room_of slot ≡ room) }
@@ -43,7 +43,7 @@ impl Slot {
         })
     }
 
-    /// Makes room for at least `room` bytes. After an error all is as before.
+    /// Makes room for at least `room` bytes. After an error nothing has changed.
     pub(crate) fn make_room(&mut self, room: usize) -> Result<(), AllocError>
         ensures content_kept { content_of self.new ≡ content_of self.old }
         ensures ok { OnOk result (room_of self.new ≡ max (room_of self.old) room) }
@@ -56,7 +56,7 @@ impl Slot {
         Ok(())
     }
 
-    /// The content, if the file is there.
+    /// The bytes of the file, if it was written.
     pub(crate) fn content(&self) -> Option<&[u8]>
         ensures { option_copied result ≡ content_of self.now }
     {
@@ -67,7 +67,7 @@ impl Slot {
         }
     }
 
-    /// Makes these bytes the content, where there is room for them; answers whether there is.
+    /// Makes `bytes` the content if there is room for them. Returns whether there is.
     pub(crate) fn write(&mut self, bytes: &[u8]) -> bool
         ensures fits { result ≡ nat_le (length bytes.now) (room_of self.old) }
         ensures content { content_of self.new ≡ (if result then Some bytes.now else content_of self.old) }

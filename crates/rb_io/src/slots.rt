@@ -1,4 +1,4 @@
-// The files in memory by name.
+// In-memory files by name.
 ghost use Rattle.std.specs.Prelude.{◌≡◌, None, Some, IsTrue, IfOk, IsOk, OnOk, OnErr, length, max, unwrap_or};
 ghost use Rattle.std.specs.Prelude.{string_bytes, true, false};
 ghost use Rattle.rb_io.specs.MemFiles.{has_room};
@@ -9,10 +9,10 @@ use crate::slot::Slot;
 use std::alloc::{AllocError, Global};
 use std::collections::BTreeMap;
 
-/// What each name has.
+/// The file of each name.
 pub(crate) type Slots = BTreeMap<String, Slot>;
 
-/// Makes bytes the content of a name, where it has room for them; answers whether it has.
+/// Makes `bytes` the content of a name if it has room for them. Returns whether it has.
 pub(crate) fn overwrite(slots: &mut Slots, name: &str, bytes: &[u8]) -> bool
     ensures fits { result ≡ has_room (room_at slots.old name.now) (length bytes.now) }
     ensures written { result ≡ true → content_at slots.new name.now ≡ Some bytes.now }
@@ -26,7 +26,7 @@ pub(crate) fn overwrite(slots: &mut Slots, name: &str, bytes: &[u8]) -> bool
     }
 }
 
-/// Makes room for at least `room` bytes under a name. After an error all is as before.
+/// Makes room for at least `room` bytes under a name. After an error nothing has changed.
 pub(crate) fn make_room(
     slots: &mut Slots,
     alloc: Global,
@@ -46,7 +46,7 @@ pub(crate) fn make_room(
     }
 }
 
-// Makes room for a name that has none.
+// Adds a name that has no room yet.
 fn add_room(slots: &mut Slots, alloc: Global, name: String, room: usize) -> Result<(), AllocError>
     requires { room_at slots.old (string_bytes name) ≡ None }
     ensures contents_kept { Unchanged (content_at slots.old) (content_at slots.new) }

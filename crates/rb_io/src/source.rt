@@ -5,21 +5,21 @@ ghost use Rattle.rb_io.specs.FaultCounts.{Rose};
 ghost use Rattle.rb_io.specs.CallResults.{IfBytes};
 ghost use Rattle.rb_io.specs.Views.{SourceSeen};
 
-/// What a read answers.
+/// The result of a read.
 #[derive(Clone, Copy, PartialEq, Eq, Drop)]
 pub enum Got {
-    /// So many bytes stand at the front of the buffer.
+    /// This number of bytes were put at the front of the buffer.
     Bytes(usize),
-    /// The read failed, and took nothing.
+    /// The read failed, and took no byte.
     Failed,
 }
 
-/// Bytes that are read once, with a count of faults that never falls and stops at `u64::MAX`.
+/// Bytes that are read once, with a count of faults that never falls and saturates at `u64::MAX`.
 pub trait Source {
-    /// The bytes left, where they are told, and the faults so far.
+    /// The bytes left, if the source is transparent, and the number of faults so far.
     ghost seen: { Self → SourceSeen };
 
-    /// Moves the first bytes left to the front of `buf`: none only at the end of input or for an empty `buf`.
+    /// Moves the next bytes to the front of `buf`: at least one, unless the input is at its end or `buf` is empty.
     fn read(&mut self, buf: &mut [u8]) -> Got
         ensures within { IfBytes result (λ n. n ≤ length buf.new) }
         ensures moved { IfBytes result (λ n. (seen self.old).left ≡ prepend_known (take n buf.new)
@@ -29,7 +29,7 @@ pub trait Source {
         ensures failed { result ≡ Got.Failed → Rose (seen self.old).faults (seen self.new).faults }
         ensures never_falls { (seen self.old).faults ≤ (seen self.new).faults };
 
-    /// The faults so far.
+    /// The number of faults so far.
     fn faults(&self) -> u64
         ensures { result ≡ (seen self.now).faults };
 }

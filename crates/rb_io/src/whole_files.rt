@@ -1,4 +1,4 @@
-// Regular files of the system, written whole or not at all: under a name beside, which then becomes that of the file.
+// Writes regular files whole or not at all: under another name in the same folder, which is then renamed.
 
 use std::alloc::Global;
 use std::fs::{OpenFile, OpenOptions, Permissions};
@@ -7,16 +7,16 @@ use std::os::unix::fs::{MetadataExt, OpenOptionsExt, PermissionsExt, chown};
 use std::rt::Files;
 use std::{fs, io};
 
-// What the owner, the group and others may do with a file. The bits above it let a program run as its file's owner or
-// group, and a file that is written anew may have others than the old one.
+// The permissions of owner, group and others. The set-user-ID and set-group-ID bits above them are never copied to a
+// rewritten file, which may have another owner or group.
 const RIGHTS: u32 = 0o777;
 
-// How many names are tried for a file beside another one. Those that are there were left by processes that were
-// killed, or are of others that write just now.
+// The number of names that are tried for the temporary file. Existing ones are left over from killed processes, or
+// belong to processes that are writing now.
 const TRIES: u32 = 10_000;
 
-// The file that another one is renamed to; which rights it gets, if not those that the system gives to new files; and
-// the numbers of its owner and group, if it is there.
+// The file to replace: its path, the permissions that the new file gets (the system's default if `None`), and the
+// numbers of its owner and group, if it exists.
 #[derive(Drop)]
 struct Target {
     path: String,
@@ -24,7 +24,7 @@ struct Target {
     owner: Option<(u32, u32)>,
 }
 
-/// The rights of a file, if there is one.
+/// The permissions of a file, if it exists.
 pub(crate) fn rights_of<R: Files>(rt: &R, name: &str) -> Option<u32> {
     match fs::metadata(rt, name) {
         Ok(file) => Some(file.permissions().mode() & RIGHTS),
@@ -32,13 +32,16 @@ pub(crate) fn rights_of<R: Files>(rt: &R, name: &str) -> Option<u32> {
     }
 }
 
-/// Makes `bytes` the content of a file, and gives it these rights if there are some and the system allows it.
+/// Makes `bytes` the content of a file, and gives it `rights` if there are some and the system allows it.
 ///
-/// A regular file, or one that isn't there, gets them whole or not at all, and has at each moment the old content or
-/// the new one. One that is there keeps its rights otherwise, but for those above `RIGHTS`, and its owner and group if
-/// the system allows it. What a symbolic link names is written, and the link stays. Of a file with several names (hard
-/// links) only this one gets the bytes. All else, as devices and pipes, is written in place, and keeps its rights. So
-/// is what a link names that isn't there, and what the system lets be written but not renamed to.
+/// A regular file, or one that doesn't exist, is replaced atomically: at each moment it has the old content or the new
+/// one.
+/// An existing file keeps its owner and group if the system allows it, and its permissions, without the bits above
+/// `RIGHTS`, if `rights` is `None`. A symbolic link is followed, and stays. Of a file with several hard links only this
+/// name gets
+/// the new bytes. Other files, such as devices and pipes, are written in place and keep their permissions. So are
+/// targets
+/// of links that don't exist, and files that the system allows to be written but not to be replaced.
 pub(crate) fn write_file<R: Files + AllocGlobal>(
     rt: &R,
     name: &str,
@@ -53,8 +56,8 @@ pub(crate) fn write_file<R: Files + AllocGlobal>(
     write_in_place(rt, name, bytes, rights)
 }
 
-// The file that a name means, or would mean, if another one can be renamed to it. One that is there has to be one that
-// can be written, as if it were written in place.
+// The target that `name` refers to, if a new file can be renamed to it. An existing file has to be writable, as if it
+// were written in place.
 fn target_of<R: Files + AllocGlobal>(
     rt: &R,
     name: &str,
@@ -77,7 +80,7 @@ fn target_of<R: Files + AllocGlobal>(
     }))
 }
 
-// That of a name which means no file, unless it is a link's.
+// The target for a name without a file. `None` for a symbolic link whose target doesn't exist.
 fn new_target<R: Files + AllocGlobal>(rt: &R, name: &str, rights: Option<u32>) -> Option<Target> {
     if fs::symlink_metadata(rt, name).is_ok() {
         return None;
@@ -90,8 +93,8 @@ fn new_target<R: Files + AllocGlobal>(rt: &R, name: &str, rights: Option<u32>) -
     })
 }
 
-// Writes a file beside the target, and renames it. Answers false, with nothing changed, where the system lets no file
-// be made there or be renamed to the target, or memory for its name is wanting.
+// Writes a temporary file in the target's folder, and renames it. Returns false, with nothing changed, if the system
+// doesn't allow creating or renaming the file, or memory for its name runs out.
 fn replace<R: Files + AllocGlobal>(rt: &R, target: &Target, bytes: &[u8]) -> io::Result<bool> {
     for number in 0..TRIES {
         let Some(name) = name_beside(rt.alloc(), &target.path, number) else {
@@ -106,7 +109,7 @@ fn replace<R: Files + AllocGlobal>(rt: &R, target: &Target, bytes: &[u8]) -> io:
     Ok(false)
 }
 
-// A name in the folder of `path`.
+// A temporary name in the folder of `path`.
 fn name_beside(alloc: Global, path: &str, number: u32) -> Option<String> {
     match path.rsplit_once('/') {
         Some((folder, _)) => format!(in alloc; "{folder}/.sudrepka-{number}").ok(),
@@ -114,7 +117,7 @@ fn name_beside(alloc: Global, path: &str, number: u32) -> Option<String> {
     }
 }
 
-// A new file, which has no rights beyond these at any time.
+// Creates a file that never has more permissions than `rights`.
 fn create<R: Files>(rt: &R, name: &str, rights: Option<u32>) -> io::Result<R::File> {
     let mut options = OpenOptions::new();
     options.write(true).create_new(true);
@@ -146,7 +149,7 @@ fn complete<R: Files>(
     Ok(renamed)
 }
 
-// Gives a new file its rights, of which the system left out those of its mask, and its bytes.
+// Sets the permissions of a new file, which the process's mask may have reduced, and writes its bytes.
 fn fill<F: OpenFile + Write + Drop>(
     mut file: F,
     rights: Option<u32>,
@@ -158,7 +161,7 @@ fn fill<F: OpenFile + Write + Drop>(
     file.write_all(bytes)
 }
 
-// Writes over what a name means. Only a regular file gets the rights.
+// Overwrites the file that a name refers to. Only a regular file gets the permissions.
 fn write_in_place<R: Files>(
     rt: &R,
     name: &str,
