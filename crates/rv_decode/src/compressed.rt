@@ -14,21 +14,21 @@ pub fn rs2(half: u32) -> u8
     bits(half, 2, 5) as u8
 }
 
-/// One of the registers 8 to 15, from bits 9:7.
+/// The register from 8 to 15 in bits 9:7.
 pub fn upper_register(half: u32) -> u8
     ensures { result ≡ upper_register half }
 {
     8 + bits(half, 7, 3) as u8
 }
 
-/// One of the registers 8 to 15, from bits 4:2.
+/// The register from 8 to 15 in bits 4:2.
 pub fn lower_register(half: u32) -> u8
     ensures { result ≡ lower_register half }
 {
     8 + bits(half, 2, 3) as u8
 }
 
-/// The six bits 12 and 6:2: a shift's amount, or an immediate in two's complement.
+/// Bits 12 and 6:2: the amount of a shift, or an immediate in two's complement.
 pub fn six_bits(half: u32) -> u32
     ensures value { result ≡ six_bits half }
     ensures below { result < 64 }
@@ -36,14 +36,14 @@ pub fn six_bits(half: u32) -> u32
     (bits(half, 12, 1) << 5) + bits(half, 2, 5)
 }
 
-/// The six bits as a signed immediate.
+/// Bits 12 and 6:2 as a signed immediate.
 pub fn signed_six(half: u32) -> i64
     ensures { result ≡ signed 5 (six_bits half) }
 {
     sign(six_bits(half), 5)
 }
 
-/// The distance from the stack pointer in C.ADDI4SPN. With 0 the halfword is reserved.
+/// The distance from the stack pointer in C.ADDI4SPN. The halfword is reserved if it is 0.
 pub fn addi4spn_imm(half: u32) -> u32
     ensures { result ≡ addi4spn_imm half }
 {
@@ -53,8 +53,7 @@ pub fn addi4spn_imm(half: u32) -> u32
         + (bits(half, 6, 1) << 2)
 }
 
-/// The ten bits of the step of the stack pointer in C.ADDI16SP, whose highest is the sign. With 0 the halfword is
-/// reserved.
+/// The ten bits of the immediate of C.ADDI16SP, with the sign as the highest bit. The halfword is reserved if it is 0.
 pub fn addi16sp_imm(half: u32) -> u32
     ensures value { result ≡ addi16sp_imm half }
     ensures below { result < 1024 }

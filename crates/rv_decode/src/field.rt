@@ -1,4 +1,4 @@
-// Fields of instruction words, and immediates with their signs.
+// Fields of instruction words, and sign-extended immediates.
 ghost use Rattle.std.specs.Prelude.{◌≡◌};
 ghost use Rattle.rv_code.specs.isa.Bits.{field, imm_i, imm_s, imm_b, imm_u, imm_j};
 
@@ -25,21 +25,21 @@ pub fn rs2(word: u32) -> u8
     bits(word, 20, 5) as u8
 }
 
-/// Bits 14:12, which tell the operations of an opcode apart.
+/// Bits 14:12, which select the operation of an opcode.
 pub fn funct3(word: u32) -> u32
     ensures { result ≡ field word 12 3 }
 {
     bits(word, 12, 3)
 }
 
-/// Bits 31:25, which tell operations with one funct3 apart in format R and among shifts of 32 bits.
+/// Bits 31:25, which select among operations with the same funct3 in format R and among 32-bit shifts.
 pub fn funct7(word: u32) -> u32
     ensures { result ≡ field word 25 7 }
 {
     bits(word, 25, 7)
 }
 
-/// Bits 31:26, which tell shifts of 64 bits by an immediate apart.
+/// Bits 31:26, which select among 64-bit shifts by an immediate.
 pub fn funct6(word: u32) -> u32
     ensures { result ≡ field word 26 6 }
 {
@@ -72,7 +72,7 @@ pub fn imm_b(word: u32) -> i64
     sign(number, 12)
 }
 
-/// The immediate of format U: bits 31:12 alone, as a signed number of 20 bits.
+/// The immediate of format U: bits 31:12 as a signed 20-bit number.
 pub fn imm_u(word: u32) -> i64
     ensures { result ≡ imm_u word }
 {

@@ -1,4 +1,4 @@
-// The four-byte instructions, by their opcode. ISA manual, sections 2.5, 2.7 and 2.8.
+// Decodes four-byte instructions, by opcode. ISA manual, sections 2.5, 2.7 and 2.8.
 ghost use Rattle.std.specs.Prelude.{◌≡◌};
 ghost use Rattle.rv_code.specs.isa.Bits.{field};
 ghost use Rattle.rv_code.specs.isa.FullRows.{IsFull};
@@ -13,7 +13,7 @@ use rv_code::opcode::{
     AUIPC, BRANCH, JAL, JALR, LOAD, LUI, MISC_MEM, OP, OP_32, OP_IMM, OP_IMM_32, STORE, SYSTEM,
 };
 
-/// The instruction of a word, or None where no row has it.
+/// The instruction that a word encodes, or None if no row matches.
 pub fn decode_full(word: u32) -> Option<Inst>
     ensures { FindsOnly (IsFull word) result }
 {
@@ -79,7 +79,7 @@ fn branch(word: u32) -> Option<Inst>
     }
 }
 
-// FENCE, whatever it orders.
+// FENCE with any ordering.
 fn fence(word: u32) -> Option<Inst>
     requires { field word 0 7 ≡ MISC_MEM }
     ensures { FindsOnly (IsFull word) result }

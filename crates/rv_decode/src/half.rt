@@ -1,4 +1,4 @@
-// The two-byte instructions, by their quadrant. ISA manual, section 26.8.
+// Decodes two-byte instructions, by quadrant. ISA manual, section 26.8.
 ghost use Rattle.std.specs.Prelude.{◌≡◌};
 ghost use Rattle.rv_code.specs.isa.Bits.{field};
 ghost use Rattle.rv_code.specs.isa.HalfRows.{IsHalf};
@@ -10,7 +10,7 @@ use crate::quadrant2::quadrant2;
 use rv_code::field::bits;
 use rv_code::{Inst, STACK_POINTER};
 
-/// The instruction of a halfword, or None where no row has it.
+/// The instruction that a halfword encodes, or None if no row matches.
 pub fn decode_half(half: u32) -> Option<Inst>
     ensures { FindsOnly (IsHalf half) result }
 {
@@ -22,7 +22,7 @@ pub fn decode_half(half: u32) -> Option<Inst>
     }
 }
 
-// Loads and stores at registers 8 to 15, and C.ADDI4SPN.
+// Loads and stores relative to registers 8 to 15, and C.ADDI4SPN.
 fn quadrant0(half: u32) -> Option<Inst>
     requires { field half 0 2 ≡ 0 }
     ensures { FindsOnly (IsHalf half) result }

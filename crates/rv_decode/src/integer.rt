@@ -60,7 +60,7 @@ fn shift_imm(word: u32) -> Option<Inst>
     }
 }
 
-/// An operation with an immediate, on 32 bits.
+/// An operation with an immediate on 32 bits.
 pub fn op_imm_32(word: u32) -> Option<Inst>
     requires { field word 0 7 ≡ OP_IMM_32 }
     ensures { FindsOnly (IsFull word) result }
@@ -83,7 +83,7 @@ pub fn op_imm_32(word: u32) -> Option<Inst>
     }
 }
 
-/// An operation on two registers, on 64 bits or on 32.
+/// An operation on two registers, on 64 or on 32 bits.
 pub fn op(word: u32) -> Option<Inst>
     requires { (field word 0 7 ≡ OP) ⊎ (field word 0 7 ≡ OP_32) }
     ensures { FindsOnly (IsFull word) result }

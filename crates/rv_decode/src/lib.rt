@@ -1,4 +1,4 @@
-//! Reads instructions of RV64IMC.
+//! Decodes instructions of RV64IMC.
 #![tactic(auto)]
 
 mod compressed;

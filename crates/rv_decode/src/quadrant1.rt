@@ -1,5 +1,5 @@
-// Quadrant 1 of the two-byte instructions: constants, arithmetic, jumps and branches. ISA manual, table
-// "RVC opcode map".
+// Decodes quadrant 1 of the two-byte instructions: constants, arithmetic, jumps and branches. ISA manual, table "RVC
+// opcode map".
 ghost use Rattle.std.specs.Prelude.{◌≡◌};
 ghost use Rattle.rv_code.specs.isa.Bits.{field};
 ghost use Rattle.rv_code.specs.isa.HalfRows.{IsHalf};
@@ -12,7 +12,7 @@ use crate::field::rd;
 use rv_code::field::{bits, sign};
 use rv_code::{Inst, STACK_POINTER, ZERO};
 
-/// The instruction of a halfword of quadrant 1, or None where no row has it.
+/// The instruction that a halfword of quadrant 1 encodes, or None if no row matches.
 pub fn quadrant1(half: u32) -> Option<Inst>
     requires { field half 0 2 ≡ 1 }
     ensures { FindsOnly (IsHalf half) result }
@@ -43,7 +43,7 @@ pub fn quadrant1(half: u32) -> Option<Inst>
     }
 }
 
-// C.ADDIW, which is reserved for x0.
+// C.ADDIW. It is reserved for x0.
 fn addiw(half: u32) -> Option<Inst>
     requires quadrant { field half 0 2 ≡ 1 }
     requires funct3 { field half 13 3 ≡ 1 }
@@ -60,7 +60,7 @@ fn addiw(half: u32) -> Option<Inst>
     })
 }
 
-// C.ADDI16SP where the register is the stack pointer, else C.LUI.
+// C.ADDI16SP if the register is the stack pointer, and C.LUI otherwise.
 fn upper_immediate(half: u32) -> Option<Inst>
     requires quadrant { field half 0 2 ≡ 1 }
     requires funct3 { field half 13 3 ≡ 3 }
@@ -98,7 +98,7 @@ fn addi16sp(half: u32) -> Option<Inst>
     })
 }
 
-// Arithmetic on one of the registers 8 to 15.
+// Arithmetic on a register from 8 to 15.
 fn arithmetic(half: u32) -> Option<Inst>
     requires quadrant { field half 0 2 ≡ 1 }
     requires funct3 { field half 13 3 ≡ 4 }
@@ -125,7 +125,7 @@ fn arithmetic(half: u32) -> Option<Inst>
     }
 }
 
-// Arithmetic on two of the registers 8 to 15.
+// Arithmetic on two registers from 8 to 15.
 fn arithmetic_pair(half: u32) -> Option<Inst>
     requires quadrant { field half 0 2 ≡ 1 }
     requires funct3 { field half 13 3 ≡ 4 }

@@ -1,5 +1,5 @@
-// Quadrant 2 of the two-byte instructions: shifts, the stack, jumps to registers and moves. ISA manual,
-// table "RVC opcode map".
+// Decodes quadrant 2 of the two-byte instructions: shifts, the stack, jumps to registers and moves. ISA manual, table
+// "RVC opcode map".
 ghost use Rattle.std.specs.Prelude.{◌≡◌, ◌⊎◌};
 ghost use Rattle.rv_code.specs.isa.Bits.{field};
 ghost use Rattle.rv_code.specs.isa.HalfRows.{IsHalf};
@@ -12,7 +12,7 @@ use crate::field::rd;
 use rv_code::field::bits;
 use rv_code::{Inst, RETURN_ADDRESS, STACK_POINTER, ZERO};
 
-/// The instruction of a halfword of quadrant 2, or None where no row has it.
+/// The instruction that a halfword of quadrant 2 encodes, or None if no row matches.
 pub fn quadrant2(half: u32) -> Option<Inst>
     requires { field half 0 2 ≡ 2 }
     ensures { FindsOnly (IsHalf half) result }
@@ -41,7 +41,7 @@ pub fn quadrant2(half: u32) -> Option<Inst>
     }
 }
 
-// C.LWSP or C.LDSP, which are reserved for x0.
+// C.LWSP or C.LDSP. They are reserved for x0.
 fn load_from_stack(half: u32) -> Option<Inst>
     requires quadrant { field half 0 2 ≡ 2 }
     requires funct3 { (field half 13 3 ≡ 2) ⊎ (field half 13 3 ≡ 3) }
@@ -66,7 +66,7 @@ fn load_from_stack(half: u32) -> Option<Inst>
     }
 }
 
-// C.MV or C.ADD, or, without a second register, a jump or C.EBREAK.
+// C.MV or C.ADD or, if there is no second register, a jump or C.EBREAK.
 fn register_pair(half: u32) -> Option<Inst>
     requires quadrant { field half 0 2 ≡ 2 }
     requires funct3 { field half 13 3 ≡ 4 }

@@ -1,8 +1,8 @@
--- What a decoder answers: the one instruction that is so, or None where no instruction is.
+-- The result of a decoder: the only instruction with a property, or None if no instruction has it.
 use Rattle.std.specs.Prelude.{◌≡◌, Option, Some, None}
 use Rattle.rv_code.specs.declared.inst.Inst.{Inst}
 
--- the instruction is so, and no other is
+-- The instruction has the property, and no other instruction has it.
 pub record IsOnlyInst (Is : Inst → Type 0) (inst : Inst) : Type 0 where
   pub found : Is inst
   pub only : (other : Inst) → Is other → other ≡ inst

@@ -1,4 +1,4 @@
--- The row that each exit has found.
+-- The row that matches at each exit.
 use Rattle.std.proofs.Common.{rules}
 use Rattle.rv_code.specs.isa.HalfRows.{C_ADDIW}
 use Rattle.rv_decode.proofs.quadrant1.addiw.Goals as goal

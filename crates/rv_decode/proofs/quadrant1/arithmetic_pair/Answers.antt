@@ -1,4 +1,4 @@
--- The row that each exit has found.
+-- The row that matches at each exit.
 use Rattle.std.proofs.Common.{rules}
 use Rattle.rv_code.specs.isa.HalfRows.{C_ADDW, C_AND, C_OR, C_SUB, C_SUBW, C_XOR}
 use Rattle.rv_decode.proofs.quadrant1.arithmetic_pair.Goals as goal

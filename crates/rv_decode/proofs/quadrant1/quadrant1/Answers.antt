@@ -1,4 +1,4 @@
--- The row that each exit has found.
+-- The row that matches at each exit.
 use Rattle.std.proofs.Common.{rules, arith}
 use Rattle.std.proofs.lemmas.Grind.{common_steps}
 use Rattle.rv_code.specs.isa.HalfRows.{C_ADDI, C_BEQZ, C_BNEZ, C_J, C_LI}

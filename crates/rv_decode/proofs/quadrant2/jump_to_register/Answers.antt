@@ -1,4 +1,4 @@
--- The row that each exit has found.
+-- The row that matches at each exit.
 use Rattle.std.proofs.Common.{rules}
 use Rattle.rv_code.specs.isa.HalfRows.{C_EBREAK, C_JALR, C_JR}
 use Rattle.rv_decode.proofs.quadrant2.jump_to_register.Goals as goal

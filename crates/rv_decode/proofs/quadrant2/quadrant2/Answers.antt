@@ -1,4 +1,4 @@
--- The row that each exit has found.
+-- The row that matches at each exit.
 use Rattle.std.proofs.Common.{rules}
 use Rattle.rv_code.specs.isa.HalfRows.{C_SDSP, C_SLLI, C_SWSP}
 use Rattle.rv_decode.proofs.quadrant2.quadrant2.Goals as goal
