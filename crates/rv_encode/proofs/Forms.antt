@@ -1,4 +1,4 @@
--- The halfwords of an instruction are those of its rows.
+-- The halfwords that encode an instruction are those of its rows.
 use Rattle.std.proofs.Common.{rules, ◌≡◌, ◌≢◌, ◌⊎◌, ℕ, Option, Some, None, inl, inr, refl, sym, subst}
 use Rattle.std.specs.Option.{option_or}
 use Rattle.rv_code.specs.isa.Bits.{field}
@@ -11,18 +11,18 @@ use Rattle.rv_code.specs.declared.inst.Inst.TheVariants.{Add, Sub, Xor, Or, And,
 use Rattle.rv_encode.specs.internal.SomeNumber.{Finds, FindsHalf}
 use Rattle.rv_encode.specs.internal.HalfForms.{IsRowOf, HasForm}
 
--- the first of two answers that isn't None
+-- The first of two results that isn't None.
 pub either : (P Q : ℕ → Type 0) (first second both : Option ℕ) → both ≡ option_or first second → Finds P first → Finds Q second →
     Finds (λ n. P n ⊎ Q n) both
 either P Q (Some n) second both is p q = subst (Finds (λ n. P n ⊎ Q n)) (sym is) (inl p)
 either P Q None (Some n) both is p q = subst (Finds (λ n. P n ⊎ Q n)) (sym is) (inr q)
 either P Q None None both is p q = subst (Finds (λ n. P n ⊎ Q n)) (sym is) (λ n h. elim h [ inl a ↦ p n a | inr b ↦ q n b ])
 
--- an answer for an instruction is one for an equal one
+-- The result for an instruction, used for an equal one.
 pub same : (result : Option ℕ) (inst other : Inst) → FindsHalf other result → other ≡ inst → FindsHalf inst result
 same result inst other found is = subst (λ i. FindsHalf i result) is found
 
--- a halfword of a row has the form of what it expands to
+-- A halfword of a row encodes the instruction that it expands to.
 form_of_row : (row : Row) (half : ℕ) → Matches row half → HasForm half (expansion row half)
 form_of_row C_ADDI4SPN half m = inr (record { matches = m; expands = refl })
 form_of_row C_LW half m = inl (record { opens = m; register_is = refl; base_is = refl; offset_is = refl })
@@ -99,6 +99,6 @@ half_of_form half (Subw rd rs1 rs2) p = (C_SUBW, p.opens, parts Subw p.rd_is p.r
 half_of_form half Ebreak p = of_row p
 half_of_form half _ p = absurd p
 
--- no halfword of a row begins a word of four bytes
+-- A halfword of a row is never the front of a four-byte word.
 pub not_full : (row : Row) (half : ℕ) → Matches row half → field half 0 2 ≢ 3
 not_full _ half m = search rules

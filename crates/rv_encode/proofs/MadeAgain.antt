@@ -1,4 +1,4 @@
--- An instruction made of its parts again.
+-- An instruction is determined by its parts.
 use Rattle.std.proofs.Common.{◌≡◌, refl, sym, ap, ◌∙◌, if◌then◌else◌}
 use Rattle.std.specs.Prelude.{◌==◌, nat_lt}
 use Rattle.rv_code.specs.declared.inst.Inst.{Inst}

@@ -1,5 +1,5 @@
--- Operands that an encoding holds, of the instructions that a rewriting changes: those with a distance,
--- and those with a part of an address.
+-- Operands that an encoding can hold, for the instructions that a rewrite changes: those with a distance, and those
+-- with a part of an address.
 use Rattle.std.specs.Prelude.{◌≡◌, ℕ, ◌<◌, ◌≤◌, ◌^◌, ℤ}
 use Rattle.rv_code.specs.isa.Reach.{IsWithin, Reaches}
 use Rattle.rv_code.specs.declared.inst.Inst.{Inst}
@@ -8,24 +8,24 @@ use Rattle.rv_code.specs.declared.inst.Inst.TheVariants.{Lw, Ld, Lbu, Lhu, Lwu, 
 use Rattle.rv_code.specs.declared.placed.Width.{Width}
 use Rattle.rv_code.specs.declared.placed.Width.TheVariants as width
 
--- two registers, and an immediate of 12 bits
+-- Two registers and a 12-bit immediate.
 pub record FitsTwo (first second : ℕ) (imm : ℤ) : Type 0 where
   pub first_is_register : first < 32
   pub second_is_register : second < 32
   pub is_within : IsWithin (2 ^ 11) imm
 
--- one register, and bits 31:12
+-- One register and an immediate in bits 31:12.
 pub record FitsUpper (rd : ℕ) (imm : ℤ) : Type 0 where
   pub is_register : rd < 32
   pub is_within : IsWithin (2 ^ 19) imm
 
--- a conditional branch of four bytes
+-- A four-byte conditional branch.
 pub record FitsBranch (rs1 rs2 : ℕ) (imm : ℤ) : Type 0 where
   pub rs1_is_register : rs1 < 32
   pub rs2_is_register : rs2 < 32
   pub reaches : Reaches (2 ^ 12) imm
 
--- a conditional branch of two bytes
+-- A two-byte conditional branch.
 pub record FitsHalfBranch (rs1 rs2 : ℕ) (imm : ℤ) : Type 0 where
   pub from_8 : 8 ≤ rs1
   pub to_15 : rs1 < 16
@@ -63,7 +63,7 @@ FitsHalf (Beq rs1 rs2 imm) = FitsHalfBranch rs1 rs2 imm
 FitsHalf (Bne rs1 rs2 imm) = FitsHalfBranch rs1 rs2 imm
 FitsHalf _ = ⊥
 
--- the instruction is one of these, and an encoding of the width holds its operands
+-- The instruction is one of these, and an encoding of the width can hold its operands.
 abbrev pub Fits : Width → Inst → Type 0
 Fits width.Full inst = FitsFull inst
 Fits width.Half inst = FitsHalf inst

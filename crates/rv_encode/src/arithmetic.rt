@@ -1,4 +1,4 @@
-// The two-byte shifts and computations on registers. ISA manual, sections 26.5.2 and 26.5.3.
+// Encodes two-byte shifts and computations on registers. ISA manual, sections 26.5.2 and 26.5.3.
 ghost use Rattle.std.specs.Prelude.{◌<◌};
 ghost use Rattle.rv_code.specs.isa.HalfRows.{C_SLLI, C_SRLI, C_SRAI, C_ANDI, C_MV, C_ADD};
 ghost use Rattle.rv_code.specs.declared.inst.Inst.TheVariants.{Slli, Srli, Srai, Andi, Add};
@@ -57,7 +57,7 @@ pub fn c_andi(rd: u8, rs1: u8, imm: i64) -> Option<u16>
     Some(arithmetic(2, rd, number))
 }
 
-/// C.SUB, C.XOR, C.OR, C.AND, C.SUBW or C.ADDW, by bit 12 and bits 6:5.
+/// C.SUB, C.XOR, C.OR, C.AND, C.SUBW or C.ADDW, selected by bit 12 and bits 6:5.
 pub fn arithmetic_pair(bit12: u32, funct2: u32, rd: u8, rs1: u8, rs2: u8) -> Option<u16>
     requires bit12 { bit12 < 2 }
     requires funct2 { funct2 < 4 }

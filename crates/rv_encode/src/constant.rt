@@ -1,4 +1,4 @@
-// The two-byte computations with a constant. ISA manual, sections 26.5.1 and 26.5.2.
+// Encodes two-byte computations with a constant. ISA manual, sections 26.5.1 and 26.5.2.
 ghost use Rattle.rv_code.specs.isa.HalfRows.{C_ADDI, C_ADDIW, C_LI, C_ADDI16SP, C_ADDI4SPN, C_LUI};
 ghost use Rattle.rv_code.specs.declared.inst.Inst.TheVariants.{Addi, Addiw, Lui};
 ghost use Rattle.rv_encode.specs.internal.SomeNumber.{FindsRow};
@@ -8,7 +8,7 @@ use crate::operand::{five_bits, multiple, three_bits, unsigned};
 use rv_code::field::bits;
 use rv_code::{STACK_POINTER, ZERO};
 
-/// C.ADDI, and C.NOP.
+/// C.ADDI or C.NOP.
 pub fn c_addi(rd: u8, rs1: u8, imm: i64) -> Option<u16>
     ensures { FindsRow C_ADDI (Addi rd rs1 imm) result }
 {

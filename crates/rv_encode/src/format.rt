@@ -1,7 +1,8 @@
-// Four-byte words by format. ISA manual, sections 2.2, 2.3 and 4.2.1.
+// Encodes four-byte words by format. ISA manual, sections 2.2, 2.3 and 4.2.1.
 //
-// A format's word is None where no word has these fields: where a register is none of the 32, or the
-// immediate is out of reach or not a multiple of its unit.
+// The result is None if no word has these fields: a register number is above 31, or the immediate is out of range or
+// not a
+// multiple of its unit.
 ghost use Rattle.std.specs.Prelude.{◌<◌, ◌^◌, IsSome};
 ghost use Rattle.rv_code.specs.isa.Reach.{IsWithin, Reaches};
 ghost use Rattle.rv_code.specs.isa.FullRows.{FormatR, FormatI, FormatS, FormatB, FormatU, FormatJ, Shift64, Shift32};
@@ -36,7 +37,7 @@ pub fn format_i(opcode: u32, funct3: u32, rd: u8, rs1: u8, imm: i64) -> Option<u
     Some(opcode + (rd << 7) + (funct3 << 12) + (rs1 << 15) + (number << 20))
 }
 
-/// A shift by an amount of six bits.
+/// A shift with a six-bit amount.
 pub fn shift_64(opcode: u32, funct3: u32, funct6: u32, rd: u8, rs1: u8, amount: i64) -> Option<u32>
     requires opcode { opcode < 2 ^ 7 }
     requires funct3 { funct3 < 2 ^ 3 }
@@ -49,7 +50,7 @@ pub fn shift_64(opcode: u32, funct3: u32, funct6: u32, rd: u8, rs1: u8, amount: 
     Some(opcode + (rd << 7) + (funct3 << 12) + (rs1 << 15) + (amount << 20) + (funct6 << 26))
 }
 
-/// A shift by an amount of five bits.
+/// A shift with a five-bit amount.
 pub fn shift_32(opcode: u32, funct3: u32, funct7: u32, rd: u8, rs1: u8, amount: i64) -> Option<u32>
     requires opcode { opcode < 2 ^ 7 }
     requires funct3 { funct3 < 2 ^ 3 }
@@ -107,7 +108,7 @@ pub fn format_b(opcode: u32, funct3: u32, rs1: u8, rs2: u8, imm: i64) -> Option<
     )
 }
 
-/// A word of format U; `imm` is bits 31:12 alone.
+/// A word of format U; `imm` is bits 31:12 as a signed number.
 pub fn format_u(opcode: u32, rd: u8, imm: i64) -> Option<u32>
     requires { opcode < 2 ^ 7 }
     ensures found { Finds (λ word. FormatU word opcode rd imm) result }

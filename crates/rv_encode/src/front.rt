@@ -1,4 +1,4 @@
-// Instructions of either width.
+// Encodes instructions of either width.
 ghost use Rattle.std.specs.Prelude.{◌≡◌, ℕ, Option, IsSome, IfSome, IfNone};
 ghost use Rattle.rv_encode.specs.FittingOperands.{Fits};
 ghost use Rattle.rv_code.specs.isa.InstBytes.{Decodes};
@@ -9,9 +9,9 @@ use crate::half::encode_half;
 use crate::word::Word;
 use rv_code::{Inst, Width};
 
-/// The word of an instruction in the width that is wanted. None where no word of that width is the
-/// instruction: the immediate is out of reach or odd, the form doesn't have the registers, or there is no
-/// such form. Where several halfwords are the instruction, it is any of them.
+/// A word of width `want` that encodes the instruction. None if there is no such word: the immediate is out of range or
+/// odd, the encoding can't hold the registers, or the instruction has no encoding of this width. If several halfwords
+/// encode the instruction, the result is one of them.
 pub fn encode(inst: &Inst, want: Width) -> Option<Word>
     ensures found { IfSome result (λ word. Encodes word inst.now) }
     ensures width { IfSome result (λ word. width_of word ≡ want) }

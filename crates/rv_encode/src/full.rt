@@ -1,4 +1,4 @@
-// Four-byte instructions.
+// Encodes four-byte instructions.
 ghost use Rattle.std.specs.Prelude.{◌≡◌, IsSome, IfSome};
 ghost use Rattle.rv_encode.specs.FittingOperands.{FitsFull};
 ghost use Rattle.rv_code.specs.isa.Bits.{field};
@@ -9,7 +9,7 @@ use crate::integer::encode_computation;
 use rv_code::Inst;
 use rv_code::opcode::{AUIPC, BRANCH, JAL, JALR, LOAD, LUI, MISC_MEM, STORE};
 
-/// The word of an instruction, or None where no word is it.
+/// The word that encodes an instruction, or None if there is none.
 pub fn encode_full(inst: &Inst) -> Option<u32>
     ensures found { FindsFull inst.now result }
     ensures not_compressed { IfSome result (λ word. field word 0 2 ≡ 3) }

@@ -1,4 +1,4 @@
-// Two-byte instructions.
+// Encodes two-byte instructions.
 ghost use Rattle.std.specs.Prelude.{IsSome};
 ghost use Rattle.rv_encode.specs.FittingOperands.{FitsHalf};
 ghost use Rattle.rv_encode.specs.internal.SomeNumber.{FindsHalf};
@@ -9,7 +9,7 @@ use crate::jump::{branch_on_zero, c_j, c_jalr, c_jr};
 use crate::memory::{access_double, access_word, c_ldsp, c_lwsp, c_sdsp, c_swsp};
 use rv_code::Inst;
 
-/// The halfword of an instruction, or None where no halfword is it. Of several rows it is the first that fits.
+/// The halfword that encodes an instruction, or None if there is none. Of several rows, the first that fits is used.
 pub fn encode_half(inst: &Inst) -> Option<u16>
     ensures found { FindsHalf inst.now result }
     ensures room { FitsHalf inst.now → IsSome result }

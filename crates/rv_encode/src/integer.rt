@@ -1,4 +1,4 @@
-// Integer computations of four bytes. ISA manual, sections 2.4, 4.2, 13.1 and 13.2.
+// Encodes four-byte integer computations. ISA manual, sections 2.4, 4.2, 13.1 and 13.2.
 ghost use Rattle.std.specs.Prelude.{◌≡◌, IsSome, IfSome};
 ghost use Rattle.rv_code.specs.isa.Bits.{field};
 ghost use Rattle.rv_encode.specs.FittingOperands.{FitsFull};
@@ -9,7 +9,7 @@ use crate::format::{format_i, format_r, shift_32, shift_64};
 use rv_code::Inst;
 use rv_code::opcode::{OP, OP_32, OP_IMM, OP_IMM_32};
 
-/// The word of a computation, with an immediate or of two registers.
+/// The word of a computation, with an immediate or on two registers.
 pub fn encode_computation(inst: &Inst) -> Option<u32>
     requires { IsComputation inst.now }
     ensures found { FindsFull inst.now result }
@@ -34,7 +34,7 @@ pub fn encode_computation(inst: &Inst) -> Option<u32>
     }
 }
 
-// The word of a computation of two registers.
+// The word of a computation on two registers.
 fn encode_register_computation(inst: &Inst) -> Option<u32>
     requires { IsRegisterComputation inst.now }
     ensures found { FindsFull inst.now result }

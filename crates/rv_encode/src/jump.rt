@@ -1,4 +1,4 @@
-// The two-byte jumps and branches. ISA manual, section 26.4.
+// Encodes two-byte jumps and branches. ISA manual, section 26.4.
 ghost use Rattle.std.specs.Prelude.{◌≡◌, ◌<◌, ◌≤◌, ◌^◌, IsSome};
 ghost use Rattle.rv_code.specs.isa.Reach.{Reaches};
 ghost use Rattle.rv_code.specs.isa.HalfRows.{C_J, C_JR, C_JALR};
@@ -36,7 +36,7 @@ pub fn c_j(rd: u8, imm: i64) -> Option<u16>
     Some(half as u16)
 }
 
-/// C.BEQZ or C.BNEZ, by funct3.
+/// C.BEQZ or C.BNEZ, selected by funct3.
 pub fn branch_on_zero(funct3: u32, rs1: u8, rs2: u8, imm: i64) -> Option<u16>
     requires { funct3 < 8 }
     ensures found { Finds (λ half. ComparesWithZero half funct3 rs1 rs2 imm) result }

@@ -1,10 +1,10 @@
-// Halfwords whose layout several rows share. ISA manual, section 26.2.
+// Halfwords with a layout that several rows share. ISA manual, section 26.2.
 ghost use Rattle.std.specs.Prelude.{◌<◌, ◌+◌};
 ghost use Rattle.rv_encode.specs.internal.HalfForms.{HasSixBits, HasArithmetic, HasRegisters};
 
 use rv_code::field::bits;
 
-/// Shifts and computations with a constant: a register in bits 11:7, and a number of six bits in bits 12 and 6:2.
+/// Shifts and computations with a constant: a register in bits 11:7, and a six-bit number in bits 12 and 6:2.
 pub fn six_bits(quadrant: u32, funct3: u32, register: u32, number: u32) -> u16
     requires quadrant { quadrant < 4 }
     requires funct3 { funct3 < 8 }
@@ -20,8 +20,8 @@ pub fn six_bits(quadrant: u32, funct3: u32, register: u32, number: u32) -> u16
     half as u16
 }
 
-/// C.SRLI, C.SRAI and C.ANDI, told apart by bits 11:10: one of the registers 8 to 15, as a number from 0 to 7, and a
-/// number of six bits in bits 12 and 6:2.
+/// C.SRLI, C.SRAI and C.ANDI, selected by bits 11:10: a register from 8 to 15, as a number from 0 to 7, and a six-bit
+/// number in bits 12 and 6:2.
 pub fn arithmetic(kind: u32, register: u32, number: u32) -> u16
     requires kind { kind < 4 }
     requires register { register < 8 }
@@ -37,7 +37,7 @@ pub fn arithmetic(kind: u32, register: u32, number: u32) -> u16
     half as u16
 }
 
-/// C.JR and C.MV, or C.JALR and C.ADD, told apart by bit 12: a register in bits 11:7 and another in bits 6:2.
+/// C.JR and C.MV, or C.JALR and C.ADD, selected by bit 12: a register in bits 11:7 and another in bits 6:2.
 pub fn registers(bit12: u32, first: u32, second: u32) -> u16
     requires bit12 { bit12 < 2 }
     requires first { first < 32 }

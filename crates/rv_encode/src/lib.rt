@@ -1,4 +1,4 @@
-//! Writes instructions of RV64IMC.
+//! Encodes instructions of RV64IMC.
 #![tactic(auto)]
 
 mod arithmetic;

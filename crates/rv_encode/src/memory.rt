@@ -1,4 +1,4 @@
-// The two-byte loads and stores. ISA manual, section 26.3.
+// Encodes two-byte loads and stores. ISA manual, section 26.3.
 ghost use Rattle.std.specs.Prelude.{◌≡◌, ◌≢◌, ◌⊎◌, ◌<◌, ◌≤◌, IfSome, IfNone};
 ghost use Rattle.rv_code.specs.isa.HalfRows.{C_LWSP, C_LDSP, C_SWSP, C_SDSP};
 ghost use Rattle.rv_code.specs.declared.inst.Inst.TheVariants.{Lw, Ld, Sw, Sd};
@@ -9,7 +9,7 @@ use crate::operand::{five_bits, multiple, three_bits};
 use rv_code::field::bits;
 use rv_code::{STACK_POINTER, ZERO};
 
-/// C.LW or C.SW, by funct3.
+/// C.LW or C.SW, selected by funct3.
 pub fn access_word(funct3: u32, register: u8, base: u8, imm: i64) -> Option<u16>
     requires { funct3 < 8 }
     ensures { Finds (λ half. AccessesWord half funct3 register base imm) result }
@@ -26,7 +26,7 @@ pub fn access_word(funct3: u32, register: u8, base: u8, imm: i64) -> Option<u16>
     Some(half as u16)
 }
 
-/// C.LD or C.SD, by funct3.
+/// C.LD or C.SD, selected by funct3.
 pub fn access_double(funct3: u32, register: u8, base: u8, imm: i64) -> Option<u16>
     requires { funct3 < 8 }
     ensures { Finds (λ half. AccessesDouble half funct3 register base imm) result }
@@ -42,8 +42,8 @@ pub fn access_double(funct3: u32, register: u8, base: u8, imm: i64) -> Option<u1
     Some(half as u16)
 }
 
-// The register of a load whose base is the stack pointer, in a field of five bits. None for x0, which such a load
-// doesn't take.
+// The destination of a load relative to the stack pointer, in a five-bit field. None for x0, which these loads don't
+// take, and if the base isn't the stack pointer.
 fn loaded_from_stack(rd: u8, rs1: u8) -> Option<u32>
     ensures found { IfSome result (λ n. (n < 32) × (n ≡ rd)) }
     ensures base { IfSome result (λ n. (rs1 ≡ 2) × (rd ≢ 0)) }

@@ -1,10 +1,10 @@
-// Operands as the numbers of their fields.
+// Operands as the numbers in their fields.
 ghost use Rattle.std.specs.Prelude.{◌≡◌, ◌≢◌, ◌⊎◌, ◌<◌, ◌≤◌, ◌+◌, ◌*◌, ◌^◌, ◌<ℤ◌, ◌≤ℤ◌, ℕ, pos, IsSome, IfSome, IfNone};
 ghost use Rattle.rv_code.specs.isa.Reach.{IsWithin};
 ghost use Rattle.std.specs.Int.RustNames.{int_rem};
 ghost use Rattle.rv_code.specs.isa.Bits.{signed_by};
 
-/// `imm` in two's complement, for a field whose highest bit is worth `weight`; None where it doesn't fit.
+/// `imm` in two's complement, for a field whose highest bit has the value `weight`. None if it doesn't fit.
 pub fn unsigned(imm: i64, weight: u32) -> Option<u32>
     requires { weight < 2 ^ 31 }
     ensures below { IfSome result (λ n. n < 2 * weight) }
@@ -20,8 +20,8 @@ pub fn unsigned(imm: i64, weight: u32) -> Option<u32>
     Some(number as u32)
 }
 
-/// `imm` as the number of a field, if it is a multiple of `unit` from 0 to before `end`. No form has an `end` above
-/// 1024, that of C.ADDI4SPN.
+/// `imm` as the number in a field, if it is a multiple of `unit` from 0 to before `end`. The greatest `end` of an
+/// encoding is 1024, for C.ADDI4SPN.
 pub fn multiple(imm: i64, unit: i64, end: i64) -> Option<u32>
     requires unit { pos 0 <ℤ unit }
     requires end { end ≤ℤ pos 1024 }
@@ -36,7 +36,7 @@ pub fn multiple(imm: i64, unit: i64, end: i64) -> Option<u32>
     Some(imm as u32)
 }
 
-/// A register in a field of five bits, or None where there is no such register.
+/// A register in a five-bit field, or None if there is no such register.
 pub fn five_bits(register: u8) -> Option<u32>
     ensures found { IfSome result (λ n. (n < 32) × (n ≡ register)) }
     ensures none { IfNone result (32 ≤ register) }
@@ -47,7 +47,7 @@ pub fn five_bits(register: u8) -> Option<u32>
     Some(register as u32)
 }
 
-/// One of the registers 8 to 15 in a field of three bits, or None for any other.
+/// A register from 8 to 15 in a three-bit field, or None for other registers.
 pub fn three_bits(register: u8) -> Option<u32>
     ensures found { IfSome result (λ n. (n < 8) × (8 + n ≡ register)) }
     ensures none { IfNone result ((register < 8) ⊎ (16 ≤ register)) }

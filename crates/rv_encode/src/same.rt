@@ -1,11 +1,11 @@
-// Equality of instructions. A derived `==` has no clause for an enum of so many variants, so they are compared by parts
-// that a struct has.
+// Equality of instructions. A derived `==` has no contract for an enum of this many variants, so instructions are
+// converted to a struct and compared by its fields.
 ghost use Rattle.std.specs.Prelude.{◌≡◌, ◌↔◌, IsTrue};
 ghost use Rattle.rv_encode.specs.internal.PartsOfInst.{parts_of};
 
 use rv_code::Inst;
 
-/// An instruction as its number in the order of [`Inst`], its registers and its immediate. What it doesn't have is 0.
+/// An instruction as its number in the order of [`Inst`], its registers and its immediate. Missing operands are 0.
 #[derive(Clone, Copy, PartialEq, Eq)]
 pub struct InstParts {
     pub number: u8,
@@ -105,7 +105,7 @@ fn are_same_parts(a: &InstParts, b: &InstParts) -> bool
     *a == *b
 }
 
-/// Whether two instructions are the same, operands included.
+/// Whether two instructions are equal, including their operands.
 pub fn is_same(a: &Inst, b: &Inst) -> bool
     ensures { IsTrue result ↔ (a.now ≡ b.now) }
 {

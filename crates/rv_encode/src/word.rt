@@ -1,10 +1,10 @@
 // Encoded instructions.
 
-/// An instruction's bits.
+/// The bits of an instruction.
 #[derive(Clone, Copy, PartialEq, Eq, Debug)]
 pub enum Word {
-    /// The halfword of a compressed form.
+    /// The halfword of a compressed instruction.
     Half(u16),
-    /// The word of a four-byte form; its low 16 bits come first in memory.
+    /// The word of a four-byte instruction. Its low 16 bits come first in memory.
     Full(u32),
 }

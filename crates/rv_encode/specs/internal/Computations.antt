@@ -1,4 +1,4 @@
--- The instructions that compute a register's new value.
+-- Instructions that compute the new value of a register.
 use Rattle.rv_code.specs.isa.Action.{action_of}
 use Rattle.rv_code.specs.declared.inst.Inst.{Inst}
 use Rattle.rv_code.specs.declared.action.Operand.TheVariants.{Register}
@@ -16,6 +16,6 @@ ComputesOfRegisters _ = ⊥
 abbrev pub IsComputation : Inst → Type 0
 IsComputation inst = Computes (action_of inst)
 
--- one that takes its values from registers alone
+-- The instruction computes a value from registers only.
 abbrev pub IsRegisterComputation : Inst → Type 0
 IsRegisterComputation inst = ComputesOfRegisters (action_of inst)

@@ -1,4 +1,4 @@
--- The halfwords of each instruction: one case an instruction, where `IsHalf` has one a row.
+-- The halfwords that encode each instruction. There is one case for each instruction; `IsHalf` has one for each row.
 use Rattle.std.specs.Prelude.{◌≡◌, ◌⊎◌, ℕ, ℤ, pos}
 use Rattle.rv_code.specs.isa.Bits.{signed}
 use Rattle.rv_code.specs.isa.HalfRows.{Row, Matches, expansion, Opens, OpensArithmetic, OpensPair, OpensJump, rd, rs2}
@@ -10,62 +10,62 @@ use Rattle.rv_code.specs.declared.inst.Inst.{Inst}
 use Rattle.rv_code.specs.declared.inst.Inst.TheVariants.{Lui, Jal, Jalr, Beq, Bne, Lw, Ld, Sw, Sd, Addi, Andi, Slli}
 use Rattle.rv_code.specs.declared.inst.Inst.TheVariants.{Srli, Srai, Add, Sub, Xor, Or, And, Addiw, Addw, Subw, Ebreak}
 
--- the halfword is one of the row, and the row expands it to this instruction
+-- The halfword belongs to the row, and the row expands it to this instruction.
 pub record IsRowOf (row : Row) (half : ℕ) (inst : Inst) : Type 0 where
   pub matches : Matches row half
   pub expands : inst ≡ expansion row half
 
 -- Fields that several rows share. ISA manual, section 26.2.
 
--- a register, and a number of six bits
+-- A register and a six-bit number.
 pub record HasSixBits (half quadrant funct3 register number : ℕ) : Type 0 where
   pub opens : Opens half quadrant funct3
   pub register_is : rd half ≡ register
   pub number_is : six_bits half ≡ number
 
--- arithmetic on one of the registers 8 to 15, with a number of six bits
+-- Arithmetic on a register from 8 to 15 and a six-bit number.
 pub record HasArithmetic (half kind register number : ℕ) : Type 0 where
   pub opens : OpensArithmetic half kind
   pub register_is : upper_register half ≡ register
   pub number_is : six_bits half ≡ number
 
--- two registers
+-- Two registers.
 pub record HasRegisters (half bit12 first second : ℕ) : Type 0 where
   pub opens : OpensJump half bit12
   pub first_is : rd half ≡ first
   pub second_is : rs2 half ≡ second
 
--- Rows that differ in nothing but their opcodes.
+-- Rows that only differ in their opcodes.
 
--- arithmetic on two of the registers 8 to 15
+-- Arithmetic on two registers from 8 to 15.
 pub record IsPairOf (half bit12 funct2 rd rs1 rs2 : ℕ) : Type 0 where
   pub opens : OpensPair half bit12 funct2
   pub rd_is : upper_register half ≡ rd
   pub rs1_is : upper_register half ≡ rs1
   pub rs2_is : lower_register half ≡ rs2
 
--- a load or store of a word, at an offset from one of the registers 8 to 15
+-- A load or store of a word, relative to a register from 8 to 15.
 pub record AccessesWord (half funct3 register base : ℕ) (offset : ℤ) : Type 0 where
   pub opens : Opens half 0 funct3
   pub register_is : lower_register half ≡ register
   pub base_is : upper_register half ≡ base
   pub offset_is : pos (word_offset half) ≡ offset
 
--- the same of a doubleword
+-- A load or store of a doubleword, relative to a register from 8 to 15.
 pub record AccessesDouble (half funct3 register base : ℕ) (offset : ℤ) : Type 0 where
   pub opens : Opens half 0 funct3
   pub register_is : lower_register half ≡ register
   pub base_is : upper_register half ≡ base
   pub offset_is : pos (double_offset half) ≡ offset
 
--- a branch that compares one of the registers 8 to 15 with zero
+-- A branch that compares a register from 8 to 15 with zero.
 pub record ComparesWithZero (half funct3 rs1 rs2 : ℕ) (imm : ℤ) : Type 0 where
   pub opens : Opens half 1 funct3
   pub rs1_is : upper_register half ≡ rs1
   pub rs2_is : 0 ≡ rs2
   pub imm_is : signed 8 (branch_offset half) ≡ imm
 
--- the halfword is this instruction
+-- The halfword encodes the instruction.
 abbrev pub HasForm : ℕ → Inst → Type 0
 HasForm half (Lui rd imm) = IsRowOf C_LUI half (Lui rd imm)
 HasForm half (Jal rd imm) = IsRowOf C_J half (Jal rd imm)

@@ -1,4 +1,4 @@
--- Instructions as numbers.
+-- Instructions as a number, registers and an immediate.
 use Rattle.std.specs.Prelude.{ℕ, ℤ, pos}
 use Rattle.rv_code.specs.declared.inst.Inst.{Inst}
 use Rattle.rv_code.specs.declared.inst.Inst.TheVariants.{Lui, Auipc, Jal, Jalr, Beq, Bne, Blt, Bge, Bltu, Bgeu, Lb, Lh}

@@ -1,4 +1,4 @@
--- What a search answers: a number that is so, or None where no number is.
+-- The result of a search: a number with a property, or None if no number has it.
 use Rattle.std.specs.Prelude.{ℕ, Option, Some, None}
 use Rattle.rv_code.specs.isa.FullRows.{IsFull}
 use Rattle.rv_code.specs.isa.HalfRows.{Row}
@@ -9,14 +9,14 @@ abbrev pub Finds : (ℕ → Type 0) → Option ℕ → Type 0
 Finds Is (Some n) = Is n
 Finds Is None = (n : ℕ) → Is n → ⊥
 
--- the word of an instruction
+-- A word that encodes the instruction.
 abbrev pub FindsFull : Inst → Option ℕ → Type 0
 FindsFull inst answer = Finds (λ word. IsFull word inst) answer
 
--- the halfword of an instruction
+-- A halfword that encodes the instruction.
 abbrev pub FindsHalf : Inst → Option ℕ → Type 0
 FindsHalf inst answer = Finds (λ half. HasForm half inst) answer
 
--- its halfword of one row
+-- A halfword of one row that encodes the instruction.
 abbrev pub FindsRow : Row → Inst → Option ℕ → Type 0
 FindsRow row inst answer = Finds (λ half. IsRowOf row half inst) answer

@@ -4,7 +4,7 @@ use Rattle.rv_code.specs.declared.inst.Inst.{Inst}
 use Rattle.rv_encode.proofs.Forms.{form_of_half, half_of_form, not_full}
 use Rattle.rv_encode.proofs.front.encode.Goals as goal
 
--- where no word is the instruction, no two halfwords are
+-- If no word encodes the instruction, no two halfwords do.
 no_full : (next : Option ℕ) (half : ℕ) (inst : Inst) → ((word : ℕ) → IsFull word inst → ⊥) →
     IsSomeAnd next (λ upper. IsFull (upper * 2 ^ 16 + half) inst) → ⊥
 no_full (Some upper) half inst none row = none (upper * 2 ^ 16 + half) row

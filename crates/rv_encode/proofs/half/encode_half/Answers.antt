@@ -7,7 +7,7 @@ use Rattle.rv_encode.specs.internal.HalfForms.{HasForm}
 use Rattle.rv_encode.proofs.Forms.{either, same}
 use Rattle.rv_encode.proofs.half.encode_half.Goals as goal
 
--- how an immediate shows in what a callee ensures
+-- An immediate as the callee's contract shows it.
 abbrev passed : ℤ → ℤ
 passed imm = to_z w64 (of_z w64 imm)
 
