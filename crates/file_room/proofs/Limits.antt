@@ -1,4 +1,4 @@
--- The limit of the new area behind the executable segment lies below each segment at or above an address.
+-- The limit of the new area after the executable segment is below each segment at or above an address.
 use Rattle.std.proofs.Common.{ℕ, zero, suc, ◌≡◌, ◌≤◌, ◌<◌, refl, List, [], ◌∷◌, Bool, true, false, IsTrue, length, get_or, min, arith}
 use Rattle.std.specs.Prelude.{fold, ◌&&◌, nat_le}
 use Rattle.std.proofs.lemmas.Bool.{and_from, le-leb}
@@ -7,12 +7,12 @@ use Rattle.elf_image.specs.memory.Break.{page_size, rounded_down}
 use Rattle.elf_image.specs.memory.Image.{is_load}
 use Rattle.file_room.specs.Room.{pages_from}
 
--- the least of numbers is at or below where it begins, and below more numbers no higher
+-- A fold of minima is at most its start value.
 pub fold-min-le : (xs : List ℕ) (a : ℕ) → fold min a xs ≤ a
 fold-min-le [] a = omega arith
 fold-min-le (x ∷ xs) a = let rest : fold min (min a x) xs ≤ min a x = fold-min-le xs (min a x) in omega arith
 
--- the limit is at or below each segment at or above an address
+-- The limit is at or below each segment that starts at or above an address.
 pub limit-below : (end : ℕ) (ps : List Segment) (top k : ℕ) (d : Segment) → k < length ps → IsTrue (is_load (get_or ps k d)) →
     end ≤ (get_or ps k d).vaddr → fold min top (pages_from end ps) ≤ (get_or ps k d).vaddr
 limit-below end [] top k d below load above = absurd (omega arith)

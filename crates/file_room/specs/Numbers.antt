@@ -1,6 +1,6 @@
--- Numbers of 64 bits.
+-- 64-bit numbers.
 use Rattle.std.specs.Prelude.{ℕ, ◌-◌, ◌^◌, min}
 
--- as far as 64 bits can say it
+-- The number, saturated at 2^64 - 1.
 abbrev pub capped : ℕ → ℕ
 capped n = min n (2 ^ 64 - 1)

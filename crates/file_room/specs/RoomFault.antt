@@ -1,16 +1,15 @@
--- The fault of a file in which the new area has room in neither place.
+-- The fault of a file that has no room for the new area in either place.
 use Rattle.std.specs.Prelude.{ℕ, ◌-◌, ◌^◌, ◌&&◌, nat_lt, if◌then◌else◌, Bool, List, Option, Some, None, min}
 use Rattle.rb_bytes.specs.declared.fault.Fault.{Fault}
 use Rattle.rb_bytes.specs.declared.fault.FaultKind.TheVariants as fault
 use Rattle.elf_image.specs.declared.segment.Segment.{Segment}
 use Rattle.file_room.specs.Room.{is_tight, area_above, room_above}
 
--- the area needs more bytes than there are, in either place
+-- The area needs more bytes than either place has.
 abbrev pub has_no_room : List Segment → ℕ → Bool
 has_no_room segments need = is_tight segments need && nat_lt (room_above segments) need
 
--- The fault speaks of the segment of its own.
--- An address that doesn't fit 64 bits is given as the highest that does.
+-- The fault reports the address and the room of the new segment. The address is saturated at 2^64 - 1.
 abbrev pub no_room_place : List Segment → ℕ
 no_room_place segments = min (area_above segments) (2 ^ 64 - 1)
 

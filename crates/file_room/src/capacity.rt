@@ -1,4 +1,4 @@
-// How much room the new area has.
+// The room for the new area.
 ghost use Rattle.std.specs.Prelude.{◌≡◌, ◌+◌, ◌-◌, ◌^◌, ◌<◌, IfSome, Some};
 ghost use Rattle.elf_image.specs.memory.CodeSegment.{executable_end};
 ghost use Rattle.file_room.specs.Room as spec;
@@ -12,10 +12,10 @@ use elf_image::start::{BREAK_ROOM, PAGE_SIZE, writable_end};
 use elf_image::{Elf, Segment};
 use rb_bytes::fault::{Fault, FaultKind};
 
-/// The new area starts at a multiple of this.
+/// The alignment of the start of the new area.
 pub const AREA_ALIGN: u64 = 16;
 
-// The address at which the executable segment ends, or 0 where there is none.
+// The address at which the executable segment ends, or 0 if there is none.
 fn code_end(segments: &[Segment]) -> u128
     ensures end { result ≡ spec.code_end segments.now }
     ensures low { result < 2 ^ 65 }
@@ -26,7 +26,7 @@ fn code_end(segments: &[Segment]) -> u128
     }
 }
 
-/// Where the new area starts behind the executable segment.
+/// The start address of the new area after the executable segment.
 pub fn area_start(segments: &[Segment]) -> u128
     ensures { result ≡ spec.area_start segments.now }
 {
@@ -46,7 +46,7 @@ fn limit_above(segments: &[Segment], end: u128) -> u64
     limit
 }
 
-// How many bytes there are from `start` to before `end`.
+// The number of bytes from `start` to before `end`.
 fn bytes_between(start: u128, end: u64) -> u64
     ensures { result ≡ end - start }
 {
@@ -57,7 +57,7 @@ fn bytes_between(start: u128, end: u64) -> u64
     }
 }
 
-// Where the executable segment ends in the file, or 0 where there is none.
+// The file offset at which the executable segment ends, or 0 if there is none.
 fn file_end(segments: &[Segment]) -> u128
     ensures { result ≡ executable_end segments.now }
 {
@@ -67,8 +67,8 @@ fn file_end(segments: &[Segment]) -> u128
     }
 }
 
-/// How many bytes the new area can have behind the executable segment. There are none behind one that ends within the
-/// file's header, over which the area would stand.
+/// The number of bytes available for the new area after the executable segment. It is 0 if that segment ends within the
+/// file header, which the area would overwrite.
 pub fn room(elf: &Elf) -> u64
     ensures { result ≡ spec.room elf.now.segments.items }
 {
@@ -79,7 +79,7 @@ pub fn room(elf: &Elf) -> u64
     bytes_between(area_start(&elf.segments), limit)
 }
 
-/// The greatest alignment of the loaded segments, at least that of a page.
+/// The greatest alignment of the loaded segments, at least the page size.
 pub fn greatest_align(segments: &[Segment]) -> u64
     ensures greatest { result ≡ spec.greatest_align segments.now }
     ensures some { 0 < result }
@@ -106,7 +106,7 @@ fn highest_end(segments: &[Segment]) -> u128
     end
 }
 
-// The address that the break never reaches, or 0 where no segment may be written.
+// The address that the program break never exceeds, or 0 if no segment is writable.
 fn break_end(segments: &[Segment]) -> u128
     ensures end { result ≡ spec.break_end segments.now }
     ensures low { result < 2 ^ 65 + 2 ^ 27 }
@@ -118,7 +118,7 @@ fn break_end(segments: &[Segment]) -> u128
     rounded_up(PAGE_SIZE, end) + BREAK_ROOM as u128
 }
 
-/// Where a segment for the new area alone starts: above all others and the break.
+/// The start address of a new segment for the new area: above all others and the break.
 pub fn new_segment_start(segments: &[Segment]) -> u128
     ensures start { result ≡ spec.new_segment_start segments.now }
     ensures low { result < 2 ^ 65 + 2 ^ 64 + 2 ^ 27 }
@@ -127,8 +127,8 @@ pub fn new_segment_start(segments: &[Segment]) -> u128
     rounded_up(greatest_align(segments), end)
 }
 
-/// Where the new area starts in a segment of its own: behind the table of program headers, which moves there with one
-/// more.
+/// The start address of the new area in a new segment: after the table of program headers, which is moved to the new
+/// segment and has one more entry.
 pub fn area_above(segments: &[Segment]) -> u128
     ensures { result ≡ spec.area_above segments.now }
 {
@@ -136,21 +136,21 @@ pub fn area_above(segments: &[Segment]) -> u128
     rounded_up(AREA_ALIGN, new_segment_start(segments) + table)
 }
 
-/// How many bytes the new area can have in a segment of its own.
+/// The number of bytes available for the new area in a new segment.
 pub fn room_above(elf: &Elf) -> u64
     ensures { result ≡ spec.room_above elf.now.segments.items }
 {
     bytes_between(area_above(&elf.segments), ADDRESS_END)
 }
 
-/// Whether a file is tight: a new area of `need` bytes has no room behind the executable segment.
+/// Whether a file is tight: `need` bytes don't fit after the executable segment.
 pub fn is_tight(elf: &Elf, need: u64) -> bool
     ensures { result ≡ spec.is_tight elf.now.segments.items need }
 {
     room(elf) < need
 }
 
-/// The fault `NoRoom`, exactly where a new area of `need` bytes has room in neither place.
+/// The fault `NoRoom`, if `need` bytes fit neither after the executable segment nor in a new segment.
 pub fn no_room(elf: &Elf, need: u64) -> Option<Fault>
     ensures { result ≡ fault.no_room elf.now.segments.items need }
 {
@@ -166,8 +166,8 @@ pub fn no_room(elf: &Elf, need: u64) -> Option<Fault>
     })
 }
 
-/// Where the new area starts: in a segment of its own if the file is `tight`, and else behind the executable segment.
-/// None where that is 0, or an address that doesn't fit 64 bits.
+/// The start address of the new area: in a new segment if the file is `tight`, and otherwise after the executable
+/// segment. None if that address is 0 or doesn't fit 64 bits.
 pub fn area_start_of(segments: &[Segment], tight: bool) -> Option<u64>
     ensures start { IfSome result (λ start. start ≡ spec.area_start_of segments.now tight) }
     ensures some { IfSome result (λ start. 0 < start) }

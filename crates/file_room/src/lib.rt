@@ -1,5 +1,5 @@
-//! The room that a file has for new code and its tables: behind its executable segment, or above all others; and where
-//! these start.
+//! The room that a file has for new code and its tables, after its executable segment or above all segments, and the
+//! start addresses of both.
 #![tactic(auto)]
 
 mod capacity;

@@ -1,4 +1,4 @@
-// Numbers rounded up, and numbers of 64 bits.
+// Rounds numbers up, and saturates them at 64 bits.
 ghost use Rattle.std.specs.Prelude.{◌≡◌, ◌+◌, ◌^◌, ◌<◌, ◌≤◌};
 ghost use Rattle.elf_image.specs.memory.Break.{rounded_up};
 ghost use Rattle.file_room.specs.Numbers.{capped};
@@ -15,7 +15,7 @@ pub fn rounded_up(unit: u64, n: u128) -> u128
     (n + (unit - 1)) / unit * unit
 }
 
-/// `n`, or the greatest number of 64 bits where `n` is greater.
+/// `n`, saturated at 2^64 - 1.
 pub fn capped(n: u128) -> u64
     ensures { result ≡ capped n }
 {
