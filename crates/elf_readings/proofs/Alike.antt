@@ -1,4 +1,4 @@
--- Files that were read twice: what both readings have alike. They differ in where their names and lists stand in memory.
+-- Fields that two readings of a file share. Only the memory addresses of names and lists differ.
 use Rattle.std.proofs.Common.{◌≡◌, ◌∙◌, sym, ap, ℕ, ◌<◌, List, Option, length, get_or, map, arith}
 use Rattle.std.specs.Prelude.{Contains, Any}
 use Rattle.std.proofs.lemmas.List.{get_or-map, length-map}
@@ -9,7 +9,7 @@ use Rattle.elf_image.specs.declared.symbol.Symbol.{Symbol}
 use Rattle.elf_image.specs.memory.LoadedBytes.{byte_at}
 use Rattle.elf_image.specs.memory.Image.{image_byte}
 
--- with a name that stands nowhere
+-- The section, with a name that has no address.
 abbrev pub bare : Section → Section
 bare s = record s { name = record s.name { ref_ptr = (0, 0) } }
 
@@ -36,7 +36,7 @@ back e e' a = record {
   symbols = sym a.symbols;
 }
 
--- Lists that are alike.
+-- Lists that agree.
 
 pub contains_alike : {X Y : Type 0} (f : X → Y) (xs ys : List X) → map f xs ≡ map f ys → (x : X) → Contains xs x →
     (y : X) × Contains ys y × (f x ≡ f y)
@@ -54,7 +54,7 @@ any_alike f P carry xs ys e (k, x, within, is, p) =
     let (y, (j, inside, at), same) = contains_alike f xs ys e x (k, within, is) in
     (j, y, inside, at, carry x y same p)
 
--- Memory is the same.
+-- The memory is the same.
 pub memory : (e e' : Elf) → Alike e e' → byte_at e ≡ byte_at e'
 memory e e' a =
     ap {B = ℕ → Option ℕ} (λ file. image_byte file e.segments.items) a.file

@@ -1,4 +1,4 @@
--- What doesn't fit of a relocation doesn't depend on the reading.
+-- Misfits of relocations don't depend on the reading.
 use Rattle.std.proofs.Common.{◌≡◌, ◌∙◌, sym, ap, subst, refl, ℕ, ◌≤◌, inl, inr, List, Option, IsTrue, IsFalse, length}
 use Rattle.std.specs.Prelude.{ℤ, pos, IsSomeAnd}
 use Rattle.std.proofs.lemmas.List.{length-map}

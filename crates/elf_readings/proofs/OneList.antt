@@ -1,4 +1,4 @@
--- Of a set there is one ascending list.
+-- A set has at most one ascending list.
 use Rattle.std.proofs.Common.{◌≡◌, ◌∙◌, sym, ap, subst, refl, ℕ, zero, suc, ◌<◌, ◌⊎◌, inl, inr, ⊎_elim, List, [], ◌∷◌, map, arith}
 use Rattle.std.specs.Prelude.{Contains, AllPairs}
 use Rattle.rb_bytes.proofs.Members.{Contains-cons_cases, Contains-there}

@@ -1,4 +1,4 @@
--- Two readings of one file are alike, so what is said of its code holds of either.
+-- Two readings of one file agree, so statements on its code hold for either.
 use Rattle.std.proofs.Common.{◌≡◌, ◌∙◌, sym, ap, refl, ℕ, suc, List, [], ◌∷◌, Option, Some, None, length, map, arith}
 use Rattle.std.specs.List.{slice_get}
 use Rattle.std.proofs.lemmas.List.{length-map, map-id}
@@ -25,7 +25,7 @@ use Rattle.elf_readings.proofs.Functions.{code_address_of, function_part_of, fun
 use Rattle.elf_readings.proofs.OneList.{one_list}
 use Rattle.elf_readings.proofs.Faults.{code_fault_of}
 
--- lists of one length whose elements agree
+-- Lists of the same length whose elements agree.
 map_alike : {X Y : Type 0} (f : X → Y) (xs ys : List X) → length xs ≡ length ys →
     ((i : ℕ) (x y : X) → slice_get xs i ≡ Some x → slice_get ys i ≡ Some y → f x ≡ f y) → map f xs ≡ map f ys
 map_alike f [] [] size same = refl
@@ -79,7 +79,7 @@ readings_alike file e e' a b = record {
   symbols = same_symbols file (symbol_table file) e.symbols.items e'.symbols.items a.symbols b.symbols;
 }
 
--- What holds of one reading holds of any that is alike.
+-- What holds for one reading holds for each reading that agrees with it.
 
 module _ (e e' : Elf) (alike : Alike e e') where
   starts_by : (starts : List ℕ) → AreStarts e starts → AreStarts e' starts
@@ -131,7 +131,7 @@ same_code file e e' reads reads' tabled =
       cells = λ cells. (cells_by e e' to tabled cells, cells_by e' e from tabled cells);
     }
 
--- The lists that are made of readings that are alike.
+-- Lists that are made from readings that agree.
 
 module _ (e e' : Elf) (alike : Alike e e') where
   abbrev backward : Alike e' e

@@ -1,4 +1,4 @@
--- The relocations of two readings: each has a twin, which differs in where its section's name stands.
+-- The relocations of two readings. Each has a twin, which only differs in the memory address of its section's name.
 use Rattle.std.proofs.Common.{◌≡◌, ◌∙◌, sym, ap, subst, refl, ℕ, zero, suc, ◌+◌, Bool, true, false, cond, List, [], ◌∷◌, ◌++◌}
 use Rattle.std.proofs.Common.{Option, Some, None, map}
 use Rattle.std.specs.Prelude.{Contains, option_map, count_by, if◌then◌else◌, ◌==◌, ◌&&◌, not, codes, flat_map, ◌/◌}
@@ -27,7 +27,7 @@ bare_entries file s offset zero = refl
 bare_entries file s offset (suc n) =
     ap (λ rest. relocation_at file (bare s) offset ∷ rest) (bare_entries file s (offset + RELA_SIZE) n)
 
--- the entries for a section, by the bytes of the file
+-- The entries for a section, from the bytes of the file.
 abbrev for_section : List ℕ → Section → Section → List Relocation
 for_section file table s =
     if is_loaded s && not (is_named s (codes ".eh_frame")) then entries_from file s table.offset (table.size / RELA_SIZE) else []
@@ -40,7 +40,7 @@ bare_for file table s = by (is_loaded s && not (is_named s (codes ".eh_frame")))
     by true = bare_entries file s table.offset (table.size / RELA_SIZE)
     by false = refl
 
--- the entries of a table, by what it says
+-- The entries of a table, from its section header.
 abbrev of_table : List ℕ → List Section → Section → List Relocation
 of_table file sections table =
     if table.kind == SHT_RELA then option_map_or (for_section file table) (slice_get sections table.info) [] else []
@@ -77,7 +77,7 @@ relocations_alike e e' a =
 
 -- Twins.
 
--- a relocation counts in one reading, and with another section in the other
+-- A relocation counts in one reading, and in the other with another section value.
 pub record Twin (e e' : Elf) (r : Relocation) (s : Section) : Type 0 where
   pub same : bare r.section ≡ bare s
   pub here : Contains (relocations e) r
@@ -99,7 +99,7 @@ twin e e' a r counts =
       },
     )
 
--- Counts of relocations, by what doesn't ask for the section's name.
+-- Counts of relocations by tests that don't use the section's name.
 abbrev counted : {X : Type 0} → (X → Bool) → ℕ → X → ℕ
 counted test n x = n + cond (test x) 1 0
 
@@ -120,7 +120,7 @@ count_alike e e' a test same =
     ∙ ap (count_by test) (relocations_alike e e' a)
     ∙ count_map test bare_relocation same (relocations e')
 
--- the symbol's value
+-- The value of the symbol.
 pub symbol_alike : (e e' : Elf) → Alike e e' → (r : Relocation) → symbol_value e r ≡ symbol_value e' r
 symbol_alike e e' a r = ap (λ (n : ℕ). if r.symbol == 0 then 0 else n) (value e.symbols.items
     ∙ ap (λ o. option_map_or (λ (s : Symbol). s.value) (slice_get o r.symbol) 0) a.symbols ∙ sym (value e'.symbols.items))

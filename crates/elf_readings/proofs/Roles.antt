@@ -169,7 +169,7 @@ claims_counts e r at key role (lo from target l place k is) = l.part.counts
 claims_counts e r at key role (abs_hi target h kind rd imm full place k is) = h.counts
 claims_counts e r at key role (abs_lo target h kind inst full can place k is) = h.counts
 
--- what some relocation of the other reading claims, one of this reading claims
+-- A claim of a relocation in the other reading is one of a relocation in this reading.
 record Claimed (e : Elf) (r : Relocation) (at key : ℕ) (role : Role) : Type 0 where
   section : Section
   claims : Claims e (with_section r section) at key role

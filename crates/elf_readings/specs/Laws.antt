@@ -1,5 +1,5 @@
--- Two readings of one file have the same fields, but keep their names and lists at other places in memory, so they
--- aren't equal values. What is said of the file's code is the same for both.
+-- Two readings of one file have equal fields, but their names and lists are at different places in memory, so the
+-- readings aren't equal values. All statements on the file's code are the same for both.
 use Rattle.std.specs.Prelude.{◌≡◌, ◌↔◌, ℕ, List, length, map}
 use Rattle.rb_bytes.specs.declared.fault.Fault.{Fault}
 use Rattle.rb_bytes.specs.declared.fault.FaultKind.{FaultKind}
@@ -13,7 +13,7 @@ use Rattle.elf_code.specs.CodeFaults.{HasCodeFault}
 use Rattle.rb_bytes.specs.FirstFault.{IsFree, IsAnswered}
 use Rattle.elf_image.specs.file.ParsedFile.{IsElfOf}
 
--- what holds of the code of one reading holds of that of the other
+-- Whatever holds for the code of one reading holds for the code of the other.
 pub record HaveSameCode (elf elf' : Elf) (tabled : List (ℕ × ℕ)) : Type 0 where
   pub faults : (kind : FaultKind) (place : ℕ) → HasCodeFault elf tabled kind place ↔ HasCodeFault elf' tabled kind place
   pub free : IsFree (HasCodeFault elf tabled) ↔ IsFree (HasCodeFault elf' tabled)
@@ -28,8 +28,7 @@ pub record HaveSameCode (elf elf' : Elf) (tabled : List (ℕ × ℕ)) : Type 0 w
 abbrev pub bounds : Func → ℕ × ℕ
 bounds f = (f.start, f.end)
 
--- The lists that are made of it, whichever reading they are made of, are the same. Of functions that is said of their
--- bounds.
+-- Lists of starts, roles and cells are the same for both readings. Functions have the same bounds.
 pub record HaveOneList (elf elf' : Elf) (tabled : List (ℕ × ℕ)) : Type 0 where
   pub starts : (xs ys : List ℕ) → AreStarts elf xs → AreStarts elf' ys → xs ≡ ys
   pub roles : (xs ys : List (ℕ × Role)) → AreRoles elf xs → AreRoles elf' ys → xs ≡ ys
@@ -39,7 +38,7 @@ pub record HaveOneList (elf elf' : Elf) (tabled : List (ℕ × ℕ)) : Type 0 wh
   pub function_count : (xs ys : List Func) → AreFunctions elf tabled xs → AreFunctions elf' tabled ys →
       length xs ≡ length ys
 
--- for all files, and all ranges of code with exception tables
+-- The law, for all files and all ranges of code with exception tables.
 abbrev pub ReadingLaw : Type 0
 ReadingLaw =
     (file : List ℕ) (elf elf' : Elf) → IsElfOf file elf → IsElfOf file elf' → (tabled : List (ℕ × ℕ)) →
