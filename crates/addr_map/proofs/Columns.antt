@@ -1,4 +1,4 @@
--- Places in ascending columns.
+-- Searches in ascending columns.
 use Rattle.std.proofs.Common.{◌≡◌, ◌+◌, ◌*◌, ◌-◌, ◌<◌, ◌≤◌, ◌∙◌, ℕ, zero, suc, List, [], ◌∷◌, nat_le, cond, length, take, drop}
 use Rattle.std.proofs.Common.{get_or, arith, sym, ap, ⊎_elim}
 use Rattle.std.specs.Prelude.{min}
@@ -10,7 +10,7 @@ use Rattle.std.proofs.lemmas.List.Sums.{sum_by-cons}
 use Rattle.rb_lanes.specs.Ranks.{rank}
 use Rattle.addr_map.specs.internal.Columns.{IsAscending, IsFirsts, IsGroupCount}
 
--- the first k members are at most x, and the others are above it
+-- The first k members are at most x, and the others are above x.
 pub record IsRank (xs : List ℕ) (x k : ℕ) : Type 0 where
   pub within : k ≤ length xs
   pub low : (i : ℕ) → i < k → get_or xs i 0 ≤ x
@@ -22,7 +22,7 @@ rank_low y x ys le = grind (arith, common_steps, sum_by-cons (λ z. cond (nat_le
 rank_high : (y x : ℕ) (ys : List ℕ) → x < y → rank (y ∷ ys) x ≡ rank ys x
 rank_high y x ys lt = grind (arith, common_steps, sum_by-cons (λ z. cond (nat_le z x) 1 0) y ys)
 
--- such a k is what is counted
+-- Such a k is the count.
 pub rank_is : (xs : List ℕ) (x k : ℕ) → IsRank xs x k → rank xs x ≡ k
 rank_is [] x k r = grind (arith, common_steps, r.within)
 rank_is (y ∷ ys) x zero r =
@@ -43,11 +43,11 @@ rank_is (y ∷ ys) x (suc k) r =
 tail_ascends : (y : ℕ) (ys : List ℕ) → IsAscending (y ∷ ys) → IsAscending ys
 tail_ascends y ys up i j le lt = up (suc i) (suc j) (omega arith) (omega arith)
 
--- a column that ascends, with any number for one past its end
+-- An ascending column, with an arbitrary number for indices past its end.
 pub non_decreasing : (xs : List ℕ) → IsAscending xs → IsNonDecreasingBy (λ n. n) xs
 non_decreasing xs up i j d le lt = rw (get_or_default xs i d 0 (omega arith), get_or_default xs j d 0 lt) (up i j le lt)
 
--- there is one in a column that ascends
+-- An ascending column has such a k.
 found : (xs : List ℕ) (x : ℕ) → IsAscending xs → (k : ℕ) × IsRank xs x k
 found [] x up = (0, record { within = omega arith; low = λ i lt. absurd (omega arith); high = λ i le lt. absurd (omega arith) })
 found (y ∷ ys) x up =
@@ -83,7 +83,7 @@ found (y ∷ ys) x up =
 pub rank_at : (xs : List ℕ) (x : ℕ) → IsAscending xs → IsRank xs x (rank xs x)
 rank_at xs x up = let k = found xs x up in rw (rank_is xs x k.0 k.1) k.1
 
--- the level over a column that ascends
+-- The level above an ascending column.
 pub firsts_ascend : (firsts column : List ℕ) → IsFirsts firsts column → IsAscending column → IsAscending firsts
 firsts_ascend firsts column f up i j le lt =
     let count = f.count in
@@ -112,7 +112,7 @@ group_count firsts column x groups f up e =
           omega arith;
     }
 
--- the members of a group
+-- The members of a group.
 pub in_group : (column : List ℕ) (start i : ℕ) → i < 64 → get_or (take 64 (drop start column)) i 0 ≡ get_or column (start + i) 0
 in_group column start i lt = get_or-take 64 (drop start column) i 0 lt ∙ get_or-drop start column i 0
 
@@ -127,7 +127,7 @@ group_ascends column start up i j le lt =
     rw (in_group column start i (omega arith), in_group column start j inside.0)
     (up (start + i) (start + j) (omega arith) inside.1)
 
--- no group begins low enough
+-- No group starts with a member that is at most x.
 pub rank_none : (column : List ℕ) (x groups : ℕ) → IsAscending column → IsGroupCount column x groups → groups ≡ 0
     → 0 ≡ rank column x
 rank_none column x groups up g none =
@@ -141,7 +141,7 @@ rank_none column x groups up g none =
           omega arith;
     }))
 
--- the last group that begins low enough
+-- The last group that starts with a member that is at most x.
 pub rank_group : (column group : List ℕ) (x groups start : ℕ) → IsAscending column → IsGroupCount column x groups → 0 < groups
     → start ≡ 64 * (groups - 1) → group ≡ take 64 (drop start column)
     → start + rank group x ≡ rank column x

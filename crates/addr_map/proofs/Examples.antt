@@ -1,4 +1,4 @@
--- The map of a small loop, of which a jump was left out, and its text: each equation holds by computing.
+-- The map of a small loop in which a jump was left out, and its text. Each equation holds by computation.
 use Rattle.std.specs.Prelude.{◌≡◌, ℕ, List, [], ◌∷◌, Some, None, codes, refl}
 use Rattle.std.specs.Fmt.{digits}
 use Rattle.addr_map.specs.declared.span.Span.{Span}
@@ -8,7 +8,7 @@ use Rattle.addr_map.specs.Spans.{moved, new, owner}
 abbrev span : ℕ → ℕ → ℕ → Span
 span out len input = record { out = out; len = len; input = input }
 
--- a jump was added after the first instruction, and the one at 10084 left out, before its target at 1007c
+-- A jump was added after the first instruction, and the jump at 10084 was left out before its target 1007c.
 abbrev spans : List Span
 spans =
     span 0x10090 8 0x10078 ∷ span 0x10098 4 0x10080 ∷ span 0x1009c 0 0x10084 ∷ span 0x1009c 4 0x1007c
@@ -17,7 +17,7 @@ spans =
 moved_first : moved spans 0x10078 ≡ Some 0x10090
 moved_first = refl
 
--- what was left out is where its target is
+-- An instruction that was left out has the new address of its target.
 moved_jump : moved spans 0x10084 ≡ Some 0x1009c
 moved_jump = refl
 
@@ -27,11 +27,11 @@ moved_inside = refl
 new_of_data : new spans 0x20000 ≡ 0x20000
 new_of_data = refl
 
--- the added jump belongs to the instruction before it
+-- The added jump belongs to the instruction before it.
 owner_of_added : owner spans 0x10097 ≡ Some 0x10078
 owner_of_added = refl
 
--- what was left out owns nothing
+-- An instruction that was left out owns no byte.
 owner_of_target : owner spans 0x1009c ≡ Some 0x1007c
 owner_of_target = refl
 

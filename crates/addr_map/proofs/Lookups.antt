@@ -1,4 +1,4 @@
--- Where an instruction went, by columns in the order of the old addresses.
+-- New addresses, from columns in the order of old addresses.
 use Rattle.std.proofs.Common.{◌≡◌, ◌≢◌, ◌<◌, ◌≤◌, ℕ, zero, suc, Bool, true, false, List, [], ◌∷◌, Option, Some, None}
 use Rattle.std.proofs.Common.{cond, map, length, get_or, slice_index_or, arith, refl, ⊎_elim}
 use Rattle.std.specs.Prelude.{◌==◌, find, option_map}
@@ -29,7 +29,7 @@ moved_at (input ∷ inputs) (out ∷ outs) a (suc i) same lt here before =
     = moved_at inputs outs a i (omega arith) (omega arith) here (λ j less. before (suc j) (omega arith)) in
     grind (arith, common_steps)
 
--- columns of the parts of spans answer as the spans do
+-- Columns of the fields of spans give the same results as the spans.
 pub moved_parts : (spans : List Span) (a : ℕ) → moved_in (map (λ s. s.input) spans) (map (λ s. s.out) spans) a ≡ moved spans a
 moved_parts [] a = refl
 moved_parts (s ∷ spans) a = step (s.input == a) s _ (find (is_of a) spans) (moved_parts spans a)
@@ -39,7 +39,7 @@ moved_parts (s ∷ spans) a = step (s.input == a) s _ (find (is_of a) spans) (mo
     step true s o f e = refl
     step false s o f e = e
 
--- what is found at a place below which all old addresses are lower, and from which on none is
+-- The result for an index, if all old addresses before it are lower and none from there on is.
 module _ (inputs outs : List ℕ) (a i : ℕ) (up : IsRising inputs) (same : length outs ≡ length inputs) where
   pub moved_here : i < length inputs → get_or inputs i 0 ≡ a → moved_in inputs outs a ≡ Some (get_or outs i 0)
   moved_here inside here =

@@ -30,7 +30,7 @@ apart_flip s t a e = a (sym e)
 pub disjoint_flip : (s t : Span) → ShareNoByte s t → ShareNoByte t s
 disjoint_flip s t a p x y = a p y x
 
--- a span to stand for one past the end of a list
+-- A default span for indices past the end of a list.
 none : Span
 none = record { out = 0; len = 0; input = 0 }
 
@@ -46,7 +46,7 @@ no_later : (s t : Span) → IsLineBefore s t → s.out ≤ t.out
 no_later s t (inl lt) = omega arith
 no_later s t (inr (same, _)) = omega arith
 
--- the lines of a map ascend by new address
+-- The lines of a map ascend by new address.
 pub lines_ascend : {spans lines : List Span} → AreInLineOrder spans lines → IsAscending (map (λ s. s.out) lines)
 lines_ascend {spans} {lines} o i j le lt =
     let inside : j < length lines = omega (arith, length-map lines (λ s. s.out)) in
@@ -62,7 +62,7 @@ lines_disjoint {spans} {lines} o all = AllPairs-permutation ShareNoByte disjoint
 pub lines_apart : {spans lines : List Span} → AreInLineOrder spans lines → AllPairs AreApart spans → AllPairs AreApart lines
 lines_apart {spans} {lines} o all = AllPairs-permutation AreApart apart_flip spans lines o.same all
 
--- an instruction that is in a list of spans, and one that isn't
+-- The first span of an instruction in a list, and an instruction with no span.
 moved_here : (xs : List Span) (a i : ℕ) (d : Span) → i < length xs → (get_or xs i d).input ≡ a
     → ((j : ℕ) → j < i → (get_or xs j d).input ≢ a)
     → moved xs a ≡ Some (get_or xs i d).out
@@ -102,7 +102,7 @@ moved_once : (xs : List Span) (a i : ℕ) (d : Span) → AllPairs AreApart xs �
     → moved xs a ≡ Some (get_or xs i d).out
 moved_once xs a i d once lt e = moved_here xs a i d lt e (λ j less f. once j i d less lt (f ∙ sym e))
 
--- each instruction is where it was, in any order of the spans
+-- The new address of an instruction is the same for any order of the spans.
 pub moved_permutation : (xs ys : List Span) (a : ℕ) → IsPermutation xs ys → AllPairs AreApart xs → AllPairs AreApart ys
     → moved xs a ≡ moved ys a
 moved_permutation xs ys a p once_x once_y = settle (somewhere xs a none)
@@ -124,7 +124,7 @@ moved_permutation xs ys a p once_x once_y = settle (somewhere xs a none)
         let at : get_or xs there.0 none ≡ t = get_or_default xs there.0 none t there.1 ∙ there.2 in
         no_span there.0 there.1 (ap (λ t. t.input) at ∙ e)))
 
--- columns by old address answer as the lines do
+-- Columns ordered by old address give the same results as the lines.
 pub moved_columns : {spans lines sorted : List Span} {inputs outs : List ℕ} (a : ℕ) → AreInLineOrder spans lines
     → AllPairs AreApart spans → IsPermutation lines sorted → inputs ≡ map (λ s. s.input) sorted → outs ≡ map (λ s. s.out) sorted
     → moved_in inputs outs a ≡ moved lines a
@@ -133,7 +133,7 @@ moved_columns {spans} {lines} {sorted} a o once p e f =
     let once_sorted = AllPairs-permutation AreApart apart_flip lines sorted p once_lines in
     rw (e, f) (moved_parts sorted a ∙ sym (moved_permutation lines sorted a p once_lines once_sorted))
 
--- a sort by old address
+-- Sorted by old address.
 pub rising_inputs : (xs : List Span) → IsNonDecreasingBy (λ s. s.input) xs → AllPairs AreApart xs
     → IsRising (map (λ s. s.input) xs)
 rising_inputs xs up once i j lt inside =
@@ -142,7 +142,7 @@ rising_inputs xs up once i j lt inside =
     let ne : (get_or xs i none).input ≢ (get_or xs j none).input = once i j none lt inside_xs in
     rw (input_at xs i, input_at xs j) (omega arith)
 
--- a sort by line
+-- Sorted by line.
 abbrev pub line_key : Span → ℕ × ℕ × ℕ
 line_key s = (s.out, s.len, s.input)
 
@@ -188,7 +188,7 @@ third_part x y h e f = ⊎_elim
     differ : true ≡ false → ⊥
     differ e = cc
 
--- two spans of a map that don't fall are in the order of their lines
+-- Two neighbouring spans of a sorted map are in the order of their lines.
 before : (s t : Span) → is_lt (line_cmp (line_key t) (line_key s)) ≡ false → AreApart s t → ShareNoByte s t → IsLineBefore s t
 before s t h apart disjoint =
     let low = first_part (line_key t) (line_key s) h in

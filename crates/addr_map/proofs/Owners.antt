@@ -1,4 +1,4 @@
--- Which instruction owns a byte, by columns in the order of the new addresses.
+-- The owner of a byte, from columns in the order of new addresses.
 use Rattle.std.proofs.Common.{◌≡◌, ◌+◌, ◌-◌, ◌*◌, ◌^◌, ◌<◌, ◌≤◌, ◌∙◌, ◌⊎◌, ℕ, zero, suc, Bool, true, false, List, [], ◌∷◌}
 use Rattle.std.proofs.Common.{Some, None, inl, map, length, get_or, arith, refl, ap, ⊎_elim}
 use Rattle.std.specs.Prelude.{AllPairs, slice_get}
@@ -13,7 +13,7 @@ use Rattle.addr_map.specs.Spans.{ShareNoByte, has_byte, owner}
 use Rattle.addr_map.specs.declared.span.Span.{Span}
 use Rattle.addr_map.proofs.Columns.{IsRank, rank_at}
 
--- the parts of a span in columns
+-- The span with index i in the columns.
 abbrev pub span_at : List ℕ → List ℕ → List ℕ → ℕ → Span
 span_at outs lens inputs i = record { out = get_or outs i 0; len = get_or lens i 0; input = get_or inputs i 0 }
 
@@ -42,14 +42,14 @@ slice_get_spans outs lens inputs i a b lt =
     slice_get-get_or (column_spans outs lens inputs) i d (rw (length_spans outs lens inputs a b) lt)
     ∙ ap Some (get_spans outs lens inputs i d a b lt)
 
--- a line has its place in the columns
+-- The index of a line is inside the columns.
 pub inside_columns : {outs lens inputs holders : List ℕ} {lines : List Span} {i : ℕ} → IsByNew outs lens inputs holders
     → column_spans outs lens inputs ≡ lines → i < length lines
     → i < length outs
 inside_columns {outs} {lens} {inputs} {holders} {lines} {i} m e lt =
     omega (arith, ap length e, length_spans outs lens inputs m.lens_count m.inputs_count)
 
--- the columns of spans hold these spans
+-- The columns of some spans have these spans.
 pub spans_parts : (spans : List Span)
     → column_spans (map (λ s. s.out) spans) (map (λ s. s.len) spans) (map (λ s. s.input) spans) ≡ spans
 spans_parts [] = refl
@@ -74,7 +74,7 @@ by_new_parts spans outs lens inputs holders o l n few up disjoint count held =
       disjoint = rw (o, l, n, spans_parts spans) disjoint;
     }
 
--- tests of bytes
+-- Tests of bytes.
 pub has : (p : ℕ) (s : Span) → s.out ≤ p → p < s.out + s.len → has_byte p s ≡ true
 has p s le lt = grind (arith, common_steps)
 
@@ -88,7 +88,7 @@ has_not p s never = or_not (has_byte p s) refl
     or_not true e = let h = has_bounds p s e in absurd (never h.0 h.1)
     or_not false e = e
 
--- the byte of no span
+-- A byte that no span has.
 owner_none : (outs lens inputs : List ℕ) (p : ℕ) → length lens ≡ length outs → length inputs ≡ length outs
     → ((i : ℕ) → i < length outs → has_byte p (span_at outs lens inputs i) ≡ false)
     → owner (column_spans outs lens inputs) p ≡ None
@@ -101,7 +101,7 @@ owner_none (out ∷ outs) (len ∷ lens) (input ∷ inputs) p a b none =
     = owner_none outs lens inputs p (omega arith) (omega arith) (λ i lt. none (suc i) (omega arith)) in
     rw here rest
 
--- the byte of a span, and of none before it
+-- A byte of a span, which no earlier span has.
 owner_at : (outs lens inputs : List ℕ) (p i : ℕ) → length lens ≡ length outs → length inputs ≡ length outs → i < length outs
     → has_byte p (span_at outs lens inputs i) ≡ true
     → ((j : ℕ) → j < i → has_byte p (span_at outs lens inputs j) ≡ false)
@@ -116,7 +116,7 @@ owner_at (out ∷ outs) (len ∷ lens) (input ∷ inputs) p (suc i) a b lt here 
     = owner_at outs lens inputs p i (omega arith) (omega arith) (omega arith) here (λ j less. before (suc j) (omega arith)) in
     rw first rest
 
--- no byte is in two spans
+-- No byte is in two spans.
 apart : (outs lens inputs holders : List ℕ) (i j p : ℕ) → IsByNew outs lens inputs holders → i < j → j < length outs
     → has_byte p (span_at outs lens inputs i) ≡ true → has_byte p (span_at outs lens inputs j) ≡ true → ⊥
 apart outs lens inputs holders i j p m lt inside x y =
@@ -128,9 +128,9 @@ apart outs lens inputs holders i j p m lt inside x y =
     let long : j < length (column_spans outs lens inputs) = rw (length_spans outs lens inputs a b) inside in
     m.disjoint i j d lt long p (rw s x) (rw t y)
 
--- the holders, found from the first span on
+-- The holders, computed from the first span on.
 
--- the last span with bytes before a place, or the first
+-- The last span with bytes before index i, or 0.
 pub record IsHolderBefore (lens : List ℕ) (i holder : ℕ) : Type 0 where
   pub within : holder ≤ i
   pub last : (j : ℕ) → holder < j → j < i → get_or lens j 0 ≡ 0
@@ -156,7 +156,7 @@ holder_next lens i holder h = record {
   has = h.has;
 }
 
--- what is found at the last place up to a byte
+-- The result for the last new address up to a byte.
 pub owner_low : {outs lens inputs holders : List ℕ} (p : ℕ) → IsByNew outs lens inputs holders → rank outs p ≡ 0
     → owner (column_spans outs lens inputs) p ≡ None
 owner_low {outs} {lens} {inputs} {holders} p m none =
@@ -165,7 +165,7 @@ owner_low {outs} {lens} {inputs} {holders} p m none =
     let above : p < get_or outs i 0 = r.high i (omega arith) lt in
     has_not p (span_at outs lens inputs i) (λ le less. omega arith))
 
--- a byte, the last place up to it, and the holder of that place
+-- A byte, the last new address up to it, and the holder of that index.
 pub record IsHeld (outs lens inputs holders : List ℕ) (p i holder : ℕ) : Type 0 where
   pub by_new : IsByNew outs lens inputs holders
   pub count : rank outs p ≡ i + 1

@@ -11,7 +11,7 @@ use Rattle.rb_io.proofs.Printing.{TakesAll-append, TakesFront-append, TakesFront
 use Rattle.addr_map.specs.MapText.{map_text, span_line}
 use Rattle.addr_map.specs.declared.span.Span.{Span}
 
--- one line before others
+-- One line before others.
 pub text_cons : (lines : List Span) (i last : ℕ) (s : Span) → i < last → last ≤ length lines → slice_get lines i ≡ Some s
     → map_text (slice_range lines i last) ≡ span_line s ++ map_text (slice_range lines (i + 1) last)
 text_cons lines i last s lt inside e =
@@ -23,7 +23,7 @@ text_cons lines i last s lt inside e =
     ∙ ap (λ k. map_text (take k (s ∷ drop (suc i) lines))) count
     ∙ ap (λ k. span_line s ++ map_text (take (last - (i + 1)) (drop k lines))) (sym (add-one i))
 
--- more lines after the first ones
+-- More lines after the first ones.
 pub text_more : (lines : List Span) (first last : ℕ) → first ≤ last
     → map_text (take last lines) ≡ map_text (take first lines) ++ map_text (slice_range lines first last)
 text_more lines first last le =
@@ -36,11 +36,11 @@ pub text_rest : (lines : List Span) (last : ℕ) → map_text lines ≡ map_text
 text_rest lines last =
     ap map_text (sym (take-append-drop last lines)) ∙ flat_map-append span_line (take last lines) (drop last lines)
 
--- what stands from a place to the end of a buffer
+-- The bytes from an index to the end of a buffer.
 pub piece_is : (buf : List ℕ) (n start : ℕ) → length buf ≡ n → take (n - start) (drop start buf) ≡ drop start buf
 piece_is buf n start long = take_all (n - start) (drop start buf) (omega (arith, length-drop start buf))
 
--- pieces that were appended
+-- Pieces that were appended.
 pub appended : (old into piece : List ℕ) (lines : List Span) (first last : ℕ) → into ≡ old ++ map_text (take first lines)
     → piece ≡ map_text (slice_range lines first last) → first ≤ last
     → into ++ piece ≡ old ++ map_text (take last lines)
@@ -48,7 +48,7 @@ appended old into piece lines first last e f le =
     rw (e, f) (append_assoc old (map_text (take first lines)) (map_text (slice_range lines first last))
     ∙ ap (λ text. old ++ text) (sym (text_more lines first last le)))
 
--- pieces that were taken
+-- Pieces that were taken.
 pub taken_more : (a b c : Option (List ℕ)) (piece : List ℕ) (lines : List Span) (first last : ℕ)
     → TakesAll a b (map_text (take first lines)) → TakesAll b c piece → piece ≡ map_text (slice_range lines first last)
     → first ≤ last

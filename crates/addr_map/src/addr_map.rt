@@ -16,7 +16,7 @@ use rb_io::{Put, Sink};
 use std::alloc::Global;
 use std::marker::Model;
 
-/// Where each instruction of the input went. Contracts see the spans in the order of the map's lines.
+/// The new addresses of the input's instructions. Contracts see the spans in the order of the map's lines.
 #[derive(Drop)]
 pub struct AddrMap {
     by_new: NewOrder,
@@ -37,8 +37,10 @@ impl Model for AddrMap {
 }
 
 impl AddrMap {
-    /// Makes a map of its spans, in any order: one for each instruction, with no byte in two of them. It takes the time
-    /// of two sorts, less where long stretches of `spans` are in order, and about 65 bytes a span, of which the map
+    /// Makes a map from its spans, in any order: one for each instruction, and no byte in two of them. It takes the
+    /// time of
+    /// two sorts, which are fast on long runs of sorted spans, and about 65 bytes of memory for each span, of which the
+    /// map
     /// keeps about 40.
     pub fn new(alloc: Global, spans: Vec<Span>) -> Result<AddrMap, NoMemory>
         requires once { AllPairs (λ s t. s.input ≢ t.input) spans.items }
@@ -53,43 +55,44 @@ impl AddrMap {
         Ok(AddrMap { by_new, by_old })
     }
 
-    /// The new address of the instruction at `a`; that of an instruction that was left out is where control goes in its
-    /// place. None exactly where no instruction of the map is at `a`.
+    /// The new address of the instruction at `a`. For an instruction that was left out, it is the address at which
+    /// control
+    /// continues. None if no instruction of the map is at `a`.
     pub fn moved(&self, a: u64) -> Option<u64>
         ensures { result ≡ moved self.now a }
     {
         self.by_old.moved(a)
     }
 
-    /// The new address of the instruction at `a`, or `a` itself where no instruction of the map is.
+    /// The new address of the instruction at `a`, or `a` itself if no instruction of the map is there.
     pub fn new_address(&self, a: u64) -> u64
         ensures { result ≡ new self.now a }
     {
         self.moved(a).unwrap_or(a)
     }
 
-    /// The address of the instruction to which the new byte at `p` belongs. None exactly where no span has the byte.
+    /// The old address of the instruction to which the new byte at `p` belongs. None if no span has the byte.
     pub fn owner(&self, p: u64) -> Option<u64>
         ensures { result ≡ owner self.now p }
     {
         self.by_new.owner(p)
     }
 
-    /// How many spans there are.
+    /// The number of spans.
     pub fn len(&self) -> usize
         ensures { result ≡ length self.now }
     {
         self.by_new.len()
     }
 
-    /// The span of line `i`, counted from 0. None exactly where there is no such line.
+    /// The span of line `i`, counted from 0. None if there is no such line.
     pub fn span(&self, i: usize) -> Option<Span>
         ensures { result ≡ slice_get self.now i }
     {
         self.by_new.span(i)
     }
 
-    /// Appends the text of the map, a line for each span. After an error `into` is as it was.
+    /// Appends the text of the map, one line for each span. After an error `into` is unchanged.
     pub fn text(&self, into: &mut Vec<u8>) -> Result<(), NoMemory>
         ensures ok { OnOk result (into.new.items ≡ into.old.items ++ map_text self.now) }
         ensures err { OnErr result (into.new.items ≡ into.old.items) }
@@ -97,8 +100,9 @@ impl AddrMap {
         append_text(&self.by_new, into)
     }
 
-    /// Prints the text of the map, and takes no memory. `Took` has the whole length; after `Failed` a part of the text,
-    /// from its front, was taken.
+    /// Prints the text of the map, without allocating. `Took` has the length of the text. After `Failed` the sink took
+    /// a
+    /// proper prefix of the text.
     pub fn print<O: Sink>(&self, out: &mut O) -> Put
         ensures whole { IfTook result (λ n. n ≡ length (map_text self.now)) }
         ensures all { IfTook result (λ n. TakesAll (O.seen out.old).taken (O.seen out.new).taken (map_text self.now)) }

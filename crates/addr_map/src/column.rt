@@ -1,4 +1,4 @@
-// Ascending columns of numbers, in which a place is found by a few short searches.
+// Ascending columns of numbers with fast searches.
 ghost use Rattle.std.specs.Prelude.{◌≡◌, IfOk};
 ghost use Rattle.std.specs.List.Sorted.{IsNonDecreasingBy};
 ghost use Rattle.rb_lanes.specs.Ranks.{rank};
@@ -8,10 +8,10 @@ use rb_bytes::fault::NoMemory;
 use std::alloc::Global;
 use std::marker::Model;
 
-// How many members of a column one member of the level over it stands for.
+// The number of members that one member of the level above represents.
 const GROUP: usize = 64;
 
-/// Numbers that ascend, with levels over them: each level has the first of each 64 members of the one below it, and the
+/// Ascending numbers with levels above them: each level has the first of each 64 members of the one below it, and the
 /// highest has at most 64 members.
 #[derive(Drop)]
 pub(crate) struct SortedColumn {
@@ -31,7 +31,7 @@ impl Model for SortedColumn {
 }
 
 impl SortedColumn {
-    /// Puts levels over numbers that ascend.
+    /// Builds the levels above ascending numbers.
     pub(crate) fn new(alloc: Global, members: Vec<u64>) -> Result<SortedColumn, NoMemory>
         requires { IsAscending members.items }
         ensures { IfOk result (λ column. column ≡ members.items) }
@@ -40,7 +40,7 @@ impl SortedColumn {
         Ok(SortedColumn { members, levels })
     }
 
-    /// How many members are at most `x`: the place of the first member above it.
+    /// The number of members that are at most `x`, which is the index of the first member above `x`.
     pub(crate) fn rank(&self, x: u64) -> usize
         ensures { result ≡ rank self.now x }
     {
@@ -55,7 +55,7 @@ impl SortedColumn {
     }
 }
 
-// The levels over a column, the lowest first.
+// The levels above a column, the lowest first.
 fn levels_over(alloc: Global, column: &[u64]) -> Result<Vec<Vec<u64>>, NoMemory>
     ensures { IfOk result (λ levels. AreLevels column.now levels.items) }
 {
@@ -81,8 +81,9 @@ fn firsts_of(alloc: Global, column: &[u64]) -> Result<Vec<u64>, NoMemory>
     Ok(firsts)
 }
 
-// How many members of `column` are at most `x`, by the levels over it. Each level has a 64th of the members of the one
-// below it, so the recursion doesn't go deep.
+// The number of members of `column` that are at most `x`, by a search in the levels above it. Each level has a 64th of
+// the
+// members of the one below it, so the recursion is shallow.
 fn rank_below(column: &[u64], levels: &[Vec<u64>], x: u64) -> usize
     requires ascending { IsAscending column.now }
     requires levels { AreLevels column.now levels.now }
@@ -94,8 +95,9 @@ fn rank_below(column: &[u64], levels: &[Vec<u64>], x: u64) -> usize
     }
 }
 
-// How many members are at most `x`, where just the first `groups` groups begin with such a member: all of the groups
-// before the last of these, and some of that one.
+// The number of members that are at most `x`, if only the first `groups` groups start with such a member: all members
+// of
+// the groups before the last of these, and some of the last.
 fn rank_in_group(column: &[u64], groups: usize, x: u64) -> usize
     requires ascending { IsAscending column.now }
     requires groups { IsGroupCount column.now x groups }
@@ -110,7 +112,7 @@ fn rank_in_group(column: &[u64], groups: usize, x: u64) -> usize
     start + rank_among(group, x)
 }
 
-// How many of a few ascending `numbers` are at most `x`.
+// The number of members of a short ascending list that are at most `x`.
 fn rank_among(numbers: &[u64], x: u64) -> usize
     requires { IsNonDecreasingBy (λ n. n) numbers.now }
     ensures { result ≡ rank numbers.now x }

@@ -1,4 +1,4 @@
-// The fields of spans as lists.
+// Lists with one field of each span.
 ghost use Rattle.std.specs.Prelude.{◌≡◌, IfOk, map};
 
 use crate::span::Span;

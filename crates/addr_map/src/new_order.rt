@@ -1,4 +1,4 @@
-// The map by new address.
+// The map ordered by new address.
 ghost use Rattle.std.specs.Prelude.{◌≡◌, ℕ, ◌*◌, ◌^◌, ◌<◌, AllPairs, IfOk, List, length, map, slice_get, slice_index};
 ghost use Rattle.addr_map.specs.internal.Columns.{IsAscending};
 ghost use Rattle.addr_map.specs.internal.Orders.{IsHolder};
@@ -17,8 +17,9 @@ pub(crate) struct NewOrder {
     outs: SortedColumn,
     lens: Vec<u8>,
     inputs: Vec<u64>,
-    /// For each line the last line up to it whose span has bytes, or 0 where there is none. A byte after a span without
-    /// bytes may belong to a longer one that began before.
+    /// For each line, the last line up to it whose span has bytes, or 0 if there is none. A byte after an empty span
+    /// may belong
+    /// to a longer span that started before it.
     holders: Vec<usize>,
 }
 
@@ -35,7 +36,7 @@ impl Model for NewOrder {
 }
 
 impl NewOrder {
-    /// Takes the spans in the order of their lines.
+    /// A map from the spans in the order of their lines.
     pub(crate) fn new(alloc: Global, lines: &[Span]) -> Result<NewOrder, NoMemory>
         requires ascending { IsAscending (map (λ s. s.out) lines.now) }
         requires disjoint { AllPairs ShareNoByte lines.now }
@@ -53,7 +54,7 @@ impl NewOrder {
         })
     }
 
-    /// How many spans there are.
+    /// The number of spans.
     pub(crate) fn len(&self) -> usize
         ensures count { result ≡ length self.now }
         ensures few { 24 * result < 2 ^ 63 }
@@ -73,7 +74,7 @@ impl NewOrder {
         }
     }
 
-    /// The span of line `i`, or None where there is no such line.
+    /// The span of line `i`, or None if there is no such line.
     pub(crate) fn span(&self, i: usize) -> Option<Span>
         ensures { result ≡ slice_get self.now i }
     {
@@ -84,7 +85,7 @@ impl NewOrder {
         }
     }
 
-    /// The address of the instruction to which the new byte at `p` belongs.
+    /// The old address of the instruction to which the new byte at `p` belongs.
     pub(crate) fn owner(&self, p: u64) -> Option<u64>
         ensures { result ≡ owner self.now p }
     {
@@ -101,7 +102,7 @@ impl NewOrder {
     }
 }
 
-// The `holders` of spans whose lengths are `lens`.
+// The column `holders` of spans with the lengths `lens`.
 #[tactic(auto, using(crate::proofs::Owners::holder_here, crate::proofs::Owners::holder_none, crate::proofs::Owners::holder_next))]
 fn holders_of(alloc: Global, lens: &[u8]) -> Result<Vec<usize>, NoMemory>
     ensures count { IfOk result (λ holders. length holders.items ≡ length lens.now) }

@@ -1,4 +1,4 @@
-// The map by old address.
+// The map ordered by old address.
 ghost use Rattle.std.specs.Prelude.{◌≡◌, IfOk, length, map};
 ghost use Rattle.addr_map.specs.internal.Orders.{IsRising, moved_in};
 
@@ -8,7 +8,7 @@ use rb_bytes::fault::NoMemory;
 use rb_lanes::{Hints, count_below};
 use std::alloc::Global;
 
-/// The old addresses in ascending order, and beside each the new one.
+/// The old addresses in ascending order, and the new address of each.
 #[derive(Drop)]
 pub(crate) struct OldOrder {
     inputs: Vec<u64>,
@@ -19,7 +19,7 @@ pub(crate) struct OldOrder {
 }
 
 impl OldOrder {
-    /// Takes the spans in the order of their old addresses.
+    /// A map from the spans in the order of their old addresses.
     pub(crate) fn new(alloc: Global, spans: &[Span]) -> Result<OldOrder, NoMemory>
         requires { IsRising (map (λ s. s.input) spans.now) }
         ensures inputs { IfOk result (λ order. order.inputs.items ≡ map (λ s. s.input) spans.now) }
@@ -35,7 +35,7 @@ impl OldOrder {
         })
     }
 
-    /// The new address of the instruction at `a`, or None where no instruction is.
+    /// The new address of the instruction at `a`, or None if no instruction is there.
     pub(crate) fn moved(&self, a: u64) -> Option<u64>
         ensures { result ≡ moved_in self.now.inputs.items self.now.outs.items a }
     {

@@ -1,5 +1,6 @@
-// The two orders of spans. Spans come block by block, so they are in the order of lines but for a few; both sorts are
-// stable ones, which merge stretches that are in order already.
+// The two orders of spans. Spans arrive block by block, so most are in the order of lines already. Both sorts are
+// stable
+// merge sorts, which are fast on sorted runs.
 ghost use Rattle.std.specs.Prelude.{AllPairs, OnOk, map};
 ghost use Rattle.std.specs.List.Sorted.{IsPermutation};
 ghost use Rattle.addr_map.specs.MapText.{AreInLineOrder};
@@ -9,7 +10,7 @@ ghost use Rattle.addr_map.specs.Spans.{ShareNoByte};
 use crate::span::Span;
 use rb_bytes::fault::NoMemory;
 
-/// Puts the spans of a map in the order of their lines.
+/// Sorts the spans of a map by line.
 pub(crate) fn sort_by_line(spans: &mut Vec<Span>) -> Result<(), NoMemory>
     requires once { AllPairs AreApart spans.old.items }
     requires disjoint { AllPairs ShareNoByte spans.old.items }
@@ -19,7 +20,7 @@ pub(crate) fn sort_by_line(spans: &mut Vec<Span>) -> Result<(), NoMemory>
     Ok(())
 }
 
-/// Puts the spans of a map in the order of their old addresses.
+/// Sorts the spans of a map by old address.
 pub(crate) fn sort_by_input(spans: &mut Vec<Span>) -> Result<(), NoMemory>
     requires { AllPairs AreApart spans.old.items }
     ensures same { IsPermutation spans.old.items spans.new.items }

@@ -1,5 +1,5 @@
-// The text of a map, in pieces of at most `LINES` lines. Each is written from its last byte to its first, since the
-// digits of a number come lowest first.
+// The text of a map, in pieces of at most `LINES` lines. Each piece is written from its last byte to its first, since
+// the lowest digits of a number are computed first.
 ghost use Rattle.std.specs.Prelude.{◌≡◌, ◌+◌, ◌*◌, ◌++◌, ◌-◌, ◌<◌, ◌≤◌, OnErr, OnOk, ◌∷◌, decimal, drop, length};
 ghost use Rattle.std.specs.Prelude.{slice_range, take};
 ghost use Rattle.rb_io.specs.CallResults.{IfTook};
@@ -16,12 +16,12 @@ use rb_io::{Put, Sink, print_all};
 
 // The most bytes of a line: two numbers of 16 digits, one of three, two blanks and the line feed.
 const LINE_LENGTH: usize = 38;
-// How many lines a piece has at most.
+// The most lines of a piece.
 const LINES: usize = 64;
 // The most bytes of a piece.
 const PIECE_LENGTH: usize = LINES * LINE_LENGTH;
 
-// Writes `byte` before the place `end`, and gives the place where it stands.
+// Writes `byte` before index `end`, and returns its index.
 fn write_byte(byte: u8, buf: &mut [u8], end: usize) -> usize
     requires room { 1 ≤ end }
     requires inside { end ≤ length buf.old }
@@ -33,7 +33,7 @@ fn write_byte(byte: u8, buf: &mut [u8], end: usize) -> usize
     start
 }
 
-// Writes `len` in decimal before the place `end`, and gives the place where it begins.
+// Writes `len` in decimal before index `end`, and returns the index of the first digit.
 fn write_length(len: u8, buf: &mut [u8], end: usize) -> usize
     requires room { 3 ≤ end }
     requires inside { end ≤ length buf.old }
@@ -44,7 +44,7 @@ fn write_length(len: u8, buf: &mut [u8], end: usize) -> usize
     write_digits(len as u64, buf, end)
 }
 
-// Writes the line of a span before the place `end`, and gives the place where it begins.
+// Writes the line of a span before index `end`, and returns the index of its first byte.
 fn write_line(span: &Span, buf: &mut [u8], end: usize) -> usize
     requires room { LINE_LENGTH ≤ end }
     requires inside { end ≤ length buf.old }
@@ -60,7 +60,7 @@ fn write_line(span: &Span, buf: &mut [u8], end: usize) -> usize
     write_hex(span.out, buf, blank)
 }
 
-// Writes the lines from `first` to before `last` to the end of `buf`, and gives the place where they begin.
+// Writes the lines from `first` to before `last` to the end of `buf`, and returns the index of the first byte.
 fn write_lines(map: &NewOrder, first: usize, last: usize, buf: &mut [u8]) -> usize
     requires order { first ≤ last }
     requires inside { last ≤ length map.now }
@@ -78,7 +78,7 @@ fn write_lines(map: &NewOrder, first: usize, last: usize, buf: &mut [u8]) -> usi
     start
 }
 
-// The line before which the piece ends that begins with line `first`, of `count` lines in all.
+// The end of the piece that starts with line `first`, if there are `count` lines: the first line after the piece.
 fn piece_end(first: usize, count: usize) -> usize
     requires { first < count }
     ensures rises { first < result }
@@ -88,7 +88,7 @@ fn piece_end(first: usize, count: usize) -> usize
     first + LINES.min(count - first)
 }
 
-// Appends the text of all lines. After an error some of it may have been appended.
+// Appends the text of all lines. After an error part of the text may have been appended.
 fn append_lines(map: &NewOrder, into: &mut Vec<u8>) -> Result<(), NoMemory>
     ensures ok { OnOk result (into.new.items ≡ into.old.items ++ map_text map.now) }
     ensures err { OnErr result (take (length into.old.items) into.new.items ≡ into.old.items) }
@@ -104,7 +104,7 @@ fn append_lines(map: &NewOrder, into: &mut Vec<u8>) -> Result<(), NoMemory>
     Ok(())
 }
 
-/// Appends the text of the map. After an error `into` is as it was.
+/// Appends the text of the map. After an error `into` is unchanged.
 pub(crate) fn append_text(map: &NewOrder, into: &mut Vec<u8>) -> Result<(), NoMemory>
     ensures ok { OnOk result (into.new.items ≡ into.old.items ++ map_text map.now) }
     ensures err { OnErr result (into.new.items ≡ into.old.items) }
@@ -117,7 +117,7 @@ pub(crate) fn append_text(map: &NewOrder, into: &mut Vec<u8>) -> Result<(), NoMe
     appended
 }
 
-/// Prints the text of the map, in pieces that stand on the stack.
+/// Prints the text of the map, in pieces that are on the stack.
 pub(crate) fn print_text<O: Sink>(map: &NewOrder, out: &mut O) -> Put
     ensures whole { IfTook result (λ n. n ≡ length (map_text map.now)) }
     ensures all { IfTook result (λ n. TakesAll (O.seen out.old).taken (O.seen out.new).taken (map_text map.now)) }

@@ -3,7 +3,7 @@ use Rattle.rb_io.specs.TakenText.{TakesAll}
 use Rattle.addr_map.specs.MapText.{map_text}
 use Rattle.addr_map.proofs.text.print_text.Given as goal
 
--- the sink took the lines before `first`
+-- The sink took the lines before `first`.
 abbrev pub invariant-loop-first : goal.invariant-loop-first
 invariant-loop-first g l = record {
   inside : l.first ≤ length l.map;

@@ -3,7 +3,7 @@ use Rattle.std.specs.Prelude.{slice_range}
 use Rattle.addr_map.specs.MapText.{map_text}
 use Rattle.addr_map.proofs.text.write_lines.Given as goal
 
--- the lines from i on
+-- The lines from index i on.
 abbrev pub invariant-loop-i : goal.invariant-loop-i
 invariant-loop-i l = record {
   low : l.first ≤ l.i;
