@@ -11,7 +11,7 @@ pub difference_counts : (e : Elf) (r : Relocation) (w : Width) (to from : ℤ) �
 difference_counts e r w to from (of_labels only minus minus_only to_is from_is) = only.listed
 difference_counts e r w to from (of_place counted kind width to_is from_is) = counted
 
--- a difference that can be a cell has 32 or 64 bits
+-- A difference that can be a cell has 32 or 64 bits.
 pub difference_bits : (elf : Elf) (r : Relocation) (bits : ℕ) (to from : ℤ) → IsDifference elf r (Bits bits) to from →
     can_be_cell r ≡ true → (bits ≡ 32) ⊎ (bits ≡ 64)
 difference_bits elf r bits to from (of_place is_in pc width to_is from_is) can =

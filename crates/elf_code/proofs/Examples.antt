@@ -1,19 +1,19 @@
--- Types of relocations, on small examples: each equation holds by computing.
+-- Types of relocations, on small examples. Each equation holds by computation.
 use Rattle.std.specs.Prelude.{◌≡◌, Some, None, true, false, refl}
 use Rattle.elf_code.specs.Relocations.{is_supported, Bits, Uleb128, plus_width, minus_width}
 
--- 61 is the greatest that is supported
+-- Type 61 is the greatest supported one.
 uleb_is_supported : is_supported 61 ≡ true
 uleb_is_supported = refl
 
 next_is_not : is_supported 62 ≡ false
 next_is_not = refl
 
--- COPY, which only a dynamic linker knows
+-- COPY, which only dynamic linkers use.
 copy_is_not : is_supported 4 ≡ false
 copy_is_not = refl
 
--- SET32 and SUB32 have one width, and so have ADD32 and SUB32
+-- SET32 and SUB32 have the same width, and so have ADD32 and SUB32.
 width_of_set32 : plus_width 56 ≡ Some (Bits 32)
 width_of_set32 = refl
 

@@ -1,5 +1,5 @@
--- Code cells: the data fields that hold a code address, or a difference of labels of which one is a code address.
--- psABI, "Relocations".
+-- Code cells: data fields that contain a code address, or a difference of labels of which one is a code address. psABI,
+-- "Relocations".
 use Rattle.std.specs.Prelude.{◌≡◌, ◌⊎◌, ℕ, ◌+◌, ◌/◌, ◌<◌, ◌==◌, ◌&&◌, ◌||◌, ℤ, pos, ◌≤ℤ◌, ◌<ℤ◌, if◌then◌else◌, Bool}
 use Rattle.std.specs.Prelude.{true, false, IsTrue, IsSome, IfSome, List, Option, Some, Contains}
 use Rattle.std.specs.List.{count_by}
@@ -17,7 +17,7 @@ use Rattle.elf_code.specs.Roles.{PcrelHiTo}
 
 -- Differences.
 
--- the one item of a list that passes a test
+-- `x` is the only item of the list that passes the test.
 pub record IsOnly {A : Type 0} (test : A → Bool) (items : List A) (x : A) : Type 0 where
   pub listed : Contains items x
   pub passes : IsTrue (test x)
@@ -28,36 +28,36 @@ same_width (Bits n) (Some (Bits m)) = n == m
 same_width Uleb128 (Some Uleb128) = true
 same_width _ _ = false
 
--- a relocation of a place and a width adds or sets a label, or subtracts one
+-- A relocation at an address and with a width adds or sets a label, or subtracts one.
 abbrev pub is_plus : ℕ → Width → Relocation → Bool
 is_plus place width r = r.place == place && same_width width (plus_width r.kind)
 
 abbrev pub is_minus : ℕ → Width → Relocation → Bool
 is_minus place width r = r.place == place && same_width width (minus_width r.kind)
 
--- The field of a relocation holds the difference of two labels, modulo its width.
+-- The field of a relocation contains the difference of two labels, modulo its width.
 pub data IsDifference (elf : Elf) (r : Relocation) (width : Width) (to from : ℤ) : Type 0 where
-  -- exactly one label is added or set there, by this relocation, and exactly one is subtracted
+  -- Exactly one label is added or set there, by this relocation, and exactly one label is subtracted.
   of_labels : IsOnly (is_plus r.place width) (relocations elf) r → (minus : Relocation) →
       IsOnly (is_minus r.place width) (relocations elf) minus → to ≡ label elf r → from ≡ label elf minus →
       IsDifference elf r width to from
-  -- the field's own address is subtracted
+  -- The field's own address is subtracted.
   of_place : Contains (relocations elf) r → IsTrue (is_pc_difference r.kind) → width ≡ Bits 32 →
       to ≡ label elf r → from ≡ pos r.place → IsDifference elf r width to from
 
--- The field of a difference can be a cell where it has 32 or 64 bits, but not where SET32 sets it.
+-- The field of a difference can be a cell if it has 32 or 64 bits, unless SET32 sets it.
 abbrev pub can_be_cell : Relocation → Bool
 can_be_cell r = is_add r.kind || is_pc_difference r.kind
 
--- a label that is a code address
+-- The label is a code address.
 abbrev pub IsCodeLabel : Elf → ℤ → Type 0
 IsCodeLabel elf z = (a : ℕ) × (z ≡ pos a) × IsStart elf a
 
--- one of two labels is a code address
+-- One of the two labels is a code address.
 abbrev pub HasCodeLabel : Elf → ℤ → ℤ → Type 0
 HasCodeLabel elf to from = IsCodeLabel elf to ⊎ IsCodeLabel elf from
 
--- Both labels lie in one whole part, its end included: their difference stays as it is.
+-- Both labels are in one whole part or at its end, so their difference doesn't change.
 pub record IsInOneWhole (elf : Elf) (tabled : List (ℕ × ℕ)) (to from : ℤ) : Type 0 where
   pub start : ℕ
   pub end : ℕ
@@ -67,7 +67,7 @@ pub record IsInOneWhole (elf : Elf) (tabled : List (ℕ × ℕ)) (to from : ℤ)
 
 -- Fields that can be cells.
 
--- what a field holds; labels that aren't addresses make the file one that is refused
+-- The content of a field. A file is refused if a label isn't an address.
 pub data Content : Type 0 where
   Address : ℕ → Content
   Difference : ℤ → ℤ → Content
@@ -81,22 +81,22 @@ abbrev pub address_width : ℕ → ℕ
 address_width kind = if kind == R_RISCV_32 then 4 else 8
 
 pub data IsField (elf : Elf) (tabled : List (ℕ × ℕ)) (f : Field) : Type 0 where
-  -- a field for an address, which holds a code address
+  -- A field for an address that contains a code address.
   pointer : (r : Relocation) → Contains (relocations elf) r → IsTrue (is_address r.kind) →
       f.place ≡ r.place → f.width ≡ address_width r.kind →
       (to : ℕ) → loaded_number elf f.place f.width ≡ Some to → IsStart elf to → f.content ≡ Address to →
       IsField elf tabled f
-  -- the entry of the global offset table that a pair of instructions names
+  -- The entry of the global offset table that a pair of instructions refers to.
   slot : (r : Relocation) → r.kind ≡ R_RISCV_GOT_HI20 → PcrelHiTo elf r (pos f.place) → f.width ≡ 8 →
       (to : ℕ) → loaded_number elf f.place 8 ≡ Some to → label elf r ≡ pos to → IsStart elf to →
       f.content ≡ Address to → IsField elf tabled f
-  -- a difference of 32 or 64 bits
+  -- A difference of 32 or 64 bits.
   difference : (r : Relocation) (bits : ℕ) (to from : ℤ) → IsDifference elf r (Bits bits) to from →
       IsTrue (can_be_cell r) →
       HasCodeLabel elf to from → (IsInOneWhole elf tabled to from → ⊥) →
       f.place ≡ r.place → f.width ≡ bits / 8 → f.content ≡ Difference to from → IsField elf tabled f
 
--- Its bytes come from the file, and none is one of the file's headers: those hold what the rewriting changes.
+-- Its bytes come from the file, and none is in the file's headers, which the rewrite changes.
 pub record CanBeCell (elf : Elf) (tabled : List (ℕ × ℕ)) (f : Field) : Type 0 where
   pub is_field : IsField elf tabled f
   pub from_file : (i : ℕ) → i < f.width → IsSome (file_offset elf.segments.items (f.place + i))
@@ -108,20 +108,20 @@ pub record CanBeCell (elf : Elf) (tabled : List (ℕ × ℕ)) (f : Field) : Type
 abbrev pub ShareByte : Field → Field → Type 0
 ShareByte f g = (f.place < g.place + g.width) × (g.place < f.place + f.width)
 
--- an address comes before a difference, and of differences that with the lower label first
+-- An address comes before a difference, and of two differences the one with the lower labels comes first.
 abbrev pub IsContentBefore : Content → Content → Type 0
 IsContentBefore (Address to) (Difference to' from') = Unit {0}
 IsContentBefore (Difference to from) (Difference to' from') = (to <ℤ to') ⊎ ((to ≡ to') × (from <ℤ from'))
 IsContentBefore _ _ = ⊥
 
--- the field at the lower address comes first, then the wider one
+-- The field at the lower address comes first. At the same address, the wider field comes first.
 abbrev pub IsFieldBefore : Field → Field → Type 0
 IsFieldBefore f g =
     (f.place < g.place)
     ⊎ ((f.place ≡ g.place) × ((g.width < f.width) ⊎ ((f.width ≡ g.width) × IsContentBefore f.content g.content)))
 
--- A field counts where each field before it that shares a byte with it doesn't count. It doesn't count where one that
--- counts is before it and shares a byte with it.
+-- A field counts if each earlier field that shares a byte with it doesn't count. It doesn't count if an earlier field
+-- that counts shares a byte with it.
 pub data Counts (elf : Elf) (tabled : List (ℕ × ℕ)) : Field → Bool → Type 0 where
   counts : (f : Field) → CanBeCell elf tabled f →
       ((g : Field) → CanBeCell elf tabled g → IsFieldBefore g f → ShareByte g f → Counts elf tabled g false) →
@@ -129,7 +129,7 @@ pub data Counts (elf : Elf) (tabled : List (ℕ × ℕ)) : Field → Bool → Ty
   gives_way : (f g : Field) → CanBeCell elf tabled f → IsFieldBefore g f → ShareByte g f → Counts elf tabled g true →
       Counts elf tabled f false
 
--- The cells.
+-- Cells.
 
 abbrev pub SameContent : Content → CellKind → Type 0
 SameContent (Address to) (Abs to') = to ≡ to'

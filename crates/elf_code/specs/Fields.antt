@@ -1,5 +1,6 @@
--- The fields to which relocations apply: how many bytes they have, and what numbers they hold. psABI, "Relocations",
--- "Field Symbols"; DWARF 5, section 7.6, for numbers in LEB128.
+-- The fields that relocations apply to: their sizes and contents. psABI, "Relocations", "Field Symbols"; DWARF 5,
+-- section
+-- 7.6, for LEB128 numbers.
 use Rattle.std.specs.Prelude.{◌≡◌, ◌⊎◌, ℕ, zero, suc, ◌+◌, ◌-◌, ◌/◌, ◌%◌, ◌^◌, ◌≤◌, ℤ, pos, ◌-ℤ◌, ◌==◌, ◌||◌}
 use Rattle.std.specs.Prelude.{if◌then◌else◌, IsTrue, IsSomeAnd, List, [], ◌∷◌, Option, Some, None, length, option_map}
 use Rattle.std.specs.Int.{int_rem_euclid}
@@ -11,24 +12,24 @@ use Rattle.elf_code.specs.LoadedNumbers.{loaded_number}
 use Rattle.elf_code.specs.Relocations.{Relocation, is_ignored, is_call_pair, Width, Bits, Uleb128, plus_width}
 use Rattle.elf_code.specs.Relocations.{minus_width}
 
--- A number in LEB128.
+-- LEB128 numbers.
 
 abbrev pub leb_from : Option ℕ → Option (List ℕ) → Option (List ℕ)
 leb_from None rest = None
 leb_from (Some b) rest = if is_last b then Some (b ∷ []) else option_map (λ bs. b ∷ bs) rest
 
--- its bytes at an address, if it ends within n bytes
+-- The bytes of the number at address `a`, if it ends within n bytes.
 unfoldable pub leb_at : Elf → ℕ → ℕ → Option (List ℕ)
 leb_at elf a zero = None
 leb_at elf a (suc n) = leb_from (byte_at elf a) (leb_at elf (a + 1) n)
 
--- the bytes of the number in a relocation's field, which ends in the relocation's section
+-- The bytes of the number in a relocation's field, if it ends in the relocation's section.
 abbrev pub leb_field : Elf → Relocation → Option (List ℕ)
 leb_field elf r = leb_at elf r.place (r.section.addr + r.section.size - r.place)
 
 -- Sizes.
 
--- fewer than eight bits are kept in a byte
+-- A field of fewer than eight bits takes one byte.
 abbrev pub bytes_of_bits : ℕ → ℕ
 bytes_of_bits n = (n + 7) / 8
 
@@ -36,7 +37,7 @@ abbrev pub width_size : Elf → Relocation → Width → Option ℕ
 width_size elf r (Bits n) = Some (bytes_of_bits n)
 width_size elf r Uleb128 = option_map length (leb_field elf r)
 
--- Calls have a pair of instructions of four bytes; other instructions, and addresses of 32 bits, have four bytes.
+-- A call is a pair of four-byte instructions. Other instructions and 32-bit addresses have four bytes.
 abbrev pub fixed_size : ℕ → ℕ
 fixed_size kind = if is_call_pair kind || kind == R_RISCV_64 || kind == R_RISCV_IRELATIVE then 8 else 4
 
@@ -45,11 +46,11 @@ size_by elf r (Some width) minus = width_size elf r width
 size_by elf r None (Some width) = width_size elf r width
 size_by elf r None None = Some (fixed_size r.kind)
 
--- the bytes of a relocation's field, none where a number in it doesn't end in the section
+-- The size of a relocation's field in bytes, or None if a LEB128 number doesn't end in the section.
 abbrev pub field_size : Elf → Relocation → Option ℕ
 field_size elf r = size_by elf r (plus_width r.kind) (minus_width r.kind)
 
--- A field lies in the section of its relocation. Where nothing is made of a relocation, it has no field.
+-- A field is in the section of its relocation. Relocations that are ignored need no field.
 abbrev pub HasField : Elf → Relocation → Type 0
 HasField elf r =
     IsTrue (is_ignored r.kind)
@@ -58,13 +59,13 @@ HasField elf r =
 
 -- Contents.
 
--- the bytes of a number in LEB128 hold the lowest bits of a number in two's complement, seven in each. A number has
--- as many bytes as it likes.
+-- The bytes of a LEB128 number have the lowest bits of a number in two's complement, seven bits in each byte. The
+-- number may have any number of bytes.
 abbrev pub HoldBits : List ℕ → ℤ → Type 0
 HoldBits [] z = Unit {0}
 HoldBits (b ∷ bs) z = (b % 128 ≡ low_bits z) × HoldBits bs (high_bits z)
 
--- The field holds the difference of two labels modulo its width.
+-- The field contains the difference of two labels modulo its width.
 abbrev pub HoldsDifference : Elf → Relocation → Width → ℤ → ℤ → Type 0
 HoldsDifference elf r (Bits n) to from =
     IsSomeAnd (loaded_number elf r.place (bytes_of_bits n))

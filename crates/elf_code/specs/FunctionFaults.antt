@@ -1,4 +1,4 @@
--- At which places the functions of a file have a fault.
+-- Faults of a file's functions, and their places.
 use Rattle.std.specs.Prelude.{◌≡◌, ℕ, ◌<◌, ◌≤◌, ℤ, List, Some}
 use Rattle.rb_bytes.specs.declared.fault.FaultKind.{FaultKind}
 use Rattle.rb_bytes.specs.declared.fault.FaultKind.TheVariants.{BadEntry, BadInstruction, BareAuipc, BadTarget}
@@ -12,13 +12,13 @@ use Rattle.elf_code.specs.Parts.{StartsIn, IsInstAt, HasValidInst}
 use Rattle.elf_code.specs.Roles.{HasRole, HasNoRole}
 use Rattle.elf_code.specs.Functions.{IsFunctionPart, IsCodeAddress}
 
--- The entry point starts no instruction of a function.
+-- The entry point isn't the start of an instruction of a function.
 pub record IsBadEntry (elf : Elf) (tabled : List (ℕ × ℕ)) (place : ℕ) : Type 0 where
   pub is_entry : place ≡ elf.entry
   pub no_code : IsCodeAddress elf tabled place → ⊥
 
--- What stands where an instruction of a function starts can't be one: it is no instruction, it goes past the function's
--- end, its address is odd, or it has two bytes where the file's header has no flag for such instructions.
+-- The bytes at the start of an instruction of a function aren't a valid instruction: they encode none, it goes past the
+-- function's end, its address is odd, or it has two bytes and the flag for such instructions isn't in the file header.
 pub record IsBadInstruction (elf : Elf) (tabled : List (ℕ × ℕ)) (place : ℕ) : Type 0 where
   pub start : ℕ
   pub end : ℕ
@@ -26,8 +26,8 @@ pub record IsBadInstruction (elf : Elf) (tabled : List (ℕ × ℕ)) (place : �
   pub starts : StartsIn elf start end place
   pub invalid : (inst : Inst) (bytes : ℕ) → HasValidInst elf start end place inst bytes → ⊥
 
--- An AUIPC without a relocation that says what it stands for. Both are looked for together; an AUIPC that can't be
--- there is a bad instruction alone.
+-- An AUIPC without a relocation that says what it refers to. Both kinds are searched for together. An AUIPC that isn't
+-- valid at its address is only a bad instruction.
 pub record IsBareAuipc (elf : Elf) (tabled : List (ℕ × ℕ)) (place : ℕ) : Type 0 where
   pub start : ℕ
   pub end : ℕ
@@ -37,7 +37,7 @@ pub record IsBareAuipc (elf : Elf) (tabled : List (ℕ × ℕ)) (place : ℕ) : 
   pub auipc : HasValidInst elf start end place (Auipc rd imm) 4
   pub no_role : HasNoRole elf place
 
--- an address in a function, at which none of its instructions starts
+-- The address is in a function, but isn't the start of one of its instructions.
 pub record IsInsideInstruction (elf : Elf) (tabled : List (ℕ × ℕ)) (a : ℕ) : Type 0 where
   pub start : ℕ
   pub end : ℕ
@@ -46,8 +46,8 @@ pub record IsInsideInstruction (elf : Elf) (tabled : List (ℕ × ℕ)) (a : ℕ
   pub below : a < end
   pub no_code : IsCodeAddress elf tabled a → ⊥
 
--- A jump or branch to where no function has an instruction; or the AUIPC of a call pair into the middle of a function's
--- instruction. A call pair may lead out of all functions: its target is a number then.
+-- A jump or branch to an address that isn't an instruction of a function, or the AUIPC of a call pair whose target is
+-- inside an instruction of a function. The target of a call pair may be outside all functions: it is a number then.
 pub data IsBadTarget (elf : Elf) (tabled : List (ℕ × ℕ)) (place : ℕ) : Type 0 where
   direct : IsCodeAddress elf tabled place → (inst : Inst) (bytes : ℕ) → IsInstAt elf place inst bytes → (to : ℕ) →
       target place (action_of inst) ≡ Some to →
@@ -55,7 +55,7 @@ pub data IsBadTarget (elf : Elf) (tabled : List (ℕ × ℕ)) (place : ℕ) : Ty
   pair : IsCodeAddress elf tabled place → (to : ℕ) → HasRole elf place (CallHi to) → IsInsideInstruction elf tabled to →
       IsBadTarget elf tabled place
 
--- the places of a fault; the kinds that aren't named are looked for by others
+-- The file has the fault at this place. Other kinds belong to other crates.
 abbrev pub HasFunctionFault : Elf → List (ℕ × ℕ) → FaultKind → ℕ → Type 0
 HasFunctionFault elf tabled BadEntry place = IsBadEntry elf tabled place
 HasFunctionFault elf tabled BadInstruction place = IsBadInstruction elf tabled place

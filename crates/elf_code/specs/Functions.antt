@@ -1,5 +1,5 @@
--- Functions: the parts of executable sections that are kept, with their instructions. Padding is dropped: parts of
--- zeros (Parts.antt), and parts of nops that nothing leads to.
+-- Functions: parts of executable sections that are kept, with their instructions. Padding is dropped: parts of zeros
+-- (Parts.antt), and parts of nops that nothing leads to.
 use Rattle.std.specs.Prelude.{◌≡◌, ◌⊎◌, ◌↔◌, ℕ, ◌+◌, ◌≤◌, ◌<◌, true, List, [], ◌∷◌, Some, Contains, AllPairs}
 use Rattle.rv_code.specs.declared.inst.Inst.{Inst}
 use Rattle.rv_code.specs.declared.placed.Placed.{Placed}
@@ -19,13 +19,13 @@ use Rattle.elf_code.specs.Cells.{IsCell}
 abbrev pub IsNopAt : Elf → ℕ → Type 0
 IsNopAt elf a = (halfword_at elf a ≡ 0x0001) ⊎ ((halfword_at elf a ≡ 0x0013) × (halfword_at elf (a + 2) ≡ 0))
 
--- an uncovered part of nops, the last of which ends with it
+-- An uncovered part that consists of nops. The last nop ends at the end of the part.
 pub record IsNopPart (elf : Elf) (start end : ℕ) : Type 0 where
   pub part : IsPart elf start end
   pub uncovered : IsCovered elf start end → ⊥
   pub nops : (a : ℕ) → StartsIn elf start end a → IsNopAt elf a × (a + length_at elf a ≤ end)
 
--- a branch or jump, a role, a cell or the entry point names an address
+-- A branch or jump, a role, a cell or the entry point refers to the address.
 pub data IsReferred (elf : Elf) (tabled : List (ℕ × ℕ)) (a : ℕ) : Type 0 where
   jump : (start end from : ℕ) (inst : Inst) (bytes : ℕ) → HasValidInst elf start end from inst bytes →
       target from (action_of inst) ≡ Some a → IsReferred elf tabled a
@@ -33,8 +33,8 @@ pub data IsReferred (elf : Elf) (tabled : List (ℕ × ℕ)) (a : ℕ) : Type 0 
   cell : (cell : CodeCell) → IsCell elf tabled cell → CellNames cell a → IsReferred elf tabled a
   entry : elf.entry ≡ a → IsReferred elf tabled a
 
--- The parts that are functions: those with code that isn't nops alone; and of those of nops each in which a nop is
--- referred to, or into which the last instruction of a function that ends there falls.
+-- The parts that are functions: those with code other than nops, and parts of nops that have a nop that is referred
+-- to, or that the last instruction of the function before them falls through to.
 pub data IsFunctionPart (elf : Elf) (tabled : List (ℕ × ℕ)) : ℕ → ℕ → Type 0 where
   code : (start end : ℕ) → IsCodePart elf start end → (IsNopPart elf start end → ⊥) →
       IsFunctionPart elf tabled start end
@@ -45,16 +45,16 @@ pub data IsFunctionPart (elf : Elf) (tabled : List (ℕ × ℕ)) : ℕ → ℕ �
       HasValidInst elf before start a inst bytes → a + bytes ≡ start → falls (action_of inst) true ≡ true →
       IsFunctionPart elf tabled start end
 
--- A code address is the start of an instruction of a function. Every other address, in code too, is a number.
+-- A code address is the start of an instruction of a function. Every other address is a number, even in code.
 pub record IsCodeAddress (elf : Elf) (tabled : List (ℕ × ℕ)) (a : ℕ) : Type 0 where
   pub start : ℕ
   pub end : ℕ
   pub function : IsFunctionPart elf tabled start end
   pub starts : StartsIn elf start end a
 
--- The functions as the layers above get them.
+-- Functions as later crates get them.
 
--- these instructions, with their roles, follow one another from an address on to another
+-- These instructions with their roles follow one another, from address `a` to `end`.
 abbrev pub AreInsts : Elf → ℕ → List Placed → ℕ → Type 0
 AreInsts elf a [] end = a ≡ end
 AreInsts elf a (p ∷ ps) end = (p.addr ≡ a) × IsInstAt elf a p.inst p.len × RoleIs elf a p.role
@@ -65,7 +65,7 @@ pub record IsFunction (elf : Elf) (tabled : List (ℕ × ℕ)) (func : Func) : T
   pub whole : (func.whole ≡ true) ↔ IsWholePart elf tabled func.start func.end
   pub insts : AreInsts elf func.start func.insts.items func.end
 
--- all functions, by address
+-- All functions, by address.
 pub record AreFunctions (elf : Elf) (tabled : List (ℕ × ℕ)) (funcs : List Func) : Type 0 where
   pub only : (func : Func) → Contains funcs func → IsFunction elf tabled func
   pub each : (start end : ℕ) → IsFunctionPart elf tabled start end →

@@ -1,5 +1,5 @@
--- The parts of executable sections that can be functions, and the instructions in them. A part goes from one
--- cut to the next.
+-- The parts of executable sections that can be functions, and their instructions. A part is the range from one cut to
+-- the next.
 use Rattle.std.specs.Prelude.{◌≡◌, ◌≢◌, ℕ, ◌+◌, ◌*◌, ◌%◌, ◌<◌, ◌≤◌, ◌==◌, if◌then◌else◌, List, Option, Some, IsTrue}
 use Rattle.std.specs.Prelude.{Any, unwrap_or}
 use Rattle.rv_code.specs.declared.inst.Inst.{Inst}
@@ -14,11 +14,11 @@ IsCut elf a = IsCutAddress elf.symbols.items elf.sections.items a
 
 -- Parts.
 
--- an address in an executable section
+-- The address is in an executable section.
 abbrev pub IsInCode : Elf → ℕ → Type 0
 IsInCode elf a = Any (λ s. IsTrue (holds_code s.flags) × (s.addr ≤ a) × (a < s.addr + s.size)) elf.sections.items
 
--- the stretch of an executable section between two neighbouring cuts
+-- The range of an executable section between two neighbouring cuts.
 pub record IsPart (elf : Elf) (start end : ℕ) : Type 0 where
   pub starts : IsCut elf start
   pub ends : IsCut elf end
@@ -26,12 +26,12 @@ pub record IsPart (elf : Elf) (start end : ℕ) : Type 0 where
   pub neighbours : (a : ℕ) → start < a → a < end → IsCut elf a → ⊥
   pub in_code : IsInCode elf start
 
--- a function symbol's range holds a stretch
+-- A range of addresses is in the range of a function symbol.
 abbrev pub IsCovered : Elf → ℕ → ℕ → Type 0
 IsCovered elf start end = Any (λ s. IsTrue (names_function s) × (s.value ≤ start) × (end ≤ s.value + s.size))
     elf.symbols.items
 
--- An uncovered part whose bytes are all zero is padding, and holds no code.
+-- An uncovered part whose bytes are all zero is padding and has no code.
 pub record IsZeroPart (elf : Elf) (start end : ℕ) : Type 0 where
   pub part : IsPart elf start end
   pub uncovered : IsCovered elf start end → ⊥
@@ -43,19 +43,19 @@ pub record IsCodePart (elf : Elf) (start end : ℕ) : Type 0 where
 
 -- Instructions by their lengths.
 
--- the halfword at an address of a memory
+-- The halfword at an address of a memory.
 abbrev pub halfword_in : (ℕ → Option ℕ) → ℕ → ℕ
 halfword_in memory a = unwrap_or (memory a) 0 + 256 * unwrap_or (memory (a + 1)) 0
 
--- Two bytes where the low two bits aren't 11, else four. ISA manual, section 1.5.
+-- An instruction has two bytes if its low two bits aren't 11, and otherwise four. ISA manual, section 1.5.
 abbrev pub length_in : (ℕ → Option ℕ) → ℕ → ℕ
 length_in memory a = if halfword_in memory a % 4 == 3 then 4 else 2
 
--- the bytes at an address are an instruction of so many bytes
+-- The bytes at an address encode an instruction with this number of bytes.
 abbrev pub IsInstIn : (ℕ → Option ℕ) → ℕ → Inst → ℕ → Type 0
 IsInstIn memory a inst bytes = Decodes (halfword_in memory a) (Some (halfword_in memory (a + 2))) inst bytes
 
--- the same in the memory of a file
+-- Instructions in the memory of a file.
 
 abbrev pub halfword_at : Elf → ℕ → ℕ
 halfword_at elf a = halfword_in (byte_at elf) a
@@ -66,43 +66,44 @@ length_at elf a = length_in (byte_at elf) a
 abbrev pub IsInstAt : Elf → ℕ → Inst → ℕ → Type 0
 IsInstAt elf a inst bytes = IsInstIn (byte_at elf) a inst bytes
 
--- an instruction starts at an address of a stretch of code
+-- An instruction starts at an address of the code from `start` to `end`.
 pub data StartsIn (elf : Elf) (start end : ℕ) : ℕ → Type 0 where
   at_start : start < end → StartsIn elf start end start
   after : (a : ℕ) → StartsIn elf start end a → a + length_at elf a < end → StartsIn elf start end (a + length_at elf a)
 
--- an instruction of a code part starts at an address
+-- An instruction of a code part starts at an address.
 pub record IsStartIn (elf : Elf) (start end a : ℕ) : Type 0 where
   pub part : IsCodePart elf start end
   pub starts : StartsIn elf start end a
 
--- The starts of instructions: those of all code parts. References, which are looked at before it is known
--- which parts are functions, take each of these for a code address.
+-- The starts of instructions of all code parts. References are examined before it is known which parts are functions,
+-- so
+-- they treat each of these as a code address.
 pub record IsStart (elf : Elf) (a : ℕ) : Type 0 where
   pub start : ℕ
   pub end : ℕ
   pub is_start : IsStartIn elf start end a
 
--- a part has a whole instruction at an address
+-- A part has a complete instruction at an address.
 pub record HasInst (elf : Elf) (start end a : ℕ) (inst : Inst) (bytes : ℕ) : Type 0 where
   pub starts : IsStartIn elf start end a
   pub is_inst : IsInstAt elf a inst bytes
   pub inside : a + bytes ≤ end
 
--- An instruction that the file can have there: at an even address, and of two bytes only where the flags of the file's
--- header say that it has such. What isn't one goes nowhere.
+-- A valid instruction: it is at an even address, and it only has two bytes if the flags in the file header say that the
+-- file has such instructions. A jump or branch that isn't valid has no target.
 pub record HasValidInst (elf : Elf) (start end a : ℕ) (inst : Inst) (bytes : ℕ) : Type 0 where
   pub has : HasInst elf start end a inst bytes
   pub even : a % 2 ≡ 0
   pub allowed : bytes ≡ 2 → elf.flags ≢ 0
 
--- Parts that stay in one piece.
+-- Parts that are moved as one piece.
 
--- a range of addresses, given by its start and its end, holds an address
+-- A range, given by its start and its end, contains the address.
 abbrev pub IsInTabled : ℕ → ℕ × ℕ → Type 0
 IsInTabled a range = (range.0 ≤ a) × (a < range.1)
 
--- A part is whole where one of its instructions starts in a range that has an exception table.
+-- A part is whole if one of its instructions starts in a range that has an exception table.
 pub record IsWholePart (elf : Elf) (tabled : List (ℕ × ℕ)) (start end : ℕ) : Type 0 where
   pub place : ℕ
   pub starts : IsStartIn elf start end place

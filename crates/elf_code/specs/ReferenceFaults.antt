@@ -1,5 +1,5 @@
--- At which places the references of a file have a fault: relocations, the code that they speak of, and what says that
--- a file selects its routines itself or was rewritten before.
+-- Faults of a file's references, and their places: of relocations, of the code that they apply to, and of files that
+-- select routines when they start or were rewritten before.
 use Rattle.std.specs.Prelude.{◌≡◌, ◌≢◌, ◌⊎◌, ℕ, ◌%◌, ◌≤◌, ℤ, pos, ◌≤ℤ◌, IsTrue, IsFalse, IsSome, IsSomeAnd, true}
 use Rattle.std.specs.Prelude.{nat_eq, codes, List, Some, Any, length, slice_get}
 use Rattle.std.specs.List.{starts_with}
@@ -24,18 +24,18 @@ use Rattle.elf_code.specs.Cells.{IsOnly, is_plus, is_minus, IsDifference, can_be
 use Rattle.elf_code.specs.Cells.{IsInOneWhole, Counts, Difference}
 use Rattle.elf_code.specs.Fields.{HasField, HoldsDifference}
 
--- A relocation of a type that isn't supported.
+-- A relocation with a type that isn't supported.
 abbrev pub IsRelocType : Elf → ℕ → Type 0
 IsRelocType elf = HasRelocation elf (λ r. IsFalse (is_supported r.kind))
 
--- What makes a relocation fit.
+-- Conditions for relocations to fit.
 
--- An address that a label can have lies below the end of what can be loaded, or is that end.
+-- An address that a label can have: below the end of all addresses that can be loaded, or that end.
 abbrev pub IsAddress : ℤ → Type 0
 IsAddress z = (pos 0 ≤ℤ z) × (z ≤ℤ pos address_end)
 
--- A call has its two instructions, and the second jumps through the first's register. Through x0 it is a call of an
--- undefined weak symbol: then the upper immediate is 0, and so is the lower one where the AUIPC writes another
+-- A call has two instructions, and the second jumps through the register of the first. A jump through x0 is a call of
+-- an undefined weak symbol: its upper immediate is 0, and its lower immediate is 0 if the AUIPC writes another
 -- register.
 abbrev pub IsCall : Elf → Relocation → Type 0
 IsCall elf r =
@@ -46,21 +46,21 @@ IsCall elf r =
 abbrev pub HasAuipc : Elf → ℕ → Type 0
 HasAuipc elf a = (rd : ℕ) × (imm : ℤ) × IsFullAt elf a (Auipc rd imm)
 
--- a relocation for a lower part names an AUIPC, whatever it applies to
+-- A relocation for a lower part refers to an AUIPC at `hi`, whatever instruction the relocation applies to.
 abbrev pub IsNamedByLow : Elf → ℕ → Type 0
 IsNamedByLow elf hi = Any (λ r. IsTrue (is_pcrel_lo r.kind) × (symbol_value elf r ≡ hi)) (relocations elf)
 
--- an AUIPC with an upper part that isn't a call's
+-- An AUIPC with an upper part that isn't part of a call.
 pub record IsUpper (elf : Elf) (a : ℕ) : Type 0 where
   pub auipc : HasAuipc elf a
   pub upper : HasRelocation elf (λ r. IsTrue (is_pcrel_hi r.kind)) a
   pub no_call : HasRelocation elf (λ r. IsTrue (is_call_pair r.kind)) a → ⊥
 
--- a relocation is on an instruction that can have the lower part by its type
+-- A relocation applies to an instruction that can have the lower part of its type.
 abbrev pub HasLower : Elf → Relocation → Type 0
 HasLower elf r = (inst : Inst) × IsFullAt elf r.place inst × IsSome (lower_immediate r.kind inst)
 
--- a relocation is on its instruction, with the right part of an absolute address
+-- A relocation applies to an instruction with the correct part of an absolute address.
 pub data HasAbsolute (elf : Elf) (r : Relocation) (target : ℕ) : Type 0 where
   upper : r.kind ≡ R_RISCV_HI20 → (rd : ℕ) → IsFullAt elf r.place (Lui rd (hi20 (pos target))) →
       HasAbsolute elf r target
@@ -70,50 +70,50 @@ pub data HasAbsolute (elf : Elf) (r : Relocation) (target : ℕ) : Type 0 where
 abbrev pub IsAbsoluteKind : ℕ → Type 0
 IsAbsoluteKind kind = (kind ≡ R_RISCV_HI20) ⊎ IsAbsoluteLow kind
 
--- exactly one label is added or set at a place, and exactly one subtracted
+-- Exactly one label is added or set at an address, and exactly one is subtracted.
 abbrev pub IsPaired : Elf → ℕ → Width → Type 0
 IsPaired elf place width =
     (plus : Relocation) × (minus : Relocation) × IsOnly (is_plus place width) (relocations elf) plus
     × IsOnly (is_minus place width) (relocations elf) minus
 
--- Where a relocation doesn't fit what it applies to.
+-- Relocations that don't fit what they apply to.
 
--- there is no such symbol; or the field isn't in the section
+-- The symbol doesn't exist, or the field isn't in the section.
 pub data IsBadField (elf : Elf) (r : Relocation) : Type 0 where
   symbol : r.symbol ≢ 0 → length elf.symbols.items ≤ r.symbol → IsBadField elf r
   field : (HasField elf r → ⊥) → IsBadField elf r
 
--- a call isn't one, or goes to no address
+-- The instructions aren't a call, or its target isn't an address.
 pub data IsBadCall (elf : Elf) (r : Relocation) : Type 0 where
   pair : IsTrue (is_call_pair r.kind) → (IsCall elf r → ⊥) → IsBadCall elf r
   address : (target : ℤ) → CallTo elf r target → (IsAddress target → ⊥) → IsBadCall elf r
 
--- the upper part of a distance isn't on an AUIPC, or no lower part goes with it
+-- The upper part of a distance isn't on an AUIPC, or no lower part refers to it.
 pub data IsBadUpper (elf : Elf) (r : Relocation) : Type 0 where
   no_auipc : IsTrue (is_pcrel_hi r.kind) → (HasAuipc elf r.place → ⊥) → IsBadUpper elf r
   alone : IsTrue (is_pcrel_hi r.kind) → (IsNamedByLow elf r.place → ⊥) → IsBadUpper elf r
 
--- an AUIPC and a lower part give no address; or their target is an entry of the global offset table that isn't loaded
--- or holds another number. The place of both is the AUIPC's.
+-- The target of an AUIPC and a lower part isn't an address, or is an entry of the global offset table that isn't loaded
+-- or has another number. The place of both faults is the address of the AUIPC.
 pub data IsBadPair (elf : Elf) (r : Relocation) : Type 0 where
   address : (target : ℤ) → PcrelHiTo elf r target → (IsAddress target → ⊥) → IsBadPair elf r
   slot : r.kind ≡ R_RISCV_GOT_HI20 → (slot : ℕ) → PcrelHiTo elf r (pos slot) →
       (IsSomeAnd (loaded_number elf slot 8) (λ v. label elf r ≡ pos v) → ⊥) → IsBadPair elf r
 
--- a lower part isn't on an instruction that can have one, or names no upper part
+-- A lower part isn't on an instruction that can have one, or refers to no upper part.
 pub data IsBadLower (elf : Elf) (r : Relocation) : Type 0 where
   no_lower : IsTrue (is_pcrel_lo r.kind) → (HasLower elf r → ⊥) → IsBadLower elf r
   no_upper : IsTrue (is_pcrel_lo r.kind) → (IsUpper elf (symbol_value elf r) → ⊥) → IsBadLower elf r
 
--- a part of an absolute code address isn't on its instruction, or is another number there
+-- A part of an absolute code address isn't on its instruction, or the instruction has another number.
 pub record IsBadAbsolute (elf : Elf) (r : Relocation) : Type 0 where
   pub target : ℕ
   pub part : AbsoluteTo elf r target
   pub absolute : IsAbsoluteKind r.kind
   pub unfit : HasAbsolute elf r target → ⊥
 
--- the field of a difference holds another number; or a code address is added, set or subtracted, and isn't in a
--- difference of two labels
+-- The field of a difference contains another number, or a code address that is added, set or subtracted isn't part of a
+-- difference of two labels.
 pub data IsBadDifference (elf : Elf) (r : Relocation) : Type 0 where
   number : (width : Width) (to from : ℤ) → IsDifference elf r width to from →
       (HoldsDifference elf r width to from → ⊥) →
@@ -121,7 +121,7 @@ pub data IsBadDifference (elf : Elf) (r : Relocation) : Type 0 where
   unpaired : (width : Width) → (plus_width r.kind ≡ Some width) ⊎ (minus_width r.kind ≡ Some width) →
       IsCodeLabel elf (label elf r) → (IsPaired elf r.place width → ⊥) → IsBadDifference elf r
 
--- A difference that is a code cell has a label that is no address.
+-- A difference that is a code cell has a label that isn't an address.
 pub record HasBadLabel (elf : Elf) (tabled : List (ℕ × ℕ)) (place : ℕ) : Type 0 where
   pub width : ℕ
   pub to : ℤ
@@ -129,7 +129,7 @@ pub record HasBadLabel (elf : Elf) (tabled : List (ℕ × ℕ)) (place : ℕ) : 
   pub counted : Counts elf tabled (record { place = place; width = width; content = Difference to from }) true
   pub unfit : IsAddress to × IsAddress from → ⊥
 
--- what doesn't fit of a relocation
+-- The relocation doesn't fit what it applies to.
 pub data IsMisfit (elf : Elf) (r : Relocation) : Type 0 where
   field : IsBadField elf r → IsMisfit elf r
   call : IsBadCall elf r → IsMisfit elf r
@@ -152,7 +152,7 @@ pub record IsLoMismatch (elf : Elf) (place : ℕ) : Type 0 where
   pub part' : PcrelLo elf low' place imm'
   pub differ : imm ≢ imm'
 
--- A difference with a code address that can't be a cell, and not of two labels of one whole function.
+-- A difference with a code address can't be a cell, and its labels aren't both in one whole function.
 pub record IsNarrow (elf : Elf) (tabled : List (ℕ × ℕ)) (r : Relocation) : Type 0 where
   pub width : Width
   pub to : ℤ
@@ -165,22 +165,22 @@ pub record IsNarrow (elf : Elf) (tabled : List (ℕ × ℕ)) (r : Relocation) : 
 abbrev pub IsNarrowDiff : Elf → List (ℕ × ℕ) → ℕ → Type 0
 IsNarrowDiff elf tabled = HasRelocation elf (IsNarrow elf tabled)
 
--- a section of stubs, by its name
+-- A section of stubs, by its name.
 abbrev pub IsStubs : Section → Type 0
 IsStubs section = IsTrue (is_named section (codes ".plt")) ⊎ IsTrue (is_named section (codes ".iplt"))
 
--- Routines are selected when the program starts: by symbols, by sections of stubs with contents, or by relocations.
+-- Routines are selected when the program starts: by symbols, by sections of stubs that aren't empty, or by relocations.
 pub data IsIfuncOrPlt (elf : Elf) (place : ℕ) : Type 0 where
   symbol : Any (λ s. (s.info % 16 ≡ STT_GNU_IFUNC) × (s.value ≡ place)) elf.symbols.items → IsIfuncOrPlt elf place
   section : Any (λ s. IsStubs s × (s.size ≢ 0) × (s.addr ≡ place)) elf.sections.items → IsIfuncOrPlt elf place
   relocation : HasRelocation elf (λ r. r.kind ≡ R_RISCV_IRELATIVE) place → IsIfuncOrPlt elf place
 
--- A section of a file that was rewritten; its index is the place.
+-- A section of a file that was rewritten before. The place is its index.
 abbrev pub IsAlreadyMoved : Elf → ℕ → Type 0
 IsAlreadyMoved elf index =
     IsSomeAnd (slice_get elf.sections.items index) (λ s. IsTrue (starts_with nat_eq s.name.now (codes ".old.")))
 
--- the places of a fault; the kinds that aren't named are looked for by others
+-- The file has the fault at this place. Other kinds belong to other crates.
 abbrev pub HasReferenceFault : Elf → List (ℕ × ℕ) → FaultKind → ℕ → Type 0
 HasReferenceFault elf tabled RelocType place = IsRelocType elf place
 HasReferenceFault elf tabled RelocMismatch place = IsRelocMismatch elf tabled place
