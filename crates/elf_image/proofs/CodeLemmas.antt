@@ -1,4 +1,4 @@
--- The executable segments in the order of their table.
+-- The executable segments, in the order of their table.
 use Rattle.std.proofs.Common.{◌≡◌, ◌∙◌, sym, ap, subst, refl, ℕ, ◌+◌, ◌≤◌, ◌<◌, inl, inr, ⊎_elim, ◌↔◌, IsTrue, List, Option, Some}
 use Rattle.std.proofs.Common.{None, IfSome, IfNone, Any, nat_eq, codes, is_some, Bool, true, false, not, arith}
 use Rattle.std.specs.List.{starts_with}
@@ -15,7 +15,7 @@ use Rattle.elf_image.specs.file.Sections.{section_name}
 use Rattle.elf_image.proofs.LowestPlaces.{IsLowest-same, IsLowest-none}
 use Rattle.elf_image.proofs.SectionLemmas.{section-at}
 
--- the second is the next one after the first
+-- The second executable segment is the next one after the first.
 pub IsSecondCode-next : (file : List ℕ) (first i : ℕ) → IsCode file first → ((k : ℕ) → IsCode file k → 0 ≤ k → first ≤ k) →
     IsCode file i → first + 1 ≤ i → ((k : ℕ) → IsCode file k → first + 1 ≤ k → i ≤ k) → IsSecondCode file i
 IsSecondCode-next file first i code lowest code_i past next = (
@@ -31,7 +31,7 @@ IsSecondCode-next file first i code lowest code_i past next = (
   ),
 )
 
--- there is one second
+-- There is at most one second executable segment.
 earlier_second : (file : List ℕ) (i k : ℕ) → IsSecondCode file i → IsSecondCode file k → i < k → ⊥
 earlier_second file i k (code, (j, code_j, before, only)) (code_k, (m, code_m, before_m, only_m)) less =
     let one = only_m i code less in
@@ -61,7 +61,7 @@ IsLowest-second file second o is lowest =
     subst Here same (many, at))
     lowest
 
--- whether a section was moved
+-- Whether a section was renamed.
 pub HasOldSection-same : (file : List ℕ) (sections : List Section) → AreSections file (e_shnum file) sections →
     Any (λ s. IsTrue (starts_with nat_eq s.name.now (codes ".old."))) sections ↔ HasOldSection file
 HasOldSection-same file sections are = (
@@ -91,14 +91,14 @@ pub IfSome-second : (file : List ℕ) (first : ℕ) (o : Option ℕ) → IsCode 
 IfSome-second file first None code lowest code_i past next = code_i
 IfSome-second file first (Some i) code lowest code_i past next = IsSecondCode-next file first i code lowest code_i past next
 
--- whether a segment is executable, from an index on
+-- Whether a segment from an index on is executable.
 pub has_code-same : (file : List ℕ) (from : ℕ) (o : Option ℕ) → IfSome o (IsCode file) → IfSome o (λ i. from ≤ i) →
     IfNone o ((k : ℕ) → IsCode file k → from ≤ k → ⊥) → IsTrue (is_some o) ↔ ((k : ℕ) × IsCode file k × (from ≤ k))
 has_code-same file from None code past none =
     ((λ is. absurd (let never : false ≡ true = is in cc)), (λ (k, code_k, above). absurd (none k code_k above)))
 has_code-same file from (Some i) code past none = ((λ _. (i, code, past)), (λ _. refl))
 
--- one too many, by two tests
+-- One segment too many, by two tests.
 pub IsTooMany-old : (file : List ℕ) (second : ℕ) (old : Bool) → (((k : ℕ) × IsCode file k × (second + 1 ≤ k)) → ⊥) →
     IsTrue old ↔ HasOldSection file → IsTrue (not old) ↔ IsTooMany file second
 IsTooMany-old file second true none test = (
@@ -111,7 +111,7 @@ pub IsTooMany-more : (file : List ℕ) (second : ℕ) (more : Bool) → IsTrue m
     IsTrue more ↔ IsTooMany file second
 IsTooMany-more file second more is (k, code, above) = ((λ _. inl (k, code, omega arith)), (λ _. is))
 
--- The lowest executable segment of the first ones.
+-- The lowest executable segment among the first ones.
 
 pub IsLowestCodeBelow-begin : (file : List ℕ) (first : ℕ) → IsCode file first → ((k : ℕ) → IsCode file k → first ≤ k) →
     IsLowestCodeBelow file first first
@@ -148,7 +148,7 @@ IsLowestCodeBelow-same file k i higher order is = (
 pub IsLowestCodeBelow-all : (file : List ℕ) (n i : ℕ) → e_phnum file ≤ n → IsLowestCodeBelow file n i → IsLowestCode file i
 IsLowestCodeBelow-all file n i all is = (is.0, λ j code_j below. is.1 j code_j (omega arith))
 
--- where no segment is executable, nothing crosses the end of one
+-- If no segment is executable, nothing crosses the end of one.
 pub crosses_nothing : (file : List ℕ) → ((i : ℕ) → IsCode file i → ⊥) → IsLowest (IsCrossed file) None
 crosses_nothing file none =
     IsLowest-none
@@ -156,7 +156,7 @@ crosses_nothing file none =
     (λ (i, below, ((code, lowest, before, after), at)). none code lowest.0)
     (λ ((code, lowest, before, after), at). none code lowest.0))
 
--- there is one lowest executable segment
+-- There is only one lowest executable segment.
 lowest_code_same : (file : List ℕ) (c d : ℕ) → IsLowestCode file c → IsLowestCode file d → c ≡ d
 lowest_code_same file c d (code_c, least_c) (code_d, least_d) =
     let to_d = least_c d code_d code_d.0 in
@@ -166,7 +166,7 @@ lowest_code_same file c d (code_c, least_c) (code_d, least_d) =
     (λ (same, at). ⊎_elim (λ more. absurd (omega arith)) (λ (same', at'). omega arith) to_c)
     to_d
 
--- whether a range crosses the end of a segment that is the lowest executable one
+-- Whether a range crosses the end of the lowest executable segment.
 pub CrossesEnd-of : (file : List ℕ) (code offset size : ℕ) (p : Segment) (crosses : Bool) → IsLowestCode file code →
     p ≡ segment file code →
     IsTrue crosses ↔ ((offset < p.offset + p.filesz) × (p.offset + p.filesz < offset + size)) →

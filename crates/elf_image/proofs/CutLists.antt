@@ -1,4 +1,4 @@
--- The cuts of a file as a list, symbol for symbol and section for section.
+-- The cuts of a file as a list, symbol by symbol and section by section.
 use Rattle.std.proofs.Common.{◌≡◌, sym, subst, refl, ℕ, suc, zero, ◌+◌, ◌^◌, Bool, true, false, if◌then◌else◌, nat_lt, IsTrue}
 use Rattle.std.proofs.Common.{List, [], ◌∷◌, ◌++◌, arith, ◌⊎◌, inl, inr, ⊎_elim}
 use Rattle.std.specs.List.{Contains, Any, flat_map}
@@ -11,7 +11,7 @@ use Rattle.elf_image.specs.file.Sections.{holds_code}
 use Rattle.elf_image.specs.file.CutLists.{bounds, bounds_of_symbol, bounds_of_section, symbol_bounds, section_bounds}
 use Rattle.rb_bytes.proofs.Members.{Contains-cons_cases}
 
--- the members of a list of lists
+-- Members of a list of lists.
 Any-cons : {X : Type 0} (P : X → Type 0) (x : X) (xs : List X) → P x ⊎ Any P xs → Any P (x ∷ xs)
 Any-cons P x xs (inl here) = (0, x, omega arith, refl, here)
 Any-cons P x xs (inr (k, y, within, is, holds)) = (suc k, y, omega arith, is, holds)
@@ -37,7 +37,7 @@ Contains-flat_map_from f P says (x ∷ xs) a is_in =
     (λ later. Contains-append_right (f x) (flat_map f xs) a (Contains-flat_map_from f P says xs a later))
     (Any-cons_cases (P a) x xs is_in)
 
--- the bounds of a range
+-- The bounds of a range.
 IsBound-from_bounds : (start size a : ℕ) → Contains (bounds start size) a → IsBound start size a
 IsBound-from_bounds start size a =
     elim (nat_lt (start + size) (2 ^ 64)) as
@@ -66,7 +66,7 @@ bounds-from_IsBound start size a =
     ]
     refl
 
--- the bounds of what a test chooses
+-- The bounds of chosen items.
 chosen-bounds : (chosen : Bool) (start size a : ℕ) → Contains (if chosen then bounds start size else []) a → IsTrue chosen
     × IsBound start size a
 chosen-bounds true start size a is_in = (refl, IsBound-from_bounds start size a is_in)
@@ -77,7 +77,7 @@ chosen-bounds_from : (chosen : Bool) (start size a : ℕ) → IsTrue chosen × I
 chosen-bounds_from true start size a is = bounds-from_IsBound start size a is.1
 chosen-bounds_from false start size a is = absurd (let no : false ≡ true = is.0 in cc)
 
--- all bounds are all cuts
+-- The bounds are exactly the cuts.
 pub IsCutAddress-from_lists : (symbols : List Symbol) (sections : List Section) (a : ℕ) →
     Contains (symbol_bounds symbols ++ section_bounds sections) a → IsCutAddress symbols sections a
 IsCutAddress-from_lists symbols sections a is_in =

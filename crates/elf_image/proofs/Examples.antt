@@ -1,4 +1,4 @@
--- The executable segment and the break, on small examples: each equation holds by computing.
+-- The executable segment and the break of small examples. Each equation holds by computation.
 use Rattle.std.specs.Prelude.{◌≡◌, ℕ, [], ◌∷◌, Some, refl}
 use Rattle.elf_image.specs.declared.segment.Segment.{Segment}
 use Rattle.elf_image.specs.memory.CodeSegment.{executable_segment, executable_end}
@@ -6,7 +6,7 @@ use Rattle.elf_image.specs.memory.Break.{break_start, break_bound}
 
 -- Segments.
 
--- a loaded segment with these flags, whose bytes all come from the file
+-- A loaded segment with these flags, whose bytes all come from the file.
 abbrev segment : ℕ → ℕ → ℕ → ℕ → Segment
 segment flags offset address size = record {
   kind = 1;
@@ -25,34 +25,34 @@ code = segment 5 0 0x10000 0xff0
 abbrev variables : Segment
 variables = segment 6 0x1000 0x11000 8
 
--- of two executable ones it is that of the lower address
+-- Of two executable segments, the one at the lower address counts.
 lower_is_executable : executable_segment (segment 5 0x2000 0x20000 16 ∷ code ∷ []) ≡ Some (1, code)
 lower_is_executable = refl
 
--- and of two at one address the first
+-- Of two executable segments at the same address, the first counts.
 first_is_executable : executable_segment (segment 5 0x2000 0x10000 0 ∷ code ∷ []) ≡ Some (0, segment 5 0x2000 0x10000 0)
 first_is_executable = refl
 
 end_of_executable : executable_end (code ∷ variables ∷ []) ≡ 0xff0
 end_of_executable = refl
 
--- The break.
+-- The program break.
 
--- on the page after the variables, and for 64 MiB
+-- The break starts on the page after the variables, with up to 64 MiB.
 start_of_break : break_start (code ∷ variables ∷ []) ≡ 0x12000
 start_of_break = refl
 
 bound_of_break : break_bound (code ∷ variables ∷ []) ≡ 0x4012000
 bound_of_break = refl
 
--- a segment above ends it at the page on which that one starts
+-- A segment above limits the break to the page on which it starts.
 bound_below_next : break_bound (code ∷ variables ∷ segment 4 0x2000 0x14010 8 ∷ []) ≡ 0x14000
 bound_below_next = refl
 
--- which may be the page of the variables' end
+-- That page may be the page on which the variables end.
 bound_on_one_page : break_bound (code ∷ variables ∷ segment 4 0x2000 0x11010 8 ∷ []) ≡ 0x12000
 bound_on_one_page = refl
 
--- without a writable segment there is none
+-- There is no break without a writable segment.
 no_break : break_bound (code ∷ []) ≡ 0
 no_break = refl

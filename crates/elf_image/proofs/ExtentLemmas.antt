@@ -13,15 +13,15 @@ use Rattle.elf_image.specs.faults.LowestPlace.{IsLowest, SomeBelow}
 use Rattle.elf_image.specs.internal.Extents.{SharesAnother, HavePlaces, MeetsAnother, MeetsNext, IsReach}
 use Rattle.elf_image.proofs.LowestPlaces.{IsLowest-same}
 
--- a range that stands for those past a list's end
+-- A default range for indices past the end of a list.
 abbrev pub no_extent : Extent
 no_extent = record { start = 0; end = 0; place = 0 }
 
--- the place of the range of an index, if it meets another
+-- The place of the range with index k, if it overlaps another.
 abbrev pub MeetingPlace : List Extent → ℕ → ℕ → Type 0
 MeetingPlace extents k place = MeetsAnother extents k × (place ≡ (get_or extents k no_extent).place)
 
--- The ranges meet where neighbours do, or where one begins before the greatest end so far.
+-- A range overlaps another if it overlaps a neighbour, or starts before the greatest end so far.
 
 pub MeetsAnother-from_next : (extents : List Extent) (k : ℕ) → IsNonDecreasingBy (λ s. s.start) extents →
     All (λ s. s.start < s.end) extents → MeetsNext extents k → MeetsAnother extents k
@@ -66,7 +66,7 @@ IsReach-more extents k reach new e within is reached = record {
   ];
 }
 
--- Meeting by index is sharing a number, of places that differ.
+-- Overlap by index is the same as sharing a number with a range of another place.
 
 meeting_shares : (extents : List Extent) → HavePlaces extents → All (λ s. s.start < s.end) extents → (place : ℕ) →
     SomeBelow (length extents) (MeetingPlace extents) place → SharesAnother extents place
@@ -130,7 +130,7 @@ IsLowest-shared extents o n places not_empty all is =
     let Below : ℕ → Type 0 = λ k. IsLowest (SomeBelow k (MeetingPlace extents)) o in
     IsLowest-same o (meeting_shares extents places not_empty) (shares_meet extents) (subst Below all is)
 
--- The order of the ranges doesn't matter.
+-- The order of ranges doesn't matter.
 
 eqb_comm : (a b : ℕ) → nat_eq a b ≡ nat_eq b a
 eqb_comm a b =

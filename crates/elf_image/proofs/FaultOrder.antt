@@ -1,4 +1,4 @@
--- The order of faults: each is looked for where those of lower numbers are absent.
+-- The order of faults: each kind is searched for only if the kinds with lower numbers are absent.
 use Rattle.std.proofs.Common.{◌≡◌, ◌∙◌, sym, ap, subst, refl, ℕ, if◌then◌else◌, ◌+◌, ◌≤◌, ◌<◌, ⊎_elim, Option, Some, None}
 use Rattle.std.proofs.Common.{Result, Ok, Err, MatchOption, MatchResult, OnOk, IfErr, arith, rules}
 use Rattle.std.proofs.lemmas.Bool.{cases_lt}
@@ -13,7 +13,7 @@ use Rattle.rb_bytes.specs.declared.fault.FaultKind.TheVariants.{LoMismatch, Narr
 use Rattle.rb_bytes.specs.FirstFault.{LacksBelow, IsAnswered}
 use Rattle.elf_image.specs.faults.LowestPlace.{IsLowest}
 
--- the kind of a number below 16, which two kinds share
+-- The kind with a number below 16, which two kinds share.
 numbered : ℕ → FaultKind
 numbered n =
     if n == 1 then NotElf else
@@ -54,7 +54,7 @@ same_kind : (a b : FaultKind) → number_of a ≡ number_of b → number_of b < 
 same_kind a b same low =
     numbered-number a (omega arith) ∙ ap numbered same ∙ sym (numbered-number b low)
 
--- no number is below 1
+-- No kind has a number below 1.
 pub LacksBelow-none : (Has : FaultKind → ℕ → Type 0) → LacksBelow Has 1
 LacksBelow-none Has kind low = absurd (none kind low)
   where
@@ -62,7 +62,7 @@ LacksBelow-none Has kind low = absurd (none kind low)
     none NotElf low = omega arith
     none _ low = omega arith
 
--- one more kind is absent
+-- One more kind is absent.
 pub LacksBelow-more : (Has : FaultKind → ℕ → Type 0) (kind : FaultKind) → number_of kind < 16 → LacksBelow Has (number_of kind) →
     IsLowest (Has kind) None → LacksBelow Has (number_of kind + 1)
 LacksBelow-more Has kind low before absent = λ k below place has.
@@ -73,7 +73,7 @@ LacksBelow-more Has kind low before absent = λ k below place has.
     absent.least place (subst (λ (q : FaultKind). Has q place) same has))
     (cases_lt (number_of k) (number_of kind))
 
--- the first that is present
+-- The first kind that is present.
 pub IsAnswered-first : (Has : FaultKind → ℕ → Type 0) (kind : FaultKind) (place : ℕ) → number_of kind < 16 →
     LacksBelow Has (number_of kind) → IsLowest (Has kind) (Some place) → IsAnswered Has (fault_at kind place)
 IsAnswered-first Has kind place low before is = record {
@@ -83,7 +83,7 @@ IsAnswered-first Has kind place low before is = record {
   alone = refl;
 }
 
--- one step: a refusal where the kind has a place, else none of that number either
+-- One step: a refusal if the kind has a place, and otherwise no fault with this number.
 pub refused : {U : Type 0} (u : U) (Has : FaultKind → ℕ → Type 0) (kind : FaultKind) (lowest : Option ℕ) (r : Result U Fault) →
     MatchOption lowest (r ≡ Ok u) (λ p. r ≡ Err (fault_at kind p)) → number_of kind < 16 → LacksBelow Has (number_of kind) →
     IsLowest (Has kind) lowest → MatchResult r (λ _. LacksBelow Has (number_of kind + 1)) (IsAnswered Has)
@@ -104,7 +104,7 @@ pub refused-fault : {U : Type 0} (Has : FaultKind → ℕ → Type 0) (n : ℕ) 
 refused-fault Has n (Ok _) step = search rules
 refused-fault Has n (Err _) step = step
 
--- where it goes on, and where it stops
+-- The step goes on, or stops.
 pub went_on : {U : Type 0} (u : U) (Has : FaultKind → ℕ → Type 0) (kind : FaultKind) (lowest : Option ℕ) (r : Result U Fault) →
     MatchOption lowest (r ≡ Ok u) (λ p. r ≡ Err (fault_at kind p)) → r ≡ Ok u → number_of kind < 16 →
     LacksBelow Has (number_of kind) → IsLowest (Has kind) lowest → LacksBelow Has (number_of kind + 1)

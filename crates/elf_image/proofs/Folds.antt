@@ -1,4 +1,6 @@
--- The lowest of what a function gives at each index, one more index at a time; and the lowest place, where it gives that of each.
+-- The lowest result of a function for the indices below a count, index by index, and the lowest place if the function
+-- returns the lowest
+-- place for each index.
 use Rattle.std.proofs.Common.{◌≡◌, subst, sym, refl, ℕ, ◌+◌, ◌≤◌, ◌<◌, ⊎_elim, Option, Some, None, min, IfSome, IsSomeAnd, arith, rules}
 use Rattle.std.proofs.lemmas.Bool.{cases_lt}
 use Rattle.elf_image.specs.faults.LowestPlace.{IsLowest, SomeBelow, lower}
@@ -57,7 +59,7 @@ given-present : (S : ℕ → ℕ → Type 0) (Gives : ℕ → Option ℕ → Typ
 given-present S Gives count None each given = search rules
 given-present S Gives count (Some p) each given = (given.0, given.1, (each given.0 (Some p) given.1 given.2).present)
 
--- where the function gives the lowest place of each index
+-- The function returns the lowest place for each index.
 pub IsLowest-of : (S : ℕ → ℕ → Type 0) (Gives : ℕ → Option ℕ → Type 0) (count : ℕ) (o : Option ℕ) →
     ((i : ℕ) (r : Option ℕ) → i < count → Gives i r → IsLowest (S i) r) → IsLowestOf Gives count o →
     IsLowest (SomeBelow count S) o

@@ -1,4 +1,4 @@
--- The segment that loads an address, found in the order of addresses.
+-- The segment that loads an address, found in a list sorted by address.
 use Rattle.std.proofs.Common.{◌≡◌, ◌∙◌, sym, ap, subst, refl, ℕ, ◌-◌, ◌<◌, ◌≤◌, true, false, IsTrue, List}
 use Rattle.std.proofs.Common.{length, get_or, Some, None, All, arith, inl, inr, ◌&&◌, nat_le, nat_lt}
 use Rattle.std.specs.List.{Contains, find, filter}
@@ -12,9 +12,9 @@ use Rattle.elf_image.specs.declared.segment.Segment.{Segment}
 use Rattle.elf_image.specs.memory.Image.{is_load, end_of, has_memory, loads_address, segment_of, LoadOnce}
 use Rattle.rb_bytes.proofs.Searches.{find-found, find-finds, find-none, find-only, Contains-filter, Contains-from_filter}
 
--- Lists of segments: all those with memory, in some order.
+-- Lists of segments: all segments with memory, in some order.
 
--- a segment loads an address where it is loaded and holds it
+-- A segment loads an address if it is loaded and contains it.
 pub loads-parts : (a : ℕ) (p : Segment) → IsTrue (loads_address a p) → IsTrue (is_load p) × (p.vaddr ≤ a) × (a < end_of p)
 loads-parts a p loads =
     let both = and_parts (is_load p && nat_le p.vaddr a) (nat_lt a (end_of p)) loads in
@@ -31,7 +31,7 @@ has_memory-from_loads a p loads =
     let parts = loads-parts a p loads in
     and_from (is_load p) (nat_lt 0 p.memsz) parts.0 (lt-ltb 0 p.memsz (let low = parts.1 in let high = parts.2 in omega arith))
 
--- the last address of a segment with memory
+-- The last address of a segment with memory.
 pub loads_last : (p : Segment) → has_memory p ≡ true → IsTrue (loads_address (end_of p - 1) p)
 loads_last p has =
     let parts = and_parts (is_load p) (nat_lt 0 p.memsz) has in
@@ -83,9 +83,9 @@ segment_of-order segments some loads once is order a =
     ]
     refl
 
--- The segment that stands last of those that begin at an address or below it.
+-- The last segment that starts at or below an address.
 
--- where it is none, none loads the address
+-- If there is no such segment, no segment loads the address.
 pub segment_of-none_below : (loads : List Segment) (a : ℕ) →
     ((k : ℕ) (d : Segment) → k < length loads → a < (get_or loads k d).vaddr) → segment_of loads a ≡ None
 segment_of-none_below loads a above =
@@ -94,7 +94,7 @@ segment_of-none_below loads a above =
     (λ loads_it. let low = (loads-parts a p loads_it).1 in let far = above p_in.0 p p_in.1 in
     let same = ap (λ (q : Segment). q.vaddr) p_in.2 in omega arith))
 
--- where it loads the address, it is the one
+-- If this segment loads the address, it is the result.
 pub segment_of-last : (loads : List Segment) (a i : ℕ) (d : Segment) → LoadOnce loads → i < length loads →
     IsTrue (loads_address a (get_or loads i d)) → segment_of loads a ≡ Some (get_or loads i d)
 segment_of-last loads a i d once within loads_it =
@@ -102,7 +102,7 @@ segment_of-last loads a i d once within loads_it =
     find-only (loads_address a) loads (get_or loads i d) here loads_it
     (λ q q_in q_loads. once a q (get_or loads i d) q_in here q_loads loads_it)
 
--- what loads the address and begins no later than another segment at or below it is that one
+-- A segment that loads the address, and starts at or below a last segment at or below the address, is that segment.
 same_as_last : (loads : List Segment) (a : ℕ) (p last : Segment) → LoadOnce loads → Contains loads p → Contains loads last →
     IsTrue (has_memory last) → p.vaddr ≤ last.vaddr → last.vaddr ≤ a → IsTrue (loads_address a p) → p ≡ last
 same_as_last loads a p last once p_in last_in memory before below loads_it =
@@ -114,7 +114,7 @@ same_as_last loads a p last once p_in last_in memory before below loads_it =
     (loads-from_parts last.vaddr p parts.0 before (omega arith))
     (loads-from_parts last.vaddr last loaded.0 (omega arith) (omega arith))
 
--- and where it doesn't, none does
+-- If the last segment doesn't load the address, no segment does.
 pub segment_of-none_last : (loads : List Segment) (a i : ℕ) (d : Segment) → LoadOnce loads →
     All (λ p. IsTrue (has_memory p)) loads →
     IsNonDecreasingBy (λ p. p.vaddr) loads → i < length loads → (get_or loads i d).vaddr ≤ a →
@@ -136,7 +136,7 @@ segment_of-none_last loads a i d once loaded rising within below above fails =
     (omega arith) below loads_it in
     ap (loads_address a) (sym is_last) ∙ loads_it)))
 
--- the segment that loads an address loads all that lies in it
+-- The segment that loads an address also loads all its other addresses.
 pub same_segment : (elf : Elf) (a q : ℕ) (p : Segment) → segment_of elf.segments.items a ≡ Some p → IsTrue (loads_address q p) →
     segment_of elf.segments.items q ≡ Some p
 same_segment elf a q p found here =

@@ -1,4 +1,4 @@
--- In a sound file all that is loaded lies low, so the break has room above it.
+-- In a sound file all loaded addresses are low, so there is room above for the break.
 use Rattle.std.proofs.Common.{◌≡◌, ◌∙◌, sym, subst, refl, ℕ, ◌+◌, ◌-◌, ◌^◌, ◌<◌, ◌≤◌, zero, true, false, cond, IsTrue, List, []}
 use Rattle.std.proofs.Common.{◌∷◌, arith, ⊎_elim, ◌&&◌, max, map, Bool}
 use Rattle.std.specs.List.{Contains, filter, fold}
@@ -15,7 +15,7 @@ use Rattle.rb_bytes.proofs.Members.{Contains-there}
 use Rattle.elf_image.proofs.LoadLemmas.{loads_last}
 use Rattle.elf_image.proofs.ReadLists.{get_or-segments}
 
--- each segment with memory ends at the bound or below it
+-- Each segment with memory ends at or below the bound.
 record EndsBelow (bound : ℕ) (segments : List Segment) : Type 0 where
   each : (p : Segment) → Contains segments p → has_memory p ≡ true → end_of p ≤ bound
 

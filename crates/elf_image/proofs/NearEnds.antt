@@ -1,4 +1,4 @@
--- The first zero byte of a piece of a table of names.
+-- The first zero byte in a range of a string table.
 use Rattle.std.proofs.Common.{◌≡◌, ◌∙◌, ℕ, ◌+◌, ◌-◌, ◌≤◌, ◌<◌, List, Some, length, get_or, take, drop, length-drop, arith, ap, sym}
 use Rattle.std.proofs.lemmas.Bool.{eqb-true, eq-eqb}
 use Rattle.std.proofs.lemmas.List.{get_or-drop, get_or-take, length-take-le}

@@ -1,8 +1,8 @@
--- Numbers that stand in the same bytes of two lists.
+-- Numbers in equal bytes of two lists.
 use Rattle.std.proofs.Common.{◌≡◌, ℕ, zero, suc, ◌+◌, ◌≤◌, ◌<◌, List, get_or, arith, refl}
 use Rattle.byteorder.specs.Endian.{little_from}
 
--- a number is made of its bytes alone
+-- A number only depends on its bytes.
 pub little_from-same : (i n : ℕ) (xs ys : List ℕ) → ((k : ℕ) → i ≤ k → k < i + n → get_or xs k 0 ≡ get_or ys k 0) →
     little_from i n xs ≡ little_from i n ys
 little_from-same i zero xs ys same = refl

@@ -1,4 +1,4 @@
--- Ranges grown to the greatest end of those up to each.
+-- Ranges that are extended to the greatest end of the ranges up to each.
 use Rattle.std.proofs.Common.{◌≡◌, ◌≢◌, Bool, IsTrue, ◌∙◌, sym, ap, subst, refl, ℕ, ◌+◌, ◌-◌, ◌≤◌, ◌<◌, inl, inr, ⊎_elim, ◌↔◌}
 use Rattle.std.proofs.Common.{List, [], ◌∷◌, ◌++◌, length, get_or, length-append, arith}
 use Rattle.std.specs.List.Sorted.{IsNonDecreasingBy, IsPermutation}
@@ -16,7 +16,7 @@ use Rattle.elf_image.specs.file.Sections.{holds_code}
 use Rattle.elf_image.specs.internal.SegmentExtents.{AreExtents, IsCodeExtent}
 use Rattle.elf_image.specs.internal.Extents.{IsReach, IsInOneExtent}
 
--- the first n ranges, so grown
+-- The first n ranges, extended.
 pub record AreReaches (extents reaches : List Extent) (n : ℕ) : Type 0 where
   pub count : length reaches ≡ n
   pub start : (k : ℕ) (d : Extent) → k < n → (get_or reaches k d).start ≡ (get_or extents k d).start
@@ -60,7 +60,7 @@ AreReaches-growing extents reaches n are i j d before within =
     ⊎_elim (λ (none : (get_or reaches i d).end ≡ 0). omega arith)
     (λ (m, below, end). let far = there.above m d (omega arith) in let same = end d in omega arith) here.reached
 
--- what the grown ranges hold the given ones hold
+-- What an extended range contains, a given range contains.
 pub IsCovered-from_reaches : (extents reaches : List Extent) (n a e : ℕ) → n ≡ length extents →
     IsNonDecreasingBy (λ s. s.start) extents → AreReaches extents reaches n → a < e → IsInOneExtent reaches a e →
     IsInOneExtent extents a e
@@ -85,7 +85,7 @@ IsCovered-to_reaches extents reaches n a e all are (s, (k, within, is), low, hig
     let far = (are.reach k s (omega arith)).above k s (omega arith) in
     (get_or reaches k s, Contains-get_or reaches k s (omega arith), omega arith, omega arith)
 
--- a range holds them where the last that begins so low does
+-- If the last range that starts at or below a number contains all numbers up to an end, some range does.
 pub IsCovered-from_last : (extents : List Extent) (a e i : ℕ) (d : Extent) → i < length extents → (get_or extents i d).start ≤ a →
     e ≤ (get_or extents i d).end → IsInOneExtent extents a e
 IsCovered-from_last extents a e i d within low high = (get_or extents i d, Contains-get_or extents i d within, low, high)
@@ -101,11 +101,11 @@ IsCovered-by_last extents a e below d growing above (s, (k, within, is), low, hi
     elim (cases_lt k below) [ inl less ↦ less | inr more ↦ absurd (let far = above k s more within in omega arith) ] in
     (omega arith, λ bound. let order = growing k (below - 1) d (omega arith) (omega arith) in omega arith)
 
--- the order of ranges doesn't matter
+-- The order of ranges doesn't matter.
 pub IsCovered-permutation : (xs ys : List Extent) (a e : ℕ) → IsPermutation xs ys → IsInOneExtent xs a e → IsInOneExtent ys a e
 IsCovered-permutation xs ys a e order (s, is_in, low, high) = (s, Contains-permutation xs ys s order is_in, low, high)
 
--- the ranges of executable segments
+-- The ranges of executable segments.
 LiesInCode-from_extents : (file : List ℕ) (extents : List Extent) (a e : ℕ) →
     AreExtents (IsCodeExtent file) (e_phnum file) extents → IsInOneExtent extents a e → LiesInCode file a e
 LiesInCode-from_extents file extents a e are (s, is_in, low, high) =
@@ -123,7 +123,7 @@ LiesInCode-to_extents file extents a e are some (j, (below, code), low, high) =
     let s : Extent = record { start = p.vaddr; end = end_of p; place = segment_place file j } in
     (s, are.all j s below (code, ((and_parts (is_load p) (has_flag PF_X p) code).0, refl, refl, omega arith, refl)), low, high)
 
--- what the grown ranges cover lies in an executable segment
+-- Numbers covered by extended ranges are in an executable segment.
 pub IsCovered-in_code : (file : List ℕ) (extents sorted reaches : List Extent) →
     AreExtents (IsCodeExtent file) (e_phnum file) extents →
     IsPermutation extents sorted →
@@ -136,7 +136,7 @@ IsCovered-in_code file extents sorted reaches are order same a e some = (
       (IsCovered-permutation extents sorted a e order (LiesInCode-to_extents file extents a e are some lies))),
 )
 
--- a section that lies in no range
+-- A section that is in no range.
 pub IsStray-same : (file : List ℕ) (reaches : List Extent) (s : SectionHeader) (stray : Bool) →
     ((a e : ℕ) → a < e → IsInOneExtent reaches a e ↔ LiesInCode file a e) →
     IsTrue stray ↔ (IsTrue (holds_code s.flags) × (s.size ≢ 0) × (IsInOneExtent reaches s.addr (s.addr + s.size) → ⊥)) →

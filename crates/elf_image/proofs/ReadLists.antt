@@ -34,7 +34,7 @@ segments_from-more file o (suc n) =
     ∙ ap (λ (xs : List _). segment_at file o ∷ xs) rest
     ∙ ap (segments_from file o) (sym count)
 
--- what holds of each element, and of one more
+-- A property of each element, and of one more.
 each_more : {A : Type 0} (P : ℕ → A → Type 0) (xs : List A) (x : A) → ((i : ℕ) (s : A) → slice_get xs i ≡ Some s → P i s) →
     P (length xs) x → (i : ℕ) (s : A) → slice_get (xs ++ x ∷ []) i ≡ Some s → P i s
 each_more P [] x each here zero s e = subst (P zero) (same_Some x s e) here
@@ -62,7 +62,7 @@ AreSymbols-more file table n xs x are is = record {
       (subst (λ (k : ℕ). IsSymbolAt file table (symbol_place table k) x) (sym are.count_is) is);
 }
 
--- the segments by their indices
+-- The segments by index.
 pub length-segments_from : (file : List ℕ) (o n : ℕ) → length (segments_from file o n) ≡ n
 unfolding segments_from
 length-segments_from file o zero = refl
@@ -88,7 +88,7 @@ get_or-segments file k d within =
     let below : k < e_phnum file = omega arith in
     (below, get_or-segments_from file (e_phoff file) (e_phnum file) k d below)
 
--- segments that share no address load each once
+-- If no segments share an address, each address is loaded at most once.
 pub LoadOnce-apart : (file : List ℕ) → ((place : ℕ) → SomeBelow (e_phnum file) (SharesAddress file) place → ⊥) →
     LoadOnce (segments_of file)
 LoadOnce-apart file none a p q (i, within_i, at_i) (j, within_j, at_j) loads_p loads_q =

@@ -1,4 +1,4 @@
--- A file that is truncated nowhere has all its structures whole.
+-- A file that isn't truncated contains all its structures.
 use Rattle.std.proofs.Common.{◌≡◌, ◌≤◌, ◌<◌, ◌+◌, inl, inr, ⊎_elim, ℕ, zero, suc, List, Bool, true, false, Option, Some, None}
 use Rattle.std.proofs.Common.{if◌then◌else◌, length, IfSome, IfNone, sym, refl, subst, arith, rules}
 use Rattle.std.proofs.lemmas.Bool.{cases_lt, cases_Bool}
@@ -14,7 +14,7 @@ use Rattle.elf_image.specs.file.Sections.{section_header}
 use Rattle.elf_image.proofs.TruncatedPlaces.{symbol_table_from}
 use Rattle.elf_image.specs.faults.LowestPlace.{IsLowest}
 
--- whether a range is whole is a test, so that it is whole if it can't be truncated
+-- Completeness of a range is decidable, so a range that can't be incomplete is complete.
 IsWhole-stable : (file : List ℕ) (offset size : ℕ) → ((IsWhole file offset size → ⊥) → ⊥) → IsWhole file offset size
 IsWhole-stable file offset size not_truncated =
     elim (eqb_tells size 0) [
@@ -34,7 +34,7 @@ HasContents-stable file s not_truncated =
       | inr differ ↦ inr (IsWhole-stable file s.offset s.size (λ truncated. not_truncated (⊎_elim (λ e. differ.1 e) truncated)))
     ]
 
--- what holds of all sections holds of the symbol table
+-- What holds for all sections holds for the symbol table.
 symbol_table_from-all : (P : SectionHeader → Type 0) (file : List ℕ) (i n count : ℕ) → i + n ≡ count →
     ((j : ℕ) → j < count → P (section_header file j)) → IfSome (symbol_table_from file i n) P
 symbol_table_from-all P file i zero count e all = search rules

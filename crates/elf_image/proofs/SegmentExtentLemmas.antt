@@ -1,4 +1,4 @@
--- The ranges of segments, and the segments that share a number.
+-- The ranges of segments, and segments that overlap.
 use Rattle.std.proofs.Common.{◌≡◌, ◌≢◌, ◌∙◌, sym, ap, subst, refl, ℕ, ◌+◌, ◌<◌, inl, inr, ◌↔◌, IsTrue, List, [], ◌∷◌, ◌++◌}
 use Rattle.std.proofs.Common.{get_or, Option, Some, None, IfSome, IfNone, All, arith}
 use Rattle.std.specs.List.{Contains}
@@ -19,7 +19,7 @@ use Rattle.elf_image.specs.internal.Extents.{IsInExtent, SharesAnother}
 use Rattle.elf_image.proofs.LoadLemmas.{loads-parts, loads-from_parts}
 use Rattle.elf_image.proofs.LowestPlaces.{IsLowest-same}
 
--- Places rise with the index.
+-- Places ascend with the index.
 
 segment_place-less : (file : List ℕ) (i j : ℕ) → i < j → segment_place file i < segment_place file j
 segment_place-less file i j less = omega arith
@@ -32,7 +32,7 @@ segment_place-only file i j same = omega arith
 Extent-same : (s t : Extent) → s.start ≡ t.start → s.end ≡ t.end → s.place ≡ t.place → s ≡ t
 Extent-same s t start end place = λ i. record { start = start i; end = end i; place = place i }
 
--- A loop over the segments that appends the range of each, if there is one.
+-- A loop over the segments that appends the range of each segment that has one.
 
 none_more : (IsExtent : ℕ → Extent → Type 0) (n : ℕ) (extents : List Extent) → ((s : Extent) → IsExtent n s → ⊥) →
     AreExtents IsExtent n extents → AreExtents IsExtent (n + 1) extents
@@ -83,7 +83,7 @@ pub not_empty : (IsExtent : ℕ → Extent → Type 0) (n : ℕ) (extents : List
 not_empty IsExtent n extents some are k d within =
     let is = are.each (get_or extents k d) (Contains-get_or extents k d within) in some is.0 (get_or extents k d) is.2
 
--- The place of a range that shares a number with another is that of a segment that does.
+-- The place of a range that overlaps another is the place of a segment that does.
 
 abbrev pub SharesSome : (List ℕ) → (ℕ → ℕ → Type 0) → ℕ → ℕ → ℕ → Type 0
 SharesSome file IsOf n i place = ((j : ℕ) × (j < n) × (j ≢ i) × ((x : ℕ) × IsOf i x × IsOf j x)) × (place ≡ segment_place file i)
@@ -191,7 +191,7 @@ IsFileExtent-holds file i k s (load, start, end, some, place) = (
 
 -- Addresses of executable segments.
 
--- a segment without addresses has none that are executable
+-- A segment without addresses has no executable addresses.
 IfNone-weaker : {X : Type 0} (o : Option X) {P Q : Type 0} → (P → Q) → IfNone o P → IfNone o Q
 IfNone-weaker None to is = to is
 IfNone-weaker (Some x) to is = is

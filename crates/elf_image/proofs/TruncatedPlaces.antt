@@ -23,11 +23,11 @@ IsLowest-unended table end read name at place r last same e there =
       λ unended. let above : end ≤ name = last.ended name unended in grind (arith, nat_tests),
     )
 
--- the first symbol table of the n sections from an index on
+-- The first symbol table among n sections from index i on.
 abbrev pub symbol_table_from : List ℕ → ℕ → ℕ → Option SectionHeader
 symbol_table_from file i n = find (λ section. section.kind == SHT_SYMTAB) (map (section_header file) (range_with_len i n))
 
--- one section of those that are left
+-- One of the remaining sections.
 pub symbol_table_from-next : (file : List ℕ) (i n : ℕ) → i < n →
     symbol_table_from file i (n - i)
     ≡ (if (section_header file i).kind == SHT_SYMTAB then Some (section_header file i)
@@ -57,7 +57,7 @@ symbol_table_from-other file i n below other =
 pub symbol_table_from-none : (file : List ℕ) (i n : ℕ) → n ≤ i → symbol_table_from file i (n - i) ≡ None
 symbol_table_from-none file i n past = let left : n - i ≡ zero = omega arith in ap (λ (k : ℕ). symbol_table_from file i k) left
 
--- the names of the symbols of a table that is there, or other
+-- The names of the symbols of an optional table.
 pub IsLowest-symbols : (file : List ℕ) (o : Option SectionHeader) (table : SectionHeader) (r : Option ℕ) → Some table ≡ o →
     HasSymbolNames file table → IsLowest (SomeBelow (symbol_count table) (IsUnnamedSymbol file table)) r →
     IsLowest (IsUnnamedSymbolOf file o) r
@@ -75,7 +75,7 @@ IsLowest-no_names file o table same lacks =
     same
     (IsLowest-none (λ p unnamed. lacks unnamed.0))
 
--- the places beyond a header that is whole
+-- The places of structures in a file with a complete header.
 pub IsLowest-beyond : (file : List ℕ) (r : Option ℕ) → HasHeader file → IsLowest (IsTruncatedBeyond file) r →
     IsLowest (IsTruncated file) r
 IsLowest-beyond file r has is =

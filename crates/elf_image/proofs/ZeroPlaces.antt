@@ -1,4 +1,4 @@
--- The places of zero bytes in a table of names, and the text that ends at one.
+-- The indices of zero bytes in a string table, and the string that ends at one.
 use Rattle.std.proofs.Common.{◌≡◌, ◌≢◌, ◌∙◌, sym, ap, subst, refl, ℕ, zero, suc, ◌+◌, ◌-◌, ◌≤◌, ◌<◌, inl, inr, ⊎_elim, Bool, true}
 use Rattle.std.proofs.Common.{false, not, List, [], ◌∷◌, length, get_or, take, drop, length-drop, ltb, ltb-true, arith}
 use Rattle.std.proofs.lemmas.Bool.{cases_Bool, cases_lt, cond-true, cond-false, eqb-true, eq-eqb}
@@ -14,7 +14,7 @@ use Rattle.std.specs.List.{prefix_len}
 use Rattle.std.specs.List.Sorted.{IsPartitionPoint, IsPartitionedBy}
 use Rattle.std.proofs.lemmas.List.Sorted.{IsPartitionedBy-ltb}
 
--- the list has, ascending, exactly the places from low up to high that pass
+-- The list has exactly the indices from low to before high that pass, ascending.
 pub record AreListed (test : ℕ → Bool) (hay : List ℕ) (low high : ℕ) (zs : List ℕ) : Type 0 where
   pub each : (k d : ℕ) → k < length zs → (low ≤ get_or zs k d) × (get_or zs k d < high) × Passes test hay (get_or zs k d)
   pub rising : (j k d : ℕ) → j ≤ k → k < length zs → get_or zs j d ≤ get_or zs k d
@@ -78,7 +78,7 @@ places_from-listed test hay i (suc n) high e =
 pub places-listed : (table : List ℕ) → AreListed (is_byte 0) table 0 (length table) (places (is_byte 0) table)
 places-listed table = places_from-listed (is_byte 0) table 0 (length table - 0) (length table) (omega arith)
 
--- the least zero byte at or after an index is the first that is listed so
+-- The first zero byte at or after an index is the first in the list with this property.
 module _ (table zs : List ℕ) (listed : AreListed (is_byte 0) table 0 (length table) zs) (index next : ℕ)
     (before : (k : ℕ) → k < next → k < length zs → get_or zs k 0 < index) where
   no_zero : (end : ℕ) → (next < length zs → end ≤ get_or zs next 0) → (place : ℕ) → index ≤ place →
@@ -148,7 +148,7 @@ text_of-past table index end is past =
     (λ (high : index ≤ length table). let above : index ≤ end = is.after high in absurd (omega arith))
     (cases_lt (length table) index)
 
--- from a binary search in the zero bytes
+-- From a binary search among the zero bytes.
 zeros-listed : (table zs : List ℕ) → zs ≡ places (is_byte 0) table → AreListed (is_byte 0) table 0 (length table) zs
 zeros-listed table zs same = subst (AreListed (is_byte 0) table 0 (length table)) (sym same) (places-listed table)
 

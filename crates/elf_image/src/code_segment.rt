@@ -41,7 +41,7 @@ fn is_above(lowest: Option<u64>, address: u64) -> bool
     }
 }
 
-/// The index and the program header of the executable segment: of several the lowest, and of those at one address the
+/// The index and the program header of the executable segment at the lowest address. If several have this address, the
 /// first in the table.
 pub fn executable_segment(segments: &[Segment]) -> Option<(usize, Segment)>
     ensures { result ≡ executable_segment segments.now }
@@ -56,8 +56,8 @@ pub fn executable_segment(segments: &[Segment]) -> Option<(usize, Segment)>
     None
 }
 
-/// The offset in the file past the bytes of the executable segment, which is as `executable_segment` gives it; 0 where
-/// there is none.
+/// The file offset at which the bytes of the executable segment end, or 0 if there is none. `executable` is the result
+/// of `executable_segment`.
 pub fn executable_end(executable: Option<(usize, Segment)>) -> u128
     ensures { (segments : List Segment) → executable ≡ executable_segment segments → result ≡ executable_end segments }
 {
@@ -67,7 +67,7 @@ pub fn executable_end(executable: Option<(usize, Segment)>) -> u128
     }
 }
 
-/// Whether an index is that of the executable segment, which is as `executable_segment` gives it.
+/// Whether `index` is the index of the executable segment. `executable` is the result of `executable_segment`.
 pub fn is_executable_segment(executable: Option<(usize, Segment)>, index: usize) -> bool
     ensures { (elf : Elf) → executable ≡ executable_segment elf.segments.items →
         result ≡ is_executable_segment elf index }

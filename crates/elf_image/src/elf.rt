@@ -1,4 +1,4 @@
-// A file that was read.
+// The value of a file that was read.
 ghost use Rattle.std.specs.Prelude.{ℕ, ◌≡◌, ◌<◌, ◌≤◌, ◌+◌, ◌^◌, All, IsTrue, length};
 ghost use Rattle.std.specs.List.Sorted.{IsNonDecreasingBy};
 ghost use Rattle.elf_image.specs.faults.Truncation.{HasHeader};
@@ -10,7 +10,7 @@ use crate::section::Section;
 use crate::segment::Segment;
 use crate::symbol::Symbol;
 
-/// An ELF file: its bytes, and what its headers and its symbol table say.
+/// An ELF file: its bytes, its headers and its symbol table.
 #[derive(Drop)]
 pub struct Elf<'a> {
     /// All bytes of the file.
@@ -19,15 +19,15 @@ pub struct Elf<'a> {
     pub flags: u32,
     /// `e_entry`.
     pub entry: u64,
-    /// `e_phoff`: where the program headers stand in the file.
+    /// `e_phoff`: the file offset of the program headers.
     pub phoff: u64,
-    /// In the order of their table, so that an index of the file is one of this list.
+    /// In the order of their table, so that section indices of the file are indices of this list.
     pub sections: Vec<Section<'a>>,
     /// In the order of the table of program headers.
     pub segments: Vec<Segment>,
-    /// The entries of the first symbol table, in its order, the one of index 0 among them.
+    /// The entries of the first symbol table, in its order, including the one with index 0.
     pub symbols: Vec<Symbol<'a>>,
-    // The segments with memory, by address, in which an address is looked up.
+    // The segments with memory, sorted by address for searches.
     pub(crate) loads: Vec<Segment>,
     ghost rising: { IsNonDecreasingBy (λ p. p.vaddr) loads.items },
     ghost loaded: { All (λ p. IsTrue (has_memory p)) loads.items },
@@ -45,7 +45,7 @@ impl<'a> Elf<'a> {
     ghost use Rattle.elf_image.specs.memory.Image.{image_byte, loads_address};
     ghost use Rattle.elf_image.specs.memory.LoadedBytes.{file_offset};
 
-    /// The segment that loads an address, if one does. A binary search.
+    /// The segment that loads an address, by a binary search. None if there is no such segment.
     pub fn segment_at(&self, address: u64) -> Option<&Segment>
         ensures loads { IfSome result (λ p. IsTrue (loads_address address p.now)) }
         ensures first { option_copied result ≡ segment_of self.now.segments.items address }
@@ -53,7 +53,7 @@ impl<'a> Elf<'a> {
         segment_among(&self.loads, address)
     }
 
-    /// The byte at an address, and none where no segment loads it.
+    /// The byte at an address. None if no segment loads it.
     pub fn image_byte(&self, address: u64) -> Option<u8>
         ensures { result ≡ image_byte self.now.file.now self.now.segments.items address }
     {
@@ -61,7 +61,8 @@ impl<'a> Elf<'a> {
         Some(segment_byte(self.file, address, segment))
     }
 
-    /// Where in the file the byte at an address stands; none where the address isn't loaded, or filled with zeros.
+    /// The file offset of the byte at an address. None if the address isn't loaded, or its byte doesn't come from the
+    /// file.
     pub fn file_offset(&self, address: u64) -> Option<u128>
         ensures value { result ≡ file_offset self.now.segments.items address }
         ensures below { IfSome result (λ offset. offset < 2 ^ 65) }
@@ -69,8 +70,9 @@ impl<'a> Elf<'a> {
         self.segment_at(address)?.offset_of(address)
     }
 
-    /// The section that a name means, and of several the first. By the names of unwind tables only what is
-    /// loaded is meant, by those of debug tables only what isn't, and by neither what has code.
+    /// The first section that a name refers to. Names of unwind tables only refer to loaded sections, names of debug
+    /// tables
+    /// only to sections that aren't loaded, and both only to sections without code.
     pub fn section_called(&self, name: &[u8]) -> Option<&Section<'a>>
         ensures { option_copied result ≡ section_called self.now.sections.items name.now }
     {

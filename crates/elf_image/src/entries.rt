@@ -1,5 +1,5 @@
-// Entries of a file's tables by their indices: program headers, section headers and symbols. gABI, "Program
-// Header", "Section Header" and "Symbol Table".
+// Entries of a file's tables by index: program headers, section headers and symbols. gABI, "Program Header", "Section
+// Header" and "Symbol Table".
 ghost use Rattle.std.specs.Prelude.{◌≡◌, ◌≤◌, ◌<◌, ◌↔◌, IfSome, IsTrue, length};
 ghost use Rattle.elf_image.specs.file.Header.{e_phnum, e_shnum, segment_place};
 ghost use Rattle.elf_image.specs.file.Sections.{section_place};
@@ -12,7 +12,7 @@ use crate::section::{SHDR_SIZE, SHT_NOBITS, SHT_SYMTAB, SectionHeader};
 use crate::segment::{PHDR_SIZE, Segment};
 use crate::symbol::SYM_SIZE;
 
-/// The table of program headers of a file in which it lies whole.
+/// The table of program headers, in a file that contains all of it.
 #[derive(Clone, Copy)]
 pub struct SegmentTable<'a> {
     pub file: &'a [u8],
@@ -23,7 +23,7 @@ pub struct SegmentTable<'a> {
 impl<'a> SegmentTable<'a> {
     ghost use Rattle.elf_image.specs.file.Header.{segment};
 
-    /// How many program headers there are.
+    /// The number of program headers.
     pub fn count(self) -> usize
         ensures { result ≡ e_phnum self.entry.file.now }
     {
@@ -31,7 +31,7 @@ impl<'a> SegmentTable<'a> {
         Header { file }.fields().phnum as usize
     }
 
-    /// Where the program header of an index stands.
+    /// The file offset of the program header with an index.
     pub fn place(self, index: usize) -> u64
         requires { index < e_phnum self.file.now }
         ensures { result ≡ segment_place self.entry.file.now index }
@@ -40,7 +40,7 @@ impl<'a> SegmentTable<'a> {
         Header { file }.fields().phoff + PHDR_SIZE as u64 * index as u64
     }
 
-    /// The program header of an index.
+    /// The program header with an index.
     pub fn segment_of(self, index: usize) -> Segment
         requires { index < e_phnum self.file.now }
         ensures { result ≡ segment self.entry.file.now index }
@@ -49,7 +49,7 @@ impl<'a> SegmentTable<'a> {
     }
 }
 
-/// The table of section headers of a file in which it lies whole.
+/// The table of section headers, in a file that contains all of it.
 #[derive(Clone, Copy)]
 pub struct SectionTable<'a> {
     pub file: &'a [u8],
@@ -60,7 +60,7 @@ pub struct SectionTable<'a> {
 impl<'a> SectionTable<'a> {
     ghost use Rattle.elf_image.specs.file.Sections.{section_header};
 
-    /// How many section headers there are.
+    /// The number of section headers.
     pub fn count(self) -> usize
         ensures { result ≡ e_shnum self.entry.file.now }
     {
@@ -68,7 +68,7 @@ impl<'a> SectionTable<'a> {
         Header { file }.fields().shnum as usize
     }
 
-    /// Where the section header of an index stands.
+    /// The file offset of the section header with an index.
     pub fn place(self, index: usize) -> u64
         requires { index < e_shnum self.file.now }
         ensures { result ≡ section_place self.entry.file.now index }
@@ -77,7 +77,7 @@ impl<'a> SectionTable<'a> {
         Header { file }.fields().shoff + SHDR_SIZE as u64 * index as u64
     }
 
-    /// The section header of an index.
+    /// The section header with an index.
     pub fn section_of(self, index: usize) -> SectionHeader
         requires { index < e_shnum self.file.now }
         ensures { result ≡ section_header self.entry.file.now index }
@@ -86,7 +86,7 @@ impl<'a> SectionTable<'a> {
     }
 }
 
-/// Whether the contents of a section lie whole in the file.
+/// Whether a file contains all bytes of a section.
 pub fn has_contents(file: &[u8], section: &SectionHeader) -> bool
     ensures { IsTrue result ↔ HasContents file.now section.now }
 {
@@ -107,7 +107,7 @@ pub fn symbol_table(headers: SectionTable) -> Option<SectionHeader>
     None
 }
 
-/// How many symbols a table has: the whole entries of its section.
+/// The number of symbols in a table: the complete entries of its section.
 pub fn symbol_count(table: &SectionHeader) -> usize
     ensures { result ≡ symbol_count table.now }
 {

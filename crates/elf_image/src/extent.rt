@@ -1,4 +1,4 @@
-// Ranges of numbers, and those of them that share a number.
+// Ranges of numbers, and overlaps among them.
 ghost use Rattle.std.specs.Prelude.{◌≡◌, ◌≤◌, ◌<◌, ◌↔◌, ◌+◌, ℕ, IsTrue, IfOk, OnOk, All, length, slice_index_or};
 ghost use Rattle.std.specs.List.Sorted.{IsNonDecreasingBy, IsPermutation};
 ghost use Rattle.elf_image.specs.faults.LowestPlace.{IsLowest};
@@ -9,7 +9,7 @@ use crate::lowest::{lower, place_if};
 use rb_bytes::fault::NoMemory;
 use std::alloc::Global;
 
-/// The numbers from `start` to before `end`, and the place that is answered where they are at fault.
+/// The numbers from `start` to before `end`, and the place that is reported if the range is at fault.
 #[derive(Clone, Copy)]
 pub struct Extent {
     pub start: u64,
@@ -17,7 +17,7 @@ pub struct Extent {
     pub place: u64,
 }
 
-/// The lowest place of a range that shares a number with another.
+/// The lowest place of a range that overlaps another one.
 pub fn lowest_shared(mut extents: Vec<Extent>) -> Result<Option<u64>, NoMemory>
     requires places { HavePlaces extents.items }
     requires not_empty { All (λ s. s.start < s.end) extents.items }
@@ -27,7 +27,7 @@ pub fn lowest_shared(mut extents: Vec<Extent>) -> Result<Option<u64>, NoMemory>
     Ok(lowest_shared_sorted(&extents))
 }
 
-/// Puts the ranges in the order of their starts.
+/// Sorts ranges by start.
 pub fn sort_by_start(extents: &mut Vec<Extent>) -> Result<(), NoMemory>
     ensures permutation { IsPermutation extents.old.items extents.new.items }
     ensures rising { OnOk result (IsNonDecreasingBy (λ s. s.start) extents.new.items) }
@@ -54,8 +54,8 @@ fn lowest_shared_sorted(extents: &[Extent]) -> Option<u64>
     lowest
 }
 
-// Whether the range of an index meets another, where `reach` is the greatest end of those before. Of those behind it,
-// the next begins first, so it alone is asked.
+// Whether the range with an index overlaps another, if `reach` is the greatest end of the ranges before it. Of the
+// ranges after it, the next one starts first, so only that one is compared.
 fn meets_another(extents: &[Extent], index: usize, reach: u128) -> bool
     requires rising { IsNonDecreasingBy (λ s. s.start) extents.now }
     requires not_empty { All (λ s. s.start < s.end) extents.now }
@@ -66,7 +66,7 @@ fn meets_another(extents: &[Extent], index: usize, reach: u128) -> bool
     (extents[index].start as u128) < reach || meets_next(extents, index)
 }
 
-// Whether the range of an index meets the next.
+// Whether the range with an index overlaps the next one.
 fn meets_next(extents: &[Extent], index: usize) -> bool
     requires index { index < length extents.now }
     ensures { IsTrue result ↔ MeetsNext extents.now index }
@@ -74,8 +74,8 @@ fn meets_next(extents: &[Extent], index: usize) -> bool
     index + 1 < extents.len() && (extents[index + 1].start as u128) < extents[index].end
 }
 
-/// Each range, in the order of their starts, grown to the greatest end of those up to it: then the last that begins by
-/// a number tells whether any holds a stretch from there on.
+/// The ranges sorted by start, each extended to the greatest end of the ranges up to it. Then a single range, the last
+/// that starts at or below a number, says whether some range contains all numbers from there to an end.
 pub fn reaches_of(alloc: Global, extents: &[Extent]) -> Result<Vec<Extent>, NoMemory>
     requires { IsNonDecreasingBy (λ s. s.start) extents.now }
     ensures rising { IfOk result (λ reaches. IsNonDecreasingBy (λ s. s.start) reaches.items) }
@@ -96,7 +96,7 @@ pub fn reaches_of(alloc: Global, extents: &[Extent]) -> Result<Vec<Extent>, NoMe
     Ok(reaches)
 }
 
-/// How many ranges begin at a number or below it.
+/// The number of ranges that start at or below a number.
 pub fn count_from(extents: &[Extent], start: u64) -> usize
     requires { IsNonDecreasingBy (λ s. s.start) extents.now }
     ensures bound { result ≤ length extents.now }
@@ -107,7 +107,7 @@ pub fn count_from(extents: &[Extent], start: u64) -> usize
     extents.partition_point(|s| s.start <= start)
 }
 
-/// Whether one of these ranges, as `reaches_of` gives them, holds all the numbers from `start` to before `end`.
+/// Whether a single range contains all numbers from `start` to before `end`. `extents` is the result of `reaches_of`.
 pub fn is_covered(extents: &[Extent], start: u64, end: u128) -> bool
     requires rising { IsNonDecreasingBy (λ s. s.start) extents.now }
     requires growing { IsNonDecreasingBy (λ s. s.end) extents.now }

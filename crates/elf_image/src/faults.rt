@@ -1,4 +1,4 @@
-// The faults of a file, looked for in the order of their numbers.
+// Looks for the faults of a file in the order of their numbers.
 ghost use Rattle.std.specs.Prelude.{◌≡◌, MatchOption, MatchResult, OnOk, IfErr};
 ghost use Rattle.rb_bytes.specs.Fault.{fault_at};
 ghost use Rattle.rb_bytes.specs.declared.fault.FaultKind.TheVariants as kind;
@@ -29,7 +29,7 @@ use crate::section::Section;
 use rb_bytes::fault::{Fault, FaultKind, Refusal};
 use std::alloc::Global;
 
-/// A fault of a kind, if there is a place of it.
+/// An error with a fault of this kind, if it has a place.
 pub fn refuse_at(kind: FaultKind, lowest: Option<u64>) -> Result<(), Fault>
     ensures { MatchOption lowest (result ≡ Ok (record {})) (λ place. result ≡ Err (fault_at kind place)) }
 {
@@ -45,8 +45,8 @@ fn lowest_not_elf(file: &[u8]) -> Option<u64>
     place_if(!is_elf(file), 0)
 }
 
-/// The first of the faults that the header, the tables and what they name show by themselves:
-/// `NotElf`, `Truncated`, `Flags` and `NotStatic`.
+/// Looks for the faults of headers, tables and the structures that they refer to: `NotElf`, `Truncated`, `Flags` and
+/// `NotStatic`. The error is the first in this order.
 pub fn check_structure(file: &[u8]) -> Result<(), Fault>
     ensures readable { OnOk result (IsReadable file.now) }
     ensures checked { MatchResult result (λ _. LacksBelow (HasFault file.now) 5) (IsFirstFault file.now) }
@@ -60,8 +60,8 @@ pub fn check_structure(file: &[u8]) -> Result<(), Fault>
     )
 }
 
-// The first of the faults of the layout, in a file without those of `check_structure`. `loading` is the lowest place of
-// `ExecSegments`, which alone takes memory to find.
+// Looks for faults of the layout, in a file without the faults of `check_structure`. `loading` is the lowest place of
+// `ExecSegments`, the only one of these faults whose search allocates.
 fn check_places(file: &[u8], sections: &[Section], loading: Option<u64>) -> Result<(), Fault>
     requires readable { IsReadable file.now }
     requires lacks { LacksBelow (HasFault file.now) 5 }
@@ -76,8 +76,8 @@ fn check_places(file: &[u8], sections: &[Section], loading: Option<u64>) -> Resu
     refuse_at(FaultKind::CompressedSection, lowest_compressed(sections))
 }
 
-/// The first of the faults that the layout shows, in a file without those of [`check_structure`]: `ExecSegments`,
-/// `WritableCode`, `HighAddress` and `CompressedSection`.
+/// Looks for the faults of the layout, in a file without the faults of [`check_structure`]: `ExecSegments`,
+/// `WritableCode`, `HighAddress` and `CompressedSection`. The error is the first in this order.
 pub fn check_layout(alloc: Global, file: &[u8], sections: &[Section]) -> Result<(), Refusal>
     requires readable { IsReadable file.now }
     requires lacks { LacksBelow (HasFault file.now) 5 }

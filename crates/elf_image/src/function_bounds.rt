@@ -1,4 +1,4 @@
-// Where the functions of a file may begin and end.
+// Addresses at which the functions of a file may start or end.
 ghost use Rattle.std.specs.Prelude.{ℕ, ◌≡◌, ◌↔◌, ◌++◌, IfOk, OnOk, Contains};
 ghost use Rattle.std.specs.List.Sorted.{IsStrictlyIncreasing};
 ghost use Rattle.elf_image.specs.file.Cuts.{IsCutAddress};
@@ -10,8 +10,9 @@ use crate::symbol::Symbol;
 use rb_bytes::fault::NoMemory;
 use std::alloc::Global;
 
-/// The cuts of a file, ascending: the bounds of its functions' symbols and of its sections with
-/// code. An end of 2^64 or more is none.
+/// The cuts of a file, ascending: the bounds of its function symbols and of its sections with code. Ends of 2^64 or
+/// more
+/// are left out.
 pub fn cuts(alloc: Global, elf: &Elf) -> Result<Vec<u64>, NoMemory>
     ensures ascending { IfOk result (λ cuts. IsStrictlyIncreasing cuts.items) }
     ensures exact { IfOk result
@@ -56,7 +57,7 @@ fn push_bounds(cuts: &mut Vec<u64>, start: u64, size: u64) -> Result<(), NoMemor
     Ok(())
 }
 
-/// Sorts numbers, and keeps each once.
+/// Sorts numbers and removes duplicates.
 pub fn make_ascending(numbers: &mut Vec<u64>)
     ensures ascending { IsStrictlyIncreasing numbers.new.items }
     ensures same { (x : ℕ) → Contains numbers.new.items x ↔ Contains numbers.old.items x }

@@ -1,4 +1,4 @@
-// The file's header. gABI, "ELF Header".
+// The file header. gABI, "ELF Header".
 ghost use Rattle.std.specs.Prelude.{◌≡◌, ◌↔◌, IsTrue};
 ghost use Rattle.elf_image.specs.faults.FileFaults.{IsElf};
 ghost use Rattle.elf_image.specs.faults.Truncation.{HasHeader, HasSegments, HasSections};
@@ -12,7 +12,7 @@ use crate::segment::PHDR_SIZE;
 /// The size of the header in bytes.
 pub const EHDR_SIZE: usize = 64;
 
-// Where its fields stand. gABI, "ELF Header".
+// The offsets of its fields. gABI, "ELF Header".
 
 /// The type of the file.
 pub const E_TYPE: usize = 0x10;
@@ -35,44 +35,44 @@ pub const E_FLAGS: usize = 0x30;
 /// The size of a program header.
 pub const E_PHENTSIZE: usize = 0x36;
 
-/// How many program headers there are.
+/// The number of program headers.
 pub const E_PHNUM: usize = 0x38;
 
 /// The size of a section header.
 pub const E_SHENTSIZE: usize = 0x3a;
 
-/// How many section headers there are.
+/// The number of section headers.
 pub const E_SHNUM: usize = 0x3c;
 
-/// The index of the section with the names of sections.
+/// The index of the section with the section names.
 pub const E_SHSTRNDX: usize = 0x3e;
 
-/// The fields of a file's header that are read, in the order of the file. gABI, "ELF Header".
+/// The fields of the file header that are used, in the order of the file. gABI, "ELF Header".
 #[derive(Clone, Copy)]
 pub struct HeaderFields {
     /// `e_type`: the type of the file.
     pub kind: u16,
     /// `e_entry`: the address of the entry point.
     pub entry: u64,
-    /// `e_phoff`: where the table of program headers stands.
+    /// `e_phoff`: the file offset of the table of program headers.
     pub phoff: u64,
-    /// `e_shoff`: where the table of section headers stands.
+    /// `e_shoff`: the file offset of the table of section headers.
     pub shoff: u64,
     /// `e_flags`: the flags of the machine.
     pub flags: u32,
     /// `e_phentsize`: the size of a program header.
     pub phentsize: u16,
-    /// `e_phnum`: how many program headers there are.
+    /// `e_phnum`: the number of program headers.
     pub phnum: u16,
     /// `e_shentsize`: the size of a section header.
     pub shentsize: u16,
-    /// `e_shnum`: how many section headers there are.
+    /// `e_shnum`: the number of section headers.
     pub shnum: u16,
-    /// `e_shstrndx`: the index of the section with the names of sections.
+    /// `e_shstrndx`: the index of the section with the section names.
     pub shstrndx: u16,
 }
 
-/// A file in which the header lies whole.
+/// A file that contains the whole file header.
 #[derive(Clone, Copy)]
 pub struct Header<'a> {
     pub file: &'a [u8],
@@ -80,7 +80,7 @@ pub struct Header<'a> {
 }
 
 impl<'a> Header<'a> {
-    /// What the header says.
+    /// The fields of the header.
     pub fn fields(self) -> HeaderFields
         ensures { result ≡ header_fields self.entry.file.now }
     {
@@ -99,7 +99,7 @@ impl<'a> Header<'a> {
         }
     }
 
-    /// Whether the table of program headers lies whole in the file.
+    /// Whether the file contains the whole table of program headers.
     pub fn has_segments(self) -> bool
         ensures { IsTrue result ↔ HasSegments self.entry.file.now }
     {
@@ -111,7 +111,7 @@ impl<'a> Header<'a> {
         )
     }
 
-    /// Whether the table of section headers lies whole in the file.
+    /// Whether the file contains the whole table of section headers.
     pub fn has_sections(self) -> bool
         ensures { IsTrue result ↔ HasSections self.entry.file.now }
     {
@@ -124,11 +124,10 @@ impl<'a> Header<'a> {
     }
 }
 
-/// How a file begins: the magic number, 64 bits, little-endian, version 1. gABI, "ELF
-/// Identification".
+/// The first bytes of a file: the magic number, 64 bits, little-endian, version 1. gABI, "ELF Identification".
 pub const IDENTIFICATION: &[u8] = b"\x7fELF\x02\x01\x01";
 
-/// The type of an executable that is loaded where its headers say. gABI, "ELF Header".
+/// The type of an executable that is loaded at the addresses in its headers. gABI, "ELF Header".
 pub const ET_EXEC: u16 = 2;
 
 /// RISC-V. psABI, "File Header".
@@ -137,7 +136,7 @@ pub const EM_RISCV: u16 = 0xf3;
 /// The flag of a file with compressed instructions. psABI, "File Header".
 pub const EF_RISCV_RVC: u32 = 1;
 
-/// Whether a file has the identification, and the machine if it has the field.
+/// Whether a file has the identification and, if it is long enough for the field, the machine.
 pub fn is_elf(file: &[u8]) -> bool
     ensures { IsTrue result ↔ IsElf file.now }
 {

@@ -8,7 +8,7 @@ use crate::segment::Segment;
 use rb_bytes::fault::NoMemory;
 use std::alloc::{AllocError, Global};
 
-// The segments with memory, by address.
+// The segments with memory, sorted by address.
 pub(crate) fn segments_by_address(
     alloc: Global,
     segments: &[Segment],
@@ -42,7 +42,7 @@ fn sort_by_address(segments: &mut Vec<Segment>) -> Result<(), AllocError>
     Ok(())
 }
 
-/// The one among segments with memory, by address, that loads an address.
+/// The segment that loads an address, among segments with memory sorted by address.
 pub(crate) fn segment_among(loads: &[Segment], address: u64) -> Option<&Segment>
     requires rising { IsNonDecreasingBy (λ p. p.vaddr) loads.now }
     requires loaded { All (λ p. IsTrue (has_memory p)) loads.now }
@@ -62,7 +62,7 @@ pub(crate) fn segment_among(loads: &[Segment], address: u64) -> Option<&Segment>
     }
 }
 
-// How many segments, by address, begin at an address or below it.
+// The number of segments that start at or below an address, among segments sorted by address.
 fn count_up_to(segments: &[Segment], address: u64) -> usize
     requires { IsNonDecreasingBy (λ p. p.vaddr) segments.now }
     ensures bound { result ≤ length segments.now }
@@ -73,7 +73,7 @@ fn count_up_to(segments: &[Segment], address: u64) -> usize
     segments.partition_point(|p| p.vaddr <= address)
 }
 
-/// The byte that a segment has at one of its addresses.
+/// The byte of a segment at one of its addresses.
 pub(crate) fn segment_byte(file: &[u8], address: u64, segment: &Segment) -> u8
     requires { segment.now.vaddr ≤ address }
     ensures { result ≡ byte_of file.now address segment.now }

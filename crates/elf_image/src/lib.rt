@@ -1,4 +1,4 @@
-//! ELF files: their headers, and the memory that they describe.
+//! Reads ELF files: their headers, and the memory that they describe.
 #![tactic(auto)]
 
 pub mod code_segment;

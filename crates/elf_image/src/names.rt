@@ -1,4 +1,4 @@
-// Tables of names. gABI, "String Table".
+// String tables. gABI, "String Table".
 ghost use Rattle.std.specs.Prelude.{◌≡◌, ◌≤◌, ◌<◌, ◌+◌, IfSome, IfNone, length};
 ghost use Rattle.elf_image.specs.faults.Truncation.{IsReadable, HasContents, HasSectionNames, HasSymbolNames};
 ghost use Rattle.elf_image.specs.internal.TextEnds.{IsLastEnd};
@@ -10,7 +10,7 @@ use crate::header::Header;
 use crate::section::{SHT_NOBITS, SectionHeader};
 use memchr::memrchr;
 
-/// The bytes of a section that lies whole in the file.
+/// The bytes of a section, in a file that contains all of them.
 pub fn section_bytes<'a>(file: &'a [u8], section: &SectionHeader) -> &'a [u8]
     requires { HasContents file.now section.now }
     ensures bytes { result.now ≡ contents file.now section.now }
@@ -23,7 +23,7 @@ pub fn section_bytes<'a>(file: &'a [u8], section: &SectionHeader) -> &'a [u8]
     &file[start..start + section.size as usize]
 }
 
-/// The index past the last zero byte, 0 where there is none: a name that begins there or later has no end.
+/// The index after the last zero byte, or 0 if there is none. A string that starts there or later has no end.
 pub fn last_end(table: &[u8]) -> usize
     ensures { IsLastEnd table.now result }
 {
@@ -33,7 +33,7 @@ pub fn last_end(table: &[u8]) -> usize
     }
 }
 
-/// The names of sections, if their table is there and whole.
+/// The string table of section names, if it exists and is complete.
 pub fn section_names<'a>(headers: SectionTable<'a>) -> Option<&'a [u8]>
     ensures found { IfSome result (λ t. HasSectionNames headers.entry.file.now) }
     ensures names { IfSome result (λ t. t.now ≡ section_names headers.entry.file.now) }
@@ -51,8 +51,8 @@ pub fn section_names<'a>(headers: SectionTable<'a>) -> Option<&'a [u8]>
     Some(section_bytes(headers.file, &section))
 }
 
-/// The table of names for a table of symbols, if both lie whole in the file. It is empty where `sh_link` is the index
-/// of no section.
+/// The string table of a symbol table, if the file contains all of both. It is empty if `sh_link` is not the index of a
+/// section.
 pub fn symbol_names<'a>(headers: SectionTable<'a>, table: &SectionHeader) -> Option<&'a [u8]>
     ensures found { IfSome result (λ t. HasSymbolNames headers.entry.file.now table.now) }
     ensures names { IfSome result (λ t. t.now ≡ symbol_names headers.entry.file.now table.now) }
@@ -71,7 +71,7 @@ pub fn symbol_names<'a>(headers: SectionTable<'a>, table: &SectionHeader) -> Opt
     Some(section_bytes(headers.file, &section))
 }
 
-/// The table of names for a table of symbols, in a file that is truncated nowhere.
+/// The string table of a symbol table, in a file that isn't truncated.
 pub fn symbol_texts<'a>(file: &'a [u8], table: &SectionHeader) -> &'a [u8]
     requires { IsReadable file.now }
     ensures { result.now ≡ symbol_names file.now table.now }

@@ -1,5 +1,4 @@
-// Numbers in a file's bytes, and flags in them. ELF files of this machine are little-endian.
-// psABI, "File Header".
+// Numbers in the bytes of a file, and bits of flags. ELF files of this machine are little-endian. psABI, "File Header".
 ghost use Rattle.std.specs.Prelude.{◌≡◌, ◌≤◌, ◌<◌, ◌+◌, length};
 ghost use Rattle.elf_image.specs.file.Header.{number_at, is_set};
 

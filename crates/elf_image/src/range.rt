@@ -2,7 +2,7 @@
 ghost use Rattle.std.specs.Prelude.{◌↔◌, IsTrue};
 ghost use Rattle.elf_image.specs.faults.Truncation.{IsWhole};
 
-/// Whether `size` bytes at an offset lie whole in a file. No byte of an empty range is missing.
+/// Whether a file contains all `size` bytes from an offset on. An empty range is always contained.
 pub fn is_whole(file: &[u8], offset: u64, size: u64) -> bool
     ensures { IsTrue result ↔ IsWhole file.now offset size }
 {

@@ -1,4 +1,4 @@
-// A file, read whole.
+// Reads a whole file.
 ghost use Rattle.std.specs.Prelude.{◌≡◌, IfOk, OnOk, IfErr};
 ghost use Rattle.rb_bytes.specs.FirstFault.{LacksBelow};
 ghost use Rattle.elf_image.specs.faults.Truncation.{IsReadable};
@@ -15,7 +15,7 @@ use crate::tables::{read_sections, read_segments, read_symbols};
 use rb_bytes::fault::{NoMemory, Refusal};
 use std::alloc::Global;
 
-// Reads what is left of a file without a fault, whose sections are read.
+// Reads the rest of a file that has no fault and whose sections were read.
 fn read_beside<'a>(
     alloc: Global,
     file: &'a [u8],
@@ -42,8 +42,9 @@ fn read_beside<'a>(
     })
 }
 
-/// Reads a file, or says which of the faults 1 to 8 is present, the one with the lowest number at
-/// its lowest place. gABI, "ELF Header", "Program Header", "Section Header" and "Symbol Table".
+/// Reads a file. If one of the faults 1 to 8 is present, the error has the one with the lowest number at its lowest
+/// place.
+/// gABI, "ELF Header", "Program Header", "Section Header" and "Symbol Table".
 pub fn read<'a>(alloc: Global, file: &'a [u8]) -> Result<Elf<'a>, Refusal>
     ensures fields { IfOk result (IsElfOf file.now) }
     ensures readable { OnOk result (IsReadable file.now) }

@@ -1,6 +1,6 @@
 // Relocations that the linker kept in the file.
 
-/// The type of a section that holds relocations with addends. gABI, "Section Types".
+/// The type of a section with relocations with addends. gABI, "Section Types".
 pub const SHT_RELA: u32 = 4;
 
 /// The size of a relocation with an addend in bytes. gABI, "Relocation".

@@ -4,28 +4,28 @@ ghost use Rattle.std.specs.Prelude.{◌≡◌, ◌≤◌, ◌+◌, length};
 use crate::named::{names_debug, names_frames};
 use crate::number::{is_set, u32_at, u64_at};
 
-/// The type of a section that has no bytes in the file. gABI, "Section Types".
+/// The type of a section with no bytes in the file. gABI, "Section Types".
 pub const SHT_NOBITS: u32 = 8;
 
-/// The type of a section with contents of the program's own. gABI, "Section Types".
+/// The type of a section whose contents the program defines. gABI, "Section Types".
 pub const SHT_PROGBITS: u32 = 1;
 
 /// The type of the symbol table. gABI, "Section Types".
 pub const SHT_SYMTAB: u32 = 2;
 
-/// The type of a section with texts. gABI, "Section Types".
+/// The type of a string table. gABI, "Section Types".
 pub const SHT_STRTAB: u32 = 3;
 
 /// The flag of a section that is loaded. gABI, "Section Attribute Flags".
 pub const SHF_ALLOC: u64 = 2;
 
-/// The flag of a section that holds instructions. gABI, "Section Attribute Flags".
+/// The flag of a section that contains instructions. gABI, "Section Attribute Flags".
 pub const SHF_EXECINSTR: u64 = 4;
 
 /// The flag of a section whose contents are compressed. gABI, "Section Attribute Flags".
 pub const SHF_COMPRESSED: u64 = 0x800;
 
-/// How the names begin that a rewriting gives to sections which new ones replace.
+/// The name prefix that a rewrite gives to sections that it replaces.
 pub const OLD_PREFIX: &[u8] = b".old.";
 
 /// The size of a section header in bytes.
@@ -35,7 +35,7 @@ pub const SHDR_SIZE: usize = 64;
 /// gABI, "Section Header".
 #[derive(Clone, Copy)]
 pub struct SectionHeader {
-    /// `sh_name`: where its name begins in the table of names.
+    /// `sh_name`: the index of the name in the string table.
     pub name: u32,
     /// `sh_type`.
     pub kind: u32,
@@ -43,7 +43,7 @@ pub struct SectionHeader {
     pub flags: u64,
     /// `sh_addr`.
     pub addr: u64,
-    /// `sh_offset`: where its bytes stand in the file.
+    /// `sh_offset`: the file offset of its bytes.
     pub offset: u64,
     /// `sh_size`.
     pub size: u64,
@@ -60,7 +60,7 @@ pub struct SectionHeader {
 impl SectionHeader {
     ghost use Rattle.elf_image.specs.file.Sections.{section_header_at, holds_code};
 
-    /// The section header that stands at an offset of a file.
+    /// The section header at an offset of a file.
     pub fn at(file: &[u8], offset: usize) -> SectionHeader
         requires { offset + SHDR_SIZE ≤ length file.now }
         ensures { result ≡ section_header_at file.now offset }
@@ -79,7 +79,7 @@ impl SectionHeader {
         }
     }
 
-    /// Whether the section holds instructions.
+    /// Whether the section contains instructions.
     pub fn holds_code(&self) -> bool
         ensures { result ≡ holds_code self.now.flags }
     {
@@ -124,29 +124,30 @@ impl<'a> Section<'a> {
         is_set(self.flags, SHF_ALLOC)
     }
 
-    /// Whether the section holds instructions.
+    /// Whether the section contains instructions.
     pub fn holds_code(&self) -> bool
         ensures { result ≡ holds_code self.now.flags }
     {
         is_set(self.flags, SHF_EXECINSTR)
     }
 
-    /// Whether its contents are compressed, by its flags or its name.
+    /// Whether the contents are compressed, by the flags or the name.
     pub fn is_compressed(&self) -> bool
         ensures { result ≡ is_compressed self.now.flags self.now.name.now }
     {
         is_set(self.flags, SHF_COMPRESSED) || self.name.starts_with(b".zdebug")
     }
 
-    /// Whether a name means this section: it is the section's own, and means sections of its kind.
+    /// Whether a name refers to this section: it is the section's name, and refers to sections of this kind.
     pub fn is_called(&self, name: &[u8]) -> bool
         ensures { result ≡ is_called name.now self.now }
     {
         self.name == name && self.is_meant_by(name)
     }
 
-    /// Whether a name means sections of this kind: those of unwind tables mean loaded ones, those of debug tables ones
-    /// that aren't loaded, and neither means code.
+    /// Whether a name refers to sections of this kind: names of unwind tables refer to loaded sections, names of debug
+    /// tables
+    /// to sections that aren't loaded, and both only to sections without code.
     pub fn is_meant_by(&self, name: &[u8]) -> bool
         ensures { result ≡ is_meant_by name.now self.now }
     {

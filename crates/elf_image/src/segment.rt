@@ -15,26 +15,27 @@ pub const PT_DYNAMIC: u32 = 2;
 /// The type of the segment that names a dynamic linker. gABI, "Program Header".
 pub const PT_INTERP: u32 = 3;
 
-/// The type of a program header that says where the index of the unwind tables stands. LSB, "Program Headers".
+/// The type of a program header with the address of the unwind table index. LSB, "Program Headers".
 pub const PT_GNU_EH_FRAME: u32 = 0x6474_e550;
 
-/// The flag of a segment that may be executed. gABI, "Segment Permissions".
+/// The flag of an executable segment. gABI, "Segment Permissions".
 pub const PF_X: u32 = 1;
 
-/// The flag of a segment that may be written.
+/// The flag of a writable segment.
 pub const PF_W: u32 = 2;
 
-/// The flag of a segment that may be read.
+/// The flag of a readable segment.
 pub const PF_R: u32 = 4;
 
-/// The address below which all that is loaded lies, so that every pair of an upper and a lower part reaches. It is
-/// below 2^31, so an address that is kept in four bytes is the same with and without a sign.
+/// All loaded addresses are below this limit, so that each pair of an upper and a lower part can reach them. It is
+/// below
+/// 2^31, so an address in four bytes has the same value as a signed and as an unsigned number.
 pub const ADDRESS_END: u64 = 0x7fff_0000;
 
 /// The size of a program header in bytes.
 pub const PHDR_SIZE: usize = 56;
 
-// Where the fields of a program header stand in it, behind its type. gABI, "Program Header".
+// The offsets of fields in a program header, after its type. gABI, "Program Header".
 
 /// The flags.
 pub const P_FLAGS: usize = 4;
@@ -42,16 +43,16 @@ pub const P_FLAGS: usize = 4;
 /// The offset of the segment in the file.
 pub const P_OFFSET: usize = 8;
 
-/// The address that it is loaded at.
+/// The address at which the segment is loaded.
 pub const P_VADDR: usize = 16;
 
-/// The physical address, which nothing reads.
+/// The physical address, which is not used.
 pub const P_PADDR: usize = 24;
 
-/// How many bytes of the file it has.
+/// The number of bytes in the file.
 pub const P_FILESZ: usize = 32;
 
-/// How many bytes of memory it has.
+/// The number of bytes in memory.
 pub const P_MEMSZ: usize = 40;
 
 /// The alignment.
@@ -65,15 +66,15 @@ pub struct Segment {
     pub kind: u32,
     /// `p_flags`.
     pub flags: u32,
-    /// `p_offset`: where its bytes stand in the file.
+    /// `p_offset`: the file offset of its bytes.
     pub offset: u64,
-    /// `p_vaddr`: where it stands in memory.
+    /// `p_vaddr`: the address in memory.
     pub vaddr: u64,
     /// `p_paddr`.
     pub paddr: u64,
-    /// `p_filesz`: how many bytes come from the file.
+    /// `p_filesz`: the number of bytes that come from the file.
     pub filesz: u64,
-    /// `p_memsz`: how many bytes it has in memory.
+    /// `p_memsz`: the number of bytes in memory.
     pub memsz: u64,
     /// `p_align`.
     pub align: u64,
@@ -85,7 +86,7 @@ impl Segment {
     ghost use Rattle.elf_image.specs.memory.LoadedBytes.{loads_range, offset_in};
     ghost use Rattle.elf_image.specs.faults.SegmentLayout.{is_code_segment};
 
-    /// The program header that stands at an offset of a file.
+    /// The program header at an offset of a file.
     pub fn at(file: &[u8], offset: usize) -> Segment
         requires { offset + PHDR_SIZE ≤ length file.now }
         ensures { result ≡ segment_at file.now offset }
@@ -110,7 +111,7 @@ impl Segment {
         is_set(self.flags as u64, flag as u64)
     }
 
-    /// Where the segment ends in memory.
+    /// The address at which the segment ends.
     pub fn end(&self) -> u128
         ensures end { result ≡ end_of self.now }
         ensures low { result < 2 ^ 65 }
@@ -125,7 +126,7 @@ impl Segment {
         self.kind == PT_LOAD && self.vaddr <= address && address - self.vaddr < self.memsz
     }
 
-    /// Where in the file the byte at one of its addresses stands, if it comes from there.
+    /// The file offset of the byte at one of the segment's addresses, if the byte comes from the file.
     pub fn offset_of(&self, address: u64) -> Option<u128>
         requires { self.now.vaddr ≤ address }
         ensures value { result ≡ offset_in address self.now }
@@ -149,14 +150,14 @@ impl Segment {
                 <= self.offset as u128 + self.filesz.min(self.memsz) as u128
     }
 
-    /// Whether the segment is loaded and has a byte of memory.
+    /// Whether the segment is loaded and has at least one byte of memory.
     pub fn has_memory(&self) -> bool
         ensures { result ≡ has_memory self.now }
     {
         self.kind == PT_LOAD && self.memsz > 0
     }
 
-    /// Whether the segment is loaded and may be executed.
+    /// Whether the segment is loaded and executable.
     pub fn is_code(&self) -> bool
         ensures { result ≡ is_code_segment self.now }
     {
@@ -172,7 +173,7 @@ pub fn range_segment(segments: &[Segment], start: u64, size: u64) -> Option<&Seg
     segments.iter().find(|p| p.loads_range(start, size))
 }
 
-/// The first segment that loads the field `e_entry` whole.
+/// The first segment that loads all of the field `e_entry`.
 pub fn entry_segment(segments: &[Segment]) -> Option<&Segment>
     ensures { option_copied result ≡ find (loads_range e_entry_field) segments.now }
 {

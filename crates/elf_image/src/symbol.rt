@@ -1,4 +1,4 @@
-// Symbols, as the entries of a symbol table have them. gABI, "Symbol Table".
+// Symbols with the fields of symbol table entries. gABI, "Symbol Table".
 ghost use Rattle.std.specs.Prelude.{◌≡◌, ◌≤◌, ◌+◌, ◌%◌, length};
 ghost use Rattle.elf_image.specs.file.ParsedFile.{IsSymbolAt};
 ghost use Rattle.elf_image.specs.file.Symbols.{symbol_names};
@@ -11,7 +11,7 @@ use crate::text::Names;
 /// The size of an entry of the symbol table in bytes.
 pub const SYM_SIZE: usize = 24;
 
-/// The index of no section, which symbols that are not defined have. gABI, "Special Section Indexes".
+/// The section index of undefined symbols. gABI, "Special Section Indexes".
 pub const SHN_UNDEF: u16 = 0;
 
 /// The type of a symbol that names a function. gABI, "Symbol Types".
@@ -55,7 +55,7 @@ impl<'a> Symbol<'a> {
     }
 }
 
-/// The symbol of a table whose entry stands at an offset.
+/// The symbol whose table entry is at a file offset.
 pub fn symbol_at<'a>(
     file: &'a [u8],
     table: &SectionHeader,

@@ -1,5 +1,4 @@
-// The parts of a file that is truncated nowhere, read. gABI, "Program Header", "Section Header" and "Symbol
-// Table".
+// Reads the tables of a file that isn't truncated. gABI, "Program Header", "Section Header" and "Symbol Table".
 ghost use Rattle.std.specs.Prelude.{◌≡◌, ◌<◌, IfOk};
 ghost use Rattle.elf_image.specs.faults.Truncation.{IsReadable, HasContents};
 ghost use Rattle.elf_image.specs.file.Header.{e_shnum, segments_of};
@@ -51,7 +50,7 @@ fn read_section<'a>(file: &'a [u8], names: &Names<'a>, index: usize) -> Section<
     }
 }
 
-// The names of sections of a file that is truncated nowhere.
+// The string table of section names, in a file that isn't truncated.
 fn section_texts(file: &[u8]) -> &[u8]
     requires { IsReadable file.now }
     ensures { result.now ≡ section_names file.now }
@@ -96,7 +95,7 @@ fn read_symbols_of<'a>(
     Ok(symbols)
 }
 
-/// The symbols, in the order of the symbol table; none where there is no such table.
+/// The symbols, in the order of the symbol table. Empty if there is no such table.
 pub fn read_symbols<'a>(alloc: Global, file: &'a [u8]) -> Result<Vec<Symbol<'a>>, NoMemory>
     requires { IsReadable file.now }
     ensures { IfOk result (λ symbols. AreSymbolsOf file.now (symbol_table file.now) symbols.items) }

@@ -1,4 +1,4 @@
-// A table of names in which many are looked up. gABI, "String Table".
+// A string table for many lookups. gABI, "String Table".
 ghost use Rattle.std.specs.Prelude.{◌≡◌, IfOk};
 ghost use Rattle.elf_image.specs.file.Sections.{text_of};
 ghost use Rattle.memchr.specs.Find.{is_byte, places};
@@ -8,7 +8,7 @@ use memchr::memchr_iter;
 use rb_bytes::fault::NoMemory;
 use std::alloc::Global;
 
-/// A table of names, and where its zero bytes stand, ascending.
+/// A string table, and the indices of its zero bytes, ascending.
 #[derive(Drop)]
 pub struct Names<'a> {
     table: &'a [u8],
@@ -20,7 +20,7 @@ impl<'a> Names<'a> {
     ghost use Rattle.elf_image.specs.file.StringTables.{name_bytes};
     ghost use Rattle.elf_image.specs.internal.TextEnds.{IsTextEnd};
 
-    /// Finds the zero bytes of a table.
+    /// Finds the zero bytes of a string table.
     pub fn new(alloc: Global, table: &'a [u8]) -> Result<Names<'a>, NoMemory>
         ensures { IfOk result (λ names. name_bytes names ≡ table.now) }
     {
@@ -28,7 +28,7 @@ impl<'a> Names<'a> {
         Ok(Names { table, zeros })
     }
 
-    // Where the text ends that begins at an index, by a binary search among all zero bytes.
+    // The end of the string at an index, by a binary search among all zero bytes.
     fn far_end(&self, index: usize) -> usize
         ensures { IsTextEnd (name_bytes self.now) index result }
     {
@@ -39,7 +39,7 @@ impl<'a> Names<'a> {
         }
     }
 
-    // Where the text ends that begins at an index.
+    // The end of the string at an index.
     fn end(&self, index: usize) -> usize
         ensures { IsTextEnd (name_bytes self.now) index result }
     {
@@ -49,7 +49,7 @@ impl<'a> Names<'a> {
         }
     }
 
-    /// The text at an index, up to the next zero byte, or to the table's end where none follows.
+    /// The string at an index, up to the next zero byte, or to the table's end if there is none.
     pub fn text(&self, index: u32) -> &'a [u8]
         ensures { result.now ≡ text_of (name_bytes self.now) index }
     {

@@ -1,14 +1,15 @@
-// Where texts of a table of names end. gABI, "String Table".
+// Ends of strings in a string table. gABI, "String Table".
 ghost use Rattle.std.specs.Prelude.{IfSome};
 ghost use Rattle.elf_image.specs.internal.TextEnds.{IsTextEnd};
 
 use memchr::memchr;
 
-// How far behind its start the end of a text is looked for before the zero bytes are searched. Most names are shorter;
-// and many names that share a long end would else be gone over again for each.
+// The distance up to which the end of a string is searched linearly, before the sorted zero bytes are used. Most names
+// are
+// shorter. Without the limit, many names that share a long tail would scan it again and again.
 const NEAR: usize = 64;
 
-/// Where the text ends that begins at an index, if that is near.
+/// The end of the string at an index, if it is near.
 pub fn near_end(table: &[u8], index: usize) -> Option<usize>
     ensures { IfSome result (IsTextEnd table.now index) }
 {

@@ -1,4 +1,4 @@
--- At which places a file has a fault that its reader looks for, and what the reader answers.
+-- The faults that the reader of a file looks for, with their places, and the result of the reader.
 use Rattle.std.specs.Prelude.{◌≡◌, ◌≢◌, ◌≤◌, ◌<◌, ◌⊎◌, ◌||◌, ℕ, Bool, List, [], ◌∷◌, take, length, IsTrue, nat_eq}
 use Rattle.std.specs.Prelude.{codes}
 use Rattle.std.specs.List.{starts_with}
@@ -24,11 +24,11 @@ identification = 0x7f ∷ 0x45 ∷ 0x4c ∷ 0x46 ∷ 2 ∷ 1 ∷ 1 ∷ []
 abbrev pub EM_RISCV : ℕ
 EM_RISCV = 0xf3
 
--- an executable that is loaded where its headers say. gABI, "ELF Header".
+-- An executable that is loaded at the addresses in its headers. gABI, "ELF Header".
 abbrev pub ET_EXEC : ℕ
 ET_EXEC = 2
 
--- the identification, and the machine where the file has the field
+-- The identification and, if the file is long enough for the field, the machine.
 pub record IsElf (file : List ℕ) : Type 0 where
   pub identification_is : take 7 file ≡ identification
   pub machine_is : 20 ≤ length file → e_machine file ≡ EM_RISCV
@@ -36,31 +36,31 @@ pub record IsElf (file : List ℕ) : Type 0 where
 abbrev pub IsNotElf : List ℕ → ℕ → Type 0
 IsNotElf file place = (IsElf file → ⊥) × (place ≡ 0)
 
--- Flags other than that of the compressed extension. psABI, "File Header".
+-- Flags other than the one of the compressed extension. psABI, "File Header".
 abbrev pub HasOtherFlags : List ℕ → ℕ → Type 0
 HasOtherFlags file place = (1 < e_flags file) × (place ≡ 0x30)
 
--- another type of file
+-- Another type of file.
 abbrev pub HasOtherType : List ℕ → ℕ → Type 0
 HasOtherType file place = (e_type file ≢ ET_EXEC) × (place ≡ 0x10)
 
--- a program header that asks for a dynamic linker
+-- A program header for dynamic linking: PT_DYNAMIC or PT_INTERP.
 abbrev pub IsDynamic : List ℕ → ℕ → ℕ → Type 0
 IsDynamic file i place =
     (((segment file i).kind ≡ PT_DYNAMIC) ⊎ ((segment file i).kind ≡ PT_INTERP)) × (place ≡ segment_place file i)
 
--- a section with these flags and this name is compressed
+-- A section with these flags and this name is compressed.
 abbrev pub is_compressed : ℕ → List ℕ → Bool
 is_compressed flags name = is_set SHF_COMPRESSED flags || starts_with nat_eq name (codes ".zdebug")
 
--- the section of an index is compressed; the place is the index
+-- The section with index `i` is compressed. The place is the index.
 abbrev pub HasCompressed : List ℕ → ℕ → Type 0
 HasCompressed file i = IsTrue (is_compressed (section_header file i).flags (section_name file i))
 
 abbrev pub IsCompressed : List ℕ → ℕ → ℕ → Type 0
 IsCompressed file i place = HasCompressed file i × (place ≡ i)
 
--- the places of a fault; the kinds that aren't named are looked for by others
+-- The file has the fault at this place. Other kinds belong to other crates.
 abbrev pub HasFault : List ℕ → FaultKind → ℕ → Type 0
 HasFault file NotElf place = IsNotElf file place
 HasFault file Truncated place = IsTruncated file place
@@ -72,14 +72,14 @@ HasFault file HighAddress place = SomeBelow (e_phnum file) (IsHigh file) place
 HasFault file CompressedSection place = SomeBelow (e_shnum file) (IsCompressed file) place
 HasFault file _ place = ⊥
 
--- the fault that is answered
+-- The fault that is reported.
 abbrev pub IsFirstFault : List ℕ → Fault → Type 0
 IsFirstFault file fault = IsAnswered (HasFault file) fault
 
--- no fault is present
+-- The file has none of these faults.
 abbrev pub IsSound : List ℕ → Type 0
 IsSound file = IsFree (HasFault file)
 
--- what the reader answers in place of a file
+-- The result of the reader for a file that it refuses.
 abbrev pub IsRefusal : List ℕ → Refusal → Type 0
 IsRefusal file refusal = IsRefusalBy (HasFault file) refusal

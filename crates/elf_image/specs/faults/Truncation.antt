@@ -1,7 +1,9 @@
--- The places at which a file is truncated: structures that don't lie whole in it, and fields of the header
--- without which they can't be found. A structure that a table names is looked at where the table is whole,
--- a name where its table of names is there and whole. gABI, "ELF Header", "Program Header", "Section
--- Header", "String Table" and "Symbol Table".
+-- Places at which a file is truncated: structures that aren't completely in the file, and header fields without which
+-- these structures can't be found. Entries of a table are only examined if the table is complete, and names only if
+-- their
+-- string table exists and is complete. gABI, "ELF Header", "Program Header", "Section Header", "String Table" and
+-- "Symbol
+-- Table".
 use Rattle.std.specs.Prelude.{◌≡◌, ◌≢◌, ◌≤◌, ◌<◌, ◌⊎◌, ◌+◌, ◌*◌, ℕ, List, length, IfSome, Option, Some, None}
 use Rattle.elf_image.specs.declared.section.SectionHeader.{SectionHeader}
 use Rattle.elf_image.specs.declared.section.TheConstants.{SHT_NOBITS, SHDR_SIZE}
@@ -13,7 +15,7 @@ use Rattle.elf_image.specs.file.Sections.{section_header, section_place, section
 use Rattle.elf_image.specs.file.Symbols.{symbol_table, symbol_count, symbol_place, symbol_names}
 use Rattle.elf_image.specs.file.StringTables.{IsUnended}
 
--- So many bytes at an offset lie whole in the file. No byte of an empty range is missing.
+-- The file contains all `size` bytes from an offset on. An empty range is always complete.
 abbrev pub IsWhole : List ℕ → ℕ → ℕ → Type 0
 IsWhole file offset size = (size ≡ 0) ⊎ (offset + size ≤ length file)
 
@@ -26,38 +28,38 @@ HasSegments file = IsWhole file (e_phoff file) (PHDR_SIZE * e_phnum file)
 abbrev pub HasSections : List ℕ → Type 0
 HasSections file = IsWhole file (e_shoff file) (SHDR_SIZE * e_shnum file)
 
--- the contents of a section lie whole in the file
+-- The file contains all bytes of a section.
 abbrev pub HasContents : List ℕ → SectionHeader → Type 0
 HasContents file section = (section.kind ≡ SHT_NOBITS) ⊎ IsWhole file section.offset section.size
 
--- the header
+-- The file header.
 abbrev pub IsTruncatedHeader : List ℕ → ℕ → Type 0
 IsTruncatedHeader file place = (HasHeader file → ⊥) × (place ≡ 0)
 
--- the sizes of entries, and the index of the section with the names
+-- The sizes of entries, and the index of the section with the section names.
 abbrev pub IsBadHeaderField : List ℕ → ℕ → Type 0
 IsBadHeaderField file place =
     (((e_phentsize file ≢ PHDR_SIZE) × (place ≡ 0x36)) ⊎ ((e_shentsize file ≢ SHDR_SIZE) × (place ≡ 0x3a)))
     ⊎ ((e_shnum file ≤ e_shstrndx file) × (place ≡ 0x3e))
 
--- the tables of headers
+-- The tables of headers.
 abbrev pub IsTruncatedTable : List ℕ → ℕ → Type 0
 IsTruncatedTable file place =
     ((HasSegments file → ⊥) × (place ≡ e_phoff file)) ⊎ ((HasSections file → ⊥) × (place ≡ e_shoff file))
 
--- the bytes that a loaded segment takes from the file
+-- The file bytes of a loaded segment.
 abbrev pub IsTruncatedSegment : List ℕ → ℕ → ℕ → Type 0
 IsTruncatedSegment file index place =
     let p = segment file index in
     ((p.kind ≡ PT_LOAD) × (IsWhole file p.offset p.filesz → ⊥)) × (place ≡ p.offset)
 
--- the contents of a section
+-- The contents of a section.
 abbrev pub IsTruncatedSection : List ℕ → ℕ → ℕ → Type 0
 IsTruncatedSection file index place =
     let s = section_header file index in
     (HasContents file s → ⊥) × (place ≡ s.offset)
 
--- the name of a section
+-- The name of a section.
 abbrev pub HasSectionNames : List ℕ → Type 0
 HasSectionNames file = (e_shstrndx file < e_shnum file) × HasContents file (section_header file (e_shstrndx file))
 
@@ -68,7 +70,7 @@ IsUnnamedSection file index place =
 abbrev pub AreUnnamedSections : List ℕ → ℕ → Type 0
 AreUnnamedSections file place = HasSectionNames file × SomeBelow (e_shnum file) (IsUnnamedSection file) place
 
--- the name of a symbol
+-- The name of a symbol.
 abbrev pub HasSymbolNames : List ℕ → SectionHeader → Type 0
 HasSymbolNames file table =
     HasContents file table × (table.link < e_shnum file → HasContents file (section_header file table.link))
@@ -83,7 +85,7 @@ IsUnnamedSymbolOf file None place = ⊥
 IsUnnamedSymbolOf file (Some table) place =
     HasSymbolNames file table × SomeBelow (symbol_count table) (IsUnnamedSymbol file table) place
 
--- what the table of program headers names, and what that of section headers does
+-- Structures that program headers refer to, and structures that section headers refer to.
 abbrev pub IsTruncatedBySegments : List ℕ → ℕ → Type 0
 IsTruncatedBySegments file place = HasSegments file × SomeBelow (e_phnum file) (IsTruncatedSegment file) place
 
@@ -93,17 +95,17 @@ IsTruncatedBySections file place =
     × (SomeBelow (e_shnum file) (IsTruncatedSection file) place
     ⊎ (AreUnnamedSections file place ⊎ IsUnnamedSymbolOf file (symbol_table file) place))
 
--- what is looked at where the header is whole
+-- Faults that are only possible if the file header is complete.
 abbrev pub IsTruncatedBeyond : List ℕ → ℕ → Type 0
 IsTruncatedBeyond file place =
     (IsBadHeaderField file place ⊎ IsTruncatedTable file place)
     ⊎ (IsTruncatedBySegments file place ⊎ IsTruncatedBySections file place)
 
--- all places
+-- All places.
 abbrev pub IsTruncated : List ℕ → ℕ → Type 0
 IsTruncated file place = IsTruncatedHeader file place ⊎ (HasHeader file × IsTruncatedBeyond file place)
 
--- what holds of a file that isn't truncated
+-- Properties of a file that isn't truncated.
 pub record IsReadable (file : List ℕ) : Type 0 where
   pub header : HasHeader file
   pub segments : HasSegments file

@@ -1,16 +1,17 @@
--- The fields of an ELF file's header and of its program headers, as they stand in its bytes.
--- gABI, "ELF Header" and "Program Header"; psABI, "File Header". The counts are the header's own: those of
--- files with more headers than it can say, which the gABI keeps in the null section, aren't followed.
+-- The fields of an ELF file's header and program headers in the bytes of the file. gABI, "ELF Header" and "Program
+-- Header"; psABI, "File Header". Counts are those in the header. Extended counts in the null section, which the gABI
+-- has
+-- for files with more headers, aren't supported.
 use Rattle.std.specs.Prelude.{ℕ, zero, suc, ◌+◌, ◌*◌, ◌/◌, ◌%◌, ◌==◌, Bool, List, [], ◌∷◌, drop}
 use Rattle.byteorder.specs.Endian.{little_number}
 use Rattle.elf_image.specs.declared.segment.Segment.{Segment}
 use Rattle.elf_image.specs.declared.segment.TheConstants.{PHDR_SIZE}
 
--- the number of so many bytes at an offset
+-- The number in this many bytes at an offset.
 abbrev pub number_at : List ℕ → ℕ → ℕ → ℕ
 number_at file offset bytes = little_number bytes (drop offset file)
 
--- the bit `flag`, a power of two, is set in `flags`
+-- The bit `flag`, a power of two, is set in `flags`.
 abbrev pub is_set : ℕ → ℕ → Bool
 is_set flag flags = flags / flag % 2 == 1
 
@@ -47,11 +48,11 @@ e_shnum file = number_at file 0x3c 2
 abbrev pub e_shstrndx : List ℕ → ℕ
 e_shstrndx file = number_at file 0x3e 2
 
--- the bytes of the file's header
+-- The size of the file header in bytes.
 abbrev pub header_size : ℕ
 header_size = 64
 
--- the program header at an offset
+-- The program header at an offset.
 abbrev pub segment_at : List ℕ → ℕ → Segment
 segment_at file offset = record {
   kind = number_at file offset 4;
@@ -64,18 +65,18 @@ segment_at file offset = record {
   align = number_at file (offset + 48) 8;
 }
 
--- where the program header of an index stands, and what it says
+-- The offset of the program header with an index, and its fields.
 abbrev pub segment_place : List ℕ → ℕ → ℕ
 segment_place file index = e_phoff file + PHDR_SIZE * index
 
 abbrev pub segment : List ℕ → ℕ → Segment
 segment file index = segment_at file (segment_place file index)
 
--- the n program headers from an offset on
+-- The n program headers from an offset on.
 unfoldable pub segments_from : List ℕ → ℕ → ℕ → List Segment
 segments_from file offset zero = []
 segments_from file offset (suc n) = segment_at file offset ∷ segments_from file (offset + PHDR_SIZE) n
 
--- the program headers, in the order of their table
+-- The program headers, in the order of their table.
 abbrev pub segments_of : List ℕ → List Segment
 segments_of file = segments_from file (e_phoff file) (e_phnum file)

@@ -1,4 +1,4 @@
--- What a file that was read holds: the fields that stand in its bytes.
+-- The value of a file that was read: the fields that are in its bytes.
 use Rattle.std.specs.Prelude.{◌≡◌, ◌+◌, ℕ, List, [], Option, Some, None, length}
 use Rattle.std.specs.List.{slice_get}
 use Rattle.elf_image.specs.declared.elf.Elf.{Elf}
@@ -9,7 +9,7 @@ use Rattle.elf_image.specs.file.Header.{number_at, e_flags, e_entry, e_phoff, e_
 use Rattle.elf_image.specs.file.Sections.{section_header, section_name}
 use Rattle.elf_image.specs.file.Symbols.{symbol_table, symbol_count, symbol_place, symbol_name}
 
--- a section of the table of sections
+-- A section from the table of sections.
 pub record IsSectionAt (file : List ℕ) (index : ℕ) (s : Section) : Type 0 where
   pub name : s.name.now ≡ section_name file index
   pub kind : s.kind ≡ (section_header file index).kind
@@ -22,7 +22,7 @@ pub record IsSectionAt (file : List ℕ) (index : ℕ) (s : Section) : Type 0 wh
   pub align : s.align ≡ (section_header file index).align
   pub entsize : s.entsize ≡ (section_header file index).entsize
 
--- a symbol of a symbol table, whose entry stands at a place. gABI, "Symbol Table".
+-- A symbol whose entry in the symbol table is at an offset. gABI, "Symbol Table".
 pub record IsSymbolAt (file : List ℕ) (table : SectionHeader) (place : ℕ) (s : Symbol) : Type 0 where
   pub name : s.name.now ≡ symbol_name file table place
   pub info : s.info ≡ number_at file (place + 4) 1
@@ -31,12 +31,12 @@ pub record IsSymbolAt (file : List ℕ) (table : SectionHeader) (place : ℕ) (s
   pub value : s.value ≡ number_at file (place + 8) 8
   pub size : s.size ≡ number_at file (place + 16) 8
 
--- each section, in the order of the table
+-- All sections, in the order of the table.
 pub record AreSections (file : List ℕ) (count : ℕ) (sections : List Section) : Type 0 where
   pub count_is : length sections ≡ count
   pub each : (i : ℕ) (s : Section) → slice_get sections i ≡ Some s → IsSectionAt file i s
 
--- each symbol, in the order of the table
+-- All symbols, in the order of the table.
 pub record AreSymbols (file : List ℕ) (table : SectionHeader) (count : ℕ) (symbols : List Symbol) : Type 0 where
   pub count_is : length symbols ≡ count
   pub each : (i : ℕ) (s : Symbol) → slice_get symbols i ≡ Some s → IsSymbolAt file table (symbol_place table i) s

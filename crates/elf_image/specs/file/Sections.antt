@@ -1,11 +1,11 @@
--- Section headers as they stand in a file's bytes. gABI, "Section Header" and "Section Attribute Flags".
+-- Section headers in the bytes of a file. gABI, "Section Header" and "Section Attribute Flags".
 use Rattle.std.specs.Prelude.{ℕ, ◌+◌, ◌*◌, ◌==◌, if◌then◌else◌, Bool, List, [], map, take, drop, take_while, not}
 use Rattle.std.specs.List.{range_with_len}
 use Rattle.elf_image.specs.declared.section.SectionHeader.{SectionHeader}
 use Rattle.elf_image.specs.declared.section.TheConstants.{SHT_NOBITS, SHF_EXECINSTR, SHDR_SIZE}
 use Rattle.elf_image.specs.file.Header.{number_at, is_set, e_shoff, e_shnum, e_shstrndx}
 
--- the section header at an offset
+-- The section header at an offset.
 abbrev pub section_header_at : List ℕ → ℕ → SectionHeader
 section_header_at file offset = record {
   name = number_at file offset 4;
@@ -20,30 +20,30 @@ section_header_at file offset = record {
   entsize = number_at file (offset + 56) 8;
 }
 
--- where the section header of an index stands, and what it says
+-- The offset of the section header with an index, and its fields.
 abbrev pub section_place : List ℕ → ℕ → ℕ
 section_place file index = e_shoff file + SHDR_SIZE * index
 
 abbrev pub section_header : List ℕ → ℕ → SectionHeader
 section_header file index = section_header_at file (section_place file index)
 
--- the section headers, in the order of their table
+-- The section headers, in the order of their table.
 abbrev pub section_headers : List ℕ → List SectionHeader
 section_headers file = map (section_header file) (range_with_len 0 (e_shnum file))
 
--- a section with these flags holds instructions
+-- A section with these flags contains instructions.
 abbrev pub holds_code : ℕ → Bool
 holds_code flags = is_set SHF_EXECINSTR flags
 
--- the bytes of a section
+-- The bytes of a section.
 abbrev pub contents : List ℕ → SectionHeader → List ℕ
 contents file section = if section.kind == SHT_NOBITS then [] else take section.size (drop section.offset file)
 
--- the text that a table of names has at an index, without the zero byte that ends it; gABI, "String Table"
+-- The string at an index of a string table, without the final zero byte; gABI, "String Table".
 abbrev pub text_of : List ℕ → ℕ → List ℕ
 text_of table index = take_while (λ b. not (b == 0)) (drop index table)
 
--- the table of the names of sections, and the name of a section
+-- The string table of section names, and the name of a section.
 abbrev pub section_names : List ℕ → List ℕ
 section_names file = contents file (section_header file (e_shstrndx file))
 

@@ -1,4 +1,4 @@
--- The fields of a file's header as the code reads them, all at once.
+-- The fields of the file header that the code reads at once.
 use Rattle.std.specs.Prelude.{ℕ, List}
 use Rattle.elf_image.specs.declared.header.HeaderFields.{HeaderFields}
 use Rattle.elf_image.specs.file.Header.{e_type, e_entry, e_phoff, e_shoff, e_flags, e_phentsize, e_phnum, e_shentsize}

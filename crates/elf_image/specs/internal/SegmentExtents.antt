@@ -7,7 +7,7 @@ use Rattle.elf_image.specs.file.Header.{segment, segment_place}
 use Rattle.elf_image.specs.memory.Image.{is_load, end_of}
 use Rattle.elf_image.specs.faults.SegmentLayout.{is_code_segment}
 
--- the range, which isn't empty, of the segment of an index
+-- The range of the segment with an index, if it isn't empty.
 abbrev pub IsAddressExtent : List ℕ → ℕ → Extent → Type 0
 IsAddressExtent file i s =
     let p = segment file i in
@@ -27,7 +27,7 @@ IsExtentOf Addresses file = IsAddressExtent file
 IsExtentOf CodeAddresses file = IsCodeExtent file
 IsExtentOf FileBytes file = IsFileExtent file
 
--- the ranges of the segments below an index, in the order of the table
+-- The ranges of the segments with an index below n, in the order of the table.
 pub record AreExtents (IsExtent : ℕ → Extent → Type 0) (n : ℕ) (extents : List Extent) : Type 0 where
   pub each : (s : Extent) → Contains extents s → (i : ℕ) × (i < n) × IsExtent i s
   pub all : (i : ℕ) (s : Extent) → i < n → IsExtent i s → Contains extents s

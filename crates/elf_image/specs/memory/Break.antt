@@ -1,4 +1,4 @@
--- Where a program's break starts, and how far it goes; and where its table of program headers is loaded.
+-- The start of a program's break, and its bound; and the address at which the table of program headers is loaded.
 use Rattle.std.specs.Prelude.{ℕ, ◌+◌, ◌-◌, ◌*◌, ◌/◌, ◌^◌, ◌&&◌, ◌==◌, nat_le, if◌then◌else◌, List}
 use Rattle.std.specs.Prelude.{min, max, map, filter, fold, find}
 use Rattle.std.specs.Option.{option_map_or}
@@ -17,34 +17,35 @@ rounded_down unit n = n / unit * unit
 abbrev pub rounded_up : ℕ → ℕ → ℕ
 rounded_up unit n = (n + (unit - 1)) / unit * unit
 
--- The break, by the segments that are loaded and have at least one byte of memory.
+-- The program break. Only loaded segments with at least one byte of memory matter.
 
--- the end of the highest writable segment, 0 where none is writable
+-- The end of the highest writable segment, or 0 if no segment is writable.
 abbrev pub writable_end : List Segment → ℕ
 writable_end segments = fold max 0 (map end_of (filter (λ p. has_memory p && has_flag PF_W p) segments))
 
--- the break starts at the end of the highest writable segment, rounded up to a whole page
+-- The break starts at the end of the highest writable segment, rounded up to a page.
 abbrev pub break_start : List Segment → ℕ
 break_start segments = rounded_up page_size (writable_end segments)
 
--- the most that it grows by
+-- The greatest size of the memory up to the break.
 abbrev pub break_room : ℕ
 break_room = 64 * 2 ^ 20
 
--- the pages on which the segments above start
+-- The start addresses of the pages on which segments above the highest writable one start.
 abbrev pub pages_above : List Segment → List ℕ
 pages_above segments =
     map (λ p. rounded_down page_size p.vaddr) (filter (λ p. has_memory p && nat_le (writable_end segments) p.vaddr)
     segments)
 
--- It ends below the next segment, and never before its start. Without a writable segment it stays 0.
+-- The break never exceeds the page of the next segment, and is never below its start. It is 0 without a writable
+-- segment.
 abbrev pub break_bound : List Segment → ℕ
 break_bound segments =
     if writable_end segments == 0
     then 0
     else max (break_start segments) (fold min (break_start segments + break_room) (pages_above segments))
 
--- the table of program headers, and where it is loaded: 0 where no segment loads all of it from the file
+-- The range of the table of program headers, and the address at which it is loaded: 0 if no single segment loads it.
 abbrev pub table_range : List ℕ → Range
 table_range file = record { start = e_phoff file; size = PHDR_SIZE * e_phnum file }
 

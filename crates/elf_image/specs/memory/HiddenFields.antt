@@ -1,4 +1,4 @@
--- Hidden fields: those in a file's headers that its rewriting changes. The symbol machine reads none of them.
+-- Hidden fields: the header fields that a rewrite changes. The symbol machine reads none of them.
 use Rattle.std.specs.Prelude.{ℕ, ◌+◌, ◌*◌, ◌==◌, ◌||◌, nat_le, if◌then◌else◌, Bool, false, List, []}
 use Rattle.std.specs.Prelude.{◌∷◌, ◌++◌, flat_map, is_none}
 use Rattle.std.specs.Option.{option_map_or}
@@ -20,12 +20,13 @@ e_phoff_field = record { start = 0x20; size = 8 }
 abbrev pub e_phnum_field : Range
 e_phnum_field = record { start = 0x38; size = 2 }
 
--- e_shoff, e_shnum and e_shstrndx
+-- e_shoff, e_shnum and e_shstrndx.
 abbrev pub section_fields : List Range
 section_fields = record { start = 0x28; size = 8 } ∷ record { start = 0x3c; size = 2 }
     ∷ record { start = 0x3e; size = 2 } ∷ []
 
--- of the program header at an offset: p_offset; p_filesz and p_memsz; and all but p_type, p_flags and p_align
+-- Fields of the program header at an offset: p_offset; p_filesz and p_memsz; and all except p_type, p_flags and
+-- p_align.
 abbrev pub p_offset_field : ℕ → Range
 p_offset_field at = record { start = at + 8; size = 8 }
 
@@ -35,22 +36,22 @@ size_fields at = record { start = at + 32; size = 16 }
 abbrev pub place_fields : ℕ → Range
 place_fields at = record { start = at + 8; size = 40 }
 
--- The hidden ones.
+-- Hidden fields.
 
 abbrev pub only : Bool → Range → List Range
 only test range = if test then range ∷ [] else []
 
--- a program header of an index is that of the executable segment
+-- The program header with an index is the one of the executable segment.
 abbrev pub is_executable_segment : Elf → ℕ → Bool
 is_executable_segment elf index = option_map_or (λ e. e.0 == index) (executable_segment elf.segments.items) false
 
--- the byte at an address is one of the entry point's field, where that is loaded
+-- The byte at an address belongs to the field e_entry, if that is loaded.
 abbrev pub is_in_entry_field : Elf → ℕ → Bool
 is_in_entry_field file a =
     option_map_or (λ start. is_in_range a (record { start = start; size = 8 })) (address_of file e_entry_field) false
 
--- of the program header of an index: the sizes of the executable segment; the offset, where it is past that segment;
--- and where the header of the unwind table stands (LSB, "PT_GNU_EH_FRAME")
+-- Hidden fields of one program header: the sizes of the executable segment; the offset of a segment that is after the
+-- executable one in the file; and all addresses and sizes of the unwind table index (LSB, "PT_GNU_EH_FRAME").
 abbrev pub hidden_in_segment : Elf → ℕ × Segment → List Range
 hidden_in_segment elf indexed =
     let at = elf.phoff + PHDR_SIZE * indexed.0 in
@@ -59,8 +60,8 @@ hidden_in_segment elf indexed =
     ++ only (nat_le (executable_end elf.segments.items) p.offset) (p_offset_field at)
     ++ only (p.kind == PT_GNU_EH_FRAME) (place_fields at)
 
--- All, by their places in the file. The entry point's field is one only where not all of it is loaded. A file is tight
--- where its new code has no room after the executable segment: then the table of program headers moves and grows.
+-- All hidden fields, as ranges of the file. The field e_entry is hidden only if it isn't completely loaded. If a file
+-- is tight (its new code has no room after the executable segment), the table of program headers moves and grows.
 abbrev pub hidden_fields : Elf → Bool → List Range
 hidden_fields elf tight =
     section_fields
@@ -69,7 +70,7 @@ hidden_fields elf tight =
     ++ only (is_none (address_of elf e_entry_field)) e_entry_field
     ++ flat_map (hidden_in_segment elf) (enumerate_from 0 elf.segments.items)
 
--- the byte at an address is one of a hidden field
+-- The byte at an address belongs to a hidden field.
 abbrev pub is_hidden_field : Elf → Bool → ℕ → Bool
 is_hidden_field elf tight a =
     option_map_or (λ offset. list_any (is_in_range offset) (hidden_fields elf tight))

@@ -1,4 +1,4 @@
-// The faults of a whole file that one field or one header shows by itself.
+// Faults of a file that a single field or header shows.
 ghost use Rattle.std.specs.Prelude.{◌≡◌, ◌≤◌, ◌<◌, ℕ, IsTrue, IsSomeAnd, if◌then◌else◌, Some, None, List, length};
 ghost use Rattle.std.specs.Prelude.{slice_get};
 ghost use Rattle.rb_bytes.specs.declared.fault.FaultKind.TheVariants as fault;
@@ -16,7 +16,7 @@ use crate::lowest::{lower, lowest_below, place_if};
 use crate::section::Section;
 use crate::segment::{ADDRESS_END, PF_W, PT_DYNAMIC, PT_INTERP, Segment};
 
-/// The place of flags that aren't known.
+/// The place of unknown flags.
 pub fn lowest_other_flags(header: Header) -> Option<u64>
     ensures { IsLowest (HasFault header.entry.file.now fault.Flags) result }
 {
@@ -44,7 +44,7 @@ fn lowest_dynamic_segment(segments: SegmentTable) -> Option<u64>
     lowest_below(segments.count(), |index| dynamic_segment(segments, index))
 }
 
-/// The place of what shows that the file isn't a static executable.
+/// The lowest place that shows that the file isn't a static executable.
 pub fn lowest_not_static(segments: SegmentTable) -> Option<u64>
     ensures { IsLowest (HasFault segments.entry.file.now fault.NotStatic) result }
 {
@@ -65,14 +65,14 @@ fn writable_code(segments: SegmentTable, index: usize) -> Option<u64>
     place_if(is_wrong, segments.place(index))
 }
 
-/// The place of an executable segment that may be written.
+/// The lowest place of a writable executable segment.
 pub fn lowest_writable_code(segments: SegmentTable) -> Option<u64>
     ensures { IsLowest (HasFault segments.entry.file.now fault.WritableCode) result }
 {
     lowest_below(segments.count(), |index| writable_code(segments, index))
 }
 
-// The first address of a segment that isn't below the bound.
+// The first address of a segment that is at or above the limit.
 fn first_high(segment: &Segment) -> Option<u64>
     ensures { IsLowest (λ a. IsTrue (loads_address a segment.now) × (ADDRESS_END ≤ a)) result }
 {
@@ -87,7 +87,7 @@ fn high_address(segments: SegmentTable, index: usize) -> Option<u64>
     first_high(&segments.segment_of(index))
 }
 
-/// The first address that is loaded and isn't below [`ADDRESS_END`].
+/// The first loaded address that is at or above [`ADDRESS_END`].
 pub fn lowest_high_address(segments: SegmentTable) -> Option<u64>
     ensures { IsLowest (HasFault segments.entry.file.now fault.HighAddress) result }
 {

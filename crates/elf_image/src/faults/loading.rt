@@ -1,4 +1,4 @@
-// Whether the segments of a file, and its sections with code, lie as those of an executable must.
+// Checks the layout of a file's segments and of its sections with code.
 ghost use Rattle.std.specs.Prelude.{◌≤◌, ◌<◌, ◌+◌, ◌↔◌, ℕ, IsTrue, IfSome, IfNone, IfOk, Any, nat_eq, codes, ◌^◌};
 ghost use Rattle.std.specs.List.{starts_with};
 ghost use Rattle.rb_bytes.specs.declared.fault.FaultKind.TheVariants as fault;
@@ -21,7 +21,7 @@ use crate::segment::{PHDR_SIZE, Segment};
 use rb_bytes::fault::NoMemory;
 use std::alloc::Global;
 
-/// The lowest place of the fault `ExecSegments`: where the segments, or the sections with code, don't lie so.
+/// The lowest place of the fault `ExecSegments`: a wrong layout of segments or of sections with code.
 pub fn lowest_bad_loading(
     alloc: Global,
     file: &[u8],
@@ -41,7 +41,7 @@ pub fn lowest_bad_loading(
     Ok(lower(lowest_bad_code(segments, sections), past_code))
 }
 
-// What is wrong with the executable segments by themselves: none, one too many, or an odd one.
+// The lowest fault of the executable segments themselves: none, one too many, or an odd one.
 fn lowest_bad_code(segments: SegmentTable, sections: &[Section]) -> Option<u64>
     requires sections { AreSections segments.file.now (e_shnum segments.file.now) sections.now }
     ensures { IsLowest (IsBadCode segments.entry.file.now) result }
@@ -53,7 +53,7 @@ fn lowest_bad_code(segments: SegmentTable, sections: &[Section]) -> Option<u64>
     )
 }
 
-// The first executable segment from an index on.
+// The first executable segment from index `from` on.
 fn next_code(segments: SegmentTable, from: usize) -> Option<usize>
     ensures code { IfSome result (λ i. IsCode segments.entry.file.now i) }
     ensures from { IfSome result (λ i. from ≤ i) }
@@ -78,7 +78,7 @@ fn lowest_no_code(segments: SegmentTable) -> Option<u64>
     }
 }
 
-// The second executable segment of the table.
+// The second executable segment in the table.
 fn second_code(segments: SegmentTable) -> Option<usize>
     ensures second { IfSome result (λ i. IsSecondCode segments.entry.file.now i) }
     ensures below { IfSome result (λ i. i + 1 < 2 ^ 64) }
@@ -88,7 +88,7 @@ fn second_code(segments: SegmentTable) -> Option<usize>
     next_code(segments, first + 1)
 }
 
-// Whether a rewriting has renamed a section, which tells that the file is one that was rewritten.
+// Whether a section has the name prefix that shows that the file was rewritten before.
 fn has_old_section(sections: &[Section]) -> bool
     ensures { IsTrue result ↔ Any (λ s. IsTrue (starts_with nat_eq s.name.now (codes ".old."))) sections.now }
 {
@@ -100,14 +100,14 @@ fn has_old_section(sections: &[Section]) -> bool
     false
 }
 
-// Whether a segment from an index on is executable.
+// Whether a segment from index `from` on is executable.
 fn has_code_from(segments: SegmentTable, from: usize) -> bool
     ensures { IsTrue result ↔ ((k : ℕ) × IsCode segments.entry.file.now k × (from ≤ k)) }
 {
     next_code(segments, from).is_some()
 }
 
-// Whether the second executable segment is one too many: there is a third, or the file wasn't rewritten.
+// Whether the second executable segment is one too many: there is a third, or the file was not rewritten.
 fn is_too_many(segments: SegmentTable, sections: &[Section], second: usize) -> bool
     requires sections { AreSections segments.file.now (e_shnum segments.file.now) sections.now }
     requires second { second + 1 < 2 ^ 64 }
@@ -116,7 +116,7 @@ fn is_too_many(segments: SegmentTable, sections: &[Section], second: usize) -> b
     has_code_from(segments, second + 1) || !has_old_section(sections)
 }
 
-// The second executable segment, where it is one too many.
+// The second executable segment, if it is one too many.
 fn lowest_one_too_many(segments: SegmentTable, sections: &[Section]) -> Option<u64>
     requires sections { AreSections segments.file.now (e_shnum segments.file.now) sections.now }
     ensures { IsLowest (SomeBelow (e_phnum segments.entry.file.now) (IsOneTooMany segments.entry.file.now)) result }
@@ -135,14 +135,14 @@ fn odd_code(segments: SegmentTable, index: usize) -> Option<u64>
     place_if(segment.is_code() && is_odd, segments.place(index))
 }
 
-// An executable segment at address 0, or one that isn't as long in the file as in memory.
+// An executable segment at address 0, or one whose sizes in the file and in memory differ.
 fn lowest_odd_code(segments: SegmentTable) -> Option<u64>
     ensures { IsLowest (SomeBelow (e_phnum segments.entry.file.now) (IsOddCode segments.entry.file.now)) result }
 {
     lowest_below(segments.count(), |index| odd_code(segments, index))
 }
 
-// The executable segment of the lowest address.
+// The executable segment at the lowest address.
 fn lowest_code(segments: SegmentTable) -> Option<usize>
     ensures some { IfSome result (λ i. IsLowestCode segments.entry.file.now i) }
     ensures none { IfNone result ((i : ℕ) → IsCode segments.entry.file.now i → ⊥) }
@@ -151,7 +151,7 @@ fn lowest_code(segments: SegmentTable) -> Option<usize>
     Some(lowest_code_from(segments, first))
 }
 
-// The executable segment of the lowest address, where `first` is the first one of the table.
+// The executable segment at the lowest address. `first` is the first one in the table.
 fn lowest_code_from(segments: SegmentTable, first: usize) -> usize
     requires code { IsCode segments.file.now first }
     requires first { (k : ℕ) → IsCode segments.file.now k → first ≤ k }
@@ -164,7 +164,7 @@ fn lowest_code_from(segments: SegmentTable, first: usize) -> usize
     lowest
 }
 
-// The lower of the executable segment `lowest` and the segment of an index, if that is executable.
+// The lower of the executable segment `lowest` and the segment at `index`, if that is executable.
 fn lower_code(segments: SegmentTable, lowest: usize, index: usize) -> usize
     requires index { index < e_phnum segments.file.now }
     requires order { lowest ≤ index }
@@ -179,7 +179,7 @@ fn lower_code(segments: SegmentTable, lowest: usize, index: usize) -> usize
     }
 }
 
-// Whether a segment is executable and lies below another.
+// Whether a segment is executable and at a lower address than another.
 fn is_lower_code(segments: SegmentTable, index: usize, other: usize) -> bool
     requires index { index < e_phnum segments.file.now }
     requires other { other < e_phnum segments.file.now }
@@ -191,7 +191,7 @@ fn is_lower_code(segments: SegmentTable, index: usize, other: usize) -> bool
     segment.is_code() && segment.vaddr < segments.segment_of(other).vaddr
 }
 
-// Whether a range of the file begins before the end of the executable segment, and ends after it.
+// Whether a range of the file starts before the end of the executable segment, and ends after it.
 fn crosses_end(segments: SegmentTable, code: usize, offset: u64, size: u64) -> bool
     requires code { IsLowestCode segments.file.now code }
     ensures { IsTrue result ↔ CrossesEnd segments.entry.file.now offset size }
@@ -199,7 +199,7 @@ fn crosses_end(segments: SegmentTable, code: usize, offset: u64, size: u64) -> b
     crosses(&segments.segment_of(code), offset, size)
 }
 
-// Whether a range of the file begins before the end of a segment's bytes, and ends after it.
+// Whether a range of the file starts before the end of a segment's bytes, and ends after it.
 fn crosses(segment: &Segment, offset: u64, size: u64) -> bool
     ensures { IsTrue result
         ↔ ((offset < segment.now.offset + segment.now.filesz)
@@ -239,7 +239,7 @@ fn crossing_table(segments: SegmentTable, code: usize) -> Option<u64>
 }
 
 // The lowest place of a segment, or of the table of program headers, that crosses the end of the executable segment in
-// the file. New code can be put there, so what lies on both sides would be cut in two.
+// the file. New code may be inserted at that end, which would split such a structure.
 fn lowest_crossed(segments: SegmentTable) -> Option<u64>
     ensures { IsLowest (IsCrossed segments.entry.file.now) result }
 {

@@ -10,7 +10,7 @@ use crate::faults::segment_extents::{ExtentKind, segment_extents};
 use rb_bytes::fault::NoMemory;
 use std::alloc::Global;
 
-/// The place of a segment that shares an address with another.
+/// The lowest place of a segment that shares an address with another.
 pub fn lowest_shared_address(alloc: Global, segments: SegmentTable) -> Result<Option<u64>, NoMemory>
     ensures { IfOk result
         (λ lowest. IsLowest (SomeBelow (e_phnum segments.entry.file.now) (SharesAddress segments.entry.file.now))
@@ -19,7 +19,7 @@ pub fn lowest_shared_address(alloc: Global, segments: SegmentTable) -> Result<Op
     lowest_shared(segment_extents(alloc, segments, ExtentKind::Addresses)?)
 }
 
-/// The place of a segment that shares a byte of the file with another.
+/// The lowest place of a segment that shares a byte of the file with another.
 pub fn lowest_shared_byte(alloc: Global, segments: SegmentTable) -> Result<Option<u64>, NoMemory>
     ensures { IfOk result
         (λ lowest. IsLowest (SomeBelow (e_phnum segments.entry.file.now) (SharesFileByte segments.entry.file.now))

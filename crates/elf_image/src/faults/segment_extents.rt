@@ -1,4 +1,4 @@
-// The ranges that loaded segments take, of addresses or of the file.
+// The ranges of addresses or of the file that loaded segments take.
 ghost use Rattle.std.specs.Prelude.{◌≡◌, ◌<◌, ◌+◌, ◌==◌, if◌then◌else◌, IfOk, IfSome, IfNone, Some, None};
 ghost use Rattle.elf_image.specs.file.Header.{e_phnum};
 ghost use Rattle.elf_image.specs.internal.SegmentExtents.{AreExtents, IsExtentOf, IsAddressExtent, IsFileExtent};
@@ -11,18 +11,18 @@ use rb_bytes::fault::NoMemory;
 use rb_bytes::lists::push_some;
 use std::alloc::Global;
 
-/// What the ranges of segments are of.
+/// A kind of ranges.
 #[derive(Clone, Copy)]
 pub enum ExtentKind {
-    /// The addresses of loaded segments.
+    /// Addresses of loaded segments.
     Addresses,
-    /// The addresses of loaded segments that may be executed.
+    /// Addresses of executable loaded segments.
     CodeAddresses,
-    /// The bytes of the file that loaded segments take.
+    /// File bytes of loaded segments.
     FileBytes,
 }
 
-/// The ranges of a kind, one of each segment that has any.
+/// The ranges of a kind, one for each segment that has a range.
 pub fn segment_extents(
     alloc: Global,
     segments: SegmentTable,
@@ -39,7 +39,7 @@ pub fn segment_extents(
     Ok(extents)
 }
 
-// The range of a kind that a segment takes, if it has any.
+// The range of a kind for a segment, if it has one.
 fn extent_of(segments: SegmentTable, index: usize, kind: ExtentKind) -> Option<Extent>
     requires index { index < e_phnum segments.file.now }
     ensures some { IfSome result (λ s. IsExtentOf kind segments.entry.file.now index s) }
@@ -78,7 +78,7 @@ fn code_extent(segments: SegmentTable, index: usize) -> Option<Extent>
     }
 }
 
-// The bytes of the file that a segment takes, if it is loaded and takes any.
+// The file bytes of a segment, if it is loaded and has any.
 fn file_extent(segments: SegmentTable, index: usize) -> Option<Extent>
     requires index { index < e_phnum segments.file.now }
     ensures some { IfSome result (λ s. IsFileExtent segments.entry.file.now index s) }
@@ -91,7 +91,7 @@ fn file_extent(segments: SegmentTable, index: usize) -> Option<Extent>
     Some(extent_from(segment.offset, segment.filesz, segments.place(index)))
 }
 
-// So many numbers from one on.
+// The range of `size` numbers from `start` on.
 fn extent_from(start: u64, size: u64, place: u64) -> Extent
     ensures start { result.start ≡ start }
     ensures end { result.end ≡ start + size }

@@ -1,4 +1,4 @@
-// Sections with code that lie in no executable segment.
+// Sections with code that are outside all executable segments.
 ghost use Rattle.std.specs.Prelude.{◌≢◌, ◌<◌, ◌+◌, ◌↔◌, ℕ, IsTrue, IfOk};
 ghost use Rattle.std.specs.List.Sorted.{IsNonDecreasingBy};
 ghost use Rattle.elf_image.specs.faults.Truncation.{IsReadable};
@@ -16,7 +16,7 @@ use crate::section::SectionHeader;
 use rb_bytes::fault::NoMemory;
 use std::alloc::Global;
 
-/// The place of a section with code that lies in no executable segment.
+/// The lowest place of a section with code that isn't inside an executable segment.
 pub fn lowest_stray_section(alloc: Global, file: &[u8]) -> Result<Option<u64>, NoMemory>
     requires { IsReadable file.now }
     ensures { IfOk result (λ lowest. IsLowest (SomeBelow (e_shnum file.now) (IsStraySection file.now)) lowest) }
@@ -28,7 +28,7 @@ pub fn lowest_stray_section(alloc: Global, file: &[u8]) -> Result<Option<u64>, N
     Ok(lowest_stray(SectionTable { file }, &reaches))
 }
 
-// Whether a section holds code that no range covers. No byte of an empty one lies outside.
+// Whether a section has code that no range covers. An empty section is always covered.
 fn is_stray(reaches: &[Extent], section: &SectionHeader) -> bool
     requires rising { IsNonDecreasingBy (λ s. s.start) reaches.now }
     requires growing { IsNonDecreasingBy (λ s. s.end) reaches.now }

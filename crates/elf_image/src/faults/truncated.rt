@@ -1,4 +1,4 @@
-// Where a file is truncated: the lowest place of each kind of structure.
+// Finds where a file is truncated: the lowest place of each kind of structure.
 ghost use Rattle.std.specs.Prelude.{◌≡◌, ◌<◌, IfNone};
 ghost use Rattle.elf_image.specs.faults.Truncation.{HasContents, IsBadHeaderField, IsTruncatedTable};
 ghost use Rattle.elf_image.specs.faults.Truncation.{IsTruncatedSegment, IsTruncatedSection, IsUnnamedSection};
@@ -21,7 +21,7 @@ use crate::section::{SHDR_SIZE, SHT_SYMTAB, SectionHeader};
 use crate::segment::{PHDR_SIZE, PT_LOAD};
 use crate::symbol::SYM_SIZE;
 
-// The lowest place of a field of the header without which tables can't be read.
+// The lowest place of a header field that makes tables unreadable.
 fn lowest_bad_field(header: Header) -> Option<u64>
     ensures { IsLowest (IsBadHeaderField header.entry.file.now) result }
 {
@@ -32,7 +32,7 @@ fn lowest_bad_field(header: Header) -> Option<u64>
     lower(lower(segments, sections), names)
 }
 
-// The lowest offset of a table of headers that doesn't lie whole in the file.
+// The lowest offset of a table of headers that isn't completely in the file.
 fn lowest_truncated_table(header: Header) -> Option<u64>
     ensures { IsLowest (IsTruncatedTable header.entry.file.now) result }
 {
@@ -52,7 +52,7 @@ fn truncated_segment(segments: SegmentTable, index: usize) -> Option<u64>
     place_if(is_wrong, segment.offset)
 }
 
-// The lowest offset of a loaded segment whose bytes don't lie whole in the file.
+// The lowest offset of a loaded segment whose bytes aren't all in the file.
 fn lowest_truncated_segment(segments: SegmentTable) -> Option<u64>
     ensures { IsLowest (SomeBelow (e_phnum segments.entry.file.now) (IsTruncatedSegment segments.entry.file.now))
         result }
@@ -68,7 +68,7 @@ fn truncated_section(headers: SectionTable, index: usize) -> Option<u64>
     place_if(!has_contents(headers.file, &section), section.offset)
 }
 
-// The lowest offset of a section whose contents don't lie whole in the file.
+// The lowest offset of a section whose bytes aren't all in the file.
 fn lowest_truncated_section(headers: SectionTable) -> Option<u64>
     ensures { IsLowest (SomeBelow (e_shnum headers.entry.file.now) (IsTruncatedSection headers.entry.file.now)) result }
 {
@@ -84,7 +84,7 @@ fn unnamed_section(headers: SectionTable, index: usize, end: usize) -> Option<u6
     place_if(end <= section.name as usize, headers.place(index))
 }
 
-// The lowest place of a section header whose name has no end in the table of names.
+// The lowest place of a section header whose name has no end in the string table.
 fn lowest_unnamed_in(headers: SectionTable, table: &[u8]) -> Option<u64>
     requires names { table.now ≡ section_names headers.file.now }
     ensures { IsLowest (SomeBelow (e_shnum headers.entry.file.now) (IsUnnamedSection headers.entry.file.now)) result }
@@ -96,8 +96,8 @@ fn lowest_unnamed_in(headers: SectionTable, table: &[u8]) -> Option<u64>
     )
 }
 
-// The lowest place of a section header whose name has no end, where the table of names lies whole in the file. Where it
-// doesn't, the table itself is what is truncated.
+// The lowest place of a section header whose name has no end, if the file contains all of the string table. Otherwise
+// the string table itself is truncated.
 fn lowest_unnamed_section(headers: SectionTable) -> Option<u64>
     ensures { IsLowest (AreUnnamedSections headers.entry.file.now) result }
 {
@@ -116,7 +116,7 @@ fn unnamed_symbol(file: &[u8], table: &SectionHeader, index: usize, end: usize) 
     place_if(end <= u32_at(file, place) as usize, place as u64)
 }
 
-// The lowest place of a symbol in a table whose name has no end in the table of names.
+// The lowest place of a symbol whose name has no end in the string table.
 fn lowest_unnamed_of(file: &[u8], table: &SectionHeader, names: &[u8]) -> Option<u64>
     requires whole { HasContents file.now table.now }
     requires is_table { table.now.kind ≡ SHT_SYMTAB }
@@ -130,7 +130,7 @@ fn lowest_unnamed_of(file: &[u8], table: &SectionHeader, names: &[u8]) -> Option
     )
 }
 
-// The lowest place of a symbol whose name has no end, where there are symbols and both tables lie whole in the file.
+// The lowest place of a symbol whose name has no end, if there are symbols and both tables are complete.
 fn lowest_unnamed_symbol(headers: SectionTable) -> Option<u64>
     ensures { IsLowest (IsUnnamedSymbolOf headers.entry.file.now (symbol_table headers.entry.file.now)) result }
 {
@@ -139,7 +139,7 @@ fn lowest_unnamed_symbol(headers: SectionTable) -> Option<u64>
     lowest_unnamed_of(headers.file, &table, names)
 }
 
-// What the table of program headers names, if that is whole.
+// The lowest place of a structure that program headers refer to, if their table is complete.
 fn lowest_truncated_by_segments(header: Header) -> Option<u64>
     ensures { IsLowest (IsTruncatedBySegments header.entry.file.now) result }
 {
@@ -150,7 +150,7 @@ fn lowest_truncated_by_segments(header: Header) -> Option<u64>
     }
 }
 
-// What the table of section headers names, if that is whole.
+// The lowest place of a structure that section headers refer to, if their table is complete.
 fn lowest_truncated_by_sections(header: Header) -> Option<u64>
     ensures { IsLowest (IsTruncatedBySections header.entry.file.now) result }
 {
@@ -165,9 +165,8 @@ fn lowest_truncated_by_sections(header: Header) -> Option<u64>
     lower(lowest_truncated_section(headers), names)
 }
 
-/// The lowest place at which a file is truncated: the offset of a structure that does not lie whole
-/// in it, of a section header or symbol whose name has no end, or of a field of the header. gABI,
-/// "ELF Header".
+/// The lowest place at which a file is truncated: the offset of a structure that isn't completely in the file, of a
+/// section header or symbol whose name has no end, or of a field of the header. gABI, "ELF Header".
 pub fn lowest_truncated(file: &[u8]) -> Option<u64>
     ensures lowest { IsLowest (IsTruncated file.now) result }
     ensures readable { IfNone result (IsReadable file.now) }

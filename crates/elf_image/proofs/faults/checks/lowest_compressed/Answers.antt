@@ -10,7 +10,7 @@ use Rattle.elf_image.proofs.LowestPlaces.{IsLowest-all, IsLowest-place}
 use Rattle.elf_image.proofs.SectionLemmas.{is_compressed-same}
 use Rattle.elf_image.proofs.faults.checks.lowest_compressed.Goals as goal
 
--- what is found at an index, in a file with these sections
+-- The result for an index, in a file with these sections.
 found_at : (file : List ℕ) (sections : List Section) (i : ℕ) (r : Option ℕ) → AreSections file (e_shnum file) sections →
     IsSomeAnd (slice_get sections i) (λ s. r ≡ (if is_compressed s.flags s.name.now then Some i else None)) →
     IsLowest (IsCompressed file i) r
