@@ -1,4 +1,4 @@
--- The items of a list that are of some kind, chosen one after another.
+-- Items of a list with a property, chosen one by one.
 use Rattle.std.proofs.Common.{◌≡◌, ◌∙◌, sym, subst, ap, ℕ, ◌+◌, ◌<◌, ⊎_elim, List, [], ◌∷◌, ◌++◌, take, length, slice_index_or, arith}
 use Rattle.std.specs.List.{Contains, AllPairs}
 use Rattle.std.proofs.lemmas.List.{take_more, take_all, get_or-take, get_or_default, length-take}
@@ -6,11 +6,11 @@ use Rattle.std.proofs.lemmas.List.Elements.{Contains-append_left, Contains-push,
 use Rattle.std.proofs.lemmas.List.Quantifiers.{all_pairs_push}
 use Rattle.rv_code.specs.layout.Lists.{ListsAll}
 
--- all of the first n items that are of the kind, in the list's order
+-- All of the first n items with the property, in the order of the list.
 abbrev pub ChosenOf : {A : Type 0} → (A → Type 0) → (A → A → Type 0) → List A → ℕ → List A → Type 0
 ChosenOf P R xs n chosen = ListsAll (λ x. Contains (take n xs) x × P x) R chosen
 
--- one of the first n items stands before the n-th
+-- The first n items are before item n.
 before : {A : Type 0} (R : A → A → Type 0) (xs : List A) (n : ℕ) (y x d : A) → AllPairs R xs → n < length xs →
     x ≡ slice_index_or xs n d → Contains (take n xs) y → R y x
 before R xs n y x d ordered within is (k, low, there) =
@@ -53,7 +53,7 @@ chosen_skip {A} P R xs chosen n x d within is dropped lists =
       ordered = lists.ordered;
     })
 
--- of all items
+-- All items.
 pub chosen_all : {A : Type 0} (P : A → Type 0) (R : A → A → Type 0) (xs chosen : List A) (n : ℕ) → n ≡ length xs →
     ((x : A) → P x → Contains xs x) → ChosenOf P R xs n chosen → ListsAll P R chosen
 chosen_all {A} P R xs chosen n all listed lists = record {

@@ -1,4 +1,4 @@
--- Parts lie between neighbouring cuts of a list of all cuts.
+-- Parts between neighbouring cuts, in a list of all cuts.
 use Rattle.std.proofs.Common.{◌≡◌, ◌∙◌, sym, subst, ap, refl, ℕ, ◌+◌, ◌-◌, ◌<◌, ◌≤◌, ◌⊎◌, inl, inr, ⊎_elim, ◌↔◌, Bool, true}
 use Rattle.std.proofs.Common.{false, not, ◌||◌, IsTrue, List, [], ◌∷◌, ◌++◌, length, slice_index, slice_index_or, arith}
 use Rattle.std.specs.List.{Contains}
@@ -14,12 +14,12 @@ use Rattle.elf_code.specs.Parts.{IsCut, IsInCode, IsCovered, IsPart, IsCodePart}
 use Rattle.code_starts.specs.declared.parts.Part.{Part}
 use Rattle.code_starts.specs.Parts.{AreZeros, IsCodeStretch, Precedes, AreCodeParts}
 
--- all cuts, by address
+-- All cuts, by address.
 pub record AreCuts (elf : Elf) (cuts : List ℕ) : Type 0 where
   pub ascending : IsStrictlyIncreasing cuts
   pub exact : (a : ℕ) → Contains cuts a ↔ IsCut elf a
 
--- Numbers that ascend.
+-- Ascending numbers.
 
 pub rises : (cuts : List ℕ) (i j : ℕ) → IsStrictlyIncreasing cuts → i < j → j < length cuts →
     slice_index cuts i < slice_index cuts j
@@ -36,7 +36,7 @@ index_below cuts i j up within less =
     (cases_lt j i))
     (cases_lt i j)
 
--- where a cut stands in the list
+-- The index of a cut in the list.
 pub cut_at : (elf : Elf) (cuts : List ℕ) (a : ℕ) → AreCuts elf cuts → IsCut elf a →
     (k : ℕ) × (k < length cuts) × (slice_index cuts k ≡ a)
 cut_at elf cuts a are is =
@@ -46,7 +46,7 @@ cut_at elf cuts a are is =
 pub is_cut : (elf : Elf) (cuts : List ℕ) (k : ℕ) → AreCuts elf cuts → k < length cuts → IsCut elf (slice_index cuts k)
 is_cut elf cuts k are within = (are.exact (slice_index cuts k)).0 (k, within, get_or_default cuts k (slice_index cuts k) 0 within)
 
--- neighbours bound a part
+-- Two neighbouring cuts bound a part.
 pub part_at : (elf : Elf) (cuts : List ℕ) (k : ℕ) → AreCuts elf cuts → k + 1 < length cuts → IsInCode elf (slice_index cuts k) →
     IsPart elf (slice_index cuts k) (slice_index cuts (k + 1))
 part_at elf cuts k are within in_code = record {
@@ -61,7 +61,7 @@ part_at elf cuts k are within in_code = record {
   in_code = in_code;
 }
 
--- a part's bounds are neighbours
+-- The bounds of a part are neighbouring cuts.
 pub part_from : (elf : Elf) (cuts : List ℕ) (start end : ℕ) → AreCuts elf cuts → IsPart elf start end →
     (k : ℕ) × (k + 1 < length cuts)
     × (slice_index cuts k ≡ start) × (slice_index cuts (k + 1) ≡ end)
@@ -104,7 +104,7 @@ part_kept elf start end code = record {
   no_padding = λ padding. code.no_padding (record { part = code.part; uncovered = padding.0; zeros = padding.1 });
 }
 
--- a part up to the next cut is one up to this cut, or goes to the next one
+-- A part that ends at or before the next cut ends at or before this cut, or is the range from this cut to the next.
 part_cases : (elf : Elf) (cuts : List ℕ) (k : ℕ) (p : Part) → AreCuts elf cuts → k + 1 < length cuts →
     IsPartUpTo elf (slice_index cuts (k + 1)) p → IsPartUpTo elf (slice_index cuts k) p
     ⊎ ((p.start ≡ slice_index cuts k) × (p.end ≡ slice_index cuts (k + 1)))
@@ -128,7 +128,7 @@ part_cases elf cuts k p are within is =
 up_to : (elf : Elf) (low high : ℕ) (p : Part) → low ≤ high → IsPartUpTo elf low p → IsPartUpTo elf high p
 up_to elf low high p above is = let below = is.1 in (is.0, omega arith)
 
--- a stretch with code
+-- A range with code.
 pub parts_keeps : (elf : Elf) (cuts : List ℕ) (parts now : List Part) (k : ℕ) → AreCuts elf cuts → k + 1 < length cuts →
     IsCodeStretch elf (slice_index cuts k) (slice_index cuts (k + 1)) → now ≡ parts
     ++ record { start = slice_index cuts k; end = slice_index cuts (k + 1) } ∷ [] →
@@ -159,7 +159,7 @@ parts_keeps elf cuts parts now k are within kept pushed listed =
     low : slice_index cuts k ≤ slice_index cuts (k + 1)
     low = let r = rises cuts k (k + 1) are.ascending (omega arith) within in omega arith
 
--- a stretch without
+-- A range without code.
 pub parts_drops : (elf : Elf) (cuts : List ℕ) (parts : List Part) (k : ℕ) → AreCuts elf cuts → k + 1 < length cuts →
     (IsCodeStretch elf (slice_index cuts k) (slice_index cuts (k + 1)) → ⊥) →
     ListsAll (IsPartUpTo elf (slice_index cuts k)) Precedes parts →
@@ -178,7 +178,7 @@ parts_drops elf cuts parts k are within dropped listed = record {
     low : slice_index cuts k ≤ slice_index cuts (k + 1)
     low = let r = rises cuts k (k + 1) are.ascending (omega arith) within in omega arith
 
--- the end of the last part is a cut
+-- The last part ends at a cut.
 pub parts_all : (elf : Elf) (cuts : List ℕ) (parts : List Part) (k : ℕ) → AreCuts elf cuts → length cuts ≤ k + 1 →
     ListsAll (IsPartUpTo elf (slice_index cuts k)) Precedes parts → k < length cuts → AreCodeParts elf parts
 parts_all elf cuts parts k are all listed within = record {
@@ -195,7 +195,7 @@ parts_all elf cuts parts k are all listed within = record {
   ordered = listed.ordered;
 }
 
--- no part without cuts
+-- Without cuts there are no parts.
 pub parts_none : (elf : Elf) (cuts : List ℕ) (parts : List Part) (bound : ℕ) → AreCuts elf cuts → length cuts ≡ 0 →
     ListsAll (IsPartUpTo elf bound) Precedes parts → AreCodeParts elf parts
 parts_none elf cuts parts bound are none listed = record {
@@ -204,7 +204,7 @@ parts_none elf cuts parts bound are none listed = record {
   ordered = listed.ordered;
 }
 
--- what is kept
+-- The condition for keeping a part.
 pub kept_if : (elf : Elf) (start end : ℕ) (covered zeros : Bool) → IsInCode elf start → IsTrue covered ↔ IsCovered elf start end →
     IsTrue zeros ↔ AreZeros elf start end → IsTrue (covered || not zeros) ↔ IsCodeStretch elf start end
 kept_if elf start end true zeros in_code cover blank =
@@ -217,7 +217,7 @@ kept_if elf start end false true in_code cover blank = (
 kept_if elf start end false false in_code cover blank =
     (λ _. record { in_code = in_code; no_padding = λ padding. let e : false ≡ true = blank.1 padding.1 in cc }, λ _. refl)
 
--- The same of what a loop reads at an index.
+-- Facts on the values that the loop reads at an index.
 
 read_at : (cuts : List ℕ) (k a : ℕ) → k < length cuts → a ≡ slice_index_or cuts k a → a ≡ slice_index cuts k
 read_at cuts k a within is = is ∙ get_or_default cuts k a 0 within
@@ -252,7 +252,7 @@ parts_end elf cuts parts k are all listed =
     (λ (none : length cuts ≤ 0). parts_none elf cuts parts (slice_index cuts k) are (omega arith) listed)
     (cases_lt 0 (length cuts))
 
--- neighbours rise
+-- Neighbouring cuts ascend.
 pub read_rises : (elf : Elf) (cuts : List ℕ) (k start end : ℕ) → AreCuts elf cuts → k < length cuts - 1 →
     start ≡ slice_index_or cuts k start → end ≡ slice_index_or cuts (k + 1) end → start < end
 read_rises elf cuts k start end are within starts ends =

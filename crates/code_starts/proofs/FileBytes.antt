@@ -37,7 +37,7 @@ bytes-loaded elf a p from n found loads low from_is inside loaded within = λ i 
     long : length (take n (drop from elf.file.now)) ≡ n
     long = omega (arith, length-take n (drop from elf.file.now), length-drop from elf.file.now)
 
--- those of a part are the first ones from its start on
+-- The bytes of a part are the first ones from its start on.
 pub bytes-of : (elf : Elf) (part : Part) (bytes : List ℕ) (n : ℕ) → AreBytesFrom elf part.start bytes →
     n ≡ part.end - part.start → n ≤ length bytes → AreBytesOf elf part (take n bytes)
 bytes-of elf part bytes n are n_is within = record {
@@ -57,7 +57,7 @@ both_loaded low high x y first second =
     let f : unwrap_or high 0 ≡ y = ap (λ (o : Option ℕ). unwrap_or o 0) second in
     omega arith
 
--- the halfword that two of them make
+-- The halfword of two of these bytes.
 pub half-loaded : (elf : Elf) (a i b : ℕ) (bytes : List ℕ) → AreBytesFrom elf a bytes → b ≡ a + i → i + 1 < length bytes →
     slice_index bytes i + 256 * slice_index bytes (i + 1) ≡ halfword_at elf b
 half-loaded elf a i b bytes are at within =

@@ -1,4 +1,4 @@
--- Looking up four-byte instructions.
+-- Searches for four-byte instructions.
 use Rattle.std.proofs.Common.{◌≡◌, ℕ, List, arith}
 use Rattle.rv_code.specs.declared.inst.Inst.{Inst}
 use Rattle.elf_image.specs.declared.elf.Elf.{Elf}

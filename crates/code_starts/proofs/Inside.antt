@@ -1,4 +1,4 @@
--- The numbers of an ascending list between two bounds.
+-- The members of an ascending list between two bounds.
 use Rattle.std.proofs.Common.{◌≡◌, ◌∙◌, sym, ap, ℕ, ◌+◌, ◌-◌, ◌<◌, ◌≤◌, ⊎_elim, ◌↔◌, List, take, drop, length, slice_index_or, arith}
 use Rattle.std.specs.List.{Contains}
 use Rattle.std.proofs.lemmas.Bool.{cases_lt}

@@ -49,7 +49,7 @@ pub number-more : (elf : Elf) (a n m b x : ℕ) → n ≡ suc m → byte_at elf 
 number-more elf a n m b x is first rest =
     more (byte_at elf a) (bytes_in (byte_at elf) (a + 1) m) b x first rest ∙ whole elf a n m is
 
--- a number whose bytes stand among those of a stretch
+-- A number whose bytes are in a range of loaded bytes.
 pub number-there : (elf : Elf) (a i n b : ℕ) (bytes : List ℕ) → AreBytesFrom elf a bytes → b ≡ a + i → i + n ≤ length bytes →
     Some (little_from i n bytes) ≡ loaded_number elf b n
 number-there elf a i zero b bytes are at within = begins elf b
@@ -82,7 +82,7 @@ first_byte : (elf : Elf) (a : ℕ) (o : Option ℕ) (rest : Option (List ℕ)) (
 first_byte elf a None rest x is loaded = absurd (cc)
 first_byte elf a (Some b) rest x is loaded = subst (λ (o : Option ℕ). IsSome o) (sym is) refl
 
--- what is loaded isn't above all that can be
+-- A loaded number is below the end of loadable addresses.
 pub number-low : (elf : Elf) (a m x : ℕ) → IsLow elf → loaded_number elf a (suc m) ≡ Some x → a < address_end
 number-low elf a m x low loaded =
     low.below a (first_byte elf a (byte_at elf a) (bytes_in (byte_at elf) (a + 1) m) x refl

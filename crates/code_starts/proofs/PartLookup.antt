@@ -1,4 +1,4 @@
--- The part that an address lies in.
+-- The part that contains an address.
 use Rattle.std.proofs.Common.{◌≡◌, ap, ℕ, ◌<◌, ◌≤◌, ⊎_elim, List, slice_index_or, arith}
 use Rattle.std.specs.List.Sorted.{IsNonDecreasingBy}
 use Rattle.std.proofs.lemmas.Bool.{cases_lt}

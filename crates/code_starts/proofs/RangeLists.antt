@@ -1,4 +1,4 @@
--- The ranges of what a test chooses from a list.
+-- The ranges of chosen items of a list.
 use Rattle.std.proofs.Common.{◌≡◌, sym, subst, ap, true, ℕ, ◌+◌, ◌<◌, ◌≤◌, ◌↔◌, Bool, IsTrue, List, map, arith}
 use Rattle.std.specs.List.{Any, filter}
 use Rattle.std.specs.List.Sorted.{IsPermutation}
@@ -15,7 +15,7 @@ use Rattle.rb_bytes.proofs.ListLemmas.{from_map, in_map}
 use Rattle.elf_image.proofs.ReachLemmas.{IsCovered-permutation}
 use Rattle.code_starts.specs.Ranges.{section_extent, symbol_extent, tabled_extent}
 
--- a chosen item has a range that holds a stretch
+-- The range of a chosen item contains the given range.
 HasRange : {X : Type 0} → (X → Bool) → (X → Extent) → List X → ℕ → ℕ → Type 0
 HasRange p f xs start end = Any (λ x. IsTrue (p x) × ((f x).start ≤ start) × (end ≤ (f x).end)) xs
 
@@ -35,7 +35,7 @@ unfolding HasRange
 IsInOneExtent-to_chosen p f xs start end (k, x, within, is, (chosen, low, high)) =
     (f x, in_map f (filter p xs) x (Contains-filter p xs x (k, within, is) chosen), low, high)
 
--- the same of ranges that are asked
+-- The result of a search in these ranges.
 chosen : {X : Type 0} (p : X → Bool) (f : X → Extent) (xs : List X) (reaches extents : List Extent) →
     ((a e : ℕ) → a < e → IsInOneExtent reaches a e ↔ IsInOneExtent extents a e) →
     extents ≡ map f (filter p xs) → (a e : ℕ) → a < e → IsInOneExtent reaches a e ↔ HasRange p f xs a e
@@ -66,7 +66,7 @@ unfolding HasRange
 IsInOneExtent-functions elf reaches extents same are start end some =
     chosen names_function symbol_extent elf.symbols.items reaches extents same are start end some
 
--- ranges grown from sorted ones
+-- Ranges that were sorted and extended.
 pub IsInOneExtent-sorted : (extents sorted reaches : List Extent) → IsPermutation extents sorted →
     ((a e : ℕ) → a < e → IsInOneExtent reaches a e ↔ IsInOneExtent sorted a e) → (a e : ℕ) → a < e →
     IsInOneExtent reaches a e ↔ IsInOneExtent extents a e

@@ -40,7 +40,7 @@ within_suc : (elf : Elf) (end a n : ℕ) → a < end →
 unfolding starts_within
 within_suc elf end a n less = below a end _ _ less
 
--- enough steps are enough
+-- Any sufficient number of steps gives the same list.
 within_enough : (elf : Elf) (end a n m : ℕ) → end ≤ a + n → end ≤ a + m → starts_within elf end a n ≡ starts_within elf end a m
 within_enough elf end a zero m n_enough m_enough =
     within_past elf end a zero (omega arith) ∙ sym (within_past elf end a m (omega arith))
@@ -67,7 +67,7 @@ starts_from-next elf end a less =
 pub starts_from-past : (elf : Elf) (end a : ℕ) → end ≤ a → starts_from elf end a ≡ []
 starts_from-past elf end a past = within_past elf end a (end - a) past
 
--- They are all.
+-- The list is complete.
 
 pub starts_later : (elf : Elf) (start end a : ℕ) → start < end → StartsIn elf (start + length_at elf start) end a →
     StartsIn elf start end a
@@ -125,7 +125,7 @@ lists_append P Q xs ys left right less = record {
   ordered = pairs_append (λ a b. a < b) xs ys left.ordered right.ordered (λ a b l r. less a b (left.only a l) (right.only b r));
 }
 
--- those of one part
+-- The starts in one part.
 pub starts_within-lists : (elf : Elf) (end a n : ℕ) → end ≤ a + n → ListsNumbers (StartsIn elf a end) (starts_within elf end a n)
 starts_within-lists elf end a zero enough =
     subst (ListsNumbers (StartsIn elf a end)) (sym (within_past elf end a zero (omega arith)))
@@ -147,7 +147,7 @@ starts_within-lists elf end a (suc n) enough =
     (lists_none (StartsIn elf a end) (λ x is. let (low, high) = starts_inside elf a end x is in omega arith)))
     (cases_lt a end)
 
--- those of all parts
+-- The starts in all parts.
 InSome : Elf → List Part → ℕ → Type 0
 InSome elf ps a = (p : Part) × Contains ps p × StartsIn elf p.start p.end a
 

@@ -16,7 +16,7 @@ use Rattle.code_starts.specs.Parts.{ArePartsApart}
 use Rattle.code_starts.specs.WholeParts.{AreWholeParts, HoldsBoth}
 use Rattle.code_starts.proofs.StartLists.{starts_inside}
 
--- Parts that share an address are one.
+-- Parts that share an address are equal.
 
 same_order : (elf : Elf) (start end start' end' a : ℕ) → IsPart elf start end → IsPart elf start' end' → start ≤ a → a < end →
     start' ≤ a → a < end' → start < start' → ⊥
@@ -49,7 +49,7 @@ same_end elf start end start' end' a part other low high low' high' =
     (cases_lt end' end))
     (cases_lt end end')
 
--- the starts of a part are those of the file inside it
+-- The starts in a part are the file's starts between its bounds.
 pub StartsIn-inside : (elf : Elf) (starts : List ℕ) (start end : ℕ) → AreStarts elf starts → IsCodePart elf start end → (a : ℕ) →
     (Contains starts a × (start ≤ a) × (a < end)) ↔ StartsIn elf start end a
 StartsIn-inside elf starts start end are part a = (
@@ -64,7 +64,7 @@ StartsIn-inside elf starts start end are part a = (
       (are.each a (record { start = start; end = end; is_start = record { part = part; starts = there } }), inside.0, inside.1)),
 )
 
--- a part is whole where one of its starts is in a range
+-- A part is whole if one of its starts is in a range.
 pub IsWholePart-starts : (elf : Elf) (tabled : List (ℕ × ℕ)) (start end : ℕ) (reaches : List Extent) (inside : List ℕ) →
     IsCodePart elf start end → ((a : ℕ) → Contains inside a ↔ StartsIn elf start end a) →
     ((a : ℕ) → IsInOneExtent reaches a (a + 1) ↔ Any (IsInTabled a) tabled) →
@@ -80,7 +80,7 @@ IsWholePart-starts elf tabled start end reaches inside part are same = (
       (k, whole.place, within, is, (same whole.place).1 whole.tabled_there)),
 )
 
--- Labels in one whole part.
+-- Labels in the same whole part.
 
 pub AreApart-wholes : (elf : Elf) (tabled : List (ℕ × ℕ)) (wholes : List Part) → AreWholeParts elf tabled wholes →
     ArePartsApart wholes
@@ -107,18 +107,18 @@ IsInOneWhole-part elf tabled wholes to from are is =
     let p : Part = record { start = is.start; end = is.end } in
     (p, are.each p is.whole, record { to_in = is.to_in; from_in = is.from_in })
 
--- the lower of two labels
+-- The lower of two labels.
 abbrev pub IsLower : ℤ → ℤ → ℤ → Type 0
 IsLower low to from = (low ≡ to) ⊎ (low ≡ from)
 
--- a part that holds both begins at an address, at or below the lower label
+-- A part that contains both labels starts at or below the lower one.
 pub lower_address : (p : Part) (low to from : ℤ) → IsLower low to from → HoldsBoth to from p → pos p.start ≤ℤ low
 lower_address p low to from lower holds =
     let (to_low, to_high) = holds.to_in in
     let (from_low, from_high) = holds.from_in in
     ⊎_elim (λ (same : low ≡ to). omega (arith, ints)) (λ (same : low ≡ from). omega (arith, ints)) lower
 
--- the last part that begins at the lower label or below it holds both, if one does
+-- If a part contains both labels, the last part that starts at or below the lower label does.
 pub last_holds_both : (wholes : List Part) (count : ℕ) (x p d : Part) (low to from : ℤ) → ArePartsApart wholes →
     low ≤ℤ to → low ≤ℤ from →
     IsLower low to from → 0 < count → count ≤ length wholes → x ≡ slice_index_or wholes (count - 1) d → pos x.start ≤ℤ low →
@@ -159,7 +159,7 @@ last_holds_both wholes count x p d low to from are low_to low_from lower some bo
       from_in = (omega (arith, ints), omega (arith, ints));
     }
 
--- none does where none begins so low
+-- If no part starts at or below the lower label, no part contains both.
 pub none_holds_both : (wholes : List Part) (p : Part) (low to from : ℤ) → IsLower low to from →
     ((k : ℕ) (d : Part) → k < length wholes → low <ℤ pos (slice_index_or wholes k d).start) →
     Contains wholes p → HoldsBoth to from p → ⊥

@@ -1,4 +1,4 @@
--- The addresses of sections and symbols, and ranges that are given by their ends, as ranges.
+-- The addresses of sections and symbols, and ranges given by their ends, as extents.
 use Rattle.std.specs.Prelude.{ℕ, ◌+◌}
 use Rattle.elf_image.specs.declared.section.Section.{Section}
 use Rattle.elf_image.specs.declared.symbol.Symbol.{Symbol}

@@ -13,7 +13,7 @@ use elf_image::Elf;
 use rv_code::Inst;
 use rv_decode::decode;
 
-/// Whether an address is in an ascending list. A binary search.
+/// Whether an address is in an ascending list, by a binary search.
 pub fn is_start(addresses: &[u64], address: u64) -> bool
     requires { AllPairs (λ a b. a < b) addresses.now }
     ensures { IsTrue result ↔ Contains addresses.now address }
@@ -21,7 +21,7 @@ pub fn is_start(addresses: &[u64], address: u64) -> bool
     addresses.binary_search(&address).is_ok()
 }
 
-/// The halfword at an address, the lower byte first. A byte that isn't loaded counts as zero.
+/// The little-endian halfword at an address. Bytes that aren't loaded count as zero.
 pub fn halfword_at(elf: &Elf, address: u64) -> u16
     requires { address + 1 < 2 ^ 64 }
     ensures { result ≡ halfword_at elf.now address }
@@ -35,14 +35,14 @@ pub fn halfword_at(elf: &Elf, address: u64) -> u16
     halfword(bytes[0], bytes[1])
 }
 
-/// The halfword of two bytes, the lower one first in memory.
+/// The halfword with these two bytes.
 pub(crate) fn halfword(low: u8, high: u8) -> u16
     ensures { result ≡ low + 256 * high }
 {
     low as u16 + 256 * high as u16
 }
 
-// The halfwords at an address and after it. It takes one look-up where one segment loads both.
+// The halfwords at an address and after it. If one segment loads both, this takes one search.
 fn halfwords_at(elf: &Elf, address: u64) -> (u16, u16)
     requires { address + 3 < 2 ^ 64 }
     ensures first { result.0 ≡ halfword_at elf.now address }
@@ -55,7 +55,7 @@ fn halfwords_at(elf: &Elf, address: u64) -> (u16, u16)
     (halfword(bytes[0], bytes[1]), halfword(bytes[2], bytes[3]))
 }
 
-/// The instruction at an address, and how many bytes it takes, if it ends by `end`.
+/// The instruction at an address, and its length in bytes, if it ends at or before `end`.
 pub fn inst_before(elf: &Elf, end: u64, address: u64) -> Option<(Inst, u8)>
     requires { address < end }
     ensures there { IfSome result (λ r. IsInstBefore elf.now end address r.0 r.1) }
@@ -72,7 +72,7 @@ pub fn inst_before(elf: &Elf, end: u64, address: u64) -> Option<(Inst, u8)>
     decode(half, Some(next))
 }
 
-// The four-byte instruction at an address, if it ends by `end`.
+// The four-byte instruction at an address, if it ends at or before `end`.
 fn full_before(elf: &Elf, end: u64, address: u64) -> Option<Inst>
     requires { address < end }
     ensures there { IfSome result (λ inst. IsInstBefore elf.now end address inst 4) }

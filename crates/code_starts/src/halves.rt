@@ -1,4 +1,4 @@
-// The halfwords of a part of code, read at once, which tell the lengths of its instructions.
+// Reads all halfwords of a part of code at once, for the lengths of its instructions.
 ghost use Rattle.std.specs.Prelude.{◌≡◌, ◌≤◌, ◌<◌, ◌+◌, ◌-◌, ◌*◌, if◌then◌else◌, ℕ, [], IfSome, OnOk};
 ghost use Rattle.elf_image.specs.declared.elf.Elf.{Elf};
 ghost use Rattle.rb_lanes.specs.Marks.{is_marked};
@@ -11,7 +11,7 @@ use elf_image::Elf;
 use rb_bytes::fault::NoMemory;
 use rb_lanes::length_marks;
 
-// The bytes of a part, if one segment loads all of them from the file.
+// The bytes of a part, if a single segment loads all of them from the file.
 fn bytes_of<'a>(elf: &Elf<'a>, part: &Part) -> Option<&'a [u8]>
     ensures { IfSome result (λ bytes. AreBytesOf elf.now part.now bytes.now) }
 {
@@ -23,7 +23,7 @@ fn bytes_of<'a>(elf: &Elf<'a>, part: &Part) -> Option<&'a [u8]>
     Some(&bytes[..size as usize])
 }
 
-// Appends the halfwords of bytes. Of an odd number of bytes the last is a halfword by itself.
+// Appends the halfwords of some bytes. A last odd byte is a halfword by itself.
 fn push_halves(halves: &mut Vec<u16>, bytes: &[u8]) -> Result<(), NoMemory>
     requires { halves.old.items ≡ [] }
     ensures { (elf : Elf) (part : Part) → AreBytesOf elf part bytes.now →
@@ -38,7 +38,7 @@ fn push_halves(halves: &mut Vec<u16>, bytes: &[u8]) -> Result<(), NoMemory>
     Ok(())
 }
 
-// Appends the low bytes of a part's halfwords, each looked up for itself, for a part that no one segment loads whole.
+// Appends the low bytes of a part's halfwords, with one search for each. For parts that no single segment loads.
 fn push_low_bytes(halves: &mut Vec<u16>, elf: &Elf, part: &Part) -> Result<(), NoMemory>
     requires { halves.old.items ≡ [] }
     ensures { OnOk result (AreHalvesOf elf.now part.now halves.new.items) }
@@ -51,8 +51,9 @@ fn push_low_bytes(halves: &mut Vec<u16>, elf: &Elf, part: &Part) -> Result<(), N
     Ok(())
 }
 
-/// Replaces `halves` by the halfwords of a part, counted from its start. Only their low bytes, which tell the lengths
-/// of instructions, have to be those of memory.
+/// Replaces `halves` by the halfwords of a part, counted from its start. Only the low bytes, which determine the
+/// lengths
+/// of instructions, are those of memory.
 pub fn read_halves(halves: &mut Vec<u16>, elf: &Elf, part: &Part) -> Result<(), NoMemory>
     ensures { OnOk result (AreHalvesOf elf.now part.now halves.new.items) }
 {
@@ -63,7 +64,7 @@ pub fn read_halves(halves: &mut Vec<u16>, elf: &Elf, part: &Part) -> Result<(), 
     }
 }
 
-/// Replaces `marks` by the length marks of halfwords: which of them begin an instruction of four bytes.
+/// Replaces `marks` by marks for the halfwords that begin four-byte instructions.
 pub fn read_marks(marks: &mut Vec<u64>, halves: &[u16]) -> Result<(), NoMemory>
     ensures { OnOk result (AreMarksOf halves.now marks.new.items) }
 {
@@ -82,7 +83,7 @@ fn is_marked(marks: &[u64], index: usize) -> bool
     }
 }
 
-/// How many halfwords an instruction takes that begins with the one of an index: two where that is marked, else one.
+/// The number of halfwords of an instruction that begins with halfword `index`: two if it is marked, and otherwise one.
 pub fn halves_taken(marks: &[u64], index: usize) -> usize
     ensures { result ≡ (if is_marked marks.now index then 2 else 1) }
 {

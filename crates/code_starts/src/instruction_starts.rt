@@ -12,8 +12,8 @@ use rb_bytes::fault::NoMemory;
 use rb_lanes::search_below;
 use std::alloc::Global;
 
-/// The addresses at which instructions start, ascending, in all parts that hold code: see [`code_parts`]. The lengths
-/// of instructions alone say where the next one starts, whether or not they are valid.
+/// The start addresses of instructions, ascending, in all parts with code: see [`code_parts`]. Only the lengths of
+/// instructions determine the next start, whether or not the instructions are valid.
 pub fn starts(alloc: Global, elf: &Elf) -> Result<Vec<u64>, NoMemory>
     ensures { IfOk result (λ starts. AreStarts elf.now starts.items) }
 {
@@ -21,7 +21,7 @@ pub fn starts(alloc: Global, elf: &Elf) -> Result<Vec<u64>, NoMemory>
     Ok(starts_of(alloc, elf, &parts)?)
 }
 
-// The starts of the instructions of parts, one part after another.
+// The starts of the instructions of all parts, part by part.
 fn starts_of(alloc: Global, elf: &Elf, parts: &[Part]) -> Result<Vec<u64>, NoMemory>
     ensures { IfOk result (λ starts. starts.items ≡ starts_of elf.now parts.now) }
 {
@@ -36,7 +36,7 @@ fn starts_of(alloc: Global, elf: &Elf, parts: &[Part]) -> Result<Vec<u64>, NoMem
     Ok(starts)
 }
 
-// Appends the starts of a part. A marked halfword begins an instruction of four bytes, so the one after it begins none.
+// Appends the starts of a part. A marked halfword begins a four-byte instruction, so the next halfword begins none.
 fn push_starts(
     starts: &mut Vec<u64>,
     part: &Part,
@@ -56,7 +56,7 @@ fn push_starts(
     Ok(())
 }
 
-/// Of the starts of a file's instructions, those in a part.
+/// The starts of instructions that are in a part.
 pub fn starts_in<'a>(starts: &'a [u64], part: &Part) -> &'a [u64]
     requires ascending { AllPairs (λ a b. a < b) starts.now }
     requires has_bytes { part.now.start < part.now.end }

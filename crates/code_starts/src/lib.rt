@@ -1,4 +1,4 @@
-//! Parts of a file's code, and where their instructions start.
+//! The parts of a file's code, and the start addresses of their instructions.
 #![tactic(auto)]
 
 pub mod code;

@@ -9,8 +9,8 @@ ghost use Rattle.code_starts.specs.LoadedMemory.{IsLow, AreBytesFrom};
 use byteorder::{ByteOrder, LittleEndian};
 use elf_image::Elf;
 
-/// The bytes that the segment of an address loads from the file from there on: as many as it has, and none where no
-/// segment loads the address.
+/// The bytes that a segment loads from the file from an address on, up to the segment's last one. Empty if no segment
+/// loads the address from the file.
 pub fn bytes_from<'a>(elf: &Elf<'a>, address: u64) -> &'a [u8]
     ensures { AreBytesFrom elf.now address result.now }
 {
@@ -28,7 +28,8 @@ pub fn bytes_from<'a>(elf: &Elf<'a>, address: u64) -> &'a [u8]
     &elf.file[start as usize..end as usize]
 }
 
-/// The byte at an address, if it is loaded. Loaded addresses lie below `ADDRESS_END`, so the next one has 64 bits too.
+/// The byte at an address, if it is loaded. Loaded addresses are below `ADDRESS_END`, so the next one also fits 64
+/// bits.
 pub fn byte_at(elf: &Elf, address: u64) -> Option<u8>
     requires { IsLow elf.now }
     ensures value { result ≡ byte_at elf.now address }
@@ -37,7 +38,7 @@ pub fn byte_at(elf: &Elf, address: u64) -> Option<u8>
     elf.image_byte(address)
 }
 
-/// The number of `size` bytes at an address, at most eight, if all are loaded. The lowest byte comes first.
+/// The little-endian number in the `size` bytes at an address, if all are loaded. `size` is at most eight.
 pub fn loaded_number(elf: &Elf, address: u64, size: u8) -> Option<u64>
     requires low { IsLow elf.now }
     requires size { size ≤ 8 }
@@ -51,7 +52,7 @@ pub fn loaded_number(elf: &Elf, address: u64, size: u8) -> Option<u64>
     Some(first_number(bytes, size as usize))
 }
 
-// The number that the first `size` bytes are, the lowest first.
+// The little-endian number in the first `size` bytes.
 fn first_number(bytes: &[u8], size: usize) -> u64
     requires some { 1 ≤ size }
     requires high { size ≤ 8 }
@@ -62,7 +63,7 @@ fn first_number(bytes: &[u8], size: usize) -> u64
     LittleEndian::read_uint(bytes, size)
 }
 
-// The number at an address, each byte of which is looked up for itself: no one segment has all of them in the file.
+// The number at an address, with one search for each byte. For numbers that no single segment loads from the file.
 fn number_by_bytes(elf: &Elf, address: u64, size: u8) -> Option<u64>
     requires low { IsLow elf.now }
     requires size { size ≤ 8 }

@@ -1,4 +1,4 @@
-// The parts of executable sections that hold code.
+// The parts of executable sections with code.
 ghost use Rattle.std.specs.Prelude.{◌≡◌, ◌↔◌, ◌<◌, ◌≤◌, ◌+◌, ℕ, IfOk, IfSome, IsTrue, Some, length, slice_index_or};
 ghost use Rattle.elf_code.specs.Parts.{IsCovered, IsInCode};
 ghost use Rattle.elf_image.specs.internal.Extents.{IsInOneExtent};
@@ -9,14 +9,14 @@ use elf_image::{Elf, cuts};
 use rb_bytes::fault::NoMemory;
 use std::alloc::Global;
 
-/// A part of an executable section between neighbouring cuts, from `start` to before `end`.
+/// The part of an executable section between two neighbouring cuts, from `start` to before `end`.
 #[derive(Clone, Copy)]
 pub struct Part {
     pub start: u64,
     pub end: u64,
 }
 
-/// The parts that hold code, by address: all but those of zeros that no function's symbol covers.
+/// The parts with code, by address: all parts except parts of zeros that no function symbol covers.
 pub fn code_parts(alloc: Global, elf: &Elf) -> Result<Vec<Part>, NoMemory>
     ensures { IfOk result (λ parts. AreCodeParts elf.now parts.items) }
 {
@@ -35,21 +35,21 @@ pub fn code_parts(alloc: Global, elf: &Elf) -> Result<Vec<Part>, NoMemory>
     Ok(parts)
 }
 
-// Whether the stretch between two neighbouring cuts holds code.
+// Whether the range between two neighbouring cuts has code.
 fn is_code_stretch(elf: &Elf, code: &Ranges, functions: &Ranges, start: u64, end: u64) -> bool
     requires stretch { start < end }
     requires code { (a : ℕ) → IsInOneExtent code.now.reaches.items a (a + 1) ↔ IsInCode elf.now a }
     requires functions { (s e : ℕ) → s < e → IsInOneExtent functions.now.reaches.items s e ↔ IsCovered elf.now s e }
     ensures { IsTrue result ↔ IsCodeStretch elf.now start end }
 {
-    // A section begins and ends at cuts, so the first byte tells for all.
+    // Sections start and end at cuts, so the first byte decides for all.
     if !code.hold(start, start as u128 + 1) {
         return false;
     }
     functions.hold(start, end as u128) || !are_zeros(elf, start, end)
 }
 
-// Whether all bytes from one address to before another are zero.
+// Whether all bytes from `start` to before `end` are zero.
 fn are_zeros(elf: &Elf, start: u64, end: u64) -> bool
     ensures { IsTrue result ↔ AreZeros elf.now start end }
 {
@@ -62,7 +62,7 @@ fn are_zeros(elf: &Elf, start: u64, end: u64) -> bool
     true
 }
 
-/// The part that an address lies in.
+/// The part that contains an address.
 pub fn part_at(parts: &[Part], address: u64) -> Option<Part>
     requires { ArePartsApart parts.now }
     ensures holds { IfSome result (HoldsAddress parts.now address) }
@@ -76,7 +76,7 @@ pub fn part_at(parts: &[Part], address: u64) -> Option<Part>
     if address < part.end { Some(part) } else { None }
 }
 
-/// How many parts begin at an address or below it.
+/// The number of parts that start at or below an address.
 pub fn count_up_to(parts: &[Part], address: u64) -> usize
     requires { ArePartsApart parts.now }
     ensures bound { result ≤ length parts.now }

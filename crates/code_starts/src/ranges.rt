@@ -1,4 +1,4 @@
-// Ranges of addresses, with look-ups of whether one of them holds a stretch.
+// Ranges of addresses, with a fast test of whether one of them contains a given range.
 ghost use Rattle.std.specs.Prelude.{◌≡◌, ◌↔◌, ◌<◌, ◌≤◌, ◌+◌, ℕ, IfOk, IsTrue, map, filter};
 ghost use Rattle.std.specs.List.Sorted.{IsNonDecreasingBy};
 ghost use Rattle.elf_image.specs.file.Cuts.{names_function};
@@ -12,17 +12,17 @@ use elf_image::{Elf, Section, Symbol};
 use rb_bytes::fault::NoMemory;
 use std::alloc::{AllocError, Global};
 
-/// Ranges of addresses. It takes one binary search to find whether one of them holds a stretch.
+/// Ranges of addresses. A single binary search decides whether one of them contains a given range.
 #[derive(Drop)]
 pub struct Ranges {
-    // By their starts, each grown to the greatest end of those up to it.
+    // Sorted by start, each extended to the greatest end of the ranges up to it.
     reaches: Vec<Extent>,
     ghost rising: { IsNonDecreasingBy (λ s. s.start) reaches.items },
     ghost growing: { IsNonDecreasingBy (λ s. s.end) reaches.items },
 }
 
 impl Ranges {
-    /// These ranges.
+    /// Prepares these ranges for searches.
     pub fn new(alloc: Global, mut extents: Vec<Extent>) -> Result<Ranges, NoMemory>
         ensures { IfOk result (λ r. (a e : ℕ) → a < e →
             IsInOneExtent r.reaches.items a e ↔ IsInOneExtent extents.items a e) }
@@ -32,7 +32,7 @@ impl Ranges {
         Ok(Ranges { reaches })
     }
 
-    /// Whether a range holds all addresses from `start` to before `end`.
+    /// Whether a single range contains all addresses from `start` to before `end`.
     pub fn hold(&self, start: u64, end: u128) -> bool
         ensures { IsTrue result ↔ IsInOneExtent self.now.reaches.items start end }
     {
@@ -69,7 +69,7 @@ pub fn code_ranges(alloc: Global, elf: &Elf) -> Result<Ranges, NoMemory>
     Ranges::new(alloc, section_extents(alloc, &elf.sections)?)
 }
 
-// The addresses that a symbol names.
+// The addresses of a symbol.
 fn symbol_extent(symbol: &Symbol) -> Extent
     ensures { result ≡ symbol_extent symbol.now }
 {
@@ -90,7 +90,7 @@ fn symbol_extents(alloc: Global, symbols: &[Symbol]) -> Result<Vec<Extent>, Allo
         .collect(alloc)
 }
 
-/// The addresses that symbols of functions name.
+/// The addresses of function symbols.
 pub fn function_ranges(alloc: Global, elf: &Elf) -> Result<Ranges, NoMemory>
     ensures { IfOk result
         (λ r. (start end : ℕ) → start < end → IsInOneExtent r.reaches.items start end ↔ IsCovered elf.now start end) }

@@ -1,4 +1,4 @@
-// The starts of instructions, with look-ups.
+// The starts of instructions, prepared for searches.
 ghost use Rattle.std.specs.Prelude.{◌≡◌, ◌↔◌, ◌<◌, ◌^◌, ℕ, IfOk, IsTrue, AllPairs, Contains, slice_index};
 
 use rb_bytes::fault::NoMemory;
@@ -6,7 +6,7 @@ use rb_lanes::{Hints, is_member};
 use std::alloc::Global;
 use std::marker::Model;
 
-/// The starts of a file's instructions, ascending, with hints at which a look-up begins.
+/// The starts of a file's instructions, ascending, with hints for searches.
 #[derive(Drop)]
 pub struct Starts<'a> {
     starts: &'a [u64],
@@ -24,7 +24,7 @@ impl<'a> Model for Starts<'a> {
 }
 
 impl<'a> Starts<'a> {
-    /// The starts of a list, with hints for look-ups.
+    /// Prepares an ascending list of starts for searches.
     pub fn new(alloc: Global, starts: &'a [u64]) -> Result<Starts<'a>, NoMemory>
         ensures { IfOk result (λ s. s ≡ starts.now) }
     {
@@ -32,7 +32,7 @@ impl<'a> Starts<'a> {
         Ok(Starts { starts, hints })
     }
 
-    /// The list. That its members have 64 bits is a clause for the prover.
+    /// The list. The contract also says that its members fit 64 bits.
     pub fn list(&self) -> &'a [u64]
         ensures is { result.now ≡ self.now }
         ensures low { (k : ℕ) → slice_index self.now k < 2 ^ 64 }
@@ -40,7 +40,7 @@ impl<'a> Starts<'a> {
         self.starts
     }
 
-    /// Whether an address is among them.
+    /// Whether an instruction starts at `address`.
     pub fn has(&self, address: u64) -> bool
         requires { AllPairs (λ a b. a < b) self.now }
         ensures { IsTrue result ↔ Contains self.now address }

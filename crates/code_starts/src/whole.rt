@@ -1,4 +1,4 @@
-// Parts that stay in one piece: those with an instruction that starts in a range with an exception table.
+// Parts that are moved as one piece: those with an instruction that starts in a range with an exception table.
 ghost use Rattle.std.specs.Prelude.{◌≡◌, ◌↔◌, ◌⊎◌, ◌+◌, ◌<◌, ◌≤◌, ℕ, ℤ, pos, int_le, ◌≤ℤ◌, ◌<ℤ◌, List, IfOk, IsTrue};
 ghost use Rattle.std.specs.Prelude.{Any, map, length, slice_index_or};
 ghost use Rattle.elf_image.specs.declared.elf.Elf.{Elf};
@@ -18,8 +18,8 @@ use elf_image::extent::Extent;
 use rb_bytes::fault::NoMemory;
 use std::alloc::{AllocError, Global};
 
-/// The parts that are whole, by address: an instruction of each starts in one of the ranges `tabled`, which are given
-/// by their starts and ends. `starts` and `parts` are those of the file.
+/// The whole parts, by address: an instruction of each starts in one of the ranges `tabled`, given by their starts and
+/// ends. `starts` and `parts` are those of the file.
 pub fn whole_parts(
     alloc: Global,
     elf: &Elf,
@@ -42,7 +42,7 @@ pub fn whole_parts(
     Ok(wholes)
 }
 
-// A range that is given by its start and its end.
+// A range given by its start and its end.
 fn tabled_extent(range: &(u64, u64)) -> Extent
     ensures { result ≡ tabled_extent range.now }
 {
@@ -76,7 +76,7 @@ fn is_whole(elf: &Elf, starts: &[u64], part: &Part, ranges: &Ranges) -> bool
     any_held(ranges, starts_in(starts, part))
 }
 
-// Whether one of these addresses lies in one of these ranges.
+// Whether one of these addresses is in one of these ranges.
 fn any_held(ranges: &Ranges, addresses: &[u64]) -> bool
     ensures { IsTrue result ↔ Any (λ a. IsInOneExtent ranges.now.reaches.items a (a + 1)) addresses.now }
 {
@@ -89,7 +89,7 @@ fn contains(ranges: &Ranges, address: u64) -> bool
     ranges.hold(address, address as u128 + 1)
 }
 
-/// Whether two labels both lie in one of the whole parts, its end included.
+/// Whether both labels are in the same whole part, or at its end.
 pub fn in_one_whole(wholes: &[Part], to: i128, from: i128) -> bool
     requires { ArePartsApart wholes.now }
     ensures { (elf : Elf) (tabled : List (ℕ × ℕ)) → AreWholeParts elf tabled wholes.now →
@@ -111,7 +111,7 @@ fn lower(to: i128, from: i128) -> i128
     if to <= from { to } else { from }
 }
 
-// How many parts begin at a label or below it.
+// The number of parts that start at or below a label.
 fn count_up_to(parts: &[Part], label: i128) -> usize
     requires { ArePartsApart parts.now }
     ensures bound { result ≤ length parts.now }
@@ -128,7 +128,7 @@ fn begins_by(part: &Part, label: i128) -> bool
     part.start as i128 <= label
 }
 
-// Whether a part holds both labels, its end included.
+// Whether both labels are in a part or at its end.
 fn holds_both(part: &Part, to: i128, from: i128) -> bool
     ensures { IsTrue result ↔ HoldsBoth to from part.now }
 {

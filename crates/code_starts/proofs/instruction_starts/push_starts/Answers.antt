@@ -9,7 +9,7 @@ use Rattle.code_starts.specs.Starts.{starts_from}
 use Rattle.code_starts.proofs.StartLists.{starts_from-next, starts_from-past}
 use Rattle.code_starts.proofs.instruction_starts.push_starts.Goals as goal
 
--- one more start
+-- One more start.
 step : (elf : Elf) (was now : List ℕ) (end a next : ℕ) → now ≡ was ++ a ∷ [] → a < end → next ≡ a + length_at elf a → now
     ++ starts_from elf end next ≡ was ++ starts_from elf end a
 step elf was now end a next pushed less is =
@@ -22,7 +22,7 @@ by_mark : (b : Bool) → 2 * (if b then 2 else 1) ≡ (if b then 4 else 2)
 by_mark true = refl
 by_mark false = refl
 
--- a halfword's low byte has its length
+-- The low byte of a halfword determines the length.
 taken : (elf : Elf) (a half : ℕ) (b : Bool) → half % 256 ≡ unwrap_or (byte_at elf a) 0 → b ≡ ends_in_ones half →
     2 * (if b then 2 else 1) ≡ length_at elf a
 taken elf a half b low marked =
