@@ -1,4 +1,4 @@
--- The claims that parts of absolute addresses make.
+-- The claims of parts of absolute addresses.
 use Rattle.std.proofs.Common.{◌≡◌, ◌∙◌, sym, subst, ap, refl, ℕ, inl, inr, Bool, cond, IsTrue, arith, eq-eqb}
 use Rattle.std.proofs.lemmas.Bool.{ne_eqb}
 use Rattle.rv_code.specs.declared.placed.Role.{Role}

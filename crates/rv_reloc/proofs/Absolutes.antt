@@ -1,4 +1,4 @@
--- Relocations for the parts of absolute addresses.
+-- Relocations for parts of absolute addresses.
 use Rattle.std.proofs.Common.{is_some, IsSome, ◌≡◌, ◌≢◌, sym, subst, ap, refl, ℕ, ℤ, pos, inl, inr, ⊎_elim, ◌↔◌, Bool, true}
 use Rattle.std.proofs.Common.{false, not, ◌||◌, ◌==◌, IsTrue, arith, Option, Some}
 use Rattle.std.proofs.lemmas.Bool.{or_cases, eqb-true}
@@ -12,7 +12,7 @@ use Rattle.elf_code.specs.Roles.{IsFullAt, AbsoluteTo, IsAbsoluteLow, lower_imme
 use Rattle.elf_code.specs.ReferenceFaults.{HasAbsolute, IsAbsoluteKind, IsBadAbsolute}
 use Rattle.rv_reloc.specs.Instructions.{lui_of, HasUpper, HasPart}
 
--- the types
+-- Types.
 
 pub absolute_kind : (kind : ℕ) → IsTrue (is_absolute kind) → IsAbsoluteKind kind
 absolute_kind kind is =
@@ -34,7 +34,7 @@ pub low_differs : (kind : ℕ) → IsAbsoluteLow kind → kind ≢ R_RISCV_HI20
 low_differs kind (inl is) e = omega arith
 low_differs kind (inr is) e = omega arith
 
--- the instruction
+-- Instructions.
 
 as_upper : (inst : Inst) (target : ℕ) → HasUpper (lui_of inst) target → (rd : ℕ) × (inst ≡ Lui rd (hi20 (pos target)))
 as_upper (Lui rd imm) target is = (rd, ap (Lui rd) is)
@@ -61,7 +61,7 @@ pub absolute-full : (elf : Elf) (r : Relocation) (target : ℕ) → HasAbsolute 
 absolute-full elf r target (HasAbsolute.upper hi rd full) = (_, full)
 absolute-full elf r target (HasAbsolute.lower low i full lower) = (i, full)
 
--- a part that doesn't fit
+-- A part that doesn't fit.
 pub bad-absolute : (elf : Elf) (r : Relocation) (target : ℕ) (has : Bool) → IsTrue (is_absolute r.kind) →
     AbsoluteTo elf r target →
     ((t : ℕ) → AbsoluteTo elf r t → target ≡ t) → IsTrue has ↔ HasAbsolute elf r target → IsTrue (not has) ↔ IsBadAbsolute elf r

@@ -1,4 +1,4 @@
--- What is said of a relocation is said of it for each other section to which it applies, but for where its field lies.
+-- Statements on a relocation hold for each section that it applies to, except whether its field is in the section.
 use Rattle.std.proofs.Common.{sym, subst, ℕ, ℤ, List}
 use Rattle.std.specs.List.{Contains}
 use Rattle.rv_code.specs.declared.placed.Role.{Role}
@@ -128,10 +128,10 @@ module _ (elf : Elf) (s : Section) (r : Relocation) (counts : Contains (relocati
   pub label-for : (l : SlotLabel) → IsSlotLabelOf elf r l → IsSlotLabelOf elf (for_section s r) l
   label-for l is = record { is_slot = is.is_slot; place_is = is.place_is; label_is = is.label_is }
 
--- What doesn't fit.
+-- Relocations that don't fit.
 module _ (elf : Elf) (s : Section) (r : Relocation) (counted : Contains (relocations elf) r)
     (counts : Contains (relocations elf) (for_section s r)) where
-  -- what is said of the other is said of this one
+  -- What holds for the relocation with the other section holds for this one.
   back_call : IsCall elf (for_section s r) → IsCall elf r
   back_call (pair, is) = (call_pair elf r.section (for_section s r) counted pair, is)
 

@@ -1,4 +1,4 @@
--- Entries of the global offset table that don't hold their labels, by lower parts and by relocations.
+-- GOT entries that don't have their labels, by lower parts and by relocations.
 use Rattle.std.proofs.Common.{◌≡◌, ◌∙◌, sym, subst, refl, ℕ, ℤ, pos, ◌↔◌, IsTrue, IsSomeAnd, List, Option, Some, None}
 use Rattle.elf_image.specs.declared.elf.Elf.{Elf}
 use Rattle.elf_image.specs.declared.relocation.TheConstants.{R_RISCV_GOT_HI20}
@@ -16,7 +16,7 @@ use Rattle.rv_reloc.specs.Places.{IsPlaceOf}
 use Rattle.rv_reloc.specs.Slots.{AreSlotLabels, HasLabelAt, HasOtherLabel}
 use Rattle.rv_reloc.proofs.PairTargets.{low_of_upper, upper_low, upper_target, target_upper}
 
--- What is looked up among the labels.
+-- Searches among the labels.
 
 pub misses-number : (elf : Elf) (labels : List SlotLabel) (hi entry number : ℕ) → AreSlotLabels elf labels →
     loaded_number elf entry 8 ≡ Some number → HasOtherLabel labels hi number ↔ MissesLabel elf hi entry
@@ -52,7 +52,7 @@ misses-none elf labels hi entry are none = (
   λ misses. misses-listed elf labels hi entry are misses,
 )
 
--- What a lower part makes.
+-- Targets of lower parts.
 
 pub entry-names : (elf : Elf) (l : Low) (target : ℤ) (entry : ℕ) → IsTargetOf elf l target →
     ((z : ℤ) → IsTargetOf elf l z → target ≡ z) → pos entry ≡ target → IsAddress target →
@@ -74,7 +74,7 @@ pub entry-far : (elf : Elf) (l : Low) (target : ℤ) → ((z : ℤ) → IsTarget
     NamesBadEntry elf l → ⊥
 entry-far elf l target only far names = far (subst IsAddress (sym (only (pos names.entry) names.makes)) names.address)
 
--- By the relocations of AUIPCs.
+-- By the relocations on AUIPCs.
 
 slot_is_hi : (kind : ℕ) → kind ≡ R_RISCV_GOT_HI20 → IsTrue (is_pcrel_hi kind)
 slot_is_hi kind is = subst (λ (k : ℕ). IsTrue (is_pcrel_hi k)) (sym is) refl

@@ -1,4 +1,4 @@
--- The claims that calls make.
+-- The claims of calls.
 use Rattle.std.proofs.Common.{◌≡◌, ◌∙◌, sym, subst, ap, refl, ℕ, ◌+◌, ℤ, pos, inl, inr, IsTrue, arith}
 use Rattle.std.specs.List.{Contains}
 use Rattle.rv_code.specs.declared.placed.Role.{Role}
@@ -16,13 +16,13 @@ use Rattle.rv_reloc.proofs.TypeGroups.{call_kind, hi_kind, lo_kind, low_kind}
 same_number : (n m : ℕ) (z : ℤ) → pos n ≡ z → pos m ≡ z → n ≡ m
 same_number n m z is is' = let e : pos n ≡ pos m = is ∙ sym is' in cc
 
--- the call of a relocation at an address
+-- The call of a relocation at an address.
 pub same_call : (elf : Elf) (q : Relocation) (a : ℕ) (c : CallInsts) → ((d : CallInsts) → IsCallAt elf a d → c ≡ d) →
     (pair : CallPair elf q) → a ≡ q.place → c ≡ call_of pair
 same_call elf q a c only pair here =
     only (call_of pair) (subst (λ (n : ℕ). IsCallAt elf n (call_of pair)) (sym here) (pair_call elf q pair))
 
--- its target is the one that the call goes to
+-- The targets are the same.
 goes_same : (elf : Elf) (q : Relocation) (a : ℕ) (c : CallInsts) (t target : ℕ) →
     ((d : CallInsts) → IsCallAt elf a d → c ≡ d) → GoesTo a c t → CallTo elf q (pos target) → a ≡ q.place → target ≡ t
 goes_same elf q a c t target only goes to here =
@@ -32,7 +32,7 @@ goes_same elf q a c t target only goes to here =
     ∙ ap (λ (d : CallInsts). pair_target a d.auipc.imm d.jalr.imm) (sym e) in
     same_number target t (pair_target a c.auipc.imm c.jalr.imm) there goes.1
 
--- the AUIPC's role
+-- The role of the AUIPC.
 pub hi_role : (elf : Elf) (q : Relocation) (a key : ℕ) (c : CallInsts) (t : ℕ) (role : Role) → IsTrue (is_call_pair q.kind) →
     ((d : CallInsts) → IsCallAt elf a d → c ≡ d) → Names a c t → key ≡ a → Claims elf q a key role → role ≡ CallHi t
 hi_role elf q a key c t role is only (inl goes) same (Claims.call_hi target to here key_is role_is) =
@@ -87,7 +87,7 @@ hi-claim elf r c t counts is call only named = record {
       (subst (λ (n : ℕ). IsTrue (is_call_pair n)) (sym kind) is) only named refl claims;
 }
 
--- the JALR's role
+-- The role of the JALR.
 pub lo_role : (elf : Elf) (q : Relocation) (a key : ℕ) (c : CallInsts) (t : ℕ) (role : Role) → IsTrue (is_call_pair q.kind) →
     ((d : CallInsts) → IsCallAt elf a d → c ≡ d) → GoesTo a c t → key ≡ a → Claims elf q (a + 4) key role → role ≡ CallLo a t
 lo_role elf q a key c t role is only goes same (Claims.call_hi target to here key_is role_is) = absurd (omega arith)
@@ -103,7 +103,7 @@ lo_role elf q a key c t role is only goes same (Claims.abs_hi target to kind rd 
 lo_role elf q a key c t role is only goes same (Claims.abs_lo target to kind inst full some here key_is role_is) =
     let x = call_kind q.kind is in let y = low_kind q.kind kind in absurd (omega arith)
 
--- a claim after a relocation's place is a JALR's
+-- A claim at the address after a relocation's place is for a JALR.
 pub lo_view : (elf : Elf) (r : Relocation) (key : ℕ) (role : Role) → Claims elf r (r.place + 4) key role → (key ≡ r.place)
     × ((target : ℕ) × CallTo elf r (pos target))
 lo_view elf r key role (Claims.call_hi target to here key_is role_is) = absurd (omega arith)
@@ -128,7 +128,7 @@ lo-claim elf r c t counts is call only goes = record {
       (subst (λ (n : ℕ). IsTrue (is_call_pair n)) (sym kind) is) only goes refl claims;
 }
 
--- no claim where the call goes to no address
+-- There is no claim if the target of the call isn't an address.
 
 pub no_target : (elf : Elf) (r : Relocation) (c : CallInsts) (target : ℕ) → (IsBadCall elf r → ⊥) →
     ((d : CallInsts) → IsCallAt elf r.place d → c ≡ d) →

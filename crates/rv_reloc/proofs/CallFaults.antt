@@ -1,4 +1,4 @@
--- Calls, by their two instructions and by a relocation.
+-- Calls, from their two instructions and from a relocation.
 use Rattle.std.proofs.Common.{◌≡◌, ◌≢◌, ◌∙◌, sym, subst, ap, refl, ℕ, ◌+◌, ◌-◌, ◌<◌, ◌≤◌, inl, inr, ⊎_elim, ◌↔◌, Bool, true}
 use Rattle.std.proofs.Common.{false, not, IsTrue, List, slice_index_or, Option, Some, None, IfSome, arith}
 use Rattle.std.specs.List.{Contains}
@@ -42,7 +42,7 @@ call_pair elf r c counts is_call is = record {
   jalr = is.jalr;
 }
 
--- a call that doesn't fit
+-- A call that doesn't fit.
 
 pub bad-none : (elf : Elf) (r : Relocation) → IsTrue (is_call_pair r.kind) →
     ((c : CallInsts) → IsCallAt elf r.place c → ⊥) → IsBadCall elf r
@@ -98,7 +98,7 @@ bad-is_call elf r (IsBadCall.address target to refuted) = to.pair.is_call
 
 -- The JALR after an instruction, in the same part.
 
--- an address lies in one part
+-- An address is in at most one part.
 pub held_once : (parts : List Part) (a : ℕ) (p q : Part) → ArePartsApart parts → HoldsAddress parts a p →
     HoldsAddress parts a q → p ≡ q
 held_once parts a p q apart p_holds q_holds =
@@ -150,7 +150,7 @@ pub jump_full : (elf : Elf) (start end a : ℕ) (j : Jump) → (after : IsJumpAf
     IsFullAt elf (a + 4) (Jalr after.link j.base j.imm)
 jump_full elf start end a j after = record { start = start; end = end; has = after.jalr }
 
--- a part without room for the JALR
+-- A part without room for the JALR.
 pub jump_past : (elf : Elf) (parts : List Part) (start end a : ℕ) (j : Jump) (part : Part) → AreCodeParts elf parts →
     HoldsAddress parts a part → part.end - a ≤ 4 → IsStartIn elf start end a → IsJumpAfter elf start end a j → ⊥
 jump_past elf parts start end a j part are holds short here after =

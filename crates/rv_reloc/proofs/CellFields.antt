@@ -29,7 +29,7 @@ use Rattle.rv_reloc.proofs.Alike.{field-for}
 use Rattle.rv_reloc.proofs.Kept.{counts, kept}
 use Rattle.rv_reloc.proofs.PairTargets.{target_upper, upper_target}
 
--- What a field has.
+-- Properties of a field.
 
 address-is : (f : Field) (a b : ℕ) → f.content ≡ Address a → f.content ≡ Address b → a ≡ b
 address-is f a b e e' = let g : Address a ≡ Address b = sym e ∙ e' in cc
@@ -94,7 +94,7 @@ field_up elf tabled f g can can' (inr (place, inr (width, up))) =
     (λ same. inr (same_field f g place width same))
     (contents_up elf tabled f g f.content g.content refl refl can can' place width up)
 
--- All of them.
+-- All fields.
 
 pub can-be : (elf : Elf) (tabled : List (ℕ × ℕ)) (records : List Record) (r : Record) (f : Field) → AreRecords elf records →
     Contains records r → IsFieldOf elf tabled (seen r) f → CanBeCell elf tabled f
@@ -128,7 +128,7 @@ free_of elf tabled f place width can p w =
 hi_kind : (kind : ℕ) → kind ≡ R_RISCV_GOT_HI20 → is_pcrel_hi kind ≡ true
 hi_kind kind is = ap is_pcrel_hi is
 
--- a slot can be a cell
+-- A GOT entry can be a cell.
 pub slot-can_be : (elf : Elf) (tabled : List (ℕ × ℕ)) (lows : List Low) (l : Low) (f : Field) →
     AreLows elf lows → Contains lows l → IsSlotOf elf l f → CanBeCell elf tabled f
 slot-can_be elf tabled lows l f are listed is =

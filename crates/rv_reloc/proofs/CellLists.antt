@@ -1,4 +1,4 @@
--- Cells of the fields that count, and labels that are no addresses.
+-- Cells from the fields that count, and labels that aren't addresses.
 use Rattle.std.proofs.Common.{◌≡◌, ◌∙◌, sym, ap, subst, refl, ℕ, ◌+◌, ◌<◌, ℤ, pos, negsuc, ◌⊎◌, inl, inr, ⊎_elim, true, List, map}
 use Rattle.std.proofs.Common.{Option, None, length, slice_index_or, arith}
 use Rattle.std.specs.Int.RustNames.{unsigned_abs}

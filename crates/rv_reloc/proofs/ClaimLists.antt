@@ -1,4 +1,4 @@
--- The claims of relocations, one relocation after another.
+-- The claims of relocations, relocation by relocation.
 use Rattle.std.proofs.Common.{◌≡◌, ◌∙◌, sym, subst, ap, refl, ℕ, ◌+◌, ◌<◌, ◌≤◌, ◌⊎◌, inl, inr, ⊎_elim, List, [], ◌∷◌, ◌++◌, take}
 use Rattle.std.proofs.Common.{length, slice_index_or, Option, Some, None, IfSome, IsSomeAnd, IsTrue, arith}
 use Rattle.std.specs.List.{Contains, AllPairs}
@@ -19,7 +19,7 @@ use Rattle.rv_reloc.proofs.Absolutes.{kind_absolute}
 use Rattle.rv_reloc.proofs.Alike.{claims-for}
 use Rattle.rv_reloc.proofs.Kept.{kept}
 
--- where a relocation's claims are
+-- The addresses of a relocation's claims.
 claims_where : (elf : Elf) (r : Relocation) (a key : ℕ) (role : Role) → Claims elf r a key role →
     (a ≡ r.place) ⊎ (a ≡ r.place + 4)
 claims_where elf r a key role (Claims.call_hi target to here key_is role_is) = inl here
@@ -30,7 +30,7 @@ claims_where elf r a key role (Claims.lo hi target to here key_is role_is) = inl
 claims_where elf r a key role (Claims.abs_hi target to kind rd imm full here key_is role_is) = inl here
 claims_where elf r a key role (Claims.abs_lo target to kind inst full some here key_is role_is) = inl here
 
--- a relocation without the types that make claims
+-- A relocation with a type that makes no claims.
 pub claims_kind : (elf : Elf) (r : Relocation) (a key : ℕ) (role : Role) → (IsTrue (is_call_pair r.kind) → ⊥) →
     (IsTrue (is_pcrel_hi r.kind) → ⊥) → (IsTrue (is_pcrel_lo r.kind) → ⊥) → (IsTrue (is_absolute r.kind) → ⊥) →
     Claims elf r a key role → ⊥

@@ -1,4 +1,4 @@
--- Claims by address, type and key.
+-- Claims sorted by address, type and key.
 use Rattle.std.proofs.Common.{◌≡◌, ℕ, ◌+◌, ◌<◌, ◌≤◌, false, List, length, slice_index_or, arith}
 use Rattle.std.specs.List.{AllPairs}
 use Rattle.std.specs.Ordering.{nat_cmp, is_lt, ordering_then}
@@ -6,7 +6,7 @@ use Rattle.rv_reloc.specs.declared.roles.Claim.{Claim}
 use Rattle.rv_reloc.specs.Claims.{IsUpTo, IsClaimUpTo}
 use Rattle.rv_reloc.proofs.Lexicographic.{number_up, then_up, less_trans, AllPairs-from_next}
 
--- what the comparison of keys says
+-- The meaning of the comparison of keys.
 from_cmp : (c d : Claim) →
     is_lt (ordering_then (nat_cmp d.at c.at) (ordering_then (nat_cmp d.kind c.kind) (nat_cmp d.key c.key))) ≡ false →
     IsClaimUpTo c d

@@ -1,4 +1,4 @@
--- What the class of a type says of it.
+-- The meaning of the class of a type.
 use Rattle.std.proofs.Common.{◌≡◌, ◌≢◌, ◌∙◌, sym, ap, refl, ℕ, ◌+◌, ◌⊎◌, inl, inr, ⊎_elim, ◌↔◌, Bool, true, false, ◌==◌, ◌||◌}
 use Rattle.std.proofs.Common.{IsTrue, Option, Some, None, arith, eq-eqb}
 use Rattle.std.proofs.lemmas.Bool.{cases_eq, or_cases, eqb-true, ne_eqb}
@@ -6,7 +6,7 @@ use Rattle.elf_code.specs.Cells.{same_width}
 use Rattle.elf_code.specs.Relocations.{Width, Bits, Uleb128, plus_width, minus_width, is_call_pair, is_pcrel_hi}
 use Rattle.rv_reloc.specs.Index.{class, class_by, class_beside, plus_class, minus_class, call_class, upper_class, width_code}
 
--- the class of a type that has a width, and of one that has none
+-- The class of a type with a width, and of a type without one.
 
 pub class-plus : (kind : ℕ) (width : Width) → Some width ≡ plus_width kind → plus_class width ≡ class kind
 unfolding class
@@ -26,7 +26,7 @@ class-beside kind none none' =
     ap (λ (minus : Option Width). class_by None minus (is_call_pair kind) (is_pcrel_hi kind)) none'
     ∙ ap (λ (plus : Option Width). class_by plus (minus_width kind) (is_call_pair kind) (is_pcrel_hi kind)) none
 
--- calls and upper parts
+-- Calls and upper parts.
 
 by_call : (plus minus : Option Width) (call upper : Bool) → class_by plus minus call upper ≡ call_class → IsTrue call
 by_call (Some w) minus call upper e = absurd (omega arith)
@@ -65,7 +65,7 @@ upper-class kind = (
       (or_cases (kind == 20 || kind == 21 || kind == 22) (kind == 23) is),
 )
 
--- labels
+-- Labels.
 
 eqb_same : (a b c d : ℕ) → (a ≡ b → c ≡ d) → (c ≡ d → a ≡ b) → a == b ≡ c == d
 eqb_same a b c d to from =
@@ -107,7 +107,7 @@ by_minus None None false false w one = none w ∙ sym (ne_eqb 2 (minus_class w) 
 at_kind : (kind n : ℕ) → kind ≡ n → minus_width n ≡ None → (plus_width kind ≡ None) ⊎ (minus_width kind ≡ None)
 at_kind kind n e known = inr (ap minus_width e ∙ known)
 
--- no type adds a label and subtracts it
+-- No type both adds and subtracts a label.
 pub one_width : (kind : ℕ) → (plus_width kind ≡ None) ⊎ (minus_width kind ≡ None)
 one_width kind =
     ⊎_elim (λ (e : kind ≡ 53). at_kind kind 53 e refl) (λ (n53 : kind ≢ 53).

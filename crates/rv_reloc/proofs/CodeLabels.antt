@@ -25,7 +25,7 @@ code-found elf starts z y a r are same not_below is test =
       λ (b, there, is_start). test.1 (subst (Contains starts) (same_address z b a there here) (are.each b is_start)),
     )
 
--- a number that isn't one of 64 bits is no code address
+-- A number that doesn't fit 64 bits isn't a code address.
 pub code-missing : (elf : Elf) (starts : List ℕ) (z y : ℤ) → AreStarts elf starts → y ≡ z →
     ((i : ℕ) → slice_index_or starts i 0 < 2 ^ 64) → (FitsUnsigned w64 y → ⊥) → IsTrue false ↔ IsCodeLabel elf z
 code-missing elf starts z y are same low none = (

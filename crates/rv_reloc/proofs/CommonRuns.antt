@@ -1,4 +1,4 @@
--- Two lists of runs that are made one.
+-- Merging of two lists of runs.
 use Rattle.std.proofs.Common.{◌≡◌, ◌∙◌, ap, sym, subst, ℕ, ◌+◌, ◌-◌, ◌≤◌, List, [], ◌∷◌, ◌++◌, arith, length, length-append, append-nil}
 use Rattle.std.proofs.Common.{refl}
 use Rattle.std.specs.List.Sorted.{IsPermutation}
@@ -14,7 +14,7 @@ use Rattle.rv_reloc.proofs.EntrySpans.{span, spans, part-spans, split-two, split
 use Rattle.rv_reloc.proofs.SectionBounds.{AreInOrder, has_one, joined-bounds, bounds-thinned}
 use Rattle.rv_reloc.proofs.Thinning.{thinned-all, thinned-append, thinned-common, thinned-done, thinned-swapped, thinned-trans}
 
--- Two runs of which the second begins in the first, up to where one ends.
+-- Two runs of which the second starts inside the first, up to the end of the shorter one.
 module _ (file : List ℕ) (run next before common behind behind' : EntryRun) (end : ℕ)
     (part : IsPart run run.first next.first before) (both : IsCommon run next next.first end common)
     (part' : IsPart run end run.end behind) (part'' : IsPart next end next.end behind') (phase : run.phase ≡ next.phase)
@@ -62,7 +62,7 @@ module _ (file : List ℕ) (run next before common behind behind' : EntryRun) (e
       (sooner_end (first_end run.applies_to) (first_end next.applies_to))
       (joined-bounds run.applies_to next.applies_to of_run of_next) two))
 
-  -- what comes before is done, then what they have in common, and what comes behind is left
+  -- The part before the second run and the common part are done, and the rest is left.
   pub common-merged : (was mid now left left' right right' : List EntryRun) →
       entries file mid ≡ entries file was ++ run_entries file before →
       entries file now ≡ entries file mid ++ run_entries file common →
@@ -82,7 +82,7 @@ module _ (file : List ℕ) (run next before common behind behind' : EntryRun) (e
       (run_entries file before) (shared mine) (run_entries file behind) (shared other) (run_entries file behind')
       (run_entries file common) parts parts' thinned))
 
--- the first of the left list is done, and the first of the right one stays there
+-- The first run of the left list is done, and the first run of the right list stays.
 pub first-merged : (file : List ℕ) (run : EntryRun) (was now left right : List EntryRun) →
     entries file now ≡ entries file was ++ run_entries file run →
     IsThinned (all_entries file was (run ∷ left) right) (all_entries file now left right)
@@ -93,7 +93,7 @@ first-merged file run was now left right is =
     (xs ++ (entries file left ++ entries file right))) (sym is)
     (thinned-done (entries file was) (run_entries file run) (entries file left) (entries file right)))
 
--- the other list comes first
+-- The lists are swapped.
 pub swapped-merged : (file : List ℕ) (was now left right left' right' : List EntryRun) →
     IsThinned (all_entries file was right left) (all_entries file now right' left') →
     IsThinned (all_entries file was left right) (all_entries file now left' right')
@@ -105,7 +105,7 @@ pub swapped-whole : (size : ℕ) (done left right : List EntryRun) → AreWholeR
 swapped-whole size done left right are =
     record { done_are = are.done_are; left_are = are.right_are; right_are = are.left_are }
 
--- nothing is done at first, and nothing is left at last
+-- At first nothing is done, and at last nothing is left.
 
 pub merge-begin : (file : List ℕ) (done left right : List EntryRun) → done ≡ [] →
     IsThinned (entries file left ++ entries file right) (all_entries file done left right)
@@ -126,7 +126,7 @@ merge-end file full done left right none is =
     (subst (λ (rs : List EntryRun). IsThinned full (all_entries file done [] rs)) right_is
     (subst (λ (ls : List EntryRun). IsThinned full (all_entries file done ls right)) left_is is))
 
--- the runs of a list in two parts
+-- A list of runs in two parts.
 pub merge-parts : (file : List ℕ) (runs first rest left right now : List EntryRun) → runs ≡ first ++ rest →
     IsThinned (entries file first) (entries file left) → IsThinned (entries file rest) (entries file right) →
     IsThinned (entries file left ++ entries file right) (entries file now) → IsThinned (entries file runs) (entries file now)
@@ -136,7 +136,7 @@ merge-parts file runs first rest left right now parts is is' both =
     (thinned-trans (entries file first ++ entries file rest) (entries file left ++ entries file right) (entries file now)
     (thinned-append (entries file first) (entries file left) (entries file rest) (entries file right) is is') both)
 
--- Runs that lie in a file.
+-- Runs whose entries are all in a file.
 
 pub whole-part : (size : ℕ) (run part : EntryRun) (first end : ℕ) → IsPart run first end part → end ≤ run.end →
     IsWholeRun size run → IsWholeRun size part

@@ -57,7 +57,7 @@ pc_no_plus kind is = ⊎_elim
 pc_and_plus : (kind : ℕ) (w : Width) → is_pc_difference kind ≡ true → plus_width kind ≡ Some w → ⊥
 pc_and_plus kind w is plus = let e : None ≡ Some w = sym (pc_no_plus kind is) ∙ plus in absurd (cc)
 
--- The only one.
+-- The only relocation.
 
 count_listed : {A : Type 0} (test : A → Bool) (xs : List A) (y : A) → Contains xs y → test y ≡ true → 1 ≤ count_by test xs
 count_listed {A} test xs y (k, within, is) passes =
@@ -100,7 +100,7 @@ difference-made elf r plus minus w listed width only_plus only_minus =
     let same : plus ≡ r = only-this (is_plus r.place w) (relocations elf) plus r only_plus listed (passes-plus r w width) in
     of_labels (subst (IsOnly (is_plus r.place w) (relocations elf)) same only_plus) minus only_minus refl refl
 
--- what a difference by labels says
+-- A difference of two labels.
 pub record IsMade (elf : Elf) (r : Relocation) (w w' : Width) (to from : ℤ) : Type 0 where
   pub width_is : w' ≡ w
   pub plus : IsOnly (is_plus r.place w) (relocations elf) r
@@ -126,7 +126,7 @@ made-by_labels elf r w w' to from width (of_labels only minus only_minus to_is f
     }
 made-by_labels elf r w w' to from width (of_place listed pc width_is to_is from_is) = absurd (pc_and_plus r.kind w pc width)
 
--- what one by its place says
+-- A difference of a label and the field's address.
 pub record IsByPlace (elf : Elf) (r : Relocation) (w : Width) (to from : ℤ) : Type 0 where
   pub width_is : w ≡ Bits 32
   pub to_is : to ≡ label elf r
@@ -146,7 +146,7 @@ no-difference elf r w to from pc none (of_labels only minus only_minus to_is fro
 no-difference elf r w to from pc none (of_place listed pc' width_is to_is from_is) =
     let e : false ≡ true = sym pc ∙ pc' in absurd (cc)
 
--- What isn't found.
+-- Relocations for which no difference is found.
 
 pub none-found : {A B : Type 0} (o : Option A) (f : A → B) (y : B) → o ≡ None → IsSomeAnd o (λ x. f x ≡ y) → ⊥
 none-found None f y none is = is
@@ -164,7 +164,7 @@ pub found-some : {A B : Type 0} (o : Option A) (f : A → B) (y : B) → IsSomeA
 found-some None f y is = absurd is
 found-some (Some x) f y is = refl
 
--- The faults.
+-- Faults.
 
 pub bad-number : (elf : Elf) (r : Relocation) → HoldsOther elf r → IsBadDifference elf r
 bad-number elf r is = number is.width is.to is.from is.is is.other
@@ -221,7 +221,7 @@ pub unpaired-found : (elf : Elf) (r : Relocation) (w : Width) (b : Bool) →
 unpaired-found elf r w b width alone code =
     (λ is. record { width = w; width_is = width; is_code = code.0 is; alone = alone }, λ unpaired. code.1 unpaired.is_code)
 
--- A difference of labels in one whole part is none that is narrow, and one that can be a cell isn't either.
+-- A difference of labels in one whole part isn't narrow, and neither is one that can be a cell.
 pub narrow-found : (elf : Elf) (tabled : List (ℕ × ℕ)) (r : Relocation) (d : Difference) (b : Bool) → IsDifferenceOf elf r d →
     ((w : Width) (to from : ℤ) → IsDifference elf r w to from → IsTheDifference w to from d) →
     IsTrue b ↔ (IsFalse (can_be_cell r) × HasCodeLabel elf d.to d.from × (IsInOneWhole elf tabled d.to d.from → ⊥)) →

@@ -1,4 +1,4 @@
--- Lower parts of one AUIPC that differ, in a list by AUIPCs.
+-- Lower parts of one AUIPC that differ, in a list sorted by AUIPC.
 use Rattle.std.proofs.Common.{◌≡◌, ◌≢◌, ◌∙◌, sym, subst, ap, refl, ℕ, zero, suc, ◌+◌, ◌-◌, ◌<◌, ◌≤◌, ℤ, pos, negsuc, ◌⊎◌, inl}
 use Rattle.std.proofs.Common.{inr, ⊎_elim, List, length, slice_index_or, Option, arith}
 use Rattle.std.specs.List.Sorted.{IsNonDecreasingBy}
@@ -50,7 +50,7 @@ differs_here lows j hi within first next apart = (
   ),
 )
 
--- where two differ, two neighbours between them do
+-- If two lower parts differ, two neighbours between them do.
 neighbours : (lows : List Low) (n j k hi : ℕ) → k ≡ j + suc n → IsNonDecreasingBy (λ l. l.hi) lows → k < length lows →
     (at lows j).hi ≡ hi → (at lows k).hi ≡ hi → (at lows j).imm ≢ (at lows k).imm →
     SomeBelow (length lows) (DifferingPlace lows) hi
@@ -68,7 +68,7 @@ neighbours lows (suc n) j k hi gap rising within first last differ =
     (λ (apart : (at lows j).imm ≢ (at lows (j + 1)).imm). differs_here lows j hi (omega arith) first next apart)
     (same_or_not (at lows j).imm (at lows (j + 1)).imm)
 
--- two at any indices
+-- Two lower parts at any indices.
 two_at : (lows : List Low) (j k hi : ℕ) → IsNonDecreasingBy (λ l. l.hi) lows → j < k → k < length lows → (at lows j).hi ≡ hi →
     (at lows k).hi ≡ hi → (at lows j).imm ≢ (at lows k).imm → SomeBelow (length lows) (DifferingPlace lows) hi
 two_at lows j k hi rising less within first last differ =
@@ -113,7 +113,7 @@ IsLowest-two lows i o rising all is =
     IsLowest-same o (two_from lows) (λ hi. two_below lows hi rising)
     (subst (λ (n : ℕ). IsLowest (SomeBelow n (DifferingPlace lows)) o) all is)
 
--- The same of the relocations of a file.
+-- The lower parts of a file's relocations.
 
 mismatch_from : (elf : Elf) (lows : List Low) (hi : ℕ) → AreLows elf lows → TwoDiffer lows hi → IsLoMismatch elf hi
 mismatch_from elf lows hi are two =

@@ -1,4 +1,4 @@
--- One of two tests.
+-- The disjunction of two tests.
 use Rattle.std.proofs.Common.{◌≡◌, ◌∙◌, sym, refl, ◌⊎◌, inl, inr, ⊎_elim, ◌↔◌, Bool, true, false, ◌||◌, IsTrue}
 
 pub either : {P Q : Type 0} (a b r : Bool) → r ≡ (a || b) → IsTrue a ↔ P → IsTrue b ↔ Q → IsTrue r ↔ (P ⊎ Q)

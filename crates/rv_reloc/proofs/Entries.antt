@@ -1,4 +1,4 @@
--- The relocations of a table, one after another.
+-- The relocations of a table, one by one.
 use Rattle.std.proofs.Common.{◌≡◌, ◌∙◌, ap, refl, ℕ, List, [], ◌∷◌, ◌++◌, map, append_assoc}
 use Rattle.std.proofs.Common.{None, slice_get, eq-eqb, Bool, true, false, if◌then◌else◌, ◌/◌}
 use Rattle.std.proofs.lemmas.List.{map-append}
@@ -17,12 +17,12 @@ read_one was now r left one pushed is =
     ∙ append_assoc (map seen was) (seen r ∷ []) left
     ∙ ap (λ (x : Relocation). map seen was ++ x ∷ left) is
 
--- a table that applies to no section
+-- A table that applies to no section.
 pub entries_of-missing : (elf : Elf) (table : Section) → table.kind ≡ SHT_RELA → slice_get elf.sections.items table.info ≡ None →
     entries_of elf table ≡ []
 entries_of-missing elf table kind none = rw (eq-eqb table.kind SHT_RELA kind, none) refl
 
--- a table without entries
+-- A table without entries.
 pub entries_for-empty : (elf : Elf) (table section : Section) → table.size ≡ 0 → entries_for elf table section ≡ []
 unfolding entries_from
 entries_for-empty elf table section none = by (counts section)

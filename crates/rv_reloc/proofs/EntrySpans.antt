@@ -1,4 +1,4 @@
--- The relocations of runs: that of a table, runs in lists, and runs in parts.
+-- The relocations of runs: the run of a table, lists of runs, and runs in parts.
 use Rattle.std.proofs.Common.{◌≡◌, ◌∙◌, ap, sym, refl, ℕ, zero, suc, ◌+◌, ◌-◌, ◌*◌, ◌/◌, ◌%◌, ◌≤◌, ◌<◌, List, [], ◌∷◌, ◌++◌, map}
 use Rattle.std.proofs.Common.{arith, Some, None, Option, Bool, true, if◌then◌else◌, subst, length, get_or, take, IfSome, IfNone, append-nil}
 use Rattle.std.specs.List.{range_with_len, flat_map, All}
@@ -19,7 +19,7 @@ use Rattle.rv_reloc.specs.EntryRuns.{entry, numbered, run_entries, entries}
 use Rattle.rv_reloc.specs.Records.{counts}
 use Rattle.rv_reloc.proofs.Thinning.{moved-parts}
 
--- the relocations of some numbers, for one section and for each of some
+-- The relocations with some numbers, for one section and for several.
 
 abbrev pub span : List ℕ → ℕ → ℕ → ℕ → Section → List Relocation
 span file phase a n s = map (entry file phase s) (range_with_len a n)
@@ -27,7 +27,7 @@ span file phase a n s = map (entry file phase s) (range_with_len a n)
 abbrev pub spans : List ℕ → List Section → ℕ → ℕ → ℕ → List Relocation
 spans file sections phase a n = flat_map (span file phase a n) sections
 
--- the relocations of a run for one section, and for two
+-- The relocations of a run for one section, and for two.
 
 pub one-section : (file : List ℕ) (run : EntryRun) (s : Section) → sections_of run.applies_to ≡ s ∷ [] →
     run_entries file run ≡ numbered file run s
@@ -52,7 +52,7 @@ entries-numbered file section phase a (suc n) =
     ap (λ (o : ℕ). entry file phase section a ∷ entries_from file section o n) next
     ∙ ap (λ (rest : List Relocation). entry file phase section a ∷ rest) (entries-numbered file section phase (a + 1) n)
 
--- the run of a table that counts
+-- The run of a table that counts.
 pub run-entries : (elf : Elf) (table section : Section) → counts section ≡ true →
     let first = table.offset / RELA_SIZE in let many = table.size / RELA_SIZE in
     spans elf.file.now (section ∷ []) (table.offset % RELA_SIZE) first (first + many - first) ≡ entries_for elf table section
@@ -70,7 +70,7 @@ run-entries elf table section counted =
     ∙ ap (λ (o : ℕ). entries_from file section o many) place
     ∙ sym (ap (λ (b : Bool). if b then entries_from file section table.offset many else []) counted)
 
--- One table more, as a run where it counts.
+-- One more table, with a run if it counts.
 pub runs-more : (elf : Elf) (was now : List EntryRun) (sections : List Section) (i : ℕ) (d : Section) (item : Option EntryRun) →
     i < length sections → now ≡ was ++ option_to_list item →
     IfSome item (λ run. run_entries elf.file.now run ≡ entries_of elf (get_or sections i d)) →
@@ -102,7 +102,7 @@ whole-more {A} P was now item is some all =
     one None some = All-nil P
     one (Some x) some = All-cons P x [] some (All-nil P)
 
--- Runs in lists.
+-- Lists of runs.
 
 pub run-last : (file : List ℕ) (runs now : List EntryRun) (run : EntryRun) → now ≡ runs ++ run ∷ [] →
     entries file now ≡ entries file runs ++ run_entries file run
@@ -119,12 +119,12 @@ span-next file phase a end s below =
 pub span-none : (file : List ℕ) (phase a n : ℕ) (s : Section) → n ≡ 0 → span file phase a n s ≡ []
 span-none file phase a n s none = ap (λ (k : ℕ). span file phase a k s) none
 
--- one run more
+-- One more run.
 pub entries-next : (file : List ℕ) (runs : List EntryRun) (i : ℕ) (d : EntryRun) → i < length runs →
     entries file (take (i + 1) runs) ≡ entries file (take i runs) ++ run_entries file (get_or runs i d)
 entries-next file runs i d within = run-last file (take i runs) (take (i + 1) runs) (get_or runs i d) (take_more runs i d within)
 
--- A run in parts.
+-- Parts of runs.
 
 span-split : (file : List ℕ) (phase a n m : ℕ) (s : Section) →
     span file phase a (n + m) s ≡ span file phase a n s ++ span file phase (a + n) m s
@@ -154,7 +154,7 @@ pub part-spans : (file : List ℕ) (sections : List Section) (phase first end : 
 part-spans file sections phase first end part sections_are phase_is first_is end_is =
     λ i. spans file (sections_are i) (phase_is i) (first_is i) (end_is i - first_is i)
 
--- A run in two parts and in three, by the numbers where they begin.
+-- A run in two parts and in three, by the numbers at which they start.
 
 pub split-two : (file : List ℕ) (sections : List Section) (phase a b c : ℕ) → a ≤ b → b ≤ c →
     IsPermutation (spans file sections phase a (c - a)) (spans file sections phase a (b - a) ++ spans file sections phase b (c - b))

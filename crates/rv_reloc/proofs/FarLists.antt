@@ -1,4 +1,4 @@
--- AUIPCs that make no address with a lower part.
+-- AUIPCs with a lower part whose target isn't an address.
 use Rattle.std.proofs.Common.{sym, refl, ℕ, ◌↔◌, IsTrue, List}
 use Rattle.std.specs.List.{Contains}
 use Rattle.std.specs.List.Sorted.{IsStrictlyIncreasing}

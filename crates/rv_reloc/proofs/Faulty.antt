@@ -1,4 +1,4 @@
--- The lowest place of a relocation, by the records.
+-- The lowest place of a relocation with a property, from the records.
 use Rattle.std.proofs.Common.{sym, subst, ap, ◌∙◌, ℕ, List, Option}
 use Rattle.std.specs.List.{Contains}
 use Rattle.elf_image.specs.declared.elf.Elf.{Elf}
@@ -21,7 +21,7 @@ of_record elf records Is place are is = record {
   place_is = is.place_is;
 }
 
--- what is said of a relocation is said of it for each section to which it applies
+-- What holds for a relocation holds for each section that it applies to.
 abbrev pub IsForEach : Elf → (Relocation → Type 0) → Type 0
 IsForEach elf Is = (s : Section) (r : Relocation) → Contains (relocations elf) r → Contains (relocations elf) (for_section s r) →
     Is r → Is (for_section s r)

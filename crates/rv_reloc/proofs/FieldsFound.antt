@@ -1,4 +1,4 @@
--- Fields that can be cells, as the calls that look for them find them.
+-- Fields that can be cells, as the code finds them.
 use Rattle.std.proofs.Common.{◌≡◌, ◌≢◌, ◌∙◌, sym, ap, subst, refl, ℕ, ◌/◌, ℤ, ◌⊎◌, ⊎_elim, ◌↔◌, Bool, true, false, not, ◌||◌}
 use Rattle.std.proofs.Common.{IsTrue, List, Some, None, arith}
 use Rattle.std.proofs.lemmas.Bool.{cases_eq, ne_eqb}
@@ -91,7 +91,7 @@ difference-to_cell elf tabled r d f only is =
       free = subst (AreFree elf r.place) (sym is.width_is) is.free;
     }
 
--- An address and a difference are of different types.
+-- Addresses and differences have different types of relocations.
 
 no_cell_kind : (kind : ℕ) → is_address kind ≡ true → (relocations.is_add kind || relocations.is_pc_difference kind) ≡ true → ⊥
 no_cell_kind kind is cell = ⊎_elim

@@ -1,4 +1,4 @@
--- Finding what the items of a list have, one item after another.
+-- Results for the items of a list, item by item.
 use Rattle.std.proofs.Common.{◌≡◌, ◌∙◌, sym, subst, ap, ℕ, ◌+◌, ◌<◌, ◌≤◌, ⊎_elim, List, [], ◌∷◌, ◌++◌, take, length}
 use Rattle.std.proofs.Common.{slice_index_or, Option, Some, None, IfSome, append-nil, map}
 use Rattle.std.specs.List.{Contains}

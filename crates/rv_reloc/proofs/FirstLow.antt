@@ -1,4 +1,4 @@
--- The first lower part for an AUIPC, in a list by AUIPCs.
+-- The first lower part for an AUIPC, in a list sorted by AUIPC.
 use Rattle.std.proofs.Common.{◌≡◌, ◌≢◌, ◌∙◌, ap, ℕ, ◌<◌, ◌≤◌, ⊎_elim, List, length, slice_index_or, arith}
 use Rattle.std.specs.List.{Contains}
 use Rattle.std.specs.List.Sorted.{IsNonDecreasingBy}

@@ -1,4 +1,4 @@
--- The first claim at each address.
+-- The first claim for each address.
 use Rattle.std.proofs.Common.{◌≡◌, ◌≢◌, ◌∙◌, sym, subst, ap, refl, ℕ, zero, suc, ◌+◌, ◌-◌, ◌<◌, ◌≤◌, ◌⊎◌, inl, inr, ⊎_elim, List}
 use Rattle.std.proofs.Common.{[], ◌∷◌, ◌++◌, length, slice_index_or, IsTrue, ◌↔◌, nat_lt, arith}
 use Rattle.std.specs.List.{Contains, AllPairs}
@@ -31,7 +31,7 @@ up_to_same k1 y1 k2 y2 (inl a) (inr (e, b)) = absurd (omega arith)
 up_to_same k1 y1 k2 y2 (inr (e, a)) (inl b) = absurd (omega arith)
 up_to_same k1 y1 k2 y2 (inr (e, a)) (inr (f, b)) = (e, omega arith)
 
--- the first, by its neighbour
+-- The first claim, by its neighbour.
 pub first_zero : (claims : List Claim) (k : ℕ) → k ≡ 0 → IsFirstClaim claims k
 first_zero claims k none j d less = absurd (omega arith)
 
@@ -46,7 +46,7 @@ first_above claims k ordered within rises j d less =
     subst (λ (i : ℕ). (slice_index_or claims i d).at < (slice_index_or claims k d).at) (sym e) here)
     (cases_lt j (k - 1))
 
--- Roles, one claim after another.
+-- Roles, claim by claim.
 
 abbrev pub IsFirstBelow : List Claim → ℕ → ℕ × Role → Type 0
 IsFirstBelow claims i r =
@@ -112,12 +112,12 @@ roles_push claims roles now i x within is first pushed lists =
     here d = let e : slice_index_or claims i d ≡ x = get_or_default claims i d x within ∙ sym is in
         (ap (λ (c : Claim). c.at) e, ap (λ (c : Claim). c.role) e)
 
--- The roles that count.
+-- The roles that win.
 
 at_index : (elf : Elf) (claims : List Claim) (k : ℕ) (d : Claim) → k < length claims → Contains claims (slice_index_or claims k d)
 at_index elf claims k d within = (k, within, get_or_default claims k (slice_index_or claims k d) d within)
 
--- where a list has a claim at an address, it has a first one
+-- If a list has a claim for an address, it has a first one.
 first_down : (claims : List Claim) (n k : ℕ) (d : Claim) → k ≤ n → AllPairs IsClaimUpTo claims →
     k < length claims → (j : ℕ) × (j ≤ k)
     × IsFirstClaim claims j × ((slice_index_or claims j d).at ≡ (slice_index_or claims k d).at)
@@ -147,7 +147,7 @@ first_down claims (suc n) k d bound ordered within =
     (cases_lt (slice_index_or claims (k - 1) d).at (slice_index_or claims k d).at))
     (cases_eq k 0)
 
--- the first at an address is up to any there
+-- The first claim for an address is at or before all claims for it.
 first_least : (claims : List Claim) (k j : ℕ) (d : Claim) → AllPairs IsClaimUpTo claims → IsFirstClaim claims k →
     k < length claims →
     j < length claims → (slice_index_or claims j d).at ≡ (slice_index_or claims k d).at →
@@ -241,7 +241,7 @@ roles_all elf claims roles i are all lists =
       ordered = whole.ordered;
     }
 
--- the test of neighbours
+-- The comparison with the neighbour.
 pub first_if : (claims : List Claim) (k : ℕ) (e : Claim) → AllPairs IsClaimUpTo claims → k < length claims → k ≢ 0 →
     IsTrue (nat_lt (slice_index_or claims (k - 1) e).at (slice_index_or claims k e).at) ↔ IsFirstClaim claims k
 first_if claims k e ordered within some = (

@@ -1,4 +1,4 @@
--- Instructions, by the fields that count.
+-- Instructions with the fields that matter.
 use Rattle.std.proofs.Common.{ℕ, IfSome}
 use Rattle.rv_code.specs.declared.inst.Inst.{Inst}
 use Rattle.rv_code.specs.declared.inst.Inst.TheVariants.{Auipc, Jalr}

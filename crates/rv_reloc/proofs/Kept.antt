@@ -20,7 +20,7 @@ pub counts : (elf : Elf) (records : List Record) (r : Record) → AreRecords elf
     Contains (relocations elf) (seen r)
 counts elf records r are listed = are.all.back (seen r) (in_map seen records r listed)
 
--- a relocation is kept for one of the sections to which it applies
+-- A relocation is kept for one of the sections that it applies to.
 pub kept : (elf : Elf) (records : List Record) (r : Relocation) → AreRecords elf records →
     Contains (relocations elf) r → (s : Section) × (q : Record)
     × Contains records q × (seen q ≡ for_section s r) × Contains (relocations elf) (for_section s r)
@@ -39,7 +39,7 @@ AreRecords-sorted elf all entries were records all_are thinned same moved ordere
   ordered = ordered;
 }
 
--- one of a class at a place
+-- Some relocation with a place and class.
 pub any-relocation : (elf : Elf) (records : List Record) (place at : ℕ) (is : ℕ → Bool) →
     ((kind : ℕ) → (class kind ≡ at) ↔ IsTrue (is kind)) → AreRecords elf records →
     Any (λ r. IsTrue (has_key place at r)) records ↔ HasRelocation elf (λ r. IsTrue (is r.kind)) place
@@ -60,7 +60,7 @@ any-relocation elf records place at is tells are = (
       ),
 )
 
--- the only one of a class at a place
+-- The only relocation with a place and class.
 pub only-relocation : (elf : Elf) (records : List Record) (place at : ℕ) (is : Relocation → Bool) →
     ((r : Relocation) → is r ≡ (r.place == place && class r.kind == at)) → AreRecords elf records → (q : Record) →
     IsOnly (has_key place at) records q → IsOnly is (relocations elf) (seen q)
@@ -77,7 +77,7 @@ only-kept elf records place at is same are r only =
     (thinned-only is (relocations elf) (map seen records) r (λ s q. same (for_section s q) ∙ sym (same q)) are.all only) in
     (q, subst (λ (test : Record → Bool). IsOnly test records q) (λ i z. same (seen z) i) one, there)
 
--- what is found of a class at a place
+-- The result of a search for a place and class.
 pub finds-only : (records : List Record) (place at n : ℕ) (is : Relocation → Bool) (found : Option Record) → n ≡ at →
     ((r : Relocation) → is r ≡ (r.place == place && class r.kind == at)) →
     IfSome found (IsOnly (has_key place n) records) →

@@ -1,4 +1,4 @@
--- The order of fields by place, width and content, as a sort gives it.
+-- The sort order of fields by place, width and content.
 use Rattle.std.proofs.Common.{◌≡◌, ◌∙◌, sym, subst, ap, refl, ℕ, ◌+◌, ◌<◌, ◌≤◌, ℤ, ◌<ℤ◌, ◌⊎◌, inl, inr, ⊎_elim, true, false, List}
 use Rattle.std.proofs.Common.{map, length, slice_index_or, arith}
 use Rattle.std.proofs.lemmas.Cmp.{ranked, int_ranked}
@@ -16,7 +16,7 @@ use Rattle.rv_reloc.specs.declared.sweep.Content.{Content}
 use Rattle.rv_reloc.specs.declared.sweep.Content.TheVariants.{Address, Difference}
 use Rattle.rv_reloc.proofs.Lexicographic.{then_not_less, number_up, integer_up, then_up, less_trans, AllPairs-from_next}
 
--- the comparison of contents, case by case
+-- The comparison of contents, case by case.
 pub record ComparesContents (cmp : Content → Content → Ordering) : Type 0 where
   pub addresses : (a b : ℕ) → cmp (Address a) (Address b) ≡ nat_cmp a b
   pub address_first : (a : ℕ) (to from : ℤ) → cmp (Address a) (Difference to from) ≡ Less
@@ -39,7 +39,7 @@ content_up cmp is (Difference to from) (Difference to' from') up =
     (λ (less : to <ℤ to'). inl less)
     h
 
--- the key of the next isn't less
+-- The key of the next field isn't less.
 abbrev pub IsNotLess : (Content → Content → Ordering) → Candidate → Candidate → Type 0
 IsNotLess cmp x y =
     is_lt (ordering_then (ordering_then (nat_cmp y.place x.place) (nat_cmp x.width y.width)) (cmp y.content x.content)) ≡ false
@@ -61,7 +61,7 @@ key_up cmp is x y up =
     (then_not_less widths (cmp y.content x.content) _ _ _ (ranked x.width y.width widths refl) later))
     (sym (ap is_lt (reassociate (nat_cmp y.place x.place) widths (cmp y.content x.content))) ∙ up)
 
--- The order goes on.
+-- Transitivity.
 
 content_trans : (c d e : cells.Content) → IsContentUpTo c d → IsContentUpTo d e → IsContentUpTo c e
 content_trans (cells.Address a) (cells.Address b) (cells.Address c) p q = omega arith

@@ -1,4 +1,4 @@
--- The labels that entries of the global offset table are to hold.
+-- The labels that GOT entries should have.
 use Rattle.std.proofs.Common.{sym, subst, List}
 use Rattle.std.specs.List.{AllPairs}
 use Rattle.std.specs.List.Sorted.{IsPermutation}

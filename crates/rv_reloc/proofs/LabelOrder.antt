@@ -1,4 +1,4 @@
--- Labels by place and by themselves.
+-- Labels sorted by place, and then by label.
 use Rattle.std.proofs.Common.{◌≡◌, ◌≢◌, ◌∙◌, sym, subst, ap, refl, ℕ, ◌+◌, ◌<◌, ◌≤◌, ℤ, ◌⊎◌, inl, inr, ⊎_elim, Bool, true, false}
 use Rattle.std.proofs.Common.{◌&&◌, ◌||◌, ◌==◌, nat_lt, List, length, slice_index_or, arith}
 use Rattle.std.specs.Prelude.{◌<ℤ◌, ◌≤ℤ◌, int_lt}
@@ -54,7 +54,7 @@ labels-sorted xs sorted =
     then_up x.place y.place (int_cmp y.label x.label) (x.label ≤ℤ y.label) (integer_up x.label y.label)
     (sorted k d (omega arith) inside))
 
--- The test that a search asks.
+-- The test of a search.
 
 abbrev pub is_below : ℕ → ℤ → SlotLabel → Bool
 is_below place label x = nat_lt x.place place || (x.place == place && int_lt x.label label)
@@ -100,7 +100,7 @@ parted place label items ordered i j d upto within is =
     subst (λ (k : ℕ). is_below place label (slice_index_or items k d) ≡ true) e is)
     (cases_lt i j)
 
--- Looking a label up.
+-- A search for a label.
 
 pub listed-first : (items : List SlotLabel) (place : ℕ) (label : ℤ) (n : ℕ) →
     AllPairs (λ s t. IsLabelFrom s.place s.label t) items →

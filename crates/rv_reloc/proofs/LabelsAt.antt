@@ -1,4 +1,4 @@
--- Labels of one place, by where a search for one ends.
+-- Labels with one place, by the end of a search for one.
 use Rattle.std.proofs.Common.{◌≡◌, ◌≢◌, ◌∙◌, sym, subst, ap, ℕ, ◌-◌, ◌<◌, ◌≤◌, ℤ, pos, ◌+ℤ◌, ◌⊎◌, inl, inr, ⊎_elim, List, length}
 use Rattle.std.proofs.Common.{slice_index_or, arith, IsTrue, ◌==◌, ◌↔◌, true, false, eq-eqb}
 use Rattle.std.specs.Prelude.{◌<ℤ◌, ◌≤ℤ◌}
@@ -10,7 +10,7 @@ use Rattle.rv_reloc.specs.declared.slots.SlotLabel.{SlotLabel}
 use Rattle.rv_reloc.specs.Slots.{IsLabelBelow, IsLabelFrom, HasLabelAt, HasLabelBelow, HasLabelFrom, HasOtherLabel}
 use Rattle.rv_reloc.proofs.LabelOrder.{not_both}
 
--- what is read past the end
+-- A default for indices past the end.
 abbrev pub no_label : SlotLabel
 no_label = record { place = 0; label = pos 0 }
 
@@ -33,7 +33,7 @@ from_at : (place : ℕ) (label : ℤ) (s : SlotLabel) → s.place ≡ place → 
 from_at place label s here (inl more) = absurd (omega arith)
 from_at place label s here (inr (same, high)) = high
 
--- neighbours in a list are in the order of their places
+-- The labels in a list are sorted by place.
 places_up : (items : List SlotLabel) (j k : ℕ) (d : SlotLabel) → AllPairs (λ s t. IsLabelFrom s.place s.label t) items → j ≤ k →
     k < length items → (slice_index_or items j d).place ≤ (slice_index_or items k d).place
 places_up items j k d ordered upto within =
@@ -100,7 +100,7 @@ module _ (items : List SlotLabel) (place : ℕ) (label z : ℤ) (n : ℕ) (same 
       (inside, omega arith))
       (cases_lt k n)
 
-  -- The same as tests: of the label before the end of the search, and of the one behind it.
+  -- Tests of the labels before and after the end of the search.
 
   tested : {P : Type 0} (m : ℕ) → (m ≡ place → P) → (P → m ≡ place) → IsTrue (m == place) ↔ P
   tested m to from = (λ is. to (eqb-true m place is), λ has. eq-eqb m place (from has))

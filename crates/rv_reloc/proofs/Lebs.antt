@@ -1,4 +1,4 @@
--- Numbers in LEB128 in memory, from one of their bytes on.
+-- LEB128 numbers in memory, from one of their bytes on.
 use Rattle.std.proofs.Common.{◌≡◌, ◌∙◌, sym, ap, subst, refl, ℕ, zero, suc, ◌+◌, ◌*◌, ◌/◌, ◌%◌, ◌^◌, ◌<◌, ◌≤◌, ℤ, pos}
 use Rattle.std.proofs.Common.{negsuc, ◌⊎◌, ⊎_elim, ◌↔◌, Bool, true, false, IsTrue, IsSome, IsSomeAnd, List, [], ◌∷◌, length}
 use Rattle.std.proofs.Common.{Option, Some, None, if◌then◌else◌, arith}
@@ -14,7 +14,7 @@ use Rattle.rv_code.specs.layout.FunctionLists.{address_end}
 use Rattle.code_starts.specs.LoadedMemory.{IsLow}
 use Rattle.rv_reloc.specs.Tails.{AreLebBytes, IsTail, TailAt, no_tail, is_tail, magnitude}
 
--- What the first byte says.
+-- The first byte.
 
 at_zero : (elf : Elf) (a : ℕ) → leb_at elf a zero ≡ None
 unfolding leb_at
@@ -97,7 +97,7 @@ bytes-more elf a b bs byte more are =
 
 -- All bytes.
 
--- the number is the same however many bytes it might have had
+-- The number doesn't depend on the bound for its number of bytes.
 pub bytes-from : (elf : Elf) (n a : ℕ) (bs : List ℕ) → leb_at elf a n ≡ Some bs → AreLebBytes elf a bs
 bytes-from elf zero a bs is = let e : None ≡ Some bs = sym (at_zero elf a) ∙ is in absurd (cc)
 bytes-from elf (suc n) a bs is = by (bytes-from elf n (a + 1)) (byte_at elf a) refl
@@ -142,7 +142,7 @@ never-bytes : (elf : Elf) (a : ℕ) (bs : List ℕ) → AreLebBytes elf a bs →
 never-bytes elf a bs are never =
     let e : None ≡ Some bs = sym (never (length bs)) ∙ are.within (length bs) (omega arith) in absurd (cc)
 
--- the first of them, which may be the last
+-- The first byte, which may be the last.
 pub data Front (elf : Elf) (a b : ℕ) (bs : List ℕ) : Type 0 where
   one : is_last b ≡ true → bs ≡ b ∷ [] → Front elf a b bs
   more : is_last b ≡ false → (cs : List ℕ) → bs ≡ b ∷ cs → AreLebBytes elf (a + 1) cs → Front elf a b bs
@@ -246,7 +246,7 @@ high-small z n m is below =
     let h = high_magnitude z in
     omega arith
 
--- none above all that is loaded
+-- No tail at or above the end of loaded addresses.
 pub tail-end : (elf : Elf) (a : ℕ) → IsLow elf → address_end ≤ a → TailAt elf a None
 tail-end elf a low high = tail-unloaded elf a (by (byte_at elf a) refl)
   where

@@ -1,4 +1,4 @@
--- Orders by several keys, one after another, as a sort by a tuple gives them.
+-- Lexicographic orders by several keys, as a sort by tuples gives them.
 use Rattle.std.proofs.Common.{◌≡◌, ◌∙◌, sym, subst, refl, ℕ, zero, suc, ◌+◌, ◌-◌, ◌<◌, ◌≤◌, ℤ, ◌≤ℤ◌, ◌<ℤ◌, ◌⊎◌, inl, inr, ⊎_elim}
 use Rattle.std.proofs.Common.{false, List, length, slice_index_or, arith}
 use Rattle.std.proofs.lemmas.Cmp.{ranked, int_ranked}
@@ -8,7 +8,7 @@ use Rattle.std.specs.declared.cmp.Ordering.TheVariants.{Less, Equal, Greater}
 use Rattle.std.specs.List.{AllPairs}
 use Rattle.std.specs.Ordering.{MatchOrdering, nat_cmp, int_cmp, is_lt, ordering_then}
 
--- What a comparison says that isn't less.
+-- The meaning of a comparison that isn't less.
 
 not_less : (o : Ordering) (A B C : Type 0) → MatchOrdering o A B C → is_lt o ≡ false → B ⊎ C
 not_less Less A B C is up = absurd (cc)
@@ -35,7 +35,7 @@ integer_up a b up =
     (λ (less : a <ℤ b). let rises : a ≤ℤ b = omega (arith, ints) in rises)
     (not_less (int_cmp b a) _ _ _ (int_ranked b a (int_cmp b a) refl) up)
 
--- by a first number, and at one number by what comes after it
+-- Ordered by a number, and for equal numbers by the rest.
 abbrev pub IsLess : ℕ → ℕ → Type 0 → Type 0
 IsLess a b S = (a < b) ⊎ ((a ≡ b) × S)
 
@@ -53,7 +53,7 @@ less_trans a b c S T U rest (inl p) (inr (e, q)) = inl (omega arith)
 less_trans a b c S T U rest (inr (e, p)) (inl q) = inl (omega arith)
 less_trans a b c S T U rest (inr (e, p)) (inr (f, q)) = inr (e ∙ f, rest p q)
 
--- What holds of neighbours holds of all pairs.
+-- What holds for neighbours holds for all pairs.
 
 chain : {A : Type 0} (R : A → A → Type 0) → ((x y z : A) → R x y → R y z → R x z) → (xs : List A) →
     ((k : ℕ) (d : A) → k + 1 < length xs → R (slice_index_or xs k d) (slice_index_or xs (k + 1) d)) → (n i j : ℕ) (d : A) →

@@ -1,4 +1,4 @@
--- A file that was read is loaded low.
+-- The segments of a file without faults are below the end of loadable addresses.
 use Rattle.std.proofs.Common.{◌≡◌, ◌∙◌, sym, subst, ap, ℕ, ◌<◌, ◌≤◌, ⊎_elim, false, true, IsTrue, IsSome, List, Option, Some, None}
 use Rattle.std.specs.Option.{option_map}
 use Rattle.std.proofs.lemmas.Bool.{cases_lt}
@@ -14,7 +14,7 @@ use Rattle.elf_image.proofs.ReadLists.{get_or-segments}
 use Rattle.code_starts.specs.LoadedMemory.{IsLow}
 use Rattle.rv_reloc.specs.Refs.{IsRead}
 
--- no segment of a sound file loads a high address
+-- No segment of a sound file loads a high address.
 segment_low : (file : List ℕ) (a : ℕ) (p : Segment) → IsSound file → segment_of (segments_of file) a ≡ Some p → a < address_end
 segment_low file a p sound e =
     let found = find-found (loads_address a) (segments_of file) p e in

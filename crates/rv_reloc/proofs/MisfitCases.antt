@@ -1,4 +1,4 @@
--- Relocations that don't fit, by the reasons.
+-- Relocations that don't fit, by reason.
 use Rattle.std.proofs.Common.{◌≡◌, ℕ, ◌<◌, ◌≤◌, pos, ◌⊎◌, inl, inr, ⊎_elim, List, Option, arith}
 use Rattle.std.proofs.lemmas.Bool.{cases_lt}
 use Rattle.std.proofs.lemmas.Int.{ints}
@@ -24,7 +24,7 @@ pub field_cases : {P : Type 0} (elf : Elf) (r : Relocation) → (HasBadSymbol el
 field_cases elf r symbol field (IsBadField.symbol named past) = symbol (named, past)
 field_cases elf r symbol field (IsBadField.field none) = field none
 
--- An entry is at an address, or it makes none.
+-- The target of a bad pair is the address of an entry, or isn't an address.
 entry_cases : (elf : Elf) (r : Relocation) → IsBadPair elf r → MakesNoAddress elf r ⊎ HasBadEntry elf r
 entry_cases elf r (IsBadPair.address target makes unfit) = inl (record { number = target; makes = makes; unfit = unfit })
 entry_cases elf r (IsBadPair.slot is entry makes unfit) =
@@ -60,7 +60,7 @@ of_unfit elf r (inr (inr is)) = IsMisfit.difference is
 of_entry : (elf : Elf) (r : Relocation) → HasBadEntry elf r → IsMisfit elf r
 of_entry elf r bad = IsMisfit.pair (IsBadPair.slot bad.is_slot bad.entry bad.makes bad.unfit)
 
--- The places of all.
+-- All places.
 
 to_misfit : (elf : Elf) (p : ℕ) → HasRelocation elf (IsUnfit elf) p ⊎ HasRelocation elf (HasBadEntry elf) p →
     HasRelocation elf (IsMisfit elf) p

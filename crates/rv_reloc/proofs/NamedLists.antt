@@ -1,4 +1,4 @@
--- The addresses that relocations for lower parts name.
+-- The addresses that relocations for lower parts refer to.
 use Rattle.std.proofs.Common.{sym, subst, ℕ, ◌↔◌, List}
 use Rattle.std.specs.List.{Contains}
 use Rattle.std.specs.List.Sorted.{IsStrictlyIncreasing}

@@ -1,4 +1,4 @@
--- That a list has exactly one item that passes a test, where relocations are left out, and of what items stand for.
+-- A list has exactly one item that passes a test, even if relocations are left out or items are mapped.
 use Rattle.std.proofs.Common.{◌≡◌, ◌∙◌, ap, sym, subst, refl, ◌+◌, Bool, true, Option, Some, None, IfSome, IsSomeAnd, List, []}
 use Rattle.std.proofs.Common.{◌∷◌, map, arith, zero, suc, ◌≤◌, ⊎_elim, IsTrue}
 use Rattle.std.specs.List.{count_by, Contains}
@@ -9,7 +9,7 @@ use Rattle.rv_reloc.specs.Thinned.{for_section, IsThinned}
 use Rattle.rb_bytes.proofs.ListLemmas.{from_map, in_map}
 use Rattle.rv_reloc.proofs.Ordered.{count-cons, one_if}
 
--- an item that passes is counted
+-- An item that passes is counted.
 counted : {A : Type 0} (test : A → Bool) (xs : List A) (x : A) → Contains xs x → IsTrue (test x) → 1 ≤ count_by test xs
 counted test [] x (k, within, is) passes = absurd (omega arith)
 counted test (y ∷ ys) x (zero, within, is) passes =
@@ -40,7 +40,7 @@ alone_in test (z ∷ zs) x y one (suc k, within, is) passes (suc k', within', is
     let rest = counted test zs x (k, omega arith, is) passes in
     alone_in test zs x y (omega arith) (k, omega arith, is) passes (k', omega arith, is') passes'
 
--- another item that passes is the same
+-- Another item that passes is the same.
 pub only-alone : {A : Type 0} {test : A → Bool} {xs : List A} {x y : A} → IsOnly test xs x → Contains xs y → IsTrue (test y) →
     x ≡ y
 only-alone {test = test} {xs = xs} {x = x} {y = y} is listed passes =
@@ -98,7 +98,7 @@ only-from_map {B = B} f test xs y is =
       same,
     )
 
--- what is found
+-- The result of a search.
 
 pub some-only : {A : Type 0} {Is Is' : A → Type 0} (o : Option A) → ((x : A) → Is x → Is' x) → IfSome o Is → IfSome o Is'
 some-only None to is = is

@@ -1,4 +1,4 @@
--- Items by place and class, and the only one of a key.
+-- Items sorted by place and class, and the only item with a place and class.
 use Rattle.std.proofs.Common.{◌≡◌, ◌≢◌, ◌∙◌, sym, subst, ap, refl, ℕ, zero, suc, ◌+◌, ◌-◌, ◌<◌, ◌≤◌, ◌⊎◌, inl, inr, ⊎_elim, Bool, true}
 use Rattle.std.proofs.Common.{false, not, ◌&&◌, ◌||◌, ◌==◌, nat_lt, IsTrue, ◌↔◌, cond, List, [], ◌∷◌, length, slice_index_or, arith}
 use Rattle.std.specs.List.{Any, count_by}
@@ -41,7 +41,7 @@ AreInOrder-sorted xs sorted =
     then_up x.place y.place (nat_cmp (class_of y) (class_of x)) (class_of x ≤ class_of y) (number_up (class_of x) (class_of y))
     (sorted k d (omega arith) inside))
 
--- How many have a key.
+-- The number of items with a place and class.
 
 pub has_key-true : (place class : ℕ) (x : Record) → IsTrue (has_key place class x) → (x.place ≡ place) × ((class_of x) ≡ class)
 has_key-true place class x is =
@@ -71,7 +71,7 @@ pub count-cons : {A : Type 0} (test : A → Bool) (x : A) (xs : List A) →
     count_by test (x ∷ xs) ≡ one_if (test x) + count_by test xs
 count-cons test x xs = sum_by-cons (λ y. cond (test y) 1 0) x xs
 
--- the items of a stretch pass a test, and the others don't
+-- The items of a range pass a test, and the others don't.
 pub count-run : {A : Type 0} (test : A → Bool) (xs : List A) (a b : ℕ) → a ≤ b → b ≤ length xs →
     ((k : ℕ) (d : A) → k < a → test (slice_index_or xs k d) ≡ false) →
     ((k : ℕ) (d : A) → a ≤ k → k < b → test (slice_index_or xs k d) ≡ true) →
@@ -100,7 +100,7 @@ count-run test (x ∷ xs) zero zero upto within before run after =
     let more : count_by test (x ∷ xs) ≡ one_if (test x) + count_by test xs = count-cons test x xs in
     omega arith
 
--- one that passes counts
+-- An item that passes is counted.
 pub count-some : {A : Type 0} (test : A → Bool) (xs : List A) (i : ℕ) → i < length xs →
     ((d : A) → test (slice_index_or xs i d) ≡ true) → 1 ≤ count_by test xs
 count-some test [] i within passes = absurd (omega arith)
@@ -113,7 +113,7 @@ count-some test (x ∷ xs) (suc i) within passes =
     let more : count_by test (x ∷ xs) ≡ one_if (test x) + count_by test xs = count-cons test x xs in
     omega arith
 
--- two neighbours that pass count as two
+-- Two neighbours that pass count as two.
 count-two : {A : Type 0} (test : A → Bool) (xs : List A) (i : ℕ) → suc i < length xs →
     ((d : A) → test (slice_index_or xs i d) ≡ true) → ((d : A) → test (slice_index_or xs (suc i) d) ≡ true) → 2 ≤ count_by test xs
 count-two test [] i within one two = absurd (omega arith)
@@ -127,13 +127,13 @@ count-two test (x ∷ xs) (suc i) within one two =
     let more : count_by test (x ∷ xs) ≡ one_if (test x) + count_by test xs = count-cons test x xs in
     omega arith
 
--- Looking for one of a key in a list in order, where it would stand.
+-- A search for a place and class, in a sorted list from a split index on.
 
 below_other : (place class : ℕ) (x : Record) → IsBelow place class x → (x.place ≡ place) × ((class_of x) ≡ class) → ⊥
 below_other place class x (inl less) (p, c) = omega arith
 below_other place class x (inr (p', less)) (p, c) = omega arith
 
--- what comes after one that isn't of the key isn't either
+-- After an item with another key, no item has the key.
 after_other : (place class : ℕ) (x y : Record) → IsFrom place class x → IsFrom x.place (class_of x) y →
     ((x.place ≡ place) × ((class_of x) ≡ class) → ⊥) → (y.place ≡ place) × ((class_of y) ≡ class) → ⊥
 after_other place class x y (inl a) (inl b) other (p, c) = omega arith
@@ -141,7 +141,7 @@ after_other place class x y (inl a) (inr (e, b)) other (p, c) = omega arith
 after_other place class x y (inr (e, a)) (inl b) other (p, c) = omega arith
 after_other place class x y (inr (e, a)) (inr (f, b)) other (p, c) = other (sym e, omega arith)
 
--- from an index on that has another key, none has the key
+-- If the item at an index has another key, no later item has the key.
 other_after : (place class : ℕ) (items : List Record) (from i k : ℕ) (d : Record) → AreInOrder items →
     IsSplit place class items from →
     from ≤ i → (HasKeyAt place class items i → ⊥) → i ≤ k → k < length items → (slice_index_or items k d).place ≡ place →
@@ -165,7 +165,7 @@ other_after place class items from i k d ordered split upto other above within p
     ))
     (cases_lt i k)
 
--- none
+-- No item.
 pub only-none : (place class : ℕ) (items : List Record) (from : ℕ) (x : Record) → AreInOrder items →
     IsSplit place class items from → (HasKeyAt place class items from → ⊥) → IsOnly (has_key place class) items x → ⊥
 only-none place class items from x ordered split other is =
@@ -182,7 +182,7 @@ passes_at : (place class : ℕ) (items : List Record) (k : ℕ) → HasKeyAt pla
     has_key place class (slice_index_or items k d) ≡ true
 passes_at place class items k (within, same) d = let (p, c) = same d in has_key-same place class (slice_index_or items k d) p c
 
--- two
+-- Two items.
 pub only-two : (place class : ℕ) (items : List Record) (from : ℕ) (x : Record) → HasKeyAt place class items from →
     HasKeyAt place class items (from + 1) → IsOnly (has_key place class) items x → ⊥
 only-two place class items from x one two is =
@@ -193,7 +193,7 @@ only-two place class items from x one two is =
     let alone = is.alone in
     omega arith
 
--- one
+-- One item.
 pub only-one : (place class : ℕ) (items : List Record) (from : ℕ) (x : Record) → AreInOrder items →
     IsSplit place class items from →
     HasKeyAt place class items from → (HasKeyAt place class items (from + 1) → ⊥) → x ≡ slice_index_or items from x →
@@ -229,7 +229,7 @@ only-same place class items from x y ordered split other is only =
     (cases_lt from k))
     (cases_lt k from)
 
--- The test that a search asks.
+-- The test of a search.
 
 abbrev pub is_below : ℕ → ℕ → Record → Bool
 is_below place class x = nat_lt x.place place || (x.place == place && nat_lt (class_of x) class)
@@ -273,7 +273,7 @@ parted place class items ordered i j d upto within is =
     subst (λ (k : ℕ). is_below place class (slice_index_or items k d) ≡ true) e is)
     (cases_lt i j)
 
--- It is where the record before an index is below, and the one there isn't.
+-- An index is the split if the record before it is below, and the record at it isn't.
 pub split-here : (place class : ℕ) (items : List Record) (from : ℕ) → AreInOrder items → from ≤ length items →
     (0 < from → (d : Record) → IsBelow place class (slice_index_or items (from - 1) d)) →
     (from < length items → (d : Record) → IsFrom place class (slice_index_or items from d)) → IsSplit place class items from
@@ -307,7 +307,7 @@ from-tested place class i items e d false within below is =
     subst (IsFrom place class) (get_or_default items i e d within)
     (from-not_below place class (slice_index_or items i e) (λ under. let yes : false ≡ true = below under in absurd (cc)))
 
--- Whether there is one of a key.
+-- Whether an item has the key.
 
 item_at : {A : Type 0} (xs : List A) (k : ℕ) → k < length xs → (x : A) × (slice_index_or xs k x ≡ x)
 item_at [] k within = absurd (omega arith)

@@ -1,4 +1,4 @@
--- What lower parts make, by relocations.
+-- Targets of lower parts, by relocations.
 use Rattle.std.proofs.Common.{◌≡◌, sym, subst, ℕ, ℤ, IsTrue}
 use Rattle.std.specs.List.{Contains}
 use Rattle.elf_image.specs.declared.elf.Elf.{Elf}
@@ -8,7 +8,7 @@ use Rattle.rv_reloc.specs.declared.lows.Low.{Low}
 use Rattle.rv_reloc.specs.Lows.{IsLowPart}
 use Rattle.rv_reloc.specs.Pairs.{IsTargetOf}
 
--- the lower part with which an upper one makes its target
+-- The lower part of the target of an upper part.
 abbrev pub low_of_upper : {elf : Elf} {r : Relocation} {z : ℤ} → PcrelHiTo elf r z → Low
 low_of_upper {r = r} to = record { hi = r.place; imm = to.lower }
 

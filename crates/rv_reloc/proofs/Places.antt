@@ -1,4 +1,4 @@
--- The lowest place of what is bad in a list, one item after another.
+-- The lowest place of a bad item in a list, item by item.
 use Rattle.std.proofs.Common.{◌≡◌, ◌∙◌, sym, subst, refl, ℕ, ◌+◌, ◌<◌, ◌⊎◌, inl, inr, ⊎_elim, Bool, Option, Some, None, List, []}
 use Rattle.std.proofs.Common.{◌∷◌, ◌++◌, take, length, slice_index_or, IsTrue, if◌then◌else◌, ◌↔◌, arith}
 use Rattle.std.proofs.lemmas.List.{take_more, take_all}
@@ -24,7 +24,7 @@ fewer {A} place_of IsBad xs x p is =
     (λ (same : x ≡ is.item). inr (subst IsBad (sym same) is.bad, sym (subst (λ (y : A). place_of y ≡ p) (sym same) is.place_is)))
     (Contains-push_cases xs x is.item is.listed)
 
--- one more item
+-- One more item.
 pub IsPlaceOf-next : {A : Type 0} (place_of : A → ℕ) (IsBad : A → Type 0) (xs : List A) (i : ℕ) (x : A)
     (a b r : Option ℕ) (holds : Bool)
     (at : ℕ) → i < length xs → x ≡ slice_index_or xs i x → r ≡ lower a b → IsLowest (IsPlaceOf place_of IsBad (take i xs)) a →
@@ -36,7 +36,7 @@ IsPlaceOf-next {A} place_of IsBad xs i x a b r holds at within is joined before 
     subst (λ (ys : List A). IsLowest (IsPlaceOf place_of IsBad ys) r) (sym taken)
     (IsLowest-same r (more place_of IsBad (take i xs) x) (fewer place_of IsBad (take i xs) x) both)
 
--- all items
+-- All items.
 pub IsPlaceOf-all : {A : Type 0} (place_of : A → ℕ) (IsBad : A → Type 0) (xs : List A) (i : ℕ) (r : Option ℕ) → i ≡ length xs →
     IsLowest (IsPlaceOf place_of IsBad (take i xs)) r → IsLowest (IsPlaceOf place_of IsBad xs) r
 IsPlaceOf-all {A} place_of IsBad xs i r all is =

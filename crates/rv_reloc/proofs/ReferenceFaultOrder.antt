@@ -1,4 +1,4 @@
--- The order of the faults of references, and what their absence says.
+-- The order of the faults of references, and the consequences of their absence.
 use Rattle.std.proofs.Common.{◌≡◌, sym, subst, refl, ℕ, inl, inr, List, map, arith}
 use Rattle.std.specs.List.{Contains, All}
 use Rattle.rb_bytes.specs.declared.fault.FaultKind.TheVariants.{RelocType, RelocMismatch, LoMismatch, NarrowDiff, IfuncOrPlt, AlreadyMoved}
@@ -15,7 +15,7 @@ use Rattle.rv_reloc.specs.CountedFields.{as_field, AreCounted}
 use Rattle.code_starts.specs.WholeParts.{AreWholeParts}
 use Rattle.rv_reloc.proofs.CellLists.{none-bad, of_bad_field}
 
--- faults of lower numbers are those of others
+-- Faults with lower numbers belong to other crates.
 pub lacks_others : (elf : Elf) (tabled : List (ℕ × ℕ)) → LacksBelow (HasReferenceFault elf tabled) 9
 lacks_others elf tabled RelocType low = absurd (omega arith)
 lacks_others elf tabled RelocMismatch low = absurd (omega arith)
@@ -25,7 +25,7 @@ lacks_others elf tabled IfuncOrPlt low = absurd (omega arith)
 lacks_others elf tabled AlreadyMoved low = absurd (omega arith)
 lacks_others elf tabled _ low = λ place has. has
 
--- and so are those of higher ones
+-- Faults with higher numbers belong to other crates, too.
 pub lacks_all : (elf : Elf) (tabled : List (ℕ × ℕ)) → LacksBelow (HasReferenceFault elf tabled) 15 →
     IsFree (HasReferenceFault elf tabled)
 lacks_all elf tabled lacks RelocType = lacks RelocType (omega arith)
@@ -52,7 +52,7 @@ all_addresses elf tabled counted are lacks =
     none-bad counted
     (IsLowest-none (λ p is. lacks RelocMismatch (omega arith) p (inr (of_bad_field elf tabled counted are p is))))
 
--- The lists as the code passes them on.
+-- Lists as arguments of calls.
 
 pub asked : (elf : Elf) (tabled : List (ℕ × ℕ)) (wholes passed again : List Part) (counted seen : List Candidate) →
     passed ≡ wholes → again ≡ wholes → seen ≡ counted → AreWholeParts elf tabled wholes →
@@ -64,7 +64,7 @@ asked elf tabled wholes passed again counted seen e f g are counts = record {
       (counts (subst (AreWholeParts elf tabled) (sym e) are));
 }
 
--- all items of a list that is passed on, or that was
+-- A property of all items of an argument, or of the list passed.
 pub passed_on : {A : Type 0} (P : A → Type 0) (items passed : List A) → passed ≡ items → All P items → All P passed
 passed_on P items passed e all = subst (All P) (sym e) all
 

@@ -1,4 +1,4 @@
--- Of the sections to which some relocations apply, that which starts last and that which ends first.
+-- Of the sections that some relocations apply to, the one that starts last and the one that ends first.
 use Rattle.std.proofs.Common.{◌≡◌, ◌∙◌, ap, sym, refl, subst, ℕ, ◌≤◌, ◌<◌, List, [], ◌∷◌, ◌++◌, arith, Bool, if◌then◌else◌, length}
 use Rattle.std.proofs.Common.{⊎_elim, ◌⊎◌, inl, inr}
 use Rattle.std.specs.List.{range_with_len, Contains, count_by}
@@ -58,14 +58,14 @@ sooner s t P less more = ⊎_elim
     subst P (sym (ap (λ (b : Bool). if b then t else s) (le-ltb (end_of t) (end_of s) up))) (more up))
     (cases_lt (end_of t) (end_of s))
 
--- The two sections that are kept of some.
+-- The two sections that are kept.
 pub record AreBounds (all : List Section) (last first : Section) : Type 0 where
   pub has_last : Contains all last
   pub has_first : Contains all first
   pub starts : (s : Section) → Contains all s → s.addr ≤ last.addr
   pub ends : (s : Section) → Contains all s → end_of first ≤ end_of s
 
--- what a run says of the sections to which it applies
+-- The order of a run's two sections.
 abbrev pub AreInOrder : AppliesTo → Type 0
 AreInOrder a = ((first_end a).addr ≤ (last_start a).addr) × (end_of (first_end a) ≤ end_of (last_start a))
 
@@ -99,7 +99,7 @@ joined-bounds a b of_a of_b = record {
     all : List Section
     all = sections_of a ++ sections_of b
 
--- the relocations for two sections of some, which are not just one
+-- The relocations for two different sections.
 module _ (file : List ℕ) (phase a n : ℕ) where
   for_another : (s t : Section) (r : Relocation) → Contains (span file phase a n s) r →
       Contains (span file phase a n t) (for_section t r) × (r.section.addr ≡ s.addr) × (end_of r.section ≡ end_of s)
@@ -111,7 +111,7 @@ module _ (file : List ℕ) (phase a n : ℕ) where
         sym (ap (λ (q : Relocation). end_of q.section) same),
       )
 
-  -- a test that doesn't ask for the section passes as often for each
+  -- A test that ignores the section passes equally often for each section.
   abbrev passing : (Relocation → Bool) → Section → ℕ
   passing test s = count_by (λ (k : ℕ). test (entry file phase s k)) (range_with_len a n)
 

@@ -1,4 +1,4 @@
--- What selects routines when a program starts, and what says that a file was rewritten before.
+-- Signs of routines that are selected when a program starts, and of files that were rewritten before.
 use Rattle.std.proofs.Common.{◌≡◌, ◌≢◌, ◌%◌, ℕ, ◌⊎◌, inl, inr, Option}
 use Rattle.elf_image.specs.declared.elf.Elf.{Elf}
 use Rattle.elf_image.specs.declared.section.Section.{Section}

@@ -1,4 +1,4 @@
--- Entries of the global offset table that lower parts name.
+-- GOT entries that lower parts refer to.
 use Rattle.std.proofs.Common.{◌≡◌, ◌∙◌, sym, subst, refl, ℕ, ◌≤◌, ◌^◌, ℤ, pos, ◌↔◌, Bool, IsTrue, List, arith}
 use Rattle.std.specs.List.{Contains}
 use Rattle.elf_image.specs.declared.elf.Elf.{Elf}
@@ -30,7 +30,7 @@ slot-missing elf l z f low only none is =
     let below = number-low elf is.slot 7 is.entry.field.to low is.entry.field.loaded in
     omega arith
 
--- what names an entry is among the labels
+-- A relocation for a GOT entry has its label in the list.
 pub label-listed : (elf : Elf) (labels : List SlotLabel) (hi to : ℕ) → AreSlotLabels elf labels → NamesEntry elf hi to →
     HasLabelAt labels hi
 label-listed elf labels hi to are n =
@@ -45,7 +45,7 @@ label-listed elf labels hi to are n =
       place_is = refl;
     }
 
--- the label of an entry, as it is looked up
+-- The label of an entry, as it is searched.
 pub names-by_label : (elf : Elf) (labels : List SlotLabel) (hi to : ℕ) (y : ℤ) (r : Bool) →
     AreSlotLabels elf labels → y ≡ pos to →
     IsTrue r ↔ Contains labels (record { place = hi; label = y }) → IsTrue r ↔ NamesEntry elf hi to

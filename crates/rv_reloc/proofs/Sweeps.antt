@@ -41,7 +41,7 @@ pub not_above : (f g : Field) → IsFieldBefore f g → f.place ≤ g.place
 not_above f g (inl lower) = omega arith
 not_above f g (inr (same, rest)) = omega arith
 
--- No field both counts and doesn't.
+-- No field both counts and doesn't count.
 
 pub counts_once : {elf : Elf} {tabled : List (ℕ × ℕ)} (f : Field) → Counts elf tabled f true → Counts elf tabled f false → ⊥
 counts_once f wins gives = no_both f true wins gives
@@ -51,7 +51,7 @@ counts_once f wins gives = no_both f true wins gives
 abbrev pub Earlier : List Field → ℕ → Field → Type 0
 Earlier fields i f = (k : ℕ) × (k < i) × (slice_index_or fields k f ≡ f)
 
--- the first fields are judged: those that count are kept, and end below a bound
+-- The first fields are done: those that count are kept, and end at or before a bound.
 pub record IsSweptTo (elf : Elf) (tabled : List (ℕ × ℕ)) (fields : List Field) (i : ℕ) (kept : List Field)
     (reach : ℕ) : Type 0 where
   pub judged : (f : Field) → Earlier fields i f → Contains kept f ⊎ Counts elf tabled f false
@@ -74,7 +74,7 @@ IsSweptTo-begin elf tabled fields = record {
   ordered = λ i j d less within. absurd (omega arith);
 }
 
--- a field that is before the one of an index has a lower index
+-- A field that is before the field with index i has a lower index.
 earlier_if_before : (elf : Elf) (tabled : List (ℕ × ℕ)) (fields : List Field) (i : ℕ) (x g : Field) →
     AreCandidates elf tabled fields →
     i < length fields → x ≡ slice_index_or fields i x → CanBeCell elf tabled g → IsFieldBefore g x → Earlier fields i g
@@ -114,7 +114,7 @@ earlier_cases fields i x f within is (k, below, there) =
 later : (fields : List Field) (i : ℕ) (f : Field) → Earlier fields i f → Earlier fields (i + 1) f
 later fields i f (k, below, there) = (k, omega arith, there)
 
--- a field gives way to one that reaches into it
+-- A field doesn't count if an earlier field that counts reaches into it.
 pub IsSweptTo-drops : (elf : Elf) (tabled : List (ℕ × ℕ)) (fields kept : List Field) (i reach : ℕ) (x : Field) →
     AreCandidates elf tabled fields → i < length fields → x ≡ slice_index_or fields i x → x.place < reach →
     IsSweptTo elf tabled fields i kept reach → IsSweptTo elf tabled fields (i + 1) kept reach
@@ -146,7 +146,7 @@ IsSweptTo-drops elf tabled fields kept i reach x are within is low to = record {
         (λ (g, is_in, ends). gives g is_in ends (up_to_if_earlier elf tabled fields i x g are within is (to.earlier g is_in)))
         to.reached
 
--- a field that nothing reaches into counts
+-- A field that no kept field reaches into counts.
 pub IsSweptTo-keeps : (elf : Elf) (tabled : List (ℕ × ℕ)) (fields kept : List Field) (i reach : ℕ) (x : Field) →
     AreCandidates elf tabled fields → i < length fields → x ≡ slice_index_or fields i x → reach ≤ x.place →
     IsSweptTo elf tabled fields i kept reach → IsSweptTo elf tabled fields (i + 1) (kept ++ x ∷ []) (x.place + x.width)
@@ -186,7 +186,7 @@ IsSweptTo-all elf tabled fields kept i reach are all to = record {
   ordered = to.ordered;
 }
 
--- the same of the list that a push gives
+-- The list after a push.
 pub IsSweptTo-pushed : (elf : Elf) (tabled : List (ℕ × ℕ)) (fields kept now : List Field) (i reach : ℕ) (x : Field) → now ≡ kept
     ++ x ∷ [] → AreCandidates elf tabled fields → i < length fields → x ≡ slice_index_or fields i x → reach ≤ x.place →
     IsSweptTo elf tabled fields i kept reach → IsSweptTo elf tabled fields (i + 1) now (x.place + x.width)

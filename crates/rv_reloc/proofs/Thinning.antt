@@ -1,4 +1,4 @@
--- Relocations of which some are left out: in another order, one list behind another, and one after another.
+-- Lists without some relocations: in another order, concatenated, and composed.
 use Rattle.std.proofs.Common.{◌≡◌, ◌∙◌, ap, sym, subst, ℕ, ◌+◌, ◌≤◌, ◌⊎◌, inl, inr, Bool, List, [], ◌∷◌, ◌++◌}
 use Rattle.std.proofs.Common.{cond, arith, ⊎_elim, append_assoc}
 use Rattle.std.specs.List.{count_by, Contains, flat_map}
@@ -17,7 +17,7 @@ use Rattle.rv_reloc.specs.Thinned.{for_section, IsThinned}
 pub moved-same : {A : Type 0} (xs ys : List A) → xs ≡ ys → IsPermutation xs ys
 moved-same xs ys same = subst (IsPermutation xs) same (IsPermutation-refl xs)
 
--- of four lists those in the middle change places
+-- The middle two of four lists are swapped.
 pub moved-middle : {A : Type 0} (a b c d : List A) → IsPermutation ((a ++ b) ++ (c ++ d)) ((a ++ c) ++ (b ++ d))
 moved-middle {A} a b c d =
     subst (λ (xs : List A). IsPermutation xs ((a ++ c) ++ (b ++ d))) (sym (append_assoc a b (c ++ d)))
@@ -30,7 +30,7 @@ moved-middle {A} a b c d =
         (subst (λ (xs : List A). IsPermutation ((b ++ c) ++ d) xs) (append_assoc c b d)
         (IsPermutation-append_left d (b ++ c) (c ++ b) (IsPermutation-append_comm b c)))
 
--- what each item gives in two parts
+-- Two lists for each item.
 pub moved-parts : {X A : Type 0} (f g : X → List A) (xs : List X) →
     IsPermutation (flat_map (λ x. f x ++ g x) xs) (flat_map f xs ++ flat_map g xs)
 moved-parts f g [] = IsPermutation-refl []
@@ -45,7 +45,7 @@ moved-parts {X} {A} f g (x ∷ xs) =
     (IsPermutation-append_right (f x ++ g x) (flat_map (λ y. f y ++ g y) xs) (flat_map f xs ++ flat_map g xs) (moved-parts f g xs))
     (moved-middle (f x) (g x) (flat_map f xs) (flat_map g xs))))
 
--- Relocations that are left out.
+-- Lists without some relocations.
 
 pub count-append : {A : Type 0} (test : A → Bool) (xs ys : List A) →
     count_by test (xs ++ ys) ≡ count_by test xs + count_by test ys
@@ -62,7 +62,7 @@ thinned-moved full kept moved = record {
 pub thinned-all : (full : List Relocation) → IsThinned full full
 thinned-all full = thinned-moved full full (IsPermutation-refl full)
 
--- the counts of three lists
+-- The counts in three lists.
 counts-trans : (a b c : ℕ) → (b ≡ a) ⊎ ((2 ≤ b) × (2 ≤ a)) → (c ≡ b) ⊎ ((2 ≤ c) × (2 ≤ b)) → (c ≡ a) ⊎ ((2 ≤ c) × (2 ≤ a))
 counts-trans a b c (inl same) (inl same') = inl (same' ∙ same)
 counts-trans a b c (inl same) (inr (two, two')) = inr (two, omega arith)
@@ -84,7 +84,7 @@ thinned-trans a b c first second = record {
       counts-trans (count_by test a) (count_by test b) (count_by test c) (first.counts test same) (second.counts test same);
 }
 
--- the counts of two pairs of lists
+-- The counts in two pairs of lists.
 counts-sum : (a b c d : ℕ) → (b ≡ a) ⊎ ((2 ≤ b) × (2 ≤ a)) → (d ≡ c) ⊎ ((2 ≤ d) × (2 ≤ c)) →
     (b + d ≡ a + c) ⊎ ((2 ≤ b + d) × (2 ≤ a + c))
 counts-sum a b c d (inl same) (inl same') = inl (omega arith)
@@ -117,7 +117,7 @@ thinned-append a b c d left right = record {
       (sym of_full) sum);
 }
 
--- Two lists of what is done and of what two sources have left, in place of both.
+-- One list of finished runs and of the rest of two sources, in place of both sources.
 
 pub thinned-swapped : (done l r done' l' r' : List Relocation) → IsThinned (done ++ (r ++ l)) (done' ++ (r' ++ l')) →
     IsThinned (done ++ (l ++ r)) (done' ++ (l' ++ r'))
@@ -129,15 +129,15 @@ thinned-swapped done l r done' l' r' is =
     (thinned-moved (done' ++ (r' ++ l')) (done' ++ (l' ++ r'))
     (IsPermutation-append_right done' (r' ++ l') (l' ++ r') (IsPermutation-append_comm r' l'))))
 
--- the first of the left one is done
+-- The first run of the left source is done.
 pub thinned-done : (done one l r : List Relocation) → IsThinned (done ++ ((one ++ l) ++ r)) ((done ++ one) ++ (l ++ r))
 thinned-done done one l r =
     thinned-moved (done ++ ((one ++ l) ++ r)) ((done ++ one) ++ (l ++ r))
     (moved-same (done ++ ((one ++ l) ++ r)) ((done ++ one) ++ (l ++ r))
     (ap (λ (xs : List Relocation). done ++ xs) (append_assoc one l r) ∙ sym (append_assoc done one (l ++ r))))
 
--- The first of both have parts in common: what comes before them is done, what comes behind them is left, and of what is
--- common something is left out.
+-- The first runs of both sources have common entries: the entries before them are done, the entries after them are
+-- left, and some of the common relocations are left out.
 pub thinned-common : (done one l two r before common behind common' behind' kept : List Relocation) →
     IsPermutation one (before ++ (common ++ behind)) → IsPermutation two (common' ++ behind') →
     IsThinned (common ++ common') kept →

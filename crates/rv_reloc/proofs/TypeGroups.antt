@@ -1,9 +1,9 @@
--- Types that are of one group are of no other.
+-- Groups of types are disjoint.
 use Rattle.std.proofs.Common.{◌≡◌, ℕ, ◌≤◌, ◌⊎◌, inl, inr, ⊎_elim, ◌==◌, ◌||◌, IsTrue, arith}
 use Rattle.std.proofs.lemmas.Bool.{or_cases, eqb-true}
 use Rattle.elf_code.specs.Relocations.{is_call_pair, is_pcrel_hi, is_pcrel_lo}
 
--- from one type on to another
+-- A range of types.
 abbrev pub Between : ℕ → ℕ → ℕ → Type 0
 Between low high kind = (low ≤ kind) × (kind ≤ high)
 

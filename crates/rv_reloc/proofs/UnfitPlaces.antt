@@ -1,4 +1,4 @@
--- The lowest place of a relocation that doesn't fit, by those that are kept.
+-- The lowest place of a relocation that doesn't fit, from the kept records.
 use Rattle.std.proofs.Common.{◌≡◌, ◌∙◌, sym, subst, ap, refl, ℕ, ◌+◌, ◌-◌, ◌≤◌, ◌<◌, inl, inr, ⊎_elim}
 use Rattle.std.proofs.Common.{List, Option, Some, None, IsSomeAnd, map, length, arith}
 use Rattle.std.specs.List.{Contains}
@@ -22,8 +22,9 @@ use Rattle.rv_reloc.proofs.Alike.{call-for, upper-for, lower-for, absolute-for, 
 use Rattle.rv_reloc.proofs.Faulty.{of_record}
 use Rattle.rv_reloc.proofs.Lebs.{bytes-from}
 
--- The field of a relocation lies in each section to which it applies where it lies in one that starts no sooner, and in one that
--- ends no later.
+-- A relocation's field is in each section that the relocation applies to, if it is in one that starts at the same
+-- address or later and in
+-- one that ends at the same address or earlier.
 
 leb_more : (elf : Elf) (a n m : ℕ) (bs : List ℕ) → leb_at elf a n ≡ Some bs → n ≤ m → leb_at elf a m ≡ Some bs
 leb_more elf a n m bs is upto =
@@ -65,7 +66,8 @@ field-between elf s t r starts ends (inr is) (inr is') =
     inr (subst (λ (o : Option ℕ). IsSomeAnd o (λ size. (r.section.addr ≤ r.place) × (r.place + size ≤ end_of r.section)))
     (sym (size-more elf r.section t r ends m size')) (omega (arith, starts, low), omega (arith, ends, high')))
 
--- The lowest place of a set of which each place is one of another, and in which no place of the other can be missed.
+-- The lowest place of a set, if each of its places is in another set, and each place of the other set is, up to double
+-- negation, in it.
 lowest-denied : {P Q : ℕ → Type 0} (o : Option ℕ) → ((p : ℕ) → P p → Q p) → ((p : ℕ) → Q p → (P p → ⊥) → ⊥) →
     IsLowest P o → IsLowest Q o
 lowest-denied None to from is = record { present = is.present; least = λ p q. absurd (from p q (λ here. is.least p here)) }
@@ -81,7 +83,7 @@ module _ (elf : Elf) (records : List Record) (are : AreRecords elf records) wher
   abbrev unfit_at : ℕ → Type 0
   unfit_at = IsPlaceOf (λ (q : Record). q.place) (λ (q : Record). IsUnfit elf (seen q)) records
 
-  -- where no kept relocation doesn't fit, one that is kept for a section fits
+  -- If all kept relocations fit, a relocation that is kept for a section fits.
   fits : (p : ℕ) (r : Relocation) (s : Section) → r.place ≡ p → Contains (map seen records) (for_section s r) →
       (unfit_at p → ⊥) → IsUnfit elf (for_section s r) → ⊥
   fits p r s place listed none bad =

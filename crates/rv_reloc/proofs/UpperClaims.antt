@@ -1,4 +1,4 @@
--- The claims that upper and lower parts of distances make.
+-- The claims of upper and lower parts of distances.
 use Rattle.std.proofs.Common.{◌≡◌, ◌≢◌, ◌∙◌, sym, subst, ap, refl, ℕ, ℤ, pos, ⊎_elim, IsTrue, Some, arith}
 use Rattle.std.specs.List.{Contains}
 use Rattle.rv_code.specs.declared.placed.Role.{Role}
@@ -17,7 +17,7 @@ use Rattle.rv_reloc.proofs.PairTargets.{low_of_upper, upper_low, upper_target, t
 
 -- Upper parts.
 
--- what a claim of an upper part is
+-- A claim of an upper part.
 pub upper_view : (elf : Elf) (q : Relocation) (a key : ℕ) (role : Role) → IsTrue (is_pcrel_hi q.kind) → Claims elf q a key role →
     (target : ℕ) × PcrelHiTo elf q (pos target) × (a ≡ q.place) × (key ≡ q.place) × (role ≡ Hi target)
 upper_view elf q a key role is (Claims.call_hi target to here key_is role_is) =
@@ -34,7 +34,7 @@ upper_view elf q a key role is (Claims.abs_hi target to kind rd imm full here ke
 upper_view elf q a key role is (Claims.abs_lo target to kind inst full some here key_is role_is) =
     let x = hi_kind q.kind is in let y = low_kind q.kind kind in absurd (omega arith)
 
--- all lower parts of one AUIPC are the same
+-- All lower parts of one AUIPC are the same.
 same_low : (elf : Elf) (l m : Low) → ((place : ℕ) → IsLoMismatch elf place → ⊥) → IsLowPart elf l →
     IsLowPart elf m → l.hi ≡ m.hi → l ≡ m
 same_low elf l m alike one other here =
@@ -51,7 +51,7 @@ same_low elf l m alike one other here =
     })))
     (same_or_not l.imm m.imm)
 
--- the target of an upper part is that of a lower part
+-- The target of an upper part is that of a lower part.
 upper_same : (elf : Elf) (q : Relocation) (a : ℕ) (l : Low) (z : ℤ) →
     ((place : ℕ) → IsLoMismatch elf place → ⊥) → IsLowPart elf l → l.hi ≡ a → a ≡ q.place → PcrelHiTo elf q z → IsTargetOf elf l z
 upper_same elf q a l z alike low here there to =
@@ -76,7 +76,7 @@ upper-claim elf r l t alike counts is low here target once = record {
       ∙ ap Hi (pos_same target' t (once (pos target') (upper_same elf q r.place l (pos target') alike low here there to)));
 }
 
--- it makes an address
+-- The target is an address.
 pub upper-address : (elf : Elf) (r : Relocation) (l : Low) (z : ℤ) →
     ((place : ℕ) → IsLoMismatch elf place → ⊥) → (IsMisfit elf r → ⊥) →
     IsLowPart elf l → l.hi ≡ r.place → PcrelHiTo elf r z → (IsTargetOf elf l z → IsAddress z → ⊥) → ⊥
@@ -101,7 +101,7 @@ lower_view elf q a key role is (Claims.abs_hi target to kind rd imm full here ke
 lower_view elf q a key role is (Claims.abs_lo target to kind inst full some here key_is role_is) =
     let x = lo_kind q.kind is in let y = low_kind q.kind kind in absurd (omega arith)
 
--- the lower part of a relocation of the same type at the same place is the same
+-- The lower part of a relocation of the same type at the same place is the same.
 lower_of : (elf : Elf) (r q : Relocation) (hi : ℕ) (lower : ℤ) → q.kind ≡ r.kind → r.place ≡ q.place → symbol_value elf r ≡ hi →
     PcrelLo elf q hi lower → IsLowOf elf r (record { hi = hi; imm = lower })
 lower_of elf r q hi lower kind here names part = record {
@@ -148,7 +148,7 @@ lower-claim elf r l t counts is low only target once = record {
       role_is ∙ (λ i. Lo (sym key_is i) (there i));
 }
 
--- it makes an address
+-- The target is an address.
 pub lower-address : (elf : Elf) (r : Relocation) (l : Low) (z : ℤ) →
     ((q : Relocation) → Contains (relocations elf) q → IsMisfit elf q → ⊥) → Contains (relocations elf) r →
     IsTrue (is_pcrel_lo r.kind) → IsLowOf elf r l → IsTargetOf elf l z → (IsAddress z → ⊥) → ⊥

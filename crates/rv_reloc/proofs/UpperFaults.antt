@@ -10,7 +10,7 @@ use Rattle.rv_reloc.specs.Lows.{IsLowOf}
 use Rattle.rv_reloc.specs.NamedAddresses.{AreNamed}
 use Rattle.rv_reloc.proofs.Absolutes.{immediate_some}
 
--- upper parts
+-- Upper parts.
 
 pub bad-is_hi : (elf : Elf) (r : Relocation) → IsBadUpper elf r → IsTrue (is_pcrel_hi r.kind)
 bad-is_hi elf r (IsBadUpper.no_auipc is refuted) = is
@@ -47,7 +47,7 @@ upper-auipc elf a true false auipc is_upper is_call = (
   λ _. refl,
 )
 
--- lower parts
+-- Lower parts.
 
 pub bad-is_lo : (elf : Elf) (r : Relocation) → IsBadLower elf r → IsTrue (is_pcrel_lo r.kind)
 bad-is_lo elf r (IsBadLower.no_lower is refuted) = is

@@ -1,4 +1,4 @@
--- The sections to which relocations apply, as far as they are kept.
+-- The sections that a relocation applies to, as far as they are kept.
 use Rattle.std.specs.Prelude.{ℕ, ◌+◌, nat_lt, if◌then◌else◌, List, [], ◌∷◌}
 use Rattle.elf_image.specs.declared.section.Section.{Section}
 use Rattle.rv_reloc.specs.declared.applies_to.AppliesTo.{AppliesTo}
@@ -11,7 +11,7 @@ abbrev pub sections_of : AppliesTo → List Section
 sections_of (One s) = s.now ∷ []
 sections_of (Several last first) = last.now ∷ first.now ∷ []
 
--- the section that starts last, and the one that ends first
+-- The section that starts last, and the section that ends first.
 abbrev pub last_start : AppliesTo → Section
 last_start (One s) = s.now
 last_start (Several last first) = last.now
@@ -20,7 +20,7 @@ abbrev pub first_end : AppliesTo → Section
 first_end (One s) = s.now
 first_end (Several last first) = first.now
 
--- the section of two that starts later, and the one that ends sooner
+-- Of two sections, the one that starts later, and the one that ends earlier.
 
 abbrev pub later_start : Section → Section → Section
 later_start s t = if nat_lt s.addr t.addr then t else s
@@ -28,6 +28,6 @@ later_start s t = if nat_lt s.addr t.addr then t else s
 abbrev pub sooner_end : Section → Section → Section
 sooner_end s t = if nat_lt (end_of t) (end_of s) then t else s
 
--- the sections to which relocations apply that apply to those of both
+-- The kept sections of two lists of sections together.
 abbrev pub joined : AppliesTo → AppliesTo → List Section
 joined a b = later_start (last_start a) (last_start b) ∷ sooner_end (first_end a) (first_end b) ∷ []

@@ -1,4 +1,4 @@
--- The fields that can be cells, as they are found: one relocation, and one lower part, after another.
+-- Fields that can be cells, as the code finds them: from one relocation or one lower part after another.
 use Rattle.std.specs.Prelude.{◌≡◌, ℕ, ◌+◌, ◌/◌, ◌<◌, ℤ, IsTrue, IsSome, IsSomeAnd, IfSome, List, Option, Some, None}
 use Rattle.elf_image.specs.declared.elf.Elf.{Elf}
 use Rattle.elf_code.specs.Cells.{Field, Address, Difference, address_width, IsDifference, can_be_cell, HasCodeLabel}
@@ -11,17 +11,17 @@ use Rattle.rv_reloc.specs.declared.differences.Difference.{Difference as LabelDi
 use Rattle.rv_reloc.specs.declared.labels.FieldWidth.{FieldWidth}
 use Rattle.rv_reloc.specs.declared.labels.FieldWidth.TheVariants.{Bits6, Bits8, Bits16, Bits32, Bits64, Uleb128}
 
--- all bytes of a field come from the file, and none is one of its headers
+-- All bytes of a field come from the file, and none is in the file's headers.
 pub record AreFree (elf : Elf) (place width : ℕ) : Type 0 where
   pub from_file : (i : ℕ) → i < width → IsSome (file_offset elf.segments.items (place + i))
   pub no_header : (i : ℕ) → i < width →
       IfSome (file_offset elf.segments.items (place + i)) (λ offset. IsInHeaders elf offset → ⊥)
 
--- a byte comes from the file, and isn't one of its headers
+-- A byte comes from the file, and isn't in the file's headers.
 abbrev pub IsFreeByte : Elf → ℕ → Type 0
 IsFreeByte elf a = IsSomeAnd (file_offset elf.segments.items a) (λ offset. IsInHeaders elf offset → ⊥)
 
--- a field of so many bytes at a place holds a code address
+-- A field of `width` bytes at `place` contains a code address.
 pub record IsCodeField (elf : Elf) (place width : ℕ) (f : Field) : Type 0 where
   pub place_is : f.place ≡ place
   pub width_is : f.width ≡ width
@@ -31,7 +31,7 @@ pub record IsCodeField (elf : Elf) (place width : ℕ) (f : Field) : Type 0 wher
   pub content_is : f.content ≡ Address to
   pub free : AreFree elf place width
 
--- a field holds the difference of two labels, and not of two in one whole function
+-- A field contains the difference of two labels that aren't both in the same whole function.
 pub record IsDifferenceField (elf : Elf) (tabled : List (ℕ × ℕ)) (r : Relocation) (f : Field) : Type 0 where
   pub bits : ℕ
   pub to : ℤ
@@ -45,7 +45,7 @@ pub record IsDifferenceField (elf : Elf) (tabled : List (ℕ × ℕ)) (r : Reloc
   pub content_is : f.content ≡ Difference to from
   pub free : AreFree elf r.place (bits / 8)
 
--- the bytes of a difference that can be a cell
+-- The number of bytes of a difference that can be a cell.
 abbrev pub cell_bytes : FieldWidth → Option ℕ
 cell_bytes Bits32 = Some 4
 cell_bytes Bits64 = Some 8
@@ -54,7 +54,7 @@ cell_bytes Bits8 = None
 cell_bytes Bits16 = None
 cell_bytes Uleb128 = None
 
--- a field holds a difference of such a width, and not of two labels in one whole function
+-- A field contains a difference of this width, of two labels that aren't both in the same whole function.
 pub record IsCellField (elf : Elf) (tabled : List (ℕ × ℕ)) (place : ℕ) (d : LabelDifference) (f : Field) : Type 0 where
   pub has_code : HasCodeLabel elf d.to d.from
   pub across : IsInOneWhole elf tabled d.to d.from → ⊥
@@ -63,7 +63,7 @@ pub record IsCellField (elf : Elf) (tabled : List (ℕ × ℕ)) (place : ℕ) (d
   pub content_is : f.content ≡ Difference d.to d.from
   pub free : AreFree elf place f.width
 
--- a relocation's field can be a cell
+-- A relocation's field can be a cell.
 pub data IsFieldOf (elf : Elf) (tabled : List (ℕ × ℕ)) (r : Relocation) (f : Field) : Type 0 where
   pointer : IsTrue (is_address r.kind) → IsCodeField elf r.place (address_width r.kind) f → IsFieldOf elf tabled r f
   difference : IsDifferenceField elf tabled r f → IsFieldOf elf tabled r f

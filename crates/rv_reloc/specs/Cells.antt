@@ -1,4 +1,4 @@
--- Cells as they are made of the fields that count.
+-- Cells, as made from the fields that count.
 use Rattle.std.specs.Int.RustNames.{unsigned_abs}
 use Rattle.rv_code.specs.declared.cell.CodeCell.{CodeCell}
 use Rattle.rv_code.specs.declared.cell.CellKind.{CellKind}
@@ -8,7 +8,7 @@ use Rattle.rv_reloc.specs.declared.sweep.Candidate.{Candidate}
 use Rattle.rv_reloc.specs.declared.sweep.Content.{Content}
 use Rattle.rv_reloc.specs.declared.sweep.Content.TheVariants.{Address, Difference}
 
--- all labels of a content are addresses
+-- All labels in the content are addresses.
 abbrev pub AreAddresses : Content → Type 0
 AreAddresses (Address to) = Unit {0}
 AreAddresses (Difference to from) = IsAddress to × IsAddress from

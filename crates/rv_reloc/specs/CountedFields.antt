@@ -1,4 +1,4 @@
--- Which of the fields that can be cells count, as a sweep over them finds them.
+-- The fields that count among those that can be cells, as a sweep finds them.
 use Rattle.std.specs.Prelude.{◌≡◌, ◌⊎◌, ◌<◌, ◌≤◌, ◌+◌, ℕ, ◌<ℤ◌, ◌≤ℤ◌, true, List, Contains, AllPairs}
 use Rattle.elf_image.specs.declared.elf.Elf.{Elf}
 use Rattle.elf_code.specs.Cells as cells
@@ -14,7 +14,7 @@ content (Difference to from) = cells.Difference to from
 abbrev pub as_field : Candidate → cells.Field
 as_field c = record { place = c.place; width = c.width; content = content c.content }
 
--- The order of a sort by place, width and content, in which two addresses are told apart too.
+-- The sort order by place, width and content. It also distinguishes two addresses.
 
 abbrev pub IsContentUpTo : cells.Content → cells.Content → Type 0
 IsContentUpTo (cells.Address to) (cells.Address to') = to ≤ to'
@@ -27,18 +27,18 @@ IsKeyUpTo f g =
     (f.place < g.place)
     ⊎ ((f.place ≡ g.place) × ((g.width < f.width) ⊎ ((f.width ≡ g.width) × IsContentUpTo f.content g.content)))
 
--- a field comes before another, or is the same
+-- The field comes before another, or is equal to it.
 abbrev pub IsFieldUpTo : cells.Field → cells.Field → Type 0
 IsFieldUpTo f g = IsFieldBefore f g ⊎ (f ≡ g)
 
--- all fields that can be cells, in their order; a field may be listed several times
+-- All fields that can be cells, sorted. A field may occur several times.
 pub record AreCandidates (elf : Elf) (tabled : List (ℕ × ℕ)) (fields : List cells.Field) : Type 0 where
   pub only : (f : cells.Field) → Contains fields f → CanBeCell elf tabled f
   pub each : (f : cells.Field) → CanBeCell elf tabled f → Contains fields f
   pub ordered : AllPairs IsFieldUpTo fields
   pub has_bytes : (f : cells.Field) → Contains fields f → 0 < f.width
 
--- the fields that count, by address, with no byte in two of them
+-- The fields that count, by address, with no byte in two of them.
 pub record AreCounted (elf : Elf) (tabled : List (ℕ × ℕ)) (fields : List cells.Field) : Type 0 where
   pub only : (f : cells.Field) → Contains fields f → Counts elf tabled f true
   pub each : (f : cells.Field) → Counts elf tabled f true → Contains fields f

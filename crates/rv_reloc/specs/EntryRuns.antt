@@ -1,4 +1,4 @@
--- Relocations that stand one behind another, by their numbers: the one of number k stands at the offset `phase` + 24 k.
+-- Runs of consecutive relocation entries. The entry with number k is at file offset `phase` + 24 k.
 use Rattle.std.specs.Prelude.{◌≡◌, ◌≤◌, ℕ, ◌+◌, ◌-◌, ◌*◌, List, ◌++◌, All, map}
 use Rattle.std.specs.List.{range_with_len, flat_map}
 use Rattle.elf_image.specs.declared.section.Section.{Section}
@@ -10,7 +10,7 @@ use Rattle.rv_reloc.specs.AppliesTo.{sections_of, joined}
 abbrev pub entry : List ℕ → ℕ → Section → ℕ → Relocation
 entry file phase section k = relocation_at file section (phase + RELA_SIZE * k)
 
--- the relocations of a run, as they apply to one section
+-- The relocations of a run for one section.
 abbrev pub numbered : List ℕ → EntryRun → Section → List Relocation
 numbered file run section = map (entry file run.phase section) (range_with_len run.first (run.end - run.first))
 
@@ -20,25 +20,25 @@ run_entries file run = flat_map (numbered file run) (sections_of run.applies_to)
 abbrev pub entries : List ℕ → List EntryRun → List Relocation
 entries file runs = flat_map (run_entries file) runs
 
--- a run lies in a file of so many bytes
+-- All entries of the run are in a file of `size` bytes.
 abbrev pub IsWholeRun : ℕ → EntryRun → Type 0
 IsWholeRun size run = run.phase + RELA_SIZE * run.end ≤ size
 
--- a run is the part of another from one number to another
+-- `part` has the entries of `run` from number `first` to before `end`.
 pub record IsPart (run : EntryRun) (first end : ℕ) (part : EntryRun) : Type 0 where
   pub sections_are : sections_of part.applies_to ≡ sections_of run.applies_to
   pub phase_is : part.phase ≡ run.phase
   pub first_is : part.first ≡ first
   pub end_is : part.end ≡ end
 
--- a run is what two have in common, from one number to another
+-- `common` has the shared entries of two runs, from number `first` to before `end`.
 pub record IsCommon (run other : EntryRun) (first end : ℕ) (common : EntryRun) : Type 0 where
   pub sections_are : sections_of common.applies_to ≡ joined run.applies_to other.applies_to
   pub phase_is : common.phase ≡ run.phase
   pub first_is : common.first ≡ first
   pub end_is : common.end ≡ end
 
--- Runs that are made one list: those that are done, and those that are left of two lists.
+-- Two lists of runs that are merged: the merged runs so far, and the rest of both lists.
 
 abbrev pub all_entries : List ℕ → List EntryRun → List EntryRun → List EntryRun → List Relocation
 all_entries file done left right = entries file done ++ (entries file left ++ entries file right)

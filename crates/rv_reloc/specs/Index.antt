@@ -1,5 +1,5 @@
--- The classes by which the relocations of one place are looked up: calls, upper parts, and labels that are added or
--- set, or subtracted, for each width.
+-- Classes for searching the relocations of one address: calls, upper parts, and labels that are added or set, or
+-- subtracted, for each width.
 use Rattle.std.specs.Prelude.{ℕ, ◌+◌, ◌*◌, if◌then◌else◌, Bool, Option, Some, None}
 use Rattle.elf_code.specs.Relocations.{Width, Bits, Uleb128, plus_width, minus_width, is_call_pair, is_pcrel_hi}
 
@@ -25,7 +25,7 @@ other_class = 2
 abbrev pub class_if : Bool → Bool → ℕ
 class_if call upper = if call then call_class else if upper then upper_class else other_class
 
--- the class of a type that is for no label of a difference
+-- The class of a type that isn't for a label of a difference.
 abbrev pub class_beside : ℕ → ℕ
 class_beside kind = class_if (is_call_pair kind) (is_pcrel_hi kind)
 
@@ -34,6 +34,6 @@ class_by (Some width) minus call upper = plus_class width
 class_by None (Some width) call upper = minus_class width
 class_by None None call upper = class_if call upper
 
--- the class of a type
+-- The class of a type.
 unfoldable pub class : ℕ → ℕ
 class kind = class_by (plus_width kind) (minus_width kind) (is_call_pair kind) (is_pcrel_hi kind)

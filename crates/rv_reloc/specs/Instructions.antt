@@ -1,4 +1,4 @@
--- The instructions that references look for, by the fields that count.
+-- The instructions that references need, with the fields that matter.
 use Rattle.std.specs.Prelude.{◌≡◌, ◌≢◌, ◌⊎◌, ℕ, pos, IsSomeAnd, Option, Some, None}
 use Rattle.rv_code.specs.isa.HiLo.{hi20, lo12}
 use Rattle.elf_image.specs.declared.relocation.TheConstants.{R_RISCV_HI20}
@@ -20,7 +20,7 @@ abbrev pub jalr_of : Inst → Option Jump
 jalr_of (Jalr rd base imm) = Some (record { base = base; imm = imm })
 jalr_of _ = None
 
--- an instruction has the part of an address for which a type of relocation stands
+-- An instruction has the part of an address that belongs to a type of relocation.
 abbrev pub HasUpper : Option Upper → ℕ → Type 0
 HasUpper o target = IsSomeAnd o (λ u. u.imm ≡ hi20 (pos target))
 

@@ -1,4 +1,4 @@
--- Labels and how wide a field is for them, as they are kept.
+-- Labels and widths of fields, as the code represents them.
 use Rattle.std.specs.Prelude.{ℤ, pos, ◌<ℤ◌, ◌≤ℤ◌, ◌+ℤ◌, ◌^◌}
 use Rattle.elf_code.specs.Relocations as relocations
 use Rattle.rv_reloc.specs.declared.labels.FieldWidth.{FieldWidth}
@@ -12,7 +12,7 @@ width_of Bits32 = relocations.Bits 32
 width_of Bits64 = relocations.Bits 64
 width_of Uleb128 = relocations.Uleb128
 
--- the sum of an address and an addend, both of 64 bits, can be this number
+-- The number can be the sum of a 64-bit address and a 64-bit addend.
 pub record IsLabelSize (z : ℤ) : Type 0 where
   pub least : pos 0 ≤ℤ (z +ℤ pos (2 ^ 63))
   pub below : z <ℤ pos (2 ^ 65)

@@ -1,4 +1,4 @@
--- The lower parts of a file, by the AUIPC that they name.
+-- The lower parts of a file, by their AUIPCs.
 use Rattle.std.specs.Prelude.{◌≡◌, ◌≢◌, ◌↔◌, ◌+◌, ◌<◌, ℕ, length, slice_index_or, List, Some, Contains, IsTrue}
 use Rattle.std.specs.List.Sorted.{IsNonDecreasingBy}
 use Rattle.rv_code.specs.declared.inst.Inst.{Inst}
@@ -7,7 +7,7 @@ use Rattle.elf_code.specs.Relocations.{Relocation, symbol_value, is_pcrel_lo}
 use Rattle.elf_code.specs.Roles.{IsFullAt, PcrelLo, lower_immediate}
 use Rattle.rv_reloc.specs.declared.lows.Low.{Low}
 
--- a relocation gives the instruction at its place a lower part for an AUIPC
+-- A relocation gives its instruction a lower part for an AUIPC.
 pub record IsLowOf (elf : Elf) (r : Relocation) (l : Low) : Type 0 where
   pub is_low : IsTrue (is_pcrel_lo r.kind)
   pub names : symbol_value elf r ≡ l.hi
@@ -15,24 +15,24 @@ pub record IsLowOf (elf : Elf) (r : Relocation) (l : Low) : Type 0 where
   pub there : IsFullAt elf r.place inst
   pub immediate : lower_immediate r.kind inst ≡ Some l.imm
 
--- a relocation that counts gives a lower part
+-- A relocation that counts gives a lower part.
 pub record IsLowPart (elf : Elf) (l : Low) : Type 0 where
   pub source : Relocation
   pub part : PcrelLo elf source l.hi l.imm
 
--- all lower parts, by their AUIPCs
+-- All lower parts, sorted by AUIPC.
 pub record AreLows (elf : Elf) (lows : List Low) : Type 0 where
   pub all : (l : Low) → Contains lows l ↔ IsLowPart elf l
   pub rising : IsNonDecreasingBy (λ l. l.hi) lows
 
--- A lower part and the next one are of one AUIPC, and differ.
+-- The lower part with index `k` and the next one have the same AUIPC, and differ.
 abbrev pub DiffersFromNext : List Low → ℕ → Type 0
 DiffersFromNext lows k =
     (k + 1 < length lows)
     × ((d : Low) → ((slice_index_or lows k d).hi ≡ (slice_index_or lows (k + 1) d).hi)
     × ((slice_index_or lows k d).imm ≢ (slice_index_or lows (k + 1) d).imm))
 
--- two lower parts of one AUIPC differ
+-- Two lower parts of the AUIPC at `hi` differ.
 pub record TwoDiffer (lows : List Low) (hi : ℕ) : Type 0 where
   pub one : Low
   pub listed : Contains lows one

@@ -6,14 +6,14 @@ use Rattle.elf_code.specs.ReferenceFaults.{IsBadField, IsBadCall, IsBadUpper, Is
 use Rattle.elf_code.specs.ReferenceFaults.{IsBadDifference}
 use Rattle.rv_reloc.specs.Pairs.{MakesNoAddress}
 
--- the file has no symbol of the relocation's index
+-- The file has no symbol with the relocation's index.
 abbrev pub HasBadSymbol : Elf → Relocation → Type 0
 HasBadSymbol elf r = (r.symbol ≢ 0) × (length elf.symbols.items ≤ r.symbol)
 
--- a relocation isn't on the instructions that it is for, or these say something else
+-- A relocation isn't on the instructions that it is for, or their immediates are wrong.
 abbrev pub IsMisplaced : Elf → Relocation → Type 0
 IsMisplaced elf r = (IsBadCall elf r ⊎ IsBadUpper elf r) ⊎ (IsBadLower elf r ⊎ IsBadAbsolute elf r)
 
--- a relocation doesn't fit, whatever the entries of the global offset table hold
+-- A relocation doesn't fit, regardless of the contents of the global offset table.
 abbrev pub IsUnfit : Elf → Relocation → Type 0
 IsUnfit elf r = (IsBadField elf r ⊎ IsMisplaced elf r) ⊎ (MakesNoAddress elf r ⊎ IsBadDifference elf r)

@@ -1,4 +1,4 @@
--- The relocations of a file as they are kept.
+-- The relocations of a file, as the code keeps them.
 use Rattle.std.specs.Prelude.{◌≡◌, ◌⊎◌, ◌<◌, ◌≤◌, ◌+◌, ◌&&◌, Bool, codes, not, ℕ, List, AllPairs, map, length}
 use Rattle.std.specs.Prelude.{slice_index_or, ◌==◌, Option, IfSome, IsSomeAnd}
 use Rattle.elf_image.specs.declared.elf.Elf.{Elf}
@@ -11,18 +11,18 @@ use Rattle.rv_reloc.specs.declared.records.Record.{Record}
 use Rattle.rv_reloc.specs.Index.{class}
 use Rattle.rv_reloc.specs.Thinned.{IsThinned}
 
--- the relocation that a record is
+-- The relocation that a record represents.
 abbrev pub seen : Record → Relocation
 seen r = record { place = r.place; kind = r.kind; symbol = r.symbol; addend = r.addend; section = r.section.now }
 
--- a table of relocations lies in the file
+-- All of a relocation table is in the file.
 abbrev pub IsContained : List ℕ → Section → Type 0
 IsContained file s = s.kind ≡ SHT_RELA → 0 < s.size → s.offset + s.size ≤ length file
 
 abbrev pub counts : Section → Bool
 counts section = is_loaded section && not (is_named section (codes ".eh_frame"))
 
--- The order of places, and at one place of classes.
+-- The order by place, and then by class.
 
 abbrev pub class_of : Record → ℕ
 class_of r = class r.kind
@@ -36,29 +36,29 @@ IsFrom place at r = (place < r.place) ⊎ ((place ≡ r.place) × (at ≤ class_
 abbrev pub AreInOrder : List Record → Type 0
 AreInOrder records = AllPairs (λ q r. IsFrom q.place (class_of q) r) records
 
--- All relocations that count, in this order. Of those that differ in their sections alone some may be left out.
+-- All relocations that count, sorted. Of relocations that only differ in their sections, some may be left out.
 pub record AreRecords (elf : Elf) (records : List Record) : Type 0 where
   pub all : IsThinned (relocations elf) (map seen records)
   pub ordered : AreInOrder records
 
--- Looking up by place and class.
+-- Searches by place and class.
 
 abbrev pub has_key : ℕ → ℕ → Record → Bool
 has_key place at r = r.place == place && class_of r == at
 
--- the records before an index come before those of a place and a class, and the others don't
+-- The records before `index` come before those of a place and class, and the other records don't.
 pub record IsSplit (place at : ℕ) (records : List Record) (index : ℕ) : Type 0 where
   pub bound : index ≤ length records
   pub below : (k : ℕ) (d : Record) → k < index → IsBelow place at (slice_index_or records k d)
   pub above : (k : ℕ) (d : Record) → index ≤ k → k < length records → IsFrom place at (slice_index_or records k d)
 
--- the record of an index has a key
+-- The record with index `k` has this place and class.
 abbrev pub HasKeyAt : ℕ → ℕ → List Record → ℕ → Type 0
 HasKeyAt place at records k =
     (k < length records)
     × ((d : Record) → ((slice_index_or records k d).place ≡ place) × (class_of (slice_index_or records k d) ≡ at))
 
--- the only relocation that passes a test, in any file with these records
+-- The only relocation that passes a test, for any file with these records.
 pub record FindsOnly (passes : Relocation → Bool) (records : List Record) (found : Option Record) : Type 0 where
   pub is : (elf : Elf) → AreRecords elf records → IfSome found (λ r. IsOnly passes (relocations elf) (seen r))
   pub only : (elf : Elf) (r : Relocation) → AreRecords elf records → IsOnly passes (relocations elf) r →

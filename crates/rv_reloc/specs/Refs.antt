@@ -10,7 +10,7 @@ use Rattle.rv_reloc.specs.declared.sweep.Candidate.{Candidate}
 use Rattle.rv_reloc.specs.CountedFields.{as_field, AreCounted}
 use Rattle.code_starts.specs.WholeParts.{AreWholeParts}
 
--- a file that was read, in which its reader found no fault
+-- A file in which the reader found no fault.
 pub record IsRead (elf : Elf) : Type 0 where
   pub file : List ℕ
   pub fields : IsElfOf file elf
@@ -20,7 +20,8 @@ pub record AreRefs (elf : Elf) (tabled : List (ℕ × ℕ)) (refs : Refs) : Type
   pub roles : AreRoles elf refs.roles.items
   pub cells : AreCells elf tabled refs.cells.items
 
--- what is asked for its faults: the whole parts of a file of which some ranges have exception tables, and its cells
+-- Inputs of the search for faults: the whole parts of a file, and its fields that count. `tabled` are the ranges with
+-- exception tables.
 pub record AreAsked (elf : Elf) (tabled : List (ℕ × ℕ)) (wholes : List Part) (counted : List Candidate) : Type 0 where
   pub wholes_are : AreWholeParts elf tabled wholes
   pub counted_are : AreCounted elf tabled (map as_field counted)

@@ -1,4 +1,4 @@
--- Numbers in LEB128 in the memory that a file describes, from one of their bytes on.
+-- LEB128 numbers in the memory that a file describes, from one of their bytes on.
 use Rattle.std.specs.Prelude.{◌≡◌, ◌<◌, ◌≤◌, ◌+◌, ◌^◌, ◌↔◌, ℕ, ℤ, pos, negsuc, Bool, true, IsTrue, IsSomeAnd, ◌%◌, List}
 use Rattle.std.specs.Prelude.{Option, Some, None, length}
 use Rattle.std.specs.Int.{int_rem_euclid}
@@ -9,12 +9,12 @@ use Rattle.elf_code.specs.LoadedNumbers.{loaded_number}
 use Rattle.rv_reloc.specs.declared.tails.LebRest.{LebRest}
 use Rattle.rv_reloc.specs.declared.tails.Known.{Known}
 
--- the bytes of the number at an address, however many there may be
+-- The bytes of the number at address `a`, however many there are.
 pub record AreLebBytes (elf : Elf) (a : ℕ) (bytes : List ℕ) : Type 0 where
   pub within : (n : ℕ) → length bytes ≤ n → leb_at elf a n ≡ Some bytes
   pub beyond : (n : ℕ) → n < length bytes → leb_at elf a n ≡ None
 
--- what is said of the bytes from an address on
+-- Facts on the bytes from address `a` on.
 pub record IsTail (elf : Elf) (a : ℕ) (t : LebRest) : Type 0 where
   pub bytes : List ℕ
   pub are : AreLebBytes elf a bytes
@@ -22,7 +22,7 @@ pub record IsTail (elf : Elf) (a : ℕ) (t : LebRest) : Type 0 where
   pub zeros : IsTrue t.is_zeros ↔ HoldBits bytes (pos 0)
   pub ones : IsTrue t.is_ones ↔ HoldBits bytes (negsuc 0)
 
--- no number ends there, or this is its tail
+-- No number ends there, or `t` is its tail.
 pub data TailAt (elf : Elf) (a : ℕ) : Option LebRest → Type 0 where
   no_tail : ((n : ℕ) → leb_at elf a n ≡ None) → TailAt elf a None
   is_tail : (t : LebRest) → IsTail elf a t → TailAt elf a (Some t)
@@ -30,17 +30,17 @@ pub data TailAt (elf : Elf) (a : ℕ) : Option LebRest → Type 0 where
 abbrev pub IsKnown : Elf → Known → Type 0
 IsKnown elf k = TailAt elf k.place k.tail
 
--- no number goes on at a byte: it ends there, or isn't loaded
+-- A number ends at this byte, or the byte isn't loaded.
 abbrev pub ends_with : Option ℕ → Bool
 ends_with None = true
 ends_with (Some byte) = is_last byte
 
--- how far from zero a number is, of which bits in two's complement are left
+-- The distance from zero of the number whose bits are left.
 abbrev pub magnitude : ℤ → ℕ
 magnitude (pos n) = n
 magnitude (negsuc n) = n
 
--- the number of so many bits in a field is a number modulo its width
+-- The n-bit number in a field is congruent to z modulo 2^n.
 abbrev pub HoldsModulo : Elf → ℕ → ℕ → ℤ → Type 0
 HoldsModulo elf place n z =
     IsSomeAnd (loaded_number elf place (bytes_of_bits n)) (λ x. int_rem_euclid z (pos (2 ^ n)) ≡ pos (x % 2 ^ n))

@@ -1,16 +1,18 @@
--- Relocations of which some are left out that differ from others in their sections alone.
+-- Lists without some of the relocations that only differ from others in their sections.
 use Rattle.std.specs.Prelude.{◌≡◌, ◌≤◌, ◌⊎◌, Bool, List, Contains}
 use Rattle.std.specs.List.{count_by}
 use Rattle.elf_image.specs.declared.section.Section.{Section}
 use Rattle.elf_code.specs.Relocations.{Relocation}
 use Rattle.rv_reloc.specs.AppliesTo.{end_of}
 
--- a relocation as one for another section
+-- The relocation, for another section.
 abbrev pub for_section : Section → Relocation → Relocation
 for_section s r = record r { section = s }
 
--- Of each relocation a list keeps one for a section that starts no sooner, and one for a section that ends no later.
--- One alone passes a test that doesn't ask for sections where one alone of all does.
+-- For each relocation, `kept` has one for a section that starts at the same address or later, and one for a section
+-- that
+-- ends at the same address or earlier. For each test that ignores sections, both lists have the same number of passing
+-- relocations, or both have at least two.
 pub record IsThinned (full kept : List Relocation) : Type 0 where
   pub back : (r : Relocation) → Contains kept r → Contains full r
   pub starts : (r : Relocation) → Contains full r → (s : Section) × Contains kept (for_section s r)

@@ -1,4 +1,4 @@
-// Relocations for the parts of absolute addresses.
+// Relocations for parts of absolute addresses.
 ghost use Rattle.std.specs.Prelude.{◌≡◌, ◌↔◌, ℕ, pos, IfSome, IsTrue, Some, Contains};
 ghost use Rattle.rv_code.specs.isa.HiLo.{hi20, lo12};
 ghost use Rattle.elf_code.specs.FileCode.{AreStarts};
@@ -22,28 +22,28 @@ use elf_image::Elf;
 use elf_image::relocation::R_RISCV_HI20;
 use rv_code::Inst;
 
-// The part of an address that a LUI has, `%hi`. psABI, "Absolute Addresses".
+// The upper part of an address in a LUI, `%hi`. psABI, "Absolute Addresses".
 fn hi20(address: u64) -> i64
     ensures { result ≡ hi20 (pos address) }
 {
     ((address as i128 + 0x800) >> 12) as i64
 }
 
-// The part of an address that is added to it, `%lo`, as a signed number of 12 bits.
+// The lower part of an address, `%lo`, as a signed 12-bit number.
 fn lo12(address: u64) -> i64
     ensures { result ≡ lo12 (pos address) }
 {
     (address as i128 - 4096 * hi20(address) as i128) as i64
 }
 
-/// The code address of which a relocation for a part of an absolute address speaks; none where its label is data.
+/// The code address of a relocation for a part of an absolute address. None if its label isn't a code address.
 pub fn absolute_target(elf: &Elf, starts: &Starts, relocation: &Record) -> Option<u64>
     requires starts { AreStarts elf.now starts.now }
     requires counts { Contains (relocations elf.now) (seen relocation.now) }
     ensures there { IfSome result (AbsoluteTo elf.now (seen relocation.now)) }
     ensures only { (target : ℕ) → AbsoluteTo elf.now (seen relocation.now) target → result ≡ Some target }
 {
-    // Called for a clause alone: the members of the list have 64 bits.
+    // This call only has an effect on the proof: the members of the list fit 64 bits.
     let _list = starts.list();
     let target = natural(label(elf, relocation))?;
     if starts.has(target) {
@@ -53,7 +53,7 @@ pub fn absolute_target(elf: &Elf, starts: &Starts, relocation: &Record) -> Optio
     }
 }
 
-// Whether an instruction has the part of an address for which a type of relocation stands.
+// Whether an instruction has the part of an address that belongs to a type of relocation.
 fn has_part(kind: u32, inst: &Inst, target: u64) -> bool
     ensures { IsTrue result ↔ HasPart kind inst.now target }
 {
@@ -70,7 +70,7 @@ fn has_part(kind: u32, inst: &Inst, target: u64) -> bool
     }
 }
 
-/// Whether a relocation is on an instruction with its part of an address.
+/// Whether a relocation is on an instruction with the correct part of its address.
 pub fn has_absolute(
     elf: &Elf,
     starts: &Starts,
@@ -89,7 +89,7 @@ pub fn has_absolute(
     }
 }
 
-/// Whether a relocation for a part of a code address is not on its instruction, or the part there is another one.
+/// Whether a relocation for a part of a code address isn't on its instruction, or the instruction has another number.
 pub fn is_bad_absolute(elf: &Elf, starts: &Starts, parts: &[Part], relocation: &Record) -> bool
     requires starts { AreStarts elf.now starts.now }
     requires parts { AreCodeParts elf.now parts.now }

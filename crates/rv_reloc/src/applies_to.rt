@@ -1,11 +1,12 @@
-// The sections to which relocations apply that stand in several tables.
+// The sections of relocations that are in several tables.
 ghost use Rattle.std.specs.Prelude.{◌≡◌};
 ghost use Rattle.rv_reloc.specs.AppliesTo.{end_of, later_start, sooner_end};
 
 use elf_image::Section;
 
-/// The sections to which relocations apply. Of several, two are kept: a field lies in all of them where it lies in the
-/// one that starts last and in the one that ends first.
+/// The sections that relocations apply to. Of several, two are kept: a field is in all sections if it is in the one
+/// that
+/// starts last and in the one that ends first.
 #[derive(Clone, Copy)]
 pub enum AppliesTo<'a> {
     One(&'a Section<'a>),

@@ -1,4 +1,4 @@
-// Entries of the global offset table that don't hold the labels that relocations say they hold.
+// Entries of the global offset table (GOT) that don't have the labels that relocations give them.
 ghost use Rattle.std.specs.Prelude.{◌↔◌, IsTrue};
 ghost use Rattle.elf_code.specs.FileCode.{AreStarts};
 ghost use Rattle.elf_code.specs.Relocations.{HasRelocation};
@@ -19,7 +19,7 @@ use code_starts::start_index::Starts;
 use elf_image::Elf;
 use elf_image::lowest::{lower, place_if};
 
-// Whether the entry at the address `entry`, which the AUIPC at `hi` names, doesn't hold each label that it is to hold.
+// Whether the GOT entry at the address `entry`, for the AUIPC at `hi`, doesn't have all labels that it should have.
 fn misses_label(elf: &Elf, labels: &[SlotLabel], hi: u64, entry: u64) -> bool
     requires low { IsLow elf.now }
     requires labels { AreSlotLabels elf.now labels.now }
@@ -31,7 +31,7 @@ fn misses_label(elf: &Elf, labels: &[SlotLabel], hi: u64, entry: u64) -> bool
     }
 }
 
-// Whether a lower part and its AUIPC name an entry that doesn't hold each label that it is to hold.
+// Whether a lower part and its AUIPC give the address of a GOT entry that doesn't have all labels that it should have.
 fn names_bad_entry(
     elf: &Elf,
     starts: &Starts,
@@ -57,8 +57,8 @@ fn names_bad_entry(
     }
 }
 
-/// The lowest place of a relocation for an entry of the global offset table that doesn't hold its label. Entries are
-/// asked once for each lower part of an AUIPC that has such relocations, however many these are.
+/// The lowest place of a relocation for a GOT entry that doesn't have its label. Each lower part of an AUIPC with such
+/// relocations is examined once, whatever the number of these relocations.
 pub fn lowest_bad_entry(
     elf: &Elf,
     starts: &Starts,

@@ -1,4 +1,4 @@
-// Calls: an AUIPC and a JALR after it.
+// Calls: an AUIPC followed by a JALR.
 ghost use Rattle.std.specs.Prelude.{◌≡◌, ◌↔◌, ℕ, ℤ, ◌+◌, ◌<◌, ◌^◌, IfSome, OnSome, IsSome, IsTrue, Some, Contains};
 ghost use Rattle.rv_code.specs.declared.inst.Inst.TheVariants.{Jalr};
 ghost use Rattle.elf_code.specs.FileCode.{AreStarts};
@@ -36,14 +36,14 @@ impl CallInsts {
         self.jalr.base == self.auipc.rd && self.jalr.base != 0
     }
 
-    // Whether it is a call of an undefined weak symbol, as the linker writes it.
+    // Whether the call is one of an undefined weak symbol, as the linker writes it.
     fn is_weak(&self) -> bool
         ensures { IsTrue result ↔ IsWeak self.now }
     {
         self.jalr.base == 0 && self.auipc.imm == 0 && (self.auipc.rd == 0 || self.jalr.imm == 0)
     }
 
-    /// The address to which the JALR jumps from `place`, if it jumps through the register of the AUIPC.
+    /// The target of the call at `place`, if the JALR jumps through the register of the AUIPC.
     pub fn target(&self, place: u64) -> Option<u64>
         ensures is { IfSome result (GoesTo place self.now) }
         ensures each { IsThrough self.now → IsAddress (pair_target place self.now.auipc.imm self.now.jalr.imm) →
@@ -56,7 +56,8 @@ impl CallInsts {
         }
     }
 
-    /// What the AUIPC at `place` names: the target, or itself where the JALR jumps through x0.
+    /// The target in the role of the AUIPC at `place`: the call's target, or `place` itself if the JALR jumps through
+    /// x0.
     pub fn named(&self, place: u64) -> Option<u64>
         ensures is { IfSome result (Names place self.now) }
         ensures each { FitsCall place self.now → IsSome result }
@@ -68,7 +69,7 @@ impl CallInsts {
         }
     }
 
-    // Whether the call goes from `place` to an address, or is one of an undefined weak symbol.
+    // Whether the call at `place` has an address as its target, or is a call of an undefined weak symbol.
     fn fits(&self, place: u64) -> bool
         ensures { IsTrue result ↔ FitsCall place self.now }
     {
@@ -90,7 +91,7 @@ fn jalr_at(elf: &Elf, starts: &Starts, parts: &[Part], address: u64) -> Option<J
     jalr_of(&inst)
 }
 
-// The JALR after the instruction at an address, in the same part.
+// The JALR after the instruction at an address, if it is in the same part.
 fn jump_after(elf: &Elf, starts: &Starts, parts: &[Part], address: u64) -> Option<Jump>
     requires starts { AreStarts elf.now starts.now }
     requires parts { AreCodeParts elf.now parts.now }
@@ -108,7 +109,7 @@ fn jump_after(elf: &Elf, starts: &Starts, parts: &[Part], address: u64) -> Optio
     jalr_at(elf, starts, parts, address + 4)
 }
 
-/// The call at an address.
+/// The call at an address, if there is one.
 pub fn call_at(elf: &Elf, starts: &Starts, parts: &[Part], address: u64) -> Option<CallInsts>
     requires starts { AreStarts elf.now starts.now }
     requires parts { AreCodeParts elf.now parts.now }
@@ -121,7 +122,7 @@ pub fn call_at(elf: &Elf, starts: &Starts, parts: &[Part], address: u64) -> Opti
     Some(CallInsts { auipc, jalr })
 }
 
-/// Whether a relocation for a call is not on one, or on one that goes to no address.
+/// Whether a relocation for a call isn't on a call, or the call's target isn't an address.
 pub fn is_bad_call(elf: &Elf, starts: &Starts, parts: &[Part], relocation: &Record) -> bool
     requires starts { AreStarts elf.now starts.now }
     requires parts { AreCodeParts elf.now parts.now }

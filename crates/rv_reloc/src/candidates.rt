@@ -29,7 +29,7 @@ use rb_bytes::fault::NoMemory;
 use rb_bytes::lists::push_some;
 use std::alloc::Global;
 
-// Whether the byte at an offset is one of the file's header or of the table of program headers.
+// Whether the byte at an offset is in the file header or in the table of program headers.
 fn is_in_headers(elf: &Elf, offset: u128) -> bool
     requires { offset < 2 ^ 65 }
     ensures { IsTrue result ↔ IsInHeaders elf.now offset }
@@ -39,7 +39,7 @@ fn is_in_headers(elf: &Elf, offset: u128) -> bool
         || (table <= offset && offset < table + PHDR_SIZE as u128 * elf.segments.len() as u128)
 }
 
-// Whether the byte at an address comes from the file, and not from its headers, which a rewriting changes.
+// Whether the byte at an address comes from the file, but not from its headers, which a rewrite changes.
 fn is_free_byte(elf: &Elf, address: u64) -> bool
     ensures { IsTrue result ↔ IsFreeByte elf.now address }
 {
@@ -66,7 +66,7 @@ fn are_free(elf: &Elf, place: u64, width: u8) -> bool
     true
 }
 
-/// The field of `width` bytes at a place, if it holds a code address and can be a cell.
+/// The field of `width` bytes at `place`, if it contains a code address and can be a cell.
 pub fn code_field(elf: &Elf, starts: &Starts, place: u64, width: u8) -> Option<Candidate>
     requires low { IsLow elf.now }
     requires starts { AreStarts elf.now starts.now }
@@ -94,7 +94,7 @@ fn address_width(kind: u32) -> u8
     if kind == R_RISCV_32 { 4 } else { 8 }
 }
 
-// The width in bytes of a difference that can be a cell.
+// The width in bytes of a difference, if it can be a cell.
 fn cell_bytes(width: FieldWidth) -> Option<u8>
     ensures { result ≡ cell_bytes width }
 {
@@ -141,7 +141,7 @@ fn cell_field(
     })
 }
 
-// A relocation's field, if it can be a cell. `near` is about the index of the relocation in `records`.
+// A relocation's field, if it can be a cell. `near` is a guess for the index of the relocation in `records`.
 fn field_of(
     elf: &Elf,
     starts: &Starts,

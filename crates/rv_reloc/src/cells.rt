@@ -1,4 +1,4 @@
-// Code cells: the fields that count, of those that can be cells.
+// Code cells: the fields that count among those that can be cells.
 ghost use Rattle.std.specs.Prelude.{◌≡◌, ◌↔◌, ℕ, pos, List, IfOk, OnOk, IfNone, IsTrue, All, Contains, map};
 ghost use Rattle.elf_image.specs.declared.elf.Elf as file;
 ghost use Rattle.elf_code.specs.FileCode.{AreCells, AreStarts};
@@ -29,14 +29,14 @@ use rb_bytes::fault::NoMemory;
 use rv_code::cell::{CellKind, CodeCell};
 use std::alloc::Global;
 
-// Whether a label is an address: `ADDRESS_END` is one too, as a label can stand behind the last byte.
+// Whether a label is an address. `ADDRESS_END` counts as one, since a label can be at the end of all bytes.
 fn is_address(label: i128) -> bool
     ensures { IsTrue result ↔ IsAddress label }
 {
     0 <= label && label <= ADDRESS_END as i128
 }
 
-// Whether a field holds a difference with a label that is no address.
+// Whether a field contains a difference with a label that isn't an address.
 fn is_bad(field: &Candidate) -> bool
     ensures { IsTrue result ↔ HasBadContent field.now }
 {
@@ -61,7 +61,9 @@ fn lowest_bad_field(counted: &[Candidate]) -> Option<u64>
     lowest
 }
 
-/// The lowest place of a cell with a difference of which a label is no address. Without one, all labels are.
+/// The lowest place of a difference among the fields that count with a label that isn't an address. If there is none,
+/// all
+/// labels are addresses.
 pub fn lowest_bad_label(counted: &[Candidate]) -> Option<u64>
     ensures lowest { (elf : file.Elf) (tabled : List (ℕ × ℕ)) → AreCounted elf tabled (map as_field counted.now) →
         IsLowest (HasBadLabel elf tabled) result }
@@ -108,7 +110,7 @@ pub fn cells(alloc: Global, counted: &[Candidate]) -> Result<Vec<CodeCell>, NoMe
     Ok(cells)
 }
 
-/// The fields that count, of all that can be cells, by address. `starts`, `parts`, `wholes`, `records`, `labels` and
+/// The fields that count among all that can be cells, by address. `starts`, `parts`, `wholes`, `records`, `labels` and
 /// `lows` are those of the file.
 pub fn counted_fields(
     alloc: Global,

@@ -1,4 +1,4 @@
-// All claims to roles, and the roles that count.
+// All claims to roles, and the roles of instructions.
 ghost use Rattle.std.specs.Prelude.{◌≡◌, ◌+◌, ℕ, IfOk, OnOk, IfSome, IsSomeAnd, IsTrue, Contains, AllPairs, All};
 ghost use Rattle.std.specs.List.Sorted.{IsPermutation};
 ghost use Rattle.rv_code.specs.declared.placed.Role.{Role};
@@ -24,7 +24,7 @@ use rb_bytes::lists::push_some;
 use rv_code::Role;
 use std::alloc::Global;
 
-// The claim of a relocation that is for no call.
+// The claim of a relocation that isn't for a call.
 fn other_claim(
     elf: &Elf,
     starts: &Starts,
@@ -55,7 +55,7 @@ fn other_claim(
     None
 }
 
-// The claims of a relocation, to the instruction at its place and to the one after that.
+// The claims of a relocation to the instruction at its place, and to the next instruction.
 fn claims_at(
     elf: &Elf,
     starts: &Starts,
@@ -83,7 +83,7 @@ fn claims_at(
     (other_claim(elf, starts, parts, lows, relocation), None)
 }
 
-// The claims of relocations, one relocation after another.
+// The claims of all relocations.
 fn read_claims(
     alloc: Global,
     elf: &Elf,
@@ -109,7 +109,7 @@ fn read_claims(
     Ok(claims)
 }
 
-// Puts claims in the order of their addresses, and those to one in the order of types and keys.
+// Sorts claims by address, then by type and key.
 fn sort_claims(claims: &mut Vec<Claim>) -> Result<(), NoMemory>
     ensures permutation { IsPermutation claims.old.items claims.new.items }
     ensures ordered { OnOk result (AllPairs IsClaimUpTo claims.new.items) }
@@ -118,7 +118,7 @@ fn sort_claims(claims: &mut Vec<Claim>) -> Result<(), NoMemory>
     Ok(())
 }
 
-/// The roles of a file whose relocations fit, and in which the lower parts of each AUIPC are alike.
+/// The roles of instructions, in a file whose relocations fit and whose lower parts agree for each AUIPC.
 pub fn roles(
     alloc: Global,
     elf: &Elf,

@@ -1,4 +1,4 @@
-// The claims to roles that relocations make.
+// The claims of relocations to roles.
 ghost use Rattle.std.specs.Prelude.{◌≡◌, ◌+◌, ◌<◌, ◌^◌, ℕ, IfSome, IsSomeAnd, IsTrue, Contains};
 ghost use Rattle.rv_code.specs.declared.placed.Role.{Role};
 ghost use Rattle.elf_image.specs.declared.elf.Elf.{Elf};
@@ -99,8 +99,8 @@ pub fn call_claims(
     }
 }
 
-/// The claim of an upper part that is not a call's to its AUIPC. All lower parts for it are alike, so the first gives
-/// the target.
+/// The claim of an upper part that isn't part of a call to its AUIPC. All lower parts for the AUIPC agree, so the first
+/// one gives the target.
 pub fn upper_claim(
     elf: &Elf,
     starts: &Starts,

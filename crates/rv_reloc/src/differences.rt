@@ -1,4 +1,4 @@
-// Differences of labels, and which of them are at fault.
+// Differences of labels, and their faults.
 ghost use Rattle.std.specs.Prelude.{◌≡◌, ◌↔◌, ◌⊎◌, Some, option_map, ℕ, ℤ, IsTrue, IfSome, IsSomeAnd, All, List};
 ghost use Rattle.std.specs.Prelude.{Contains, map};
 ghost use Rattle.elf_image.specs.declared.elf.Elf.{Elf};
@@ -38,8 +38,9 @@ pub struct Difference {
     pub from: i128,
 }
 
-// The difference of the label that is added or set and the one that is subtracted, if there is exactly one of each.
-// Here and below, `near` is about the index of the relocation in `records`.
+// The difference of the label that is added or set and the label that is subtracted, if there is exactly one of each.
+// In
+// this file `near` is a guess for the index of the relocation in `records`.
 fn labels_difference(
     elf: &Elf,
     records: &[Record],
@@ -63,7 +64,7 @@ fn labels_difference(
     })
 }
 
-/// The difference in the field of a relocation.
+/// The difference in the field of a relocation, if it is for one.
 pub fn difference_of(
     elf: &Elf,
     records: &[Record],
@@ -95,8 +96,8 @@ fn label_width(kind: u32) -> Option<FieldWidth>
     plus_width(kind).or(minus_width(kind))
 }
 
-// Whether exactly one relocation at a place adds or sets a label of some width, and exactly one subtracts one. Only the
-// contract speaks of `elf`.
+// Whether exactly one relocation at `place` adds or sets a label of this width, and exactly one subtracts one. `elf` is
+// only used by the contract.
 fn is_paired(elf: &Elf, records: &[Record], near: usize, place: u64, width: FieldWidth) -> bool
     requires { AreRecords elf.now records.now }
     ensures { IsTrue result ↔ IsPaired elf.now place (width_of width) }
@@ -105,7 +106,7 @@ fn is_paired(elf: &Elf, records: &[Record], near: usize, place: u64, width: Fiel
         && only_minus(records, near, place, width).is_some()
 }
 
-// Whether a relocation adds, sets or subtracts a code address, and isn't one of two that make a difference.
+// Whether a relocation adds, sets or subtracts a code address, and isn't part of a difference of two labels.
 fn is_unpaired(
     elf: &Elf,
     starts: &Starts,
@@ -128,7 +129,7 @@ fn is_unpaired(
     }
 }
 
-// Whether a relocation is for a difference, and its field holds another number.
+// Whether a relocation is for a difference, and its field contains another number.
 fn is_other_number(
     elf: &Elf,
     known: &[Known],
@@ -171,7 +172,7 @@ pub fn is_bad_difference(
         || is_unpaired(elf, starts, records, near, relocation)
 }
 
-// Whether a relocation makes a difference that can change as code moves, in a field that can't be a cell.
+// Whether a relocation gives a difference that can change when code moves, in a field that can't be a cell.
 fn is_narrow(
     elf: &Elf,
     starts: &Starts,
@@ -196,8 +197,8 @@ fn is_narrow(
     }
 }
 
-/// Whether a difference can change as code moves: one of its labels is a code address, and they don't both lie in one
-/// part that stays whole.
+/// Whether a difference can change when code moves: one of its labels is a code address, and they aren't both in the
+/// same whole part.
 pub fn crosses(elf: &Elf, starts: &Starts, wholes: &[Part], difference: &Difference) -> bool
     requires starts { AreStarts elf.now starts.now }
     requires wholes { ArePartsApart wholes.now }
@@ -212,7 +213,7 @@ pub fn crosses(elf: &Elf, starts: &Starts, wholes: &[Part], difference: &Differe
     !in_one_whole(wholes, difference.to, difference.from)
 }
 
-/// The lowest place of a difference that can change as code moves, in a field that can't be a cell: the fault
+/// The lowest place of a difference that can change when code moves, in a field that can't be a cell: the fault
 /// `NarrowDiff`.
 pub fn lowest_narrow(elf: &Elf, starts: &Starts, wholes: &[Part], records: &[Record]) -> Option<u64>
     requires starts { AreStarts elf.now starts.now }

@@ -1,17 +1,18 @@
-// Relocations that stand one behind another.
+// Runs of consecutive relocation entries.
 ghost use Rattle.std.specs.Prelude.{◌≤◌};
 ghost use Rattle.rv_reloc.specs.AppliesTo.{end_of, last_start, first_end};
 
 use crate::applies_to::AppliesTo;
 
-/// Relocations that stand one behind another and apply to the same sections. The one of number k stands at the offset
-/// `phase` + 24 k in the file, so that tables which share entries number them alike.
+/// Consecutive relocation entries that apply to the same sections. The entry with number k is at file offset `phase` +
+/// 24
+/// k, so that tables that share entries number them equally.
 #[derive(Clone, Copy)]
 pub struct EntryRun<'a> {
     pub applies_to: AppliesTo<'a>,
     /// Below 24, the size of a relocation.
     pub phase: usize,
-    /// The number of the first relocation; `end` is one more than that of the last.
+    /// The number of the first relocation. `end` is the number of the last one plus one.
     pub first: usize,
     pub end: usize,
     ghost ordered: { first ≤ end },

@@ -1,4 +1,4 @@
-// Tables of relocations as runs of numbered entries.
+// Relocation tables as runs of numbered entries.
 ghost use Rattle.std.specs.Prelude.{◌≡◌, [], Some, IfOk, IfSome, IfNone, All, length, slice_get};
 ghost use Rattle.elf_code.specs.Relocations.{relocations, entries_for, entries_of, is_named};
 ghost use Rattle.rv_reloc.specs.EntryRuns.{run_entries, entries, IsWholeRun};
@@ -12,14 +12,14 @@ use rb_bytes::fault::NoMemory;
 use rb_bytes::lists::push_some;
 use std::alloc::Global;
 
-/// Whether a section has a name.
+/// Whether a section has this name.
 pub fn is_named(section: &Section, name: &[u8]) -> bool
     ensures { result ≡ is_named section.now name.now }
 {
     section.name == name
 }
 
-// Whether the relocations that apply to a section count. Those of unwind tables don't: such tables are read and written
+// Whether the relocations of a section count. Those of unwind tables don't, since these tables are read and written
 // as a whole.
 fn counts(section: &Section) -> bool
     ensures { result ≡ counts section.now }
@@ -50,7 +50,7 @@ fn run_for<'a>(elf: &Elf<'a>, table: &Section, section: &'a Section<'a>) -> Opti
     })
 }
 
-// The run of a section, if it is a table of relocations, these count and there are any.
+// The run of a section, if it is a relocation table whose entries count, and there are any.
 fn run_of<'a>(elf: &'a Elf<'a>, table: &Section) -> Option<EntryRun<'a>>
     requires contained { IsContained elf.now.file.now table.now }
     ensures is { IfSome result (λ run. run_entries elf.now.file.now run ≡ entries_of elf.now table.now) }
@@ -64,7 +64,7 @@ fn run_of<'a>(elf: &'a Elf<'a>, table: &Section) -> Option<EntryRun<'a>>
     run_for(elf, table, section)
 }
 
-/// The runs of all tables with relocations that count, in the tables' order.
+/// The runs of all tables whose relocations count, in the order of the tables.
 pub fn read_runs<'a>(alloc: Global, elf: &'a Elf<'a>) -> Result<Vec<EntryRun<'a>>, NoMemory>
     ensures all { IfOk result (λ runs. entries elf.now.file.now runs.items ≡ relocations elf.now) }
     ensures whole { IfOk result (λ runs. All (IsWholeRun (length elf.now.file.now)) runs.items) }

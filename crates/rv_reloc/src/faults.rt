@@ -1,4 +1,4 @@
-// The faults of a file's references, one after another.
+// The faults of a file's references, in the order of their numbers.
 ghost use Rattle.std.specs.List.Sorted.{IsNonDecreasingBy};
 ghost use Rattle.std.specs.Prelude.{ℕ, List, OnOk, IfErr, MatchResult};
 ghost use Rattle.elf_code.specs.FileCode.{AreStarts};
@@ -28,7 +28,8 @@ use elf_image::lowest::lower;
 use elf_image::{Elf, refuse_at};
 use rb_bytes::fault::{Fault, FaultKind};
 
-// The first of `RelocType`, `RelocMismatch` and `LoMismatch`; `mismatch` is the lowest place of `RelocMismatch`.
+// Looks for `RelocType`, `RelocMismatch` and `LoMismatch`, in this order. `mismatch` is the lowest place of
+// `RelocMismatch`.
 fn check_relocations(records: &[Record], lows: &[Low], mismatch: Option<u64>) -> Result<(), Fault>
     requires { IsNonDecreasingBy (λ l. l.hi) lows.now }
     ensures { (elf : Elf) (tabled : List (ℕ × ℕ)) → AreRecords elf records.now → AreLows elf lows.now →
@@ -41,7 +42,8 @@ fn check_relocations(records: &[Record], lows: &[Low], mismatch: Option<u64>) ->
     refuse_at(FaultKind::LoMismatch, lowest_low_mismatch(lows))
 }
 
-// The first of `NarrowDiff`, `IfuncOrPlt` and `AlreadyMoved`, where those of `check_relocations` are absent.
+// Looks for `NarrowDiff`, `IfuncOrPlt` and `AlreadyMoved`, in this order, in a file without the faults of
+// `check_relocations`.
 fn check_cells(elf: &Elf, starts: &Starts, wholes: &[Part], records: &[Record]) -> Result<(), Fault>
     requires starts { AreStarts elf.now starts.now }
     requires wholes { ArePartsApart wholes.now }
@@ -59,9 +61,10 @@ fn check_cells(elf: &Elf, starts: &Starts, wholes: &[Part], records: &[Record]) 
     refuse_at(FaultKind::AlreadyMoved, lowest_already_moved(&elf.sections))
 }
 
-/// The first of the faults `RelocType`, `RelocMismatch`, `LoMismatch`, `NarrowDiff`, `IfuncOrPlt` and `AlreadyMoved`.
-/// All lists are those of the file, `counted` the fields that count; `misfit` is the lowest place of a relocation that
-/// doesn't fit.
+/// Looks for the faults `RelocType`, `RelocMismatch`, `LoMismatch`, `NarrowDiff`, `IfuncOrPlt` and `AlreadyMoved`, in
+/// this
+/// order. All lists are those of the file. `counted` are the fields that count, and `misfit` is the lowest place of a
+/// relocation that doesn't fit.
 pub fn check(
     elf: &Elf,
     starts: &Starts,

@@ -1,4 +1,4 @@
-// The fields to which relocations apply: whether they lie in their sections, and whether they hold differences.
+// The fields of relocations: whether they are in their sections, and whether they contain differences.
 ghost use Rattle.std.specs.Prelude.{◌≡◌, ◌↔◌, ◌≤◌, ◌<◌, ◌+◌, ◌%◌, ◌^◌, ℤ, pos, ◌-ℤ◌, IsTrue, IfOk, All, List, ℕ, Some};
 ghost use Rattle.std.specs.Prelude.{length, option_map};
 ghost use Rattle.std.specs.Int.{int_rem_euclid};
@@ -23,8 +23,8 @@ use elf_image::{Elf, Section};
 use rb_bytes::fault::NoMemory;
 use std::alloc::Global;
 
-// The size of the field of a relocation that isn't for a label of a difference: two instructions of a call, an address
-// of 64 bits, or four bytes.
+// The size of the field of a relocation that isn't for a label of a difference: two instructions of a call, a 64-bit
+// address, or four bytes.
 fn fixed_size(kind: u32) -> u64
     ensures { result ≡ fixed_size kind }
 {
@@ -35,7 +35,7 @@ fn fixed_size(kind: u32) -> u64
     }
 }
 
-// The size of the number in LEB128 in a relocation's field, if it ends in the relocation's section.
+// The size of the LEB128 number in a relocation's field, if it ends in the relocation's section.
 fn leb_size(elf: &Elf, known: &[Known], relocation: &Record) -> Option<u64>
     requires low { IsLow elf.now }
     requires known { All (IsKnown elf.now) known.now }
@@ -79,7 +79,7 @@ fn field_size(elf: &Elf, known: &[Known], relocation: &Record) -> Option<u64>
     }
 }
 
-// Whether the `size` bytes from an address on lie in a section.
+// Whether the `size` bytes from an address on are in a section.
 fn lies_in(section: &Section, place: u64, size: u64) -> bool
     ensures { IsTrue result ↔ ((section.now.addr ≤ place) × (place + size ≤ section.now.addr + section.now.size)) }
 {
@@ -87,7 +87,7 @@ fn lies_in(section: &Section, place: u64, size: u64) -> bool
         && place as u128 + size as u128 <= section.addr as u128 + section.size as u128
 }
 
-/// Whether a relocation's field lies in its section, or there is none.
+/// Whether a relocation's field is in its section, or the relocation has no field.
 pub fn has_field(elf: &Elf, known: &[Known], relocation: &Record) -> bool
     requires low { IsLow elf.now }
     requires known { All (IsKnown elf.now) known.now }
@@ -102,7 +102,7 @@ pub fn has_field(elf: &Elf, known: &[Known], relocation: &Record) -> bool
     }
 }
 
-// 2^64 doesn't fit 64 bits.
+// The result has 128 bits, since 2^64 doesn't fit 64.
 fn modulus(bits: u8) -> u128
     requires { bits ≤ 64 }
     ensures { result ≡ 2 ^ bits }
@@ -119,7 +119,7 @@ fn is_congruent(difference: i128, number: u64, bits: u8) -> bool
     difference.rem_euclid(modulus as i128) == (number as u128 % modulus) as i128
 }
 
-// Whether the field of `bits` bits at a place holds the difference. Six bits stand in a byte.
+// Whether the field of `bits` bits at `place` contains the difference. A six-bit field takes a byte.
 fn holds_number(elf: &Elf, place: u64, bits: u8, difference: i128) -> bool
     requires low { IsLow elf.now }
     requires bits { bits ≤ 64 }
@@ -153,7 +153,7 @@ fn holds_leb(elf: &Elf, known: &[Known], relocation: &Record, to: i128, from: i1
     }
 }
 
-/// Whether a relocation's field holds the difference of two labels.
+/// Whether a relocation's field contains the difference of two labels.
 pub fn holds_difference(
     elf: &Elf,
     known: &[Known],
@@ -179,8 +179,8 @@ pub fn holds_difference(
     }
 }
 
-/// The tails of the numbers in LEB128 to which relocations apply, by address: from their first bytes on, which gives
-/// their sizes, and from the first byte on that holds bits of a difference's sign alone.
+/// The tails of the LEB128 numbers that relocations apply to, sorted by address: from their first bytes on, for their
+/// sizes, and from the first byte on that only has sign bits of a difference.
 pub fn known_tails(alloc: Global, elf: &Elf, records: &[Record]) -> Result<Vec<Known>, NoMemory>
     requires { IsLow elf.now }
     ensures { IfOk result (λ known. All (IsKnown elf.now) known.items) }

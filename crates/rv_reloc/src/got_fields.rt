@@ -1,4 +1,4 @@
-// Entries of the global offset table, which an AUIPC and its lower parts name.
+// Entries of the global offset table (GOT) that AUIPCs and their lower parts refer to.
 ghost use Rattle.std.specs.Prelude.{◌≡◌, ◌↔◌, IfOk, IfSome, IsTrue, Some, map, option_map};
 ghost use Rattle.elf_code.specs.Cells.{Field};
 ghost use Rattle.elf_code.specs.FileCode.{AreStarts};
@@ -23,8 +23,8 @@ use rb_bytes::fault::NoMemory;
 use rb_bytes::lists::push_some;
 use std::alloc::Global;
 
-// Whether a relocation says that the entry which the AUIPC at `hi` names is to hold the label `to`. Only the contract
-// speaks of `elf`.
+// Whether a relocation says that the GOT entry for the AUIPC at `hi` should have the label `to`. `elf` is only used by
+// the contract.
 fn names_entry(elf: &Elf, labels: &[SlotLabel], hi: u64, to: u64) -> bool
     requires { AreSlotLabels elf.now labels.now }
     ensures { IsTrue result ↔ NamesEntry elf.now hi to }
@@ -32,7 +32,7 @@ fn names_entry(elf: &Elf, labels: &[SlotLabel], hi: u64, to: u64) -> bool
     has_label(labels, hi, to as i128)
 }
 
-// The field at `slot`, if a relocation for the AUIPC at `hi` says that it is to hold what it does hold.
+// The field at `slot`, if it has the label that a relocation for the AUIPC at `hi` gives it.
 fn named_field(
     elf: &Elf,
     starts: &Starts,
@@ -53,7 +53,7 @@ fn named_field(
     code_field(elf, starts, slot, 8)
 }
 
-// The entry that a lower part and its AUIPC name, if it can be a cell.
+// The GOT entry that a lower part and its AUIPC refer to, if it can be a cell.
 fn slot_of(
     elf: &Elf,
     starts: &Starts,
@@ -76,7 +76,7 @@ fn slot_of(
     named_field(elf, starts, labels, low.hi, slot)
 }
 
-/// The entries of the global offset table that can be cells.
+/// The GOT entries that can be cells.
 pub fn got_fields(
     alloc: Global,
     elf: &Elf,

@@ -1,4 +1,4 @@
-// Files that select their routines when they start, and files that were rewritten before.
+// Files that select routines when they start, and files that were rewritten before.
 ghost use Rattle.std.specs.Prelude.{◌≡◌, ◌≢◌, ◌↔◌, ◌%◌, ℕ, IsTrue, IsSomeAnd, nat_eq, codes, slice_get};
 ghost use Rattle.std.specs.List.{starts_with};
 ghost use Rattle.elf_image.specs.declared.elf.Elf.{Elf};
@@ -59,8 +59,8 @@ fn lowest_irelative(records: &[Record]) -> Option<u64>
     lowest
 }
 
-/// The lowest place of what selects routines when the program starts: a symbol of type `STT_GNU_IFUNC`, a section of
-/// stubs that isn't empty, or a relocation `R_RISCV_IRELATIVE`.
+/// The lowest place that shows that routines are selected when the program starts: a symbol of type `STT_GNU_IFUNC`, a
+/// section of stubs that isn't empty, or a relocation `R_RISCV_IRELATIVE`.
 pub fn lowest_ifunc_or_plt(elf: &Elf, records: &[Record]) -> Option<u64>
     requires { AreRecords elf.now records.now }
     ensures { IsLowest (IsIfuncOrPlt elf.now) result }
@@ -72,7 +72,7 @@ pub fn lowest_ifunc_or_plt(elf: &Elf, records: &[Record]) -> Option<u64>
     lower(lowest, relocation)
 }
 
-/// The index of the first section that says that the file was rewritten before.
+/// The index of the first section that shows that the file was rewritten before.
 pub fn lowest_already_moved(sections: &[Section]) -> Option<u64>
     ensures { (elf : Elf) → elf.sections.items ≡ sections.now → IsLowest (IsAlreadyMoved elf) result }
 {

@@ -1,4 +1,4 @@
-// Looking up relocations by place and class. In each function here the argument `at` is a class.
+// Searches for relocations by place and class. The argument `at` of each function is a class.
 ghost use Rattle.std.specs.Prelude.{◌≡◌, ◌↔◌, ◌<◌, ◌≤◌, ◌-◌, ℕ, IsTrue, IfSome, Some, length, slice_index_or, Any};
 ghost use Rattle.elf_image.specs.declared.elf.Elf.{Elf};
 ghost use Rattle.elf_code.specs.Cells.{IsOnly, is_plus, is_minus};
@@ -13,7 +13,7 @@ use crate::labels::{FieldWidth, minus_width, plus_width};
 use crate::records::Record;
 use crate::types::{is_call_pair, is_pcrel_hi};
 
-// One more than the bits of a width, and 0 for ULEB128, so that no two widths share a number.
+// The number of bits of a width plus one, and 0 for ULEB128, so that all widths have different numbers.
 fn width_code(width: FieldWidth) -> u64
     ensures { result ≡ width_code (width_of width) }
 {
@@ -27,14 +27,14 @@ fn width_code(width: FieldWidth) -> u64
     }
 }
 
-// The classes of calls, of upper parts, and of all other types that are for no label.
+// The classes of calls, of upper parts, and of all other types that aren't for a label.
 const CALL_CLASS: u64 = 0;
 
 const UPPER_CLASS: u64 = 1;
 
 const OTHER_CLASS: u64 = 2;
 
-// From 4 on, behind the classes above.
+// Classes of labels start at 4, after the classes above.
 fn plus_class(width: FieldWidth) -> u64
     ensures { result ≡ plus_class (width_of width) }
 {
@@ -47,7 +47,7 @@ fn minus_class(width: FieldWidth) -> u64
     2 * width_code(width) + 5
 }
 
-/// The class of a type, by which the relocations of one place are put in order.
+/// The class of a type. The relocations of one place are sorted by class.
 pub fn class(kind: u32) -> u64
     ensures { result ≡ class kind }
 {
@@ -60,7 +60,7 @@ pub fn class(kind: u32) -> u64
     }
 }
 
-// The class of a type that is not for a label of a difference.
+// The class of a type that isn't for a label of a difference.
 fn class_beside(kind: u32) -> u64
     ensures { result ≡ class_beside kind }
 {
@@ -73,7 +73,7 @@ fn class_beside(kind: u32) -> u64
     }
 }
 
-// How many relocations come before those of a place and a class.
+// The number of relocations before those of a place and class.
 fn count_below(records: &[Record], place: u64, at: u64) -> usize
     requires { AreInOrder records.now }
     ensures { IsSplit place at records.now result }
@@ -81,8 +81,9 @@ fn count_below(records: &[Record], place: u64, at: u64) -> usize
     records.partition_point(|r| r.place < place || (r.place == place && class(r.kind) < at))
 }
 
-// The same as `count_below`. The index `near` and those beside it are tried before a binary search, since relocations
-// for one field, or for an AUIPC and its lower part, stand beside each other.
+// The result of `count_below`. The index `near` and its neighbours are tried before a binary search, since relocations
+// for
+// the same field, or for an AUIPC and its lower part, are adjacent.
 fn count_near(records: &[Record], near: usize, place: u64, at: u64) -> usize
     requires { AreInOrder records.now }
     ensures { IsSplit place at records.now result }
@@ -95,7 +96,7 @@ fn count_near(records: &[Record], near: usize, place: u64, at: u64) -> usize
     count_below(records, place, at)
 }
 
-// Whether the relocations below an index, and no others, come before those of a place and a class.
+// Whether exactly the relocations below an index come before those of a place and class.
 fn splits_at(records: &[Record], index: usize, place: u64, at: u64) -> bool
     requires { AreInOrder records.now }
     ensures { IsTrue result → IsSplit place at records.now index }
@@ -109,7 +110,7 @@ fn splits_at(records: &[Record], index: usize, place: u64, at: u64) -> bool
     begins_from(records, index, place, at)
 }
 
-// Whether the relocation before an index, if there is one, comes before those of a place and a class.
+// Whether the relocation before an index, if there is one, comes before those of a place and class.
 fn ends_before(records: &[Record], index: usize, place: u64, at: u64) -> bool
     requires { index ≤ length records.now }
     ensures { IsTrue result → 0 < index → (d : Record) → IsBelow place at (slice_index_or records.now (index - 1) d) }
@@ -120,7 +121,7 @@ fn ends_before(records: &[Record], index: usize, place: u64, at: u64) -> bool
     is_before(&records[index - 1], place, at)
 }
 
-// Whether the relocation at an index, if there is one, doesn't come before those of a place and a class.
+// Whether the relocation at an index, if there is one, doesn't come before those of a place and class.
 fn begins_from(records: &[Record], index: usize, place: u64, at: u64) -> bool
     ensures { IsTrue result → index < length records.now → (d : Record) →
         IsFrom place at (slice_index_or records.now index d) }
@@ -137,15 +138,15 @@ fn is_before(found: &Record, place: u64, at: u64) -> bool
     found.place < place || (found.place == place && class(found.kind) < at)
 }
 
-// Whether there is a relocation at an index, and it has this place and this class.
+// Whether there is a relocation at an index, with this place and class.
 fn has_key_at(records: &[Record], index: usize, place: u64, at: u64) -> bool
     ensures { IsTrue result ↔ HasKeyAt place at records.now index }
 {
     index < records.len() && records[index].place == place && class(records[index].kind) == at
 }
 
-// Whether there is a relocation of a class at a place. Here and below, `near` is about the index at which relocations
-// of the place stand; a bad guess costs time alone.
+// Whether there is a relocation with a place and class. In this function and those below, `near` is a guess for the
+// index of the relocations of the place. A bad guess only costs time.
 fn has(records: &[Record], near: usize, place: u64, at: u64) -> bool
     requires { AreInOrder records.now }
     ensures { IsTrue result ↔ Any (λ r. IsTrue (has_key place at r)) records.now }
@@ -153,7 +154,7 @@ fn has(records: &[Record], near: usize, place: u64, at: u64) -> bool
     has_key_at(records, count_near(records, near, place, at), place, at)
 }
 
-/// The only relocation of a class at a place, if there is exactly one. `near` is about its index.
+/// The relocation with a place and class, if there is exactly one. `near` is a guess for its index.
 pub fn only<'a>(records: &[Record<'a>], near: usize, place: u64, at: u64) -> Option<Record<'a>>
     requires { AreInOrder records.now }
     ensures is { IfSome result (IsOnly (has_key place at) records.now) }
@@ -169,7 +170,7 @@ pub fn only<'a>(records: &[Record<'a>], near: usize, place: u64, at: u64) -> Opt
     Some(records[from])
 }
 
-/// Whether a relocation for a call applies to a place. `near` is about its index.
+/// Whether a relocation for a call applies to a place. `near` is a guess for its index.
 pub fn has_call(records: &[Record], near: usize, place: u64) -> bool
     requires { AreInOrder records.now }
     ensures { (elf : Elf) → AreRecords elf records.now →
@@ -178,7 +179,8 @@ pub fn has_call(records: &[Record], near: usize, place: u64) -> bool
     has(records, near, place, CALL_CLASS)
 }
 
-/// Whether a relocation for an upper part that is not a call's applies to a place. `near` is about its index.
+/// Whether a relocation for an upper part that isn't part of a call applies to a place. `near` is a guess for its
+/// index.
 pub fn has_upper(records: &[Record], near: usize, place: u64) -> bool
     requires { AreInOrder records.now }
     ensures { (elf : Elf) → AreRecords elf records.now →
@@ -187,7 +189,8 @@ pub fn has_upper(records: &[Record], near: usize, place: u64) -> bool
     has(records, near, place, UPPER_CLASS)
 }
 
-/// The relocation that adds or sets a label of a width at a place, if there is exactly one. `near` is about its index.
+/// The relocation that adds or sets a label of a width at a place, if there is exactly one. `near` is a guess for its
+/// index.
 pub fn only_plus<'a>(
     records: &[Record<'a>],
     near: usize,
@@ -200,7 +203,8 @@ pub fn only_plus<'a>(
     only(records, near, place, plus_class(width))
 }
 
-/// The relocation that subtracts a label of a width at a place, if there is exactly one. `near` is about its index.
+/// The relocation that subtracts a label of a width at a place, if there is exactly one. `near` is a guess for its
+/// index.
 pub fn only_minus<'a>(
     records: &[Record<'a>],
     near: usize,

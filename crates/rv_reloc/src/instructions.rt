@@ -1,4 +1,4 @@
-// The instructions that references look for, at their addresses.
+// The instructions that references need, by address.
 ghost use Rattle.std.specs.Prelude.{◌≡◌, ℕ, ℤ, IfSome, Some, Contains, IsTrue, ◌↔◌};
 ghost use Rattle.rv_code.specs.declared.inst.Inst.TheVariants.{Auipc};
 ghost use Rattle.elf_code.specs.FileCode.{AreStarts};

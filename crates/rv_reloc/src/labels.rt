@@ -1,4 +1,4 @@
-// The labels that relocations add to a field, set it to or subtract from it, and how wide the field is for them.
+// The labels that relocations add to a field, set it to or subtract from it, and the widths of such fields.
 ghost use Rattle.std.specs.Prelude.{◌≡◌, ◌+ℤ◌, ℤ, pos, option_map, IsTrue, ◌↔◌};
 ghost use Rattle.elf_code.specs.FileCode.{AreStarts};
 ghost use Rattle.elf_code.specs.Relocations.{symbol_value, label, plus_width, minus_width, is_add};
@@ -12,7 +12,7 @@ use code_starts::start_index::Starts;
 use elf_image::Elf;
 use elf_image::relocation::*;
 
-/// How wide the field of a relocation is that adds, sets or subtracts a label.
+/// The width of the field of a relocation that adds, sets or subtracts a label.
 #[derive(Clone, Copy)]
 pub enum FieldWidth {
     Bits6,
@@ -20,7 +20,7 @@ pub enum FieldWidth {
     Bits16,
     Bits32,
     Bits64,
-    /// As wide as the number in LEB128 that is there.
+    /// The width of the LEB128 number in the field.
     Uleb128,
 }
 
@@ -66,7 +66,7 @@ pub fn minus_width(kind: u32) -> Option<FieldWidth>
     }
 }
 
-/// Whether the field of this relocation can be a cell, where it holds a difference.
+/// Whether the field of this relocation can be a cell if it contains a difference.
 pub fn can_be_cell(relocation: &Record) -> bool
     ensures { result ≡ can_be_cell (seen relocation.now) }
 {
@@ -75,7 +75,7 @@ pub fn can_be_cell(relocation: &Record) -> bool
         || is_pc_difference(relocation.kind)
 }
 
-/// The value of a relocation's symbol. Without a symbol, index 0, it is 0.
+/// The value of a relocation's symbol, or 0 if it has no symbol (index 0).
 pub fn symbol_value(elf: &Elf, relocation: &Record) -> u64
     ensures { result ≡ symbol_value elf.now (seen relocation.now) }
 {
@@ -95,7 +95,7 @@ fn sum(value: u64, addend: i64) -> i128
     value as i128 + addend as i128
 }
 
-/// The label that a relocation speaks of, the value of its symbol and its addend, which can be below zero.
+/// The label of a relocation, which is the value of its symbol plus its addend. It can be negative.
 pub fn label(elf: &Elf, relocation: &Record) -> i128
     ensures label { result ≡ label elf.now (seen relocation.now) }
     ensures size { IsLabelSize result }
@@ -103,12 +103,12 @@ pub fn label(elf: &Elf, relocation: &Record) -> i128
     sum(symbol_value(elf, relocation), relocation.addend)
 }
 
-/// Whether a label is a code address. Only the contract speaks of `elf`.
+/// Whether a label is a code address. `elf` is only used by the contract.
 pub fn is_code_label(elf: &Elf, starts: &Starts, label: i128) -> bool
     requires { AreStarts elf.now starts.now }
     ensures { IsTrue result ↔ IsCodeLabel elf.now label }
 {
-    // Called for a clause alone: the members of the list have 64 bits.
+    // This call only has an effect on the proof: the members of the list fit 64 bits.
     let _list = starts.list();
     match u64::try_from(label) {
         Ok(address) => starts.has(address),

@@ -1,4 +1,4 @@
-//! References of a file: its relocations, and what they say of its code.
+//! The references of a file: its relocations, and the roles, cells and faults that follow from them.
 #![tactic(auto)]
 
 mod absolute;

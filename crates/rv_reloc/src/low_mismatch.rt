@@ -18,7 +18,7 @@ fn differs_from_next(lows: &[Low], index: usize) -> bool
         && lows[index].imm != lows[index + 1].imm
 }
 
-/// The lowest AUIPC of which two lower parts differ.
+/// The lowest address of an AUIPC with two lower parts that differ.
 pub fn lowest_low_mismatch(lows: &[Low]) -> Option<u64>
     requires { IsNonDecreasingBy (λ l. l.hi) lows.now }
     ensures { (elf : Elf) → AreLows elf lows.now → IsLowest (IsLoMismatch elf) result }

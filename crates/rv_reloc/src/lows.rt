@@ -1,4 +1,4 @@
-// The lower parts of distances, by the AUIPC that they name.
+// The lower parts of distances, by their AUIPCs.
 ghost use Rattle.std.specs.Prelude.{◌≡◌, ◌<◌, ◌≤◌, ℕ, IfOk, OnOk, IfSome, IsSome, Some, Contains, length};
 ghost use Rattle.std.specs.Prelude.{slice_index_or};
 ghost use Rattle.std.specs.List.Sorted.{IsNonDecreasingBy, IsPermutation};
@@ -56,8 +56,9 @@ fn immediate_s(action: &Action) -> Option<i64>
     }
 }
 
-/// The immediate that can hold a lower part by a relocation of this type: of format I where the type says so, else of
-/// format S.
+/// The immediate that can have a lower part for a relocation of this type: that of format I or format S, depending on
+/// the
+/// type.
 pub fn lower_immediate(kind: u32, inst: &Inst) -> Option<i64>
     ensures { result ≡ lower_immediate kind inst.now }
 {
@@ -69,8 +70,9 @@ pub fn lower_immediate(kind: u32, inst: &Inst) -> Option<i64>
     }
 }
 
-/// The lower part that a relocation gives, if it is for one and on an instruction that can have one. Its symbol names
-/// the AUIPC, not the target. psABI, "PC-Relative Symbol Addresses".
+/// The lower part that a relocation gives, if it is for one and on an instruction that can have one. The symbol refers
+/// to
+/// the AUIPC, not to the target. psABI, "PC-Relative Symbol Addresses".
 pub fn low_of(elf: &Elf, starts: &Starts, parts: &[Part], relocation: &Record) -> Option<Low>
     requires starts { AreStarts elf.now starts.now }
     requires parts { AreCodeParts elf.now parts.now }
@@ -86,7 +88,7 @@ pub fn low_of(elf: &Elf, starts: &Starts, parts: &[Part], relocation: &Record) -
     Some(Low { hi, imm })
 }
 
-// The lower parts of relocations, one relocation after another.
+// The lower parts of all relocations.
 fn read_lows(
     alloc: Global,
     elf: &Elf,
@@ -105,7 +107,7 @@ fn read_lows(
     Ok(lows)
 }
 
-// Puts lower parts in the order of their AUIPCs.
+// Sorts lower parts by AUIPC.
 fn sort_lows(lows: &mut Vec<Low>) -> Result<(), NoMemory>
     ensures permutation { IsPermutation lows.old.items lows.new.items }
     ensures rising { OnOk result (IsNonDecreasingBy (λ l. l.hi) lows.new.items) }
@@ -114,7 +116,7 @@ fn sort_lows(lows: &mut Vec<Low>) -> Result<(), NoMemory>
     Ok(())
 }
 
-/// All lower parts, by their AUIPCs.
+/// All lower parts, sorted by AUIPC.
 pub fn lows(
     alloc: Global,
     elf: &Elf,
@@ -132,7 +134,7 @@ pub fn lows(
     Ok(lows)
 }
 
-// How many lower parts are for AUIPCs below an address.
+// The number of lower parts for AUIPCs below an address.
 fn count_below(lows: &[Low], hi: u64) -> usize
     requires { IsNonDecreasingBy (λ l. l.hi) lows.now }
     ensures bound { result ≤ length lows.now }

@@ -1,4 +1,4 @@
-// The runs of all tables, made runs of which no two have an entry in common.
+// The runs of all tables, merged so that no two runs have a common entry.
 ghost use Rattle.std.specs.Prelude.{◌≡◌, ◌≤◌, ◌+◌, ◌-◌, ◌<◌, ◌++◌, ◌∷◌, ℕ, List, All, IfOk, OnOk, length};
 ghost use Rattle.rv_reloc.specs.declared.entry_run.EntryRun.{EntryRun};
 ghost use Rattle.rv_reloc.specs.EntryRuns.{entries, run_entries, all_entries, IsWholeRun, AreWholeRuns};
@@ -9,7 +9,7 @@ use rb_bytes::fault::NoMemory;
 use std::alloc::Global;
 use std::collections::VecDeque;
 
-// Adds a run behind others, unless it is empty.
+// Appends a run to others, unless it is empty.
 fn push_last<'a>(runs: &mut VecDeque<EntryRun<'a>>, run: &EntryRun<'a>) -> Result<(), NoMemory>
     ensures entries { OnOk result ((file : List ℕ) →
         entries file runs.new.items ≡ entries file runs.old.items ++ run_entries file run.now) }
@@ -37,8 +37,9 @@ fn push_first<'a>(runs: &mut VecDeque<EntryRun<'a>>, run: &EntryRun<'a>) -> Resu
     Ok(())
 }
 
-// Takes what comes first of two runs up to where one of them ends, where `next` begins in `run`. What they have in
-// common becomes one run; what is left of the other one goes back to the front of its list.
+// Merges two runs of which `next` starts inside `run`, up to the end of the shorter one. Their common entries become
+// one
+// run, and the rest of the other run goes back to the front of its list.
 fn merge_common<'a>(
     done: &mut VecDeque<EntryRun<'a>>,
     left: &mut VecDeque<EntryRun<'a>>,
@@ -66,7 +67,7 @@ fn merge_common<'a>(
     Ok(())
 }
 
-// Takes the first of two runs, where `run`, taken off `left`, begins no later than `next`, taken off `right`.
+// Takes the first of two runs. `run`, taken from `left`, doesn't start after `next`, taken from `right`.
 fn merge_first<'a>(
     done: &mut VecDeque<EntryRun<'a>>,
     left: &mut VecDeque<EntryRun<'a>>,
@@ -91,7 +92,7 @@ fn merge_first<'a>(
     Ok(())
 }
 
-// Takes at least one run off two lists, if one is left.
+// Takes at least one run from the two lists, if one is left.
 fn merge_next<'a>(
     done: &mut VecDeque<EntryRun<'a>>,
     left: &mut VecDeque<EntryRun<'a>>,
@@ -124,8 +125,7 @@ fn merge_next<'a>(
     }
 }
 
-// The runs of two lists as one list. If in each the runs are in order and no two have an entry in common, so it is in
-// this.
+// Merges two lists of runs. If each list is sorted and without common entries, so is the result.
 fn merged<'a>(
     alloc: Global,
     mut left: VecDeque<EntryRun<'a>>,
@@ -138,15 +138,15 @@ fn merged<'a>(
         All (IsWholeRun size) runs.items) }
 {
     let mut done = VecDeque::new(alloc);
-    // Each step takes at least one run off both lists together, so none is left.
+    // Each step takes at least one run from the two lists, so none is left.
     for step in 0..left.len() + right.len() {
         merge_next(&mut done, &mut left, &mut right)?;
     }
     Ok(done)
 }
 
-/// The relocations of runs as runs of which no two have one in common, in the order of their phases and numbers. One
-/// that stands in several tables is kept with two of the sections to which it applies.
+/// Merges runs, so that no two runs of the result have a common entry. The result is sorted by phase and number. An
+/// entry that is in several tables is kept with two of the sections that it applies to.
 pub fn merged_runs<'a>(
     alloc: Global,
     runs: &[EntryRun<'a>],

@@ -1,4 +1,4 @@
-// Relocations that don't fit the instructions that they apply to.
+// Relocations that don't fit the instructions or fields that they apply to.
 ghost use Rattle.std.specs.Prelude.{◌≡◌, ◌↔◌, ◌||◌, IfOk, IsTrue, All, Contains};
 ghost use Rattle.elf_code.specs.FileCode.{AreStarts};
 ghost use Rattle.elf_code.specs.Relocations.{HasRelocation, relocations};
@@ -34,22 +34,22 @@ use elf_image::lowest::{lower, place_if};
 use rb_bytes::fault::NoMemory;
 use std::alloc::Global;
 
-// Whether a relocation names a symbol that the file doesn't have.
+// Whether a relocation has the index of a symbol that doesn't exist.
 fn has_bad_symbol(elf: &Elf, relocation: &Record) -> bool
     ensures { IsTrue result ↔ HasBadSymbol elf.now (seen relocation.now) }
 {
     relocation.symbol != 0 && elf.symbols.len() <= relocation.symbol as usize
 }
 
-// `||` as a function: the proof of a caller then has one case, not one for each test that is left out.
+// `||` as a function. The proof of a caller then has a single case instead of one for each short-circuited test.
 fn is_either(one: bool, other: bool) -> bool
     ensures { result ≡ (one || other) }
 {
     one || other
 }
 
-// Whether a relocation is not on the instructions that it is for, or these say something else. `near` is about its
-// index in `records`.
+// Whether a relocation isn't on the instructions that it is for, or their immediates are wrong. `near` is a guess for
+// its index in `records`.
 fn is_misplaced(
     elf: &Elf,
     starts: &Starts,
@@ -73,7 +73,7 @@ fn is_misplaced(
     is_either(is_either(call, upper), is_either(lower, absolute))
 }
 
-// Whether a relocation names no symbol of the file, or its field isn't in its section.
+// Whether a relocation's symbol doesn't exist, or its field isn't in its section.
 fn has_bad_field(elf: &Elf, known: &[Known], relocation: &Record) -> bool
     requires low { IsLow elf.now }
     requires known { All (IsKnown elf.now) known.now }
@@ -82,8 +82,8 @@ fn has_bad_field(elf: &Elf, known: &[Known], relocation: &Record) -> bool
     has_bad_symbol(elf, relocation) || !has_field(elf, known, relocation)
 }
 
-// Whether a relocation doesn't fit, whatever the entries of the global offset table hold. `near` is about its index in
-// `records`.
+// Whether a relocation doesn't fit, regardless of the contents of the global offset table. `near` is a guess for its
+// index in `records`.
 fn is_unfit(
     elf: &Elf,
     starts: &Starts,
@@ -115,7 +115,7 @@ fn is_unfit(
     )
 }
 
-// The lowest place of a relocation that doesn't fit, whatever the entries of the global offset table hold.
+// The lowest place of a relocation that doesn't fit, regardless of the contents of the global offset table.
 fn lowest_unfit(
     elf: &Elf,
     starts: &Starts,

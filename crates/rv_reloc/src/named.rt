@@ -1,4 +1,4 @@
-// The addresses that relocations for lower parts name.
+// The addresses that relocations for lower parts refer to.
 ghost use Rattle.std.specs.Prelude.{◌≡◌, ◌↔◌, ◌<◌, ℕ, IfOk, IfSome, IsTrue, Some, Contains, AllPairs};
 ghost use Rattle.std.specs.List.Sorted.{IsStrictlyIncreasing};
 ghost use Rattle.rv_reloc.specs.Finds.{AreFound};
@@ -15,7 +15,7 @@ use rb_bytes::fault::NoMemory;
 use rb_bytes::lists::push_some;
 use std::alloc::Global;
 
-// The address that a relocation names, if it is for a lower part: that of the AUIPC.
+// The address of the AUIPC that a relocation refers to, if it is for a lower part.
 fn named_by(elf: &Elf, relocation: &Record) -> Option<u64>
     ensures is { IfSome result (NamesUpper elf.now (seen relocation.now)) }
     ensures only { (a : ℕ) → NamesUpper elf.now (seen relocation.now) a → result ≡ Some a }
@@ -27,7 +27,7 @@ fn named_by(elf: &Elf, relocation: &Record) -> Option<u64>
     }
 }
 
-// The addresses that relocations name, one relocation after another.
+// The addresses that relocations refer to, relocation by relocation.
 fn read_named(alloc: Global, elf: &Elf, records: &[Record]) -> Result<Vec<u64>, NoMemory>
     ensures { IfOk result (λ named. AreFound (λ r a. NamesUpper elf.now (seen r) a) records.now named.items) }
 {
@@ -38,7 +38,7 @@ fn read_named(alloc: Global, elf: &Elf, records: &[Record]) -> Result<Vec<u64>, 
     Ok(named)
 }
 
-/// All addresses that relocations for lower parts name, ascending.
+/// All addresses that relocations for lower parts refer to, ascending.
 pub fn named_by_lows(alloc: Global, elf: &Elf, records: &[Record]) -> Result<Vec<u64>, NoMemory>
     requires { AreRecords elf.now records.now }
     ensures { IfOk result (λ named. AreNamed elf.now named.items) }
@@ -48,7 +48,7 @@ pub fn named_by_lows(alloc: Global, elf: &Elf, records: &[Record]) -> Result<Vec
     Ok(named)
 }
 
-/// Whether an address is among those that are named.
+/// Whether an address is in the ascending list `named`.
 pub fn is_named(named: &[u64], address: u64) -> bool
     requires { AllPairs (λ a b. a < b) named.now }
     ensures { IsTrue result ↔ Contains named.now address }

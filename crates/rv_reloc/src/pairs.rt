@@ -1,4 +1,4 @@
-// Lower parts together with the AUIPCs that they name.
+// Lower parts together with their AUIPCs.
 ghost use Rattle.std.specs.Prelude.{◌≡◌, ◌↔◌, ℕ, ℤ, pos, IfOk, IfSome, IsSome, IsTrue, Some, Contains};
 ghost use Rattle.elf_code.specs.FileCode.{AreStarts};
 ghost use Rattle.elf_code.specs.Relocations.{relocations};
@@ -23,7 +23,7 @@ use rb_bytes::fault::NoMemory;
 use rb_bytes::lists::push_some;
 use std::alloc::Global;
 
-/// The number that a lower part makes with the AUIPC that it names.
+/// The target of a lower part and its AUIPC, which may be any number.
 pub fn low_target(elf: &Elf, starts: &Starts, parts: &[Part], low: &Low) -> Option<i128>
     requires starts { AreStarts elf.now starts.now }
     requires parts { AreCodeParts elf.now parts.now }
@@ -34,7 +34,7 @@ pub fn low_target(elf: &Elf, starts: &Starts, parts: &[Part], low: &Low) -> Opti
     Some(pair_target(low.hi, auipc.imm, low.imm))
 }
 
-/// The address that a lower part makes with the AUIPC that it names, if it is one.
+/// The target of a lower part and its AUIPC, if it is an address.
 pub fn low_address(elf: &Elf, starts: &Starts, parts: &[Part], low: &Low) -> Option<u64>
     requires starts { AreStarts elf.now starts.now }
     requires parts { AreCodeParts elf.now parts.now }
@@ -46,7 +46,7 @@ pub fn low_address(elf: &Elf, starts: &Starts, parts: &[Part], low: &Low) -> Opt
     address_of(number)
 }
 
-// The address of the AUIPC that a lower part names, if both together make a number that is no address.
+// The address of the AUIPC of a lower part, if their target isn't an address.
 fn far_of(elf: &Elf, starts: &Starts, parts: &[Part], low: &Low) -> Option<u64>
     requires starts { AreStarts elf.now starts.now }
     requires parts { AreCodeParts elf.now parts.now }
@@ -60,7 +60,7 @@ fn far_of(elf: &Elf, starts: &Starts, parts: &[Part], low: &Low) -> Option<u64>
     Some(low.hi)
 }
 
-// The addresses of AUIPCs that make no address with a lower part, one lower part after another.
+// The addresses of AUIPCs whose target isn't an address, lower part by lower part.
 fn read_far(
     alloc: Global,
     elf: &Elf,
@@ -79,7 +79,7 @@ fn read_far(
     Ok(far)
 }
 
-/// All AUIPCs with which a lower part makes no address, ascending.
+/// All addresses of AUIPCs with a lower part whose target isn't an address, ascending.
 pub fn far_uppers(
     alloc: Global,
     elf: &Elf,
@@ -97,8 +97,8 @@ pub fn far_uppers(
     Ok(far)
 }
 
-/// Whether a relocation gives an AUIPC an upper part that makes no address with a lower part. Only the contract speaks
-/// of `elf`.
+/// Whether a relocation for an upper part is on an AUIPC whose target with some lower part isn't an address. `elf` is
+/// only used by the contract.
 pub fn is_far(elf: &Elf, far: &[u64], relocation: &Record) -> bool
     requires far { AreFar elf.now far.now }
     requires counts { Contains (relocations elf.now) (seen relocation.now) }

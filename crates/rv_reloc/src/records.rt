@@ -1,4 +1,4 @@
-// The relocations of a file that count, one after another.
+// The relocations of a file that count.
 ghost use Rattle.std.specs.Prelude.{◌≡◌, ◌≤◌, ◌+◌, ◌*◌, ◌-◌, ◌++◌, All, IfOk, OnOk, length, map};
 ghost use Rattle.std.specs.List.Sorted.{IsPermutation};
 ghost use Rattle.elf_code.specs.Relocations.{relocation_at};
@@ -16,9 +16,10 @@ use elf_image::{Elf, Section};
 use rb_bytes::fault::NoMemory;
 use std::alloc::Global;
 
-// At most one relocation is kept for this many bytes of the file. A table has 24 bytes for each, which is kept twice at
-// most. Tables that share bytes and not entries, which no linker makes, could have far more: then memory is said to run
-// out.
+// At most one relocation is kept for this number of bytes of the file. A table has 24 bytes for each relocation, which
+// is kept at most twice. Tables that overlap without sharing entries, which no linker makes, could have many more:
+// these
+// are refused as out of memory.
 const BYTES_A_RECORD: usize = 6;
 
 /// A relocation with a section that it applies to.
@@ -29,9 +30,9 @@ pub struct Record<'a> {
     /// `r_addend`.
     pub addend: i64,
     pub section: &'a Section<'a>,
-    /// Its type, the low half of `r_info`.
+    /// The type, the low half of `r_info`.
     pub kind: u32,
-    /// The index of its symbol, the high half of `r_info`; 0 for none.
+    /// The index of the symbol, the high half of `r_info`; 0 for none.
     pub symbol: u32,
 }
 
@@ -48,7 +49,7 @@ fn record_at<'a>(file: &[u8], section: &'a Section<'a>, offset: usize) -> Record
     }
 }
 
-// Adds the relocations of a run, for one section.
+// Appends the relocations of a run, for one section.
 fn push_entries<'a>(
     records: &mut Vec<Record<'a>>,
     file: &[u8],
@@ -65,7 +66,7 @@ fn push_entries<'a>(
     Ok(())
 }
 
-// Adds the relocations of a run, for the one section or the two that it has.
+// Appends the relocations of a run, for each of its one or two sections.
 fn push_run<'a>(
     records: &mut Vec<Record<'a>>,
     file: &[u8],
@@ -87,7 +88,7 @@ fn push_run<'a>(
     }
 }
 
-// The relocations of runs, one run after another.
+// The relocations of all runs.
 fn read_records<'a>(
     alloc: Global,
     file: &[u8],
@@ -106,7 +107,7 @@ fn read_records<'a>(
     Ok(records)
 }
 
-// Puts relocations in the order of their places, and those of one place in the order of their classes.
+// Sorts relocations by place, and then by class.
 fn sort_records(records: &mut Vec<Record>) -> Result<(), NoMemory>
     ensures permutation { IsPermutation records.old.items records.new.items }
     ensures ordered { OnOk result (AreInOrder records.new.items) }
@@ -115,8 +116,8 @@ fn sort_records(records: &mut Vec<Record>) -> Result<(), NoMemory>
     Ok(())
 }
 
-/// All relocations that count, by place. One that applies to several sections is kept for at most two of them, so
-/// tables that share entries are read in the time of these.
+/// All relocations that count, sorted by place. A relocation that applies to several sections is kept for at most two
+/// of them, so the time doesn't depend on how many tables share entries.
 pub fn records<'a>(alloc: Global, elf: &'a Elf<'a>) -> Result<Vec<Record<'a>>, NoMemory>
     ensures { IfOk result (λ records. AreRecords elf.now records.items) }
 {

@@ -1,4 +1,4 @@
-// What points at a file's code.
+// The references to a file's code.
 ghost use Rattle.std.specs.Prelude.{ℕ, List, IfOk, IfErr, OnOk};
 ghost use Rattle.elf_code.specs.FileCode.{AreStarts};
 ghost use Rattle.rb_bytes.specs.FirstFault.{IsFree, IsRefusalBy};
@@ -27,14 +27,14 @@ use std::alloc::Global;
 /// The references of a file.
 #[derive(Drop)]
 pub struct Refs {
-    /// The instructions with a part of an address, by their addresses.
+    /// The instructions with a part of an address, by address.
     pub roles: Vec<(u64, Role)>,
-    /// The data fields with code addresses or their differences, by address.
+    /// The data fields with code addresses or differences of them, by address.
     pub cells: Vec<CodeCell>,
 }
 
-/// The references of a file; or the first of the faults `RelocType`, `RelocMismatch`, `LoMismatch`, `NarrowDiff`,
-/// `IfuncOrPlt` and `AlreadyMoved`. `starts` are those of the file's instructions, and `whole` the ranges with
+/// The references of a file, or the first of the faults `RelocType`, `RelocMismatch`, `LoMismatch`, `NarrowDiff`,
+/// `IfuncOrPlt` and `AlreadyMoved`. `starts` are the starts of the file's instructions, and `whole` the ranges with
 /// exception tables, by their starts and ends. psABI, "Relocations".
 pub fn references(
     alloc: Global,
@@ -55,7 +55,7 @@ pub fn references(
     references_by(alloc, elf, &index, whole, &parts, &records, &lows)
 }
 
-// The references, by the file's code parts, its relocations and their lower parts.
+// The references, from the file's code parts, its relocations and its lower parts.
 fn references_by(
     alloc: Global,
     elf: &Elf,

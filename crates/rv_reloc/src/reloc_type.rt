@@ -1,4 +1,4 @@
-// Relocations of types that are not supported.
+// Relocations with types that aren't supported.
 ghost use Rattle.elf_image.specs.declared.elf.Elf.{Elf};
 ghost use Rattle.elf_image.specs.faults.LowestPlace.{IsLowest};
 ghost use Rattle.elf_code.specs.ReferenceFaults.{IsRelocType};
@@ -8,7 +8,7 @@ use crate::records::Record;
 use crate::types::is_supported;
 use elf_image::lowest::{lower, place_if};
 
-/// The lowest place of a relocation of a type that is not supported.
+/// The lowest place of a relocation with a type that isn't supported.
 pub fn lowest_reloc_type(records: &[Record]) -> Option<u64>
     ensures { (elf : Elf) → AreRecords elf records.now → IsLowest (IsRelocType elf) result }
 {

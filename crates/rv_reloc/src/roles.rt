@@ -1,4 +1,4 @@
-// Claims of relocations that instructions have roles, and the roles that count.
+// Claims of relocations to roles of instructions, and the roles that win.
 ghost use Rattle.std.specs.Prelude.{◌≡◌, ◌↔◌, ◌<◌, ℕ, IfOk, IsTrue, AllPairs, length};
 ghost use Rattle.elf_image.specs.declared.elf.Elf.{Elf};
 ghost use Rattle.elf_code.specs.FileCode.{AreRoles};
@@ -8,16 +8,17 @@ use rb_bytes::fault::NoMemory;
 use rv_code::Role;
 use std::alloc::Global;
 
-/// A relocation says that an instruction has a role. Of the claims to one instruction the first counts, by types and
-/// then by keys.
+/// A relocation's claim that an instruction has a role. Of the claims to one instruction, the first by type and then by
+/// key wins.
 #[derive(Clone, Copy)]
 pub struct Claim {
     /// The address of the instruction.
     pub at: u64,
     /// The type of the relocation.
     pub kind: u32,
-    /// The address of the AUIPC, or the target of an absolute address. Claims with one type and one key to an address
-    /// are to one role.
+    /// The address of the AUIPC, or the target of an absolute address. Claims to one instruction with the same type and
+    /// key
+    /// have the same role.
     pub key: u64,
     pub role: Role,
 }
@@ -30,7 +31,7 @@ fn is_first(claims: &[Claim], index: usize) -> bool
     index == 0 || claims[index - 1].at < claims[index].at
 }
 
-/// The role that counts at each address, of claims in order: that of the first claim there.
+/// The role at each address, from sorted claims: the role of the first claim for the address.
 pub fn first_roles(alloc: Global, claims: &[Claim]) -> Result<Vec<(u64, Role)>, NoMemory>
     requires { AllPairs IsClaimUpTo claims.now }
     ensures { (elf : Elf) → AreClaims elf claims.now → IfOk result (λ roles. AreRoles elf roles.items) }

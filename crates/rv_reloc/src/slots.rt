@@ -1,4 +1,4 @@
-// The labels that entries of the global offset table are to hold.
+// The labels that entries of the global offset table (GOT) should have.
 ghost use Rattle.std.specs.Prelude.{◌≡◌, ◌↔◌, ◌<◌, ◌≤◌, ℕ, pos, IfOk, OnOk, IfSome, IsTrue, IsSomeAnd, Some, Contains};
 ghost use Rattle.std.specs.Prelude.{AllPairs, length, slice_index_or};
 ghost use Rattle.std.specs.List.Sorted.{IsPermutation};
@@ -16,7 +16,7 @@ use rb_bytes::fault::NoMemory;
 use rb_bytes::lists::push_some;
 use std::alloc::Global;
 
-/// The entry of the global offset table that the AUIPC at `place` names is to hold a label.
+/// A label that the GOT entry of the AUIPC at `place` should have.
 #[derive(Clone, Copy)]
 pub struct SlotLabel {
     pub place: u64,
@@ -47,7 +47,7 @@ fn read_labels(alloc: Global, elf: &Elf, records: &[Record]) -> Result<Vec<SlotL
     Ok(labels)
 }
 
-// Puts labels in the order of their places, and those of one place in their own.
+// Sorts labels by place, and then by label.
 fn sort_labels(labels: &mut Vec<SlotLabel>) -> Result<(), NoMemory>
     ensures permutation { IsPermutation labels.old.items labels.new.items }
     ensures ordered { OnOk result (AllPairs (λ s t. IsLabelFrom s.place s.label t) labels.new.items) }
@@ -56,7 +56,7 @@ fn sort_labels(labels: &mut Vec<SlotLabel>) -> Result<(), NoMemory>
     Ok(())
 }
 
-/// All labels that entries of the global offset table are to hold, by place.
+/// All labels that GOT entries should have, sorted by place.
 pub fn slot_labels(alloc: Global, elf: &Elf, records: &[Record]) -> Result<Vec<SlotLabel>, NoMemory>
     requires { AreRecords elf.now records.now }
     ensures { IfOk result (λ labels. AreSlotLabels elf.now labels.items) }
@@ -66,7 +66,7 @@ pub fn slot_labels(alloc: Global, elf: &Elf, records: &[Record]) -> Result<Vec<S
     Ok(labels)
 }
 
-// How many of these come before a place and a label.
+// The number of labels before a place and label.
 fn count_below(labels: &[SlotLabel], place: u64, label: i128) -> usize
     requires { AllPairs (λ s t. IsLabelFrom s.place s.label t) labels.now }
     ensures bound { result ≤ length labels.now }
@@ -77,7 +77,7 @@ fn count_below(labels: &[SlotLabel], place: u64, label: i128) -> usize
     labels.partition_point(|s| s.place < place || (s.place == place && s.label < label))
 }
 
-/// Whether the entry that the AUIPC at a place names is to hold this label.
+/// Whether the GOT entry of the AUIPC at `place` should have this label.
 pub fn has_label(labels: &[SlotLabel], place: u64, label: i128) -> bool
     requires { AllPairs (λ s t. IsLabelFrom s.place s.label t) labels.now }
     ensures { IsTrue result ↔ Contains labels.now (record { place = place; label = label }) }
@@ -93,7 +93,7 @@ pub fn has_label(labels: &[SlotLabel], place: u64, label: i128) -> bool
     found.label == label
 }
 
-// Whether there is a label of a place that is below a number.
+// Whether a label with this place is below `number`.
 fn has_label_below(labels: &[SlotLabel], place: u64, number: i128) -> bool
     requires { AllPairs (λ s t. IsLabelFrom s.place s.label t) labels.now }
     ensures { IsTrue result ↔ HasLabelBelow labels.now place number }
@@ -106,7 +106,7 @@ fn has_label_below(labels: &[SlotLabel], place: u64, number: i128) -> bool
     last.place == place
 }
 
-// Whether there is a label of a place that is a number or above it.
+// Whether a label with this place is at or above `number`.
 fn has_label_from(labels: &[SlotLabel], place: u64, number: i128) -> bool
     requires { AllPairs (λ s t. IsLabelFrom s.place s.label t) labels.now }
     ensures { IsTrue result ↔ HasLabelFrom labels.now place number }
@@ -119,7 +119,7 @@ fn has_label_from(labels: &[SlotLabel], place: u64, number: i128) -> bool
     first.place == place
 }
 
-/// Whether the entry that the AUIPC at a place names is to hold a label that isn't this number.
+/// Whether the GOT entry of the AUIPC at `place` should have a label other than `number`.
 pub fn has_other_label(labels: &[SlotLabel], place: u64, number: u64) -> bool
     requires { AllPairs (λ s t. IsLabelFrom s.place s.label t) labels.now }
     ensures { IsTrue result ↔ HasOtherLabel labels.now place number }
@@ -128,7 +128,7 @@ pub fn has_other_label(labels: &[SlotLabel], place: u64, number: u64) -> bool
         || has_label_from(labels, place, number as i128 + 1)
 }
 
-/// Whether the entry that the AUIPC at a place names is to hold a label at all.
+/// Whether the GOT entry of the AUIPC at `place` should have any label.
 pub fn has_label_at(labels: &[SlotLabel], place: u64) -> bool
     requires { AllPairs (λ s t. IsLabelFrom s.place s.label t) labels.now }
     ensures { IsTrue result ↔ HasLabelAt labels.now place }

@@ -1,4 +1,4 @@
-// The fields that count, where several share bytes.
+// The fields that count if several share bytes.
 ghost use Rattle.std.specs.Prelude.{◌≡◌, ℕ, List, IfOk, OnOk, map, AllPairs};
 ghost use Rattle.std.specs.List.Sorted.{IsPermutation};
 ghost use Rattle.elf_image.specs.declared.elf.Elf.{Elf};
@@ -8,8 +8,8 @@ use rb_bytes::fault::NoMemory;
 use std::alloc::Global;
 use std::cmp::Reverse;
 
-/// What a field holds. `Ord` is derived, and is the order of fields of one place and width: an address before a
-/// difference, and then by labels.
+/// The content of a field. The derived `Ord` is the order of fields with one place and width: addresses before
+/// differences, and then by label.
 #[derive(Clone, Copy, PartialEq, Eq, PartialOrd, Ord)]
 pub enum Content {
     Address { to: u64 },
@@ -19,14 +19,14 @@ pub enum Content {
 /// A field that can be a cell.
 #[derive(Clone, Copy)]
 pub struct Candidate {
-    /// The address of its first byte.
+    /// The address of the first byte.
     pub place: u64,
-    /// Its width in bytes, 4 or 8.
+    /// The width in bytes, 4 or 8.
     pub width: u8,
     pub content: Content,
 }
 
-/// Puts fields in the order of their places, the wider before the narrower, and addresses before differences.
+/// Sorts fields by place, then wider before narrower, then addresses before differences.
 pub fn sort_fields(fields: &mut Vec<Candidate>) -> Result<(), NoMemory>
     ensures permutation { IsPermutation fields.old.items fields.new.items }
     ensures rising { OnOk result (AllPairs IsKeyUpTo (map as_field fields.new.items)) }
@@ -35,8 +35,8 @@ pub fn sort_fields(fields: &mut Vec<Candidate>) -> Result<(), NoMemory>
     Ok(())
 }
 
-/// The fields that count, of all that can be cells in the order of [`sort_fields`]: each that shares no byte with one
-/// that counts and comes before it.
+/// The fields that count, from all fields that can be cells in the order of [`sort_fields`]: each field that shares no
+/// byte with an earlier one that counts.
 pub fn sweep(alloc: Global, candidates: &[Candidate]) -> Result<Vec<Candidate>, NoMemory>
     ensures { (elf : Elf) (tabled : List (ℕ × ℕ)) → AreCandidates elf tabled (map as_field candidates.now) →
         IfOk result (λ counted. AreCounted elf tabled (map as_field counted.items)) }

@@ -1,4 +1,4 @@
-// Numbers in LEB128, which may be of any length: where they end is found once for all that end together.
+// LEB128 numbers of any length. The end of numbers that end together is searched only once.
 ghost use Rattle.std.specs.Prelude.{◌≡◌, ◌<◌, ◌≤◌, ◌+◌, ◌-◌, ◌*◌, ◌^◌, ◌↔◌, ℕ, ℤ, pos, negsuc, ◌∷◌, [], ◌%◌, List};
 ghost use Rattle.std.specs.Prelude.{IsTrue, IfOk, IfSome, OnSome, OnOk, All, length, Option};
 ghost use Rattle.std.specs.List.Sorted.{IsPermutation};
@@ -13,25 +13,25 @@ use elf_image::Elf;
 use rb_bytes::fault::NoMemory;
 use std::alloc::Global;
 
-/// What is left of a number in LEB128 from one of its bytes on.
+/// The rest of a LEB128 number from one of its bytes on.
 #[derive(Clone, Copy)]
 pub struct LebRest {
-    /// The address after its last byte.
+    /// The address after the last byte.
     pub end: u64,
-    /// Whether the seven low bits of each byte are 0: they hold the sign of a number that isn't negative.
+    /// Whether the seven low bits of each byte are 0: the bytes only have sign bits of a nonnegative number.
     pub is_zeros: bool,
-    /// Whether the seven low bits of each byte are set: they hold the sign of a negative number.
+    /// Whether the seven low bits of each byte are set: the bytes only have sign bits of a negative number.
     pub is_ones: bool,
 }
 
-/// What is left of a number from a place on, its tail; none where the loaded bytes end before the number does.
+/// The rest (tail) of a number from the address `place` on. None if the loaded bytes end before the number does.
 #[derive(Clone, Copy)]
 pub struct Known {
     pub place: u64,
     pub tail: Option<LebRest>,
 }
 
-/// How many bytes in LEB128 can hold other bits of a difference of labels than those of its sign: it is below 2^70.
+/// The number of LEB128 bytes of a difference of labels that can have bits other than sign bits. It is below 2^70.
 pub const DIFFERENCE_BYTES: u8 = 10;
 
 // The tail of a single byte, which is the last.
@@ -61,7 +61,7 @@ fn longer_tail(byte: u8, tail: LebRest) -> LebRest
     }
 }
 
-// The tail at an address, where that of the next address is known.
+// The tail at an address, from the tail at the next address.
 fn tail_before(elf: &Elf, address: u64, next: Option<LebRest>) -> Option<LebRest>
     requires low { IsLow elf.now }
     requires next { TailAt elf.now (address + 1) next }
@@ -75,7 +75,7 @@ fn tail_before(elf: &Elf, address: u64, next: Option<LebRest>) -> Option<LebRest
     Some(longer_tail(byte, tail))
 }
 
-// The tail at a byte with which a number ends, if one does.
+// The tail at a byte that ends a number, or at an address that isn't loaded.
 fn tail_of_last(elf: &Elf, address: u64) -> Option<LebRest>
     requires low { IsLow elf.now }
     requires ends { IsTrue (ends_with (byte_at elf.now address)) }
@@ -94,7 +94,7 @@ fn ends_with(byte: Option<u8>) -> bool
     }
 }
 
-// The first address from `from` on at which a number's last byte stands or no byte is loaded; `to`, if that is lower.
+// The first address from `from` on that has the last byte of a number or isn't loaded, and at most `to`.
 fn stop_between(elf: &Elf, from: u64, to: u64) -> u64
     requires low { IsLow elf.now }
     requires order { from ≤ to }
@@ -110,7 +110,7 @@ fn stop_between(elf: &Elf, from: u64, to: u64) -> u64
     to
 }
 
-// The tail at the address `from`, where that at a higher one, `to`, is known.
+// The tail at the address `from`, from the tail at a higher address `to`.
 fn tail_below(elf: &Elf, from: u64, to: u64, known: Option<LebRest>) -> Option<LebRest>
     requires low { IsLow elf.now }
     requires order { from ≤ to }
@@ -129,8 +129,8 @@ fn tail_below(elf: &Elf, from: u64, to: u64, known: Option<LebRest>) -> Option<L
     tail
 }
 
-/// The tails at all these places, which ascend. They are found from the last one down, so that no byte is gone over
-/// again for another place; that alone wants the order.
+/// The tails at ascending addresses. They are computed from the last address to the first, so that no byte is read
+/// twice. Only this needs the order.
 pub fn tails_at(alloc: Global, elf: &Elf, places: &[u64]) -> Result<Vec<Known>, NoMemory>
     requires { IsLow elf.now }
     ensures { IfOk result (λ known. All (IsKnown elf.now) known.items) }
@@ -156,7 +156,7 @@ pub fn tails_at(alloc: Global, elf: &Elf, places: &[u64]) -> Result<Vec<Known>, 
     Ok(known)
 }
 
-// The tail at an address, found from nothing.
+// The tail at an address, without other known tails.
 fn tail_from(elf: &Elf, place: u64) -> Option<LebRest>
     requires { IsLow elf.now }
     ensures { TailAt elf.now place result }
@@ -164,7 +164,7 @@ fn tail_from(elf: &Elf, place: u64) -> Option<LebRest>
     tail_below(elf, place, u64::MAX, None)
 }
 
-/// The tail at an address. Those that are known spare the search for the number's end.
+/// The tail at an address. Known tails save the search for the end of the number.
 pub fn tail_at(elf: &Elf, known: &[Known], place: u64) -> Option<LebRest>
     requires low { IsLow elf.now }
     requires known { All (IsKnown elf.now) known.now }
@@ -185,14 +185,14 @@ fn low_bits(value: i128) -> u8
     (value.cast_unsigned() % 128) as u8
 }
 
-// The bits above the seven lowest, the sign among them.
+// The bits above the seven lowest, with the sign.
 fn high_bits(value: i128) -> i128
     ensures { result ≡ high_bits value }
 {
     value >> 7
 }
 
-// Whether all bytes of a number in LEB128 from an address on hold the bits of a sign alone, which is given as 0 or -1.
+// Whether all bytes of the LEB128 number at an address only have sign bits. `sign` is 0 or -1.
 fn holds_sign(elf: &Elf, known: &[Known], address: u64, sign: i128) -> bool
     requires low { IsLow elf.now }
     requires known { All (IsKnown elf.now) known.now }
@@ -211,8 +211,8 @@ fn holds_sign(elf: &Elf, known: &[Known], address: u64, sign: i128) -> bool
     }
 }
 
-// Whether the number in LEB128 at an address holds the lowest bits of `number`, of which the first `steps` bytes can
-// differ from those of its sign.
+// Whether the LEB128 number at an address has the lowest bits of `number`. Only its first `steps` bytes can differ from
+// sign bits.
 fn holds_within(elf: &Elf, known: &[Known], address: u64, number: i128, steps: u8) -> bool
     requires low { IsLow elf.now }
     requires known { All (IsKnown elf.now) known.now }
@@ -233,7 +233,7 @@ fn holds_within(elf: &Elf, known: &[Known], address: u64, number: i128, steps: u
     }
 }
 
-/// Whether the number in LEB128 at an address holds the lowest bits of a difference of labels.
+/// Whether the LEB128 number at an address has the lowest bits of a difference of labels.
 pub fn holds_bits(elf: &Elf, known: &[Known], address: u64, difference: i128) -> bool
     requires low { IsLow elf.now }
     requires known { All (IsKnown elf.now) known.now }

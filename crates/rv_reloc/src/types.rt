@@ -1,13 +1,14 @@
-// Types of relocations, by what is made of them; each function answers for a relocation of type `kind`. psABI,
-// "Relocations", the table of types.
+// Types of relocations, by use. Each function takes the type `kind` of a relocation. psABI, "Relocations", the table of
+// types.
 ghost use Rattle.std.specs.Prelude.{◌≡◌};
 ghost use Rattle.elf_code.specs.Relocations.{is_ignored, is_address, is_call_pair, is_pcrel_hi, is_pcrel_lo};
 ghost use Rattle.elf_code.specs.Relocations.{is_absolute, is_pc_difference, is_supported};
 
 use elf_image::relocation::*;
 
-/// Whether nothing is made of it: a hint for the linker, a branch or jump, which is read from the instruction, or an
-/// offset of thread-local data.
+/// Whether the relocation is ignored: a hint for the linker, a branch or jump (whose target is read from the
+/// instruction),
+/// or an offset of thread-local data.
 pub fn is_ignored(kind: u32) -> bool
     ensures { result ≡ is_ignored kind }
 {
@@ -21,21 +22,21 @@ pub fn is_ignored(kind: u32) -> bool
         || (R_RISCV_TPREL_HI20 <= kind && kind <= R_RISCV_TPREL_ADD)
 }
 
-/// Whether its field holds an address.
+/// Whether the field contains an address.
 pub fn is_address(kind: u32) -> bool
     ensures { result ≡ is_address kind }
 {
     kind == R_RISCV_32 || kind == R_RISCV_64
 }
 
-/// Whether it is for a call, of an AUIPC and a JALR after it.
+/// Whether the relocation is for a call, an AUIPC followed by a JALR.
 pub fn is_call_pair(kind: u32) -> bool
     ensures { result ≡ is_call_pair kind }
 {
     kind == R_RISCV_CALL || kind == R_RISCV_CALL_PLT
 }
 
-/// Whether it is for the upper part of a distance from an AUIPC.
+/// Whether the relocation is for the upper part of a distance from an AUIPC.
 pub fn is_pcrel_hi(kind: u32) -> bool
     ensures { result ≡ is_pcrel_hi kind }
 {
@@ -45,28 +46,28 @@ pub fn is_pcrel_hi(kind: u32) -> bool
         || kind == R_RISCV_PCREL_HI20
 }
 
-/// Whether it is for the lower part of a distance from an AUIPC.
+/// Whether the relocation is for the lower part of a distance from an AUIPC.
 pub fn is_pcrel_lo(kind: u32) -> bool
     ensures { result ≡ is_pcrel_lo kind }
 {
     kind == R_RISCV_PCREL_LO12_I || kind == R_RISCV_PCREL_LO12_S
 }
 
-/// Whether it is for a part of an absolute address.
+/// Whether the relocation is for a part of an absolute address.
 pub fn is_absolute(kind: u32) -> bool
     ensures { result ≡ is_absolute kind }
 {
     kind == R_RISCV_HI20 || kind == R_RISCV_LO12_I || kind == R_RISCV_LO12_S
 }
 
-/// Whether its field holds the distance of a label from the field.
+/// Whether the field contains the distance from the field to a label.
 pub fn is_pc_difference(kind: u32) -> bool
     ensures { result ≡ is_pc_difference kind }
 {
     kind == R_RISCV_32_PCREL || kind == R_RISCV_PLT32
 }
 
-/// Whether its type is supported.
+/// Whether the type is supported.
 pub fn is_supported(kind: u32) -> bool
     ensures { result ≡ is_supported kind }
 {

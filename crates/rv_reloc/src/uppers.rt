@@ -17,7 +17,7 @@ use code_starts::parts::Part;
 use code_starts::start_index::Starts;
 use elf_image::Elf;
 
-/// Whether a relocation for an upper part is on no AUIPC, or on one that no lower part names.
+/// Whether a relocation for an upper part isn't on an AUIPC, or no lower part refers to the AUIPC.
 pub fn is_bad_upper(
     elf: &Elf,
     starts: &Starts,
@@ -39,8 +39,9 @@ pub fn is_bad_upper(
     }
 }
 
-// Whether an address is that of an AUIPC with an upper part that is not a call's. `near` is about the index of its
-// relocation in `records`.
+// Whether there is an AUIPC at an address, with an upper part that isn't part of a call. `near` is a guess for the
+// index
+// of its relocation in `records`.
 fn is_upper(
     elf: &Elf,
     starts: &Starts,
@@ -64,8 +65,9 @@ fn is_upper(
     }
 }
 
-/// Whether a relocation for a lower part is on no instruction that can have one, or names no upper part. `near` is
-/// about the index in `records` of the relocation for the upper part.
+/// Whether a relocation for a lower part isn't on an instruction that can have one, or refers to no upper part. `near`
+/// is
+/// a guess for the index in `records` of the relocation for the upper part.
 pub fn is_bad_lower(
     elf: &Elf,
     starts: &Starts,

@@ -5,7 +5,7 @@ use Rattle.elf_code.specs.Roles.{lower_immediate}
 use Rattle.rv_reloc.proofs.LowLists.{low_same}
 use Rattle.rv_reloc.proofs.lows.low_of.Goals as goal
 
--- the instruction that was found is the one that has a lower part
+-- The instruction found is the one with the lower part.
 same_inst : (o : Option Inst) (i j : Inst) → o ≡ Some i → o ≡ Some j → j ≡ i
 same_inst o i j is is' = let e : Some i ≡ Some j = sym is ∙ is' in cc
 

@@ -11,11 +11,11 @@ use Rattle.rv_reloc.proofs.LabelOrder.{listed-first}
 use Rattle.rv_reloc.proofs.slots.has_label.Goals as goal
 use Rattle.rb_bytes.proofs.Tests.{antisym}
 
--- what is read past the end
+-- A default for indices past the end.
 abbrev no_label : SlotLabel
 no_label = record { place = 0; label = pos 0 }
 
--- where a label that is listed is, by what a search with a number that is the label said
+-- The index of a listed label, from the result of a search for its number.
 found : (items : List SlotLabel) (place : ℕ) (label z : ℤ) (n : ℕ) → z ≡ label →
     AllPairs (λ s t. IsLabelFrom s.place s.label t) items →
     n ≤ length items → ((k : ℕ) (d : SlotLabel) → k < n → IsLabelBelow place z (slice_index_or items k d)) →
