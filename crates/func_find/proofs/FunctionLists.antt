@@ -224,7 +224,7 @@ IsLowest-entry elf tabled starts parts lowest are functions =
       bad.is_entry,
     ))
 
--- Which faults are absent.
+-- Absent faults.
 
 pub lacks_below_entry : (elf : Elf) (tabled : List (ℕ × ℕ)) → LacksBelow (HasFunctionFault elf tabled) 15
 lacks_below_entry elf tabled BadEntry low = absurd (omega arith)
@@ -312,7 +312,7 @@ no_bad elf tabled wholes parts funcs functions made = (
       (made_good elf wholes parts funcs made),
 )
 
--- the first of them is answered
+-- The first bad instruction is reported.
 pub IsAnswered-first_bad : (elf : Elf) (tabled : List (ℕ × ℕ)) (parts : List Part) (fault : Fault) →
     AreFunctionParts elf tabled parts →
     Lacks (HasFunctionFault elf tabled) BadEntry → IsFirstIn elf parts fault → IsAnswered (HasFunctionFault elf tabled) fault
@@ -377,7 +377,7 @@ IsAnswered-first_bad elf tabled parts fault functions no_entry first = answered 
       alone = refl;
     })
 
--- a bad target is answered where nothing else is wrong
+-- A bad target is reported if there is no other fault.
 least_target : (elf : Elf) (tabled : List (ℕ × ℕ)) (place : ℕ) → IsLowest (HasFunctionFault elf tabled BadTarget) (Some place) →
     (kind : FaultKind) (other : ℕ) → number_of kind ≡ 17 → HasFunctionFault elf tabled kind other → place ≤ other
 least_target elf tabled place lowest BadEntry other number has = absurd (omega arith)

@@ -1,4 +1,4 @@
--- Which parts are functions.
+-- Decides which parts are functions.
 use Rattle.std.proofs.Common.{◌≡◌, ◌∙◌, sym, subst, ap, refl, ℕ, ◌+◌, ◌-◌, ◌<◌, ◌≤◌, ⊎_elim, ◌↔◌, true, List, Option, length}
 use Rattle.std.proofs.Common.{slice_index_or, take, arith, ◌==◌, ◌%◌, Bool, false, if◌then◌else◌}
 use Rattle.std.specs.Prelude.{unwrap_or}
@@ -40,7 +40,7 @@ HasValidInst-before elf start end a inst bytes has = record {
   allowed = has.allowed;
 }
 
--- A part of nops isn't one of zeros, so each function is a part with code.
+-- A part of nops isn't a part of zeros, so each function is a part with code.
 
 length_two : (is_full : Bool) → 2 ≤ (if is_full then 4 else 2)
 length_two true = omega arith
@@ -66,7 +66,7 @@ IsCodePart-function elf tabled _ _ (referred start end a nops starts refers) =
 IsCodePart-function elf tabled _ _ (fallen_into start end before a inst bytes nops function has ends goes) =
     record { part = nops.part; no_padding = nop_not_zero elf start end nops }
 
--- where none is of nops, all are functions
+-- If no part consists of nops, all parts are functions.
 pub AreFunctionParts-code : (elf : Elf) (tabled : List (ℕ × ℕ)) (parts : List Part) → AreCodeParts elf parts →
     (Any (λ p. IsNopPart elf p.start p.end) parts → ⊥) → AreFunctionParts elf tabled parts
 AreFunctionParts-code elf tabled parts are none = record {
@@ -75,7 +75,7 @@ AreFunctionParts-code elf tabled parts are none = record {
   ordered = are.ordered;
 }
 
--- The three tests, in their order.
+-- The three tests, in order.
 
 pub IsNopPart-tests : (elf : Elf) (start end : ℕ) (inside : List ℕ) → IsCodePart elf start end →
     ((a : ℕ) → Contains inside a ↔ StartsIn elf start end a) → (IsCovered elf start end → ⊥) → All (IsNopBefore elf end) inside →
@@ -172,7 +172,7 @@ FallsOut-last elf start end count inside d ordered are all some = (
     starts = (are (slice_index_or inside (count - 1) d)).0
         (count - 1, omega arith, get_or_default inside (count - 1) (slice_index_or inside (count - 1) d) d (omega arith))
 
--- The function that ends where a part starts is the last one before it.
+-- The function that ends at the start of a part is the last one before it.
 
 pub IsEntered-from : (elf : Elf) (tabled : List (ℕ × ℕ)) (start count : ℕ) (before : List Part) (d : Part) →
     AreFunctionsBefore elf tabled start before → count ≡ length before → 0 < count →
@@ -211,7 +211,7 @@ IsEntered-last elf tabled start count before d are all entered =
     (omega arith, sym (ap (λ (q : Part). q.end) is), subst (λ (q : Part). FallsOut elf q.start q.end) is entered.falls_in))
     (cases_lt k (count - 1))
 
--- those of the first parts are those before the next
+-- The functions among the first parts are those before the next part.
 pub AreFunctionsBefore-chosen : (elf : Elf) (tabled : List (ℕ × ℕ)) (parts kept : List Part) (i : ℕ) (d : Part) →
     AreCodeParts elf parts → i < length parts → ChosenOf (λ p. IsFunctionPart elf tabled p.start p.end) Precedes parts i kept →
     AreFunctionsBefore elf tabled (slice_index_or parts i d).start kept

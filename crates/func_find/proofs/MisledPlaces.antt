@@ -1,4 +1,4 @@
--- The lowest place of what the items of a list have, one item after another.
+-- The lowest place of the results for the items of a list, item by item.
 use Rattle.std.proofs.Common.{◌≡◌, ◌∙◌, sym, subst, ap, ℕ, ◌+◌, ◌<◌, ⊎_elim, Option, List, [], ◌∷◌, ◌++◌, take, length, slice_index_or}
 use Rattle.std.specs.List.{Any}
 use Rattle.std.proofs.lemmas.List.{take_more}

@@ -1,4 +1,4 @@
--- Where no role is the first, none is claimed.
+-- If no role is the first, none is claimed.
 use Rattle.std.proofs.Common.{ℕ, zero, suc, ◌<◌, ◌≤◌, inl, inr, ⊎_elim, arith}
 use Rattle.std.proofs.lemmas.Bool.{cases_lt}
 use Rattle.rv_code.specs.declared.placed.Role.{Role}
@@ -6,7 +6,7 @@ use Rattle.elf_image.specs.declared.elf.Elf.{Elf}
 use Rattle.elf_code.specs.Relocations.{Relocation}
 use Rattle.elf_code.specs.Roles.{Claims, HasRole, HasNoRole}
 
--- none of a type below n
+-- No claim of a type below n.
 NoneBelow : Elf → ℕ → ℕ → Type 0
 NoneBelow elf a n = (r : Relocation) (key : ℕ) (role : Role) → r.kind < n → Claims elf r a key role → ⊥
 

@@ -1,4 +1,4 @@
--- What stands at an address of a function, with its role.
+-- The instruction at an address of a function, with its role.
 use Rattle.std.proofs.Common.{◌≡◌, ◌≢◌, ◌∙◌, sym, subst, ap, refl, ℕ, ◌<◌, ◌≤◌, inl, inr, ⊎_elim, ◌↔◌, Bool, true, false, IsTrue}
 use Rattle.std.proofs.Common.{Some, List, Contains, AllPairs, length, slice_index_or, arith, ℤ}
 use Rattle.std.proofs.lemmas.Bool.{cases_lt}
@@ -21,7 +21,7 @@ use Rattle.func_find.specs.InstLists.{IsFaultBefore, bare, IsPlacedAt}
 use Rattle.func_find.proofs.NoRole.{HasNoRole-none}
 use Rattle.func_find.proofs.StartsApart.{length_is}
 
--- what is valid at an address is the only instruction there
+-- A valid instruction at an address is the only one there.
 abbrev pub IsOnlyValid : Elf → ℕ → ℕ → Inst × ℕ → Type 0
 IsOnlyValid elf end a found = (inst : Inst) (bytes : ℕ) → IsValidBefore elf end a inst bytes → Some found ≡ Some (inst, bytes)
 
@@ -89,7 +89,7 @@ fault_bare elf end a roles found fault are valid none (auipc, four) fault_is =
       no_role = no_role elf a roles are none;
     })
 
--- Looking up roles.
+-- Searches for roles.
 
 pub role_absent : (roles : List (ℕ × Role)) (a k : ℕ) (d : ℕ × Role) → AllPairs (λ r s. r.0 < s.0) roles →
     ((j : ℕ) (e : ℕ × Role) → j < k → (slice_index_or roles j e).0 < a) →

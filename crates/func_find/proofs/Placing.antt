@@ -1,4 +1,4 @@
--- The instructions of a part, one after another.
+-- The instructions of a part, one by one.
 use Rattle.std.proofs.Common.{◌≡◌, ◌∙◌, sym, subst, ap, refl, ℕ, ◌+◌, ◌<◌, ◌≤◌, ◌⊎◌, inl, inr, ⊎_elim, List, [], ◌∷◌, ◌++◌}
 use Rattle.std.proofs.Common.{Contains, AllPairs, take, length, slice_index_or, arith}
 use Rattle.std.proofs.lemmas.Bool.{cases_lt}
@@ -30,7 +30,7 @@ AreInsts-push elf a mid [] p at addr inst role =
 AreInsts-push elf a mid (q ∷ ps) p (addr_q, inst_q, role_q, rest) addr inst role =
     (addr_q, inst_q, role_q, AreInsts-push elf (a + q.len) mid ps p rest addr inst role)
 
--- those that start below an address are placed
+-- The instructions below an address are listed.
 pub record ArePlacedTo (elf : Elf) (start end address : ℕ) (insts : List Placed) : Type 0 where
   pub follow : AreInsts elf start insts address
   pub each : (p : Placed) → Contains insts p → StartsIn elf start end p.addr × IsPlacedAt elf end p.addr p
@@ -92,7 +92,7 @@ good : (elf : Elf) (end : ℕ) (p : Placed) (a : ℕ) → IsPlacedAt elf end p.a
 good elf end p a placed at =
     subst (IsGoodBefore elf end) at (record { inst = p.inst; bytes = p.len; valid = placed.valid; not_bare = placed.not_bare })
 
--- the first that can't be there
+-- The first instruction that isn't valid.
 pub first_bad : (elf : Elf) (part : Part) (address : ℕ) (insts : List Placed) (fault : Fault) → address < part.end →
     IsFaultBefore elf part.end address fault → ArePlacedTo elf part.start part.end address insts → IsFirstIn elf (part ∷ []) fault
 first_bad elf part address insts fault inside bad are = record {
@@ -110,7 +110,7 @@ first_bad elf part address insts fault inside bad are = record {
       (Contains-cons_cases part [] p listed);
 }
 
--- Functions, one part after another.
+-- Functions, part by part.
 
 pub made_next : (elf : Elf) (wholes parts : List Part) (i : ℕ) (d : Part) (was now : List Func) (func : Func) →
     AllPairs Precedes parts → i < length parts → IsFunctionOf elf wholes (slice_index_or parts i d) func →
@@ -148,7 +148,7 @@ made_next elf wholes parts i d was now func ordered within made pushed are =
         let same : (slice_index_or parts k d).end ≡ p.end = ap (λ (q : Part). q.end) at in
         omega arith
 
--- the first fault of a part is that of all, where those before it have none
+-- The first fault of a part is the first of all, if the parts before it have none.
 pub first_of_all : (elf : Elf) (wholes parts : List Part) (i : ℕ) (d : Part) (funcs : List Func) (fault : Fault) →
     AllPairs Precedes parts → i < length parts → AreFunctionsOf elf wholes (take i parts) funcs →
     IsFirstIn elf (slice_index_or parts i d ∷ []) fault → IsFirstIn elf parts fault

@@ -1,4 +1,4 @@
--- The addresses that are referred to, as they are collected.
+-- The addresses that are referred to, as the code collects them.
 use Rattle.std.proofs.Common.{◌≡◌, sym, subst, ℕ, zero, suc, inl, inr, ⊎_elim, ◌↔◌, List, [], ◌∷◌, Contains, Any, arith}
 use Rattle.rv_code.specs.layout.ProgramCode.{RoleNames, CellNames}
 use Rattle.elf_image.specs.declared.elf.Elf.{Elf}

@@ -8,7 +8,7 @@ use Rattle.elf_image.specs.declared.elf.Elf.{Elf}
 use Rattle.elf_code.specs.Parts.{StartsIn, IsInstAt, length_at, halfword_at}
 use Rattle.code_starts.proofs.StartLists.{length_positive, starts_cases, starts_inside}
 
--- no start lies in the instruction of another
+-- No start is inside another instruction.
 starts_apart_by : (elf : Elf) (n start end a b : ℕ) → end ≤ start + n → StartsIn elf start end a →
     StartsIn elf start end b → a < b → a + length_at elf a ≤ b
 starts_apart_by elf zero start end a b enough first second less =
@@ -33,7 +33,7 @@ pub starts_apart : (elf : Elf) (start end a b : ℕ) → StartsIn elf start end 
     a < b → a + length_at elf a ≤ b
 starts_apart elf start end a b = starts_apart_by elf end start end a b (omega arith)
 
--- how many bytes an instruction takes
+-- The length of an instruction in bytes.
 abbrev length_by : Bool → ℕ
 length_by is_full = if is_full then 4 else 2
 

@@ -11,18 +11,18 @@ use Rattle.code_starts.specs.declared.parts.Part.{Part}
 use Rattle.code_starts.specs.Parts.{Precedes}
 use Rattle.func_find.specs.ValidInsts.{IsValidBefore}
 
--- all parts that are functions, by address
+-- All parts that are functions, by address.
 abbrev pub AreFunctionParts : Elf → List (ℕ × ℕ) → List Part → Type 0
 AreFunctionParts elf tabled parts = ListsAll (λ p. IsFunctionPart elf tabled p.start p.end) Precedes parts
 
--- all parts that are functions and end by an address
+-- All parts that are functions and end at or before `bound`.
 pub record AreFunctionsBefore (elf : Elf) (tabled : List (ℕ × ℕ)) (bound : ℕ) (parts : List Part) : Type 0 where
   pub only : (p : Part) → Contains parts p → IsFunctionPart elf tabled p.start p.end
   pub each : (p : Part) → IsFunctionPart elf tabled p.start p.end → p.end ≤ bound → Contains parts p
   pub ordered : AllPairs Precedes parts
   pub below : (p : Part) → Contains parts p → p.end ≤ bound
 
--- the instruction at an address ends a part and falls out of it
+-- The instruction at address `a` ends at `end`, and falls through to the code there.
 pub record FallsAt (elf : Elf) (end a : ℕ) : Type 0 where
   pub inst : Inst
   pub bytes : ℕ
@@ -30,19 +30,19 @@ pub record FallsAt (elf : Elf) (end a : ℕ) : Type 0 where
   pub ends : a + bytes ≡ end
   pub falls_out : falls (action_of inst) true ≡ true
 
--- an instruction of a part ends it and falls out of it
+-- The last instruction of a part ends at the end of the part, and falls through.
 pub record FallsOut (elf : Elf) (start end : ℕ) : Type 0 where
   pub last : ℕ
   pub starts : StartsIn elf start end last
   pub falls_there : FallsAt elf end last
 
--- a function that ends where another part starts falls into it
+-- A function that ends at `start` falls through to the part that starts there.
 pub record IsEntered (elf : Elf) (tabled : List (ℕ × ℕ)) (start : ℕ) : Type 0 where
   pub before : ℕ
   pub function : IsFunctionPart elf tabled before start
   pub falls_in : FallsOut elf before start
 
--- an instruction of a part is referred to
+-- A reference goes to an instruction of the part.
 pub record HasReferred (elf : Elf) (tabled : List (ℕ × ℕ)) (start end : ℕ) : Type 0 where
   pub place : ℕ
   pub starts : StartsIn elf start end place

@@ -1,4 +1,4 @@
--- The instructions of functions as they are listed.
+-- The instructions of functions, as the code lists them.
 use Rattle.std.specs.Prelude.{⊤, ◌≡◌, ◌↔◌, ℕ, ◌<◌, ◌≤◌, ℤ, true, List, Contains, AllPairs}
 use Rattle.rb_bytes.specs.Fault.{fault_at}
 use Rattle.rb_bytes.specs.declared.fault.Fault.{Fault}
@@ -16,30 +16,30 @@ use Rattle.elf_code.specs.Functions.{AreInsts}
 use Rattle.code_starts.specs.declared.parts.Part.{Part}
 use Rattle.func_find.specs.ValidInsts.{IsValidBefore}
 
--- an AUIPC without a role
+-- An AUIPC without a role.
 pub record IsBareBefore (elf : Elf) (end a : ℕ) : Type 0 where
   pub rd : ℕ
   pub imm : ℤ
   pub auipc : IsValidBefore elf end a (Auipc rd imm) 4
   pub no_role : HasNoRole elf a
 
--- no instruction can stand at an address of a function
+-- There is no valid instruction at address `a`.
 abbrev pub IsInvalidBefore : Elf → ℕ → ℕ → Type 0
 IsInvalidBefore elf end a = (inst : Inst) (bytes : ℕ) → IsValidBefore elf end a inst bytes → ⊥
 
--- an instruction stands at an address that can be there, and isn't an AUIPC without a role
+-- There is a valid instruction at address `a`, and it isn't an AUIPC without a role.
 pub record IsGoodBefore (elf : Elf) (end a : ℕ) : Type 0 where
   pub inst : Inst
   pub bytes : ℕ
   pub valid : IsValidBefore elf end a inst bytes
   pub not_bare : IsBareBefore elf end a → ⊥
 
--- the fault of what stands at an address
+-- The fault of the bytes at address `a`.
 pub data IsFaultBefore (elf : Elf) (end a : ℕ) (fault : Fault) : Type 0 where
   invalid : fault ≡ fault_at kind.BadInstruction a → IsInvalidBefore elf end a → IsFaultBefore elf end a fault
   bare : fault ≡ fault_at kind.BareAuipc a → IsBareBefore elf end a → IsFaultBefore elf end a fault
 
--- an instruction with its place and its role, the only one that the bytes there are
+-- An instruction with its address and its role. It is the only one that the bytes there encode.
 pub record IsPlacedAt (elf : Elf) (end a : ℕ) (p : Placed) : Type 0 where
   pub addr : p.addr ≡ a
   pub valid : IsValidBefore elf end a p.inst p.len
@@ -47,7 +47,7 @@ pub record IsPlacedAt (elf : Elf) (end a : ℕ) (p : Placed) : Type 0 where
   pub only : (inst : Inst) (bytes : ℕ) → IsInstAt elf a inst bytes → inst ≡ p.inst
   pub not_bare : IsBareBefore elf end a → ⊥
 
--- the first fault of parts, by address
+-- The first fault of the parts, by address.
 pub record IsFirstIn (elf : Elf) (parts : List Part) (fault : Fault) : Type 0 where
   pub part : Part
   pub listed : Contains parts part
@@ -61,20 +61,20 @@ abbrev pub IsFirstRefusal : Elf → List Part → Refusal → Type 0
 IsFirstRefusal elf parts (refusal.Fault fault) = IsFirstIn elf parts fault
 IsFirstRefusal elf parts refusal.Memory = ⊤
 
--- the instructions of a stretch, as they were placed
+-- The instructions from `start` to `end`, each with its address and role.
 pub record AreInstsOf (elf : Elf) (start end : ℕ) (insts : List Placed) : Type 0 where
   pub follow : AreInsts elf start insts end
   pub each : (p : Placed) → Contains insts p → StartsIn elf start end p.addr × IsPlacedAt elf end p.addr p
   pub all : (a : ℕ) → StartsIn elf start end a → (p : Placed) × Contains insts p × (p.addr ≡ a)
 
--- A part and the function that it is, whole where the part is one of the whole ones.
+-- The function that a part is. It is whole if the part is one of the whole parts.
 pub record IsFunctionOf (elf : Elf) (wholes : List Part) (part : Part) (func : Func) : Type 0 where
   pub start : func.start ≡ part.start
   pub end : func.end ≡ part.end
   pub whole : (func.whole ≡ true) ↔ Contains wholes part
   pub insts : AreInstsOf elf part.start part.end func.insts.items
 
--- parts and the functions that they are, one for one
+-- Parts and their functions, one for one.
 pub record AreFunctionsOf (elf : Elf) (wholes parts : List Part) (funcs : List Func) : Type 0 where
   pub only : (func : Func) → Contains funcs func → (part : Part) × Contains parts part
       × IsFunctionOf elf wholes part func

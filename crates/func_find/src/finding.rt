@@ -22,9 +22,10 @@ use rv_code::Func;
 use rv_reloc::Refs;
 use std::alloc::Global;
 
-/// The functions of a file, by address, with their instructions and roles; or the first of the faults `BadEntry`,
-/// `BadInstruction` and `BareAuipc`, and `BadTarget`. `starts` and `refs` are those of the file, and `whole` the ranges
-/// with exception tables, by their starts and ends.
+/// The functions of a file, by address, with their instructions and roles, or the first of the faults `BadEntry`,
+/// `BadInstruction` or `BareAuipc`, and `BadTarget`. `starts` and `refs` are those of the file, and `whole` the ranges
+/// with
+/// exception tables, by their starts and ends.
 pub fn functions(
     alloc: Global,
     elf: &Elf,
@@ -42,7 +43,8 @@ pub fn functions(
     functions_by(alloc, elf, &index, refs, whole)
 }
 
-// The same, by the starts with hints for look-ups. The faults are looked for in the order of their numbers.
+// The result of `functions`, from starts that are prepared for searches. Faults are searched in the order of their
+// numbers.
 fn functions_by(
     alloc: Global,
     elf: &Elf,
@@ -71,7 +73,7 @@ fn functions_by(
     }
 }
 
-// The address, if it starts no instruction of a function.
+// The address, if it isn't the start of an instruction of a function.
 fn lowest_bad_start(starts: &Starts, parts: &[Part], address: u64) -> Option<u64>
     requires starts { AllPairs (λ a b. a < b) starts.now }
     requires parts { ArePartsApart parts.now }

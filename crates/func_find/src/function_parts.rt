@@ -1,4 +1,4 @@
-// Which parts are functions: all but padding of nops that nothing leads to.
+// Finds the parts that are functions: all parts except padding of nops that nothing leads to.
 ghost use Rattle.std.specs.Prelude.{◌≡◌, ◌↔◌, ◌<◌, ℕ, List, All, Any, IfOk, IsTrue, Contains};
 ghost use Rattle.elf_code.specs.FileCode.{AreStarts};
 ghost use Rattle.elf_code.specs.Functions.{IsFunctionPart, IsNopPart};
@@ -21,8 +21,8 @@ use rv_code::flow::falls;
 use rv_reloc::Refs;
 use std::alloc::Global;
 
-/// The parts that are functions, by address. `starts`, `parts` and `refs` are those of the file. What they refer to is
-/// gathered only where a part is of nops alone, since all others are functions.
+/// The parts that are functions, by address. `starts`, `parts` and `refs` are those of the file. References are only
+/// collected if some part consists of nops, since all other parts are functions.
 pub fn kept_parts(
     alloc: Global,
     elf: &Elf,
@@ -43,7 +43,7 @@ pub fn kept_parts(
     function_parts(alloc, elf, starts, parts, &referred)
 }
 
-// Whether one of the parts is of nops alone, and no function's symbol covers it.
+// Whether some part consists of nops and isn't covered by a function symbol.
 fn have_nops(alloc: Global, elf: &Elf, starts: &[u64], parts: &[Part]) -> Result<bool, NoMemory>
     requires starts { AreStarts elf.now starts.now }
     requires parts { AreCodeParts elf.now parts.now }
@@ -59,7 +59,8 @@ fn have_nops(alloc: Global, elf: &Elf, starts: &[u64], parts: &[Part]) -> Result
 }
 
 // The parts that are functions, by address. `starts` and `parts` are those of the file, and `referred` the addresses
-// that are referred to.
+// that
+// are referred to.
 fn function_parts(
     alloc: Global,
     elf: &Elf,
@@ -84,7 +85,7 @@ fn function_parts(
     Ok(kept)
 }
 
-// Whether a part is a function, where `before` are the functions below it.
+// Whether a part is a function. `before` are the functions below it.
 fn is_function(
     elf: &Elf,
     starts: &[u64],
@@ -111,7 +112,7 @@ fn is_function(
     is_entered(elf, starts, before, part.start)
 }
 
-// Whether a part, whose instructions start at `inside`, is one of nops alone that no function's symbol covers.
+// Whether a part, whose instructions start at `inside`, consists of nops and isn't covered by a function symbol.
 fn is_nop_part(elf: &Elf, covers: &Ranges, part: &Part, inside: &[u64]) -> bool
     requires covers { (s e : ℕ) → s < e → IsInOneExtent covers.now.reaches.items s e ↔ IsCovered elf.now s e }
     requires part { IsCodePart elf.now part.now.start part.now.end }
@@ -124,7 +125,7 @@ fn is_nop_part(elf: &Elf, covers: &Ranges, part: &Part, inside: &[u64]) -> bool
     are_nops(elf, part.end, inside)
 }
 
-// Whether nops stand at these addresses, and all end by `end`.
+// Whether the instructions at these addresses are nops that end at or before `end`.
 fn are_nops(elf: &Elf, end: u64, addresses: &[u64]) -> bool
     ensures { IsTrue result ↔ All (IsNopBefore elf.now end) addresses.now }
 {
@@ -138,7 +139,7 @@ fn has_any(referred: &Referred, addresses: &[u64]) -> bool
     addresses.iter().any(|a| referred.has(*a))
 }
 
-// Whether the last function below an address falls into what starts there.
+// Whether the last function below an address falls through to the code there.
 fn is_entered(elf: &Elf, starts: &[u64], before: &[Part], start: u64) -> bool
     requires starts { AreStarts elf.now starts.now }
     requires before { All (λ p. IsCodePart elf.now p.start p.end) before.now }
@@ -153,7 +154,7 @@ fn is_entered(elf: &Elf, starts: &[u64], before: &[Part], start: u64) -> bool
     last.end == start && part_falls_out(elf, starts, &last)
 }
 
-// Whether the last instruction of a part ends with it and falls out of it.
+// Whether the last instruction of a part ends with the part and falls through.
 fn part_falls_out(elf: &Elf, starts: &[u64], part: &Part) -> bool
     requires starts { AreStarts elf.now starts.now }
     requires part { IsCodePart elf.now part.now.start part.now.end }
@@ -167,7 +168,7 @@ fn part_falls_out(elf: &Elf, starts: &[u64], part: &Part) -> bool
     falls_at(elf, part.end, inside[count - 1])
 }
 
-// Whether the instruction at an address ends by `end` and falls into what is there.
+// Whether the instruction at an address ends at `end` and falls through.
 fn falls_at(elf: &Elf, end: u64, address: u64) -> bool
     ensures { IsTrue result ↔ FallsAt elf.now end address }
 {

@@ -15,8 +15,9 @@ use rb_bytes::fault::{Fault, FaultKind, NoMemory, Refusal};
 use rv_code::{Func, Inst, Placed, Role};
 use std::alloc::Global;
 
-/// The functions that these parts are, or the fault of the first of their instructions that can't be there. `wholes`
-/// are the whole parts of the file, and `roles` its roles.
+/// The functions of these parts, or the fault of the first instruction that isn't valid. `wholes` are the whole parts
+/// of
+/// the file, and `roles` its roles.
 pub fn functions_of(
     alloc: Global,
     elf: &Elf,
@@ -61,10 +62,11 @@ fn is_same(a: &Part, b: &Part) -> bool
     a.start == b.start && a.end == b.end
 }
 
-// For how many instructions of a part memory is taken at once. Most parts have fewer; the rest is given back.
+// The number of a part's instructions for which memory is allocated at once. Most parts have fewer, and the rest is
+// given back.
 const LARGE: u64 = 256;
 
-// The instructions of a part, or the fault of the first that can't be there.
+// The instructions of a part, or the fault of the first that isn't valid.
 fn insts_of(
     alloc: Global,
     elf: &Elf,
@@ -92,7 +94,7 @@ fn insts_of(
     Ok(insts)
 }
 
-// The instruction at an address with its role, or the fault that it can't be there. `near` is as in `role_at`.
+// The instruction at an address with its role, or its fault if it isn't valid. `near` is as in `role_at`.
 fn placed_at(
     elf: &Elf,
     end: u64,
@@ -141,8 +143,8 @@ fn is_auipc(inst: &Inst) -> bool
     matches!(*inst, Inst::Auipc { .. })
 }
 
-// The role of the instruction at an address, if it has one. `near` is where the look-up begins, and becomes how many
-// roles are of instructions below the address: ascending addresses walk along the roles.
+// The role of the instruction at an address, if it has one. The search starts at index `near`, and sets `near` to the
+// number of roles below the address, so that ascending addresses walk along the roles.
 fn role_at(roles: &[(u64, Role)], near: &mut usize, address: u64) -> Option<Role>
     requires { AllPairs (λ r s. r.0 < s.0) roles.now }
     ensures some { IfSome result (λ role. Contains roles.now (address, role)) }
@@ -160,7 +162,7 @@ fn role_at(roles: &[(u64, Role)], near: &mut usize, address: u64) -> Option<Role
     Some(role.1)
 }
 
-// How many roles are of instructions below an address. If the first `near` are, they aren't gone over again.
+// The number of roles of instructions below `address`. If the first `near` are, the search starts after them.
 fn count_below(roles: &[(u64, Role)], near: usize, address: u64) -> usize
     requires { AllPairs (λ r s. r.0 < s.0) roles.now }
     ensures bound { result ≤ length roles.now }
@@ -176,7 +178,8 @@ fn count_below(roles: &[(u64, Role)], near: usize, address: u64) -> usize
     roles.len()
 }
 
-// Some number of first roles that are of instructions below an address: `near`, if so many are, else all that are.
+// A lower bound for the number of roles below `address`: `near` if at least this number are, and otherwise the exact
+// number.
 fn known_below(roles: &[(u64, Role)], near: usize, address: u64) -> usize
     requires { AllPairs (λ r s. r.0 < s.0) roles.now }
     ensures bound { result ≤ length roles.now }
@@ -188,7 +191,7 @@ fn known_below(roles: &[(u64, Role)], near: usize, address: u64) -> usize
     roles.partition_point(|r| r.0 < address)
 }
 
-// Whether the first `count` roles, and at least one, are of instructions below an address.
+// Whether `count` is above 0 and the first `count` roles are of instructions below an address.
 fn are_below(roles: &[(u64, Role)], count: usize, address: u64) -> bool
     requires { AllPairs (λ r s. r.0 < s.0) roles.now }
     ensures bound { IsTrue result → count ≤ length roles.now }

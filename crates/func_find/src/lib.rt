@@ -1,4 +1,4 @@
-//! Functions: which parts of a file's code they are, and the instructions in them.
+//! Finds functions: the parts of a file's code that are functions, and their instructions.
 #![tactic(auto)]
 
 mod finding;

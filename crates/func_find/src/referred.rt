@@ -20,7 +20,7 @@ use rv_code::{CellKind, CodeCell, Role};
 use rv_reloc::Refs;
 use std::alloc::Global;
 
-/// Addresses that are referred to, with look-ups.
+/// The addresses that are referred to, prepared for searches.
 #[derive(Drop)]
 pub struct Referred {
     // Ascending.
@@ -29,8 +29,9 @@ pub struct Referred {
 }
 
 impl Referred {
-    /// The addresses that a branch or jump, a role, a cell or the entry point names. `starts` and `parts` are those of
-    /// the file.
+    /// The addresses that a branch or jump, a role, a cell or the entry point refers to. `starts` and `parts` are those
+    /// of the
+    /// file.
     pub fn new(
         alloc: Global,
         elf: &Elf,
@@ -53,7 +54,7 @@ impl Referred {
         Ok(Referred { addresses })
     }
 
-    /// Whether one of them is this address.
+    /// Whether an address is referred to.
     pub fn has(&self, address: u64) -> bool
         ensures { IsTrue result ↔ Contains self.now.addresses.items address }
     {
@@ -61,7 +62,7 @@ impl Referred {
     }
 }
 
-// Appends the addresses to which instructions of parts go.
+// Appends the targets of the instructions of parts.
 fn push_targets(
     addresses: &mut Vec<u64>,
     elf: &Elf,
@@ -79,7 +80,7 @@ fn push_targets(
     Ok(())
 }
 
-// Appends the addresses to which the instructions at some addresses of a part go.
+// Appends the targets of the instructions at some addresses of a part.
 fn push_targets_of(
     addresses: &mut Vec<u64>,
     elf: &Elf,
@@ -95,7 +96,7 @@ fn push_targets_of(
     Ok(())
 }
 
-// Where the instruction at an address of a part goes.
+// The target of the instruction at an address of a part.
 fn target_of(elf: &Elf, end: u64, from: u64) -> Option<u64>
     ensures { (a : ℕ) → (result ≡ Some a) ↔ GoesTo elf.now end from a }
 {
@@ -106,7 +107,7 @@ fn target_of(elf: &Elf, end: u64, from: u64) -> Option<u64>
     target(from, &inst)
 }
 
-/// Appends the addresses that roles name.
+/// Appends the addresses that roles refer to.
 pub fn push_roles(addresses: &mut Vec<u64>, roles: &[(u64, Role)]) -> Result<(), NoMemory>
     ensures { OnOk result (Gains addresses.old.items addresses.new.items (λ a. Any (λ r. RoleNames r.1 a) roles.now)) }
 {
@@ -116,7 +117,7 @@ pub fn push_roles(addresses: &mut Vec<u64>, roles: &[(u64, Role)]) -> Result<(),
     Ok(())
 }
 
-// The address that a role names.
+// The address that a role refers to.
 fn role_target(role: &Role) -> Option<u64>
     ensures { (a : ℕ) → (result ≡ Some a) ↔ RoleNames role.now a }
 {
@@ -131,7 +132,7 @@ fn role_target(role: &Role) -> Option<u64>
     }
 }
 
-/// Appends the addresses that cells name.
+/// Appends the addresses that cells refer to.
 pub fn push_cells(addresses: &mut Vec<u64>, cells: &[CodeCell]) -> Result<(), NoMemory>
     ensures { OnOk result (Gains addresses.old.items addresses.new.items (λ a. Any (λ c. CellNames c a) cells.now)) }
 {

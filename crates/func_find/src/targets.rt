@@ -1,4 +1,4 @@
-// Branches, jumps and calls that go to no instruction.
+// Branches, jumps and calls whose target isn't an instruction.
 ghost use Rattle.std.specs.Prelude.{◌≡◌, ◌↔◌, ◌<◌, ℕ, AllPairs, IsTrue};
 ghost use Rattle.elf_image.specs.faults.LowestPlace.{IsLowest};
 ghost use Rattle.code_starts.specs.Parts.{ArePartsApart};
@@ -21,7 +21,7 @@ pub fn is_inst_start(starts: &Starts, parts: &[Part], address: u64) -> bool
     starts.has(address) && is_held(parts, address)
 }
 
-// Whether one of the parts holds an address.
+// Whether one of the parts contains an address.
 fn is_held(parts: &[Part], address: u64) -> bool
     requires { ArePartsApart parts.now }
     ensures { IsTrue result ↔ InSomePart parts.now address }
@@ -29,7 +29,7 @@ fn is_held(parts: &[Part], address: u64) -> bool
     part_at(parts, address).is_some()
 }
 
-// Whether one of the parts holds an address at which no instruction starts.
+// Whether an address is in one of the parts and isn't the start of an instruction.
 fn is_inside(starts: &Starts, parts: &[Part], address: u64) -> bool
     requires starts { AllPairs (λ a b. a < b) starts.now }
     requires parts { ArePartsApart parts.now }
@@ -38,8 +38,8 @@ fn is_inside(starts: &Starts, parts: &[Part], address: u64) -> bool
     is_held(parts, address) && !starts.has(address)
 }
 
-/// The lowest address of an instruction that goes to no instruction: the fault `BadTarget`. `parts` are the parts that
-/// are functions.
+/// The lowest address of an instruction whose target isn't an instruction: the fault `BadTarget`. `parts` are the parts
+/// that are functions.
 pub fn lowest_misled(starts: &Starts, parts: &[Part], funcs: &[Func]) -> Option<u64>
     requires starts { AllPairs (λ a b. a < b) starts.now }
     requires parts { ArePartsApart parts.now }
@@ -64,7 +64,7 @@ fn lowest_misled_of(starts: &Starts, parts: &[Part], insts: &[Placed]) -> Option
     lowest
 }
 
-// Whether an instruction goes to no instruction.
+// Whether the target of an instruction isn't an instruction.
 fn is_misled(starts: &Starts, parts: &[Part], inst: &Placed) -> bool
     requires starts { AllPairs (λ a b. a < b) starts.now }
     requires parts { ArePartsApart parts.now }
@@ -73,7 +73,7 @@ fn is_misled(starts: &Starts, parts: &[Part], inst: &Placed) -> bool
     jumps_nowhere(starts, parts, inst) || calls_inside(starts, parts, inst)
 }
 
-// Whether a branch, or a JAL, goes to no start of an instruction.
+// Whether the target of a branch or a JAL isn't the start of an instruction.
 fn jumps_nowhere(starts: &Starts, parts: &[Part], inst: &Placed) -> bool
     requires starts { AllPairs (λ a b. a < b) starts.now }
     requires parts { ArePartsApart parts.now }
@@ -85,7 +85,7 @@ fn jumps_nowhere(starts: &Starts, parts: &[Part], inst: &Placed) -> bool
     }
 }
 
-// Whether a call pair goes into the middle of an instruction. It may lead out of all functions: its target is a number
+// Whether the target of a call pair is inside an instruction. The target may be outside all functions: it is a number
 // then.
 fn calls_inside(starts: &Starts, parts: &[Part], inst: &Placed) -> bool
     requires starts { AllPairs (λ a b. a < b) starts.now }

@@ -1,4 +1,4 @@
-// Instructions that can stand where they do, and nops.
+// Valid instructions, and nops.
 ghost use Rattle.std.specs.Prelude.{◌≡◌, ◌↔◌, ◌<◌, ℕ, IsTrue, IfSome, Some};
 ghost use Rattle.rv_code.specs.declared.inst.Inst.{Inst};
 ghost use Rattle.func_find.specs.ValidInsts.{IsValidBefore, IsNopBefore};
@@ -7,8 +7,9 @@ use code_starts::code::{halfword_at, inst_before};
 use elf_image::Elf;
 use rv_code::Inst;
 
-/// The instruction at an address, and how many bytes it takes, if the file can have it there: it ends by `end`, the
-/// address is even, and it has two bytes only where the file's flags say that it has such.
+/// The instruction at an address, and its length in bytes, if it is valid there: it ends at or before `end`, the
+/// address is
+/// even, and it only has two bytes if the file's flags say that the file has such instructions.
 pub fn valid_before(elf: &Elf, end: u64, address: u64) -> Option<(Inst, u8)>
     requires { address < end }
     ensures there { IfSome result (λ r. IsValidBefore elf.now end address r.0 r.1) }
@@ -25,7 +26,7 @@ pub fn valid_before(elf: &Elf, end: u64, address: u64) -> Option<(Inst, u8)>
     Some((inst, bytes))
 }
 
-/// Whether a nop stands at an address and ends by `end`.
+/// Whether there is a nop at an address that ends at or before `end`.
 pub fn is_nop_before(elf: &Elf, end: u64, address: u64) -> bool
     ensures { IsTrue result ↔ IsNopBefore elf.now end address }
 {
