@@ -1,4 +1,4 @@
--- The edges from one block, listed one after another.
+-- The edges from one block, one by one.
 use Rattle.std.proofs.Common.{◌≡◌, ◌∙◌, sym, subst, ap, refl, ℕ, ◌+◌, ◌<◌, ◌≤◌, ◌⊎◌, inl, inr, ⊎_elim, List, [], ◌∷◌, ◌++◌, Some}
 use Rattle.std.proofs.Common.{All, take, length, slice_index_or, arith}
 use Rattle.std.specs.Prelude.{◌↔◌, AllPairs, Contains, slice_get}
@@ -14,9 +14,9 @@ use Rattle.rv_code.specs.layout.Lists.{IsPairBefore, ListsPairs}
 use Rattle.rb_bytes.proofs.Gains.{Any-left, Any-push_cases}
 use Rattle.cfg_build.specs.EdgeLists.{LeadsFrom, IsBlockAt, IsNextOf}
 
--- Lists that go up.
+-- Ascending lists.
 
--- what stands before a number is less
+-- A number before another one in the list is less.
 taken_below : (xs : List ℕ) (k x a d : ℕ) → AllPairs (λ a b. a < b) xs → k < length xs → x ≡ slice_index_or xs k d →
     Contains (take k xs) a → a < x
 taken_below xs k x a d up within is (j, low, there) =
@@ -39,9 +39,9 @@ places_ascend xs s t a b up at at' less = elim (cases_order s t) [
   ]
 ]
 
--- The edges from a block, by the first of the addresses to which it leads.
+-- The edges from a block to the blocks at the first of its target addresses.
 
--- those that were there, and those from a block
+-- The edges before, and the edges from a block.
 abbrev pub AreNext : List Block → List ℕ → ℕ → ℕ → List (ℕ × ℕ) → List ℕ → List (ℕ × ℕ) → Type 0
 AreNext blocks starts source func old leads now =
     ListsPairs (λ e. Contains old e ⊎ IsNextOf blocks starts source func leads e) now
@@ -73,7 +73,7 @@ module _ (blocks : List Block) (starts : List ℕ) (source func : ℕ) where
     ordered = ordered;
   }
 
-  -- no block begins there
+  -- No block starts at the address.
   pub next_skip : (old now : List (ℕ × ℕ)) (leads : List ℕ) (k lead d : ℕ) → k < length leads → lead ≡ slice_index_or leads k d →
       ((t : ℕ) → IsBlockAt blocks starts func lead t → ⊥) → AreNext blocks starts source func old (take k leads) now →
       AreNext blocks starts source func old (take (k + 1) leads) now
@@ -88,7 +88,7 @@ module _ (blocks : List Block) (starts : List ℕ) (source func : ℕ) where
         ordered = are.ordered;
       })
 
-  -- one does
+  -- A block starts at the address.
   pub next_push : (old now pushed : List (ℕ × ℕ)) (leads : List ℕ) (k lead d t : ℕ) → AllPairs (λ a b. a < b) starts →
       AllPairs (λ a b. a < b) leads → All (λ e. e.0 < source) old → k < length leads → lead ≡ slice_index_or leads k d →
       ((t' : ℕ) → (Some t ≡ Some t') ↔ IsBlockAt blocks starts func lead t') → pushed ≡ now ++ (source, t) ∷ [] →

@@ -1,4 +1,4 @@
--- The edges that a list of blocks has.
+-- The edges of a list of blocks.
 use Rattle.std.proofs.Common.{◌≡◌, ◌∙◌, sym, subst, ap, ℕ, ◌<◌, ◌≤◌, ⊎_elim, List, Option, Some, All, map, length, arith}
 use Rattle.std.specs.Prelude.{◌↔◌, AllPairs, Contains, IsSomeAnd, slice_get}
 use Rattle.std.specs.Option.{option_map, option_map_or}
@@ -20,9 +20,9 @@ use Rattle.rb_bytes.proofs.Options.{of_some, some_and, the_some}
 use Rattle.cfg_build.proofs.layout.FunctionInsts.{earlier_below, inst_lies_at}
 use Rattle.cfg_build.proofs.layout.InstAddresses.{contains_func, laid_out}
 
--- Blocks and where they begin.
+-- Blocks and their start addresses.
 
--- the function and the first instruction of a block
+-- The function and the first instruction of a block.
 pub record IsStretchOf (funcs : List Func) (b : Block) : Type 0 where
   pub func : Func
   pub func_is : func_of funcs b ≡ Some func
@@ -58,7 +58,7 @@ BeginsAt-start funcs b is a =
           (some_and (λ p. p.addr ≡ a) (inst_at s.func b.first) s.inst s.inst_is (sym s.start_is ∙ same))),
     )
 
--- blocks in order begin at addresses that ascend
+-- Blocks in order have ascending start addresses.
 before_below : (funcs : List Func) → AreLaidOut funcs → (b c : Block) → IsOfFunction funcs b →
     IsOfFunction funcs c → IsBefore b c → block_start funcs b < block_start funcs c
 before_below funcs are b c is is' before =

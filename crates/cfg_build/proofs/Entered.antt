@@ -1,4 +1,4 @@
--- The addresses at which blocks begin because something goes there or holds them, as they are collected.
+-- The addresses at which blocks start since something refers to them, as the code collects them.
 use Rattle.std.proofs.Common.{◌≡◌, sym, subst, ℕ, zero, suc, ◌⊎◌, inl, inr, ⊎_elim, List, [], ◌∷◌, Some, arith}
 use Rattle.std.specs.Prelude.{◌↔◌, Any, Contains}
 use Rattle.rv_code.specs.declared.placed.Func.{Func}
@@ -10,7 +10,7 @@ use Rattle.rb_bytes.proofs.Gains.{gains_both}
 use Rattle.rb_bytes.proofs.ListLemmas.{from_flat, in_flat}
 use Rattle.cfg_build.specs.NamedAddresses.{code_of, AreEntered}
 
--- a branch or jump of a function goes to an address
+-- A branch or jump of a function has the target `a`.
 abbrev pub IsGoal : List Func → ℕ → Type 0
 IsGoal funcs a = Any (λ f. Any (λ p. target_of p ≡ Some a) f.insts.items) funcs
 

@@ -1,4 +1,4 @@
--- The addresses to which the end of a block leads, as they are collected.
+-- The addresses to which the end of a block leads, as the code collects them.
 use Rattle.std.proofs.Common.{[], arith, ◌≡◌, sym, subst, ℕ, ◌+◌, ◌⊎◌, inl, inr, ⊎_elim, Bool, List, Option, Some, IsTrue}
 use Rattle.std.proofs.Common.{ap, refl, true, false, None}
 use Rattle.std.specs.Prelude.{◌↔◌, Contains, if◌then◌else◌}
@@ -61,7 +61,7 @@ module _ (targets : List (ℕ × ℕ)) (func : Func) (i : ℕ) (p : Placed) (at 
       falls_there a = subst (λ (o : Option ℕ). (o ≡ Some a) ↔ FallsTo func i p a) (sym fall_is)
           (some_where (falls_at func i p) (p.addr + p.len) a)
 
--- they begin with an empty list, which is sorted when it has all
+-- The list is cleared before the addresses are collected, and sorted after that.
 pub leads_all : (Is : ℕ → Type 0) (cleared now last leads : List ℕ) → cleared ≡ [] → Gains cleared now Is →
     ((a : ℕ) → Contains last a ↔ Contains now a) → leads ≡ last → (a : ℕ) → Contains leads a ↔ Is a
 leads_all Is cleared now last leads none gains same is a = (

@@ -1,4 +1,4 @@
--- Looking up numbers in lists that go up, blocks by the addresses at which they begin, and the pairs of a jump.
+-- Searches for numbers in ascending lists, for blocks by their start addresses, and for the pairs of a jump.
 use Rattle.std.proofs.Common.{◌≡◌, ◌∙◌, sym, ap, refl, ℕ, ◌+◌, ◌-◌, ◌<◌, ◌≤◌, ⊎_elim, true, false, nat_le, nat_lt, List}
 use Rattle.std.proofs.Common.{Option, Some, None, take, drop, length, slice_index_or, arith}
 use Rattle.std.specs.Prelude.{◌↔◌, AllPairs, Contains, slice_get}
@@ -11,7 +11,7 @@ use Rattle.rv_code.specs.layout.Lists.{IsPairBefore}
 use Rattle.cfg_build.specs.EdgeLists.{IsBlockAt}
 use Rattle.rb_bytes.proofs.Options.{of_some, some_and}
 
--- an element by its index, as a Vec gives it
+-- An element by its index, as a Vec gives it.
 pub at_index : {A : Type 0} (xs : List A) (i : ℕ) (x : A) → i < length xs → x ≡ slice_index_or xs i x → slice_get xs i ≡ Some x
 at_index xs i x within is = slice_get_read xs (length xs) i x refl within is
 

@@ -1,4 +1,4 @@
--- The blocks of a function, listed one after another.
+-- The blocks of a function, one by one.
 use Rattle.std.proofs.Common.{◌≡◌, ◌∙◌, sym, subst, ap, refl, ℕ, ◌+◌, ◌<◌, ◌≤◌, ◌⊎◌, inl, inr, ⊎_elim, true, false, Bool, List}
 use Rattle.std.proofs.Common.{[], ◌∷◌, ◌++◌, Option, Some, None, length, slice_index_or, arith}
 use Rattle.std.specs.Prelude.{◌↔◌, Contains, AllPairs, IsTrue, IsSomeAnd, slice_get}
@@ -45,7 +45,7 @@ module _ (code : ProgramCode) (func : Func) (i : ℕ) where
           absurd (goes_on (of_some EndsBlock (inst_at func i) p at (subst (λ (k : ℕ). IsSomeAnd
           (inst_at func k) EndsBlock) e some)))
 
--- A block that begins at one instruction, where none begins after it up to another.
+-- A block that starts at an instruction, if no block starts after it up to another instruction.
 
 pub record Open (code : ProgramCode) (func : Func) (place first i : ℕ) (blocks : List Block) : Type 0 where
   pub done : AreBlocksBefore code place first blocks
@@ -77,7 +77,7 @@ module _ (code : ProgramCode) (func : Func) (place : ℕ) (found : slice_get cod
     closed = λ is. absurd (goes_on (inl is));
   }
 
-  -- a block of this function
+  -- A block of this function.
   of_func : (b : Block) → b.func ≡ place → IsBlock code b → IsBlockOf code func b.first b.last
   of_func b same is =
       of_some (λ f. IsBlockOf code f b.first b.last) (func_of code.funcs b) func (ap (slice_get code.funcs) same ∙ found) is
@@ -92,7 +92,7 @@ module _ (code : ProgramCode) (func : Func) (place : ℕ) (found : slice_get cod
     ends = ends;
   }
 
-  -- the only one that begins where it does and ends with the same instruction or an earlier one
+  -- The only block that starts there and ends with the same instruction or an earlier one.
   only_next : (first i : ℕ) (blocks : List Block) → i < length func.insts.items → Open code func place first i blocks →
       (b : Block) → b.func ≡ place → IsBlockOf code func b.first b.last → first ≤ b.last → b.last < i + 1 →
       block_of place first i ≡ b

@@ -1,4 +1,4 @@
--- Edges as they are listed: the addresses to which the end of a block leads, and the blocks that begin there.
+-- Edges, as the code lists them: the addresses to which the end of a block leads, and the blocks that start there.
 use Rattle.std.specs.Prelude.{◌≡◌, ℕ, List, Some, IsSomeAnd, All, Any, AllPairs, Contains, slice_get}
 use Rattle.rv_code.specs.declared.placed.Func.{Func}
 use Rattle.rv_code.specs.declared.placed.Block.{Block}
@@ -6,22 +6,25 @@ use Rattle.rv_code.specs.layout.Blocks.{inst_at, IsBefore}
 use Rattle.rv_code.specs.layout.Edges.{LeadsTo}
 use Rattle.rv_code.specs.layout.FunctionMembers.{IsOfFunction}
 
--- blocks of functions, in order
+-- Blocks of functions, in order.
 pub record AreStretches (funcs : List Func) (blocks : List Block) : Type 0 where
   pub each : All (IsOfFunction funcs) blocks
   pub ordered : AllPairs IsBefore blocks
 
--- The i-th instruction of a function leads to an address, where these are the pairs of an indirect jump and an
--- address to which a table leads it.
+-- The i-th instruction of a function leads to address `a`. `targets` are the pairs of an indirect jump and an address
+-- to which a jump table leads it.
 abbrev pub LeadsFrom : List (ℕ × ℕ) → Func → ℕ → ℕ → Type 0
 LeadsFrom targets func i a = IsSomeAnd (inst_at func i) (λ p. LeadsTo (Contains targets) func i p a)
 
--- a block of a list, whose blocks begin at these addresses, is one of a function and begins at an address
+-- Block `t` of a list starts at address `a` and belongs to function `func`. `starts` are the start addresses of the
+-- blocks.
 pub record IsBlockAt (blocks : List Block) (starts : List ℕ) (func a t : ℕ) : Type 0 where
   pub begins : slice_get starts t ≡ Some a
   pub one_function : IsSomeAnd (slice_get blocks t) (λ b. func ≡ b.func)
 
--- an edge goes from a block of a function to a block of it that begins at one of some addresses
+-- An edge leads from block `source`, of function `func`, to a block of this function that starts at one of the
+-- addresses
+-- `leads`.
 pub record IsNextOf (blocks : List Block) (starts : List ℕ) (source func : ℕ) (leads : List ℕ)
     (e : ℕ × ℕ) : Type 0 where
   pub from : e.0 ≡ source

@@ -1,4 +1,4 @@
-// The blocks of functions.
+// Lists the basic blocks of functions.
 ghost use Rattle.std.specs.Prelude.{◌≡◌, ◌+◌, ◌<◌, ◌↔◌, ℕ, IfOk, OnOk, IsTrue, Some, AllPairs, length, slice_get};
 ghost use Rattle.rv_code.specs.layout.Blocks.{AreBlocks, Begins};
 ghost use Rattle.rv_code.specs.layout.ProgramCode.{ProgramCode};
@@ -32,7 +32,8 @@ pub fn blocks(
     Ok(blocks)
 }
 
-// Appends the blocks of `func`, which is function `place`. `near` is the guess of `is_member_from`: it goes up with the
+// Appends the blocks of `func`, which is function `place`. `near` is the guess for `is_member_from`. It ascends with
+// the
 // addresses of instructions, from function to function.
 fn push_blocks(
     blocks: &mut Vec<Block>,
@@ -62,7 +63,7 @@ fn push_blocks(
 }
 
 // Whether a block ends with instruction `i` of `func`. A function that moves as one piece is one block. `near` is the
-// guess of `is_member_from`.
+// guess for `is_member_from`.
 fn ends_at(entered: &[u64], near: &mut usize, func: &Func, i: usize) -> bool
     requires inside { i < length func.now.insts.items }
     requires entered { AllPairs (λ a b. a < b) entered.now }

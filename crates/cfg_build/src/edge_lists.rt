@@ -1,4 +1,4 @@
-// The edges between blocks.
+// Lists the edges between blocks.
 ghost use Rattle.std.specs.Prelude.{◌≡◌, ◌+◌, ◌<◌, ◌≤◌, ◌⊎◌, ◌↔◌, ℕ, List, All, Any, AllPairs, Contains, IfOk, IfSome};
 ghost use Rattle.std.specs.Prelude.{OnOk, Some, length, slice_get};
 ghost use Rattle.rv_code.specs.declared.cell.CodeCell.{CodeCell};
@@ -18,8 +18,8 @@ use rv_code::functions::block_starts;
 use rv_code::{Block, Func};
 use std::alloc::Global;
 
-/// The edges between blocks of functions, as places in the list of blocks, by source and by target. `targets` are the
-/// pairs of an indirect jump and an address to which a table leads it, in order.
+/// The edges of the control-flow graph of each function, as indices of blocks, by source and by target. `targets` are
+/// the pairs of an indirect jump and an address to which a jump table leads it, in order.
 pub fn edges(
     alloc: Global,
     funcs: &[Func],
@@ -44,7 +44,7 @@ pub fn edges(
     Ok(edges)
 }
 
-// Appends the addresses to which instruction `i` of `func` leads control, if a block ends with it.
+// Appends the addresses to which instruction `i` of `func` leads, if a block ends with it.
 fn push_leads(
     leads: &mut Vec<u64>,
     func: &Func,
@@ -64,7 +64,7 @@ fn push_leads(
     Ok(())
 }
 
-// Appends the addresses to which a table leads the jump at the address `jump`.
+// Appends the addresses to which a jump table leads the jump at the address `jump`.
 fn push_table(leads: &mut Vec<u64>, targets: &[(u64, u64)], jump: u64) -> Result<(), NoMemory>
     requires { AllPairs IsPairBefore targets.now }
     ensures { OnOk result (Gains leads.old.items leads.new.items (λ a. Contains targets.now (jump, a))) }
@@ -85,8 +85,8 @@ fn pairs_of<'a>(targets: &'a [(u64, u64)], jump: u64) -> &'a [(u64, u64)]
     pairs
 }
 
-// Appends the edges from block `source`, which is of function `func`, to the blocks of that function which begin at
-// addresses of `leads`.
+// Appends the edges from block `source`, of function `func`, to the blocks of that function that start at addresses in
+// `leads`.
 fn push_edges(
     edges: &mut Vec<(usize, usize)>,
     blocks: &[Block],
@@ -112,8 +112,8 @@ fn push_edges(
     Ok(())
 }
 
-// The block of function `func` that begins at `address`. It is looked for from the block behind `source` on, since it
-// is mostly near.
+// The block of function `func` that starts at `address`. The search starts after `source`, since the block is mostly
+// near.
 fn block_at(
     blocks: &[Block],
     starts: &[u64],
@@ -132,7 +132,7 @@ fn block_at(
     Some(place)
 }
 
-// The place of `number` in `numbers`, which ascend; it is expected to be about `near`.
+// The index of `number` in the ascending list `numbers`. `near` is a guess for it.
 fn index_of(numbers: &[u64], near: usize, number: u64) -> Option<usize>
     requires { AllPairs (λ a b. a < b) numbers.now }
     ensures inside { IfSome result (λ k. k < length numbers.now) }

@@ -1,4 +1,4 @@
-//! Basic blocks of functions, and the edges between them.
+//! Basic blocks of functions, and the edges of their control-flow graphs.
 #![tactic(auto)]
 
 mod block_lists;

@@ -1,4 +1,4 @@
-// The addresses at which blocks begin because something goes there or holds them.
+// The addresses at which blocks start since something refers to them.
 ghost use Rattle.std.specs.Prelude.{◌≡◌, ◌<◌, IfOk, OnOk, Any, AllPairs, Some};
 ghost use Rattle.rv_code.specs.layout.Flow.{target_of};
 ghost use Rattle.rb_bytes.specs.Lists.{Gains};
@@ -13,7 +13,7 @@ use rv_code::{Func, Placed};
 use rv_reloc::Refs;
 use std::alloc::Global;
 
-/// The addresses to which a branch or jump of a function goes, or that a role, a cell or the entry point holds,
+/// The targets of branches and jumps of functions, and the addresses that a role, a cell or the entry point has,
 /// ascending.
 pub fn entered_addresses(
     alloc: Global,
@@ -33,7 +33,7 @@ pub fn entered_addresses(
     Ok(entered)
 }
 
-// Appends the addresses to which branches and jumps of functions go.
+// Appends the targets of branches and jumps of functions.
 fn push_targets(addresses: &mut Vec<u64>, funcs: &[Func]) -> Result<(), NoMemory>
     ensures { OnOk result (Gains addresses.old.items addresses.new.items
         (λ a. Any (λ f. Any (λ p. target_of p ≡ Some a) f.insts.items) funcs.now)) }
@@ -44,7 +44,7 @@ fn push_targets(addresses: &mut Vec<u64>, funcs: &[Func]) -> Result<(), NoMemory
     Ok(())
 }
 
-// Appends the addresses to which instructions go.
+// Appends the targets of instructions.
 fn push_targets_of(addresses: &mut Vec<u64>, insts: &[Placed]) -> Result<(), NoMemory>
     ensures { OnOk result (Gains addresses.old.items addresses.new.items
         (λ a. Any (λ p. target_of p ≡ Some a) insts.now)) }

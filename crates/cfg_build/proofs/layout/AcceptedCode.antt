@@ -1,4 +1,5 @@
--- The functions of a file that was read without any fault are laid out: they lie apart, low, and their instructions follow
+-- The functions of a file without faults ascend by address without overlap, are below the end of addresses, and their
+-- instructions follow
 -- one another at even addresses.
 use Rattle.std.proofs.Common.{◌≡◌, ◌∙◌, sym, ap, refl, ℕ, ◌+◌, ◌-◌, ◌%◌, ◌<◌, ◌≤◌, inl, inr, ⊎_elim, true, List, [], ◌∷◌, Some}
 use Rattle.std.proofs.Common.{All, length, slice_index_or, arith}
@@ -49,7 +50,7 @@ lengths_of elf a end (p ∷ ps) are =
 -- Parts.
 
 module _ (elf : Elf) (file : List ℕ) (read : IsElfOf file elf) (sound : IsSound file) where
-  -- a section with code lies in an executable segment
+  -- A section with code is inside an executable segment.
   section_lies : (k : ℕ) (s : Section) → slice_get elf.sections.items k ≡ Some s → k < length elf.sections.items →
       holds_code s.flags ≡ true → 0 < s.size → (LiesInCode file s.addr (s.addr + s.size) → ⊥) → ⊥
   section_lies k s is within holds some stray = by (read.sections.each k s is)
@@ -73,7 +74,7 @@ module _ (elf : Elf) (file : List ℕ) (read : IsElfOf file elf) (sound : IsSoun
             ),
           ))))
 
-  -- an executable segment ends low
+  -- An executable segment ends below the end of addresses.
   segment_low : (start end : ℕ) → LiesInCode file start end → start < end → end ≤ address_end
   segment_low start end (j, is, low, high) some =
       let kind = and_parts (is_load (segment file j)) (has_flag PF_X (segment file j)) is.1 in

@@ -1,5 +1,6 @@
--- The blocks of a function are its instructions in parts: each instruction is in one block, and each block but the last is
--- followed by the one that begins with the next instruction.
+-- The blocks of a function partition its instructions: each instruction is in one block, and each block except the last
+-- is followed by the
+-- block that starts with the next instruction.
 use Rattle.std.proofs.Common.{◌≡◌, ◌∙◌, sym, subst, ap, refl, ℕ, zero, suc, ◌+◌, ◌-◌, ◌<◌, ◌≤◌, ◌⊎◌, inl, inr, ⊎_elim, true, List}
 use Rattle.std.proofs.Common.{[], ◌∷◌, Some, length, slice_index_or, arith}
 use Rattle.std.specs.Prelude.{Contains, slice_get}
@@ -14,7 +15,7 @@ use Rattle.cfg_build.specs.EdgeLists.{AreStretches}
 use Rattle.rb_bytes.proofs.Options.{of_some, some_and, the_some}
 use Rattle.cfg_build.proofs.PushedBlocks.{block_of}
 
--- a block of a list has the i-th instruction of the function at a place
+-- A block of the list contains the i-th instruction of the function with index f.
 pub record BlockWith (blocks : List Block) (f i : ℕ) : Type 0 where
   pub place : ℕ
   pub block : Block
@@ -23,7 +24,7 @@ pub record BlockWith (blocks : List Block) (f i : ℕ) : Type 0 where
   pub from : block.first ≤ i
   pub to : i ≤ block.last
 
--- the block that follows another in its function
+-- The block after another one in its function.
 pub record NextBlock (blocks : List Block) (k : ℕ) (b : Block) : Type 0 where
   pub block : Block
   pub block_is : slice_get blocks (k + 1) ≡ Some block
@@ -33,7 +34,7 @@ pub record NextBlock (blocks : List Block) (k : ℕ) (b : Block) : Type 0 where
 contains_block : (blocks : List Block) (k : ℕ) (b : Block) → slice_get blocks k ≡ Some b → Contains blocks b
 contains_block blocks k b at = (k, slice_get_within blocks k b at, get_or_from_slice_get blocks k b b at)
 
--- Searching a list.
+-- Searches in a list.
 
 has_inst : (b : Block) (f i : ℕ) → ((b.func ≡ f) × (b.first ≤ i) × (i ≤ b.last)) ⊎ ((b.func ≡ f) × (b.first ≤ i)
     × (i ≤ b.last) → ⊥)
@@ -77,7 +78,7 @@ module _ (code : ProgramCode) (blocks : List Block) (are : AreBlocks code blocks
   pub block_at : (k : ℕ) (b : Block) → slice_get blocks k ≡ Some b → IsBlock code b
   block_at k b at = are.only b (contains_block blocks k b at)
 
-  -- what `edges` asks of blocks
+  -- The precondition of `edges` on blocks.
   pub AreStretches-blocks : AreStretches code.funcs blocks
   AreStretches-blocks = record {
     each = λ k d within.
@@ -98,13 +99,13 @@ module _ (code : ProgramCode) (blocks : List Block) (are : AreBlocks code blocks
       subst (IsBefore b) e' (subst (λ (x : Block). IsBefore x (slice_index_or blocks l b)) e h)
 
   module _ (f : ℕ) (func : Func) (found : slice_get code.funcs f ≡ Some func) where
-    -- a block of the function
+    -- A block of the function.
     pub block_of_func : (k : ℕ) (b : Block) → slice_get blocks k ≡ Some b → b.func ≡ f → IsBlockOf code func b.first b.last
     block_of_func k b at of =
         of_some (λ func. IsBlockOf code func b.first b.last) (func_of code.funcs b) func (ap (slice_get code.funcs) of ∙ found)
         (block_at k b at)
 
-    -- blocks with one instruction in common are one
+    -- Two blocks with a common instruction are the same.
     pub same_block : (k l i : ℕ) (b c : Block) → slice_get blocks k ≡ Some b → slice_get blocks l ≡ Some c → b.func ≡ f →
         c.func ≡ f →
         b.first ≤ i → i ≤ b.last → c.first ≤ i → i ≤ c.last → k ≡ l
@@ -125,7 +126,7 @@ module _ (code : ProgramCode) (blocks : List Block) (are : AreBlocks code blocks
           ]
         ]
 
-    -- each instruction of the function is in a block
+    -- Each instruction of the function is in a block.
     module _ (i : ℕ) (none : (b : Block) → Contains blocks b → b.func ≡ f → b.first ≤ i → i ≤ b.last → ⊥) where
       no_block : (first last : ℕ) → IsBlockOf code func first last → first ≤ i → i ≤ last → ⊥
       no_block first last is from to =
@@ -177,7 +178,7 @@ module _ (code : ProgramCode) (blocks : List Block) (are : AreBlocks code blocks
         (λ none. absurd (down i none i inside (omega arith) (λ m above upto begins. omega arith)))
         (search_block blocks f i)
 
-    -- a whole function is one block
+    -- A whole function is a single block.
     pub whole_block : (k : ℕ) (b : Block) → slice_get blocks k ≡ Some b → b.func ≡ f → func.whole ≡ true →
         (b.first ≡ 0) × (b.last + 1 ≡ length func.insts.items)
     whole_block k b at of whole =
@@ -192,7 +193,7 @@ module _ (code : ProgramCode) (blocks : List Block) (are : AreBlocks code blocks
         only_start i (named not_whole some) = absurd (cc)
         only_start i (after_end not_whole j is some) = absurd (cc)
 
-    -- a block that doesn't end its function is followed by the one that begins with the next instruction
+    -- A block that doesn't end its function is followed by the block that starts with the next instruction.
     pub next_block : (k : ℕ) (b : Block) → slice_get blocks k ≡ Some b → b.func ≡ f → b.last + 1 < length func.insts.items →
         NextBlock blocks k b
     next_block k b at of more = record {

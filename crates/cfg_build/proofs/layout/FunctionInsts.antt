@@ -1,4 +1,4 @@
--- The instructions of one function, by their places in its list: they lie in it one after another, without a gap.
+-- The instructions of a function by their indices: they follow one another in the function without a gap.
 use Rattle.std.proofs.Common.{◌≡◌, ◌∙◌, subst, ap, ℕ, ◌+◌, ◌%◌, ◌<◌, ◌≤◌, ◌⊎◌, inl, inr, ⊎_elim, List, [], ◌∷◌, Some, All, arith}
 use Rattle.std.specs.Prelude.{Contains}
 use Rattle.std.proofs.lemmas.List.Elements.{All-head, All-tail}
@@ -10,7 +10,7 @@ use Rattle.rv_code.specs.layout.FunctionLists.{Follow, HasLength, IsLaidOut}
 use Rattle.rv_code.proofs.lists.Follows.{follow_up, follow_upto, some_length}
 use Rattle.rb_bytes.proofs.Members.{Contains-cons_cases}
 
--- an instruction lies between two addresses, at an even one
+-- An instruction is between two addresses, at an even address.
 pub record LiesIn (start end : ℕ) (p : Placed) : Type 0 where
   pub from : start ≤ p.addr
   pub to : p.addr + p.len ≤ end
@@ -49,7 +49,7 @@ follow_within a end (q ∷ ps) p f lengths even is_in =
         let from = r.from in
         record { from = omega arith; to = r.to; some = r.some; even = r.even }
 
--- Those of a function.
+-- The instructions of a function.
 
 pub contains_at : (func : Func) (i : ℕ) (p : Placed) → inst_at func i ≡ Some p → Contains func.insts.items p
 contains_at func i p at =

@@ -1,4 +1,4 @@
--- The instructions of all functions, by their addresses, which ascend.
+-- The instructions of all functions by their addresses, which ascend.
 use Rattle.std.proofs.Common.{◌≡◌, ℕ, List, Some}
 use Rattle.std.specs.Prelude.{Contains, slice_get}
 use Rattle.std.proofs.lemmas.List.Elements.{All-contains}
