@@ -1,4 +1,4 @@
--- Labels and pairs, as they are collected.
+-- Labels and pairs, as the code collects them.
 use Rattle.std.proofs.Common.{◌≡◌, sym, subst, ap, ℕ, inr, ⊎_elim, List, [], arith}
 use Rattle.std.specs.Prelude.{pos, ◌↔◌, AllPairs, Any, Contains}
 use Rattle.rv_code.specs.declared.inst.Inst.TheVariants.{Lui}
@@ -12,11 +12,11 @@ use Rattle.rv_code.specs.layout.ProgramCode.{CellNames}
 use Rattle.rb_bytes.specs.Lists.{Gains}
 use Rattle.jump_tables.specs.TablePairs.{IsLabel, IsPairOf}
 
--- what a read past the end of a list of instructions would give
+-- A default for indices past the end of a list of instructions.
 abbrev pub no_inst : Placed
 no_inst = record { addr = 0; len = 0; inst = Lui 0 (pos 0); role = Plain }
 
--- a list that was empty has what it got, also when it is sorted
+-- A list that was empty has what was appended, also after it is sorted.
 pub all_gained : {A : Type 0} (Is : A → Type 0) (empty now last : List A) → empty ≡ [] → Gains empty now Is →
     ((a : A) → Contains last a ↔ Contains now a) → (a : A) → Contains last a ↔ Is a
 all_gained {A} Is empty now last none gains same a = (
@@ -34,7 +34,7 @@ labels_are insts named a = (
   (λ ((k, p, within, is, at), is_in). (k, p, within, is, (at, is_in))),
 )
 
--- the pairs of a jump
+-- The pairs of a jump.
 pub row_is : (jump : ℕ) (labels : List ℕ) (e : ℕ × ℕ) → Any (λ a. (jump, a) ≡ e) labels ↔ ((e.0 ≡ jump) × Contains labels e.1)
 row_is jump labels e = (
   (λ (k, a, within, is, same).
@@ -42,7 +42,7 @@ row_is jump labels e = (
   (λ (same, (k, within, is)). (k, e.1, within, is, (λ i. (sym same i, e.1)))),
 )
 
--- those of a function's jumps
+-- The pairs of a function's jumps.
 pub pairs_are : (insts : List Placed) (named : List ℕ) (e : ℕ × ℕ) →
     Any (λ p. ((p.addr ≡ e.0) × IsTableJump p) × IsLabel insts named e.1) insts ↔ IsPairOf insts named e
 pairs_are insts named e = (
@@ -50,7 +50,7 @@ pairs_are insts named e = (
   (λ ((k, p, within, is, jumps), label). (k, p, within, is, (jumps, label))),
 )
 
--- those of one jump
+-- The pairs of one jump.
 pub jump_is : (labels named : List ℕ) (p : Placed) (all : List Placed) → IsTableJump p →
     ((a : ℕ) → Contains labels a ↔ IsLabel all named a) → (e : ℕ × ℕ) →
     ((e.0 ≡ p.addr) × Contains labels e.1) ↔ (((p.addr ≡ e.0) × IsTableJump p) × IsLabel all named e.1)
@@ -59,7 +59,7 @@ jump_is labels named p all jumps are e = (
   (λ ((same, jumps'), label). (sym same, (are e.1).1 label)),
 )
 
--- of all functions
+-- The pairs of all functions.
 pub AreTablePairs-all : (funcs : List Func) (cells : List CodeCell) (named : List ℕ) (pairs : List (ℕ × ℕ)) →
     ((a : ℕ) → Contains named a ↔ Any (λ c. CellNames c a) cells) → AllPairs IsPairBefore pairs →
     ((e : ℕ × ℕ) → Contains pairs e ↔ Any (λ f. IsPairOf f.insts.items named e) funcs) → AreTablePairs funcs cells pairs

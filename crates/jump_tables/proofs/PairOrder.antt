@@ -1,4 +1,4 @@
--- Pairs, sorted by their first and then by their second numbers, each once.
+-- Pairs sorted by their first and then by their second numbers, without duplicates.
 use Rattle.std.proofs.Common.{◌≡◌, ℕ, ◌<◌, inl, inr, Bool, true, List, [], ◌∷◌, ◌&&◌, ◌==◌, arith}
 use Rattle.std.specs.Prelude.{AllPairs}
 use Rattle.std.specs.Cmp.{IsEquivalence, IsTotalOrder, and_equiv, both_tied, nat_cmp_total, nat_eq_equiv, on_equiv, on_total}

@@ -1,4 +1,4 @@
-// The instructions of a function that cells name.
+// The instructions of a function that cells refer to.
 ghost use Rattle.std.specs.Prelude.{◌≡◌, ◌<◌, ◌↔◌, ℕ, AllPairs, Any, Contains, IfOk};
 ghost use Rattle.rv_code.specs.layout.ProgramCode.{CellNames};
 ghost use Rattle.jump_tables.specs.TablePairs.{IsLabel};
@@ -10,7 +10,7 @@ use rb_bytes::fault::NoMemory;
 use rv_code::{CodeCell, Placed};
 use std::alloc::Global;
 
-/// The addresses that cells name, ascending.
+/// The addresses that cells refer to, ascending.
 pub fn named_addresses(alloc: Global, cells: &[CodeCell]) -> Result<Vec<u64>, NoMemory>
     ensures ascending { IfOk result (λ named. AllPairs (λ a b. a < b) named.items) }
     ensures members { IfOk result (λ named. (a : ℕ) → Contains named.items a ↔ Any (λ c. CellNames c a) cells.now) }
@@ -21,7 +21,7 @@ pub fn named_addresses(alloc: Global, cells: &[CodeCell]) -> Result<Vec<u64>, No
     Ok(named)
 }
 
-/// The addresses of `named` at which one of `insts` starts.
+/// The addresses in `named` at which one of `insts` starts.
 pub fn labels(alloc: Global, insts: &[Placed], named: &[u64]) -> Result<Vec<u64>, NoMemory>
     requires { AllPairs (λ a b. a < b) named.now }
     ensures { IfOk result (λ labels. (a : ℕ) → Contains labels.items a ↔ IsLabel insts.now named.now a) }

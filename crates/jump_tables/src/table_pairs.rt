@@ -1,4 +1,4 @@
-// The pairs of an indirect jump and an address to which a table can lead it.
+// The pairs of an indirect jump and an address to which a jump table can lead it.
 ghost use Rattle.std.specs.Prelude.{◌≡◌, ◌<◌, ◌↔◌, ℕ, AllPairs, Any, Contains, IfOk, OnOk, IsTrue};
 ghost use Rattle.rv_code.specs.layout.Edges.{AreTablePairs, IsTableJump};
 ghost use Rattle.rv_code.specs.layout.Lists.{IsPairBefore};
@@ -10,14 +10,14 @@ use rb_bytes::fault::NoMemory;
 use rv_code::{CodeCell, Func, Inst, Placed, RETURN_ADDRESS, Role, ZERO};
 use std::alloc::Global;
 
-// How many pairs there may be before those of one more jump are added. Each jump of a function has a pair with each of
-// its labels, so that few bytes could ask for any number. A function of 4,000 jumps through tables with 4,000 labels is
-// just within.
+// The most pairs before those of one more jump are added. Each jump of a function has a pair with each of its labels,
+// so a small file could have very many. A function with 4,000 jumps through tables and 4,000 labels is just within.
 const MOST_PAIRS: usize = 1 << 24;
 
-/// The pairs of an indirect jump through a table and an address of its function that a cell names, by jump and by
-/// address. Out of memory is answered too where more than 2^24 pairs are there before those of a jump, which no usual
-/// program has.
+/// The pairs of an indirect jump through a table and an address of its function that a cell refers to, by jump and by
+/// address. The result is `NoMemory` also if there are more than 2^24 pairs before those of a jump, which no usual
+/// program
+/// has.
 pub fn tables(
     alloc: Global,
     funcs: &[Func],
@@ -34,7 +34,7 @@ pub fn tables(
     Ok(pairs)
 }
 
-// Appends the pairs of the function whose instructions are `insts`.
+// Appends the pairs of the function with the instructions `insts`.
 fn push_pairs(
     alloc: Global,
     pairs: &mut Vec<(u64, u64)>,
@@ -57,7 +57,7 @@ fn push_pairs(
     Ok(())
 }
 
-// Appends the pairs of the jump at the address `jump` and each of `labels`, if there aren't too many pairs before.
+// Appends the pairs of the jump at the address `jump` and each of `labels`, unless there are too many pairs already.
 fn push_row(pairs: &mut Vec<(u64, u64)>, jump: u64, labels: &[u64]) -> Result<(), NoMemory>
     ensures { OnOk result (Gains pairs.old.items pairs.new.items (λ e. (e.0 ≡ jump) × Contains labels.now e.1)) }
 {
@@ -76,8 +76,8 @@ fn has_table_jump(insts: &[Placed]) -> bool
     insts.iter().any(|inst| is_table_jump(inst))
 }
 
-// Whether an instruction is an indirect jump through a table: a JALR that saves nothing, holds no part of an address
-// and isn't a return.
+// Whether an instruction is an indirect jump through a table: a JALR that saves no return address, has no part of an
+// address and isn't a return.
 fn is_table_jump(inst: &Placed) -> bool
     ensures { IsTrue result ↔ IsTableJump inst.now }
 {
@@ -90,7 +90,7 @@ fn is_table_jump(inst: &Placed) -> bool
     }
 }
 
-// Sorts pairs, and keeps each once.
+// Sorts pairs and removes duplicates.
 fn make_ordered(pairs: &mut Vec<(u64, u64)>)
     ensures ordered { AllPairs IsPairBefore pairs.new.items }
     ensures same { (e : ℕ × ℕ) → Contains pairs.new.items e ↔ Contains pairs.old.items e }
