@@ -1,4 +1,4 @@
--- Runs of addresses that don't wrap.
+-- Ranges of addresses that don't wrap.
 use Rattle.std.proofs.Common.{◌≡◌, ◌∙◌, ◌⊎◌, inl, inr, sym, ap, refl, ℕ, zero, suc, ◌+◌, ◌-◌, ◌*◌, ◌^◌, ◌<◌, ◌≤◌, Bool, true}
 use Rattle.std.proofs.Common.{false, IsTrue, List, [], ◌∷◌, length, Option, Some, None, arith}
 use Rattle.std.specs.Prelude.{◌&&◌, ◌||◌, ◌==◌, nat_le, nat_lt, if◌then◌else◌, unwrap_or, slice_index, max}
@@ -40,7 +40,7 @@ or_third true y z is = refl
 or_third false true z is = refl
 or_third false false z is = is
 
--- bytes put over others
+-- Bytes that are written over others.
 pub put_in : (memory : ℕ → ℕ) (a q : ℕ) (bytes : List ℕ) → a + length bytes ≤ 2 ^ 64 → a ≤ q → q < a + length bytes →
     put memory a bytes q ≡ slice_index bytes (q - a)
 unfolding put
@@ -83,7 +83,7 @@ put_out memory a q (b ∷ c ∷ bytes) room out =
     elim out [ inl low ↦ inl (omega arith) | inr high ↦ inr (omega arith) ] in
     rw (other, next) (put_out memory (a + 1) q (c ∷ bytes) (omega arith) past)
 
--- a memory of pages after bytes were put into one of them
+-- The bytes of pages and of unwritten memory after a write to one page.
 pub put_pages : (old new : ℕ → Option ℕ) (unwritten : ℕ → ℕ) (a : ℕ) (bytes : List ℕ) → a + length bytes ≤ 2 ^ 64 →
     ((q : ℕ) → new q ≡ (if is_within a (length bytes) q then Some (slice_index bytes (q - a)) else old q)) → (q : ℕ) →
     unwrap_or (new q) (unwritten q) ≡ put (λ p. unwrap_or (old p) (unwritten p)) a bytes q
@@ -130,7 +130,7 @@ missed from q p clear loads high =
       | inr after ↦ let far = leb-true (from + 4096) p.vaddr after in absurd (omega arith)
     ]
 
--- a page without a byte of the file
+-- A page with no byte of the file.
 pub blank_byte : (file : List ℕ) (segments : List Segment) (from q : ℕ) → list_all (misses from) segments ≡ true → from ≤ q →
     q < from + 4096 → unwrap_or (image_byte file segments q) 0 ≡ 0
 blank_byte file [] from q all low high = refl
@@ -147,7 +147,7 @@ blank_byte file (p ∷ ps) from q all low high =
         false_from_ne_true (nat_lt (q - p.vaddr) p.filesz) (λ e. let inside = ltb-true (q - p.vaddr) p.filesz e in omega arith) in
         rw zero refl
 
--- a page that was taken keeps what its addresses read
+-- Memory doesn't change when a page is added.
 pub page_taken : {T E : Type 0} (r : Result T E) (old new : ℕ → Option ℕ) (unwritten : ℕ → ℕ) (n : ℕ) (page : List ℕ) →
     (IsOk r → (q : ℕ) → new q ≡ (if q / 4096 == n then Some (slice_index page (q % 4096)) else old q)) →
     OnErr r ((q : ℕ) → new q ≡ old q) → ((k : ℕ) → k < 4096 → slice_index page k ≡ unwritten (n * 4096 + k)) →
@@ -168,7 +168,7 @@ page_taken (Ok x) old new unwritten n page added kept bytes absent q = cases (q 
         ∙ ap unwritten whole
         ∙ sym (ap (λ b. unwrap_or b (unwritten q)) (absent q same))
 
--- one more byte of a list that has what a function says at each place
+-- One more byte of a list whose bytes are the values of a function.
 pub pushed_more : (f : ℕ → ℕ) (xs : List ℕ) (b k : ℕ) → length xs ≡ k → b ≡ f k →
     ((j : ℕ) → j < k → slice_index xs j ≡ f j) → (j : ℕ) → j < k + 1 → slice_index (xs ++ b ∷ []) j ≡ f j
 pushed_more f xs b k size is each j within = elim (cases_lt j k) [
@@ -180,7 +180,7 @@ pushed_more f xs b k size is each j within = elim (cases_lt j k) [
       ∙ ap (λ (i : ℕ). slice_index (b ∷ []) i) first ∙ is ∙ ap f (sym same)
 ]
 
--- a memory of pages after the break was raised or lowered
+-- The bytes of pages and of unwritten memory after the break was raised or lowered.
 pub break_moved : (p : Option ℕ) (stack : Bool) (image start now top to q : ℕ) → start ≤ now → now ≤ top →
     unwrap_or (if nat_le now q && nat_lt q to then option_map (λ b. 0) p else p)
     (if stack || (nat_le start q && nat_lt q (max top to)) then 0 else image)

@@ -1,4 +1,4 @@
--- Code that no program may write keeps its bytes.
+-- Code that a program can't write keeps its bytes.
 use Rattle.std.proofs.Common.{◌≡◌, ◌∙◌, sym, ap, refl, ℕ, zero, suc, ◌+◌, ◌-◌, ◌*◌, ◌/◌, ◌%◌, ◌^◌, ◌<◌, ◌≤◌, Bool, true, false}
 use Rattle.std.proofs.Common.{List, length, Option, Some, None, arith}
 use Rattle.std.specs.Prelude.{◌&&◌, ◌||◌, ◌==◌, nat_le, nat_lt, if◌then◌else◌, unwrap_or, slice_index, Result, Ok, Err, IsOk, OnErr}
@@ -33,7 +33,7 @@ all_may_at may a (suc n) (suc k) all within room =
     let there : a + suc k ≡ a + 1 + k = omega arith in
     ap may there ∙ all_may_at may (a + 1) n k rest (omega arith) (omega arith)
 
--- each address of a run, which may wrap
+-- Each address of a range, which may wrap.
 pub all_may_each : (may : ℕ → Bool) (a n k : ℕ) → a < 2 ^ 64 → all_may may a n ≡ true → k < n → may (plus a k) ≡ true
 unfolding all_may
 all_may_each may a zero k low all within = absurd (omega arith)
@@ -44,7 +44,7 @@ all_may_each may a (suc n) (suc k) low all within =
     ap may there
     ∙ all_may_each may (plus a 1) n k (omega arith) (and_parts (may a) (all_may may (plus a 1) n) all).1 (omega arith)
 
--- the first addresses of a run
+-- The first addresses of a range.
 pub all_may_front : (may : ℕ → Bool) (a m n : ℕ) → m ≤ n → all_may may a n ≡ true → all_may may a m ≡ true
 unfolding all_may
 all_may_front may a zero n few all = refl
@@ -88,7 +88,7 @@ pub unwritten_code : (m : Memory) (q : ℕ) → is_in_code m.code q ≡ true →
 unwritten_code m q here =
     ap (λ t. if t then 0 else unwrap_or (image_byte m.elf.now.file.now m.elf.now.segments.items q) 0) (not_zero_filled m q here)
 
--- code reads as it was loaded
+-- Code is read as it was loaded.
 pub code_is : (m : Memory) (q : ℕ) → is_in_code m.code q ≡ true →
     memory_of m q ≡ unwrap_or (image_byte m.elf.now.file.now m.elf.now.segments.items q) 0
 code_is m q here = cases (page_byte m.pages q) refl
@@ -98,7 +98,7 @@ code_is m q here = cases (page_byte m.pages q) refl
     cases None is = unwritten_code m q here
     cases (Some byte) is = m.code_stays q byte here is
 
--- no written address is in the code
+-- No written address is in the code.
 not_written : (m : Memory) (a n : ℕ) → a + n ≤ 2 ^ 64 → all_may (writes m) a n ≡ true → (q : ℕ) → is_in_code m.code q ≡ true →
     is_within a n q ≡ false
 not_written m a n room all q here =
@@ -169,7 +169,7 @@ code_taken m (Ok x) new n page added kept bytes q byte here found = cases (q / 4
 pub writes-keeps : (old new : Memory) → Keeps old new → (q : ℕ) → writes new q ≡ writes old q
 writes-keeps old new keeps q = rw (keeps.elf_is, keeps.start_is, keeps.break_is) refl
 
--- the code's bytes are the file's
+-- The bytes of the code are the file's bytes.
 pub code_half_is : (m : Memory) (a : ℕ) → m.code.from ≤ a → a + 2 ≤ m.code.to → a + 2 ≤ 2 ^ 64 →
     number_at m.elf.now.file.now (m.code.offset + (a - m.code.from)) 2 ≡ little (memory_bytes (memory_of m) a 2)
 code_half_is m a low high room =
@@ -205,7 +205,7 @@ code_runs_next m a low high room =
     let next : plus a 2 ≡ a + 2 = omega arith in
     ap (λ (b : ℕ). all_may (executes m) b 2) next ∙ code_runs_at m (a + 2) 2 (omega arith) (omega arith) (omega arith)
 
--- the same for a write that is made or not
+-- A write that may or may not be made.
 pub code_put_if : (m : Memory) (done : Bool) (new : ℕ → Option ℕ) (a n : ℕ) (bytes : List ℕ) → length bytes ≡ n → a + n ≤ 2 ^ 64 →
     all_may (writes m) a n ≡ true → (done ≡ true → (q : ℕ) → new q ≡ byte_put m.pages a bytes q) →
     (done ≡ false → (q : ℕ) → new q ≡ page_byte m.pages q) → (q byte : ℕ) → is_in_code m.code q ≡ true → new q ≡ Some byte →

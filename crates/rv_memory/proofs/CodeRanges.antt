@@ -1,4 +1,4 @@
--- The code that a program can't write, by the segment of its entry point.
+-- The code that a program can't write, from the segment with the entry point.
 use Rattle.std.proofs.Common.{◌≡◌, ◌∙◌, ◌⊎◌, inl, inr, ap, refl, ℕ, ◌+◌, ◌-◌, ◌<◌, ◌≤◌, Bool, false, IsTrue, Some, arith}
 use Rattle.std.specs.Prelude.{◌&&◌, nat_le, nat_lt, if◌then◌else◌, unwrap_or, slice_index}
 use Rattle.std.specs.Option.{option_map, option_map_or}
@@ -11,7 +11,7 @@ use Rattle.rv_memory.specs.Start.{in_stack, stack_end, stack_size}
 use Rattle.elf_image.proofs.LoadLemmas.{loads-parts, loads-from_parts, same_segment}
 use Rattle.rv_memory.specs.CodeRange.{is_ever_writable}
 
--- in what a segment loads from the file
+-- An address of a segment whose byte comes from the file.
 module _ (elf : Elf) (entry : ℕ) (p : Segment) (found : segment_of elf.segments.items entry ≡ Some p)
     (loads : IsTrue (loads_address entry p)) (q : ℕ) (low : p.vaddr ≤ q) (inside : q < p.vaddr + p.filesz)
     (loaded : q < p.vaddr + p.memsz) where

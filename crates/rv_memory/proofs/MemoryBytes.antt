@@ -1,4 +1,4 @@
--- Bytes of memory in a row, one at a time.
+-- Consecutive bytes of memory, one by one.
 use Rattle.std.proofs.Common.{◌≡◌, ℕ, zero, suc, ◌+◌, ◌-◌, ◌*◌, ◌/◌, ◌<◌, ◌≤◌, ◌^◌, Bool, true, List, [], ◌∷◌, ◌++◌, length, take, drop}
 use Rattle.std.proofs.Common.{get_or, refl, sym, ap, ◌∙◌, arith, append_assoc, append-nil, div-one, drop_of_length-le, drop-cons}
 use Rattle.std.specs.Prelude.{if◌then◌else◌, ◌==◌, ◌&&◌}
@@ -21,7 +21,7 @@ pub bytes_none : (memory : ℕ → ℕ) (a n : ℕ) → n ≡ 0 → memory_bytes
 unfolding memory_bytes
 bytes_none memory a n e = rw e refl
 
--- the bytes from a + i on begin with the one there
+-- The bytes from a + i on start with the byte there.
 pub bytes_next : (memory : ℕ → ℕ) (a i n : ℕ) → i < n →
     memory_bytes memory (plus a i) (n - i) ≡ memory (plus a i) ∷ memory_bytes memory (plus a (i + 1)) (n - (i + 1))
 unfolding memory_bytes
@@ -30,7 +30,7 @@ bytes_next memory a i n h =
     let next : plus (plus a i) 1 ≡ plus a (i + 1) = omega arith in
     rw (e, next) refl
 
--- what was copied of the bytes, with one more
+-- The bytes copied so far, with one more.
 pub bytes_more : (memory : ℕ → ℕ) (a i n : ℕ) (front whole : List ℕ) → i < n →
     front ++ memory_bytes memory (plus a i) (n - i) ≡ whole →
     (front ++ memory (plus a i) ∷ []) ++ memory_bytes memory (plus a (i + 1)) (n - (i + 1)) ≡ whole
@@ -38,7 +38,7 @@ bytes_more memory a i n front whole h e =
     append_assoc front (memory (plus a i) ∷ []) (memory_bytes memory (plus a (i + 1)) (n - (i + 1)))
     ∙ ap (λ rest. front ++ rest) (sym (bytes_next memory a i n h)) ∙ e
 
--- and with none left
+-- No byte is left.
 pub bytes_all : (memory : ℕ → ℕ) (a i n : ℕ) (front whole : List ℕ) → n ≤ i →
     front ++ memory_bytes memory (plus a i) (n - i) ≡ whole → front ≡ whole
 bytes_all memory a i n front whole h e =
@@ -46,7 +46,7 @@ bytes_all memory a i n front whole h e =
     let empty : memory_bytes memory (plus a i) (n - i) ≡ [] = bytes_none memory (plus a i) (n - i) none in
     grind (arith, append-nil, div-one, empty, e)
 
--- seven bytes fit in 56 bits
+-- Seven bytes fit 56 bits.
 pub byte_power : (n : ℕ) → n ≤ 7 → 256 ^ n ≤ 2 ^ 56
 byte_power n h = pow-le-pow_right {n = 256} (omega arith) {i = n} {j = 7} h
 
@@ -55,7 +55,7 @@ pub put_none : (memory : ℕ → ℕ) (a q : ℕ) (bytes : List ℕ) →
 unfolding put
 put_none memory a q bytes = let none : drop (length bytes) bytes ≡ [] = drop_of_length-le bytes (omega arith) in rw none refl
 
--- the bytes from place i on, with the first of them last
+-- The bytes from index i on, with the first of them written last.
 pub put_next : (memory : ℕ → ℕ) (a i q : ℕ) (bytes : List ℕ) → i < length bytes →
     put memory (plus a i) (drop i bytes) q
     ≡ (if q == plus a i then get_or bytes i 0 else put memory (plus a (i + 1)) (drop (i + 1) bytes) q)
@@ -87,17 +87,17 @@ bytes_low_first-low_bytes i (suc n) (suc k) v h =
     div-div-eq-div-mul v (256 ^ i) 256 ∙ ap (λ (d : ℕ). v / d) (sym (pow-suc 256 i)) in
     rw (byte_at-power i v, next, bytes_low_first-low_bytes (suc i) n k v (omega arith)) refl
 
--- the low bytes of a number, of the eight that it has
+-- The low bytes of a number, among all eight.
 pub low_bytes_of : (n v : ℕ) → n ≤ 8 → take n (to_le_bytes w64 v) ≡ low_bytes n v
 low_bytes_of n v h = rw (div-one v) at (bytes_low_first-low_bytes 0 n 8 v h)
 
--- bytes put over the same memory
+-- Bytes that are written over the same memory.
 pub put_same : (old new : ℕ → ℕ) → ((q : ℕ) → old q ≡ new q) → (a q : ℕ) (bytes : List ℕ) → put old a bytes q ≡ put new a bytes q
 unfolding put
 put_same old new same a q [] = same q
 put_same old new same a q (b ∷ bytes) = ap (λ rest. if q == a then b else rest) (put_same old new same (plus a 1) q bytes)
 
--- a number's bytes are its eight low bytes
+-- The eight bytes of a number.
 pub to_le_bytes-low_bytes : (v : ℕ) → to_le_bytes w64 v ≡ low_bytes 8 v
 to_le_bytes-low_bytes v = low_bytes_of 8 v (omega arith)
 

@@ -1,11 +1,11 @@
--- A list of numbers and the place of each in it, with one number more.
+-- A list of numbers with the index of each, and one more number.
 use Rattle.std.proofs.Common.{◌≡◌, ◌∙◌, sym, ap, ℕ, ◌<◌, Bool, true, false, refl}
 use Rattle.std.proofs.Common.{List, [], ◌∷◌, ◌++◌, length, get_or, Option, Some, None, arith, inl, inr, length-append}
 use Rattle.std.specs.Prelude.{◌==◌, if◌then◌else◌}
 use Rattle.std.proofs.lemmas.List.{get_or_append_left, get_or-append_right}
 use Rattle.std.proofs.lemmas.Bool.{eqb-true, eq-eqb, false_from_ne_true, cases_lt}
 
--- the number that is added, and those before it
+-- The number that is added, and the numbers before it.
 pub number_last : (numbers : List ℕ) (n : ℕ) → get_or (numbers ++ n ∷ []) (length numbers) 0 ≡ n
 number_last numbers n = get_or-append_right numbers (n ∷ []) (length numbers) (length numbers) 0 refl (omega arith)
     ∙ ap (λ (k : ℕ). get_or (n ∷ []) k 0) {y = 0} (omega arith)

@@ -42,7 +42,7 @@ in_pages p a i n found in_page =
     let size : length p.bytes.items ≡ length p.numbers.items * 4096 = p.sized in
     omega arith
 
--- bytes written in one page
+-- Bytes written in one page.
 pub page_written : (old : Pages) (bytes ys : List ℕ) (a i : ℕ) → place_of old.index (a / 4096) ≡ Some i →
     a % 4096 + length ys ≤ 4096 →
     bytes ≡ patched (i * 4096 + a % 4096) ys old.bytes.items → (q : ℕ) → byte_in old.index bytes q ≡ byte_put old a ys q
@@ -51,7 +51,7 @@ page_written old bytes ys a i found in_page is q =
     rw is (page_patched (place_of old.index) old.numbers.items old.bytes.items old.numbered ys a i found in_page
     (in_pages old a i (length ys) found in_page) q)
 
--- the same where the bytes come as what a vector holds after its slice was written
+-- Bytes written to a slice of the vector of pages.
 pub vector_written : (old : Pages) (now ys : List ℕ) (a i : ℕ) → place_of old.index (a / 4096) ≡ Some i →
     a % 4096 + length ys ≤ 4096 → now ≡ patched (i * 4096 + a % 4096) ys old.bytes.items → (q : ℕ) →
     byte_in old.index (take old.bytes.len (now ++ drop (length now) old.bytes.items)) q ≡ byte_put old a ys q
@@ -117,7 +117,7 @@ byte_put-one p a byte q = cases (q == a) refl
         other (let low = leb-true a q parts.0 in let high = ltb-true q (a + 1) parts.1 in omega arith)) in
         rw apart refl
 
--- the number that stands in a memory, and that in the bytes that the memory has there
+-- The number in memory is the number of the bytes there.
 pub little_from-is : (memory : ℕ → ℕ) (xs : List ℕ) (n i a : ℕ) → a + n ≤ 2 ^ 64 →
     ((k : ℕ) → k < n → memory (a + k) ≡ get_or xs (i + k) 0) → little_from i n xs ≡ little (memory_bytes memory a n)
 unfolding little memory_bytes

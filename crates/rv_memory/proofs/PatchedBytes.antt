@@ -1,4 +1,4 @@
--- What a list has once bytes are written over a part of it.
+-- A list after bytes are written over a part of it.
 use Rattle.std.proofs.Common.{◌≡◌, ◌∙◌, sym, ap, refl, ℕ, ◌+◌, ◌-◌, ◌*◌, ◌/◌, ◌%◌, ◌≤◌, ◌<◌, ◌⊎◌, inl, inr, Bool, true, false}
 use Rattle.std.proofs.Common.{List, ◌++◌, length, take, drop, get_or, Option, Some, None, arith}
 use Rattle.std.specs.Prelude.{◌&&◌, nat_le, nat_lt, if◌then◌else◌}
@@ -20,7 +20,7 @@ use Rattle.rv_memory.specs.Pages.{is_within}
 use Rattle.rv_memory.proofs.MemoryBytes.{bytes_low_first-low_bytes}
 use Rattle.rv_memory.proofs.StackLengths.{low_bytes-mod}
 
--- a write at the front of what follows a place
+-- A write at the front of the bytes after an index.
 patched_at : (a n : ℕ) (xs bytes : List ℕ) → take a xs
     ++ ((bytes ++ drop n (take (length xs - a) (drop a xs))) ++ drop (length xs - a) (drop a xs)) ≡ take a xs
     ++ (bytes ++ drop (a + n) xs)
@@ -54,9 +54,9 @@ get_or-patched_beside at ys xs k within (inr high) =
     ∙ get_or-drop (at + length ys) xs ((k - at) - length ys) 0
     ∙ ap (λ (j : ℕ). get_or xs j 0) place
 
--- Pages stand one after another, each at the place of its number.
+-- Pages are consecutive in the list, at the index of each page number.
 module _ (place : ℕ → Option ℕ) (numbers xs : List ℕ) (numbered : (q i : ℕ) → place q ≡ Some i → get_or numbers i 0 ≡ q) where
-  -- bytes written inside one of them
+  -- Bytes written inside one page.
   module _ (ys : List ℕ) (a i : ℕ) (found : place (a / 4096) ≡ Some i) (in_page : a % 4096 + length ys ≤ 4096)
       (within : i * 4096 + a % 4096 + length ys ≤ length xs) where
     there : (q : ℕ) → a ≤ q → q < a + length ys →
@@ -108,7 +108,7 @@ module _ (place : ℕ → Option ℕ) (numbers xs : List ℕ) (numbered : (q i :
         by_start true test = by_end (leb-true a q test) (nat_lt q (a + length ys)) refl
         by_start false test = elsewhere q (inl (leb-false a q test)) (place (q / 4096)) refl
 
--- what a write to a part of a slice leaves
+-- The result of writing to a part of a slice.
 pub mid_patched : (at k : ℕ) (xs ys zs : List ℕ) → zs ≡ ys → k ≡ length ys → at + k ≤ length xs →
     put_mid at k xs zs ≡ patched at ys xs
 unfolding patched

@@ -1,4 +1,4 @@
--- Places in an ascending list of numbers, and what stands beside a number there.
+-- Indices in an ascending list of numbers, and values that belong to the numbers.
 use Rattle.std.proofs.Common.{◌≡◌, ◌≢◌, ◌∙◌, inl, inr, ℕ, zero, suc, ◌+◌, ◌-◌, ◌<◌, ◌≤◌, Bool, true, false, List, [], ◌∷◌, length}
 use Rattle.std.proofs.Common.{get_or, Some, None, refl, sym, ap, arith}
 use Rattle.std.specs.Prelude.{◌==◌, if◌then◌else◌, nat_le}
@@ -45,7 +45,7 @@ rank_most (x ∷ xs) n = cases (rank_most xs n) (nat_le x n) refl
     cases rest true e = let step = rank-low x n xs e in omega arith
     cases rest false e = let step = rank-high x n xs e in omega arith
 
--- the members before a number's rank are at most that number
+-- The members before the rank of a number are at most the number.
 pub rank_below : (xs : List ℕ) → Ascends xs → (n k : ℕ) → k < rank xs n → get_or xs k 0 ≤ n
 rank_below [] up n k low = absurd (omega arith)
 rank_below (x ∷ xs) up n k low = cases (rank_below xs (ascends_rest x xs up) n) (nat_le x n) refl k low
@@ -60,7 +60,7 @@ rank_below (x ∷ xs) up n k low = cases (rank_below xs (ascends_rest x xs up) n
         let step = rank-high x n xs e in
         absurd (omega arith)
 
--- and those from there on are above it
+-- The members from the rank on are greater.
 pub rank_above : (xs : List ℕ) → Ascends xs → (n k : ℕ) → rank xs n ≤ k → k < length xs → n < get_or xs k 0
 rank_above [] up n k high within = absurd (omega arith)
 rank_above (x ∷ xs) up n k high within = cases (rank_above xs (ascends_rest x xs up) n) (nat_le x n) refl k high within
@@ -74,7 +74,7 @@ rank_above (x ∷ xs) up n k high within = cases (rank_above xs (ascends_rest x 
         let first : n < x = leb-false x n e in
         let more = above_first x xs up j (omega arith) in omega arith
 
--- where the number isn't the last of those at most it, it is none
+-- If the last member before the rank isn't the number, no member is.
 pub rank_absent : (xs : List ℕ) → Ascends xs → (n : ℕ) → (0 < rank xs n → get_or xs (rank xs n - 1) 0 ≢ n) →
     (k : ℕ) → k < length xs → get_or xs k 0 ≢ n
 rank_absent xs up n other k within is = elim (cases_lt k (rank xs n)) [
@@ -140,7 +140,7 @@ beside-insert (x ∷ xs) (a ∷ ps) (suc i) n p q paired within none =
     cases other same false true e f = same ∙ ap (λ u. if u then Some p else beside xs ps q) f
     cases other same false false e f = same ∙ ap (λ u. if u then Some p else beside xs ps q) f
 
--- a new number at its rank keeps the list ascending
+-- The list with a new number inserted at its rank is ascending.
 pub ascends-insert : (xs : List ℕ) (n : ℕ) → Ascends xs → ((k : ℕ) → k < length xs → get_or xs k 0 ≢ n) → (i j : ℕ) → i < j →
     j < length (insert xs (rank xs n) n) → get_or (insert xs (rank xs n) n) i 0 < get_or (insert xs (rank xs n) n) j 0
 ascends-insert xs n up absent i j less within =
@@ -183,7 +183,7 @@ ascends-insert xs n up absent i j less within =
         ap (λ m. get_or (insert xs (rank xs n) n) m 0) (sym next)
         ∙ get_or-insert_above xs (rank xs n) n 0 (k - 1) (omega arith) (rank_most xs n)
 
--- what stands beside a number, by its rank r
+-- The value that belongs to a number, by its rank r.
 pub beside_found : (xs places : List ℕ) → Ascends xs → length places ≡ length xs → (n r : ℕ) → r ≡ rank xs n → 0 < r →
     get_or xs (r - 1) 0 ≡ n → beside xs places n ≡ Some (get_or places (r - 1) 0)
 beside_found xs places up paired n r is some here =

@@ -1,4 +1,4 @@
--- A memory that keeps its file and its break keeps what a program may do.
+-- A memory that keeps its file and its break keeps the program's permissions.
 use Rattle.std.proofs.Common.{◌≡◌, refl}
 use Rattle.rv_memory.specs.declared.memory.Memory.{Memory}
 use Rattle.rv_memory.specs.Memory.{Keeps, space_in}

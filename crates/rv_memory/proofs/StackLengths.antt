@@ -1,4 +1,4 @@
--- How long the parts of a start stack are, and the low bytes of its numbers.
+-- The lengths of the parts of an initial stack, and the low bytes of its numbers.
 use Rattle.std.proofs.Common.{◌≡◌, ◌∙◌, ◌+◌, ◌-◌, ◌*◌, ◌/◌, ◌%◌, ◌^◌, ◌<◌, ◌≤◌, ℕ, zero, suc, List, [], ◌∷◌, ◌++◌, refl, sym, ap}
 use Rattle.std.proofs.Common.{arith, length, take, take_all, length-append, append_assoc}
 use Rattle.std.proofs.lemmas.List.{length-replicate}
@@ -35,7 +35,7 @@ low_bytes-mod (suc k) x =
 pub low_bytes-number : (x : ℕ) → low_bytes 8 (x % 2 ^ 64) ≡ low_bytes 8 x
 low_bytes-number x = low_bytes-mod 8 x
 
--- the numbers at the stack pointer, part by part
+-- The numbers at the stack pointer, part by part.
 pub start_bytes-is : (file : List ℕ) (args : List (List ℕ)) →
     ((low_bytes 8 (length (program_arguments args))
     ++ flat_map (low_bytes 8) (text_addresses (texts_address args) (program_arguments args)))
@@ -102,7 +102,7 @@ length-start_bytes file args =
     length-text_addresses (texts_address args) (program_arguments args) in
     omega (arith, bytes, parts, count)
 
--- the stack's bytes end at its end
+-- The stack's bytes end at the end of the stack.
 pub stack_bytes-end : (file : List ℕ) (args : List (List ℕ)) → IsWithinLimits args →
     stack_pointer args + length (stack_bytes file args) ≡ stack_end
 stack_bytes-end file args limits =
@@ -127,7 +127,7 @@ stack_bytes-end file args limits =
         rounded_down 16 (random_address - t - 8 * (n + 17)) + all ≡ stack_end
     whole t n s all short few started is = omega (arith, short, few, started, is)
 
--- the numbers at the stack pointer end below the arguments' texts
+-- The numbers at the stack pointer end at or below the arguments' texts.
 pub start_bytes-room : (file : List ℕ) (args : List (List ℕ)) → IsWithinLimits args →
     length (start_bytes file args) ≤ texts_address args - stack_pointer args
 start_bytes-room file args limits =
@@ -140,7 +140,7 @@ start_bytes-room file args limits =
         s ≤ random_address - t - rounded_down 16 (random_address - t - 8 * (n + 17))
     room t n s short few started = omega (arith, short, few, started)
 
--- bytes that are filled up with zeros to a length
+-- Bytes that are padded with zeros to a length.
 pub padded : (out start : List ℕ) (n len m : ℕ) → out ≡ start → len ≡ length out → length start ≤ n →
     m ≡ n - length start → take n out
     ++ replicate (n - len) 0 ≡ start ++ replicate m 0
@@ -148,7 +148,7 @@ padded out start n len m same is fits size =
     let all : take n start ≡ start = take_all n start fits in
     rw (is, same, all, size) refl
 
--- the stack has room for its bytes
+-- The stack has room for its bytes.
 pub stack_pointer-within : (args : List (List ℕ)) → IsWithinLimits args → stack_end - stack_size ≤ stack_pointer args
 stack_pointer-within args limits =
     let few : length (program_arguments args) ≤ 65 = omega (arith, limits.few) in

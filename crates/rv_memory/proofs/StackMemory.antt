@@ -1,4 +1,4 @@
--- The memory after the stack's bytes were put at the stack pointer.
+-- The memory after the stack's bytes were written at the stack pointer.
 use Rattle.std.proofs.Common.{◌≡◌, ◌∙◌, ◌+◌, ◌-◌, ◌^◌, ◌<◌, ◌≤◌, ℕ, zero, suc, List, [], ◌∷◌, Bool, true, false, refl, ap, arith, length}
 use Rattle.std.specs.Prelude.{if◌then◌else◌, ◌==◌, nat_le, nat_lt, slice_index, replicate}
 use Rattle.std.proofs.lemmas.Bool.{eqb-true, eqb-false, leb-true, leb-false, ltb-true, ltb-false, and_parts, false_from_ne_true}
@@ -64,7 +64,7 @@ put_past memory a q (b ∷ bytes) room past =
 pub in_stack-both : (q : ℕ) → nat_le (stack_end - stack_size) q ≡ true → nat_lt q stack_end ≡ true → in_stack q ≡ true
 in_stack-both q from before = rw (from, before) refl
 
--- outside of the stack
+-- An address outside the stack.
 beside : (q : ℕ) → in_stack q ≡ false → (P : Type 0) → (q < stack_end - stack_size → P) → (stack_end ≤ q → P) → P
 beside q test P under over = by_end (nat_lt q stack_end) refl
   where
@@ -76,7 +76,7 @@ beside q test P under over = by_end (nat_lt q stack_end) refl
     by_end false past = over (ltb-false q stack_end past)
     by_end true before = by_start before (nat_le (stack_end - stack_size) q) refl
 
--- bytes that end with the stack, over zeros in the stack and the image elsewhere
+-- Bytes that end at the end of the stack, over zeros in the stack and the image elsewhere.
 module _ (bytes : List ℕ) (pointer : ℕ) (image memory : ℕ → ℕ) (is : (q : ℕ) → memory q ≡ (if in_stack q then 0 else image q))
     (ends : pointer + length bytes ≡ stack_end) (within : stack_end - stack_size ≤ pointer) where
   low : pointer + length bytes < 2 ^ 64
@@ -105,7 +105,7 @@ module _ (bytes : List ℕ) (pointer : ℕ) (image memory : ℕ → ℕ) (is : (
           (is q ∙ ap (λ (t : Bool). if t then 0 else image q) test) (nat_le pointer q) refl
       by_stack false test = outside q test ∙ is q ∙ ap (λ (t : Bool). if t then 0 else image q) test
 
--- the registers at the start
+-- The initial registers.
 
 pub start_register : (p r : ℕ) → slice_index (0 ∷ 0 ∷ p ∷ replicate 29 0) r ≡ (if r == 2 then p else 0)
 start_register p zero = refl

@@ -1,4 +1,4 @@
--- Where the table of program headers is loaded, by what the reader keeps.
+-- The address of the table of program headers, from the fields that the reader keeps.
 use Rattle.std.proofs.Common.{◌≡◌, ◌∙◌, ◌+◌, ◌-◌, ◌*◌, ℕ, List, Option, refl, ap, length}
 use Rattle.std.specs.Prelude.{find}
 use Rattle.std.specs.Option.{option_map_or}

@@ -1,10 +1,10 @@
--- The arguments that a program may be started with.
+-- Limits on the arguments of a program.
 use Rattle.std.specs.Prelude.{ℕ, ◌≤◌, List, length, sum_by}
 
 abbrev pub most_args : ℕ
 most_args = 64
 
--- of all arguments together, without the zero bytes that end them
+-- The most bytes of all arguments together, without the zero bytes at their ends.
 abbrev pub most_arg_bytes : ℕ
 most_arg_bytes = 65536
 

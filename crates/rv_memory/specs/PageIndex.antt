@@ -1,11 +1,11 @@
--- Which place stands beside a page's number.
+-- The index of the page with a number.
 use Rattle.std.specs.Prelude.{ℕ, ◌/◌, ◌==◌, if◌then◌else◌, List, [], ◌∷◌, Option, None, Some}
 use Rattle.std.specs.BTreeMap.{get}
 use Rattle.std.specs.Ordering.{nat_cmp}
 use Rattle.rv_memory.specs.declared.page_group.PageGroup.{PageGroup}
 use Rattle.rv_memory.specs.declared.page_index.PageIndex.{PageIndex}
 
--- of two lists side by side, what the second has beside a number's first place in the first
+-- The member of the second list at the index that a number has in the first list.
 unfoldable pub beside : List ℕ → List ℕ → ℕ → Option ℕ
 beside [] places n = None
 beside (x ∷ xs) [] n = None
@@ -18,6 +18,6 @@ abbrev pub place_among : Option PageGroup → ℕ → Option ℕ
 place_among None n = None
 place_among (Some group) n = place_in group n
 
--- the place of the page of a number
+-- The index of the page with a number.
 abbrev pub place_of : PageIndex → ℕ → Option ℕ
 place_of index n = place_among (get nat_cmp index.groups (n / 64)) n

@@ -1,4 +1,4 @@
-// Bytes and numbers written over a part of a list of bytes.
+// Writes bytes and numbers over a part of a list of bytes.
 ghost use Rattle.std.specs.Prelude.{◌≡◌, ◌≤◌, ◌<◌, ◌+◌, ◌^◌, IfSome, is_some, length, replicate};
 ghost use Rattle.elf_image.specs.file.Header.{number_at};
 ghost use Rattle.rv_code.specs.machine.Machine.{low_bytes};
@@ -7,7 +7,7 @@ ghost use Rattle.rv_memory.specs.Patches.{patched, is_width};
 use byteorder::{ByteOrder, LittleEndian};
 use elf_image::number::{u16_at, u32_at, u64_at};
 
-/// Writes bytes over those at a place.
+/// Writes `new` over the bytes from index `at` on.
 pub fn put_bytes(bytes: &mut [u8], at: usize, new: &[u8])
     requires { at + length new.now ≤ length bytes.old }
     ensures { bytes.new ≡ patched at new.now bytes.old }
@@ -15,7 +15,7 @@ pub fn put_bytes(bytes: &mut [u8], at: usize, new: &[u8])
     bytes[at..at + new.len()].copy_from_slice(new);
 }
 
-/// Writes zeros over `count` bytes at a place.
+/// Writes zeros over `count` bytes from index `at` on.
 pub fn clear_bytes(bytes: &mut [u8], at: usize, count: usize)
     requires { at + count ≤ length bytes.old }
     ensures { bytes.new ≡ patched at (replicate count 0) bytes.old }
@@ -23,7 +23,7 @@ pub fn clear_bytes(bytes: &mut [u8], at: usize, count: usize)
     bytes[at..at + count].fill(0);
 }
 
-/// Writes the `count` low bytes of a number over those at a place, the lowest first.
+/// Writes the `count` low bytes of a number over those from index `at` on, in little-endian order.
 pub fn put_number(bytes: &mut [u8], at: usize, count: u8, number: u64)
     requires few { count ≤ 8 }
     requires within { at + count ≤ length bytes.old }
@@ -66,7 +66,7 @@ fn put_u64(bytes: &mut [u8], at: usize, number: u64)
     LittleEndian::write_u64(&mut bytes[at..], number);
 }
 
-// Writes a number of bytes that no store has: not 1, 2, 4 or 8.
+// Writes a number of a width that stores don't have: not 1, 2, 4 or 8.
 fn put_front(bytes: &mut [u8], at: usize, count: u8, number: u64)
     requires few { count ≤ 8 }
     requires within { at + count ≤ length bytes.old }
@@ -77,7 +77,7 @@ fn put_front(bytes: &mut [u8], at: usize, count: u8, number: u64)
     put_bytes(bytes, at, front);
 }
 
-/// The number of `count` bytes at a place, the lowest first; none where `count` isn't 1, 2, 4 or 8.
+/// The little-endian number of the `count` bytes from index `at` on. None if `count` isn't 1, 2, 4 or 8.
 pub fn number_in(bytes: &[u8], at: usize, count: u8) -> Option<u64>
     requires { at + count ≤ length bytes.now }
     ensures value { IfSome result (λ number. number ≡ number_at bytes.now at count) }

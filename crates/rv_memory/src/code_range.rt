@@ -1,4 +1,4 @@
-// The code of a program that nothing changes while it runs.
+// The code of a program that can't change during a run.
 ghost use Rattle.std.specs.Prelude.{◌≡◌, ◌↔◌, ◌≤◌, ◌+◌, ◌-◌, ◌^◌, ◌⊎◌, ℕ, IsTrue, Some, false, true, length};
 ghost use Rattle.std.specs.Prelude.{slice_index, unwrap_or};
 ghost use Rattle.elf_image.specs.declared.segment.TheConstants.{PF_X};
@@ -10,7 +10,7 @@ use crate::rights::{STACK_END, STACK_SIZE};
 use elf_image::Elf;
 use elf_image::segment::{PF_W, PF_X};
 
-/// The addresses from one on and before another, which the file's bytes from an offset on are loaded to.
+/// The addresses from `from` to before `to`, which have the file's bytes from an offset on.
 #[derive(Clone, Copy)]
 pub struct CodeRange {
     pub from: u64,
@@ -24,7 +24,7 @@ const EMPTY: CodeRange = CodeRange {
     offset: 0,
 };
 
-// Whether the ranges from `from` to before `to` and from `start` to before `end` lie apart.
+// Whether the ranges from `from` to before `to` and from `start` to before `end` don't overlap.
 fn lie_apart(from: u64, to: u64, start: u64, end: u64) -> bool
     ensures { IsTrue result ↔ ((to ≤ start) ⊎ (end ≤ from)) }
 {
@@ -34,8 +34,8 @@ fn lie_apart(from: u64, to: u64, start: u64, end: u64) -> bool
     end <= from
 }
 
-/// The bytes that the file has of the segment of the entry point, if that may be executed and nothing can write there:
-/// it isn't writable, and lies below the stack and apart from the break. Else the empty range.
+/// The file bytes of the segment with the entry point, if that is executable and nothing can write there: the segment
+/// isn't writable, is below the stack and doesn't overlap the break. Otherwise the range is empty.
 pub fn code_range(elf: &Elf, break_start: u64, break_bound: u64) -> CodeRange
     ensures fixed { (q : ℕ) → is_in_code result q ≡ true →
         is_ever_writable elf.now.segments.items break_start break_bound q ≡ false }
@@ -73,7 +73,7 @@ pub fn code_range(elf: &Elf, break_start: u64, break_bound: u64) -> CodeRange
 }
 
 impl CodeRange {
-    /// Whether the range has all of `count` addresses.
+    /// Whether the range contains all of the `count` addresses from `address` on.
     pub fn has(&self, address: u64, count: u64) -> bool
         ensures within { IsTrue result ↔ ((self.now.from ≤ address) × (address + count ≤ self.now.to)) }
         ensures room { IsTrue result → address + count ≤ 2 ^ 64 }

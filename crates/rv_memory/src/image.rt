@@ -7,7 +7,7 @@ use crate::pages::PAGE_SIZE;
 use elf_image::Segment;
 use elf_image::segment::PT_LOAD;
 
-// Whether none of a segment's bytes in the file is loaded to the page at an address.
+// Whether none of a segment's file bytes is loaded to the page at address `from`.
 fn misses(segment: &Segment, from: u64) -> bool
     requires { from + 4096 ≤ 2 ^ 64 }
     ensures { result ≡ misses from segment.now }
@@ -17,7 +17,7 @@ fn misses(segment: &Segment, from: u64) -> bool
         || from as u128 + PAGE_SIZE as u128 <= segment.vaddr as u128
 }
 
-/// Whether no segment loads a byte of the file to the page at an address.
+/// Whether no segment loads a byte of the file to the page at address `from`.
 pub fn is_blank(segments: &[Segment], from: u64) -> bool
     requires { from + 4096 ≤ 2 ^ 64 }
     ensures { result ≡ list_all (misses from) segments.now }

@@ -1,4 +1,4 @@
-//! A program's memory: what it wrote, over what its file loads, and the stack that it starts with.
+//! The memory of a program: what it wrote, on top of its file's image, and the initial stack.
 #![tactic(auto)]
 
 mod bytes;

@@ -1,4 +1,4 @@
-// The memory of a machine: what was written, over what the file loads.
+// The memory of a machine: what was written, on top of the file's image.
 ghost use Rattle.elf_image.specs.declared.segment.TheConstants.{PF_X};
 ghost use Rattle.elf_image.specs.memory.Image.{image_byte, is_loaded_with};
 ghost use Rattle.rv_memory.specs.CodeRange.{is_in_code, is_ever_writable};
@@ -18,22 +18,22 @@ use elf_image::segment::{PF_R, PF_W, PF_X};
 use rb_bytes::fault::NoMemory;
 use std::alloc::Global;
 
-/// A program's memory: the bytes at all addresses, and its break.
+/// The memory of a program: the bytes at all addresses, and the program break.
 #[derive(Drop)]
 pub struct Memory<'a> {
-    /// The file, whose segments stand below all that was written.
+    /// The file, whose segments have the bytes that weren't written.
     pub elf: &'a Elf<'a>,
     // The pages that were written.
     pages: Pages,
     alloc: Global,
-    // The least and the greatest break that a program may ask for.
+    // The least and the greatest break that a program may set.
     break_start: u64,
     break_bound: u64,
-    /// The first address past the bytes that the program asked for.
+    /// The current program break: the first address after the memory that the program asked for.
     pub program_break: u64,
-    // The greatest break so far. What it gained is zero until it is written.
+    // The greatest break so far. Memory below it that wasn't written is zero.
     break_top: u64,
-    // Code that is loaded whole from the file and that no program may write.
+    // Code that is completely loaded from the file and that the program can't write.
     code: CodeRange,
     pub ghost break_from: { break_start ≤ program_break },
     pub ghost break_to: { program_break ≤ break_top },
@@ -45,7 +45,7 @@ pub struct Memory<'a> {
         unwrap_or (image_byte elf.now.file.now elf.now.segments.items q) 0
         ≡ slice_index elf.now.file.now (code.offset + (q - code.from)) },
     pub ghost code_within: { code.offset + (code.to - code.from) ≤ length elf.now.file.now },
-    // Code is as it was loaded, also where a page has bytes of it.
+    // This code never changes, even if a page has a copy of it.
     pub ghost code_stays: { (q byte : ℕ) → is_in_code code q ≡ true → page_byte pages q ≡ Some byte →
         byte ≡ unwrap_or (image_byte elf.now.file.now elf.now.segments.items q) 0 },
 }
@@ -57,7 +57,7 @@ impl<'a> Memory<'a> {
     ghost use Rattle.rv_memory.specs.Start.{in_stack, space_of};
     ghost use Rattle.rv_code.specs.machine.Machine.{plus, memory_bytes, put, little, low_bytes, all_may};
 
-    /// The memory of a program that starts, with a stack of zeros.
+    /// The memory at the start of a program, with a stack of zeros.
     pub fn new(alloc: Global, elf: &'a Elf<'a>) -> Memory<'a>
         requires { writable_end elf.now.segments.items ≤ 2 ^ 63 }
         ensures bytes { (q : ℕ) →
@@ -99,7 +99,7 @@ impl<'a> Memory<'a> {
         self.elf.image_byte(address).unwrap_or(0)
     }
 
-    /// The number of `count` bytes at an address.
+    /// The little-endian number of the `count` bytes at an address.
     pub fn number(&self, address: u64, count: u8) -> u64
         requires { count ≤ 8 }
         ensures value { result ≡ little (memory_bytes (memory_of self.now) address count) }
@@ -113,7 +113,9 @@ impl<'a> Memory<'a> {
         self.number_of_bytes(address, count)
     }
 
-    /// The halfwords at an address and after it, where both are in code that no program may write: the file has them.
+    /// The halfwords at an address and after it, if both are in code that the program can't write. They are read from
+    /// the
+    /// file.
     pub fn code_halves(&self, address: u64) -> Option<(u16, u16)>
         ensures first { IfSome result (λ halves. halves.0 ≡ little (memory_bytes (memory_of self.now) address 2)) }
         ensures second { IfSome result (λ halves. halves.1 ≡ little
@@ -129,7 +131,7 @@ impl<'a> Memory<'a> {
         Some((u16_at(self.elf.file, at), u16_at(self.elf.file, at + 2)))
     }
 
-    /// The allocator of the memory's pages.
+    /// The allocator for the memory's pages.
     pub fn allocator(&self) -> Global {
         self.alloc
     }
@@ -159,7 +161,7 @@ impl<'a> Memory<'a> {
         Ok(bytes)
     }
 
-    /// Stores the `count` low bytes of a number at an address. Where memory runs out, none is written.
+    /// Stores the `count` low bytes of a number at an address. Nothing is written if memory runs out.
     pub fn store(&mut self, address: u64, count: u8, number: u64) -> Result<(), NoMemory>
         requires few { count ≤ 8 }
         requires writable { all_may (writes self.old) address count ≡ true }
@@ -176,7 +178,7 @@ impl<'a> Memory<'a> {
         self.write(address, low)
     }
 
-    // Writes a number whose bytes are in one page that is there, or answers false.
+    // Writes a number whose bytes are all in one existing page. Returns false if there is no such page.
     fn put_in_page(&mut self, address: u64, count: u8, number: u64) -> bool
         requires few { count ≤ 8 }
         requires writable { all_may (writes self.old) address count ≡ true }
@@ -191,7 +193,7 @@ impl<'a> Memory<'a> {
         self.pages.put(address, count, number)
     }
 
-    /// Writes bytes from an address on. Where memory runs out, none is written.
+    /// Writes bytes from an address on. Nothing is written if memory runs out.
     pub fn write(&mut self, address: u64, bytes: &[u8]) -> Result<(), NoMemory>
         requires { all_may (writes self.old) address (length bytes.now) ≡ true }
         ensures written { IsOk result → (q : ℕ) → memory_of self.new q ≡ put (memory_of self.old) address bytes.now q }
@@ -203,7 +205,7 @@ impl<'a> Memory<'a> {
         Ok(())
     }
 
-    /// Takes room for `count` bytes from an address on, and gives a buffer of that size, which is for what
+    /// Allocates the pages for `count` bytes from an address on, and returns a buffer of that size for the bytes that
     /// [`Memory::overwrite`] writes there.
     pub fn buffer(&mut self, address: u64, count: usize) -> Result<Vec<u8>, NoMemory>
         ensures size { IfOk result (λ buffer. length buffer.items ≡ count) }
@@ -215,8 +217,8 @@ impl<'a> Memory<'a> {
         Ok(Vec::from_elem(self.alloc, 0, count)?)
     }
 
-    /// Makes the pages of `count` bytes from an address on, so that writing them takes no memory. The bytes stay as
-    /// they are.
+    /// Allocates the pages for `count` bytes from an address on, so that writing them doesn't allocate. No byte
+    /// changes.
     pub fn reserve(&mut self, address: u64, count: usize) -> Result<(), NoMemory>
         ensures kept { (q : ℕ) → memory_of self.new q ≡ memory_of self.old q }
         ensures room { IsOk result → HasRoom self.new address count }
@@ -260,7 +262,7 @@ impl<'a> Memory<'a> {
         Ok(page)
     }
 
-    /// Writes bytes from an address on, for which there is room.
+    /// Writes bytes from an address on, where pages exist.
     pub fn overwrite(&mut self, address: u64, bytes: &[u8])
         requires room { HasRoom self.old address (length bytes.now) }
         requires writable { all_may (writes self.old) address (length bytes.now) ≡ true }
@@ -284,7 +286,7 @@ impl<'a> Memory<'a> {
         self.pages.put_byte(address, byte);
     }
 
-    /// Moves the break, if it may stand there. Bytes that it gains are zero.
+    /// Sets the break, if it is within its bounds. Bytes that are gained are zero.
     pub fn set_break(&mut self, to: u64)
         ensures moved { self.new.program_break ≡ break_after self.old to }
         ensures gained { (q : ℕ) → memory_of self.new q ≡ byte_after self.old to q }
@@ -298,21 +300,21 @@ impl<'a> Memory<'a> {
         self.program_break = to;
     }
 
-    // Whether the program may read an address.
+    // Whether the program may read from an address.
     fn may_read(&self, address: u64) -> bool
         ensures { result ≡ reads self.now address }
     {
         in_stack(address) || self.in_break(address) || is_loaded_with(self.elf, PF_R, address)
     }
 
-    // Whether the program may write an address.
+    // Whether the program may write to an address.
     fn may_write(&self, address: u64) -> bool
         ensures { result ≡ writes self.now address }
     {
         in_stack(address) || self.in_break(address) || is_loaded_with(self.elf, PF_W, address)
     }
 
-    // Whether the program may execute an address.
+    // Whether the program may execute code at an address.
     fn may_execute(&self, address: u64) -> bool
         ensures { result ≡ executes self.now address }
     {
@@ -335,7 +337,7 @@ impl<'a> Memory<'a> {
         }
     }
 
-    /// Whether the program may use each of `count` addresses so.
+    /// Whether the program has this access to each of `count` addresses.
     pub fn may_all(&self, access: Access, address: u64, count: usize) -> bool
         ensures { result ≡ all_may (may self.now access) address count }
     {
@@ -345,8 +347,9 @@ impl<'a> Memory<'a> {
         self.may_each(access, address, count)
     }
 
-    // Whether all of the addresses lie in the stack, in the break or in one segment, and may be used so. That settles
-    // most accesses; where it is false, each address is looked up.
+    // Whether all addresses are in the stack, in the break or in one segment, and the access is allowed. This decides
+    // most
+    // accesses. If it is false, each address is examined.
     fn may_run(&self, access: Access, address: u64, count: usize) -> bool
         ensures { IsTrue result → all_may (may self.now access) address count ≡ true }
     {
@@ -357,7 +360,7 @@ impl<'a> Memory<'a> {
         }
     }
 
-    // Whether all of the addresses lie in the stack, or all in the break.
+    // Whether all addresses are in the stack, or all are in the break.
     fn in_data(&self, address: u64, count: usize) -> bool
         ensures { IsTrue result → (all_may (reads self.now) address count ≡ true)
             × (all_may (writes self.now) address count ≡ true) }
@@ -366,7 +369,7 @@ impl<'a> Memory<'a> {
             || lies_in(self.break_start, self.program_break, address, count)
     }
 
-    // Whether one segment with this flag loads all of the addresses.
+    // Whether a single segment with this flag loads all addresses.
     fn in_segment(&self, flag: u32, address: u64, count: usize) -> bool
         requires { 0 < flag }
         ensures { IsTrue result → all_may (is_loaded_with flag self.now.elf.now.segments.items) address count ≡ true }
@@ -383,7 +386,7 @@ impl<'a> Memory<'a> {
         }
     }
 
-    // Whether all addresses allow the access, looked up one by one.
+    // Whether all addresses allow the access, examined one by one.
     fn may_each(&self, access: Access, address: u64, count: usize) -> bool
         ensures { result ≡ all_may (may self.now access) address count }
     {

@@ -1,4 +1,4 @@
-// A few pages whose numbers lie close together.
+// A small group of pages with close numbers.
 ghost use Rattle.std.specs.Prelude.{◌≡◌, ◌<◌, ◌≤◌, ◌==◌, ℕ, None, Some, IfOk, IsOk, OnErr, length, slice_index};
 ghost use Rattle.std.specs.Prelude.{if◌then◌else◌};
 
@@ -6,7 +6,7 @@ use rb_bytes::fault::NoMemory;
 use rb_lanes::rank;
 use std::alloc::Global;
 
-/// Pages by ascending number, each with its place.
+/// Pages by ascending number, with the index of each.
 #[derive(Drop)]
 pub struct PageGroup {
     pub numbers: Vec<u64>,
@@ -28,7 +28,7 @@ impl PageGroup {
         Ok(PageGroup { numbers, places })
     }
 
-    /// The place of the page of a number.
+    /// The index of the page with a number.
     pub fn place(&self, number: u64) -> Option<usize>
         ensures { result ≡ place_in self.now number }
     {
@@ -43,7 +43,7 @@ impl PageGroup {
         Some(self.places[above - 1])
     }
 
-    /// Adds a page. Where memory runs out, none is added.
+    /// Adds a page. Nothing is added if memory runs out.
     pub fn insert(&mut self, number: u64, place: usize) -> Result<(), NoMemory>
         requires { place_in self.old number ≡ None }
         ensures added { IsOk result → (q : ℕ) → place_in self.new q ≡

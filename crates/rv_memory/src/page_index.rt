@@ -1,4 +1,4 @@
-// Where each page stands, by its number.
+// The indices of pages by number.
 ghost use Rattle.std.specs.Prelude.{◌≡◌, ◌<◌, ◌==◌, ℕ, None, Some, IfOk, IsOk, OnErr, length, slice_index};
 ghost use Rattle.std.specs.Prelude.{if◌then◌else◌};
 
@@ -7,7 +7,7 @@ use rb_bytes::fault::NoMemory;
 use std::alloc::Global;
 use std::collections::BTreeMap;
 
-/// The places of pages, by their numbers. The numbers with one quotient by 64 form a group, whose key is the quotient.
+/// The indices of pages, by number. Numbers with the same quotient by 64 form a group, whose key is the quotient.
 #[derive(Drop)]
 pub struct PageIndex {
     groups: BTreeMap<u64, PageGroup>,
@@ -17,7 +17,7 @@ pub struct PageIndex {
 impl PageIndex {
     ghost use Rattle.rv_memory.specs.PageIndex.{place_of};
 
-    /// An index without a page.
+    /// An index of no pages.
     pub fn new(alloc: Global) -> PageIndex
         ensures { (q : ℕ) → place_of result q ≡ None }
     {
@@ -27,14 +27,14 @@ impl PageIndex {
         }
     }
 
-    /// The place of the page of a number.
+    /// The index of the page with a number.
     pub fn place(&self, number: u64) -> Option<usize>
         ensures { result ≡ place_of self.now number }
     {
         self.groups.get(&(number / GROUP_SIZE))?.place(number)
     }
 
-    /// Adds a page. Where memory runs out, none is added.
+    /// Adds a page. Nothing is added if memory runs out.
     pub fn insert(&mut self, number: u64, place: usize) -> Result<(), NoMemory>
         requires { place_of self.old number ≡ None }
         ensures added { IsOk result → (q : ℕ) → place_of self.new q ≡
@@ -50,5 +50,5 @@ impl PageIndex {
     }
 }
 
-// How many numbers a group can have.
+// The most numbers in a group.
 const GROUP_SIZE: u64 = 64;

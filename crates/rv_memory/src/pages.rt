@@ -13,18 +13,18 @@ use std::alloc::Global;
 /// The size of a page in bytes.
 pub const PAGE_SIZE: usize = 4096;
 
-// How many places of pages are kept at hand.
+// The number of recent pages that are cached.
 const RECENT: usize = 256;
 
 /// Pages of 4096 bytes.
 #[derive(Drop)]
 pub struct Pages {
-    // The bytes of all pages, one page after another, and the number of each.
+    // The bytes of all pages, one page after another, and the number of each page.
     pub bytes: Vec<u8>,
     pub numbers: Vec<u64>,
     pub index: PageIndex,
-    // By the lowest bits of a page's number, the place of the last page with these bits that was added. It may be that
-    // of another page, so the number there is compared.
+    // For the lowest bits of page numbers, the index of the last added page with these bits. It may be the index of
+    // another page, so the number there is compared.
     recent: [usize; RECENT],
     pub ghost sized: { length bytes.items ≡ length numbers.items * 4096 },
     pub ghost indexed: { (i : ℕ) → i < length numbers.items → place_of index (slice_index numbers.items i) ≡ Some i },
@@ -36,7 +36,7 @@ impl Pages {
     ghost use Rattle.rv_code.specs.machine.Machine.{plus, memory_bytes, little, low_bytes};
     ghost use Rattle.rv_memory.specs.Pages.{page_byte, byte_put, byte_cleared, cleared_between, IsLike};
 
-    /// Without a page.
+    /// No pages.
     pub fn new(alloc: Global) -> Pages
         ensures { (q : ℕ) → page_byte result q ≡ None }
     {
@@ -48,7 +48,7 @@ impl Pages {
         }
     }
 
-    // The place of the page of a number.
+    // The index of the page with a number.
     fn place(&self, number: u64) -> Option<usize>
         ensures { result ≡ place_of self.now.index number }
     {
@@ -59,7 +59,7 @@ impl Pages {
         self.index.place(number)
     }
 
-    /// The byte at an address, if it has a page.
+    /// The byte at an address, if its page exists.
     pub fn byte(&self, address: u64) -> Option<u8>
         ensures { result ≡ page_byte self.now address }
     {
@@ -67,8 +67,9 @@ impl Pages {
         Some(self.bytes[place * PAGE_SIZE + (address % PAGE_SIZE as u64) as usize])
     }
 
-    /// The number of 1, 2, 4 or 8 bytes at an address, all in one page. None where there is no page, or for another
-    /// count.
+    /// The little-endian number of 1, 2, 4 or 8 bytes at an address, all in one page. None if the page doesn't exist,
+    /// or for
+    /// another number of bytes.
     pub fn number(&self, address: u64, count: u8) -> Option<u64>
         requires { address % 4096 + count ≤ 4096 }
         ensures value { IfSome result
@@ -84,7 +85,8 @@ impl Pages {
         )
     }
 
-    /// Writes the `count` low bytes of a number at an address, all in one page. False where there is no page.
+    /// Writes the `count` low bytes of a number at an address, all in one page. Returns false if the page doesn't
+    /// exist.
     pub fn put(&mut self, address: u64, count: u8, number: u64) -> bool
         requires few { count ≤ 8 }
         requires within { address % 4096 + count ≤ 4096 }
@@ -107,7 +109,7 @@ impl Pages {
         }
     }
 
-    /// Writes a byte at an address that has a page.
+    /// Writes a byte at an address whose page exists.
     pub fn put_byte(&mut self, address: u64, byte: u8)
         requires { IsSome (page_byte self.old address) }
         ensures { (q : ℕ) → page_byte self.new q ≡ (if q == address then Some byte else page_byte self.old q) }
@@ -117,7 +119,7 @@ impl Pages {
         }
     }
 
-    /// Writes zeros from an address on, in one page, if there is that page.
+    /// Clears `count` bytes from an address on, all in one page, if the page exists.
     pub fn clear(&mut self, address: u64, count: usize)
         requires { address % 4096 + count ≤ 4096 }
         ensures { (q : ℕ) → page_byte self.new q ≡ byte_cleared self.old address count q }
@@ -131,7 +133,7 @@ impl Pages {
         }
     }
 
-    /// Writes zeros from one address up to another, where there are pages.
+    /// Clears the bytes from `from` to before `to` in existing pages.
     pub fn clear_run(&mut self, from: u64, to: u64)
         ensures { (q : ℕ) → page_byte self.new q ≡ cleared_between self.old from to q }
     {
@@ -143,7 +145,7 @@ impl Pages {
         }
     }
 
-    /// Adds a page. Where memory runs out, none is added.
+    /// Adds a page. Nothing is added if memory runs out.
     pub fn add(&mut self, number: u64, page: &[u8]) -> Result<(), NoMemory>
         requires new { place_of self.old.index number ≡ None }
         requires whole { length page.now ≡ 4096 }

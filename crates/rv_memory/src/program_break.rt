@@ -1,4 +1,4 @@
-// Where a program's break starts, and how far it may go.
+// The start of a program's break, and its upper bound.
 ghost use Rattle.std.specs.Prelude.{◌≡◌, ◌≤◌, ◌^◌};
 ghost use Rattle.elf_image.specs.memory.Break.{page_size, rounded_down, writable_end, break_start, break_bound};
 
@@ -11,7 +11,7 @@ fn rounded_down(address: u64) -> u64
     address / PAGE_SIZE * PAGE_SIZE
 }
 
-/// The least break: the end of the highest writable segment, rounded up to a whole page; 0 where none is writable.
+/// The least break: the end of the highest writable segment, rounded up to a page, or 0 if no segment is writable.
 pub fn break_start(segments: &[Segment]) -> u64
     requires { writable_end segments.now ≤ 2 ^ 63 }
     ensures { result ≡ break_start segments.now }
@@ -19,8 +19,9 @@ pub fn break_start(segments: &[Segment]) -> u64
     (writable_end(segments) as u64 + (PAGE_SIZE - 1)) / PAGE_SIZE * PAGE_SIZE
 }
 
-/// The greatest break: `BREAK_ROOM` above the least, but not past the start of a page on which a higher segment begins.
-/// It is 0 where no segment is writable.
+/// The greatest break: at most `BREAK_ROOM` above the least, and at most the start of the page on which a higher
+/// segment
+/// starts. It is 0 if no segment is writable.
 pub fn break_bound(segments: &[Segment]) -> u64
     requires { writable_end segments.now ≤ 2 ^ 63 }
     ensures { result ≡ break_bound segments.now }

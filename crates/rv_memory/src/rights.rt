@@ -1,11 +1,11 @@
-// What a program may do with an address.
+// A program's permissions for an address.
 ghost use Rattle.std.specs.Prelude.{◌≡◌, ◌↔◌, ◌<◌, ◌≤◌, ◌+◌, IsTrue};
 ghost use Rattle.elf_image.specs.memory.Image.{is_loaded_with};
 ghost use Rattle.rv_memory.specs.Start.{in_stack};
 
 use elf_image::Elf;
 
-/// What a program does with a byte of memory.
+/// An access to a byte of memory.
 #[derive(Clone, Copy)]
 pub enum Access {
     Read,
@@ -13,7 +13,7 @@ pub enum Access {
     Execute,
 }
 
-/// The first address past the stack, which lies above all that a file can load.
+/// The first address after the stack, which is above all addresses that a file can load.
 pub const STACK_END: u64 = 0x40_0000_0000;
 
 /// The stack's size in bytes: 8 MiB.
@@ -37,7 +37,7 @@ pub fn is_loaded_with(elf: &Elf, flag: u32, address: u64) -> bool
     }
 }
 
-/// Whether the `count` addresses from `address` on lie from `from` to before `to`.
+/// Whether the `count` addresses from `address` on are all between `from` and before `to`.
 pub fn lies_in(from: u64, to: u64, address: u64, count: usize) -> bool
     ensures { IsTrue result ↔ ((from ≤ address) × (address + count ≤ to)) }
 {

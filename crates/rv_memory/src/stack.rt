@@ -1,4 +1,4 @@
-// The stack of a program that starts: the numbers at the stack pointer, and its arguments.
+// The initial stack of a program: the numbers at the stack pointer, and the arguments.
 ghost use Rattle.std.specs.Prelude.{◌≡◌, ◌+◌, ◌*◌, ◌-◌, ◌<◌, ◌≤◌, ◌++◌, ◌∷◌, [], ◌%◌, ◌^◌, IfOk, OnOk};
 ghost use Rattle.std.specs.Prelude.{length, flat_map, map, string_bytes, String};
 ghost use Rattle.rv_code.specs.machine.Machine.{low_bytes};
@@ -15,17 +15,17 @@ use elf_image::{Elf, Segment};
 use rb_bytes::fault::NoMemory;
 use std::alloc::Global;
 
-/// The most arguments that a program may be started with.
+/// The most arguments of a program.
 pub const MOST_ARGS: usize = 64;
 
-/// The most bytes of all arguments together, without the zero bytes that end them.
+/// The most bytes of all arguments together, without the zero bytes at their ends.
 pub const MOST_ARG_BYTES: usize = 65536;
 
-// The first argument, the name by which every program is run.
+// The first argument, which is the same name for every program.
 const PROGRAM: &[u8] = b"program";
 
-// The 16 bytes that AT_RANDOM gives stand at the stack's end. They are the same in all runs, so that runs can be
-// repeated.
+// The address that AT_RANDOM gives, for 16 bytes at the end of the stack. They are the same in all runs, so that runs
+// are repeatable.
 const RANDOM_ADDRESS: u64 = 0x3f_ffff_fff0;
 
 const RANDOM_BYTES: [u8; 16] = [0, 1, 2, 3, 4, 5, 6, 7, 8, 9, 10, 11, 12, 13, 14, 15];
@@ -46,7 +46,7 @@ fn put_text(out: &mut Vec<u8>, text: &[u8]) -> Result<(), NoMemory>
     Ok(())
 }
 
-// The texts of the program's name and of the arguments, each with a zero byte.
+// The texts of the program's name and of the arguments, each with a final zero byte.
 fn texts(alloc: Global, args: &[String]) -> Result<Vec<u8>, NoMemory>
     ensures { IfOk result (λ out. out.items ≡ texts (map string_bytes args.now)) }
 {
@@ -58,7 +58,7 @@ fn texts(alloc: Global, args: &[String]) -> Result<Vec<u8>, NoMemory>
     Ok(out)
 }
 
-// Numbers of eight bytes, one after another.
+// Appends numbers of eight bytes.
 fn put_numbers(out: &mut Vec<u8>, numbers: &[u64]) -> Result<(), NoMemory>
     ensures { OnOk result (out.new.items ≡ out.old.items ++ flat_map (low_bytes 8) numbers.now) }
 {
@@ -68,7 +68,7 @@ fn put_numbers(out: &mut Vec<u8>, numbers: &[u64]) -> Result<(), NoMemory>
     Ok(())
 }
 
-// The addresses of the texts of the program's name, which stands at `address`, and of the arguments.
+// Appends the addresses of the texts of the program's name, which is at `address`, and of the arguments.
 fn put_addresses(out: &mut Vec<u8>, address: u64, args: &[String]) -> Result<(), NoMemory>
     requires { address + length (texts (map string_bytes args.now)) ≤ 2 ^ 38 }
     ensures { OnOk result
@@ -84,7 +84,7 @@ fn put_addresses(out: &mut Vec<u8>, address: u64, args: &[String]) -> Result<(),
     Ok(())
 }
 
-// Where the table of program headers is loaded, 0 where no segment loads it from the file.
+// The address at which the table of program headers is loaded, or 0 if no segment loads it from the file.
 fn table_address(elf: &Elf) -> u64
     requires phoff { elf.now.phoff ≡ e_phoff elf.now.file.now }
     requires segments { elf.now.segments.items ≡ segments_of elf.now.file.now }
@@ -98,7 +98,7 @@ fn table_address(elf: &Elf) -> u64
     }
 }
 
-// AT_PHDR, AT_PHENT, AT_PHNUM, AT_PAGESZ, AT_ENTRY, AT_RANDOM and AT_NULL, each with its value.
+// Appends AT_PHDR, AT_PHENT, AT_PHNUM, AT_PAGESZ, AT_ENTRY, AT_RANDOM and AT_NULL, each with its value.
 fn put_vector(out: &mut Vec<u8>, table: u64, count: u64, entry: u64) -> Result<(), NoMemory>
     ensures { OnOk result (out.new.items ≡ out.old.items ++ flat_map (low_bytes 8) (vector table count entry)) }
 {
@@ -121,7 +121,7 @@ fn put_vector(out: &mut Vec<u8>, table: u64, count: u64, entry: u64) -> Result<(
     put_numbers(out, &entries)
 }
 
-// The numbers at the stack pointer: the count of arguments, their addresses, the ends of the lists of
+// The numbers from the stack pointer on: the number of arguments, their addresses, the ends of the lists of
 // arguments and of environment variables, and the auxiliary vector.
 fn start_bytes(alloc: Global, elf: &Elf, args: &[String], address: u64) -> Result<Vec<u8>, NoMemory>
     requires entry { elf.now.entry ≡ e_entry elf.now.file.now }
@@ -145,9 +145,9 @@ fn start_bytes(alloc: Global, elf: &Elf, args: &[String], address: u64) -> Resul
     Ok(out)
 }
 
-// The address of the numbers at the start, a multiple of 16 below the texts at `address`. Beside the addresses of
-// `count` texts there are 17: the count, the ends of two lists, and the 14 numbers of the auxiliary vector. `room` asks
-// for far more than all these take.
+// The initial stack pointer, a multiple of 16 below the texts at `address`. There are 17 numbers besides the
+// addresses of `count` texts: the count, the ends of two lists, and the 14 numbers of the auxiliary vector. `room`
+// requires far more than all these take.
 fn stack_pointer(address: u64, count: u64) -> u64
     requires address { address ≤ random_address }
     requires room { 1000000 ≤ address }
@@ -157,7 +157,7 @@ fn stack_pointer(address: u64, count: u64) -> u64
     (address - 8 * (count + 17)) / 16 * 16
 }
 
-/// The bytes of the stack at the start, from the stack pointer to the stack's end.
+/// The bytes of the initial stack, from the stack pointer to the end of the stack.
 pub fn stack_bytes(alloc: Global, elf: &Elf, args: &[String]) -> Result<Vec<u8>, NoMemory>
     requires entry { elf.now.entry ≡ e_entry elf.now.file.now }
     requires phoff { elf.now.phoff ≡ e_phoff elf.now.file.now }
