@@ -7,11 +7,11 @@ use Rattle.std.proofs.Math.Seq.{take-append-add}
 use Rattle.std.specs.Io.KnownBytes.{prepend_known}
 use Rattle.run_core.proofs.Told.{prepend_known-append}
 
--- what a slice of bytes holds are bytes
+-- The members of a slice of bytes are bytes.
 pub are_bytes : (xs : List ℕ) → ((i : ℕ) → Fits w8 (get_or xs i 0)) → All (λ b. b < 256) xs
 are_bytes xs fit = λ k d below. subst (λ n. n < 256) (get_or_default xs k 0 d below) (Fits-lt-pow (fit k))
 
--- what was read fills the front of a buffer, and n more bytes stand at the front of the rest
+-- The bytes read so far fill the front of a buffer, and the next n bytes are at the front of the rest.
 pub prepend_known-more : (a b c : Option (List ℕ)) (front filled rest : List ℕ) (d n : ℕ) → length front ≡ d → front ≡ filled →
     a ≡ prepend_known filled b → b ≡ prepend_known (take n rest) c → a ≡ prepend_known (take (d + n) (front ++ rest)) c
 prepend_known-more a b c front filled rest d n size same first next =

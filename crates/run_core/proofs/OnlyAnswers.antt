@@ -1,4 +1,4 @@
--- The first steps from a state come to one answer, and it is the one that a run gives.
+-- The first steps from a state have only one result, which a run returns.
 use Rattle.std.proofs.Common.{◌≡◌, ◌∙◌, ◌<◌, ◌≤◌, ◌⊎◌, ℕ, suc, List, refl, sym, ap, subst, inl, inr, ⊎_elim, arith}
 use Rattle.std.specs.Io.KnownBytes.{append_known}
 use Rattle.rv_code.specs.machine.DeterminedRuns.{IsDetermined}
@@ -102,7 +102,7 @@ module _ {M S C : Type 0} (state_of : M → List ℕ → S) (step : S → Outcom
   given answer.WriteFault a = inl tt
   given answer.Memory a = inl tt
 
-  -- the answer is the one that the first steps come to, and their calls wrote what was taken
+  -- The result is the one of the first steps, and the sink took the output of their calls.
   pub record IsAnswered (end : Answer C) (other : Answer C) (m : ℕ) (trace : List Event) : Type 0 where
     pub end_is : end ≡ other
     pub steps_are : n ≡ m
@@ -118,7 +118,7 @@ module _ {M S C : Type 0} (state_of : M → List ℕ → S) (step : S → Outcom
   determined_all answer.WriteFault determined trace goes = absurd goes
   determined_all answer.Memory determined trace goes = absurd goes
 
-  -- Where the first steps of the definition come to an answer, a run gives it, but for faults.
+  -- If the first steps of the definition have a result, a run returns it, except for faults.
   pub only_answer : (end : Answer C) → MachineRunAnswers state_of step end limit n old new input before after →
       IsDetermined step (state_of old input) (determined_steps end limit n) → (other : Answer C) (m : ℕ) (trace : List Event) →
       StateRunsTo step other limit m (state_of old input) trace → IsInterrupted end ⊎ IsAnswered end other m trace

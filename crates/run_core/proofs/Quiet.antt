@@ -1,4 +1,4 @@
--- Answers of steps that neither read input nor write output.
+-- Results of steps that neither read input nor write output.
 use Rattle.std.proofs.Common.{◌≡◌, ℕ, List, [], ◌++◌, Option, Some, None, Bool, true, false, refl, sym, subst}
 use Rattle.std.specs.Prelude.{◌<◌, if◌then◌else◌, ◌==◌}
 use Rattle.std.proofs.lemmas.List.Elements.{All-nil}
@@ -71,7 +71,7 @@ module _ {M V X C : Type 0} (state_of : M → List ℕ → State V X) where
     no_write (Ended n) input becomes = becomes
     no_write (Halts pc cause) input becomes = becomes
 
-    -- a step whose effect is quiet, beside an outside that stays
+    -- A step without input or output, while source and sink don't change.
     pub quiet_answers : (effect : State V X → Outcome (State V X) C) (a : Answer C) (ended : Bool) (outside : Outside)
         → ((input : List ℕ) → step (state_of old input) (effect (state_of old input)))
         → ((input : List ℕ) → Becomes state_of (effect (state_of old input)) a old new input)
@@ -114,7 +114,7 @@ module _ {M V X C : Type 0} (state_of : M → List ℕ → State V X) where
       taken_is = refl;
     }
 
-  -- answers by one relation are answers by another that it implies
+  -- A result for one relation of steps is one for each relation that it implies.
   module _ (step other : State V X → Outcome (State V X) C → Type 0) (old new : M)
       (implies : (input : List ℕ) (o : Outcome (State V X) C) → step (state_of old input) o → other (state_of old input) o)
       (ended ends : Bool) (before after : Outside) where

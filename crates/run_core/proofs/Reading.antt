@@ -1,11 +1,11 @@
--- A read that moved some bytes into a buffer, with whatever comes after them.
+-- A read that moved some bytes into a buffer, whatever comes after them.
 use Rattle.std.proofs.Common.{◌≡◌, ◌<◌, ◌≤◌, refl, ℕ, List, [], ◌∷◌, ◌++◌, length, take, drop, Bool, true, false, arith, nat_lt}
 use Rattle.std.proofs.Common.{append-nil, take_all}
 use Rattle.std.proofs.Math.Seq.{take-append_seam, drop-append_seam}
 use Rattle.std.proofs.lemmas.Bool.{ltb-true, ltb-false}
 use Rattle.run_core.specs.Inputs.{MayCome}
 
--- fewer than it asks for are all there are
+-- A read that gives fewer bytes than asked for gives all there are.
 pub takes_all : (count : ℕ) (moved rest : List ℕ) (ends : Bool) → length moved ≤ count → (length moved < count → ends ≡ true) →
     MayCome ends rest → take count (moved ++ rest) ≡ moved
 takes_all count moved rest ends few end may = by_test (nat_lt (length moved) count) refl
@@ -21,11 +21,11 @@ takes_all count moved rest ends few end may = by_test (nat_lt (length moved) cou
 pub drops_moved : (moved rest : List ℕ) → drop (length moved) (moved ++ rest) ≡ rest
 drops_moved moved rest = drop-append_seam moved rest
 
--- a list that was written over all of another
+-- A list that overwrites all of another one.
 pub written_over : (xs ys : List ℕ) (n : ℕ) → n ≡ length xs → take n (xs ++ ys) ≡ xs
 written_over xs ys n e = rw e (take-append_seam xs ys)
 
--- after the end nothing is read
+-- Nothing is read after the end.
 pub none_read : (moved : List ℕ) (n : ℕ) → length moved ≡ n → n ≡ 0 → moved ≡ []
 none_read [] n size none = refl
 none_read (b ∷ bs) n size none = absurd (omega arith)

@@ -1,4 +1,4 @@
--- States that are the same at each register and at each address are one.
+-- States that are equal at each register and at each address are equal.
 use Rattle.std.proofs.Common.{◌≡◌}
 use Rattle.std.proofs.Math.Path.{fun_ext}
 use Rattle.rv_code.specs.machine.Machine.{State}

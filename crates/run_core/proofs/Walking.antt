@@ -1,4 +1,4 @@
--- Steps after steps: what a loop over a machine's steps keeps, and what it comes to.
+-- Sequences of steps: the invariant of a loop over a machine's steps, and its result.
 use Rattle.std.proofs.Common.{◌≡◌, ◌∙◌, ◌+◌, ◌<◌, ◌≤◌, ℕ, suc, List, [], ◌∷◌, ◌++◌, Bool, false, Option, refl, sym, ap, subst}
 use Rattle.std.proofs.Common.{arith, append_assoc, take}
 use Rattle.std.proofs.lemmas.List.Elements.{All-append, All-nil}
@@ -27,14 +27,14 @@ unfolding output
 output-nil = refl
 
 module _ {M S C : Type 0} (state_of : M → List ℕ → S) (step : S → Outcome S C → Type 0) (old : M) (before : Outside) where
-  -- n steps come to this machine with this input before and this rest of it after them
+  -- n steps reach this machine, with this input before them and this rest of it after them.
   pub record Came (now : M) (input rest : List ℕ) (n : ℕ) (after : Outside) : Type 0 where
     pub trace : List Event
     pub so_far : SoFar step (state_of old input) n trace (state_of now rest)
     pub determined : IsDetermined step (state_of old input) n
     pub taken_is : after.output.taken ≡ append_known before.output.taken (output trace)
 
-  -- n steps read some bytes and come to this machine, whatever comes after these
+  -- n steps read some bytes and reach this machine, whatever comes after the bytes.
   pub record Walk (now : M) (ended : Bool) (n : ℕ) (after : Outside) : Type 0 where
     pub read : List ℕ
     pub bytes : All (λ b. b < 256) read
@@ -45,7 +45,7 @@ module _ {M S C : Type 0} (state_of : M → List ℕ → S) (step : S → Outcom
   pub not_ended : (ended : Bool) → ended ≡ false → (left : Option (List ℕ)) → IsRightly ended left
   not_ended ended none left = λ e. absurd (cc)
 
-  -- no step was done yet
+  -- No step was done yet.
   abbrev pub no_step : (ended : Bool) → ended ≡ false → Walk old ended 0 before
   no_step ended none = record {
     read = [];
@@ -74,7 +74,7 @@ module _ {M S C : Type 0} (state_of : M → List ℕ → S) (step : S → Outcom
         (rest : List ℕ) → MayCome ends rest → MayCome ended (goes.read ++ rest)
     may_before new ends after goes rest may = λ e. let kept = goes.end_kept e in rw (kept.1) (may kept.0)
 
-    -- one step more
+    -- One more step.
     abbrev pub step_more : (new : M) (ends : Bool) (after : Outside) → StepGoes state_of step mid new ended ends between after →
         Walk new ends (n + 1) after
     step_more new ends after goes = record {
@@ -104,7 +104,7 @@ module _ {M S C : Type 0} (state_of : M → List ℕ → S) (step : S → Outcom
       end_is = goes.end_is walk.end_is;
     }
 
-    -- The input up to here, as far as the source tells it.
+    -- The input up to here, as far as the source is transparent.
 
     abbrev rest_now : List ℕ
     rest_now = told between.input.left
@@ -129,7 +129,7 @@ module _ {M S C : Type 0} (state_of : M → List ℕ → S) (step : S → Outcom
     determined_now = determined_further rest_now (told_may_come ended between.input.left walk.end_is)
 
     module _ (new : M) (after : Outside) (limit : ℕ) (below : n < limit) where
-      -- with the input up to here the run answers so
+      -- With the input up to here the run has this result.
       abbrev runs_now : (a : Answer C) (k : ℕ) → MachineRunAnswers state_of step a limit k old new input_now before after →
           IsDetermined step (state_of old input_now) (determined_steps a limit k) →
           RunsSomeInput state_of step a limit k old new before after
@@ -141,7 +141,7 @@ module _ {M S C : Type 0} (state_of : M → List ℕ → S) (step : S → Outcom
         determined = determined;
       }
 
-      -- where it stops, all steps are determined, since there are no others
+      -- If the run stops, all steps are deterministic, since there are no more.
       pub determined_by_stop : (o : Outcome S C) → IsStop o → StepStops state_of step o mid new between after →
           IsDetermined step (state_of old input_now) limit
       determined_by_stop o is_stop stops =
@@ -236,7 +236,7 @@ module _ {M S C : Type 0} (state_of : M → List ℕ → S) (step : S → Outcom
         },
       ) determined_now
 
-      -- the next step is the last
+      -- The next step is the last.
       pub last_step : (ends : Bool) (a : Answer C) → (a ≡ answer.Going → ⊥) → before.input.faults ≤ between.input.faults
           → before.output.faults ≤ between.output.faults
           → StepAnswers state_of step a mid new ended ends between after
@@ -248,7 +248,7 @@ module _ {M S C : Type 0} (state_of : M → List ℕ → S) (step : S → Outcom
       last_step ends answer.WriteFault last reads writes answers = fails_at_write writes answers
       last_step ends answer.Memory last reads writes answers = runs_out answers
 
-  -- the steps are up
+  -- The steps are used up.
   abbrev pub steps_up : (now : M) (ended : Bool) (n limit : ℕ) (after : Outside) → Walk now ended n after → n ≡ limit →
       RunsSomeInput state_of step answer.Going limit n old now before after
   steps_up now ended n limit after walk up =
@@ -271,7 +271,7 @@ module _ {M S C : Type 0} (state_of : M → List ℕ → S) (step : S → Outcom
         determined = subst (IsDetermined step (state_of old (walk.read ++ rest))) up c.determined;
       }
 
--- What holds of the end of a run and of its steps holds of the pair that is answered.
+-- What holds for the end of a run and its steps holds for the pair that is returned.
 pub ran_is : {E C : Type 0} (answered : E → Answer C) (end' end : E) (steps n : ℕ) (P : E → ℕ → Type 0) → end' ≡ end →
     steps ≡ steps_done (answered end) n → P end (steps_done (answered end) n) → P end' steps
 ran_is answered end' end steps n P end_is steps_are holds =

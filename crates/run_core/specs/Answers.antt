@@ -1,17 +1,17 @@
--- What a step of a machine answers. A run answers as its last step did.
+-- The result of a step of a machine. The result of a run is that of its last step.
 use Rattle.std.specs.Prelude.{ℕ}
 
--- The machine halts for causes C.
+-- The machine halts for causes of type C.
 pub data Answer (C : Type 0) : Type 0 where
-  -- It goes on. Of a run: its steps are up.
+  -- The machine goes on. For a run: the steps are used up.
   Going : Answer C
-  -- the program ended with this status
+  -- The program ended with this status.
   Ended : ℕ → Answer C
-  -- it halts at a pc
+  -- The machine halted at this pc.
   Halted : ℕ → C → Answer C
-  -- standard input could not be read
+  -- Standard input could not be read.
   ReadFault : Answer C
-  -- the output could not be written
+  -- The output could not be written.
   WriteFault : Answer C
-  -- memory ran out
+  -- Memory ran out.
   Memory : Answer C

@@ -1,4 +1,4 @@
--- The system calls that the machine names, as the calls of the definition.
+-- The system calls of the code as the calls of the definition.
 use Rattle.rv_code.specs.machine.Machine.{Call, Read, Write, Exit, Brk, Unknown}
 use Rattle.run_core.specs.declared.calls.SystemCall.{SystemCall}
 use Rattle.run_core.specs.declared.calls.SystemCall.TheVariants as system_call

@@ -1,4 +1,4 @@
--- What a step answers, and what it does to a machine and to the outside.
+-- The result of a step, with its effect on a machine, the source and the sink.
 use Rattle.std.specs.Prelude.{◌≡◌, ℕ, ◌<◌, All, List, [], ◌∷◌, ◌++◌, Bool, true, Option, Some}
 use Rattle.std.specs.Io.KnownBytes.{append_known, prepend_known}
 use Rattle.rb_io.specs.FaultCounts.{Rose}
@@ -8,9 +8,9 @@ use Rattle.run_core.specs.Answers.{Answer}
 use Rattle.run_core.specs.Answers as answer
 use Rattle.run_core.specs.Inputs.{Outside, MayCome, IsRightly}
 
--- `step` relates a state to what a step from it comes to.
+-- `step` relates a state to the outcomes of a step from it.
 module _ {S C : Type 0} (step : S → Outcome S C → Type 0) where
-  -- The step is a read of standard input that asks for a byte.
+  -- The step is a read of standard input of at least one byte.
   pub record AsksInput (s : S) : Type 0 where
     pub next : S
     pub event : Event
@@ -21,7 +21,7 @@ module _ {S C : Type 0} (step : S → Outcome S C → Type 0) where
     pub used_is : event.used ≡ 0 ∷ address ∷ count ∷ []
     pub some : 0 < count
 
-  -- The step is a write, of which a proper prefix was taken.
+  -- The step is a write, of which the sink took a proper prefix.
   pub record GivesOutput (taken now : Option (List ℕ)) (s : S) : Type 0 where
     pub next : S
     pub event : Event
@@ -29,24 +29,25 @@ module _ {S C : Type 0} (step : S → Outcome S C → Type 0) where
     pub number_is : event.number ≡ 64
     pub front : TakesPrefix taken now event.moved
 
--- A machine M keeps the state that `state_of` says, before an input that is still to come.
+-- `state_of` gives the state of a machine of type M with the input that is still to come.
 
 module _ {M S : Type 0} (state_of : M → List ℕ → S) where
-  -- memory ran out, and nothing was done
+  -- Memory ran out, and nothing was done.
   pub record RanOut (old new : M) (before after : Outside) : Type 0 where
     pub state_is : (input : List ℕ) → state_of new input ≡ state_of old input
     pub left_is : after.input.left ≡ before.input.left
     pub taken_is : after.output.taken ≡ before.output.taken
 
 module _ {M S C : Type 0} (state_of : M → List ℕ → S) (step : S → Outcome S C → Type 0) where
-  -- With this input it goes on to a state before this rest of it, and the sink took what the step wrote.
+  -- With this input the machine goes on to a state with the rest of the input, and the sink took what the step wrote.
   pub record StepGoesOn (old new : M) (input rest : List ℕ) (before after : Outside) : Type 0 where
     pub event : Option Event
     pub comes_to : step (state_of old input) (Going (state_of new rest) event)
     pub taken_is : after.output.taken ≡ append_known before.output.taken (output (events event))
 
-  -- It goes on, whatever comes after the bytes that it read, which the source lost. A source that was found at its end
-  -- isn't read any more.
+  -- The machine goes on, whatever comes after the bytes that it read from the source. A source whose end was found
+  -- isn't
+  -- read again.
   pub record StepGoes (old new : M) (ended ends : Bool) (before after : Outside) : Type 0 where
     pub read : List ℕ
     pub bytes : All (λ b. b < 256) read
@@ -55,7 +56,7 @@ module _ {M S C : Type 0} (state_of : M → List ℕ → S) (step : S → Outcom
     pub end_kept : ended ≡ true → (ends ≡ true) × (read ≡ [])
     pub end_is : IsRightly ended before.input.left → IsRightly ends after.input.left
 
-  -- It comes to an outcome that leaves machine and outside as they were.
+  -- The step has an outcome that leaves machine, source and sink unchanged.
   pub record StepStops (outcome : Outcome S C) (old new : M) (before after : Outside) : Type 0 where
     pub comes_to : (input : List ℕ) → step (state_of old input) outcome
     pub state_is : (input : List ℕ) → state_of new input ≡ state_of old input
@@ -72,7 +73,7 @@ module _ {M S C : Type 0} (state_of : M → List ℕ → S) (step : S → Outcom
     pub gives : (input : List ℕ) → GivesOutput step before.output.taken after.output.taken (state_of old input)
     pub left_is : after.input.left ≡ before.input.left
 
-  -- what holds of a step by its answer, with whether the source was found at its end, before and after it
+  -- The meaning of a step's result. `ended` and `ends` say whether the end of the source was found before and after it.
   abbrev pub StepAnswers : Answer C → M → M → Bool → Bool → Outside → Outside → Type 0
   StepAnswers answer.Going old new ended ends before after = StepGoes old new ended ends before after
   StepAnswers (answer.Ended status) old new ended ends before after = StepStops (Ended status) old new before after

@@ -1,4 +1,4 @@
-// System calls, by the registers that name them. Linux, syscall(2) and asm-generic/unistd.h.
+// System calls, by their registers. Linux, syscall(2) and asm-generic/unistd.h.
 ghost use Rattle.std.specs.Prelude.{◌≡◌, ◌==◌, ◌||◌};
 
 /// The register of the first argument, and of the result. psABI, "Integer Register Convention".
@@ -40,7 +40,7 @@ pub const BAD_FILE: u64 = 0xffff_ffff_ffff_fff7;
 /// `ENOSYS` as a result: the negative of 38.
 pub const NO_SUCH_CALL: u64 = 0xffff_ffff_ffff_ffda;
 
-/// The system calls that machines know. `Exit` is exit and exit_group alike.
+/// The system calls that machines know. `Exit` is both exit and exit_group.
 #[derive(Clone, Copy)]
 pub enum SystemCall {
     Read,
@@ -54,7 +54,7 @@ impl SystemCall {
     ghost use Rattle.rv_code.specs.machine.Machine.{call_of};
     ghost use Rattle.run_core.specs.Calls.{call};
 
-    /// The call of a number.
+    /// The system call with a number.
     pub fn of(number: u64) -> SystemCall
         ensures { call result ≡ call_of number }
     {

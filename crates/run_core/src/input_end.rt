@@ -7,15 +7,16 @@ ghost use Rattle.run_core.specs.Inputs.{IsRightly};
 
 use rb_io::{Got, Source};
 
-/// Whether a source was found at its end. After that it isn't asked again: a terminal could still give
-/// bytes, and then no single list of bytes would be the input of the run.
+/// Whether the end of a source was found. After that the source isn't read again: a terminal could still give bytes,
+/// and
+/// then no single list of bytes would be the input of the run.
 #[derive(Clone, Copy)]
 pub struct InputEnd {
     pub reached: bool,
 }
 
 impl InputEnd {
-    /// The end wasn't reached yet.
+    /// The end was not found yet.
     pub fn new() -> InputEnd
         ensures { result.reached ≡ false }
     {
@@ -23,7 +24,8 @@ impl InputEnd {
     }
 
     /// Fills a buffer from the front, piece by piece, until it is full or the source is at its end. `Failed` doesn't
-    /// tell how many bytes were read before the read that failed.
+    /// say how
+    /// many bytes were read before the read that failed.
     pub fn fill<I: Source>(&mut self, input: &mut I, buffer: &mut [u8]) -> Got
         ensures within { IfBytes result (λ n. n ≤ length buffer.new) }
         ensures moved { IfBytes result (λ n.

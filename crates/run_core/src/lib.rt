@@ -1,4 +1,4 @@
-//! What machines share that run over a source and a sink, whatever their registers and memory hold.
+//! Parts shared by machines that run over a source and a sink, whatever the contents of their registers and memory.
 #![tactic(auto)]
 
 pub mod calls;
