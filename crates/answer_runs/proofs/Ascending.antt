@@ -1,4 +1,4 @@
--- Numbers that ascend, and which numbers are among some.
+-- Ascending numbers, and membership of numbers in a list.
 use Rattle.std.proofs.Common.{◌≡◌, ◌≢◌, ◌∙◌, ◌<◌, ◌≤◌, ◌+◌, ⊎_elim, ℕ, zero, suc, Bool, true, false, List, [], ◌∷◌}
 use Rattle.std.proofs.Common.{refl, sym, ap, subst, arith, length, get_or, eqb}
 use Rattle.std.specs.Prelude.{slice_index, ⊤, ◌==◌, ◌||◌, filter, Contains, IsPermutation}
@@ -31,7 +31,7 @@ pub later_up : (a b : ℕ) (xs : List ℕ) → b ≤ a → Ascends a xs → Asce
 later_up a b [] h up = tt
 later_up a b (x ∷ xs) h up = (let g = up.0 in omega arith, up.1)
 
--- ascending numbers are those of a range that are among them
+-- Ascending numbers are the members of a range that are in the list.
 pub range_filter : (p : ℕ → Bool) (n a : ℕ) (xs : List ℕ) → Ascends a xs → AreBelow (a + n) xs →
     ((q : ℕ) → a ≤ q → q < a + n → among q xs ≡ p q) →
     filter p (range_with_len a n) ≡ xs
@@ -65,7 +65,7 @@ ascends_from a (x ∷ xs) up h = (
       (λ l. let g = up 0 (omega arith) in omega arith),
 )
 
--- numbers that were put in order, each once
+-- Sorted numbers without duplicates.
 
 among_in : (q : ℕ) (xs : List ℕ) → Contains xs q → among q xs ≡ true
 among_in q [] c = absurd (Contains-nil q c)

@@ -1,4 +1,4 @@
--- What is found in a list by an index of the ranges of its items.
+-- Results of searches in a list by an index of the ranges of its items.
 use Rattle.std.proofs.Common.{ℕ, suc, ◌+◌, ◌≡◌, List, [], ◌∷◌, Option, Some, None, Bool, true, false, cond, refl, sym, ◌∙◌, ap, map}
 use Rattle.std.proofs.Common.{option_map, arith}
 use Rattle.std.specs.Prelude.{find, position, slice_get, option_and_then}
@@ -36,7 +36,7 @@ find-position {X} p (x ∷ xs) = by (p x) (find-position p xs)
     by true e = refl
     by false e = e ∙ behind (position_from p 0 xs) ∙ ap (option_and_then (slice_get (x ∷ xs))) (sym (position_from-suc p 0 xs))
 
--- the first item whose range holds an address is that of the number that an index of these ranges gives
+-- The first item whose range contains an address has the number that the index gives.
 pub found_first : {X : Type 0} (index : FirstRange) (range_of : X → Range) (xs : List X) (a : ℕ)
     → first_range index a ≡ position (holds_address a) (map range_of xs)
     → find (λ x. holds_address a (range_of x)) xs ≡ option_and_then (slice_get xs) (first_range index a)

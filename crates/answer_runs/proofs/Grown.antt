@@ -1,4 +1,4 @@
--- Runs that grow at their end.
+-- Lists of runs that are extended at the end.
 use Rattle.std.proofs.Common.{ℕ, List, [], ◌∷◌, ◌++◌, Option, Some, None, ◌+◌, ◌≤◌, ◌<◌, ◌≡◌, ◌≢◌, ◌==◌, refl, sym, ◌∙◌, ap}
 use Rattle.std.proofs.Common.{option_map, cond, leb, ltb, ◌&&◌, Bool, true, false, subst, arith, length, get_or, slice_set, zero, suc}
 use Rattle.std.proofs.lemmas.Bool.Decides.{nat_tests}
@@ -27,7 +27,7 @@ pub within-up : {A : Type 0} (lo : ℕ) (xs : List (Run A)) (mid hi : ℕ) → I
 within-up lo [] mid hi w e = omega arith
 within-up lo (x ∷ xs) mid hi w e = (w.0, w.1, within-up (x.start + x.len) xs mid hi w.2 e)
 
--- one run more
+-- One more run.
 
 pub run_at-more : {A : Type 0} (xs : List (Run A)) (r : Run A) (p : ℕ)
     → run_at (xs ++ r ∷ []) p ≡ option_or (run_at xs p) (answer_over r.start r.len r.answer p)
@@ -41,7 +41,7 @@ pub within-more : {A : Type 0} (lo : ℕ) (xs : List (Run A)) (r : Run A) (hi : 
 within-more lo [] r hi w n e = (w, n, e)
 within-more lo (x ∷ xs) r hi w n e = (w.0, w.1, within-more (x.start + x.len) xs r hi w.2 n e)
 
--- a run that goes on as another one can't be added to the last one
+-- A run that can't be merged into the run before it.
 abbrev pub IsApart : {A : Type 0} → Run A → Run A → Type 0
 IsApart r l = l.start + l.len ≡ r.start → l.answer ≢ r.answer
 
@@ -68,7 +68,7 @@ apart-end (x ∷ []) r e = λ same answers. absurd (differ (x.start + x.len) r.s
     differ n m same e = grind (arith, nat_tests)
 apart-end (x ∷ y ∷ zs) r e = apart-end (y ∷ zs) r e
 
--- the last run with more bytes
+-- The last run with more bytes.
 
 one-longer : {A X : Type 0} (r : Run A) (t n p : ℕ) (f : X → Option A) (a : X) → (r.start + r.len == t) ≡ true → f a ≡ Some r.answer
     → option_or (answer_over r.start (r.len + n) r.answer p) None
@@ -93,7 +93,7 @@ run_at-longer (x ∷ y ∷ zs) t n p f a end is =
     ap (option_or (answer_in x p)) (run_at-longer (y ∷ zs) t n p f a end is)
     ∙ or_assoc (answer_in x p) (run_at (y ∷ zs) p) (option_and_then f (answer_over t n a p))
 
--- an answer over bytes, as what a table says at one address
+-- An answer that is the same at all addresses.
 pub and_then-Some : {A : Type 0} (o : Option A) → option_and_then Some o ≡ o
 and_then-Some (Some x) = refl
 and_then-Some None = refl
@@ -115,7 +115,7 @@ answer-longer o (x ∷ []) n h = h
 answer-longer o (x ∷ y ∷ []) n h = h
 answer-longer o (x ∷ y ∷ z ∷ zs) n h = answer-longer o (y ∷ z ∷ zs) n h
 
--- a run within bounds ends within them, and has room for more
+-- A last run within bounds ends within them, and can be extended.
 pub last-within : {A : Type 0} (lo : ℕ) (xs : List (Run A)) (t : ℕ) → IsWithin lo xs t → IfLast (λ r. r.start + r.len ≤ t) xs
 last-within lo [] t w = tt
 last-within lo (x ∷ []) t w = w.2
@@ -126,7 +126,7 @@ last-room lo [] t n m w lt = tt
 last-room lo (x ∷ []) t n m w lt = omega (arith, w.2)
 last-room lo (x ∷ y ∷ zs) t n m w lt = last-room (x.start + x.len) (y ∷ zs) t n m w.2 lt
 
--- the last run by its index
+-- The last run by its index.
 
 pub last-get : {A : Type 0} (P : Run A → Type 0) (xs : List (Run A)) (k : ℕ) (r : Run A) → k + 1 ≡ length xs → r ≡ get_or xs k r → P r →
     IfLast P xs
@@ -160,7 +160,7 @@ set-longer (x ∷ []) (suc k) r n end is = absurd (omega arith)
 set-longer (x ∷ y ∷ zs) zero r n end is = absurd (omega arith)
 set-longer (x ∷ y ∷ zs) (suc k) r n end is = ap (λ l. x ∷ l) (set-longer (y ∷ zs) k r n (omega arith) is)
 
--- what runs of answers say, and what runs of their meanings do
+-- Answers of runs, and the meanings of these answers.
 
 pub said-more : {A M : Type 0} (f : A → M) (xs : List (Run A)) (r : Run A)
     → said_runs f (xs ++ r ∷ []) ≡ said_runs f xs ++ record { start = r.start; len = r.len; answer = f r.answer } ∷ []
@@ -198,7 +198,7 @@ pub unsaid-within : {A M : Type 0} (f : A → M) (lo : ℕ) (rs : List (Run A)) 
 unsaid-within f lo [] hi w = w
 unsaid-within f lo (r ∷ rs) hi w = (w.0, w.1, unsaid-within f (r.start + r.len) rs hi w.2)
 
--- answers that are carried are those of any function with the same values
+-- Carried answers only depend on the values of the function.
 
 pub wanted-same : {A : Type 0} (R : A → A → Type 0) (spans : List Span) (f g : ℕ → Option A) (m : Option (ℕ → Option A))
     → ((p : ℕ) → f p ≡ g p) → IsCarried R spans f m → IsCarried R spans g m

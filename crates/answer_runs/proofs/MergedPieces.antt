@@ -1,4 +1,4 @@
--- Pieces put together, and what they say at an address.
+-- Merged pieces, and their values at an address.
 use Rattle.std.proofs.Common.{ℕ, zero, suc, ◌+◌, ◌-◌, ◌≤◌, ◌<◌, ◌≡◌, List, [], ◌∷◌, ◌++◌, Option, Some, None, Bool, true, false, cond, leb}
 use Rattle.std.proofs.Common.{ltb, ◌&&◌, refl, sym, ◌∙◌, ap, subst, arith, length, take, get_or}
 use Rattle.std.specs.List.{position_from}
@@ -13,7 +13,7 @@ use Rattle.answer_runs.specs.declared.range.Range.{Range}
 use Rattle.answer_runs.specs.declared.pieces.Piece.{Piece}
 use Rattle.answer_runs.specs.Pieces.{under, IsNext}
 
--- one piece more
+-- One more piece.
 pub under-more : (before : Option ℕ) (ps : List Piece) (p : Piece) (a : ℕ)
     → under before (ps ++ p ∷ []) a ≡ cond (leb p.start a) p.first (under before ps a)
 unfolding under
@@ -29,7 +29,7 @@ none_started before (p ∷ ps) a later =
     let not : leb p.start a ≡ false = grind (arith, nat_tests) in
     ap (λ b. under (cond b p.first before) ps a) not ∙ none_started before ps a (λ k d lt. later (suc k) d (omega arith))
 
--- what is found by the count of the pieces that have started
+-- The value by the number of pieces that start at or below the address.
 pub under_none : (ps : List Piece) (a : ℕ) → ((k : ℕ) (d : Piece) → 0 ≤ k → k < length ps → a < (get_or ps k d).start) →
     under None ps a ≡ None
 under_none ps a later = none_started None ps a (λ k d lt. later k d (omega arith) lt)
@@ -44,7 +44,7 @@ under_last before (p ∷ ps) zero a d within low later =
 under_last before (p ∷ ps) (suc i) a d within low later =
     under_last (cond (leb p.start a) p.first before) ps i a d (omega arith) low (λ k e le lt. later (suc k) e (omega arith) (omega arith))
 
--- the pieces of one range
+-- The pieces of one range.
 pub one_range : (r : Range) (low number a : ℕ) → low ≡ r.low → low < r.high
     → under None (record { start = low; first = Some number } ∷ record { start = r.high; first = None } ∷ []) a
     ≡ cond (leb r.low a && ltb a r.high) (Some number) None
@@ -61,7 +61,7 @@ no_ranges p [] [] n a e l = refl
 no_ranges p [] (x ∷ xs) n a e l = absurd (omega arith)
 no_ranges p (q ∷ ps) xs n a e l = absurd (cc)
 
--- two lists of ranges, one after the other
+-- Two concatenated lists of ranges.
 pub position-append : {X : Type 0} (p : X → Bool) (n : ℕ) (xs ys : List X)
     → position_from p n (xs ++ ys) ≡ option_or (position_from p n xs) (position_from p (n + length xs) ys)
 position-append p n [] ys = ap (λ k. position_from p k ys) (grind arith)
@@ -75,7 +75,8 @@ position-append {X} p n (x ∷ xs) ys = by (p x)
     by true e = refl
     by false e = e
 
--- The pieces of a list up to an index: the last of them says x, and those behind begin at a start or behind it.
+-- The pieces of a list up to an index: the value of the last of them is x, and the pieces after it start at or after
+-- `start`.
 pub record IsTaken (ps : List Piece) (i start : ℕ) (x : Option ℕ) : Type 0 where
   pub bound : i ≤ length ps
   pub now : (a : ℕ) → start ≤ a → under None (take i ps) a ≡ x
@@ -101,7 +102,7 @@ taken_more ps i start x d rises taken lt = record {
         let up : (get_or ps i e).start ≤ (get_or ps k e).start = rises i k e le within in
         subst (λ (p : Piece). p.start ≤ (get_or ps k e).start) (get_or_default ps i e d lt) up
 
--- those of another list stay, where its next piece starts no later
+-- The pieces taken from the other list stay the same if its next piece doesn't start earlier.
 pub taken_same : (ps qs : List Piece) (i j start : ℕ) (y : Option ℕ) (d : Piece) → IsNonDecreasingBy (λ p. p.start) qs →
     IsTaken qs j start y
     → IsNext ps i qs j → start ≤ (get_or ps i d).start → IsTaken qs j (get_or ps i d).start y
@@ -114,7 +115,7 @@ taken_same ps qs i j start y d rises taken first up = record {
       omega (arith, here, more);
 }
 
--- What was put together of two lists of pieces: those up to an index of each, the last of which start where the last of all does.
+-- The merge of two lists of pieces up to an index of each, if the last merged piece starts at `start`.
 pub record AreMerged (front back pieces : List Piece) (i j start : ℕ) (x y : Option ℕ) : Type 0 where
   pub in_front : IsTaken front i start x
   pub in_back : IsTaken back j start y

@@ -1,4 +1,4 @@
--- The spans of a map in the order of its lines, one after another.
+-- The spans of a map in the order of its lines, one by one.
 use Rattle.std.proofs.Common.{ℕ, List, [], ◌∷◌, ◌++◌, Option, Some, None, ◌+◌, ◌-◌, ◌≤◌, ◌<◌, ◌≡◌, ◌^◌, inl, inr, ⊎_elim}
 use Rattle.std.proofs.Common.{refl, sym, ◌∙◌, ap, subst, arith, length, take, get_or, zero, suc, Bool, true, false, cond}
 use Rattle.std.proofs.lemmas.List.{take_more, get_or-take, length-take}
@@ -15,7 +15,7 @@ use Rattle.answer_runs.specs.declared.run.Run.{Run}
 use Rattle.answer_runs.specs.AnswerRuns.{answer_over, run_at, carried, IsWithin, AreLongest, AreLow}
 use Rattle.answer_runs.proofs.Grown.{or_none, within-up}
 
--- bytes of one span more
+-- The bytes of one more span.
 
 abbrev owns : Span → ℕ → Option ℕ
 owns s p = answer_over s.out s.len s.input p
@@ -37,7 +37,7 @@ owner-more (x ∷ xs) s p = more (has_byte p x) (owner-more xs s p)
 no_byte : (s : Span) (p : ℕ) (b : Bool) → b ≡ has_byte p s → b ≡ false → owns s p ≡ None
 no_byte s p b is e = ap (λ (c : Bool). cond c (Some s.input) None) (sym is ∙ e)
 
--- no other span owns the bytes of one that shares none
+-- No other span owns the bytes of a span that overlaps none.
 apart_owner : (xs : List Span) (s : Span) (p : ℕ) → All (λ t. ShareNoByte t s) xs → has_byte p s ≡ true → owner xs p ≡ None
 apart_owner [] s p apart has = refl
 apart_owner (x ∷ xs) s p apart has =
@@ -61,7 +61,7 @@ carried-more {A} says xs s p apart = ap (option_and_then says) (owner-more xs s 
     step true e = let n : owner xs p ≡ None = apart_owner xs s p apart (sym e) in rw n refl
     step false e = let n : owns s p ≡ None = no_byte s p false e refl in rw n (none (owner xs p))
 
--- The runs that were made of the spans before one.
+-- The runs of the spans before index i.
 pub record AreMade {A : Type 0} (says : ℕ → Option A) (map : List Span) (i : ℕ) (runs : List (Run A)) : Type 0 where
   pub answered : (p : ℕ) → run_at runs p ≡ carried says (take i map) p
   pub before : (k : ℕ) (t : Span) → i ≤ k → slice_get map k ≡ Some t → 0 < t.len → IsWithin 0 runs t.out
@@ -89,7 +89,7 @@ module _ {A : Type 0} (says : ℕ → Option A) (map : List Span) (ordered : All
       ≡ option_or (carried says (take i map) p) (option_and_then says (answer_over s.out s.len s.input p))
   spoken p = ap (λ (l : List Span). carried says l p) taken ∙ carried-more says (take i map) s p apart
 
-  -- a later span with bytes begins behind this one
+  -- A later span with bytes starts at or after the end of this one.
   pub behind : (k : ℕ) (t : Span) → i < k → slice_get map k ≡ Some t → 0 < s.len → 0 < t.len → s.out + s.len ≤ t.out
   behind k t lt is some more =
       let long = slice_get_within map k t is in

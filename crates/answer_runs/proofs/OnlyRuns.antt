@@ -1,4 +1,4 @@
--- The longest runs of some answers are the only ones.
+-- The maximal runs of some answers are unique.
 use Rattle.std.proofs.Common.{ℕ, List, [], ◌∷◌, Option, Some, None, ◌+◌, ◌≤◌, ◌<◌, ◌≡◌, ◌⊎◌, inl, inr, ⊎_elim, refl, sym, ◌∙◌, ap, subst}
 use Rattle.std.proofs.Common.{arith}
 use Rattle.std.proofs.lemmas.Bool.{cases_lt}
@@ -28,7 +28,7 @@ head r rs p le lt = ap (λ o. option_or o (run_at rs p)) (inside r p le lt)
 differ : {A : Type 0} (x : A) → ◌≡◌ {A = Option A} None (Some x) → ⊥
 differ x e = cc
 
--- behind a run that is as long as it can be there is another answer, or none
+-- After a maximal run there is another answer, or none.
 module _ {A : Type 0} (r : Run A) (rs : List (Run A)) (lo hi : ℕ) (w : IsWithin lo (r ∷ rs) hi) (longest : AreLongest (r ∷ rs)) where
   pub ends : run_at (r ∷ rs) (r.start + r.len) ≡ Some r.answer → ⊥
   ends e = at_end rs w.2 longest (sym (ap (λ o. option_or o (run_at rs (r.start + r.len)))
@@ -101,7 +101,7 @@ only lo hi (r ∷ rs) (s ∷ ss) w v l m e =
     (longest-tail r rs l) (longest-tail s ss m) (rest r s rs ss lo lo hi w v start len e) in
     ap (λ (x : Run _). x ∷ rs) (run_is r s start len answer) ∙ ap (λ l. s ∷ l) tails
 
--- two lists of longest runs of the same answers are one
+-- Two lists of maximal runs of the same answers are equal.
 pub only_runs : {A : Type 0} (answers : ℕ → Option A) (rs ss : List (Run A)) → AreRunsOf answers rs → AreRunsOf answers ss → rs ≡ ss
 only_runs answers rs ss r s =
     only 0 (r.end + s.end) rs ss (within-up 0 rs r.end (r.end + s.end) r.within (omega arith))

@@ -1,4 +1,4 @@
--- A weight is one number.
+-- The weight is unique.
 use Rattle.std.proofs.Common.{ℕ, ◌+◌, ◌≡◌, Option, sym, ◌∙◌, ap}
 use Rattle.std.specs.Prelude.{sum_by}
 use Rattle.answer_runs.specs.Weights.{IsWeightOf, run_weight}

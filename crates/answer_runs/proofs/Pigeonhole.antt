@@ -1,4 +1,4 @@
--- Items that have each a place of their own weigh no more than the places.
+-- Items that each have a place of their own weigh at most as much as the places.
 use Rattle.std.proofs.Common.{◌≡◌, ℕ, zero, suc, ◌+◌, ◌*◌, ◌≤◌, ◌⊎◌, inl, inr, List, [], ◌∷◌, ◌++◌, length, refl, sym, ap, subst}
 use Rattle.std.proofs.Common.{arith, sum_by, map}
 use Rattle.std.specs.Prelude.{Contains, AllPairs}
@@ -22,11 +22,11 @@ split (z ∷ zs) y c = by (split zs y) (Contains-cons_cases z zs y c) where
       record { before = z ∷ s.before; after = s.after; same = ap (λ l. z ∷ l) s.same }
 
 module _ {X Y : Type 0} (w : X → ℕ) (v : Y → ℕ) (R : X → Y → Type 0) where
-  -- no place is that of both
+  -- No place belongs to both items.
   abbrev pub Differ : X → X → Type 0
   Differ x z = (y : Y) → R x y → R z y → ⊥
 
-  -- an item has a place, which weighs no less
+  -- An item has a place with at least its weight.
   pub record HasPlace (ys : List Y) (x : X) : Type 0 where
     pub y : Y
     pub among : Contains ys y
@@ -80,7 +80,7 @@ module _ {X Y : Type 0} (w : X → ℕ) (v : Y → ℕ) (R : X → Y → Type 0)
           sum_by w (x ∷ xs) ≤ sum_by v ys
       by more p = at more p (split ys p.y p.among)
 
--- places of several owners, each of which gives its places one weight
+-- The places of several owners. Each owner gives all its places the same weight.
 module _ {F C : Type 0} (places : F → List C) (size : F → ℕ) where
   abbrev pub owned : F → List (F × C)
   owned f = map (λ c. (f, c)) (places f)

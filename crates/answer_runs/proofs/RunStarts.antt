@@ -1,4 +1,4 @@
--- Where runs of carried answers begin: each at the start of a span, behind which no span with its answer ends.
+-- Starts of runs of carried answers: each is the start of a span, and no span with the same answer ends there.
 use Rattle.std.proofs.Common.{◌≡◌, ◌≢◌, ℕ, zero, suc, ◌+◌, ◌-◌, ◌<◌, ◌≤◌, ◌⊎◌, ◌∙◌, inl, inr, List, [], ◌∷◌, refl, sym, ap, subst}
 use Rattle.std.proofs.Common.{arith, get_or, Option, Some, None, Bool, true, false}
 use Rattle.std.specs.Prelude.{Contains, AllPairs}
@@ -25,7 +25,7 @@ module _ {A : Type 0} where
       by more (inl e) = subst (λ (u : Run A). (lo ≤ u.start) × (0 < u.len)) e (within.0, within.1)
       by more (inr d) = let m = more d in let a = within.0 in let b = m.0 in (omega (arith, a, b), m.1)
 
-  -- the first byte of a run
+  -- The first byte of a run.
   run_here : (lo hi : ℕ) (rs : List (Run A)) → IsWithin lo rs hi → (r : Run A) → Contains rs r → run_at rs r.start ≡ Some r.answer
   run_here lo hi [] within r c = absurd (Contains-nil r c)
   run_here lo hi (q ∷ rs) within r c =
@@ -39,7 +39,7 @@ module _ {A : Type 0} where
           let low = (starts_after (q.start + q.len) hi rs within.2 r d).0 in
           rw (outside q r.start (inr low)) (more d)
 
-  -- the byte before a run has another answer
+  -- The byte before a run has another answer.
   run_differs : (lo hi : ℕ) (rs : List (Run A)) → IsWithin lo rs hi → AreLongest rs → (r : Run A) → Contains rs r →
       (p : ℕ) (x : A) → p + 1 ≡ r.start → run_at rs p ≡ Some x → x ≢ r.answer
   run_differs lo hi [] within longest r c p x next is = absurd (Contains-nil r c)
@@ -89,7 +89,7 @@ module _ {A : Type 0} where
           let low = (starts_after (q.start + q.len) hi (s ∷ rs) within.2 r d).0 in
           apart (more d) d (eq-or-lt_of_le low)
 
-  -- each begins behind those before it
+  -- Each run starts after the runs before it.
   pub starts_rise : (lo hi : ℕ) (rs : List (Run A)) → IsWithin lo rs hi → AllPairs (λ (r s : Run A). r.start < s.start) rs
   starts_rise lo hi [] within = λ i j d less in_list. absurd (omega (arith, in_list))
   starts_rise lo hi (r ∷ rs) within = AllPairs-cons (λ (r s : Run A). r.start < s.start) r rs
@@ -97,7 +97,7 @@ module _ {A : Type 0} where
       let len = within.1 in omega (arith, low, len))
       (starts_rise (r.start + r.len) hi rs within.2)
 
--- who owns a byte
+-- The owner of a byte.
 owns : (spans : List Span) → AllPairs ShareNoByte spans → (s : Span) → Contains spans s → (p : ℕ) → has_byte p s ≡ true →
     owner spans p ≡ Some s.input
 owns [] disjoint s c p h = absurd (Contains-nil s c)
@@ -120,19 +120,19 @@ owns (u ∷ us) disjoint s c p h =
         rw here (ap (λ (t : Span). Some t.input) e)
     by more (inr d) = in_rest (more d) d (has_byte p u) refl
 
--- the span at which a run begins
+-- The span at which a run starts.
 pub record RunStart {A : Type 0} (at : ℕ → Option A) (spans : List Span) (r : Run A) : Type 0 where
   pub s : Span
   pub among : Contains spans s
   pub bytes : 0 < s.len
   pub out : s.out ≡ r.start
   pub answer : at s.input ≡ Some r.answer
-  -- no span with this answer ends here
+  -- No span with this answer ends here.
   pub other : (t : Span) → Contains spans t → 0 < t.len → t.out + t.len ≡ s.out → at t.input ≢ Some r.answer
 
 module _ {A : Type 0} (at : ℕ → Option A) (spans : List Span) (disjoint : AllPairs ShareNoByte spans) (runs : List (Run A))
     (are : AreRunsOf (carried at spans) runs) (r : Run A) (c : Contains runs r) where
-  -- a span whose last byte is before the run has another answer
+  -- A span whose last byte is before the run has another answer.
   another : (t : Span) → Contains spans t → (p : ℕ) → has_byte p t ≡ true → p + 1 ≡ r.start → at t.input ≢ Some r.answer
   another t d p h next same =
       let own : carried at spans p ≡ at t.input = rw (owns spans disjoint t d p h) refl in

@@ -1,4 +1,4 @@
--- A table that answers nowhere has no runs.
+-- A table with no answers has no runs.
 use Rattle.std.proofs.Common.{ℕ, List, [], Option, Some, None, ◌≡◌, refl, sym, arith}
 use Rattle.std.specs.Prelude.{option_and_then}
 use Rattle.addr_map.specs.declared.span.Span.{Span}

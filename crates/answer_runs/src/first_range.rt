@@ -1,4 +1,4 @@
-// The first of many ranges that holds an address.
+// Finds the first of many ranges that contains an address.
 ghost use Rattle.std.specs.Prelude.{◌≡◌, ℕ, IfOk, position};
 ghost use Rattle.std.specs.List.Sorted.{IsNonDecreasingBy};
 ghost use Rattle.answer_runs.specs.AddressRanges.{holds_address};
@@ -8,8 +8,9 @@ use crate::range::Range;
 use rb_bytes::fault::NoMemory;
 use std::alloc::Global;
 
-/// Which of many ranges is the first that holds an address. It is made in the time of a sort, takes up to 64 bytes a
-/// range, and answers in the time of a binary search.
+/// An index of ranges, for the first one that contains an address. Making it takes the time of a sort and up to 64
+/// bytes
+/// for each range, and a search takes the time of a binary search.
 #[derive(Drop)]
 pub struct FirstRange {
     pieces: Vec<Piece>,
@@ -19,7 +20,7 @@ pub struct FirstRange {
 impl FirstRange {
     ghost use Rattle.answer_runs.specs.FirstRanges.{first_range};
 
-    /// An index of some ranges, which are numbered from 0. They may overlap, and may be empty.
+    /// An index of ranges, which are numbered from 0. They may overlap, and may be empty.
     pub fn new(alloc: Global, ranges: &[Range]) -> Result<FirstRange, NoMemory>
         ensures { IfOk result (λ index. (a : ℕ) → first_range index a ≡ position (holds_address a) ranges.now) }
     {
@@ -27,7 +28,7 @@ impl FirstRange {
         Ok(FirstRange { pieces })
     }
 
-    /// The number of the first range that holds an address, if one does.
+    /// The number of the first range that contains an address. None if there is none.
     pub fn find(&self, a: u64) -> Option<usize>
         ensures { result ≡ first_range self.now a }
     {

@@ -16,7 +16,7 @@ pub fn ends_at<A>(runs: &[Run<A>], end: u64) -> bool
     }
 }
 
-/// Makes the last run longer by `len` bytes; does nothing where there is none.
+/// Makes the last run longer by `len` bytes. Does nothing if there are no runs.
 pub fn lengthen<A>(runs: &mut Vec<Run<A>>, len: u64)
     requires { last.IfLast (λ r. r.len + len < 2 ^ 64) runs.old.items }
     ensures { runs.new.items ≡ last.lengthened len runs.old.items }

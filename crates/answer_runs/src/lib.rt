@@ -1,4 +1,4 @@
-//! Stretches of addresses with one answer, their sizes, and which of many ranges is the first that holds an address.
+//! Ranges of addresses with the same answer, their sizes, and an index for the first range that contains an address.
 #![tactic(auto)]
 
 mod first_range;

@@ -1,4 +1,4 @@
-// The addresses cut into pieces: all addresses of a piece have the same first range that holds them.
+// The addresses divided into pieces: the first range that contains an address is the same for all addresses of a piece.
 ghost use Rattle.std.specs.Prelude.{◌≡◌, ◌<◌, ◌≤◌, ◌+◌, ◌^◌, ◌⊎◌, ◌∷◌, [], ℕ, None, IfOk, IsTrue, IsFalse, length};
 ghost use Rattle.std.specs.Prelude.{slice_index_or};
 ghost use Rattle.std.specs.List.{position_from};
@@ -12,15 +12,15 @@ use crate::range::Range;
 use rb_bytes::fault::NoMemory;
 use std::alloc::Global;
 
-// The addresses from `start` up to the next piece, and the number of the first range that holds them, if one does.
-// Starts are of 128 bits, since a range may end at 2^64 or above.
+// The addresses from `start` up to the next piece, and the number of the first range that contains them, if one does.
+// Starts have 128 bits, since a range may end at 2^64 or above.
 #[derive(Clone, Copy)]
 pub(crate) struct Piece {
     pub(crate) start: u128,
     pub(crate) first: Option<usize>,
 }
 
-// The pieces of ranges that are numbered from `number` on, by merging those of two halves.
+// The pieces of ranges that are numbered from `number` on, by merging the pieces of two halves.
 pub(crate) fn pieces_of(
     alloc: Global,
     ranges: &[Range],
@@ -64,8 +64,8 @@ fn pieces_of_one(alloc: Global, range: Range, number: usize) -> Result<Vec<Piece
     Ok(pieces)
 }
 
-// Merges the pieces of some ranges with those of the ranges behind them; where ranges of both hold an address, one in
-// front is the first. Each piece of either list makes one.
+// Merges the pieces of some ranges with the pieces of the ranges after them. If ranges of both contain an address, the
+// first one is in `front`. Each piece of either list gives one piece of the result.
 fn merged(alloc: Global, front: &[Piece], back: &[Piece]) -> Result<Vec<Piece>, NoMemory>
     requires front { IsNonDecreasingBy (λ p. p.start) front.now }
     requires back { IsNonDecreasingBy (λ p. p.start) back.now }
@@ -97,7 +97,7 @@ fn merged(alloc: Global, front: &[Piece], back: &[Piece]) -> Result<Vec<Piece>, 
     Ok(pieces)
 }
 
-// Whether `front[i]` is taken next, and not `back[j]`: it starts no later, or nothing is left of `back`.
+// Whether `front[i]` is next in the merge, and not `back[j]`: it doesn't start later, or `back` has no more pieces.
 fn is_front_next(front: &[Piece], i: usize, back: &[Piece], j: usize) -> bool
     requires { (i < length front.now) ⊎ (j < length back.now) }
     ensures front { IsTrue result → IsNext front.now i back.now j }
@@ -112,7 +112,7 @@ fn is_front_next(front: &[Piece], i: usize, back: &[Piece], j: usize) -> bool
     }
 }
 
-// How many pieces start at or below an address.
+// The number of pieces that start at or below an address.
 pub(crate) fn count_up_to(pieces: &[Piece], a: u128) -> usize
     requires { IsNonDecreasingBy (λ p. p.start) pieces.now }
     ensures bound { result ≤ length pieces.now }

@@ -1,6 +1,7 @@
 // Ranges of addresses.
 
-/// The addresses from `low` to before `high`, which isn't cut to 64 bits: a length may lead past the last address.
+/// The addresses from `low` to before `high`. `high` isn't truncated to 64 bits: a length may lead past the last
+/// address.
 #[derive(Clone, Copy)]
 pub struct Range {
     pub low: u64,
