@@ -1,5 +1,4 @@
-// Code from instructions in an assembler's words. ISA manual, "RV32/64G Instruction Set Listings"; psABI, "Integer
-// Register Convention".
+// Assembles instructions. ISA manual, "RV32/64G Instruction Set Listings"; psABI, "Integer Register Convention".
 use crate::bytes::push_u32;
 use crate::error::BuildError;
 
@@ -56,7 +55,7 @@ nop N 13
 ecall N 73
 ebreak N 100073";
 
-// The registers by their numbers.
+// The registers by number.
 const REGISTERS: &str = "\
 zero ra sp gp tp t0 t1 t2 s0 s1 a0 a1 a2 a3 a4 a5 a6 a7 s2 s3 s4 s5 s6 s7 s8 s9 s10 s11 t3 t4 t5 t6";
 
@@ -70,7 +69,7 @@ pub fn decimal(text: &str) -> Result<u32, BuildError> {
     text.parse::<u32>().ok().ok_or(BuildError::NoWord)
 }
 
-// A register's number, or a decimal number in two's complement.
+// The number of a register, or a decimal number in two's complement.
 fn operand(text: &str) -> Option<u64> {
     for (number, name) in REGISTERS.split(' ').enumerate() {
         if name == text {
@@ -81,7 +80,7 @@ fn operand(text: &str) -> Option<u64> {
     Some(number.cast_unsigned())
 }
 
-// Three operands: `a, b, c`, or `a, c(b)`; the last of `a, b` is 0.
+// Three operands: `a, b, c`, or `a, c(b)`; for `a, b` the third is 0.
 fn operands(text: &str) -> Option<[u64; 3]> {
     let Some((first, rest)) = text.split_once(',') else {
         return Some([0; 3]);
@@ -97,7 +96,7 @@ fn operands(text: &str) -> Option<[u64; 3]> {
     Some([operand(first)?, operand(second)?, operand(third)?])
 }
 
-// The bits of an instruction's operands at their places in its word.
+// The bits of an instruction's operands at their positions in its word.
 fn place_operands(format: &str, [a, b, c]: [u64; 3]) -> u64 {
     match format.as_bytes().first() {
         Some(b'R') => a << 7 | b << 15 | c << 20,
@@ -130,7 +129,7 @@ fn instruction(mnemonic: &str, rest: &str) -> Option<u32> {
     None
 }
 
-// One instruction: a word, a halfword, or a mnemonic with operands; and how many bytes it has.
+// The encoding of an instruction (a word, a halfword, or a mnemonic with operands), and its length in bytes.
 fn encoded(mnemonic: &str, rest: &str) -> Result<(u32, usize), BuildError> {
     if mnemonic == ".half" {
         return Ok(((hexadecimal(rest)? % 0x1_0000) as u32, 2));
@@ -142,8 +141,9 @@ fn encoded(mnemonic: &str, rest: &str) -> Result<(u32, usize), BuildError> {
     Ok((word, 4))
 }
 
-/// Appends instructions: `.rept` and a count stands before one that is repeated, and `exit` for `addi a7,zero,93;
-/// ecall`, which ends the program with the status in a0.
+/// Appends instructions. `.rept N` repeats the instruction after it, and `exit` stands for `addi a7,zero,93; ecall`,
+/// which
+/// ends the program with the status in a0.
 pub fn push_assembly(code: &mut Vec<u8>, text: &str) -> Result<(), BuildError> {
     for line in text.split("; ") {
         let mut words = line.split(' ');

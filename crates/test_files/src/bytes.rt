@@ -1,24 +1,24 @@
-// Numbers and bytes that are appended to a file, or written over it. ELF files of this machine are
-// little-endian. psABI, "File Header".
+// Appends numbers and bytes to a file, or overwrites bytes. ELF files of this machine are little-endian. psABI, "File
+// Header".
 use crate::error::BuildError;
 use std::alloc::AllocError;
 
-/// Appends a number of two bytes.
+/// Appends a number as two bytes.
 pub fn push_u16(file: &mut Vec<u8>, number: u16) -> Result<(), AllocError> {
     file.extend_from_slice(&number.to_le_bytes())
 }
 
-/// Appends a number of four bytes.
+/// Appends a number as four bytes.
 pub fn push_u32(file: &mut Vec<u8>, number: u32) -> Result<(), AllocError> {
     file.extend_from_slice(&number.to_le_bytes())
 }
 
-/// Appends a number of eight bytes.
+/// Appends a number as eight bytes.
 pub fn push_u64(file: &mut Vec<u8>, number: u64) -> Result<(), AllocError> {
     file.extend_from_slice(&number.to_le_bytes())
 }
 
-/// Appends numbers of four bytes each.
+/// Appends numbers as four bytes each.
 pub fn push_u32s(file: &mut Vec<u8>, numbers: &[u32]) -> Result<(), AllocError> {
     for number in numbers {
         push_u32(file, *number)?;
@@ -26,7 +26,7 @@ pub fn push_u32s(file: &mut Vec<u8>, numbers: &[u32]) -> Result<(), AllocError> 
     Ok(())
 }
 
-/// Appends numbers of eight bytes each.
+/// Appends numbers as eight bytes each.
 pub fn push_u64s(file: &mut Vec<u8>, numbers: &[u64]) -> Result<(), AllocError> {
     for number in numbers {
         push_u64(file, *number)?;
@@ -34,7 +34,7 @@ pub fn push_u64s(file: &mut Vec<u8>, numbers: &[u64]) -> Result<(), AllocError> 
     Ok(())
 }
 
-/// Appends zeros until there are `size` bytes. A longer file stays as it is.
+/// Appends zeros up to `size` bytes. A longer file doesn't change.
 pub fn grow(file: &mut Vec<u8>, size: usize) -> Result<(), AllocError> {
     if file.len() < size {
         file.resize(size, 0)?;
@@ -42,7 +42,7 @@ pub fn grow(file: &mut Vec<u8>, size: usize) -> Result<(), AllocError> {
     Ok(())
 }
 
-/// Appends zeros until the size is a multiple of `align`; 0 and 1 ask for none.
+/// Appends zeros up to a multiple of `align`. Does nothing for 0 and 1.
 pub fn pad(file: &mut Vec<u8>, align: u64) -> Result<(), AllocError> {
     if align > 1 {
         let past = file.len() as u64 % align;
@@ -55,14 +55,14 @@ pub fn pad(file: &mut Vec<u8>, align: u64) -> Result<(), AllocError> {
     Ok(())
 }
 
-/// Writes `bytes` over those at `offset`, as far as the file goes.
+/// Writes `bytes` over those at `offset`, up to the end of the file.
 pub fn patch(file: &mut [u8], offset: usize, bytes: &[u8]) {
     for (place, byte) in file.iter_mut().skip(offset).zip(bytes) {
         *place = *byte;
     }
 }
 
-/// Puts `bytes` at `offset`. A shorter file grows, with zeros before them.
+/// Writes `bytes` at `offset`. A shorter file is extended, with zeros in between.
 pub fn place(file: &mut Vec<u8>, offset: u64, bytes: &[u8]) -> Result<(), BuildError> {
     let end = offset
         .checked_add(bytes.len() as u64)

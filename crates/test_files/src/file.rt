@@ -1,4 +1,4 @@
-// A whole file from its parts.
+// Builds a file from its parts.
 use crate::bytes::{pad, place};
 use crate::error::BuildError;
 use crate::headers::{FileHeader, push_file_header, push_segment};
@@ -10,30 +10,34 @@ use elf_image::section::SHT_NOBITS;
 use elf_image::segment::{PHDR_SIZE, PT_LOAD};
 use std::alloc::Global;
 
-/// Where the table of program headers stands.
+/// The position of the table of program headers.
 #[derive(Clone, Copy)]
 pub enum HeaderTable {
-    /// At an offset.
+    /// At this offset.
     At(u64),
-    /// Behind all bytes that have their places, at a multiple of 8.
+    /// After all bytes with a fixed offset, at a multiple of 8.
     BehindSegments,
     /// At the end of the file.
     Last,
 }
 
-/// Where the segment of code is loaded, with the file's header, and the address behind one program header.
+/// The address of the code segment, which includes the file header; and the address after the file header and one
+/// program
+/// header.
 pub const BASE: u64 = 0x10000;
 
 pub const CODE: u64 = 0x10078;
 
-/// The size of a page, to which segments are aligned.
+/// The page size, to which segments are aligned.
 pub const PAGE: u64 = 0x1000;
 
-/// A file that is put together. A test may change each part before the file is built.
+/// A file to build. A test may change each part before the file is built.
 ///
-/// The file has, in this order: its header; the bytes that have their places; sections without a place; a section of
-/// relocations for each section that has some; the symbols and their names, where there are symbols; the names of
-/// sections; and the section headers, at a multiple of 8.
+/// The file has, in this order: its header; bytes with a fixed offset; sections without one; a section of relocations
+/// for
+/// each section that has some; the symbols and their names, if there are symbols; the names of sections; and the
+/// section
+/// headers, at a multiple of 8.
 #[derive(Drop)]
 pub struct ElfFile<'a> {
     /// `e_type`.
@@ -43,17 +47,17 @@ pub struct ElfFile<'a> {
     pub flags: u32,
     pub header_table: HeaderTable,
     pub segments: Vec<Segment>,
-    /// Bytes that no section has.
+    /// Bytes that are in no section.
     pub pieces: Vec<Piece<'a>>,
-    /// The sections, without the null one and without those of relocations, symbols and names.
+    /// The sections, without the null section and those for relocations, symbols and names.
     pub sections: Vec<Section<'a>>,
-    /// The symbols, without the null one.
+    /// The symbols, without the null symbol.
     pub symbols: Vec<Symbol<'a>>,
     pub relocations: Vec<Relocation<'a>>,
 }
 
 impl<'a> ElfFile<'a> {
-    /// An executable without segments and sections, whose program headers stand behind its header.
+    /// An executable without segments and sections, with program headers after the file header.
     pub fn new(alloc: Global, entry: u64) -> ElfFile<'a> {
         ElfFile {
             kind: ET_EXEC,
@@ -68,7 +72,7 @@ impl<'a> ElfFile<'a> {
         }
     }
 
-    /// Adds a loaded segment that begins at `offset` in the file and at the address `vaddr`, and ends with the last of
+    /// Adds a loaded segment that starts at `offset` in the file and at the address `vaddr`, and ends with the last of
     /// `sections`, which it loads.
     pub fn add_segment(
         &mut self,
@@ -93,13 +97,13 @@ impl<'a> ElfFile<'a> {
         Ok(())
     }
 
-    /// Adds a section that the last segment loads, up to its end.
+    /// Adds a section that the last segment loads, and extends the segment to its end.
     pub fn load(&mut self, section: &Section<'a>) -> Result<(), BuildError> {
         let last = self.segments.len().saturating_sub(1);
         self.load_by(last, section)
     }
 
-    /// Adds a section that the segment at an index loads, up to its end.
+    /// Adds a section that the segment with an index loads, and extends the segment to its end.
     pub fn load_by(&mut self, index: usize, section: &Section<'a>) -> Result<(), BuildError> {
         let segment = self.segments.get_mut(index).ok_or(BuildError::TooLarge)?;
         let before = section
@@ -123,7 +127,7 @@ impl<'a> ElfFile<'a> {
         Ok(())
     }
 
-    /// The bytes of the file.
+    /// Builds the file.
     pub fn build(&self, alloc: Global) -> Result<Vec<u8>, BuildError> {
         let mut writer = Writer::new(alloc)?;
         self.place_parts(&mut writer.bytes)?;
@@ -164,7 +168,7 @@ impl<'a> ElfFile<'a> {
         Ok(writer.bytes)
     }
 
-    // Puts what has a place there.
+    // Writes the parts with a fixed offset.
     fn place_parts(&self, file: &mut Vec<u8>) -> Result<(), BuildError> {
         for piece in &self.pieces {
             place(file, piece.offset, piece.bytes)?;
@@ -177,7 +181,7 @@ impl<'a> ElfFile<'a> {
         Ok(())
     }
 
-    // Puts the program headers where they stand, unless that is the end of the file.
+    // Writes the program headers, unless they are at the end of the file. Returns their offset.
     fn place_table(&self, alloc: Global, file: &mut Vec<u8>) -> Result<Option<u64>, BuildError> {
         let offset = match self.header_table {
             HeaderTable::At(offset) => offset,
@@ -191,7 +195,7 @@ impl<'a> ElfFile<'a> {
         Ok(Some(offset))
     }
 
-    // Puts the program headers at an offset.
+    // Writes the program headers at an offset.
     fn put_table(&self, alloc: Global, file: &mut Vec<u8>, offset: u64) -> Result<(), BuildError> {
         let mut table = Vec::new(alloc);
         for segment in &self.segments {

@@ -1,4 +1,4 @@
-// The headers of a file, field by field.
+// Writes the headers of a file, field by field.
 use crate::bytes::{push_u16, push_u32, push_u32s, push_u64, push_u64s};
 use elf_image::header::{EHDR_SIZE, EM_RISCV, IDENTIFICATION};
 use elf_image::section::SHDR_SIZE;
@@ -9,16 +9,16 @@ use std::alloc::AllocError;
 // The only version. gABI, "ELF Header".
 const EV_CURRENT: u32 = 1;
 
-/// The fields of the file's header in which files differ, in their order. gABI, "ELF Header".
+/// The fields of the file header that differ between files, in their order. gABI, "ELF Header".
 #[derive(Clone, Copy)]
 pub struct FileHeader {
     /// `e_type`.
     pub kind: u16,
     /// `e_entry`.
     pub entry: u64,
-    /// `e_phoff`: where the program headers stand.
+    /// `e_phoff`: the offset of the program headers.
     pub phoff: u64,
-    /// `e_shoff`: where the section headers stand.
+    /// `e_shoff`: the offset of the section headers.
     pub shoff: u64,
     /// `e_flags`.
     pub flags: u32,
@@ -26,11 +26,11 @@ pub struct FileHeader {
     pub phnum: u16,
     /// `e_shnum`.
     pub shnum: u16,
-    /// `e_shstrndx`: the index of the section with the names of sections.
+    /// `e_shstrndx`: the index of the section with the section names.
     pub shstrndx: u16,
 }
 
-/// Appends the file's header, of 64 bytes.
+/// Appends the file header, 64 bytes.
 pub fn push_file_header(file: &mut Vec<u8>, header: &FileHeader) -> Result<(), AllocError> {
     file.extend_from_slice(IDENTIFICATION)?;
     file.extend_from_slice(&[0; 9])?;
@@ -49,7 +49,7 @@ pub fn push_file_header(file: &mut Vec<u8>, header: &FileHeader) -> Result<(), A
     push_u16(file, header.shstrndx)
 }
 
-/// Appends a program header, of 56 bytes.
+/// Appends a program header, 56 bytes.
 pub fn push_segment(file: &mut Vec<u8>, segment: &Segment) -> Result<(), AllocError> {
     push_u32s(file, &[segment.kind, segment.flags])?;
     let numbers = [
@@ -63,7 +63,7 @@ pub fn push_segment(file: &mut Vec<u8>, segment: &Segment) -> Result<(), AllocEr
     push_u64s(file, &numbers)
 }
 
-/// Appends a section header, of 64 bytes.
+/// Appends a section header, 64 bytes.
 pub fn push_section_header(file: &mut Vec<u8>, section: &SectionHeader) -> Result<(), AllocError> {
     push_u32s(file, &[section.name, section.kind])?;
     push_u64s(

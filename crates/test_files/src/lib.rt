@@ -1,4 +1,4 @@
-//! Executables for tests, put together from named parts.
+//! Builds executables for tests from named parts.
 #![tactic(auto)]
 
 pub mod assembly;

@@ -1,14 +1,14 @@
-// The parts that a file is put together from.
+// The parts of a file.
 use elf_image::section::{SHF_ALLOC, SHF_EXECINSTR, SHT_PROGBITS};
 use elf_image::symbol::STT_FUNC;
 
-/// The flag of a section that may be written. gABI, "Section Attribute Flags".
+/// The flag of a writable section. gABI, "Section Attribute Flags".
 pub const SHF_WRITE: u64 = 1;
 
 /// The flag of a section whose `sh_info` is the index of a section. gABI, "Section Attribute Flags".
 pub const SHF_INFO_LINK: u64 = 0x40;
 
-/// The type of a symbol that says nothing of what it names. gABI, "Symbol Types".
+/// The type of a symbol with no type. gABI, "Symbol Types".
 pub const STT_NOTYPE: u8 = 0;
 
 /// The bindings of symbols. gABI, "Symbol Binding".
@@ -16,10 +16,10 @@ pub const STB_LOCAL: u8 = 0;
 
 pub const STB_GLOBAL: u8 = 1;
 
-/// The section of a symbol whose value is no address of a section. gABI, "Special Section Indexes".
+/// The section index of a symbol whose value isn't an address in a section. gABI, "Special Section Indexes".
 pub const SHN_ABS: u16 = 0xfff1;
 
-/// Bytes that stand at an offset of the file.
+/// Bytes at an offset of the file.
 #[derive(Clone, Copy)]
 pub struct Piece<'a> {
     pub offset: u64,
@@ -34,9 +34,9 @@ pub struct Section<'a> {
     pub kind: u32,
     pub flags: u64,
     pub addr: u64,
-    /// Where it stands in the file. Without one it stands behind all bytes that have their places.
+    /// The file offset. Sections without one come after all bytes that have a fixed offset.
     pub offset: Option<u64>,
-    /// What the file holds of it.
+    /// The bytes in the file.
     pub bytes: &'a [u8],
     /// `sh_size`.
     pub size: u64,
@@ -47,7 +47,7 @@ pub struct Section<'a> {
 }
 
 impl<'a> Section<'a> {
-    /// A section of bytes that isn't loaded.
+    /// A section that isn't loaded, with these bytes.
     pub fn unloaded(name: &'a [u8], bytes: &'a [u8]) -> Section<'a> {
         Section {
             name,
@@ -64,7 +64,7 @@ impl<'a> Section<'a> {
         }
     }
 
-    /// A section of bytes that is loaded at an address. The segment that it is added to gives its offset.
+    /// A section that is loaded at an address, with these bytes. Its offset comes from the segment that it is added to.
     pub fn loaded(name: &'a [u8], addr: u64, bytes: &'a [u8]) -> Section<'a> {
         Section {
             flags: SHF_ALLOC,
@@ -73,7 +73,7 @@ impl<'a> Section<'a> {
         }
     }
 
-    /// A section of bytes that is loaded at an address and may be written.
+    /// A writable section that is loaded at an address, with these bytes.
     pub fn writable(name: &'a [u8], addr: u64, bytes: &'a [u8]) -> Section<'a> {
         Section {
             flags: SHF_ALLOC | SHF_WRITE,
@@ -82,7 +82,7 @@ impl<'a> Section<'a> {
         }
     }
 
-    /// A section of instructions of four bytes that is loaded at an address.
+    /// A section of code that is loaded at an address, with these bytes and an alignment of 4.
     pub fn code(name: &'a [u8], addr: u64, bytes: &'a [u8]) -> Section<'a> {
         Section {
             flags: SHF_ALLOC | SHF_EXECINSTR,
@@ -91,7 +91,7 @@ impl<'a> Section<'a> {
         }
     }
 
-    // Whether an address is one of the section's in memory.
+    // Whether an address is in the section's memory.
     pub(crate) fn has_address(&self, addr: u64) -> bool {
         self.flags & SHF_ALLOC != 0 && self.addr <= addr && addr - self.addr < self.size
     }
@@ -103,18 +103,18 @@ pub struct Symbol<'a> {
     pub name: &'a [u8],
     pub value: u64,
     pub size: u64,
-    /// Its type, as `STT_FUNC`.
+    /// The type, such as `STT_FUNC`.
     pub kind: u8,
-    /// Its binding, as `STB_GLOBAL`.
+    /// The binding, such as `STB_GLOBAL`.
     pub binding: u8,
     /// `st_other`.
     pub other: u8,
-    /// `st_shndx`. Without one it is that of the first loaded section that holds the value.
+    /// `st_shndx`. If it is None, the index of the first loaded section that contains the value is used.
     pub section: Option<u16>,
 }
 
 impl<'a> Symbol<'a> {
-    /// A global symbol without a type and a size.
+    /// A global symbol with no type and no size.
     pub fn label(name: &'a [u8], value: u64) -> Symbol<'a> {
         Symbol {
             name,
@@ -127,7 +127,7 @@ impl<'a> Symbol<'a> {
         }
     }
 
-    /// A global symbol of a function.
+    /// A global function symbol.
     pub fn function(name: &'a [u8], value: u64, size: u64) -> Symbol<'a> {
         Symbol {
             size,
@@ -137,16 +137,16 @@ impl<'a> Symbol<'a> {
     }
 }
 
-/// A relocation that the linker kept, with an addend.
+/// A relocation with an addend that the linker kept.
 #[derive(Clone, Copy)]
 pub struct Relocation<'a> {
     /// The name of the section that it applies to.
     pub section: &'a [u8],
     /// `r_offset`: the address that it applies to.
     pub offset: u64,
-    /// Its type, as `R_RISCV_HI20`.
+    /// The type, such as `R_RISCV_HI20`.
     pub kind: u32,
-    /// The name of its symbol; the empty one is that of the null symbol.
+    /// The name of its symbol. The empty name refers to the null symbol.
     pub symbol: &'a [u8],
     pub addend: i64,
 }

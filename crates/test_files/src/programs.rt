@@ -1,8 +1,9 @@
-// Programs that tests of several crates read, lay out and run, in words. The code of each begins at 10078, with the
-// entry point, but where its name says another place.
+// Descriptions of programs that tests of several crates read, lay out and run. The code of each starts at 10078, which
+// is
+// the entry point, unless its name says otherwise.
 use crate::error::BuildError;
 
-// A paragraph is a name and the lines of a file.
+// A paragraph is a name, and then the lines that describe a file.
 const PROGRAMS: &str = "\
 exit7
 # The smallest example, which ends with status 7. Its file has 352 bytes: its header, its program header at 40, code at
@@ -146,7 +147,7 @@ code .text 10fe0 lui a0,0; addi a0,a0,7; exit
 segment rw 1000 11000
 loaded .rodata 11000 0000000000000000";
 
-/// The lines of the program called `name`.
+/// The description of the program called `name`.
 pub fn program_called(name: &str) -> Result<&'static str, BuildError> {
     for paragraph in PROGRAMS.split("\n\n") {
         if let Some((found, lines)) = paragraph.split_once('\n') {

@@ -1,31 +1,31 @@
-// Functions that call one another in a row, as a compiler and a linker lay them out, in words: behind the code
-// stands read-only data, and in another segment a pointer to each function.
+// Descriptions of functions that call one another in a row, as a compiler and a linker lay them out. Read-only data
+// follows the code, and another segment has a pointer to each function.
 use crate::error::BuildError;
 use std::alloc::Global;
 
-// A function of 48 bytes that adds 5 to an even number and 3 to an odd one, and then calls the next one.
+// A function of 48 bytes that adds 5 to an even number and 3 to an odd one, and then calls the next function.
 const NEXT: &str = "\
 addi sp,sp,-16; sd ra,8(sp); andi t0,a0,1; beq t0,zero,12; addi a0,a0,3; jal zero,8; addi a0,a0,5; auipc ra,0; \
 jalr ra,20(ra); ld ra,8(sp); addi sp,sp,16; jalr zero,0(ra); ";
 
-// The last one, which calls none, and the entry point behind it.
+// The last function, which calls none, and the entry point after it.
 const LAST: &str = "\
 addi sp,sp,-16; sd ra,8(sp); andi t0,a0,1; beq t0,zero,12; addi a0,a0,3; jal zero,8; addi a0,a0,5; nop; nop; \
 ld ra,8(sp); addi sp,sp,16; jalr zero,0(ra); addi a0,zero,0; ";
 
-// Where the code begins.
+// The address of the code.
 const CODE: u64 = 0x11000;
 
 // The pointers to the functions.
 const POINTERS: u64 = 0x80_0000;
 
-/// How many functions there are before the entry point, and what depends on it.
+/// The number of functions before the entry point, and the parts that depend on it.
 #[derive(Clone, Copy)]
 pub struct Sample {
     functions: u8,
     /// The entry point's call of the first function.
     call: &'static str,
-    /// How many bytes of read-only data there are.
+    /// The number of bytes of read-only data.
     size: u64,
 }
 
@@ -53,7 +53,7 @@ fn address(number: u8) -> u64 {
     CODE + number as u64 * 48
 }
 
-// The code, and where all stands.
+// Appends the code and the addresses of all parts.
 fn push_code_lines(alloc: Global, words: &mut String, sample: &Sample) -> Result<(), BuildError> {
     words.push_str("code .text 11000 ")?;
     for _ in 1..sample.functions {
@@ -75,7 +75,7 @@ fn push_code_lines(alloc: Global, words: &mut String, sample: &Sample) -> Result
     Ok(())
 }
 
-// The pointers to the functions, in hexadecimal.
+// Appends the pointers to the functions, in hexadecimal.
 fn push_pointers(alloc: Global, words: &mut String, count: u8) -> Result<(), BuildError> {
     words.push_str("writable .data 800000 ")?;
     for number in 0..count {
@@ -86,7 +86,7 @@ fn push_pointers(alloc: Global, words: &mut String, count: u8) -> Result<(), Bui
     Ok(())
 }
 
-// The symbol of a function, its pointer's relocation, and the way that its run takes, which adds 5 and 3 in turn.
+// Appends the symbol of a function, its pointer's relocation, and the path of its run, which adds 5 and 3 in turn.
 fn push_function(alloc: Global, words: &mut String, number: u8) -> Result<(), BuildError> {
     let start = address(number);
     let pointer = POINTERS + 8 * number as u64;
@@ -107,7 +107,7 @@ fn push_function(alloc: Global, words: &mut String, number: u8) -> Result<(), Bu
     Ok(())
 }
 
-// The relocation of a function's call of the next one, and its line in the profile.
+// Appends the relocation of a function's call of the next one, and its line in the profile.
 fn push_call(alloc: Global, words: &mut String, number: u8) -> Result<(), BuildError> {
     let call = address(number).saturating_add(0x1c);
     let next = number as u32 + 1;
@@ -118,7 +118,9 @@ fn push_call(alloc: Global, words: &mut String, number: u8) -> Result<(), BuildE
     Ok(())
 }
 
-/// The file, with a symbol for each function and a relocation for each call and pointer, and the profile of its run.
+/// The description of the file, with a symbol for each function and a relocation for each call and pointer, and the
+/// profile
+/// of its run.
 pub fn sample_in_words(alloc: Global, sample: &Sample) -> Result<String, BuildError> {
     let mut words = String::new(alloc);
     push_code_lines(alloc, &mut words, sample)?;

@@ -1,13 +1,13 @@
-// Tables of symbols and of relocations, entry by entry.
+// Writes tables of symbols and of relocations, entry by entry.
 use crate::bytes::{push_u16, push_u32, push_u64};
 use std::alloc::AllocError;
 
 /// An entry of the symbol table, with its fields in the order of the file. gABI, "Symbol Table".
 #[derive(Clone, Copy)]
 pub struct SymbolEntry {
-    /// `st_name`: where its name begins in the table of names.
+    /// `st_name`: the index of the name in the string table.
     pub name: u32,
-    /// `st_info`: the binding in the upper four bits, and the type.
+    /// `st_info`: the binding in the upper four bits, and the type in the lower ones.
     pub info: u8,
     /// `st_other`.
     pub other: u8,
@@ -29,7 +29,7 @@ pub const NULL_SYMBOL: SymbolEntry = SymbolEntry {
     size: 0,
 };
 
-/// Appends an entry of a symbol table, of 24 bytes.
+/// Appends an entry of a symbol table, 24 bytes.
 pub fn push_symbol(table: &mut Vec<u8>, symbol: &SymbolEntry) -> Result<(), AllocError> {
     push_u32(table, symbol.name)?;
     table.push(symbol.info)?;
@@ -52,7 +52,7 @@ pub struct RelaEntry {
     pub addend: i64,
 }
 
-/// Appends a relocation with an addend, of 24 bytes.
+/// Appends a relocation with an addend, 24 bytes.
 pub fn push_relocation(table: &mut Vec<u8>, relocation: &RelaEntry) -> Result<(), AllocError> {
     push_u64(table, relocation.offset)?;
     push_u32(table, relocation.kind)?;

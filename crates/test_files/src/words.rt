@@ -1,4 +1,4 @@
-// Files in words, and tables of them with what is to come of each.
+// Descriptions of files as text, and tables of them with expected results.
 pub use crate::assembly::hexadecimal;
 use crate::assembly::{decimal, push_assembly};
 use crate::bytes::patch;
@@ -11,7 +11,7 @@ use elf_image::section::SHT_NOBITS;
 use elf_image::segment::{PF_R, PF_W, PF_X};
 use std::alloc::Global;
 
-// A line is a type of a relocation and its number. psABI, "Relocations".
+// A line is a type of relocations and its number. psABI, "Relocations".
 const RELOCATIONS: &str = "\
 NONE 0
 32 1
@@ -54,7 +54,7 @@ PLT32 59
 SET_ULEB128 60
 SUB_ULEB128 61";
 
-// The number of a type of a relocation, which stands after `type=` where it has no name.
+// The number of a type of relocations. It is given as `type=NUMBER` if the type has no name.
 fn relocation_type(name: &str) -> Result<u32, BuildError> {
     if let Some((_, number)) = name.split_once("type=") {
         return decimal(number);
@@ -69,7 +69,7 @@ fn relocation_type(name: &str) -> Result<u32, BuildError> {
     Err(BuildError::NoWord)
 }
 
-// The words of a line behind the first; empty ones behind the last.
+// The words of a line after the first. Missing words are empty.
 fn fields(line: &str) -> [&str; 6] {
     let mut words = line.split(' ');
     [
@@ -82,7 +82,7 @@ fn fields(line: &str) -> [&str; 6] {
     ]
 }
 
-// A number in hexadecimal with its sign; 0 where there is none.
+// A hexadecimal number with its sign. The empty text is 0.
 fn addend(text: &str) -> Result<i64, BuildError> {
     if text.is_empty() {
         return Ok(0);
@@ -90,7 +90,7 @@ fn addend(text: &str) -> Result<i64, BuildError> {
     i64::from_str_radix(text, 16).ok().ok_or(BuildError::NoWord)
 }
 
-/// Appends bytes in hexadecimal.
+/// Appends bytes given in hexadecimal.
 pub fn push_bytes(bytes: &mut Vec<u8>, text: &str) -> Result<(), BuildError> {
     for pair in text.as_bytes().chunks(2) {
         let pair = std::str::from_utf8(pair).unwrap_or("");
@@ -99,7 +99,7 @@ pub fn push_bytes(bytes: &mut Vec<u8>, text: &str) -> Result<(), BuildError> {
     Ok(())
 }
 
-// The bytes of a line: those of the instructions of `code`, or of data.
+// The bytes of a line: instructions for `code`, and otherwise data.
 fn bytes_of(alloc: Global, line: &str) -> Result<Vec<u8>, BuildError> {
     let mut bytes = Vec::new(alloc);
     let [kind, _, _, data, _, _] = fields(line);
@@ -123,7 +123,7 @@ fn contents(alloc: Global, words: &str) -> Result<Vec<Vec<u8>>, BuildError> {
     Ok(list)
 }
 
-// Adds a section: of code to the first segment, of data to the last one.
+// Adds a section: code to the first segment, and data to the last.
 fn add_section<'a>(
     file: &mut ElfFile<'a>,
     line: &'a str,
@@ -150,7 +150,7 @@ fn add_section<'a>(
     }
 }
 
-// Adds a symbol: a function with its size, or a label; of another type, and in another section.
+// Adds a symbol: a function with its size, or a label, optionally with another type and section.
 fn add_symbol<'a>(file: &mut ElfFile<'a>, line: &'a str) -> Result<(), BuildError> {
     let [kind, name, value, size, symbol_type, section] = fields(line);
     let value = hexadecimal(value)?;
@@ -169,7 +169,7 @@ fn add_symbol<'a>(file: &mut ElfFile<'a>, line: &'a str) -> Result<(), BuildErro
     Ok(())
 }
 
-// Adds a relocation of the section that holds its address, by a symbol or by an addend alone.
+// Adds a relocation of the section that contains its address, with a symbol or only an addend.
 fn add_relocation<'a>(file: &mut ElfFile<'a>, line: &'a str) -> Result<(), BuildError> {
     let [_, place, kind, first, second, _] = fields(line);
     let offset = hexadecimal(place)?;
@@ -192,14 +192,14 @@ fn add_relocation<'a>(file: &mut ElfFile<'a>, line: &'a str) -> Result<(), Build
     Ok(())
 }
 
-// Begins a segment: its rights, where it stands in the file, and its address.
+// Starts a segment with its permissions, file offset and address.
 fn begin_segment(file: &mut ElfFile<'_>, line: &str) -> Result<(), BuildError> {
     let [_, rights, offset, vaddr, _, _] = fields(line);
     let flags = if rights == "rw" { PF_R | PF_W } else { PF_R };
     file.add_segment(flags, hexadecimal(offset)?, hexadecimal(vaddr)?, &[])
 }
 
-// Adds a program header of these fields alone.
+// Adds a program header with these fields.
 fn add_header(file: &mut ElfFile<'_>, line: &str) -> Result<(), BuildError> {
     let mut numbers = [0; 6];
     for (place, word) in numbers.iter_mut().zip(line.split(' ').skip(1)) {
@@ -219,7 +219,7 @@ fn add_header(file: &mut ElfFile<'_>, line: &str) -> Result<(), BuildError> {
     Ok(())
 }
 
-// Sets a field of the file's header.
+// Sets a field of the file header.
 fn set_header(file: &mut ElfFile<'_>, line: &str) -> Result<(), BuildError> {
     let [kind, value, _, _, _, _] = fields(line);
     if kind == "entry" {
@@ -234,7 +234,7 @@ fn set_header(file: &mut ElfFile<'_>, line: &str) -> Result<(), BuildError> {
     Ok(())
 }
 
-// Adds what a line says, unless it is for another reader.
+// Adds the part that a line describes, unless the line is for another reader.
 fn add_line<'a>(file: &mut ElfFile<'a>, line: &'a str, bytes: &'a [u8]) -> Result<(), BuildError> {
     let [kind, _, _, _, _, _] = fields(line);
     match kind {
@@ -280,21 +280,22 @@ fn change(alloc: Global, file: &mut Vec<u8>, words: &str) -> Result<(), BuildErr
     Ok(())
 }
 
-/// The file that these lines say. All numbers are hexadecimal, but for immediates and types.
+/// The file that these lines describe. All numbers are hexadecimal, except immediates and types.
 ///
-/// Its first segment may be read and executed, and begins with the file at 10000.
+/// The first segment is readable and executable, and starts with the file header at 10000.
 ///
 /// - `code NAME ADDR INSTRUCTION; ..`: a section of the first segment, whose address is the entry point
 /// - `loaded NAME ADDR BYTES`, `zeros NAME ADDR SIZE`, `writable NAME ADDR BYTES`, `zeroed NAME ADDR SIZE`: a section
-///   of the last segment; of `zeroed` the file has no bytes
+///   of the
+///   last segment; `zeroed` has no bytes in the file
 /// - `unloaded NAME 0 BYTES`: a section that isn't loaded
 /// - `segment r|rw OFFSET ADDR`: another segment
-/// - `header TYPE FLAGS OFFSET ADDR FILESZ MEMSZ`: a program header of bytes that stand there, or of none
-/// - `function NAME ADDR SIZE`, `label NAME ADDR`, also with `type=NUMBER section=NUMBER`
-/// - `reloc ADDR TYPE [@SYMBOL] [ADDEND]`: TYPE is a name, as `HI20`, or `type=NUMBER`
-/// - `entry ADDR`, `flags NUMBER`, `headers behind|last`: the program headers stand behind the segments, or behind all
-/// - `patch OFFSET BYTES`, `size SIZE`: changes the built file, which is cut or gets zeros behind it
-/// - `whole`, `profile`, `input`, `fail`, `room` and `limit` begin lines that other readers of the words take
+/// - `header TYPE FLAGS OFFSET ADDR FILESZ MEMSZ`: a program header for existing bytes, or for none
+/// - `function NAME ADDR SIZE`, `label NAME ADDR`, optionally with `type=NUMBER section=NUMBER`
+/// - `reloc ADDR TYPE [@SYMBOL] [ADDEND]`: TYPE is a name, such as `HI20`, or `type=NUMBER`
+/// - `entry ADDR`, `flags NUMBER`, `headers behind|last`: the program headers are after the segments, or at the end
+/// - `patch OFFSET BYTES`, `size SIZE`: changes the built file; a file is truncated or padded with zeros
+/// - lines that begin with `whole`, `profile`, `input`, `fail`, `room` and `limit` are for other readers
 pub fn file_in_words(alloc: Global, words: &str) -> Result<Vec<u8>, BuildError> {
     let contents = contents(alloc, words)?;
     let mut bytes = lay_out(alloc, words, &contents)?.build(alloc)?;
@@ -302,7 +303,7 @@ pub fn file_in_words(alloc: Global, words: &str) -> Result<Vec<u8>, BuildError> 
     Ok(bytes)
 }
 
-/// The words behind a name in the last line that begins with it.
+/// The words after `name` in the last line that begins with it.
 pub fn said<'a>(words: &'a str, name: &str) -> Option<&'a str> {
     let mut found = None;
     for line in words.lines() {
@@ -313,7 +314,7 @@ pub fn said<'a>(words: &'a str, name: &str) -> Option<&'a str> {
     found
 }
 
-/// The ranges of addresses that have exception tables, by lines `whole FROM TO`.
+/// The ranges of addresses with exception tables, from lines `whole FROM TO`.
 pub fn ranges(alloc: Global, words: &str) -> Result<Vec<(u64, u64)>, BuildError> {
     let mut ranges = Vec::new(alloc);
     for line in words.lines() {
@@ -325,17 +326,18 @@ pub fn ranges(alloc: Global, words: &str) -> Result<Vec<(u64, u64)>, BuildError>
     Ok(ranges)
 }
 
-/// A row of a table: its file, and what comes of it.
+/// A row of a table: a file and the expected result.
 #[derive(Drop)]
 pub struct Row<'a> {
     pub words: String,
     pub wanted: &'a str,
 }
 
-/// The rows of a table of paragraphs, with an empty line between them. A paragraph begins with a line that tells what
-/// it is about, behind `# `, and with lines of a file that its rows share. A row is `- LINES => WANTED`: its own lines
-/// of the file, and what comes of it. Lines may stand in one with ` | ` between them. `like NAME` stands for the lines
-/// of a program.
+/// The rows of a table of paragraphs, which are separated by empty lines. A paragraph begins with a title line `#
+/// TITLE`,
+/// and then has lines that describe a file and are shared by its rows. A row is `- LINES => WANTED`: more lines of the
+/// description, and the expected result. Lines may be joined by ` | `. `like NAME` is replaced by the lines of a
+/// program.
 pub fn rows(alloc: Global, table: &str) -> Result<Vec<Row<'_>>, BuildError> {
     let mut rows = Vec::new(alloc);
     for paragraph in table.split("\n\n") {
@@ -352,7 +354,7 @@ pub fn rows(alloc: Global, table: &str) -> Result<Vec<Row<'_>>, BuildError> {
     Ok(rows)
 }
 
-// Appends lines, each as one, and for `like NAME` those of a program.
+// Appends lines, split at ` | `, with `like NAME` replaced by the lines of a program.
 fn push_lines(words: &mut String, text: &str) -> Result<(), BuildError> {
     for line in text.lines() {
         for part in line.split(" | ") {
@@ -373,7 +375,7 @@ fn push_line(words: &mut String, line: &str) -> Result<(), BuildError> {
     Ok(())
 }
 
-// Appends the lines of a program, which may have those of another one behind its own.
+// Appends the lines of a program, which may include another one.
 fn push_program(words: &mut String, name: &str) -> Result<(), BuildError> {
     for line in program_called(name)?.lines() {
         match line.strip_prefix("like ") {

@@ -1,4 +1,4 @@
-// A file as it grows: its bytes, and the headers and names of its sections.
+// A file while it is built: its bytes, and the headers and names of its sections.
 use crate::bytes::pad;
 use crate::error::BuildError;
 use crate::file::ElfFile;
@@ -20,7 +20,7 @@ fn to_u16(count: usize) -> Result<u16, BuildError> {
     u16::try_from(count).ok().ok_or(BuildError::TooLarge)
 }
 
-/// The bytes so far, from the file's header on, and the headers and names of the sections so far.
+/// The bytes so far, from the file header on, and the headers and names of the sections so far.
 #[derive(Drop)]
 pub(crate) struct Writer {
     pub(crate) bytes: Vec<u8>,
@@ -29,7 +29,7 @@ pub(crate) struct Writer {
 }
 
 impl Writer {
-    /// Room for the file's header, the null section, and the empty name.
+    /// Starts with space for the file header, the null section, and the empty name.
     pub(crate) fn new(alloc: Global) -> Result<Writer, BuildError> {
         let mut bytes = Vec::new(alloc);
         bytes.resize(EHDR_SIZE, 0)?;
@@ -44,7 +44,7 @@ impl Writer {
         })
     }
 
-    // Appends the name that `front` and `name` make up, and answers where it begins.
+    // Appends the name `front` followed by `name`, and returns its index.
     fn add_name(&mut self, front: &[u8], name: &[u8]) -> Result<u32, BuildError> {
         let begin = to_u32(self.names.len())?;
         self.names.extend_from_slice(front)?;
@@ -53,7 +53,7 @@ impl Writer {
         Ok(begin)
     }
 
-    /// Adds a section's header, and its bytes where it has no place. `front` stands before its name in the file.
+    /// Adds a section's header, and its bytes unless it has a fixed offset. `front` is put before its name.
     pub(crate) fn add_section(
         &mut self,
         front: &[u8],
@@ -109,7 +109,7 @@ impl Writer {
         Ok(())
     }
 
-    /// Adds the symbols and their names, where there are symbols.
+    /// Adds the symbols and their names, if there are symbols.
     pub(crate) fn add_symbols(
         &mut self,
         alloc: Global,
@@ -136,7 +136,7 @@ impl Writer {
         self.add_section(b"", &texts)
     }
 
-    /// Adds the names of the sections, with their own.
+    /// Adds the section with the section names.
     pub(crate) fn add_names(&mut self) -> Result<(), BuildError> {
         let name = self.add_name(b"", b".shstrtab")?;
         let offset = self.bytes.len() as u64;
@@ -152,7 +152,7 @@ impl Writer {
         Ok(())
     }
 
-    /// Appends the section headers, and answers where they stand.
+    /// Appends the section headers, and returns their offset.
     pub(crate) fn add_section_headers(&mut self) -> Result<u64, BuildError> {
         pad(&mut self.bytes, 8)?;
         let shoff = self.bytes.len() as u64;
@@ -162,7 +162,7 @@ impl Writer {
         Ok(shoff)
     }
 
-    /// How many section headers there are.
+    /// The number of section headers.
     pub(crate) fn section_count(&self) -> Result<u16, BuildError> {
         to_u16(self.headers.len())
     }
@@ -177,7 +177,7 @@ fn has_relocations(relocations: &[Relocation<'_>], section: &[u8]) -> bool {
     false
 }
 
-// The index of the symbol table's section, which stands behind those of relocations; 0 where there is none.
+// The index of the symbol table, which follows the relocation sections, or 0 if there is none.
 fn symbol_table_index(file: &ElfFile<'_>) -> Result<u32, BuildError> {
     if file.symbols.is_empty() {
         return Ok(0);
@@ -191,7 +191,7 @@ fn symbol_table_index(file: &ElfFile<'_>) -> Result<u32, BuildError> {
     Ok(index)
 }
 
-// The index of the symbol of this name.
+// The index of the symbol with this name.
 fn symbol_index(symbols: &[Symbol<'_>], name: &[u8]) -> Result<u32, BuildError> {
     if name.is_empty() {
         return Ok(0);
@@ -204,7 +204,7 @@ fn symbol_index(symbols: &[Symbol<'_>], name: &[u8]) -> Result<u32, BuildError> 
     Err(BuildError::NoSymbol)
 }
 
-// The relocations of a section.
+// The relocation table of a section.
 fn relocation_table(
     alloc: Global,
     file: &ElfFile<'_>,
@@ -227,7 +227,7 @@ fn relocation_table(
     Ok(table)
 }
 
-// The index of the first loaded section that holds an address.
+// The index of the first loaded section that contains an address.
 fn section_of(sections: &[Section<'_>], addr: u64) -> Result<u16, BuildError> {
     for (index, section) in sections.iter().enumerate() {
         if section.has_address(addr) {
@@ -237,7 +237,7 @@ fn section_of(sections: &[Section<'_>], addr: u64) -> Result<u16, BuildError> {
     Ok(SHN_ABS)
 }
 
-// The entries of the symbols, whose names are appended to others.
+// The entries of the symbols. Their names are appended to `names`.
 fn symbol_table(
     alloc: Global,
     file: &ElfFile<'_>,
