@@ -1,5 +1,5 @@
-// Bytes: LEB128 numbers against the examples of DWARF 5 (section 7.6, tables 7.1 and 7.2 and their
-// neighbours), fixed numbers, texts, numbers as text, and the printed names of faults.
+// Tests LEB128 numbers with the examples of DWARF 5 (section 7.6, tables 7.1 and 7.2, and neighbours), fixed-width
+// numbers, texts, numbers as text, and the printed names of faults.
 use rb_bytes::cursor::Cursor;
 use rb_bytes::fault::{Fault, FaultKind, NoMemory, Refusal};
 use rb_bytes::gap::Gap;
@@ -9,7 +9,7 @@ use std::alloc::Global;
 use std::test::Fail;
 use test_files::words::push_bytes;
 
-// A number, and its bytes.
+// A number and its bytes.
 const EXAMPLES: &str = "\
 unsigned 2 02
 unsigned 127 7f
@@ -27,14 +27,14 @@ signed 129 8101
 signed -129 ff7e
 signed -9223372036854775808 8080808080808080807f";
 
-// The unsigned number at the front, and how many bytes it has.
+// The unsigned number at the front, and its number of bytes.
 fn read_unsigned(bytes: &[u8]) -> Result<(u64, usize), Gap> {
     let mut cursor = Cursor::new(bytes);
     let number = cursor.uleb()?;
     Ok((number, cursor.place()))
 }
 
-// The signed number at the front, and how many bytes it has.
+// The signed number at the front, and its number of bytes.
 fn read_signed(bytes: &[u8]) -> Result<(i64, usize), Gap> {
     let mut cursor = Cursor::new(bytes);
     let number = cursor.sleb()?;
@@ -47,7 +47,7 @@ fn bytes_of(alloc: Global, digits: &str) -> Result<Vec<u8>, Fail> {
     Ok(bytes)
 }
 
-// Appends the bytes of a number.
+// Appends the encoding of a number.
 fn put_number(out: &mut Vec<u8>, kind: &str, number: &str) -> Result<(), Fail> {
     if kind == "signed" {
         put_sleb(out, number.parse::<i64>()?)?;
@@ -57,7 +57,7 @@ fn put_number(out: &mut Vec<u8>, kind: &str, number: &str) -> Result<(), Fail> {
     Ok(())
 }
 
-// The number at the front, and how many bytes it has.
+// The number at the front and its number of bytes, as text.
 fn number_shown(alloc: Global, kind: &str, bytes: &[u8]) -> Result<String, Fail> {
     let shown = if kind == "signed" {
         format!(in alloc; "{:?}", read_signed(bytes))?
@@ -86,8 +86,9 @@ fn examples_of_the_standard(rt: HostRuntime) -> Result<(), Fail> {
     Ok(())
 }
 
-// Unsigned and signed numbers that are longer than need be, with something after them; whose bytes end first; and with
-// one more bit than 64 hold.
+// Unsigned and signed numbers that are longer than necessary and followed by other bytes; that are cut off; and with
+// one
+// bit more than 64.
 const SPELLINGS: &str = "\
 unsigned 85808080808080808080800099 Ok((5, 12))
 signed ffff7f99 Ok((-1, 3))
@@ -110,7 +111,7 @@ fn long_short_and_wide_spellings(rt: HostRuntime) -> Result<(), Fail> {
     Ok(())
 }
 
-// What a cursor reads in turn, and its place and what is left. What is refused moves nothing.
+// Consecutive reads of a cursor, with its place and the bytes left. A refused read doesn't move it.
 const STEPS: &str = "\
 u8 Ok(1)
 u16 Ok(770)
@@ -164,7 +165,7 @@ fn numbers_as_text(rt: HostRuntime) -> Result<(), Fail> {
     Ok(())
 }
 
-// A call that asks for memory, and passes its want on as a refusal.
+// A call that allocates, and turns running out of memory into a refusal.
 fn refused_or_spelled(out: &mut Vec<u8>, kind: FaultKind) -> Result<(), Refusal> {
     put_decimal(out, kind.number() as u64)?;
     out.extend_from_slice(kind.name().as_bytes())?;

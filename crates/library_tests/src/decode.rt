@@ -1,11 +1,11 @@
-// The decoder against GNU binutils.
+// Tests the decoder against GNU binutils.
 use crate::instruction_table::full::FULL;
 use crate::instruction_table::half::HALF;
 use rv_decode::decode;
 use std::alloc::AllocError;
 use std::process::Abort;
 
-// Two bytes are read without a halfword after them, and four bytes not without one.
+// Two-byte instructions are decoded without a next halfword, and four-byte ones aren't.
 fn check_table(rt: &(impl Abort + AllocGlobal), table: &str) -> Result<(), AllocError> {
     for line in table.lines() {
         let Some((digits, meaning)) = line.split_once(' ') else {

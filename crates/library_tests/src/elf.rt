@@ -1,5 +1,5 @@
-// ELF files: the example of four instructions, whole and cut, and with one field changed; how segments must lie; and
-// look-ups in a file that was read, against places that were worked out by hand.
+// Tests ELF files: the example of four instructions, whole, cut, and with one field changed; layouts of segments; and
+// searches in a file that was read, against places worked out by hand.
 use elf_image::{Elf, cuts, read};
 use rb_bytes::fault::{FaultKind, Refusal};
 use std::alloc::Global;
@@ -10,7 +10,7 @@ use test_files::words::{file_in_words, rows};
 /// The smallest example.
 pub const EXIT7: &str = "code .text 10078 lui a0,0; addi a0,a0,7; exit";
 
-/// The kind and place of what refuses a file.
+/// The kind and place of the fault for which a file is refused.
 pub fn refused(alloc: Global, file: &[u8]) -> Option<(FaultKind, u64)> {
     match read(alloc, file) {
         Ok(_) => None,
@@ -19,7 +19,7 @@ pub fn refused(alloc: Global, file: &[u8]) -> Option<(FaultKind, u64)> {
     }
 }
 
-// The kind and place of what refuses a file, as text; or `read`.
+// The kind and place of the fault of a file as text, or `read`.
 fn shown(alloc: Global, file: &[u8]) -> Result<String, Fail> {
     let shown = match refused(alloc, file) {
         Some((kind, place)) => format!(in alloc; "{kind:?} {place:x}")?,
@@ -37,8 +37,8 @@ fn check_rows(rt: &impl Abort, alloc: Global, table: &str) -> Result<(), Fail> {
     Ok(())
 }
 
-// The flags, the entry point and the place of the program headers; how many segments and symbols there are; the cuts;
-// and the bytes at an instruction and behind the code.
+// The flags, the entry point and the offset of the program headers; the numbers of segments and symbols; the cuts; and
+// the bytes at an instruction and after the code.
 const FIELDS: &str = "(0, 65656, 64) 1 0 [65656, 65672] Some(5) None";
 
 fn fields(alloc: Global, elf: &Elf<'_>) -> Result<String, Fail> {
@@ -139,8 +139,10 @@ fn changed_fields_are_refused(rt: HostRuntime) -> Result<(), Fail> {
     check_rows(&rt, rt.alloc(), CHANGED)
 }
 
-// The example's segment ends at 88 in the file. Its program headers stand at 160, behind all else, the second of them
-// at 198, and the file ends at 1d0. A header is its type, flags, offset, address, and sizes in the file and in memory.
+// The example's segment ends at 88 in the file. Its program headers are at 160, after everything before them, the
+// second of
+// them at 198, and the file ends at 1d0. A header is its type, flags, offset, address, and sizes in the file and in
+// memory.
 const SEGMENTS: &str = "\
 # A second segment must share no address: it begins behind the first, where that ends, and one address below.
 like exit7

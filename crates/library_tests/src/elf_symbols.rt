@@ -1,4 +1,4 @@
-// ELF files: symbols and their names, of a file with many.
+// Tests symbols and their names in a file with many.
 use crate::elf::refused;
 use elf_image::{cuts, read};
 use rb_bytes::fault::FaultKind;
@@ -7,15 +7,15 @@ use std::test::Fail;
 use test_files::bytes::patch;
 use test_files::words::file_in_words;
 
-// Where the symbols stand, the first multiple of 8 behind the code, and how many bytes they have.
+// The offset of the symbols, the first multiple of 8 after the code, and their number of bytes.
 const SYMBOLS_AT: u64 = 0x80;
 
 const SYMBOLS: u64 = 24 * 10_001;
 
-// How many bytes their names have, which stand behind them, with a zero byte before and after each.
+// The number of bytes of their names, which follow the symbols, with a zero byte before and after each.
 const TEXTS: u64 = 1 + 7 * 10_000;
 
-// An executable of one ECALL, with 10,000 functions over that instruction, f00000 to f09999.
+// An executable with one ECALL, and 10,000 functions on that instruction, f00000 to f09999.
 fn file_of_symbols(alloc: Global) -> Result<Vec<u8>, Fail> {
     let mut words = String::from_str(alloc, "code .text 10078 ecall")?;
     for number in 0u32..10_000 {

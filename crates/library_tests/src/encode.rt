@@ -1,8 +1,8 @@
-// The encoder on one instruction of each width, and on some that have no word.
+// Tests the encoder with one instruction of each width, and some that have no encoding.
 use rv_code::{Inst, Width};
 use rv_encode::{Word, encode};
 
-// ISA manual, sections 2.5 and 26.4: the reach of JAL and C.J.
+// ISA manual, sections 2.5 and 26.4: the range of JAL and C.J.
 #[test]
 fn encodes_jumps(rt: HostRuntime) {
     for (rd, imm, half, full) in [

@@ -1,4 +1,4 @@
-// Files, sources and sinks, in memory and of the system, each through its bound.
+// Tests files, sources and sinks, in memory and of the system, each through its trait.
 use rb_io::{
     Files, Got, HostFiles, HostSink, HostSource, MemFiles, MemSink, MemSource, ReadAll, Sink,
     Source, Wrote, print_all,
@@ -9,7 +9,7 @@ use std::os::unix::fs::{PermissionsExt, symlink};
 use std::process::Abort;
 use std::test::Fail;
 
-// What is asked of files, and what they answer.
+// Calls of files and their results.
 const IN_MEMORY: &str = "\
 read in 5 => Done 12345
 read in 5 => Failed
@@ -27,7 +27,7 @@ read out 9 => Done
 read-faults in => 6
 write-faults out => 6";
 
-// Asks files what a line says, and shows the answer and what was read.
+// Makes the call of a line, and shows the result and the bytes read.
 fn ask<F: Files>(alloc: Global, files: &mut F, line: &str) -> Result<String, Fail> {
     let (kind, rest) = line.split_once(' ').ok_or("no name")?;
     let (name, operand) = rest.split_once(' ').unwrap_or((rest, ""));
@@ -85,7 +85,7 @@ read library_tests_io.tmp 5 => Done short
 read library_tests_io.tmp 4 => TooLong
 read-faults library_tests_io.tmp => 0";
 
-// After the file was removed.
+// Calls after the file was removed.
 const REMOVED: &str = "\
 read library_tests_io.tmp 5 => Failed
 read-faults library_tests_io.tmp => 1
@@ -113,7 +113,7 @@ fn files_of_the_system(rt: HostRuntime) -> Result<(), Fail> {
     ask_lines(&rt, alloc, &mut files, REMOVED)
 }
 
-// What a file of the system holds, with its rights and what names it.
+// The contents of a file of the system, with its permissions and the names that refer to it.
 fn shown(rt: &HostRuntime, name: &str) -> Result<String, Fail> {
     let text = fs::read_to_string(rt, name)?;
     let rights = fs::metadata(rt, name)?.permissions().mode() & 0o7777;
@@ -146,7 +146,7 @@ fn files_that_take_the_place_of_others(rt: HostRuntime) -> Result<(), Fail> {
     Ok(())
 }
 
-// Reads a source to its end by buffers of three bytes.
+// Reads a source to its end, with buffers of three bytes.
 fn read_to_end<I: Source>(alloc: Global, source: &mut I) -> Result<Vec<u8>, Fail> {
     let mut all = Vec::new(alloc);
     let mut buf = [0u8; 3];
@@ -173,7 +173,7 @@ fn a_source_in_memory(rt: HostRuntime) -> Result<(), Fail> {
     Ok(())
 }
 
-// What is written, as it is or whole by several calls, and what the sink answers.
+// Single writes (`write`) and whole texts (`print`), and the results of the sink.
 const WRITTEN: &str = "\
 print abc => Took(3)
 print d => Failed
@@ -181,7 +181,7 @@ write  => Took(0)
 print xyz => Failed
 write  => Took(0)";
 
-// A slice to write to takes what fits, and then no byte more.
+// A slice as a sink takes as many bytes as fit, and then none.
 const WRITTEN_TO_SLICE: &str = "\
 write  => Took(0)
 print abc => Took(3)

@@ -1,4 +1,4 @@
-//! Tests of the libraries against values from outside: the standards' tables and worked examples.
+//! Tests of the libraries against values from outside: tables and worked examples of the standards.
 #![tactic(auto)]
 
 #[cfg(test)]

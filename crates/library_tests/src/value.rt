@@ -1,4 +1,4 @@
-// The arithmetic of rv_code.
+// Tests the arithmetic of rv_code.
 use rv_code::{Extension, Inst, op_value, taken};
 use rv_decode::decode;
 use std::alloc::Global;
@@ -66,7 +66,7 @@ sltiu a0,a1,-1 = 5 ffffffffffffffff 1
 sraiw a0,a1,4 = 80000000 4 fffffffff8000000
 ecall = 5 6 0";
 
-// Whether a branch is taken: 1, or 0.
+// Whether a branch is taken: 1 or 0.
 const TAKEN: &str = "\
 bge a0,a1,-8 = ffffffffffffffff 0 0
 bgeu a0,a1,-8 = ffffffffffffffff 0 1

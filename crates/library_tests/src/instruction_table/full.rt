@@ -1,6 +1,6 @@
-// Four-byte instructions and their meanings, as checks/instruction_table.py takes them from GNU binutils.
+// Four-byte instructions and their meanings, which checks/instruction_table.py takes from GNU binutils.
 
-/// A line is an instruction in hexadecimal and what it is: an `Inst`, or `none`.
+/// A line is an instruction in hexadecimal and its meaning: an `Inst`, or `none`.
 pub const FULL: &str = "\
 00000073 Ecall
 00100073 Ebreak

@@ -1,6 +1,6 @@
-// Two-byte instructions and their meanings, as checks/instruction_table.py takes them from GNU binutils.
+// Two-byte instructions and their meanings, which checks/instruction_table.py takes from GNU binutils.
 
-/// A line is an instruction in hexadecimal and what it is: an `Inst`, or `none`.
+/// A line is an instruction in hexadecimal and its meaning: an `Inst`, or `none`.
 pub const HALF: &str = "\
 0000 none
 1ffc Addi { rd: 15, rs1: 2, imm: 1020 }

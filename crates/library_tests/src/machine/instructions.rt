@@ -1,4 +1,4 @@
-// Results of instructions, as checks/machine_results.py takes them from qemu.
+// Tests results of instructions that checks/machine_results.py takes from qemu.
 use crate::machine::results::RESULTS;
 use crate::machine::running::run_in_words;
 use rv_machine::Stepped;
@@ -26,8 +26,9 @@ fn parse(line: &str) -> Option<Row> {
     })
 }
 
-// What stands behind an instruction, so that a0 tells what it did: LI a0,1 behind a branch, which is passed over where
-// it is taken, LD a0,16(s0) behind a store, else a NOP.
+// The instruction after the tested one, so that a0 shows its effect: LI a0,1 after a branch, which skips it if taken;
+// LD
+// a0,16(s0) after a store; and a NOP after others.
 fn follow(word: u64) -> &'static str {
     match word % 128 {
         0x63 => "addi a0,zero,1",
@@ -36,8 +37,9 @@ fn follow(word: u64) -> &'static str {
     }
 }
 
-// The file: for each row its operands are loaded from the data, and its result is stored there. Then write(1, data, s0
-// - data) and exit(0).
+// The description of the file. The operands of each row are loaded from the data, and its result is stored there. At
+// the
+// end come write(1, data, s0 - data) and exit(0).
 fn file(alloc: Global) -> Result<String, Fail> {
     let mut code = String::from_str(alloc, "flags 1\ncode .text 100b0 lui s0,80")?;
     let mut data = String::from_str(alloc, "\nsegment rw 3000 50000\nwritable .data 50000 ")?;

@@ -1,4 +1,4 @@
-// Instructions, operands and results, as checks/machine_results.py takes them from qemu-riscv64.
+// Instructions, operands and results, which checks/machine_results.py takes from qemu-riscv64.
 
 /// A line is an instruction, the values of x11 and of x12, and the result, in hexadecimal.
 pub const RESULTS: &str = "\

@@ -1,4 +1,4 @@
-// Runs of executables.
+// Runs executables.
 ghost use Rattle.elf_image.specs.faults.FileFaults.{IsSound};
 ghost use Rattle.elf_image.specs.file.ParsedFile.{IsElfOf};
 
@@ -9,7 +9,7 @@ use std::alloc::Global;
 use std::test::Fail;
 use test_files::words::{file_in_words, hexadecimal, said};
 
-/// How a run ended, and what it wrote.
+/// The end of a run, and the bytes that it wrote.
 #[derive(Drop)]
 pub struct Run {
     pub ran: Ran,
@@ -32,7 +32,7 @@ fn run_elf(
     }
 }
 
-// The number that a line says.
+// The number in the line that begins with `name`.
 fn number(words: &str, name: &str, default: u64) -> Result<u64, Fail> {
     match said(words, name) {
         Some(digits) => Ok(hexadecimal(digits)?),
@@ -40,8 +40,8 @@ fn number(words: &str, name: &str, default: u64) -> Result<u64, Fail> {
     }
 }
 
-/// A run of a file in words, with lines for its input (`input TEXT`), the limit of its steps, the read or write that
-/// fails (`fail input NUMBER`, `fail out NUMBER`), and the room for what it writes (`room out SIZE`).
+/// Runs a file from its description, with lines for its input (`input TEXT`), the limit of its steps, the read or write
+/// that fails (`fail input NUMBER`, `fail out NUMBER`), and the room for its output (`room out SIZE`).
 pub fn run_in_words(alloc: Global, words: &str) -> Result<Run, Fail> {
     let file = file_in_words(alloc, words)?;
     let bytes = Vec::from_slice(alloc, said(words, "input ").unwrap_or("").as_bytes())?;
@@ -59,7 +59,7 @@ pub fn run_in_words(alloc: Global, words: &str) -> Result<Run, Fail> {
     Ok(Run { ran, taken })
 }
 
-/// How a run ended, with the pc of a trap, its steps, and what it wrote, in hexadecimal.
+/// The end of a run, with the pc of a trap, the number of steps, and the output, in hexadecimal.
 pub fn show(alloc: Global, run: &Run) -> Result<String, Fail> {
     let steps = run.ran.steps;
     let mut shown = match run.ran.end {

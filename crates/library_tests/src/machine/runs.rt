@@ -1,4 +1,4 @@
-// System calls, as Linux's manual pages have them, traps, limits, pages, and the faults of the source and the sink.
+// Tests system calls against Linux's manual pages, traps, limits, pages, and faults of the source and the sink.
 use crate::machine::running::{run_in_words, show};
 use std::test::Fail;
 use test_files::words::rows;
