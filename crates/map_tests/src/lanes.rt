@@ -1,8 +1,8 @@
-// Ranks and marks at every length around a vector's and a number's of 64 bits.
+// Tests ranks and marks at each length around that of a vector and of a 64-bit number.
 use rb_lanes::{length_marks, rank};
 use std::test::Fail;
 
-// More marks than two numbers of 64 bits hold.
+// More marks than two 64-bit numbers hold.
 const LONGEST: usize = 130;
 
 #[test]
@@ -33,7 +33,7 @@ fn ranks_among_equals(rt: HostRuntime) -> Result<(), Fail> {
     Ok(())
 }
 
-// Every third halfword begins a long instruction; the others end in each of the other pairs of bits.
+// Every third halfword begins a long instruction. The others end in the other pairs of bits.
 fn halfword(i: usize) -> u16 {
     match i % 3 {
         0 => 0xfff3,

@@ -1,4 +1,4 @@
-//! Tests of the map and of the kernels that it looks up with, against values that were worked out by hand.
+//! Tests of the map and of the searches that it uses, against values worked out by hand.
 #![tactic(auto)]
 
 #[cfg(test)]

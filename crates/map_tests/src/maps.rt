@@ -1,4 +1,4 @@
-// Maps: look-ups, the order of lines, and the text, by the rules of the map's definitions.
+// Tests maps: searches, the order of lines, and the text, by the rules of the map's definitions.
 use crate::valid::map_of;
 use addr_map::{AddrMap, Span};
 use rb_io::{MemSink, Put};
@@ -10,8 +10,9 @@ fn span(out: u64, len: u8, input: u64) -> Span {
     Span { out, len, input }
 }
 
-// A jump was added after the instruction at 10078. Those at 10084 and 1008a were left out before their target at
-// 1007c. One without bytes stands inside another span, and two spans have the greatest numbers.
+// A jump was added after the instruction at 10078. The instructions at 10084 and 1008a were left out before their
+// target
+// at 1007c. An empty span is inside another one, and two spans have the greatest numbers.
 fn spans() -> [Span; 9] {
     [
         span(0x1009c, 4, 0x1007c),
@@ -107,7 +108,7 @@ fn a_map_of_nothing(rt: HostRuntime) -> Result<(), Fail> {
 // More than two full levels.
 const MANY: u64 = 5000;
 
-// Instructions of two bytes, in the opposite order, in four bytes each.
+// Two-byte instructions in the opposite order, in four bytes each.
 fn reversed(alloc: Global) -> Result<Vec<Span>, Fail> {
     let mut spans = Vec::new(alloc);
     for i in 0..MANY {
@@ -136,7 +137,7 @@ fn a_text_of_many(rt: HostRuntime) -> Result<(), Fail> {
     let map = map_of(&rt, rt.alloc(), &reversed(rt.alloc())?)?;
     let mut text = Vec::new(rt.alloc());
     map.text(&mut text)?;
-    // each line has 6, 1 and 5 digits, two blanks and its end
+    // Each line has 6, 1 and 5 digits, two blanks and a line feed.
     assert_eq!(rt; text.len(), 5000 * 15);
     assert_eq!(rt;
         text.as_slice().get(..30),

@@ -1,4 +1,4 @@
-// Maps of spans whose conditions are tested first, by comparing any two.
+// Maps from spans whose conditions are tested first, pair by pair.
 ghost use Rattle.std.specs.Prelude.{◌≡◌, ◌<◌, AllPairs, false, length, true};
 ghost use Rattle.map_tests.specs.SpanPairs.{AreSeparate, IsSeparateFromFormer};
 
@@ -7,7 +7,7 @@ use std::alloc::Global;
 use std::process::Abort;
 use std::test::Fail;
 
-// Whether two spans are of one instruction, or have a byte in common.
+// Whether two spans are of one instruction, or overlap.
 fn collide(s: &Span, t: &Span) -> bool
     ensures { result ≡ false → AreSeparate s.now t.now }
 {
@@ -30,7 +30,7 @@ fn collides(spans: &[Span], j: usize) -> bool
     false
 }
 
-// Whether the spans are of distinct instructions, with no byte in two of them.
+// Whether the spans are of distinct instructions and don't overlap.
 fn are_of_a_map(spans: &[Span]) -> bool
     ensures { result ≡ true → AllPairs AreSeparate spans.now }
 {
@@ -42,7 +42,7 @@ fn are_of_a_map(spans: &[Span]) -> bool
     true
 }
 
-/// The map of spans that make one.
+/// The map of these spans, if they are valid.
 pub(crate) fn map_of(rt: &impl Abort, alloc: Global, spans: &[Span]) -> Result<AddrMap, Fail> {
     assert!(rt; are_of_a_map(spans));
     Ok(AddrMap::new(alloc, Vec::from_slice(alloc, spans)?)?)
