@@ -1,4 +1,4 @@
-// What all calls together find in a file, and rows of tables with what is to be found.
+// Runs all analyses of a file's code, and checks rows of tables with expected results.
 use elf_image::read;
 use func_find::functions;
 use rb_bytes::fault::Refusal;
@@ -19,7 +19,7 @@ pub struct Analysis {
     pub funcs: Vec<Func>,
 }
 
-// Reads a file and finds its code.
+// Reads a file and analyses its code.
 fn analyse(alloc: Global, file: &[u8], whole: &[(u64, u64)]) -> Result<Analysis, Refusal> {
     let elf = read(alloc, file)?;
     let starts = starts(alloc, &elf)?;
@@ -37,7 +37,7 @@ fn put_word(text: &mut Vec<u8>, word: &str) -> Result<(), Fail> {
     Ok(())
 }
 
-/// Numbers in hexadecimal, each behind a space.
+/// Appends hexadecimal numbers, each after a space.
 pub fn put_numbers(text: &mut Vec<u8>, numbers: &[u64]) -> Result<(), Fail> {
     for number in numbers {
         text.push(b' ')?;
@@ -46,7 +46,7 @@ pub fn put_numbers(text: &mut Vec<u8>, numbers: &[u64]) -> Result<(), Fail> {
     Ok(())
 }
 
-// An instruction's address and role: the target, and the AUIPC of a lower part.
+// Appends an instruction's address and role: the target, and the AUIPC of a lower part.
 fn put_role(text: &mut Vec<u8>, place: u64, role: Role) -> Result<(), Fail> {
     let (name, target, hi) = match role {
         Role::Plain => (" Plain", 0, None),
@@ -66,7 +66,7 @@ fn put_role(text: &mut Vec<u8>, place: u64, role: Role) -> Result<(), Fail> {
     }
 }
 
-// A cell's address, its width, and its address or the distance of two.
+// Appends a cell's address, its width, and its address or the two labels of its distance.
 fn put_cell(text: &mut Vec<u8>, cell: &CodeCell) -> Result<(), Fail> {
     put_numbers(text, &[cell.addr, cell.width as u64])?;
     match cell.kind {
@@ -75,7 +75,7 @@ fn put_cell(text: &mut Vec<u8>, cell: &CodeCell) -> Result<(), Fail> {
     }
 }
 
-// Where a function begins and ends, and whether it moves as one piece.
+// Appends the start and end of a function, and whether it moves as one piece.
 fn put_extent(text: &mut Vec<u8>, func: &Func) -> Result<(), Fail> {
     put_numbers(text, &[func.start, func.end])?;
     if func.whole {
@@ -116,7 +116,7 @@ fn put_list(alloc: Global, text: &mut Vec<u8>, found: &Analysis, name: &str) -> 
     Ok(())
 }
 
-// Appends what comes of a file in the words of what is wanted: the fault and its place, or the list called `name`.
+// Appends the result for a file in the form of the expected text: the fault and its place, or the list called `name`.
 fn put_answer(
     alloc: Global,
     text: &mut Vec<u8>,
@@ -153,11 +153,11 @@ fn check_row(rt: &impl Abort, alloc: Global, row: &Row<'_>) -> Result<(), Fail> 
     Ok(())
 }
 
-/// In the files of a table is found what its rows say: the fault that refuses a file, or lists of
+/// Checks that the rows of a table give the expected results: the fault for which the file is refused, or lists of
 ///
 /// - `starts`: addresses of instructions
 /// - `roles`: address, role, target, and the address of the AUIPC of a lower part
-/// - `cells`: address, width, and the address or the labels whose distance it is
+/// - `cells`: address, width, and the address, or the two labels of a distance
 /// - `functions`: start, end, and whether it is `whole`
 /// - `instructions`: address and instruction
 pub fn check_rows(rt: &impl Abort, alloc: Global, table: &str) -> Result<(), Fail> {

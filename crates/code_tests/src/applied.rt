@@ -1,5 +1,4 @@
-// What relocations of each type give the instructions and fields that they fit, and which they don't fit. psABI,
-// "Relocations".
+// Tests relocations of each type, on instructions and fields that they fit and on others. psABI, "Relocations".
 use crate::analysis::check_rows;
 use std::test::Fail;
 

@@ -1,4 +1,4 @@
-// Which fields are code cells.
+// Tests which fields are code cells.
 use crate::analysis::check_rows;
 use std::test::Fail;
 

@@ -1,4 +1,4 @@
-// What is found in files as compilers and linkers lay them out.
+// Tests files as compilers and linkers lay them out.
 use crate::analysis::check_rows;
 use std::test::Fail;
 

@@ -1,4 +1,4 @@
-// Where functions begin and end, and what their instructions may be.
+// Tests bounds of functions, and valid instructions.
 use crate::analysis::check_rows;
 use std::test::Fail;
 

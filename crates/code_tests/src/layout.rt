@@ -1,4 +1,4 @@
-// Blocks of code, where tables lead its jumps, and edges, also through tables.
+// Tests blocks, targets of jump tables, and edges, including edges through jump tables.
 use crate::analysis::put_numbers;
 use cfg_build::{blocks, edges};
 use elf_image::read;
@@ -12,7 +12,7 @@ use std::process::Abort;
 use std::test::Fail;
 use test_files::words::{Row, file_in_words, ranges, rows};
 
-// The blocks of a file, the addresses to which tables lead its jumps, and its edges.
+// The blocks of a file, the addresses to which jump tables lead its jumps, and its edges.
 #[derive(Drop)]
 struct Layout {
     blocks: Vec<Block>,
@@ -35,8 +35,7 @@ fn lay_out(alloc: Global, file: &[u8], whole: &[(u64, u64)]) -> Result<Layout, R
     })
 }
 
-// The function, the first and the last instruction of each block; each jump with an address; and the blocks of each
-// edge.
+// Appends the function, first and last instruction of each block; each jump with a target; and the blocks of each edge.
 fn put_layout(text: &mut Vec<u8>, layout: &Layout) -> Result<(), Fail> {
     text.extend_from_slice(b"blocks")?;
     for block in &layout.blocks {

@@ -1,4 +1,4 @@
-//! Tests of references, functions, blocks and edges on small executables, against values that were worked out by hand.
+//! Tests of references, functions, blocks and edges on small executables, against values worked out by hand.
 #![tactic(auto)]
 
 #[cfg(test)]

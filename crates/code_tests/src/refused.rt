@@ -1,4 +1,4 @@
-// Files that are refused: which fault, and where.
+// Tests refused files: which fault, and at which place.
 use crate::analysis::check_rows;
 use std::test::Fail;
 

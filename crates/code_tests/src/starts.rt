@@ -1,4 +1,4 @@
-// Where instructions start, also in parts that are no function.
+// Tests starts of instructions, including those in parts that aren't functions.
 use elf_image::read;
 use rv_reloc::starts;
 use std::alloc::Global;
@@ -13,7 +13,7 @@ code .text 10078 lui a0,0; addi a0,a0,7; exit
 - function f 10079 0 => 10078 10079 1007b 1007d 1007f 10081 10083 10085 10087
 - function f 1007a 0 => 10078 1007a 1007c 10080 10084";
 
-// How many starts there are, and the last two of them.
+// The number of starts, and the last two of them.
 const LAST_STARTS: &str = "\
 # Instructions of two bytes, one of four around the 64th halfword, before it, in it and behind it, and one of two: the
 # first byte of each is 05 or 13.
@@ -22,7 +22,7 @@ const LAST_STARTS: &str = "\
 - code .text 10078 .rept 64 .half 0505; addi a0,a0,1; .half 0505 => 42 100f8 100fc
 - code .text 10078 .rept 127 .half 0505; addi a0,a0,1; .half 0505 => 81 10176 1017a";
 
-// The starts of the instructions of a file that is read.
+// The starts of the instructions of a file.
 fn starts_in(alloc: Global, row: &Row<'_>) -> Result<Vec<u64>, Fail> {
     let file = file_in_words(alloc, &row.words)?;
     let Ok(elf) = read(alloc, &file) else {
@@ -34,7 +34,7 @@ fn starts_in(alloc: Global, row: &Row<'_>) -> Result<Vec<u64>, Fail> {
     }
 }
 
-// The numbers that a row wants.
+// The numbers that a row expects.
 fn wanted(alloc: Global, row: &Row<'_>) -> Result<Vec<u64>, Fail> {
     let mut numbers = Vec::new(alloc);
     for number in row.wanted.split(' ') {

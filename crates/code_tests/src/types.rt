@@ -1,4 +1,4 @@
-// All types of relocations, by their numbers. psABI, "Relocations", the table of types.
+// Tests all types of relocations, by number. psABI, "Relocations", the table of types.
 use crate::analysis::check_rows;
 use std::test::Fail;
 
