@@ -1,4 +1,4 @@
-//! Tests of tables of debugging information on small executables, against values that were worked out by hand.
+//! Tests of debug tables of small executables, against values worked out by hand.
 #![tactic(auto)]
 
 #[cfg(test)]

@@ -1,4 +1,4 @@
-// Units of debugging information: their entries, or the fault that refuses them. DWARF 5, sections 7.5.1 to 7.5.3.
+// Tests units of `.debug_info`: their debugging information entries, or the fault. DWARF 5, sections 7.5.1 to 7.5.3.
 use dw_unit::{Attr, Entry, units};
 use elf_image::read;
 use rb_bytes::fault::Refusal;
@@ -8,8 +8,9 @@ use std::process::Abort;
 use std::test::Fail;
 use test_files::words::{Row, file_in_words, rows};
 
-// Each row has the place, the unit, the depth and the tag of each entry, and the name, the form, the place and the
-// value of each attribute; or the fault.
+// Each row has the offset, the unit, the depth and the tag of each entry, and the name, the form, the offset and the
+// value
+// of each attribute; or the fault.
 const UNITS: &str = "\
 # A unit `sample.c` with three functions; its version is 4, or its length greater by 1.
 code .text 10078 lui a0,0; addi a0,a0,7; exit
@@ -45,7 +46,7 @@ fn put_word(text: &mut Vec<u8>, word: &str) -> Result<(), Fail> {
     Ok(())
 }
 
-// Numbers in hexadecimal, each behind a space.
+// Appends hexadecimal numbers, each after a space.
 fn put_numbers(text: &mut Vec<u8>, numbers: &[u64]) -> Result<(), Fail> {
     for number in numbers {
         text.push(b' ')?;
@@ -61,7 +62,7 @@ fn put_attributes(text: &mut Vec<u8>, attrs: &[Attr]) -> Result<(), Fail> {
     Ok(())
 }
 
-// Appends the entries, if `name` says so, or else their attributes.
+// Appends the entries if `name` says so, and otherwise their attributes.
 fn put_list(text: &mut Vec<u8>, entries: &[Entry], name: &str) -> Result<(), Fail> {
     for entry in entries {
         if name == "entries" {
