@@ -1,4 +1,4 @@
--- The first range that holds the bytes of a header is that of the first section that does.
+-- The first range that contains the bytes of a header is the range of the first section that contains them.
 use Rattle.std.proofs.Common.{◌≡◌, ◌∙◌, sym, ap, subst, refl, ℕ, ◌+◌, ◌<◌, ◌≤◌, ◌⊎◌, inl, inr, ◌&&◌, Bool, true, false, not, List, Option}
 use Rattle.std.proofs.Common.{Some, None, length, get_or, arith}
 use Rattle.std.specs.Prelude.{find, nat_le, nat_lt, map, option_map, slice_get, unwrap_or, if◌then◌else◌, IsSomeAnd}
@@ -40,7 +40,7 @@ module _ (p : Segment) (some : 0 < p.filesz) where
   abbrev test : Extent → Bool
   test = covers p.offset (p.offset + p.filesz)
 
-  -- an empty range holds no bytes
+  -- An empty range contains no bytes.
   covers-extent : (i : ℕ) (c : Contents) (s : Section) → test (extent_of i c s) ≡ section_holds c s p
   covers-extent i c s = cases (can_hold c s)
     where
@@ -99,11 +99,11 @@ module _ (p : Segment) (some : 0 < p.filesz) where
             subst (λ (o : Option Extent). IsFirst contents sections p (option_map (λ e. e.place) o))
             (sym (slice_get_past extents first (omega arith))) (none-before (length sections) past)
 
--- the place of the first range that holds the bytes of a header
+-- The index of the first range that contains the bytes of a header.
 abbrev place_of : List Extent → Segment → Option ℕ
 place_of extents p = option_map (λ e. e.place) (find (covers p.offset (p.offset + p.filesz)) extents)
 
--- the section that a header follows
+-- The section that the bytes of a header move with.
 pub home-is : (contents : ℕ → Section → Contents) (segments : List Segment) (sections : List Section) (found : List Contents)
     (loaded extents : List Extent) → AreContents contents sections found → AreExtents sections found extents →
     HaveLoaded segments loaded → (p : Segment) → IsHome contents segments sections p (first_for loaded extents p)
@@ -120,7 +120,7 @@ home-is contents segments sections found loaded extents are have bytes p = recor
         ≡ is_unloaded segments p
     same = ap (λ (b : Bool). not (is_load p) && (nat_lt 0 p.filesz && not b)) (bytes p.offset (p.offset + p.filesz))
 
--- those of all headers
+-- The sections for all headers.
 pub homes-are : (segments : List Segment) (sections : List Section) (found : List Contents) (loaded extents : List Extent) →
     AreExtents sections found extents → HaveLoaded segments loaded → (homes : List (Option ℕ)) →
     homes ≡ map (first_for loaded extents) segments → AreHomes segments sections found homes

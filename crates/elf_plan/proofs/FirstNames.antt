@@ -1,4 +1,4 @@
--- The first symbols of functions, one symbol further.
+-- The first symbols of functions, symbol by symbol.
 use Rattle.std.proofs.Common.{◌≡◌, ◌≢◌, sym, ap, subst, refl, cond, nat_cmp, ℕ, ◌+◌, ◌<◌, ◌&&◌, ⊎_elim, Bool, true, false, Option}
 use Rattle.std.proofs.Common.{Some, None, List, [], ◌∷◌, length, get_or, take, arith, ◌∙◌, eqb}
 use Rattle.std.specs.Prelude.{is_some}
@@ -12,7 +12,7 @@ use Rattle.elf_image.specs.declared.symbol.Symbol.{Symbol}
 use Rattle.elf_image.specs.file.Cuts.{names_function}
 use Rattle.elf_plan.specs.ColdSymbols.{first_named}
 
--- what the next symbol adds
+-- The effect of the next symbol.
 abbrev added : Bool → Bool → Symbol → Option Symbol
 added names here x = cond (names && here) (Some x) None
 
@@ -30,7 +30,7 @@ adds_none true false x (Some y) e = refl
 adds_none false c x None e = refl
 adds_none false c x (Some y) e = refl
 
--- a symbol of no function
+-- A symbol that isn't for a function.
 pub first-no_function : (xs : List Symbol) (i : ℕ) (d : Symbol) (q : ℕ) → i < length xs → names_function (get_or xs i d) ≡ false →
     first_named (take (i + 1) xs) q ≡ first_named (take i xs) q
 first-no_function xs i d q within none =
@@ -38,7 +38,7 @@ first-no_function xs i d q within none =
     ∙ adds_none (names_function (get_or xs i d)) (eqb (get_or xs i d).value q) (get_or xs i d) (first_named (take i xs) q)
     (grind (arith, common_steps))
 
--- one of a function that has a name
+-- A symbol of a function that already has a name.
 pub first-named : (xs : List Symbol) (i : ℕ) (d : Symbol) (q : ℕ) → i < length xs →
     is_some (first_named (take i xs) (get_or xs i d).value) ≡ true →
     first_named (take (i + 1) xs) q ≡ first_named (take i xs) q
@@ -55,7 +55,7 @@ first-named xs i d q within there =
     kept None y e = absurd (cc)
     kept (Some z) y e = refl
 
--- the first of a function
+-- The first symbol of a function.
 pub first-new : (xs : List Symbol) (i : ℕ) (d : Symbol) (q : ℕ) → i < length xs → names_function (get_or xs i d) ≡ true →
     is_some (first_named (take i xs) (get_or xs i d).value) ≡ false →
     first_named (take (i + 1) xs) q ≡ cond (is_at (nat_cmp (get_or xs i d).value) q) (Some (get_or xs i d)) (first_named

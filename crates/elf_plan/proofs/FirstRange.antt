@@ -1,4 +1,4 @@
--- The first of some ranges that holds others, by whether one before a range does.
+-- The first of some ranges that contains a given range, by whether a range before a middle one does.
 use Rattle.std.proofs.Common.{◌≡◌, ◌∙◌, ap, subst, sym, refl, ℕ, ◌<◌, ◌↔◌, ◌||◌, Bool, true, false, cond, Some, List, [], ◌∷◌, ◌++◌}
 use Rattle.std.specs.Prelude.{find}
 use Rattle.std.specs.List.{list_any}
@@ -10,7 +10,7 @@ use Rattle.elf_image.specs.internal.Extents.{IsInOneExtent}
 use Rattle.elf_plan.specs.RangeTree.{IsReachOf, covers}
 use Rattle.elf_plan.proofs.KeptRanges.{in_one-permutation}
 
--- what ranges hold, by their starts
+-- The ranges covered by sorted and extended ranges.
 pub reach-of : (ranges copy sorted now reaches : List Extent) → copy ≡ ranges → IsPermutation copy sorted → now ≡ sorted →
     IsNonDecreasingBy (λ s. s.start) reaches → IsNonDecreasingBy (λ s. s.end) reaches →
     ((a e : ℕ) → a < e → IsInOneExtent reaches a e ↔ IsInOneExtent now a e) → IsReachOf reaches ranges
@@ -24,7 +24,7 @@ reach-of ranges copy sorted now reaches copied there same rising growing covered
       (λ h. one.1 (held.0 h), λ h. held.1 (one.0 h));
 }
 
--- The first of two lists that passes a test.
+-- The first element of two lists that passes a test.
 
 find-there : {A : Type 0} (p : A → Bool) (xs ys : List A) → list_any p xs ≡ true → find p (xs ++ ys) ≡ find p xs
 find-there p [] ys any = absurd (cc)
@@ -83,7 +83,7 @@ module _ (start end : ℕ) where
         find (covers start end) (before ++ range ∷ behind) ≡ find (covers start end) behind
     first-behind none fails = skipped none ∙ ap (λ (b : Bool). cond b (Some range) (find (covers start end) behind)) fails
 
--- a test that fails
+-- A test that fails.
 pub not-covered : (xs ys : List Extent) (start end : ℕ) (b : Bool) → xs ≡ ys → (IsInOneExtent xs start end → b ≡ true) →
     b ≡ false → IsInOneExtent ys start end → ⊥
 not-covered xs ys start end b same gives off there =

@@ -1,4 +1,4 @@
--- Fragments of new code, and the bytes that are left of one.
+-- Fragments of new code, and the rest of one.
 use Rattle.std.proofs.Common.{◌≡◌, ◌≢◌, sym, ap, subst, ℕ, ◌+◌, ◌-◌, ◌<◌, ◌≤◌, ⊎_elim, inl, inr, ◌⊎◌, Some, List, [], ◌∷◌, ◌++◌, true}
 use Rattle.std.proofs.Common.{length, get_or, take, arith, ◌∙◌, refl}
 use Rattle.std.specs.Prelude.{All, AllPairs, Contains, slice_get}
@@ -17,7 +17,7 @@ use Rattle.rv_code.specs.layout.FunctionMembers.{function_at, func_holds}
 use Rattle.rv_code.proofs.lists.FunctionAt.{ends_rise, function_at-found, held_bounds}
 use Rattle.elf_plan.specs.Fragments.{HasByte, IsFragment}
 
--- the function that holds an address is the one that is found
+-- The function that contains an address is the one found.
 pub function_held : (funcs : List Func) (a k : ℕ) (d : Func) → AreLaidOut funcs → k < length funcs →
     func_holds a (get_or funcs k d) ≡ true → function_at funcs a ≡ Some k
 function_held funcs a k d are inside holds =
@@ -37,7 +37,7 @@ function_held funcs a k d are inside holds =
     })
     inside bounds.0
 
--- a list without its last element
+-- A list without its last element.
 
 last-is : {X : Type 0} (xs : List X) (y d : X) → get_or (xs ++ y ∷ []) (length xs) d ≡ y
 last-is [] y d = refl
@@ -66,9 +66,9 @@ last-there P xs y all =
     let size : length (xs ++ y ∷ []) ≡ length xs + 1 = length-append xs (y ∷ []) in
     subst P (last-is xs y y) (all (length xs) y (omega arith))
 
--- One fragment more.
+-- One more fragment.
 
--- a byte of a fragment that stays, and one of the fragment that was added
+-- A byte of a fragment that stays, or of the fragment that was added.
 old_byte : (old : List Fragment) (fragment q r : Fragment) (b : ℕ) → Contains old q → q.func ≡ r.func → q.start ≤ b → b < q.end →
     HasBytes old r.func b (b + 1) ⊎ ((fragment.func ≡ r.func) × (fragment.start ≤ b) × (b < fragment.end))
 old_byte old fragment q r b there func low high =
@@ -189,7 +189,7 @@ grows-joined front last fragment some one meets = record {
     longer : Fragment
     longer = record last { end = fragment.end }
 
--- The bytes of two fragments that meet are of one.
+-- The bytes of two adjacent fragments are the bytes of one.
 
 apart-fragments : (fragments : List Fragment) → AreSorted fragments → (r q : Fragment) →
     Contains fragments r → Contains fragments q →
@@ -209,7 +209,7 @@ apart-fragments fragments sorted r q (i, i_in, i_is) (j, j_in, j_is) =
     at_r' : get_or fragments i r ≡ get_or fragments i q → get_or fragments i q ≡ r
     at_r' e = sym e ∙ i_is
 
--- What is left of a fragment from an address on.
+-- The rest of a fragment from an address on.
 pub fragment-left : (funcs : List Func) (spans : List Span) (fragments : List Fragment) (r : Fragment) (f to : ℕ) →
     AreFragments funcs spans fragments →
     Contains fragments r →
@@ -250,7 +250,7 @@ fragment-left funcs spans fragments r f to are there is low high = record {
     same_some : (a b : ℕ) → Some a ≡ Some b → a ≡ b
     same_some a b e = cc
 
--- Where no fragment of the function has the address, none of its bytes stands there.
+-- If no fragment of the function contains the address, none of its bytes is there.
 pub fragment-none : (funcs : List Func) (spans : List Span) (fragments : List Fragment) (f to : ℕ) →
     AreFragments funcs spans fragments →
     ((r : Fragment) → Contains fragments r → r.func ≡ f → r.start ≤ to → to < r.end → ⊥) → IsFragment funcs spans f to 0
@@ -269,7 +269,7 @@ fragment-none funcs spans fragments f to are none = record {
     same_some : (a b : ℕ) → Some a ≡ Some b → a ≡ b
     same_some a b e = cc
 
--- The last fragment that starts at an address or below it is the only one that can have it.
+-- Only the last fragment that starts at or below an address can contain it.
 pub only-fragment : (fragments : List Fragment) (to n : ℕ) (d : Fragment) → AreSorted fragments → n < length fragments →
     ((k : ℕ) (d : Fragment) → n + 1 ≤ k → k < length fragments → to < (get_or fragments k d).start) →
     (get_or fragments n d).start ≤ to →
@@ -287,9 +287,9 @@ only-fragment fragments to n d sorted within above from r (j, j_in, j_is) low hi
     (cases_eq n j))
     (cases_lt j n)
 
--- One span more.
+-- One more span.
 
--- a byte stays one of a function
+-- A byte that belongs to a function still does.
 one_more : (funcs : List Func) (spans : List Span) (s : Span) (f b : ℕ) → HasByte funcs spans f b →
     HasByte funcs (spans ++ s ∷ []) f b
 one_more funcs spans s f b has = record {
@@ -361,7 +361,7 @@ starts_rise fragments sorted i j d le lt = ⊎_elim
     (λ (more : j ≤ i). let e : i ≡ j = omega arith in let s = ap (λ (k : ℕ). (get_or fragments k d).start) e in omega arith)
     (cases_lt i j)
 
--- one more of a list
+-- One more element of a list.
 pub taken : {X : Type 0} (xs : List X) (i : ℕ) (x : X) → slice_get xs i ≡ Some x → take (i + 1) xs ≡ take i xs ++ x ∷ []
 taken xs i x is =
     take_more xs i x (slice_get_within xs i x is) ∙ ap (λ y. take i xs ++ y ∷ []) (get_or_from_slice_get xs i x x is)

@@ -1,4 +1,4 @@
--- Where program headers go, computed on small examples.
+-- Positions of program headers in small examples, computed.
 use Rattle.std.proofs.Common.{◌≡◌, refl, ℕ, true, false, Some, None, [], ◌∷◌}
 use Rattle.elf_image.specs.declared.section.Section.{Section}
 use Rattle.elf_image.specs.declared.segment.Segment.{Segment}
@@ -6,7 +6,7 @@ use Rattle.elf_plan.specs.declared.area.Area.{Area}
 use Rattle.elf_plan.specs.declared.sections.Contents.TheVariants.{Copied, Kept}
 use Rattle.elf_plan.specs.HeaderPlaces.{Outline, beside, section_holds, is_unloaded, new_header, place_behind, place_in}
 
--- Code at 1000 to 1020 of the file, in hexadecimal, and a header of four bytes behind it, which no segment loads
+-- Code at 1000 to 1020 of the file, in hexadecimal, and a header for four bytes after it, which no segment loads.
 abbrev code : Segment
 code = record {
   kind = 1;
@@ -28,7 +28,7 @@ unloaded = refl
 loaded : is_unloaded (code ∷ note 0x101f ∷ []) (note 0x101f) ≡ false
 loaded = refl
 
--- a section of eight bytes from 1020 on holds it, if its contents are written behind the loaded bytes
+-- A section of eight bytes from 1020 on contains them, if its contents are written after the loaded bytes.
 abbrev section : Section
 section = record {
   name = record { ref_ptr = (0, 0); now = [] };
@@ -52,11 +52,11 @@ not-held = refl
 not-written : section_holds Kept section (note 0x1022) ≡ false
 not-written = refl
 
--- where these contents are at 3000
+-- The contents are written at 3000.
 follows : place_in (section ∷ []) (0x3000 ∷ []) (note 0x1022) 0 ≡ 0x3002
 follows = refl
 
--- an area of 100 bytes behind the code: a file of 2000 bytes has no bytes of a header there
+-- An area of 100 bytes after the code. A file of 2000 bytes has no bytes of a header there.
 abbrev area : Area
 area = record {
   tight = false;
@@ -90,11 +90,11 @@ still = record outline { shift = record { from = 0x1020; by = 0 } }
 goes-on : beside still 0x1000 (note 0x111e) ≡ 0x211e
 goes-on = refl
 
--- by kind: the table of program headers itself, and one in front of the code's end
+-- By kind: the table of program headers itself, and a header for bytes before the code's end.
 table : place_behind outline 0x1000 (Some 0x3002) (record (note 0x1022) { kind = 6 }) ≡ 0x40
 table = refl
 
--- one that is so long that it would leave the area from there follows its section, as any other
+-- A long header, whose bytes would leave the area, moves with its section like others.
 long-table : place_behind outline 0x1000 (Some 0x3002) (record (note 0x1022) { kind = 6; filesz = 0x2000 }) ≡ 0x3002
 long-table = refl
 

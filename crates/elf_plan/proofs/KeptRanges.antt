@@ -1,4 +1,4 @@
--- The ranges that move, one segment further.
+-- The ranges that move, segment by segment.
 use Rattle.std.proofs.Common.{◌≡◌, ◌≢◌, sym, ap, refl, ℕ, ◌+◌, ◌<◌, ◌≤◌, ◌&&◌, ◌||◌, ◌↔◌, inl, inr, ⊎_elim, Bool, true, false}
 use Rattle.std.proofs.Common.{IsTrue, List, [], ◌∷◌, ◌++◌, length, get_or, take, arith, ◌∙◌}
 use Rattle.std.specs.Prelude.{nat_le, if◌then◌else◌, Contains}
@@ -20,12 +20,12 @@ use Rattle.elf_plan.specs.Area.{loads_end}
 use Rattle.elf_plan.specs.Contents.{moves_with, stays}
 use Rattle.elf_plan.specs.KeptBytes.{IsKeptBy}
 
--- some segments load the bytes from one to before another, as some ranges say
+-- The ranges cover the bytes that the segments load.
 abbrev pub AreRanges : ℕ → List Segment → List Extent → Type 0
 AreRanges from segments ranges = (start end : ℕ) →
     IsTrue (list_any (moves_with from start end) segments) ↔ IsInOneExtent ranges start end
 
--- whether the bytes of a segment move
+-- The bytes of a segment move.
 abbrev pub moves : ℕ → Segment → Bool
 moves from p = is_load p && nat_le from p.offset
 
@@ -43,7 +43,7 @@ moves-low from p low = both (is_load p) (nat_le from p.offset) (grind (arith, co
     both true false e = refl
     both false false e = refl
 
--- a segment whose bytes don't move
+-- A segment whose bytes don't move.
 pub ranges-skipped : (from : ℕ) (segments : List Segment) (i : ℕ) (d : Segment) (ranges : List Extent) →
     i < length segments → AreRanges from (take i segments) ranges →
     moves from (get_or segments i d) ≡ false → AreRanges from (take (i + 1) segments) ranges
@@ -67,7 +67,7 @@ ranges-skipped from segments i d ranges within was out start end =
     no_both : (b : Bool) → b ≡ true → b ≡ false → ⊥
     no_both b on off = cc
 
--- one whose bytes move
+-- A segment whose bytes move.
 pub ranges-added : (from : ℕ) (segments : List Segment) (i : ℕ) (d : Segment) (ranges : List Extent) (e : Extent) →
     i < length segments → AreRanges from (take i segments) ranges →
     moves from (get_or segments i d) ≡ true → e.start ≡ (get_or segments i d).offset →
@@ -104,7 +104,7 @@ ranges-added from segments i d ranges e within was there start_is end_is start e
     found true false o start end last e low high = absurd (cc)
     found true true o start end last e low high = grind (arith, common_steps)
 
--- the order doesn't matter
+-- The order doesn't matter.
 pub in_one-permutation : (xs ys : List Extent) (start end : ℕ) → IsPermutation xs ys →
     IsInOneExtent xs start end ↔ IsInOneExtent ys start end
 in_one-permutation xs ys start end there = (
@@ -112,7 +112,7 @@ in_one-permutation xs ys start end there = (
   λ (s, has, low, high). (s, Contains-permutation ys xs s (IsPermutation-sym xs ys there) has, low, high),
 )
 
--- Beside an area behind the executable segment.
+-- Bytes that stay or move, with an area after the executable segment.
 pub stays-behind : (segments : List Segment) (area : Area) (shift : Shift) (start end : ℕ) (ranges : List Extent) →
     area.tight ≡ false →
     IsTrue (list_any (moves_with shift.from start end) segments) ↔ IsInOneExtent ranges start end →

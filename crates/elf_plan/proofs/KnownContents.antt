@@ -1,4 +1,4 @@
--- Where the contents of a section are, by what is known of a file's sections.
+-- The position of a section's contents, from the known facts on a file's sections.
 use Rattle.std.proofs.Common.{◌≡◌, refl, ap, subst, ◌∙◌, cond, ℕ, ◌+◌, suc, Bool, not, Option, Some, None, List, [], ◌∷◌, length, String}
 use Rattle.std.proofs.Common.{Vec}
 use Rattle.std.specs.Prelude.{nat_lt, map, position, string_bytes}
@@ -57,13 +57,13 @@ contents-known elf tables area shift own replaced index s own_is replaced_is =
     (place_of_symbols elf) o given here index s) own_is.symbol_names
     ∙ ap (λ (o : Option ℕ). contents_by (e_shstrndx elf.file.now) (place_of_symbols elf) (place_of_names elf) o here index s) same
 
--- by what is known of a file's sections: where the contents of one are
+-- The position of a section's contents, from these facts.
 abbrev contents_with : OwnSections → List (Option ℕ) → List Segment → Area → Shift → ℕ → Section → Contents
 contents_with own replaced segments area shift i s =
     contents_by own.section_names own.symbols own.symbol_names (position (is_at i) replaced)
     (own_contents segments area shift s) i s
 
--- what is arranged by lists that are those of the file
+-- The results for lists that are those of the file.
 pub arranges : {Y Z : Type 0} (elf : Elf) (tables : List (String Y × Vec ℕ Z)) (area : Area) (shift : Shift)
     (own : OwnSections) (sections : List Section) (segments : List Segment) (replaced : List (Option ℕ)) (kept : KeptBytes)
     (contents : List Contents) (order : List (ℕ × ℕ)) → IsOwnOf elf own → sections ≡ elf.sections.items →

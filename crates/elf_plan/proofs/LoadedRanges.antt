@@ -1,4 +1,4 @@
--- Whether one of some ranges has one of some numbers: the first of these, or it begins among them.
+-- Whether one of some ranges overlaps a range of numbers: it contains the first number, or starts among them.
 use Rattle.std.proofs.Common.{◌≡◌, ◌∙◌, sym, ℕ, ◌+◌, ◌<◌, ◌≤◌, ◌⊎◌, inl, inr, ⊎_elim, true, false, List, length, get_or, arith}
 use Rattle.std.specs.Prelude.{nat_lt, slice_index_or}
 use Rattle.std.specs.List.{list_any}
@@ -11,13 +11,13 @@ use Rattle.elf_image.specs.internal.Extents.{IsInOneExtent}
 use Rattle.elf_plan.specs.LoadedRanges.{AreInOrder, meets}
 
 module _ (sorted reaches : List Extent) (start end : ℕ) (are : AreInOrder sorted reaches) (some : start < end) where
-  -- a range that holds the first number
+  -- A range that contains the first number.
   pub meets-first : IsInOneExtent reaches start (start + 1) → list_any (meets start end) sorted ≡ true
   meets-first held =
       let (s, (k, below, at), low, high) = (are.reach.covered start (start + 1) (omega arith)).0 held in
       list_any-from_Any (meets start end) sorted (k, s, below, at, lt-ltb _ _ (omega arith))
 
-  -- one that begins behind it
+  -- A range that starts after the first number.
   meets-later : (from before : ℕ) → before ≤ length sorted → from < before →
       ((k : ℕ) (d : Extent) → from ≤ k → k < length sorted → start < (slice_index_or sorted k d).start) →
       ((k : ℕ) (d : Extent) → k < before → (slice_index_or sorted k d).start < end) →
@@ -32,7 +32,7 @@ module _ (sorted reaches : List Extent) (start end : ℕ) (are : AreInOrder sort
       let there = sym (get_or_default sorted from d s inside) in
       list_any-from_Any (meets start end) sorted (from, s, inside, there, lt-ltb _ _ (omega arith))
 
-  -- none of either kind
+  -- No range of either kind.
   meets-none : (from before : ℕ) → before ≤ from →
       (IsInOneExtent reaches start (start + 1) → ⊥) →
       ((k : ℕ) (d : Extent) → k < from → (slice_index_or sorted k d).start ≤ start) →
@@ -56,7 +56,7 @@ module _ (sorted reaches : List Extent) (start end : ℕ) (are : AreInOrder sort
           (λ (ends : (get_or sorted k d).end ≤ start). le-ltb _ _ (omega arith))
           (cases_lt start (get_or sorted k d).end)
 
-  -- by how many begin no later than the first number, and below the last
+  -- By the number of ranges that start at or before the first number, and before the end.
   pub meets-is : (from before : ℕ) → before ≤ length sorted → (IsInOneExtent reaches start (start + 1) → ⊥) →
       ((k : ℕ) (d : Extent) → k < from → (slice_index_or sorted k d).start ≤ start) →
       ((k : ℕ) (d : Extent) → from ≤ k → k < length sorted → start < (slice_index_or sorted k d).start) →

@@ -1,4 +1,4 @@
--- The program headers of a written file load what those of the input do, and the new area.
+-- The program headers of a written file load the bytes that those of the input do, and the new area.
 use Rattle.std.proofs.Common.{◌≡◌, ◌∙◌, sym, ap, subst, refl, ℕ, suc, ◌+◌, ◌-◌, ◌≤◌, ◌<◌, ◌⊎◌, inl, inr, List, [], ◌∷◌, ◌++◌}
 use Rattle.std.proofs.Common.{Bool, IsTrue, length, get_or, take, drop, arith, length-append}
 use Rattle.std.specs.Prelude.{Contains}
@@ -10,7 +10,7 @@ use Rattle.elf_image.specs.memory.Image.{is_load}
 use Rattle.elf_plan.specs.NewSegments.{IsNewLoad, IsRenewed, AreRenewed, inserted}
 
 module _ (file_end step end : ℕ) (tight : Bool) (grows : ℕ → Bool) where
-  -- the new headers of loaded segments are among the list
+  -- The new headers of loaded segments are in the list.
   pub renewed-load : (ps qs : List Segment) → AreRenewed file_end step end tight grows ps qs → (p : Segment) → Contains ps p →
       IsTrue (is_load p) → (q : Segment) × Contains qs q × IsNewLoad file_end step p q
   renewed-load ps qs are p (i, below, is) load =
@@ -24,7 +24,7 @@ module _ (file_end step end : ℕ) (tight : Bool) (grows : ℕ → Bool) where
             (renewed.load (subst (λ (s : Segment). IsTrue (is_load s)) (sym is) load)),
       )
 
--- A file with its area in a segment of its own.
+-- A file whose area has its own segment.
 
 pub length-inserted : (at : ℕ) (new : Segment) (xs : List Segment) → at ≤ length xs → length (inserted at new xs) ≡ length xs + 1
 length-inserted at new xs within = grind (arith, common_steps)
@@ -54,7 +54,7 @@ inserted-after at new xs k d within high =
     ∙ get_or-drop at xs (k - at - 1) d
     ∙ ap (λ (j : ℕ). get_or xs j d) back
 
--- what a list has is in one that has more
+-- A member of a list is a member after an insertion.
 pub inserted-contains : (at : ℕ) (new : Segment) (xs : List Segment) (x : Segment) → at ≤ length xs → Contains xs x →
     Contains (inserted at new xs) x
 inserted-contains at new xs x within (i, below, is) = place (cases_lt i at)
@@ -82,7 +82,7 @@ inserted-new at new xs within =
 take-more-at : (ps : List Segment) (n i : ℕ) (d : Segment) → i < n → get_or (take n ps) i d ≡ get_or ps i d
 take-more-at ps n i d below = get_or-take n ps i d below
 
--- as many as of the input
+-- The number of headers is that of the input.
 pub taken-count : (file_end step end : ℕ) (tight : Bool) (grows : ℕ → Bool) (ps qs : List Segment) (n : ℕ) → n < length ps →
     AreRenewed file_end step end tight grows (take n ps) qs → length qs ≡ n
 taken-count file_end step end tight grows ps qs n below are =

@@ -1,4 +1,4 @@
--- Lists whose elements go together, one element further.
+-- Lists whose elements are related pairwise, with one more element.
 use Rattle.std.proofs.Common.{◌≡◌, ◌≢◌, sym, ap, subst, ℕ, ◌+◌, ◌-◌, ◌<◌, ◌≤◌, ⊎_elim, Bool, true, false, cond, List, [], ◌∷◌, ◌++◌, length}
 use Rattle.std.proofs.Common.{get_or, take, arith, ◌∙◌, Some, length-append}
 use Rattle.std.specs.Prelude.{filter, slice_get}
@@ -36,7 +36,7 @@ filter-left p xs i d within no_it =
     filter_more p xs i d within ∙ ap (λ (b : Bool). filter p (take i xs) ++ cond b (get_or xs i d ∷ []) []) no_it
     ∙ append-nil (filter p (take i xs))
 
--- A list whose elements go with those of another by their indices, and one element more.
+-- A list whose elements are related to those of another by index, and one more element.
 pub each-pushed : {A B : Type 0} (R : ℕ → A → B → Type 0) (xs : List A) (ys : List B) (n : ℕ) (y : B) → length ys ≡ n →
     ((i : ℕ) (x : A) (z : B) → slice_get xs i ≡ Some x → slice_get ys i ≡ Some z → R i x z) →
     ((x : A) → slice_get xs n ≡ Some x → R n x y) →
@@ -60,7 +60,7 @@ each-pushed {A} {B} R xs ys n y size old new i x z is_x is_z =
         subst (λ (w : B). R i x w) is
         (subst (λ (k : ℕ). R k x y) (sym at) (new x (subst (λ (k : ℕ). slice_get xs k ≡ Some x) at is_x)))
 
--- the same lists
+-- Equal lists.
 pub together-at : {A B : Type 0} (R : A → B → Type 0) (xs' xs : List A) (ys' ys : List B) → xs' ≡ xs → ys' ≡ ys →
     GoTogether R xs' ys' → GoTogether R xs ys
 together-at R xs' xs ys' ys same_x same_y go = subst (λ v. GoTogether R xs v) same_y (subst (λ v. GoTogether R v ys') same_x go)

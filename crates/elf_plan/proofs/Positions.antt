@@ -1,4 +1,4 @@
--- The first element of a kind, by its place.
+-- The first element with a property, by index.
 use Rattle.std.proofs.Common.{◌≡◌, ◌∙◌, ap, cond, ℕ, ◌≤◌, Bool, Some, None, List, length, arith}
 use Rattle.std.specs.Prelude.{nat_lt, slice_get, find, position}
 use Rattle.std.specs.List.{position_or_len}

@@ -1,4 +1,4 @@
--- The sections that pass a test, as pairs of their offsets and indices, in order.
+-- The sections that pass a test, as sorted pairs of their offsets and indices.
 use Rattle.std.proofs.Common.{◌≡◌, ◌∙◌, sym, subst, ap, refl, ℕ, ◌+◌, ◌-◌, ◌<◌, ◌≤◌, ◌⊎◌, inl, inr, ⊎_elim, ◌↔◌, List, [], ◌∷◌, ◌++◌, Bool}
 use Rattle.std.proofs.Common.{true, false, if◌then◌else◌, Option, Some, None, IsSomeAnd, IsTrue, length, get_or, slice_get, arith}
 use Rattle.std.specs.Prelude.{AllPairs, Contains}
@@ -13,7 +13,7 @@ use Rattle.rv_code.specs.layout.Lists.{IsPairBefore, ListsPairs}
 use Rattle.elf_plan.specs.FileLayout.{PassesAt}
 use Rattle.elf_plan.specs.WrittenSections.{offset_if}
 
--- Pairs in order.
+-- Sorted pairs.
 
 before-trans : (x y z : ℕ × ℕ) → IsPairBefore x y → IsPairBefore y z → IsPairBefore x z
 before-trans x y z (inl p) (inl q) = inl (omega arith)
@@ -21,7 +21,7 @@ before-trans x y z (inl p) (inr (e, q)) = inl (omega arith)
 before-trans x y z (inr (e, p)) (inl q) = inl (omega arith)
 before-trans x y z (inr (e, p)) (inr (f, q)) = inr (e ∙ f, omega arith)
 
--- those below an index
+-- The pairs with an index below n.
 abbrev pub AscendBelow : List (ℕ × ℕ) → ℕ → Type 0
 AscendBelow xs n = (j k : ℕ) (d : ℕ × ℕ) → j < k → k < n → IsPairBefore (get_or xs j d) (get_or xs k d)
 
@@ -61,7 +61,7 @@ passes sections test offset index = of (slice_get sections index)
     of None = ((λ no. absurd no), (λ e. absurd (cc)))
     of (Some s) = by (test index s) s.offset
 
--- A list has those below an index.
+-- A list with the sections that have an index below n.
 abbrev pub ListsBelow : List Section → (ℕ → Section → Bool) → ℕ → List (ℕ × ℕ) → Type 0
 ListsBelow sections test n xs = (e : ℕ × ℕ) → Contains xs e ↔ ((e.1 < n) × PassesAt sections test e)
 
@@ -102,7 +102,7 @@ lists_push sections test i at xs some lists (o, k) = (
         some-same : (a b : ℕ) → Some a ≡ Some b → a ≡ b
         some-same a b e = cc
 
--- All of them, once they are in order.
+-- All sections, after sorting.
 pub lists_all : (sections : List Section) (test : ℕ → Section → Bool) (n : ℕ) (xs sorted : List (ℕ × ℕ)) → length sections ≤ n →
     ListsBelow sections test n xs → IsPermutation xs sorted → AllPairs IsPairBefore sorted →
     ListsPairs (PassesAt sections test) sorted

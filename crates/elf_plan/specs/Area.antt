@@ -1,4 +1,4 @@
--- The new area: the new code, and behind it the tables that are loaded.
+-- The new area: the new code, followed by the loaded tables.
 use Rattle.std.specs.Prelude.{ℕ, ◌+◌, ◌-◌, ◌&&◌, nat_le, nat_lt, max, min, if◌then◌else◌, Bool, List, Option, Some}
 use Rattle.std.specs.Prelude.{None, fold, filter, map}
 use Rattle.std.specs.Option.{option_map_or}
@@ -12,18 +12,18 @@ use Rattle.file_room.specs.Room.{area_start_of, greatest_align, new_segment_star
 
 -- The bytes that the file loads.
 
--- a segment that loads bytes of the file, and where they end there
+-- A segment that loads bytes of the file, and the offset at which these end.
 abbrev pub has_file_bytes : Segment → Bool
 has_file_bytes p = is_load p && nat_lt 0 p.filesz
 
 abbrev pub file_end_of : Segment → ℕ
 file_end_of p = p.offset + p.filesz
 
--- where the last of those bytes ends in the file
+-- The greatest offset at which such bytes end.
 abbrev pub loads_end : List Segment → ℕ
 loads_end segments = fold max 0 (map file_end_of (filter has_file_bytes segments))
 
--- where the first of those bytes starts, of segments that start at `offset` in the file or behind it
+-- The lowest offset at which such bytes start, among segments that start at or after `offset` in the file.
 abbrev pub lower_start : Option ℕ → Segment → Option ℕ
 lower_start None p = Some p.offset
 lower_start (Some low) p = Some (min p.offset low)
@@ -32,7 +32,7 @@ abbrev pub lowest_behind : ℕ → List Segment → Option ℕ
 lowest_behind offset segments = fold lower_start None (filter (λ p. has_file_bytes p && nat_le offset p.offset)
     segments)
 
--- The executable segment, of a file that has one; else a header of zeros.
+-- The executable segment, or a header of zeros if there is none.
 abbrev pub no_segment : Segment
 no_segment = record { kind = 0; flags = 0; offset = 0; vaddr = 0; paddr = 0; filesz = 0; memsz = 0; align = 0 }
 
@@ -42,12 +42,12 @@ code_segment segments = option_map_or (λ e. e.1) (executable_segment segments) 
 abbrev pub code_file_end : List Segment → ℕ
 code_file_end segments = file_end_of (code_segment segments)
 
--- The segment in which the area stands: the executable one, or a new one.
+-- The segment that contains the area: the executable one, or a new one.
 
 abbrev pub segment_address : List Segment → Bool → ℕ
 segment_address segments tight = if tight then new_segment_start segments else (code_segment segments).vaddr
 
--- the offset of that segment in the written file: a new one stands behind all bytes that the file loads
+-- The offset of that segment in the written file. A new one is after all bytes that the file loads.
 abbrev pub segment_offset : List Segment → Bool → ℕ
 segment_offset segments tight =
     if tight
@@ -56,7 +56,7 @@ segment_offset segments tight =
 
 -- The area.
 
--- where a table starts and ends that stands behind `end`; without a size it is none, and nothing is added
+-- The start and the end of a table after `end`. If the size is None, there is no table.
 abbrev pub table_start : ℕ → ℕ → Option ℕ → Option ℕ
 table_start align end None = None
 table_start align end (Some size) = Some (rounded_up align end)
@@ -65,7 +65,7 @@ abbrev pub table_end : ℕ → ℕ → Option ℕ → ℕ
 table_end align end None = end
 table_end align end (Some size) = rounded_up align end + size
 
--- the area, by the sizes of its code, of the unwind table and of its index
+-- The area, from the sizes of its code, of the unwind table and of its index.
 abbrev pub area_of : List Segment → Bool → ℕ → Option ℕ → Option ℕ → Area
 area_of segments tight code frames index =
     let code_end = area_start_of segments tight + code in
@@ -81,14 +81,15 @@ area_of segments tight code frames index =
       end = table_end 4 frames_end index;
     }
 
--- the offset in the written file of the address `a` of the area
+-- The offset in the written file of the address `a` of the area.
 abbrev pub area_offset : Area → ℕ → ℕ
 area_offset area a = area.offset + (a - area.address)
 
--- Where loaded bytes of the input are.
+-- Positions of the input's loaded bytes.
 
--- The bytes at and behind the executable segment's end move by the least multiple of the greatest alignment
--- that makes room for the area. Where the area has a segment of its own none moves.
+-- The bytes at and after the executable segment's end move by the least multiple of the greatest alignment that makes
+-- room
+-- for the area. None moves if the area has its own segment.
 abbrev pub step_of : List Segment → Area → ℕ
 step_of segments area =
     if area.tight

@@ -1,5 +1,5 @@
--- How a written file is laid out: the fields of its header, its table of program headers, and what stands behind
--- the bytes that it loads. gABI, "ELF Header", "Program Header" and "Section Header".
+-- The layout of a written file: its header fields, its table of program headers, and the parts after the bytes that it
+-- loads. gABI, "ELF Header", "Program Header" and "Section Header".
 use Rattle.std.specs.Prelude.{◌≡◌, ℕ, ◌+◌, ◌-◌, ◌*◌, ◌||◌, nat_lt, max, if◌then◌else◌, Bool, false, true, List, [], ◌∷◌}
 use Rattle.std.specs.Prelude.{◌++◌, IsSomeAnd, IsTrue, String, Vec, length, map, slice_get, slice_range}
 use Rattle.std.specs.List.{list_any}
@@ -21,17 +21,17 @@ use Rattle.elf_plan.specs.Area.{loads_end, lowest_behind, moved_by, area_offset}
 use Rattle.elf_plan.specs.Contents.{contents_of}
 use Rattle.elf_plan.specs.NewSections.{adds_ranges}
 
--- The fields of the header that stay: all but e_entry, e_phoff, e_shoff, e_phnum and e_shnum. NewSections says so of
--- e_shstrndx.
+-- The header fields that don't change: all except e_entry, e_phoff, e_shoff, e_phnum and e_shnum. NewSections says that
+-- e_shstrndx doesn't change.
 pub record KeepsHeaderFields (file w : List ℕ) : Type 0 where
-  -- e_ident, e_type, e_machine and e_version
+  -- e_ident, e_type, e_machine and e_version.
   pub kind : slice_range w 0 0x18 ≡ slice_range file 0 0x18
-  -- e_flags, e_ehsize and e_phentsize
+  -- e_flags, e_ehsize and e_phentsize.
   pub flags : slice_range w 0x30 0x38 ≡ slice_range file 0x30 0x38
-  -- e_shentsize
+  -- e_shentsize.
   pub entries : slice_range w 0x3a 0x3c ≡ slice_range file 0x3a 0x3c
 
--- Where the loaded bytes end: with the area, or with the bytes that moved behind it.
+-- The end of the loaded bytes: the end of the area, or of the bytes that moved after it.
 abbrev pub loaded_end : List Segment → Area → Shift → ℕ
 loaded_end segments area shift =
     if area.tight
@@ -41,23 +41,24 @@ loaded_end segments area shift =
 
 -- The table of program headers.
 
--- The table of the input, and whether it stands among bytes that are kept or move: before the end of the executable
--- segment, or whole in a loaded one.
+-- The table of the input, and whether it is among bytes that are kept or moved: it starts before the end of the
+-- executable
+-- segment, or is completely loaded by a segment.
 abbrev pub table_of : Elf → Range
 table_of elf = record { start = elf.phoff; size = PHDR_SIZE * length elf.segments.items }
 
 abbrev pub is_kept_table : Elf → Shift → Bool
 is_kept_table elf shift = nat_lt elf.phoff shift.from || list_any (loads_range (table_of elf)) elf.segments.items
 
--- Where the table stands in the written file: at the front of the area's own segment, or with the bytes beside it, or
--- else behind the loaded bytes.
+-- The offset of the table in the written file: at the start of the area's own segment, or with the bytes around it, or
+-- otherwise after the loaded bytes.
 abbrev pub table_place : Elf → Area → Shift → ℕ
 table_place elf area shift =
     if area.tight then area.offset
     else if is_kept_table elf shift then moved_by shift.from shift.by elf.phoff
     else rounded_up 8 (loaded_end elf.segments.items area shift)
 
--- The contents of sections that are written behind the loaded bytes.
+-- The contents of sections that are written after the loaded bytes.
 
 abbrev pub is_written : Contents → Bool
 is_written Dropped = false
@@ -65,32 +66,33 @@ is_written Inactive = false
 is_written Kept = false
 is_written _ = true
 
--- where these contents begin: the table of program headers may stand before them
+-- The offset at which these contents start. The table of program headers may come before them.
 abbrev pub contents_start : Elf → Area → Shift → ℕ
 contents_start elf area shift =
     if area.tight || is_kept_table elf shift
     then loaded_end elf.segments.items area shift
     else table_place elf area shift + (table_of elf).size
 
--- The section at the index `place.1` has the offset `place.0`, and passes `test`.
+-- The section with index `place.1` has the offset `place.0`, and passes `test`.
 abbrev pub PassesAt : List Section → (ℕ → Section → Bool) → ℕ × ℕ → Type 0
 PassesAt sections test place = IsSomeAnd (slice_get sections place.1)
     (λ s. (s.offset ≡ place.0) × IsTrue (test place.1 s))
 
--- The contents of the section at `index` stand at the least multiple of their alignment, where 0 means none, at or
--- behind `start`, and end at `end`.
+-- The contents of the section with index `index` are at the least multiple of their alignment (0 means none) at or
+-- after
+-- `start`, and end at `end`.
 abbrev pub StandsBehind : List Section → ℕ → ℕ → ℕ → Type 0
 StandsBehind sections start index end =
     IsSomeAnd (slice_get sections index) (λ n. (n.offset ≡ rounded_up (max 1 n.align) start)
     × (end ≡ n.offset + n.size))
 
--- the contents of the sections at `indices` stand so, one behind another
+-- The contents of the sections with these indices follow one another in this way.
 abbrev pub StandFrom : List Section → ℕ → List ℕ → ℕ → Type 0
 StandFrom sections start [] end = end ≡ start
 StandFrom sections start (index ∷ indices) end =
     (next : ℕ) × (StandsBehind sections start index next × StandFrom sections next indices end)
 
--- the index of the table of ranges, which comes last, if it is added
+-- The index of the table of ranges, which is the last section, if it is added.
 abbrev pub added_ranges : Bool → ℕ → List ℕ
 added_ranges adds count = if adds then (count - 1) ∷ [] else []
 
@@ -99,14 +101,14 @@ pub record HasFileLayout {Y Z : Type 0} (elf new : Elf) (tables : List (String Y
     : Type 0 where
   pub header : KeepsHeaderFields elf.file.now new.file.now
   pub table : e_phoff new.file.now ≡ table_place elf area shift
-  -- the sections whose contents are written, in the order of their offsets in the input
+  -- The sections whose contents are written, in the order of their offsets in the input.
   pub order : List (ℕ × ℕ)
   pub lists : ListsPairs (PassesAt elf.sections.items (λ i s. is_written (contents_of elf tables area shift i s))) order
-  -- where these contents stand, and where they end
+  -- The end of these contents.
   pub end : ℕ
   pub stand : StandFrom new.sections.items (contents_start elf area shift)
       (map (λ place. place.1) order ++ added_ranges (adds_ranges elf.sections.items tables) (length new.sections.items))
       end
-  -- The section headers come last.
+  -- The section headers are at the end of the file.
   pub headers : e_shoff new.file.now ≡ rounded_up 8 end
   pub size : length new.file.now ≡ e_shoff new.file.now + SHDR_SIZE * length new.sections.items

@@ -6,7 +6,7 @@ use Rattle.elf_plan.specs.declared.fragments.Fragment.{Fragment}
 use Rattle.rv_code.specs.layout.FunctionMembers.{function_at}
 use Rattle.elf_plan.specs.Fragments.{HasByte}
 
--- `r` lies before `s`, and doesn't meet it if both are of one function
+-- `r` is before `s`, and isn't adjacent to it if both are of the same function.
 pub record Apart (r s : Fragment) : Type 0 where
   pub before : r.end ≤ s.start
   pub gap : r.func ≡ s.func → r.end < s.start
@@ -15,7 +15,7 @@ pub record AreSorted (fragments : List Fragment) : Type 0 where
   pub some : All (λ r. r.start < r.end) fragments
   pub apart : AllPairs Apart fragments
 
--- one of the fragments has the bytes of the function `f` from `start` to before `end`
+-- One of the fragments contains the bytes from `start` to before `end`, of function `f`.
 pub record HasBytes (fragments : List Fragment) (f start end : ℕ) : Type 0 where
   pub fragment : Fragment
   pub there : Contains fragments fragment
@@ -33,7 +33,7 @@ pub record AreFragments (funcs : List Func) (spans : List Span) (fragments : Lis
   pub held : All (λ s. 0 < s.len → HasSpan funcs fragments s) spans
   pub filled : (r : Fragment) → Contains fragments r → (b : ℕ) → r.start ≤ b → b < r.end → HasByte funcs spans r.func b
 
--- `fragment` was added to `old`
+-- `fragment` was added to `old`.
 pub record Grows (old : List Fragment) (fragment : Fragment) (new : List Fragment) : Type 0 where
   pub sorted : AreSorted old → AreSorted new
   pub keeps : (f start end : ℕ) → HasBytes old f start end → HasBytes new f start end

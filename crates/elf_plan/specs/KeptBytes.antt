@@ -1,5 +1,4 @@
--- The bytes of the input that keep their offsets in a written file, or move with the segments behind the executable
--- one.
+-- The bytes of the input that keep their offsets in a written file, or move with the segments after the executable one.
 use Rattle.std.specs.Prelude.{ℕ, ◌≤◌, ◌<◌, ◌⊎◌, ◌↔◌, IsTrue, List}
 use Rattle.elf_image.specs.declared.extent.Extent.{Extent}
 use Rattle.elf_image.specs.declared.segment.Segment.{Segment}
@@ -9,7 +8,7 @@ use Rattle.elf_plan.specs.declared.area.Shift.{Shift}
 use Rattle.elf_plan.specs.declared.kept_bytes.KeptBytes.{KeptBytes}
 use Rattle.elf_plan.specs.Contents.{stays}
 
--- the bytes from `start` to before `end` stand before `front`, or in one range of `moved`
+-- The bytes from `start` to before `end` are before `front`, or in one range of `moved`.
 abbrev pub IsKeptBy : ℕ → List Extent → ℕ → ℕ → Type 0
 IsKeptBy front moved start end = (end ≤ front) ⊎ IsInOneExtent moved start end
 

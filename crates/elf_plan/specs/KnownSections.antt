@@ -1,4 +1,4 @@
--- What is known of the sections of a file before it is written.
+-- The sections with a special use, which are known before a file is written.
 use Rattle.std.specs.Prelude.{◌≡◌}
 use Rattle.elf_image.specs.declared.elf.Elf.{Elf}
 use Rattle.elf_image.specs.file.Header.{e_shstrndx}

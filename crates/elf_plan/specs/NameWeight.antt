@@ -10,7 +10,7 @@ use Rattle.elf_plan.specs.NameTables.{names_of_sections, names_of_symbols, size_
 use Rattle.file_room.specs.Numbers.{capped}
 use Rattle.elf_plan.specs.OldNames.{is_renamed}
 
--- a bound on the bytes of a name that is written anew, with a mark before or behind it and a zero byte
+-- A bound on the bytes of a changed name: with a prefix or a suffix, and a zero byte.
 abbrev pub weight_of : List ℕ → ℕ
 weight_of name = 8 + length name
 
@@ -20,8 +20,7 @@ section_weight s = if is_renamed s then weight_of s.name.now else 0
 abbrev pub cold_weight : List Symbol → List Func → ℕ → ℕ
 cold_weight symbols funcs a = option_map_or (λ s. weight_of s.name.now) (named_around symbols funcs a) 0
 
--- The old tables, the new names, and 64 for those of new sections.
--- `cold` has the addresses of the cold parts.
+-- The old tables, the new names, and 64 bytes for those of new sections. `cold` has the addresses of the cold parts.
 abbrev pub name_weight : Elf → List Func → List ℕ → ℕ
 name_weight elf funcs cold =
     capped

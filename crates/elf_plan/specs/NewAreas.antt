@@ -1,4 +1,4 @@
--- The new area of a written file, by its new code and its tables.
+-- The new area of a written file, from its new code and its tables.
 use Rattle.std.specs.Prelude.{ℕ, Bool, List, String, Vec, codes, length}
 use Rattle.elf_image.specs.declared.elf.Elf.{Elf}
 use Rattle.elf_plan.specs.declared.area.Area.{Area}

@@ -1,4 +1,4 @@
--- The sections of a written file, beside those of its input. gABI, "Section Header".
+-- The sections of a written file: those of its input and new ones. gABI, "Section Header".
 use Rattle.std.specs.Prelude.{◌≡◌, ℕ, ◌+◌, ◌-◌, ◌%◌, ◌==◌, ◌&&◌, is_none, is_some, min, max, if◌then◌else◌, Bool, List}
 use Rattle.std.specs.Prelude.{[], Some, IfSome, IsTrue, String, Vec, string_bytes, codes, find, length, slice_get}
 use Rattle.std.specs.Option.{option_map_or}
@@ -24,31 +24,32 @@ use Rattle.elf_plan.specs.OldNames.{new_name}
 
 -- Sections of the input.
 
--- What stays of the header of a section that isn't dropped.
+-- The fields that don't change in the header of a section that isn't dropped.
 pub record KeepsFields (s n : Section) : Type 0 where
   pub addr : n.addr ≡ s.addr
   pub link : n.link ≡ s.link
   pub align : n.align ≡ s.align
   pub entsize : n.entsize ≡ s.entsize
 
--- all of a header stays, but for its type and what it says of the contents
+-- The whole header is unchanged, except its type and the fields for the contents.
 pub record KeepsHeader (s n : Section) : Type 0 where
   pub fields : KeepsFields s n
   pub flags : n.flags ≡ s.flags
   pub info : n.info ≡ s.info
 
--- the contents stand at the section's alignment, where 0 means none
+-- The contents are at the section's alignment, where 0 means none.
 abbrev pub IsAligned : Section → Type 0
 IsAligned n = n.offset % max 1 n.align ≡ 0
 
--- the contents of the section are `bytes`
+-- The contents of the section are `bytes`.
 pub record HoldsContents (w bytes : List ℕ) (n : Section) : Type 0 where
   pub contents : section_bytes w n ≡ bytes
   pub size : n.size ≡ length bytes
   pub aligned : IsAligned n
 
--- What is left of a section that is dropped is a header of no section, which says nothing but its name. Where it was
--- loaded and has the name of a debug table, it still says that it is loaded, since the name would mean it otherwise.
+-- A dropped section becomes a null header that only keeps its name. If it was loaded and has the name of a debug table,
+-- it
+-- keeps the flag of a loaded section, since otherwise the name would refer to it.
 abbrev pub flags_left : Section → ℕ
 flags_left s = if is_loaded s && names_debug s.name.now then SHF_ALLOC else 0
 
@@ -63,27 +64,27 @@ pub record IsDropped (s n : Section) : Type 0 where
   pub align : n.align ≡ 0
   pub entsize : n.entsize ≡ 0
 
--- A header of no section that the input has says what it said, but no offset past the end of the file.
+-- A null header of the input is unchanged, except that its offset is at most the end of the file.
 pub record IsInactive (w : List ℕ) (s n : Section) : Type 0 where
   pub kind : n.kind ≡ s.kind
   pub same : KeepsHeader s n
   pub offset : n.offset ≡ min s.offset (length w)
   pub size : n.size ≡ s.size
 
--- Contents that are kept move as loaded bytes do, but not past the end of the file.
+-- Contents that are kept move with the loaded bytes, but at most to the end of the file.
 pub record IsKept (shift : Shift) (w : List ℕ) (s n : Section) : Type 0 where
   pub kind : n.kind ≡ s.kind
   pub same : KeepsHeader s n
   pub offset : n.offset ≡ min (moved_by shift.from shift.by s.offset) (length w)
   pub size : n.size ≡ s.size
 
--- Other contents are written anew, or as they were.
+-- Other contents are replaced or copied.
 pub record HasNewContents (w bytes : List ℕ) (kind : ℕ) (s n : Section) : Type 0 where
   pub kind_is : n.kind ≡ kind
   pub same : KeepsHeader s n
   pub contents : HoldsContents w bytes n
 
--- Tables of symbols and names hold no instructions, and have contents.
+-- Tables of symbols and names have no instructions, and have contents.
 abbrev pub without_code : ℕ → ℕ
 without_code flags = if holds_code flags then flags - SHF_EXECINSTR else flags
 
@@ -103,11 +104,11 @@ pub record IsNameTable (s n : Section) : Type 0 where
 abbrev pub kind_of_given : ℕ → ℕ
 kind_of_given kind = if kind == SHT_NOBITS then SHT_PROGBITS else kind
 
--- the bytes of the table at the index `t`
+-- The bytes of the table with index `t`.
 abbrev pub given_bytes : {Y Z : Type 0} → List (String Y × Vec ℕ Z) → ℕ → List ℕ
 given_bytes tables t = option_map_or (λ table. table.1.items) (slice_get tables t) []
 
--- The section `n` is what `s` becomes, by where its contents are.
+-- The section `n` is the new form of `s`, depending on the position of its contents.
 abbrev pub Follows : {Y Z : Type 0} → List (String Y × Vec ℕ Z) → Shift → List ℕ → List ℕ → Contents → Section →
     Section → Type 0
 Follows tables shift file w Dropped s n = IsDropped s n
@@ -119,7 +120,7 @@ Follows tables shift file w Symbols s n = IsOwn s n
 Follows tables shift file w SymbolNames s n = IsNameTable s n
 Follows tables shift file w (Given t) s n = HasNewContents w (given_bytes tables t) (kind_of_given s.kind) s n
 
--- Sections that are added.
+-- New sections.
 
 pub record IsHeader (name : List ℕ) (flags addr align : ℕ) (n : Section) : Type 0 where
   pub name_is : n.name.now ≡ name
@@ -136,22 +137,22 @@ pub record IsAdded (w name bytes : List ℕ) (flags addr align : ℕ) (n : Secti
   pub contents : section_bytes w n ≡ bytes
   pub size : n.size ≡ length bytes
 
--- a section that is added in the new area
+-- A new section in the new area.
 pub record IsInArea (w : List ℕ) (area : Area) (name bytes : List ℕ) (flags addr align : ℕ) (n : Section) : Type 0 where
   pub added : IsAdded w name bytes flags addr align n
   pub offset : n.offset ≡ area_offset area addr
 
--- the bytes of the first table called `name`; none where there is no such table
+-- The bytes of the first table called `name`, or no bytes if there is no such table.
 abbrev pub bytes_called : {Y Z : Type 0} → List (String Y × Vec ℕ Z) → List ℕ → List ℕ
 bytes_called tables name = option_map_or (λ t. t.1.items) (find (λ t. bytes_eq (string_bytes t.0) name) tables) []
 
--- A table of ranges is added where one is given and the input has none.
+-- A table of ranges is added if one is given and the input has none.
 abbrev pub adds_ranges : {Y Z : Type 0} → List Section → List (String Y × Vec ℕ Z) → Bool
 adds_ranges sections tables =
     is_some (find (λ t. bytes_eq (string_bytes t.0) (codes ".debug_rnglists")) tables)
     && is_none (section_called sections (codes ".debug_rnglists"))
 
--- P holds of the section at `index`, if there is one
+-- P holds for the section at `index`, if there is one.
 abbrev pub At : List Section → ℕ → (Section → Type 0) → Type 0
 At sections index P = IfSome (slice_get sections index) P
 

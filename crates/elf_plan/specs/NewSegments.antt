@@ -1,4 +1,4 @@
--- How the program headers of a written file follow those of the input.
+-- The program headers of a written file, compared with those of the input.
 use Rattle.std.specs.Prelude.{◌≡◌, ◌⊎◌, ℕ, ◌+◌, ◌-◌, ◌<◌, ◌≤◌, ◌&&◌, ◌==◌, not, Bool, true, false, List, ◌∷◌, ◌++◌}
 use Rattle.std.specs.Prelude.{take, drop, length, IsTrue, slice_index_or}
 use Rattle.elf_image.specs.declared.segment.Segment.{Segment}
@@ -9,12 +9,11 @@ use Rattle.elf_plan.specs.declared.segments.TheConstants.{PT_PHDR}
 use Rattle.elf_plan.specs.Area.{moved_by}
 use Rattle.file_room.specs.Room.{greatest_align}
 
--- no bytes of a header begin before an offset and end behind it
+-- The bytes of a header don't start before an offset and end after it.
 abbrev pub CrossesNot : ℕ → Segment → Type 0
 CrossesNot file_end p = (p.offset < file_end) → p.offset + p.filesz ≤ file_end
 
--- A loaded segment of the input, and what it is in the written file:
--- its bytes have moved, and it may have grown.
+-- A loaded segment of the input, and its form in the written file: its bytes have moved, and it may have grown.
 pub record IsNewLoad (file_end step : ℕ) (p q : Segment) : Type 0 where
   pub kind : q.kind ≡ p.kind
   pub flags : q.flags ≡ p.flags
@@ -23,18 +22,18 @@ pub record IsNewLoad (file_end step : ℕ) (p q : Segment) : Type 0 where
   pub sizes : ((q.filesz ≡ p.filesz) × (q.memsz ≡ p.memsz))
       ⊎ ((p.memsz ≡ p.filesz) × (p.filesz ≤ q.filesz) × (q.memsz ≡ q.filesz))
 
--- headers that name what is new: the unwind table's index, and in a tight file the table of program headers
+-- Headers for new parts: the unwind table's index and, in a tight file, the table of program headers.
 abbrev pub NamesNew : Bool → ℕ → Type 0
 NamesNew tight kind = (kind ≡ PT_GNU_EH_FRAME) ⊎ ((tight ≡ true) × (kind ≡ PT_PHDR))
 
--- A header of the input and that of the written file. Only the executable segment may grow, to an end.
+-- A header of the input and its form in the written file. Only the executable segment may grow, up to `end`.
 pub record IsRenewed (file_end step end : ℕ) (tight grows : Bool) (p q : Segment) : Type 0 where
   pub kind : q.kind ≡ p.kind
   pub load : IsTrue (is_load p) → IsNewLoad file_end step p q
   pub same : IsTrue (is_load p) → grows ≡ false → q.memsz ≡ p.memsz
   pub grown : grows ≡ true → end_of q ≡ end
   pub place : grows ≡ true → q.offset ≡ p.offset
-  -- what it says else
+  -- Other fields.
   pub flags : q.flags ≡ p.flags
   pub align : q.align ≡ p.align
   pub offset : (NamesNew tight p.kind → ⊥) → p.offset < file_end → q.offset ≡ p.offset
@@ -42,13 +41,13 @@ pub record IsRenewed (file_end step end : ℕ) (tight grows : Bool) (p q : Segme
   pub paddr : (NamesNew tight p.kind → ⊥) → q.paddr ≡ p.paddr
   pub sizes : (NamesNew tight p.kind → ⊥) → grows ≡ false → (q.filesz ≡ p.filesz) × (q.memsz ≡ p.memsz)
 
--- each header of a list, by its index
+-- Each header of a list, by index.
 pub record AreRenewed (file_end step end : ℕ) (tight : Bool) (grows : ℕ → Bool) (ps qs : List Segment) : Type 0 where
   pub count : length qs ≡ length ps
   pub each : (i : ℕ) (d e : Segment) → i < length ps →
       IsRenewed file_end step end tight (grows i) (slice_index_or ps i d) (slice_index_or qs i e)
 
--- A segment whose bytes all come from the file, with the area behind it.
+-- A segment whose bytes all come from the file, and which can be extended by the area.
 pub record CanGrow (file_end end : ℕ) (p : Segment) : Type 0 where
   pub whole : p.memsz ≡ p.filesz
   pub ends : end_of p ≤ end
@@ -61,11 +60,11 @@ abbrev pub CanGrowAt : ℕ → ℕ → Bool → ℕ → List Segment → Type 0
 CanGrowAt file_end end tight code ps =
     tight ≡ false → (d : Segment) → code < length ps → CanGrow file_end end (slice_index_or ps code d)
 
--- The executable segment, of an index, grows where the area stands behind it.
+-- The executable segment, with index `code`, grows if the area is after it.
 abbrev pub grows_at : Bool → ℕ → ℕ → Bool
 grows_at tight code i = not tight && (i == code)
 
--- the header of a segment of the area's own, which may be read and executed
+-- The header of the area's own segment, which is readable and executable.
 abbrev pub area_segment : Area → ℕ → Segment
 area_segment area align = record {
   kind = PT_LOAD;
@@ -81,8 +80,7 @@ area_segment area align = record {
 abbrev pub inserted : ℕ → Segment → List Segment → List Segment
 inserted at new segments = take at segments ++ (new ∷ drop at segments)
 
--- All headers: those of the input, and where the area has a segment of its own, one more behind the last that is
--- loaded.
+-- All headers: those of the input and, if the area has its own segment, one more after the last PT_LOAD.
 pub record AreNewHeaders (file_end step : ℕ) (area : Area) (code : ℕ) (ps qs : List Segment) : Type 0 where
   pub renewed : List Segment
   pub are : AreRenewed file_end step area.end area.tight (grows_at area.tight code) ps renewed

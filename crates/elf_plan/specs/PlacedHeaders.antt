@@ -1,4 +1,4 @@
--- What is made of the program headers of the input, by what they follow.
+-- The new program headers, from the values that they depend on.
 use Rattle.std.specs.Prelude.{◌≡◌, ℕ, List, Some, slice_get}
 use Rattle.elf_image.specs.declared.section.Section.{Section}
 use Rattle.elf_image.specs.declared.segment.Segment.{Segment}
@@ -17,7 +17,7 @@ outline places = record {
   file_size = places.file_size;
 }
 
--- what each header of the input is in the written file
+-- The new form of each header of the input.
 abbrev pub AreNewEach : Places → ℕ → List Segment → Type 0
 AreNewEach places code qs = (contents : ℕ → Section → Contents) →
     AreContents contents places.elf.now.sections.items places.contents.now →
@@ -26,7 +26,7 @@ AreNewEach places code qs = (contents : ℕ → Section → Contents) →
     (outline places)
     (grows_at places.area.tight code i) p q
 
--- all headers; `code` is the index of the executable segment's
+-- All headers. `code` is the index of the executable segment's header.
 pub record AreMade (places : Places) (code : ℕ) (qs : List Segment) : Type 0 where
   pub headers : AreNewHeaders places.shift.from places.shift.by places.area code places.elf.now.segments.items qs
   pub each : AreNewEach places code headers.renewed

@@ -6,7 +6,7 @@ use Rattle.elf_plan.specs.declared.range_tree.Node.TheVariants.{Leaf, Fork}
 use Rattle.elf_plan.specs.declared.range_tree.RangeTree.TheDeep.{deep-Node}
 use Rattle.elf_plan.specs.RangeTree.{ranges_of}
 
--- no side is deeper than the node has ranges
+-- The depth of a node is at most its number of ranges.
 pub depth_le-length : (n : Node) → max (deep-Node n) 0 ≤ length (ranges_of n)
 depth_le-length Leaf = omega arith
 depth_le-length (Fork before range behind reaches) = omega (arith, length-append before.value (range ∷ behind.value))

@@ -1,4 +1,4 @@
-// The new area, and where the loaded bytes of the input are beside it.
+// The new area, and the new positions of the input's loaded bytes.
 ghost use Rattle.std.specs.Prelude.{◌≡◌, ◌+◌, ◌^◌, ◌<◌, ℕ, IfOk, Some};
 ghost use Rattle.elf_image.specs.memory.Break.{rounded_up};
 ghost use Rattle.elf_image.specs.memory.CodeSegment.{executable_segment, executable_end};
@@ -11,24 +11,24 @@ use elf_image::segment::PT_LOAD;
 use file_room::{area_start_of, greatest_align, new_segment_start};
 use rb_bytes::fault::NoMemory;
 
-// The alignments of the unwind table and of its index. `elf_make` and `elf_check` name the same ones.
+// The alignments of the unwind table and of its index. `elf_make` and `elf_check` use the same ones.
 const FRAMES_ALIGN: u64 = 8;
 
 const INDEX_ALIGN: u64 = 4;
 
-/// The new area: the new code, and behind it the tables that are loaded.
+/// The new area: the new code, followed by the loaded tables.
 #[derive(Clone, Copy)]
 pub struct Area {
-    /// Whether it stands in a segment of its own, for want of room behind the executable one.
+    /// Whether the area has its own segment, since there is not enough room after the executable one.
     pub tight: bool,
-    /// The address of its segment.
+    /// The address of the segment with the area.
     pub address: u64,
     /// The offset of that segment in the written file.
     pub offset: u64,
     /// The addresses at which the new code starts and ends.
     pub start: u64,
     pub code_end: u64,
-    /// The addresses of the unwind table and of its index, where there are such tables.
+    /// The addresses of the unwind table and of its index, if there are such tables.
     pub frames: Option<u64>,
     pub index: Option<u64>,
     /// The address at which the area ends.
@@ -38,7 +38,7 @@ pub struct Area {
 impl Area {
     ghost use Rattle.elf_plan.specs.Area.{area_offset};
 
-    /// The offset in the written file of the byte at `address`, which lies in the area.
+    /// The offset in the written file of the byte at `address` of the area.
     pub fn offset_of(&self, address: u64) -> Result<u64, Unwritable>
         ensures { IfOk result (λ offset. offset ≡ area_offset self.now address) }
     {
@@ -60,7 +60,7 @@ fn file_end_of(p: &Segment) -> u128
     p.offset as u128 + p.filesz as u128
 }
 
-/// The greatest offset at which the bytes of a loaded segment end in the file; 0 where none has bytes there.
+/// The greatest offset at which the bytes of a loaded segment end in the file, or 0 if no segment has bytes.
 pub fn loads_end(segments: &[Segment]) -> Result<u64, Unwritable>
     ensures { IfOk result (λ end. end ≡ spec.loads_end segments.now) }
 {
@@ -89,7 +89,7 @@ pub fn lowest_behind(segments: &[Segment], offset: u64) -> Option<u64>
     low
 }
 
-// The address of the area's segment.
+// The address of the segment with the area.
 fn segment_address(segments: &[Segment], code: &Segment, tight: bool) -> Result<u64, Unwritable>
     requires { code.now ≡ spec.code_segment segments.now }
     ensures { IfOk result (λ address. address ≡ spec.segment_address segments.now tight) }
@@ -101,7 +101,7 @@ fn segment_address(segments: &[Segment], code: &Segment, tight: bool) -> Result<
     }
 }
 
-// The offset of the area's segment in the written file.
+// The offset of the segment with the area in the written file.
 fn segment_offset(segments: &[Segment], code: &Segment, tight: bool) -> Result<u64, Unwritable>
     requires { code.now ≡ spec.code_segment segments.now }
     ensures { IfOk result (λ offset. offset ≡ spec.segment_offset segments.now tight) }
@@ -113,7 +113,7 @@ fn segment_offset(segments: &[Segment], code: &Segment, tight: bool) -> Result<u
     }
 }
 
-// Where a table starts that stands behind `end`; None without a size, which is no table.
+// The start of a table after `end`, or None if there is no table.
 fn table_start(align: u64, end: u64, size: Option<usize>) -> Result<Option<u64>, Unwritable>
     requires { 0 < align }
     ensures { IfOk result (λ start. start ≡ spec.table_start align end size) }
@@ -124,7 +124,7 @@ fn table_start(align: u64, end: u64, size: Option<usize>) -> Result<Option<u64>,
     }
 }
 
-// Where a table ends that stands behind `end`; `end` itself without a size, which is no table.
+// The end of a table after `end`, or `end` if there is no table.
 fn table_end(align: u64, end: u64, size: Option<usize>) -> Result<u64, Unwritable>
     requires { 0 < align }
     ensures { IfOk result (λ after. after ≡ spec.table_end align end size) }
@@ -135,8 +135,9 @@ fn table_end(align: u64, end: u64, size: Option<usize>) -> Result<u64, Unwritabl
     }
 }
 
-/// The area for `code` bytes of new code, and behind it an unwind table of `frames` bytes and its index of `index`
-/// bytes, each where it has a size. `executable` is the executable segment; `tight` says whether the area gets its own.
+/// The area for `code` bytes of new code, followed by an unwind table of `frames` bytes and its index of `index` bytes,
+/// if
+/// these are given. `executable` is the executable segment. `tight` says whether the area gets its own segment.
 pub fn area_of(
     segments: &[Segment],
     executable: &Segment,
@@ -163,8 +164,9 @@ pub fn area_of(
     })
 }
 
-/// The addresses of an unwind table of `frames` bytes and of its index, behind `code` bytes of new code from `start`
-/// on: those that `area_of` gives them. Addresses that don't fit 64 bits are answered as want of memory.
+/// The addresses that `area_of` gives to an unwind table of `frames` bytes and its index, after `code` bytes of new
+/// code
+/// from `start` on. `NoMemory` if an address doesn't fit 64 bits.
 pub fn table_places(start: u64, code: usize, frames: usize) -> Result<(u64, u64), NoMemory>
     ensures frames { IfOk result (λ places. spec.table_start 8 (start + code) (Some frames) ≡ Some places.0) }
     ensures index { IfOk result (λ places. (index : ℕ) →
@@ -182,19 +184,19 @@ fn places_behind(start: u64, code: usize, frames: usize) -> Result<(u64, u64), U
     Ok((at, index_at))
 }
 
-/// Where bytes of the input are in the written file: those from the offset `from` on stand `by` bytes higher.
+/// The positions of the input's bytes in the written file: the bytes from the offset `from` on move up by `by` bytes.
 #[derive(Clone, Copy)]
 pub struct Shift {
     /// The offset at which the executable segment ends in the input.
     pub from: u64,
-    /// How many bytes they move: a multiple of the greatest alignment of a segment, or 0.
+    /// The distance: a multiple of the greatest alignment of a segment, or 0.
     pub by: u64,
 }
 
 impl Shift {
     ghost use Rattle.elf_plan.specs.Area.{code_segment, moved_by, shift_of};
 
-    /// How the bytes behind the executable segment make room for `area`.
+    /// The distance that makes room for `area` before the bytes after the executable segment.
     pub fn new(segments: &[Segment], executable: &Segment, area: &Area) -> Result<Shift, Unwritable>
         requires { executable.now ≡ code_segment segments.now }
         ensures { IfOk result (λ shift. shift ≡ shift_of segments.now area.now) }
@@ -206,7 +208,7 @@ impl Shift {
         })
     }
 
-    /// Where the byte at `offset` went, as a number that may pass 64 bits.
+    /// The new offset of the byte at `offset`, which may have more than 64 bits.
     pub fn reach(&self, offset: u64) -> u128
         ensures is { result ≡ moved_by self.now.from self.now.by offset }
         ensures low { result < 2 ^ 65 }
@@ -218,7 +220,7 @@ impl Shift {
         }
     }
 
-    /// Where the byte at `offset` went, or `Layout` where that passes 64 bits.
+    /// The new offset of the byte at `offset`, or `Layout` if it doesn't fit 64 bits.
     pub fn moved(&self, offset: u64) -> Result<u64, Unwritable>
         ensures { IfOk result (λ o. o ≡ moved_by self.now.from self.now.by offset) }
     {
@@ -230,7 +232,7 @@ impl Shift {
     }
 }
 
-// How far the bytes from the offset `from` on move, so that `area` ends before the first of them that is loaded.
+// The distance by which the bytes from the offset `from` on move, so that `area` ends before the first loaded one.
 fn step_of(segments: &[Segment], from: u64, area: &Area) -> Result<u64, Unwritable>
     requires { from ≡ spec.code_file_end segments.now }
     ensures { IfOk result (λ step. step ≡ spec.step_of segments.now area.now) }

@@ -1,4 +1,4 @@
-// The symbols by which functions are called.
+// The symbols that give functions their names.
 ghost use Rattle.std.specs.Prelude.{◌≡◌, IfOk, List};
 ghost use Rattle.rv_code.specs.layout.FunctionLists.{AreLaidOut};
 ghost use Rattle.elf_image.specs.declared.symbol.Symbol.{Symbol};
@@ -12,7 +12,7 @@ use rv_code::Func;
 use std::alloc::Global;
 use std::collections::BTreeMap;
 
-/// The first symbol that names each function, by the address at which the function starts.
+/// The first symbol of each function, by the start address of the function.
 pub fn first_names<'a>(
     alloc: Global,
     symbols: &[Symbol<'a>],
@@ -28,7 +28,7 @@ pub fn first_names<'a>(
     Ok(names)
 }
 
-/// The symbol by which the cold part that begins at `address` in the input is called: that of the function around it.
+/// The symbol that gives the cold part at the input address `address` its name: that of the function around it.
 pub fn named_around<'a>(
     names: &BTreeMap<u64, Symbol<'a>>,
     funcs: &[Func],

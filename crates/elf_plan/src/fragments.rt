@@ -1,4 +1,4 @@
-// Fragments: stretches of new code, each of one function. A symbol's size is what is left of its fragment.
+// Fragments: ranges of new code of one function. The size of a symbol is the rest of its fragment.
 ghost use Rattle.std.specs.Prelude.{◌≡◌, ◌≤◌, ◌<◌, ◌++◌, ◌∷◌, [], ℕ, IfOk, List, OnOk, length, option_map, slice_get};
 ghost use Rattle.std.specs.Prelude.{IsTrue, Some, slice_index_or};
 ghost use Rattle.addr_map.specs.declared.span.Span.{Span};
@@ -16,7 +16,7 @@ use rv_code::Func;
 use rv_code::functions::{func_holds, function_at};
 use std::alloc::Global;
 
-/// A longest stretch of new code, from `start` to before `end`, whose bytes belong to one function.
+/// A maximal range of new code, from `start` to before `end`, whose bytes belong to one function.
 #[derive(Clone, Copy)]
 pub struct Fragment {
     pub start: u64,
@@ -25,7 +25,7 @@ pub struct Fragment {
     pub func: usize,
 }
 
-/// Where the function starts that holds `address`.
+/// The start of the function that contains `address`.
 pub fn start_around(funcs: &[Func], address: u64) -> Option<u64>
     requires { AreLaidOut funcs.now }
     ensures { result ≡ start_around funcs.now address }
@@ -34,15 +34,15 @@ pub fn start_around(funcs: &[Func], address: u64) -> Option<u64>
     function_start(funcs, func)
 }
 
-// Where the function at the index `place` starts.
+// The start of the function with the index `place`.
 fn function_start(funcs: &[Func], place: usize) -> Option<u64>
     ensures { result ≡ option_map (λ f. f.start) (slice_get funcs.now place) }
 {
     funcs.get(place).map(|f| f.start)
 }
 
-/// All fragments, by address. `Layout` is answered where the map isn't one of these functions: where its spans aren't
-/// in the order of their bytes, share some, or are of instructions of no function.
+/// All fragments, by address. `Layout` if the map doesn't fit these functions: its spans aren't in the order of their
+/// bytes, overlap, or are of instructions outside all functions.
 pub fn fragments(alloc: Global, funcs: &[Func], map: &AddrMap) -> Result<Vec<Fragment>, Unwritable>
     requires { AreLaidOut funcs.now }
     ensures { IfOk result (λ fragments. AreFragments funcs.now map.now fragments.items) }
@@ -55,7 +55,7 @@ pub fn fragments(alloc: Global, funcs: &[Func], map: &AddrMap) -> Result<Vec<Fra
     Ok(fragments)
 }
 
-// Adds the bytes of `span` behind those of the spans before it.
+// Adds the bytes of `span` after those of the spans before it.
 fn add_span(fragments: &mut Vec<Fragment>, funcs: &[Func], span: &Span) -> Result<(), Unwritable>
     requires { AreLaidOut funcs.now }
     ensures { OnOk result ((spans : List Span) → AreFragments funcs.now spans fragments.old.items →
@@ -71,7 +71,7 @@ fn add_span(fragments: &mut Vec<Fragment>, funcs: &[Func], span: &Span) -> Resul
     Ok(())
 }
 
-// The index of the last fragment's function; 0 without a fragment.
+// The index of the last fragment's function, or 0 without a fragment.
 fn last_func(fragments: &[Fragment]) -> usize {
     match fragments.last() {
         Some(last) => last.func,
@@ -79,7 +79,7 @@ fn last_func(fragments: &[Fragment]) -> usize {
     }
 }
 
-// The function that holds `address`. `near` is tried first: most spans are of the same function as the one before.
+// The function that contains `address`. `near` is tried first: most spans are of the same function as the one before.
 fn function_near(funcs: &[Func], near: usize, address: u64) -> Option<usize>
     requires { AreLaidOut funcs.now }
     ensures { result ≡ function_at funcs.now address }
@@ -90,7 +90,7 @@ fn function_near(funcs: &[Func], near: usize, address: u64) -> Option<usize>
     function_at(funcs, address)
 }
 
-// Whether the function at `index` holds `address`.
+// Whether the function at `index` contains `address`.
 fn is_in(funcs: &[Func], index: usize, address: u64) -> bool
     requires { AreLaidOut funcs.now }
     ensures { IsTrue result → function_at funcs.now address ≡ Some index }
@@ -101,7 +101,7 @@ fn is_in(funcs: &[Func], index: usize, address: u64) -> bool
     func_holds(&funcs[index], address)
 }
 
-// Adds `fragment` behind the others, or its bytes to the last one where that is of the same function and ends there.
+// Appends `fragment`, or extends the last fragment if that is of the same function and adjacent.
 fn add_fragment(fragments: &mut Vec<Fragment>, fragment: Fragment) -> Result<(), Unwritable>
     requires { fragment.start < fragment.end }
     ensures { OnOk result (Grows fragments.old.items fragment fragments.new.items) }
@@ -125,7 +125,7 @@ fn add_fragment(fragments: &mut Vec<Fragment>, fragment: Fragment) -> Result<(),
     Ok(())
 }
 
-// How many fragments start at an address or below it.
+// The number of fragments that start at or below an address.
 fn count_fragments_up_to(fragments: &[Fragment], address: u64) -> usize
     ensures bound { result ≤ length fragments.now }
     ensures below { AreSorted fragments.now → (k : ℕ) (d : Fragment) → k < result →
@@ -136,8 +136,9 @@ fn count_fragments_up_to(fragments: &[Fragment], address: u64) -> usize
     fragments.partition_point(|r| r.start <= address)
 }
 
-/// How many bytes of the function `func` follow from `address` of the new code on, up to the end of the fragment; 0
-/// where no fragment of it holds the address.
+/// The number of bytes of the function `func` from `address` of the new code to the end of its fragment. 0 if no
+/// fragment of
+/// the function contains the address.
 pub fn bytes_left(fragments: &[Fragment], func: usize, address: u64) -> u64
     ensures { (funcs : List Func) (spans : List Span) → AreFragments funcs spans fragments.now →
         IsFragment funcs spans func address result }

@@ -1,14 +1,14 @@
-// Tables that are given for a file, by their names.
+// Tables that are given with their names.
 ghost use Rattle.std.specs.Prelude.{◌≡◌, find, string_bytes};
 ghost use Rattle.std.specs.Option.{option_copied};
 ghost use Rattle.std.specs.Str.{bytes_eq};
 ghost use Rattle.elf_plan.specs.NewSections.{bytes_called};
 ghost use Rattle.elf_plan.specs.TableSizes as spec;
 
-/// Bytes that take the place of a section's, by the section's name.
+/// The name of a section, and bytes that replace those of the section.
 pub type Table = (String, Vec<u8>);
 
-/// The name of the table of ranges, the one debug table that can be added to a file without it.
+/// The name of the table of ranges, the only debug table that can be added to a file.
 pub const DEBUG_RNGLISTS: &[u8] = b".debug_rnglists";
 
 /// The first table called `name`.
@@ -26,7 +26,7 @@ pub fn table_size(tables: &[Table], name: &[u8]) -> Option<usize>
     Some(bytes.len())
 }
 
-/// The bytes of the first table called `name`, and no bytes where there is no such table.
+/// The bytes of the first table called `name`, or no bytes if there is no such table.
 pub fn bytes_called<'a>(tables: &'a [Table], name: &[u8]) -> &'a [u8]
     ensures { result.now ≡ bytes_called tables.now name.now }
 {

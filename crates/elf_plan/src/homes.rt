@@ -1,4 +1,4 @@
-// The homes of program headers: the sections that hold the bytes of those that aren't loaded, and that they follow.
+// Finds the sections that contain the bytes of program headers that aren't loaded. These bytes move with their section.
 ghost use Rattle.std.specs.Prelude.{◌≡◌, IfOk, map, slice_get, unwrap_or};
 ghost use Rattle.elf_plan.specs.declared.sections.Contents.TheVariants.{Dropped};
 ghost use Rattle.elf_plan.specs.HeaderPlaces.{can_hold};
@@ -15,14 +15,14 @@ use elf_image::{Section, Segment};
 use rb_bytes::fault::NoMemory;
 use std::alloc::Global;
 
-// Whether a section can be a header's home: it isn't loaded, and its bytes are written behind the loaded ones.
+// Whether bytes of a header can move with a section: it isn't loaded, and its bytes are written after the loaded ones.
 fn can_hold(contents: Contents, section: &Section) -> bool
     ensures { result ≡ can_hold contents section.now }
 {
     contents.is_written() && !section.is_loaded() && section.kind != SHT_NOBITS
 }
 
-// The range of the section at `index`, empty where that can be no header's home.
+// The range of the section at `index`. It is empty if no header's bytes can move with the section.
 fn extent_of(index: usize, contents: Contents, section: &Section) -> Extent
     ensures { result ≡ spec.extent_of index contents section.now }
 {
@@ -41,14 +41,14 @@ fn extent_of(index: usize, contents: Contents, section: &Section) -> Extent
     }
 }
 
-// Where the contents of the section at `index` are; Dropped, so that it is no home, where `contents` doesn't say.
+// The position of the contents of the section at `index`, or Dropped if `contents` doesn't have it.
 fn found_at(contents: &[Contents], index: usize) -> Contents
     ensures { result ≡ unwrap_or (slice_get contents.now index) Dropped }
 {
     contents.get(index).copied().unwrap_or(Contents::Dropped)
 }
 
-// The extents of all sections.
+// The ranges of all sections.
 fn extents_of(
     alloc: Global,
     sections: &[Section],
@@ -64,7 +64,8 @@ fn extents_of(
     Ok(extents)
 }
 
-// The index of the first section whose range holds the bytes of the header `p`, if `p` has some and none is loaded.
+// The index of the first section whose range contains the bytes of the header `p`, if there are some and none is
+// loaded.
 fn first_for(loaded: &LoadedRanges, extents: &RangeTree, p: &Segment) -> Option<usize>
     requires { AreInOrder loaded.now.sorted.items loaded.now.reaches.items }
     ensures { result ≡ spec.first_for loaded.now.sorted.items extents.now p.now }
@@ -80,7 +81,7 @@ fn first_for(loaded: &LoadedRanges, extents: &RangeTree, p: &Segment) -> Option<
     Some(extent.place as usize)
 }
 
-// The home of each header.
+// The result for each header.
 fn all_first(
     alloc: Global,
     loaded: &LoadedRanges,
@@ -98,8 +99,8 @@ fn all_first(
     Ok(homes)
 }
 
-/// The home of each program header: of one that isn't loaded and has bytes, none of which a segment loads, the index of
-/// the first section that holds them all and is written behind the loaded bytes. None for any other header.
+/// For each program header that isn't loaded and has bytes, none of which a segment loads: the index of the first
+/// section that contains all of them and is written after the loaded bytes. None for other headers.
 pub fn homes_of(
     alloc: Global,
     segments: &[Segment],

@@ -1,4 +1,4 @@
-// Which bytes of the input keep their places in a written file, or move with the segments behind the executable one.
+// The bytes of the input that keep their offsets in a written file, or move with the segments after the executable one.
 ghost use Rattle.std.specs.Prelude.{ℕ, ◌↔◌, ◌<◌, ◌+◌, IfOk, IsTrue};
 ghost use Rattle.std.specs.List.{list_any};
 ghost use Rattle.std.specs.List.Sorted.{IsNonDecreasingBy};
@@ -13,13 +13,15 @@ use elf_image::{Section, Segment};
 use rb_bytes::fault::NoMemory;
 use std::alloc::Global;
 
-/// The bytes of the input that a written file has where they were, or where the segments behind the executable one are.
+/// The bytes of the input that keep their offsets in a written file, or move with the segments after the executable
+/// one.
 #[derive(Drop)]
 pub struct KeptBytes {
-    /// Bytes before this offset keep their places.
+    /// Bytes before this offset keep their offsets.
     pub front: u64,
-    /// The ranges that move with a segment, by their starts, each with its end raised to the greatest up to there, so
-    /// that one look-up tells whether a range of the list holds others.
+    /// The ranges that move with a segment, sorted by start, each extended to the greatest end of the ranges up to it,
+    /// so that
+    /// one search decides whether a range of the list contains a given range.
     pub moved: Vec<Extent>,
     ghost rising: { IsNonDecreasingBy (λ s. s.start) moved.items },
     ghost growing: { IsNonDecreasingBy (λ s. s.end) moved.items },
@@ -29,7 +31,7 @@ impl KeptBytes {
     ghost use Rattle.std.specs.Prelude.{◌+◌, ◌<◌, ◌↔◌, IfOk, IsTrue};
     ghost use Rattle.elf_plan.specs.KeptBytes.{IsKeptBy, Keeps};
 
-    /// The bytes that stay loaded beside `area`: those in front of it, and those that move with a segment.
+    /// The bytes that stay loaded around `area`: those before it, and those that move with a segment.
     pub fn new(
         alloc: Global,
         segments: &[Segment],
@@ -62,7 +64,7 @@ impl KeptBytes {
     }
 }
 
-// The bytes in the file of the loaded segments that start at the offset `from` or behind it.
+// The file bytes of the loaded segments that start at or after the offset `from`.
 fn moved_ranges(alloc: Global, segments: &[Segment], from: u64) -> Result<Vec<Extent>, NoMemory>
     ensures { IfOk result (λ ranges. (start end : ℕ) →
         IsTrue (list_any (moves_with from start end) segments.now) ↔ IsInOneExtent ranges.items start end) }

@@ -1,4 +1,4 @@
-//! What a written file has to be: where its parts go, and which contents its sections have.
+//! The plan of a written file: the positions of its parts, and the contents of its sections.
 #![tactic(auto)]
 
 pub mod area;

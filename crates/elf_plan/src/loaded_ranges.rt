@@ -15,9 +15,9 @@ use std::alloc::Global;
 /// The ranges of a file's bytes that its segments load.
 #[derive(Drop)]
 pub struct LoadedRanges {
-    /// The ranges by their starts.
+    /// The ranges, sorted by start.
     pub sorted: Vec<Extent>,
-    /// The same with each end raised to the greatest up to there.
+    /// The same ranges, each extended to the greatest end of the ranges up to it.
     pub reaches: Vec<Extent>,
 }
 
@@ -37,7 +37,7 @@ impl LoadedRanges {
         Ok(LoadedRanges { sorted, reaches })
     }
 
-    /// Whether one of the bytes from `start` to before `end` is loaded.
+    /// Whether at least one of the bytes from `start` to before `end` is loaded.
     pub fn has_one(&self, start: u64, end: u128) -> bool
         requires order { AreInOrder self.now.sorted.items self.now.reaches.items }
         requires some { start < end }
@@ -51,7 +51,7 @@ impl LoadedRanges {
     }
 }
 
-// How many ranges begin below `end`.
+// The number of ranges that start below `end`.
 fn count_before(ranges: &[Extent], end: u128) -> usize
     requires { IsNonDecreasingBy (λ s. s.start) ranges.now }
     ensures bound { result ≤ length ranges.now }
@@ -62,7 +62,7 @@ fn count_before(ranges: &[Extent], end: u128) -> usize
     ranges.partition_point(|s| (s.start as u128) < end)
 }
 
-// A range for each segment that loads bytes of the file. Bytes past a segment's memory size aren't loaded.
+// One range for each segment that loads bytes of the file. Bytes after a segment's memory size aren't loaded.
 fn loaded_ranges(alloc: Global, segments: &[Segment]) -> Result<Vec<Extent>, NoMemory>
     ensures full { IfOk result (λ ranges. All (λ s. s.start < s.end) ranges.items) }
     ensures bytes { IfOk result (λ ranges. spec.HaveLoaded segments.now ranges.items) }

@@ -1,4 +1,4 @@
-// The sections with symbols and names, which are written anew.
+// The sections with symbols and names, which are rewritten.
 ghost use Rattle.std.specs.Prelude.{◌≡◌};
 ghost use Rattle.std.specs.Option.{option_copied};
 ghost use Rattle.elf_image.specs.file.Header.{e_shstrndx};
@@ -9,18 +9,18 @@ use elf_image::header::Header;
 use elf_image::section::SHT_SYMTAB;
 use elf_image::{Elf, Section};
 
-/// The indices of the sections that are written anew.
+/// The indices of the sections that are rewritten.
 #[derive(Clone, Copy)]
 pub struct OwnSections {
-    /// The names of sections.
+    /// The section names.
     pub section_names: usize,
     /// The symbol table, if there is one.
     pub symbols: Option<usize>,
-    /// The names of symbols, if there are symbols.
+    /// The symbol names, if there are symbols.
     pub symbol_names: Option<usize>,
 }
 
-/// The index of the section with the names of sections.
+/// The index of the section with the section names.
 pub fn place_of_section_names(elf: &Elf) -> usize
     ensures { result ≡ e_shstrndx elf.now.file.now }
 {
@@ -42,7 +42,7 @@ pub fn symbols_section<'a>(elf: &'a Elf<'a>) -> Option<&'a Section<'a>>
     elf.sections.iter().find(|s| s.kind == SHT_SYMTAB)
 }
 
-// `index`, if there is a section at it.
+// `index`, if it is the index of a section.
 fn among(sections: &[Section], index: usize) -> Option<usize>
     ensures { result ≡ spec.among sections.now index }
 {
@@ -53,8 +53,7 @@ fn among(sections: &[Section], index: usize) -> Option<usize>
     }
 }
 
-/// The index of the section with the names of symbols: the one that the symbol table's `sh_link` names. None where
-/// there are no symbols.
+/// The index of the section with the symbol names, from the symbol table's `sh_link`. None if there are no symbols.
 pub fn place_of_names(elf: &Elf) -> Option<usize>
     ensures { result ≡ spec.place_of_names elf.now }
 {
@@ -69,7 +68,7 @@ impl OwnSections {
     ghost use Rattle.std.specs.Prelude.{IfOk};
     ghost use Rattle.elf_plan.specs.KnownSections.{IsOwnOf};
 
-    /// The sections of a file that are written anew. `Layout` where one is a table of names and of symbols at once.
+    /// The sections of a file that are rewritten. `Layout` if one has two of these uses.
     pub fn new(elf: &Elf) -> Result<OwnSections, Unwritable>
         ensures { IfOk result (IsOwnOf elf.now) }
     {

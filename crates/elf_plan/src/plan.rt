@@ -14,19 +14,20 @@ use elf_image::code_segment::executable_segment;
 use elf_image::named::{EH_FRAME, EH_FRAME_HDR};
 use std::alloc::Global;
 
-/// What is settled of a written file before it is made. The file is made by one plan, and compared with it when it is
-/// read back.
+/// The decisions on a written file before it is made. The file is made from the plan, and compared with it when it is
+/// read
+/// back.
 #[derive(Drop)]
 pub struct Plan {
     /// The index of the executable segment's header in the input.
     pub code: usize,
     pub area: Area,
     pub shift: Shift,
-    /// The sections that are written anew.
+    /// The sections that are rewritten.
     pub own: OwnSections,
-    /// Where the contents of each of the input's sections are.
+    /// The positions of the contents of the input's sections.
     pub contents: Vec<Contents>,
-    /// The sections whose contents are written behind the loaded bytes: their offsets and indices, ascending.
+    /// The sections whose contents are written after the loaded bytes: their offsets and indices, ascending.
     pub order: Vec<(u64, usize)>,
 }
 
@@ -60,7 +61,8 @@ impl Plan {
     ghost use Rattle.elf_plan.specs.Plans.{IsPlanOf};
 
     /// The plan for the file `elf` with the new code `code` and the tables `tables`. `tight` says whether the area gets
-    /// a segment of its own.
+    /// its own
+    /// segment.
     pub fn new(
         alloc: Global,
         elf: &Elf,

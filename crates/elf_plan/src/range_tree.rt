@@ -1,4 +1,4 @@
-// Ranges of numbers in an order, and a look-up of the first that holds a given range.
+// Ordered ranges of numbers, with a search for the first one that contains a given range.
 ghost use Rattle.std.specs.Prelude.{◌≡◌, ◌<◌, ◌↔◌, ℕ, IfOk, find};
 ghost use Rattle.std.specs.List.Sorted.{IsNonDecreasingBy};
 ghost use Rattle.elf_image.specs.internal.Extents.{IsInOneExtent};
@@ -9,7 +9,7 @@ use rb_bytes::fault::NoMemory;
 use std::alloc::Global;
 use std::marker::Model;
 
-/// Ranges in an order, as a balanced tree over it. Contracts see it as their list.
+/// Ordered ranges as a balanced tree. Contracts see the list of ranges.
 #[cycle(range_tree)]
 #[derive(Drop)]
 pub struct RangeTree {
@@ -20,8 +20,8 @@ pub struct RangeTree {
 #[derive(Drop)]
 enum Node {
     Leaf,
-    // The ranges before the middle one, the middle one, those behind it, and what the ones before it hold, as
-    // `sorted_reaches` gives it.
+    // The ranges before the middle one, the middle one, the ranges after it, and the result of `sorted_reaches` for the
+    // ranges before it.
     Fork(Box<RangeTree>, Extent, Box<RangeTree>, Vec<Extent>),
 }
 
@@ -44,14 +44,14 @@ impl Model for RangeTree {
     ghost size_decreases = { λ a h. depth_le-length a.node };
 }
 
-// Whether a range holds all the numbers from `start` to before `end`.
+// Whether a range contains all numbers from `start` to before `end`.
 fn covers(range: &Extent, start: u64, end: u128) -> bool
     ensures { result ≡ spec.covers start end range.now }
 {
     range.start <= start && end <= range.end
 }
 
-/// What ranges hold, for a binary search: the ranges by their starts, with each end raised to the greatest up to there.
+/// The ranges sorted by start, each extended to the greatest end of the ranges up to it, for a binary search.
 pub fn sorted_reaches(alloc: Global, ranges: &[Extent]) -> Result<Vec<Extent>, NoMemory>
     ensures { IfOk result (λ reaches. spec.IsReachOf reaches.items ranges.now) }
 {
@@ -78,7 +78,7 @@ impl RangeTree {
         })
     }
 
-    /// The first range that holds all the numbers from `start` to before `end`.
+    /// The first range that contains all numbers from `start` to before `end`.
     pub fn first(&self, start: u64, end: u128) -> Option<Extent>
         requires { start < end }
         ensures { result ≡ find (spec.covers start end) self.now }

@@ -1,4 +1,4 @@
-// Arithmetic on addresses and offsets. What doesn't fit 64 bits is answered as `Layout`.
+// Arithmetic on addresses and offsets. The error is `Layout` if a result doesn't fit 64 bits.
 ghost use Rattle.std.specs.Prelude.{◌≡◌, ◌+◌, ◌<◌, ◌≤◌, IfOk};
 ghost use Rattle.elf_image.specs.memory.Break.{rounded_up};
 
@@ -21,7 +21,7 @@ pub fn sum(a: u64, b: u64) -> Result<u64, Unwritable>
     a.checked_add(b).ok_or(Unwritable::Layout)
 }
 
-/// An address or offset as a number of 64 bits.
+/// An address or offset as a 64-bit number.
 pub fn in_64_bits(place: u128) -> Result<u64, Unwritable>
     ensures { IfOk result (λ n. n ≡ place) }
 {

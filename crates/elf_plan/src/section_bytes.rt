@@ -7,10 +7,10 @@ use elf_image::Section;
 use elf_image::named::names_debug;
 use elf_image::section::{SHF_ALLOC, SHF_EXECINSTR, SHT_NOBITS};
 
-/// The type of a header that stands for no section.
+/// The type of a null header, which isn't for a section.
 pub const SHT_NULL: u32 = 0;
 
-/// `flags` without the one that says that the section holds instructions: a table that is written anew has none.
+/// `flags` without the flag for instructions. Tables that are rewritten don't have it.
 pub fn without_code(flags: u64) -> u64
     ensures { result ≡ without_code flags }
 {
@@ -21,7 +21,7 @@ pub fn without_code(flags: u64) -> u64
     }
 }
 
-/// The bytes that `section` has in `file`, as far as the file goes. One of type SHT_NOBITS has none.
+/// The bytes of `section` in `file`, up to the end of the file. A section of type SHT_NOBITS has none.
 pub fn bytes_of<'a>(file: &'a [u8], section: &Section) -> &'a [u8]
     ensures { result.now ≡ section_bytes file.now section.now }
 {
@@ -33,8 +33,9 @@ pub fn bytes_of<'a>(file: &'a [u8], section: &Section) -> &'a [u8]
     &rest[..(section.size as usize).min(rest.len())]
 }
 
-/// The flags that the header of a section that is left out keeps: SHF_ALLOC where a loaded section has a debug table's
-/// name, so that the header isn't taken for that table.
+/// The flags in the header of a section that is left out: SHF_ALLOC if a loaded section has the name of a debug table,
+/// so
+/// that the name doesn't refer to this header.
 pub fn flags_left(section: &Section) -> u64
     ensures { result ≡ flags_left section.now }
 {

@@ -1,4 +1,4 @@
-// Which contents the sections of a written file have. gABI, "Section Header".
+// Decides on the contents of a written file's sections. gABI, "Section Header".
 ghost use Rattle.std.specs.Prelude.{◌≡◌, AllPairs, IfOk, IsTrue, map, position, string_bytes};
 ghost use Rattle.elf_image.specs.file.SectionNames.{is_called};
 ghost use Rattle.elf_plan.specs.Contents as spec;
@@ -16,24 +16,24 @@ use elf_image::{Elf, Section};
 use rb_bytes::fault::NoMemory;
 use std::alloc::Global;
 
-/// Where the contents of a section of the input are in the written file.
+/// The position of the contents of an input section in the written file.
 #[derive(Clone, Copy)]
 pub enum Contents {
-    /// Nowhere: they are left out, and the section's header becomes one of type SHT_NULL.
+    /// Nowhere: the section is left out, and its header becomes one of type SHT_NULL.
     Dropped,
-    /// There are none: the input's header is of type SHT_NULL already.
+    /// There are none: the input's header has type SHT_NULL already.
     Inactive,
-    /// Where the loaded bytes of the input are, among which they stand; or nowhere in the file (SHT_NOBITS).
+    /// Among the loaded bytes of the input, or not in the file (SHT_NOBITS).
     Kept,
-    /// Behind the loaded bytes, as they were.
+    /// After the loaded bytes, copied.
     Copied,
-    /// Behind the loaded bytes, the names of sections, written anew.
+    /// After the loaded bytes: the section names, rewritten.
     SectionNames,
-    /// Behind the loaded bytes, the symbol table, written anew.
+    /// After the loaded bytes: the symbol table, rewritten.
     Symbols,
-    /// Behind the loaded bytes, the names of symbols, written anew.
+    /// After the loaded bytes: the symbol names, rewritten.
     SymbolNames,
-    /// Behind the loaded bytes, a table that is given, by its index among those.
+    /// After the loaded bytes: a given table, by its index among these tables.
     Given(usize),
 }
 
@@ -41,7 +41,7 @@ impl Contents {
     ghost use Rattle.std.specs.Prelude.{◌≡◌};
     ghost use Rattle.elf_plan.specs.FileLayout.{is_written};
 
-    /// Whether they are written behind the loaded bytes.
+    /// Whether the contents are written after the loaded bytes.
     pub fn is_written(&self) -> bool
         ensures { result ≡ is_written self.now }
     {
@@ -56,22 +56,23 @@ impl Contents {
     }
 }
 
-// Whether a header stands for no section: it is of type SHT_NULL, and has no contents.
+// Whether a header is a null header: it has type SHT_NULL and no contents.
 fn is_inactive(section: &Section) -> bool
     ensures { result ≡ spec.is_inactive section.now }
 {
     section.kind == SHT_NULL && section.size == 0
 }
 
-/// The index of the first section that `name` means.
+/// The index of the first section that `name` refers to.
 pub fn index_called(sections: &[Section], name: &[u8]) -> Option<usize>
     ensures { result ≡ position (is_called name.now) sections.now }
 {
     sections.iter().position(|s| s.is_called(name))
 }
 
-/// The index of the section whose place the table called `name` takes. The unwind table and its index, which stand in
-/// the new area, take none.
+/// The index of the section that the table called `name` replaces. None for the unwind table and its index, which are
+/// in
+/// the new area.
 pub fn place_replaced(sections: &[Section], name: &[u8]) -> Option<usize>
     ensures { result ≡ spec.place_replaced sections.now name.now }
 {
@@ -82,7 +83,7 @@ pub fn place_replaced(sections: &[Section], name: &[u8]) -> Option<usize>
     }
 }
 
-/// For each table the index of the section whose place it takes.
+/// For each table, the index of the section that it replaces.
 pub fn replaced_by(
     alloc: Global,
     sections: &[Section],
@@ -97,12 +98,12 @@ pub fn replaced_by(
     Ok(replaced)
 }
 
-/// The name of DWARF's table of macros, which is left out.
+/// The name of DWARF's macro table, which is left out.
 pub const DEBUG_MACRO: &[u8] = b".debug_macro";
 
 const GDB_INDEX: &[u8] = b".gdb_index";
 
-/// Whether a section is left out: relocations, and tables with addresses of code that aren't carried over.
+/// Whether a section is left out: relocations, and tables with code addresses that aren't carried over.
 pub fn is_left_out(section: &Section) -> bool
     ensures { result ≡ spec.is_left_out section.now }
 {
@@ -110,7 +111,7 @@ pub fn is_left_out(section: &Section) -> bool
         || (!section.is_loaded() && (section.name == DEBUG_MACRO || section.name == GDB_INDEX))
 }
 
-// Whether pairs rise strictly.
+// Whether pairs are strictly ascending.
 fn are_ascending(pairs: &[(u64, usize)]) -> bool
     ensures { IsTrue result → AllPairs IsPairBefore pairs.now }
 {
@@ -129,12 +130,12 @@ fn is_pair_before(p: &(u64, usize), q: &(u64, usize)) -> bool
     p.0 < q.0 || (p.0 == q.0 && p.1 < q.1)
 }
 
-/// What is known of the sections of a file that is written.
+/// Known facts on the sections of a file that is written.
 #[derive(Clone, Copy)]
 pub struct Sections<'a> {
     pub elf: &'a Elf<'a>,
     pub own: OwnSections,
-    /// For each table the index of the section whose place it takes.
+    /// For each table, the index of the section that it replaces.
     pub replaced: &'a [Option<usize>],
     pub kept: &'a KeptBytes,
 }
@@ -153,14 +154,14 @@ impl<'a> Sections<'a> {
     ghost use Rattle.elf_plan.specs.WrittenSections.{is_written_by, offset_if};
     ghost use Rattle.rv_code.specs.layout.Lists.{ListsPairs};
 
-    // The index of the table that takes the place of the section at `index`.
+    // The index of the table that replaces the section at `index`.
     fn table_for(&self, index: usize) -> Option<usize>
         ensures { result ≡ position (spec.is_at index) self.now.replaced.now }
     {
         self.replaced.iter().position(|r| *r == Some(index))
     }
 
-    // Where the contents are of a section that is neither written anew, left out nor replaced by a table.
+    // The position of the contents of a section that is neither rewritten, left out nor replaced by a table.
     fn own_contents(&self, section: &Section) -> Contents
         ensures { (segments : List Segment) (area : Area) (shift : Shift) →
             Keeps segments area shift self.now.kept.now →
@@ -178,7 +179,7 @@ impl<'a> Sections<'a> {
         Contents::Copied
     }
 
-    // The offset in the input of the section at `index`, if its contents are written behind the loaded bytes.
+    // The offset in the input of the section at `index`, if its contents are written after the loaded bytes.
     fn written_at(&self, index: usize) -> Option<u64>
         ensures { (segments : List Segment) (area : Area) (shift : Shift) →
             Keeps segments area shift self.now.kept.now →
@@ -201,7 +202,7 @@ impl<'a> Sections<'a> {
         }
     }
 
-    /// The sections whose contents are written behind the loaded bytes: their offsets in the input and their indices,
+    /// The sections whose contents are written after the loaded bytes: their offsets in the input and their indices,
     /// ascending.
     pub fn order(&self, alloc: Global) -> Result<Vec<(u64, usize)>, Unwritable>
         ensures { (segments : List Segment) (area : Area) (shift : Shift) →
@@ -223,7 +224,7 @@ impl<'a> Sections<'a> {
         Ok(order)
     }
 
-    /// Where the contents of each section are.
+    /// The positions of the contents of all sections.
     pub fn contents(&self, alloc: Global) -> Result<Vec<Contents>, NoMemory>
         ensures { IfOk result (λ found. (segments : List Segment) (area : Area) (shift : Shift) →
             Keeps segments area shift self.now.kept.now →
@@ -239,7 +240,7 @@ impl<'a> Sections<'a> {
         Ok(contents)
     }
 
-    /// Where the contents of `section` are, which stands at `index`.
+    /// The position of the contents of `section`, which has the index `index`.
     pub fn contents_of(&self, index: usize, section: &Section) -> Contents
         ensures { (segments : List Segment) (area : Area) (shift : Shift) →
             Keeps segments area shift self.now.kept.now →

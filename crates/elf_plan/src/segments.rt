@@ -16,10 +16,10 @@ use elf_image::{Elf, Segment};
 use file_room::{greatest_align, rounded_up};
 use std::alloc::Global;
 
-/// The type of the program header that names the table of program headers. gABI, "Program Header".
+/// The type of the program header for the table of program headers. gABI, "Program Header".
 pub const PT_PHDR: u32 = 6;
 
-/// What the program headers of a written file follow from.
+/// Values that the program headers of a written file depend on.
 #[derive(Clone, Copy)]
 pub struct Places<'a> {
     pub elf: &'a Elf<'a>,
@@ -27,17 +27,17 @@ pub struct Places<'a> {
     pub shift: Shift,
     /// The offset of the table of program headers in the written file.
     pub table_at: u64,
-    /// Where the contents of each of the input's sections are.
+    /// The positions of the contents of the input's sections.
     pub contents: &'a [Contents],
-    /// The offsets of the written file's sections, of which those of the input come first.
+    /// The offsets of the written file's sections. Those of the input come first.
     pub sections_at: &'a [u64],
-    /// The size of the index of the unwind table; 0 where there is none.
+    /// The size of the unwind table's index, or 0 if there is none.
     pub index_size: u64,
     /// The size of the written file.
     pub file_size: u64,
 }
 
-// The header `p` as one that names `size` bytes from `address` on, which lies in the area.
+// The header `p`, for `size` bytes of the area from `address` on.
 fn at_area(p: &Segment, area: &Area, address: u64, size: u64) -> Result<Segment, Unwritable>
     ensures kind { IfOk result (λ q. q.kind ≡ p.now.kind) }
     ensures flags { IfOk result (λ q. q.flags ≡ p.now.flags) }
@@ -54,7 +54,7 @@ fn at_area(p: &Segment, area: &Area, address: u64, size: u64) -> Result<Segment,
     })
 }
 
-// The executable segment `p`, grown up to `end`, where the area ends.
+// The executable segment `p`, extended to `end`, where the area ends.
 fn grown(p: &Segment, end: u64) -> Segment
     requires { p.now.vaddr ≤ end }
     ensures { result ≡ spec.grown end p.now }
@@ -67,8 +67,9 @@ fn grown(p: &Segment, end: u64) -> Segment
     }
 }
 
-// Whether the segment `p` can grow up to the address `end`: all its memory is from the file, it doesn't go past `end`,
-// and its bytes aren't among those that move, from the offset `from` on.
+// Whether the segment `p` can grow up to the address `end`: all its memory is from the file, it ends at or before
+// `end`, and
+// its bytes aren't among those that move, from the offset `from` on.
 fn can_grow(p: &Segment, from: u64, end: u64) -> bool
     ensures { IsTrue result → spec.CanGrow from end p.now }
 {
@@ -77,8 +78,9 @@ fn can_grow(p: &Segment, from: u64, end: u64) -> bool
         && (p.filesz == 0 || p.offset < from)
 }
 
-// Whether `size` bytes from the offset `start` on begin before the area's end, at the offset `end`, and end behind it.
-// In a file with a tight area nothing moves, so none do.
+// Whether `size` bytes from the offset `start` on start before the area's end, at the offset `end`, and end after it.
+// In a
+// tight file no bytes move, so the result is false.
 fn leaves_area(area: &Area, end: u64, start: u128, size: u64) -> bool
     requires end { end ≡ area_offset area.now area.now.end }
     requires low { start < 2 ^ 65 }
@@ -88,7 +90,7 @@ fn leaves_area(area: &Area, end: u64, start: u128, size: u64) -> bool
     !area.tight && start < end as u128 && (end as u128) < start + size as u128
 }
 
-// The address of the unwind table's index, if the header `p` names one and there is a new one.
+// The address of the new unwind table's index, if there is one and the header `p` refers to it.
 fn index_for(area: &Area, p: &Segment) -> Option<u64>
     ensures { result ≡ index_for area.now p.now }
 {
@@ -112,7 +114,7 @@ impl<'a> Places<'a> {
     ghost use Rattle.elf_image.specs.declared.segment.TheConstants.{PT_LOAD};
     ghost use Rattle.elf_plan.specs.Area.{moved_by};
 
-    // The size of a table of program headers with one more than the input has.
+    // The size of a table of program headers with one more header than the input has.
     fn table_size(&self) -> Result<u64, Unwritable>
         ensures { IfOk result (λ size. size ≡ 56 * (length self.now.elf.now.segments.items + 1)) }
     {
@@ -140,8 +142,9 @@ impl<'a> Places<'a> {
         }
     }
 
-    // Where the bytes of the header `p` are in the written file: in the section at `home`, as far from its start as in
-    // the input.
+    // The offset of the bytes of the header `p` in the written file: in the section at `home`, at the same distance
+    // from its
+    // start as in the input.
     fn place_in(&self, p: &Segment, home: usize) -> Result<u64, Unwritable>
         ensures { IfOk result (λ o. o ≡ place_in self.now.elf.now.sections.items self.now.sections_at.now p.now home) }
     {
@@ -149,8 +152,9 @@ impl<'a> Places<'a> {
         sum(self.section_at(home), before)
     }
 
-    // Where the bytes of the header `p` go, which no section holds: as far as the loaded ones do, past the area where
-    // they would begin in it and end behind it, and never behind the file's end.
+    // The new offset of the bytes of the header `p`, which no section contains: they move with the loaded bytes, are
+    // put after the
+    // area if they would start in it and end after it, and never are after the end of the file.
     fn beside(&self, p: &Segment, align: u64) -> Result<u64, Unwritable>
         requires { 0 < align }
         ensures { IfOk result (λ o. o ≡ beside (outline self.now) align p.now) }
@@ -163,8 +167,9 @@ impl<'a> Places<'a> {
         Ok(at.min(self.file_size as u128) as u64)
     }
 
-    // Whether the header `p` is made to name the table of program headers: it is of type PT_PHDR, and the table doesn't
-    // begin in the area and end behind it.
+    // Whether the header `p` refers to the table of program headers: it has type PT_PHDR, and the table doesn't start
+    // in the area
+    // and end after it.
     fn names_table(&self, p: &Segment) -> Result<bool, Unwritable>
         ensures { IfOk result (λ names. names ≡ names_table (outline self.now) p.now) }
     {
@@ -172,8 +177,9 @@ impl<'a> Places<'a> {
         Ok(p.kind == PT_PHDR && !leaves_area(&self.area, end, self.table_at as u128, p.filesz))
     }
 
-    // Where the bytes of the header `p` go, which stand at or behind the executable segment's end. `home` is the
-    // section that they follow.
+    // The new offset of the bytes of the header `p`, which are at or after the executable segment's end. `home` is the
+    // section
+    // that they move with.
     fn place_behind(&self, p: &Segment, home: Option<usize>, align: u64) -> Result<u64, Unwritable>
         requires { 0 < align }
         ensures load { IfOk result (λ o. p.now.kind ≡ PT_LOAD → 0 < p.now.filesz →
@@ -193,7 +199,7 @@ impl<'a> Places<'a> {
         }
     }
 
-    // The header `p`, which names nothing in the area, with the new offset of its bytes.
+    // The header `p`, which isn't for a part of the area, with the new offset of its bytes.
     fn moved_header(
         &self,
         p: &Segment,
@@ -216,7 +222,7 @@ impl<'a> Places<'a> {
         Ok(*p)
     }
 
-    // What the program header `p` of the input is in the written file. `is_code` tells that of the executable segment.
+    // The input's program header `p` in the written file. `is_code` says whether it is that of the executable segment.
     fn renewed(
         &self,
         p: &Segment,
@@ -248,7 +254,7 @@ impl<'a> Places<'a> {
         self.moved_header(p, home, align)
     }
 
-    // What all headers of the input are in the written file. `code` is the index of the executable segment's.
+    // All headers of the input in the written file. `code` is the index of the executable segment's header.
     fn all_renewed(&self, alloc: Global, code: usize) -> Result<Vec<Segment>, Unwritable>
         requires { CanGrowAt self.now.shift.from self.now.area.end self.now.area.tight code
             self.now.elf.now.segments.items }
@@ -266,8 +272,8 @@ impl<'a> Places<'a> {
         Ok(segments)
     }
 
-    /// All program headers of the written file. That of a segment for the area stands behind the last that is loaded.
-    /// `code` is the index of the executable segment's header in the input.
+    /// All program headers of the written file. A header for the area's own segment, if there is one, follows the last
+    /// PT_LOAD. `code` is the index of the executable segment's header in the input.
     pub fn segments(&self, alloc: Global, code: usize) -> Result<Vec<Segment>, Unwritable>
         requires grows { CanGrowAt self.now.shift.from self.now.area.end self.now.area.tight code
             self.now.elf.now.segments.items }
@@ -283,7 +289,7 @@ impl<'a> Places<'a> {
         Ok(segments)
     }
 
-    /// Whether the executable segment, whose header has the index `code`, can grow to the area's end, where it has to.
+    /// Whether the executable segment, whose header has the index `code`, can grow to the area's end, if it has to.
     pub fn can_grow(&self, code: usize) -> bool
         ensures grows { IsTrue result → CanGrowAt self.now.shift.from self.now.area.end self.now.area.tight code
             self.now.elf.now.segments.items }
@@ -298,7 +304,7 @@ impl<'a> Places<'a> {
         }
     }
 
-    // The header of the area's own segment, which may be read and executed.
+    // The header of the area's own segment, which is readable and executable.
     fn area_segment(&self) -> Segment
         requires { self.now.area.address ≤ self.now.area.end }
         ensures { result ≡ area_segment self.now.area (greatest_align self.now.elf.now.segments.items) }
@@ -317,7 +323,7 @@ impl<'a> Places<'a> {
     }
 }
 
-// How many headers there are up to and with the last that is loaded.
+// The number of headers up to and including the last PT_LOAD.
 fn loads_count(segments: &[Segment]) -> usize
     ensures within { result ≤ length segments.now }
     ensures behind { (k : ℕ) (d : Segment) → result ≤ k → k < length segments.now →

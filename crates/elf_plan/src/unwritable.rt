@@ -1,19 +1,19 @@
-// The error of writing a file.
+// Errors of writing a file.
 ghost use Rattle.std.specs.Prelude.{◌≡◌};
 
 use rb_bytes::fault::NoMemory;
 use std::alloc::{AllocError, AllocFailed};
 
-/// Why no file is written.
+/// Why a file isn't written.
 #[derive(Clone, Copy)]
 pub enum Unwritable {
     /// Memory ran out.
     Memory,
-    /// There is no such layout: a number doesn't fit its field, parts would share bytes, or a table has no place.
+    /// There is no such layout: a number doesn't fit its field, parts would overlap, or a table has no section.
     Layout,
-    /// It would have more bytes than are ever written.
+    /// The file would be larger than the limit.
     TooLarge,
-    /// The file was made, but what is read back of it isn't what it must have.
+    /// The file was made, but reading it back gave a different result than planned.
     ReadBack,
 }
 

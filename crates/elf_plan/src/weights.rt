@@ -17,8 +17,7 @@ use rv_code::Func;
 use std::alloc::Global;
 use std::collections::BTreeMap;
 
-// How many bytes a name takes at most that is written anew: with `.old` or `.old.` before it or `.cold` behind it, and
-// a zero byte.
+// The most bytes that a changed name takes: with a prefix `.old` or `.old.` or a suffix `.cold`, and a zero byte.
 fn weight_of(name: &[u8]) -> u64
     ensures { result ≡ spec.weight_of name.now }
 {
@@ -35,7 +34,7 @@ fn section_weight(section: &Section) -> u64
     }
 }
 
-// How many bytes the new names of sections take at most.
+// The most bytes that the new names of sections take.
 fn sections_weight(sections: &[Section]) -> u64
     ensures { result ≡ capped (sum_by spec.section_weight sections.now) }
 {
@@ -46,7 +45,7 @@ fn sections_weight(sections: &[Section]) -> u64
     sum
 }
 
-// How many bytes the name of the cold part that begins at `address` takes at most.
+// The most bytes that the name of the cold part at `address` takes.
 fn cold_weight(names: &BTreeMap<u64, Symbol>, funcs: &[Func], address: u64) -> u64
     requires { AreLaidOut funcs.now }
     ensures { (symbols : List Symbol) → AreFirstNames symbols names.now →
@@ -58,7 +57,7 @@ fn cold_weight(names: &BTreeMap<u64, Symbol>, funcs: &[Func], address: u64) -> u
     }
 }
 
-// How many bytes the names of cold parts take at most.
+// The most bytes that the names of cold parts take.
 fn cold_weights(names: &BTreeMap<u64, Symbol>, funcs: &[Func], cold: &[u64]) -> u64
     requires { AreLaidOut funcs.now }
     ensures { (symbols : List Symbol) → AreFirstNames symbols names.now →
@@ -71,14 +70,14 @@ fn cold_weights(names: &BTreeMap<u64, Symbol>, funcs: &[Func], cold: &[u64]) -> 
     sum
 }
 
-// The section with the names of sections.
+// The section with the section names.
 fn names_of_sections<'a>(elf: &'a Elf<'a>) -> Option<&'a Section<'a>>
     ensures { option_copied result ≡ tables.names_of_sections elf.now }
 {
     elf.sections.get(place_of_section_names(elf))
 }
 
-// The section with the names of symbols, where there are symbols.
+// The section with the symbol names, if there are symbols.
 fn names_of_symbols<'a>(elf: &'a Elf<'a>) -> Option<&'a Section<'a>>
     ensures { option_copied result ≡ tables.names_of_symbols elf.now }
 {
@@ -98,7 +97,7 @@ fn size_of(section: Option<&Section>) -> u64
     }
 }
 
-/// What `name_weight` gives, where `names` are the symbols by which functions are called.
+/// The result of `name_weight`. `names` are the symbols that give functions their names.
 pub fn weight_by(names: &BTreeMap<u64, Symbol>, elf: &Elf, funcs: &[Func], cold: &[u64]) -> u64
     requires { AreLaidOut funcs.now }
     ensures { AreFirstNames elf.now.symbols.items names.now → result ≡ spec.name_weight elf.now funcs.now cold.now }
@@ -111,9 +110,9 @@ pub fn weight_by(names: &BTreeMap<u64, Symbol>, elf: &Elf, funcs: &[Func], cold:
         .saturating_add(cold)
 }
 
-/// A bound on the bytes of the tables of names that are written: the old tables, the new names, and 64 for those of new
-/// sections. `cold` has the addresses of the first instructions of cold parts. A sum that doesn't fit is given as the
-/// greatest number of 64 bits.
+/// A bound on the bytes of the tables of names that are written: the old tables, the new names, and 64 bytes for those
+/// of
+/// new sections, saturated at 2^64 - 1. `cold` has the addresses of the first instructions of cold parts.
 pub fn name_weight(alloc: Global, elf: &Elf, funcs: &[Func], cold: &[u64]) -> Result<u64, NoMemory>
     requires { AreLaidOut funcs.now }
     ensures { IfOk result (λ n. n ≡ spec.name_weight elf.now funcs.now cold.now) }
