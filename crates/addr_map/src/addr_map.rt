@@ -38,10 +38,8 @@ impl Model for AddrMap {
 
 impl AddrMap {
     /// Makes a map from its spans, in any order: one for each instruction, and no byte in two of them. It takes the
-    /// time of
-    /// two sorts, which are fast on long runs of sorted spans, and about 65 bytes of memory for each span, of which the
-    /// map
-    /// keeps about 40.
+    /// time of two sorts, which are fast on long runs of sorted spans, and about 65 bytes of memory for each span, of
+    /// which the map keeps about 40.
     pub fn new(alloc: Global, spans: Vec<Span>) -> Result<AddrMap, NoMemory>
         requires once { AllPairs (λ s t. s.input ≢ t.input) spans.items }
         requires disjoint { AllPairs ShareNoByte spans.items }
@@ -56,8 +54,7 @@ impl AddrMap {
     }
 
     /// The new address of the instruction at `a`. For an instruction that was left out, it is the address at which
-    /// control
-    /// continues. None if no instruction of the map is at `a`.
+    /// control continues. None if no instruction of the map is at `a`.
     pub fn moved(&self, a: u64) -> Option<u64>
         ensures { result ≡ moved self.now a }
     {
@@ -101,8 +98,7 @@ impl AddrMap {
     }
 
     /// Prints the text of the map, without allocating. `Took` has the length of the text. After `Failed` the sink took
-    /// a
-    /// proper prefix of the text.
+    /// a proper prefix of the text.
     pub fn print<O: Sink>(&self, out: &mut O) -> Put
         ensures whole { IfTook result (λ n. n ≡ length (map_text self.now)) }
         ensures all { IfTook result (λ n. TakesAll (O.seen out.old).taken (O.seen out.new).taken (map_text self.now)) }

@@ -82,8 +82,7 @@ fn firsts_of(alloc: Global, column: &[u64]) -> Result<Vec<u64>, NoMemory>
 }
 
 // The number of members of `column` that are at most `x`, by a search in the levels above it. Each level has a 64th of
-// the
-// members of the one below it, so the recursion is shallow.
+// the members of the one below it, so the recursion is shallow.
 fn rank_below(column: &[u64], levels: &[Vec<u64>], x: u64) -> usize
     requires ascending { IsAscending column.now }
     requires levels { AreLevels column.now levels.now }
@@ -96,8 +95,7 @@ fn rank_below(column: &[u64], levels: &[Vec<u64>], x: u64) -> usize
 }
 
 // The number of members that are at most `x`, if only the first `groups` groups start with such a member: all members
-// of
-// the groups before the last of these, and some of the last.
+// of the groups before the last of these, and some of the last.
 fn rank_in_group(column: &[u64], groups: usize, x: u64) -> usize
     requires ascending { IsAscending column.now }
     requires groups { IsGroupCount column.now x groups }

@@ -18,8 +18,7 @@ pub(crate) struct NewOrder {
     lens: Vec<u8>,
     inputs: Vec<u64>,
     /// For each line, the last line up to it whose span has bytes, or 0 if there is none. A byte after an empty span
-    /// may belong
-    /// to a longer span that started before it.
+    /// may belong to a longer span that started before it.
     holders: Vec<usize>,
 }
 

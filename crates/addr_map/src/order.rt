@@ -1,6 +1,5 @@
 // The two orders of spans. Spans arrive block by block, so most are in the order of lines already. Both sorts are
-// stable
-// merge sorts, which are fast on sorted runs.
+// stable merge sorts, which are fast on sorted runs.
 ghost use Rattle.std.specs.Prelude.{AllPairs, OnOk, map};
 ghost use Rattle.std.specs.List.Sorted.{IsPermutation};
 ghost use Rattle.addr_map.specs.MapText.{AreInLineOrder};

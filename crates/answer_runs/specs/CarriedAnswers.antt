@@ -17,7 +17,6 @@ IsCarried R spans wanted None = ⊥
 IsCarried R spans wanted (Some at) = (p : ℕ) → IsSome (owner spans p) → Agree R (wanted p) (at p)
 
 -- A table that was read without a fault answers at each byte of new code as the old table does at the byte's owner, up
--- to
--- `R`.
+-- to `R`.
 abbrev pub IsCarriedFrom : {A : Type 0} → (A → A → Type 0) → List Span → (ℕ → Option A) → Option (ℕ → Option A) → Type 0
 IsCarriedFrom R spans old new = IsCarried R spans (carried old spans) new

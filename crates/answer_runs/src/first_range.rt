@@ -9,8 +9,7 @@ use rb_bytes::fault::NoMemory;
 use std::alloc::Global;
 
 /// An index of ranges, for the first one that contains an address. Making it takes the time of a sort and up to 64
-/// bytes
-/// for each range, and a search takes the time of a binary search.
+/// bytes for each range, and a search takes the time of a binary search.
 #[derive(Drop)]
 pub struct FirstRange {
     pieces: Vec<Piece>,

@@ -23,8 +23,7 @@ pub record IsBlockAt (blocks : List Block) (starts : List ℕ) (func a t : ℕ) 
   pub one_function : IsSomeAnd (slice_get blocks t) (λ b. func ≡ b.func)
 
 -- An edge leads from block `source`, of function `func`, to a block of this function that starts at one of the
--- addresses
--- `leads`.
+-- addresses `leads`.
 pub record IsNextOf (blocks : List Block) (starts : List ℕ) (source func : ℕ) (leads : List ℕ)
     (e : ℕ × ℕ) : Type 0 where
   pub from : e.0 ≡ source

@@ -33,8 +33,7 @@ pub fn blocks(
 }
 
 // Appends the blocks of `func`, which is function `place`. `near` is the guess for `is_member_from`. It ascends with
-// the
-// addresses of instructions, from function to function.
+// the addresses of instructions, from function to function.
 fn push_blocks(
     blocks: &mut Vec<Block>,
     entered: &[u64],

@@ -52,8 +52,7 @@ fn push_low_bytes(halves: &mut Vec<u16>, elf: &Elf, part: &Part) -> Result<(), N
 }
 
 /// Replaces `halves` by the halfwords of a part, counted from its start. Only the low bytes, which determine the
-/// lengths
-/// of instructions, are those of memory.
+/// lengths of instructions, are those of memory.
 pub fn read_halves(halves: &mut Vec<u16>, elf: &Elf, part: &Part) -> Result<(), NoMemory>
     ensures { OnOk result (AreHalvesOf elf.now part.now halves.new.items) }
 {

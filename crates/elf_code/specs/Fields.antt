@@ -1,6 +1,5 @@
 -- The fields that relocations apply to: their sizes and contents. psABI, "Relocations", "Field Symbols"; DWARF 5,
--- section
--- 7.6, for LEB128 numbers.
+-- section 7.6, for LEB128 numbers.
 use Rattle.std.specs.Prelude.{◌≡◌, ◌⊎◌, ℕ, zero, suc, ◌+◌, ◌-◌, ◌/◌, ◌%◌, ◌^◌, ◌≤◌, ℤ, pos, ◌-ℤ◌, ◌==◌, ◌||◌}
 use Rattle.std.specs.Prelude.{if◌then◌else◌, IsTrue, IsSomeAnd, List, [], ◌∷◌, Option, Some, None, length, option_map}
 use Rattle.std.specs.Int.{int_rem_euclid}

@@ -4,6 +4,6 @@ use Rattle.elf_image.specs.declared.elf.Elf.{Elf}
 use Rattle.elf_image.specs.memory.LoadedBytes.{byte_at}
 use Rattle.rv_code.specs.machine.MemoryNumbers.{number_in}
 
--- The number of n bytes at an address of a file's memory, if all bytes are loaded.
+-- The little-endian number in the n bytes at an address of a file's memory, if all bytes are loaded.
 abbrev pub loaded_number : Elf → ℕ → ℕ → Option ℕ
 loaded_number elf a n = number_in (byte_at elf) a n

@@ -77,8 +77,7 @@ pub record IsStartIn (elf : Elf) (start end a : ℕ) : Type 0 where
   pub starts : StartsIn elf start end a
 
 -- The starts of instructions of all code parts. References are examined before it is known which parts are functions,
--- so
--- they treat each of these as a code address.
+-- so they treat each of these as a code address.
 pub record IsStart (elf : Elf) (a : ℕ) : Type 0 where
   pub start : ℕ
   pub end : ℕ

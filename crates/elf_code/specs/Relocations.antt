@@ -49,8 +49,7 @@ entries_for elf table section =
     else []
 
 -- The relocations of a section that count. The section is a relocation table if its type says so, and sh_info is the
--- index
--- of the section that the relocations apply to.
+-- index of the section that the relocations apply to.
 abbrev pub entries_of : Elf → Section → List Relocation
 entries_of elf table =
     if table.kind == SHT_RELA
@@ -105,8 +104,7 @@ abbrev pub is_pc_difference : ℕ → Bool
 is_pc_difference kind = kind == r.R_RISCV_32_PCREL || kind == r.R_RISCV_PLT32
 
 -- Differences of two labels: one relocation adds or sets the first, and another subtracts the second. Both give the
--- width
--- of the field: a number of bits, or an unsigned LEB128 number.
+-- width of the field: a number of bits, or an unsigned LEB128 number.
 pub data Width : Type 0 where
   Bits : ℕ → Width
   Uleb128 : Width

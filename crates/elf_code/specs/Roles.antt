@@ -1,7 +1,6 @@
 -- Roles: the part of an address that the immediate of an instruction has, from the relocations that apply to it. psABI,
 -- "Relocations": "Procedure Calls", "PC-Relative Symbol Addresses", "Absolute Addresses". Only four-byte instructions
--- have
--- roles.
+-- have roles.
 use Rattle.std.specs.Prelude.{◌≡◌, ◌≢◌, ◌⊎◌, ℕ, ◌+◌, ◌<◌, ◌≤◌, ℤ, pos, ◌+ℤ◌, ◌*ℤ◌, ◌==◌, ◌||◌, if◌then◌else◌, IsTrue}
 use Rattle.std.specs.Prelude.{IsSome, Option, Some, None, Contains}
 use Rattle.rv_code.specs.declared.inst.Inst.{Inst}
@@ -27,8 +26,7 @@ pub record IsFullAt (elf : Elf) (a : ℕ) (inst : Inst) : Type 0 where
   pub has : HasInst elf start end a inst 4
 
 -- Immediates that can have the lower part of an address: in format I those of ADDI, loads and JALR, and in format S
--- those
--- of stores.
+-- those of stores.
 
 abbrev pub immediate_i : Action → Option ℤ
 immediate_i (Compute op.Add rd left (Immediate imm)) = Some imm
@@ -119,8 +117,7 @@ pub data Claims (elf : Elf) (r : Relocation) (a key : ℕ) (role : Role) : Type 
   call_lo : (target : ℕ) → CallTo elf r (pos target) → a ≡ r.place + 4 → key ≡ r.place → role ≡ CallLo r.place target →
       Claims elf r a key role
   -- The linker made a call of an undefined weak symbol a call of address 0, through x0. Both instructions stay the
-  -- same. The
-  -- AUIPC gets a role with itself as the target, and the JALR has no role.
+  -- same. The AUIPC gets a role with itself as the target, and the JALR has no role.
   weak_call : (pair : CallPair elf r) → pair.base ≡ 0 → a ≡ r.place → key ≡ r.place → role ≡ CallHi r.place →
       Claims elf r a key role
   hi : (target : ℕ) → PcrelHiTo elf r (pos target) → a ≡ r.place → key ≡ r.place → role ≡ Hi target →

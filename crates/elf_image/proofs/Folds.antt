@@ -1,6 +1,5 @@
 -- The lowest result of a function for the indices below a count, index by index, and the lowest place if the function
--- returns the lowest
--- place for each index.
+-- returns the lowest place for each index.
 use Rattle.std.proofs.Common.{◌≡◌, subst, sym, refl, ℕ, ◌+◌, ◌≤◌, ◌<◌, ⊎_elim, Option, Some, None, min, IfSome, IsSomeAnd, arith, rules}
 use Rattle.std.proofs.lemmas.Bool.{cases_lt}
 use Rattle.elf_image.specs.faults.LowestPlace.{IsLowest, SomeBelow, lower}

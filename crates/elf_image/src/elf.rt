@@ -71,8 +71,7 @@ impl<'a> Elf<'a> {
     }
 
     /// The first section that a name refers to. Names of unwind tables only refer to loaded sections, names of debug
-    /// tables
-    /// only to sections that aren't loaded, and both only to sections without code.
+    /// tables only to sections that aren't loaded, and both only to sections without code.
     pub fn section_called(&self, name: &[u8]) -> Option<&Section<'a>>
         ensures { option_copied result ≡ section_called self.now.sections.items name.now }
     {

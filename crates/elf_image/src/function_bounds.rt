@@ -11,8 +11,7 @@ use rb_bytes::fault::NoMemory;
 use std::alloc::Global;
 
 /// The cuts of a file, ascending: the bounds of its function symbols and of its sections with code. Ends of 2^64 or
-/// more
-/// are left out.
+/// more are left out.
 pub fn cuts(alloc: Global, elf: &Elf) -> Result<Vec<u64>, NoMemory>
     ensures ascending { IfOk result (λ cuts. IsStrictlyIncreasing cuts.items) }
     ensures exact { IfOk result

@@ -43,8 +43,7 @@ fn read_beside<'a>(
 }
 
 /// Reads a file. If one of the faults 1 to 8 is present, the error has the one with the lowest number at its lowest
-/// place.
-/// gABI, "ELF Header", "Program Header", "Section Header" and "Symbol Table".
+/// place. gABI, "ELF Header", "Program Header", "Section Header" and "Symbol Table".
 pub fn read<'a>(alloc: Global, file: &'a [u8]) -> Result<Elf<'a>, Refusal>
     ensures fields { IfOk result (IsElfOf file.now) }
     ensures readable { OnOk result (IsReadable file.now) }

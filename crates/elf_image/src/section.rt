@@ -146,8 +146,7 @@ impl<'a> Section<'a> {
     }
 
     /// Whether a name refers to sections of this kind: names of unwind tables refer to loaded sections, names of debug
-    /// tables
-    /// to sections that aren't loaded, and both only to sections without code.
+    /// tables to sections that aren't loaded, and both only to sections without code.
     pub fn is_meant_by(&self, name: &[u8]) -> bool
         ensures { result ≡ is_meant_by name.now self.now }
     {

@@ -28,8 +28,7 @@ pub const PF_W: u32 = 2;
 pub const PF_R: u32 = 4;
 
 /// All loaded addresses are below this limit, so that each pair of an upper and a lower part can reach them. It is
-/// below
-/// 2^31, so an address in four bytes has the same value as a signed and as an unsigned number.
+/// below 2^31, so an address in four bytes has the same value as a signed and as an unsigned number.
 pub const ADDRESS_END: u64 = 0x7fff_0000;
 
 /// The size of a program header in bytes.

@@ -5,8 +5,7 @@ ghost use Rattle.elf_image.specs.internal.TextEnds.{IsTextEnd};
 use memchr::memchr;
 
 // The distance up to which the end of a string is searched linearly, before the sorted zero bytes are used. Most names
-// are
-// shorter. Without the limit, many names that share a long tail would scan it again and again.
+// are shorter. Without the limit, many names that share a long tail would scan it again and again.
 const NEAR: usize = 64;
 
 /// The end of the string at an index, if it is near.

@@ -88,8 +88,7 @@ area_offset area a = area.offset + (a - area.address)
 -- Positions of the input's loaded bytes.
 
 -- The bytes at and after the executable segment's end move by the least multiple of the greatest alignment that makes
--- room
--- for the area. None moves if the area has its own segment.
+-- room for the area. None moves if the area has its own segment.
 abbrev pub step_of : List Segment → Area → ℕ
 step_of segments area =
     if area.tight

@@ -65,8 +65,7 @@ own_contents segments area shift s =
     else Copied
 
 -- The position of the contents of the section with an index, from the indices of the tables of names and symbols, and
--- from
--- the table that replaces the section.
+-- from the table that replaces the section.
 abbrev pub contents_by : ℕ → Option ℕ → Option ℕ → Option ℕ → Contents → ℕ → Section → Contents
 contents_by names symbols symbol_names table own index s =
     if names == index then SectionNames

@@ -42,8 +42,7 @@ loaded_end segments area shift =
 -- The table of program headers.
 
 -- The table of the input, and whether it is among bytes that are kept or moved: it starts before the end of the
--- executable
--- segment, or is completely loaded by a segment.
+-- executable segment, or is completely loaded by a segment.
 abbrev pub table_of : Elf → Range
 table_of elf = record { start = elf.phoff; size = PHDR_SIZE * length elf.segments.items }
 
@@ -79,8 +78,7 @@ PassesAt sections test place = IsSomeAnd (slice_get sections place.1)
     (λ s. (s.offset ≡ place.0) × IsTrue (test place.1 s))
 
 -- The contents of the section with index `index` are at the least multiple of their alignment (0 means none) at or
--- after
--- `start`, and end at `end`.
+-- after `start`, and end at `end`.
 abbrev pub StandsBehind : List Section → ℕ → ℕ → ℕ → Type 0
 StandsBehind sections start index end =
     IsSomeAnd (slice_get sections index) (λ n. (n.offset ≡ rounded_up (max 1 n.align) start)

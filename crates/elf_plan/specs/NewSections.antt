@@ -48,8 +48,7 @@ pub record HoldsContents (w bytes : List ℕ) (n : Section) : Type 0 where
   pub aligned : IsAligned n
 
 -- A dropped section becomes a null header that only keeps its name. If it was loaded and has the name of a debug table,
--- it
--- keeps the flag of a loaded section, since otherwise the name would refer to it.
+-- it keeps the flag of a loaded section, since otherwise the name would refer to it.
 abbrev pub flags_left : Section → ℕ
 flags_left s = if is_loaded s && names_debug s.name.now then SHF_ALLOC else 0
 

@@ -136,8 +136,7 @@ fn table_end(align: u64, end: u64, size: Option<usize>) -> Result<u64, Unwritabl
 }
 
 /// The area for `code` bytes of new code, followed by an unwind table of `frames` bytes and its index of `index` bytes,
-/// if
-/// these are given. `executable` is the executable segment. `tight` says whether the area gets its own segment.
+/// if these are given. `executable` is the executable segment. `tight` says whether the area gets its own segment.
 pub fn area_of(
     segments: &[Segment],
     executable: &Segment,
@@ -165,8 +164,7 @@ pub fn area_of(
 }
 
 /// The addresses that `area_of` gives to an unwind table of `frames` bytes and its index, after `code` bytes of new
-/// code
-/// from `start` on. `NoMemory` if an address doesn't fit 64 bits.
+/// code from `start` on. `NoMemory` if an address doesn't fit 64 bits.
 pub fn table_places(start: u64, code: usize, frames: usize) -> Result<(u64, u64), NoMemory>
     ensures frames { IfOk result (λ places. spec.table_start 8 (start + code) (Some frames) ≡ Some places.0) }
     ensures index { IfOk result (λ places. (index : ℕ) →

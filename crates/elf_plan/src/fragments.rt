@@ -137,8 +137,7 @@ fn count_fragments_up_to(fragments: &[Fragment], address: u64) -> usize
 }
 
 /// The number of bytes of the function `func` from `address` of the new code to the end of its fragment. 0 if no
-/// fragment of
-/// the function contains the address.
+/// fragment of the function contains the address.
 pub fn bytes_left(fragments: &[Fragment], func: usize, address: u64) -> u64
     ensures { (funcs : List Func) (spans : List Span) → AreFragments funcs spans fragments.now →
         IsFragment funcs spans func address result }

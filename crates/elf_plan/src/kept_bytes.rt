@@ -20,8 +20,7 @@ pub struct KeptBytes {
     /// Bytes before this offset keep their offsets.
     pub front: u64,
     /// The ranges that move with a segment, sorted by start, each extended to the greatest end of the ranges up to it,
-    /// so that
-    /// one search decides whether a range of the list contains a given range.
+    /// so that one search decides whether a range of the list contains a given range.
     pub moved: Vec<Extent>,
     ghost rising: { IsNonDecreasingBy (λ s. s.start) moved.items },
     ghost growing: { IsNonDecreasingBy (λ s. s.end) moved.items },

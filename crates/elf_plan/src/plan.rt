@@ -15,8 +15,7 @@ use elf_image::named::{EH_FRAME, EH_FRAME_HDR};
 use std::alloc::Global;
 
 /// The decisions on a written file before it is made. The file is made from the plan, and compared with it when it is
-/// read
-/// back.
+/// read back.
 #[derive(Drop)]
 pub struct Plan {
     /// The index of the executable segment's header in the input.
@@ -61,8 +60,7 @@ impl Plan {
     ghost use Rattle.elf_plan.specs.Plans.{IsPlanOf};
 
     /// The plan for the file `elf` with the new code `code` and the tables `tables`. `tight` says whether the area gets
-    /// its own
-    /// segment.
+    /// its own segment.
     pub fn new(
         alloc: Global,
         elf: &Elf,

@@ -34,8 +34,7 @@ pub fn bytes_of<'a>(file: &'a [u8], section: &Section) -> &'a [u8]
 }
 
 /// The flags in the header of a section that is left out: SHF_ALLOC if a loaded section has the name of a debug table,
-/// so
-/// that the name doesn't refer to this header.
+/// so that the name doesn't refer to this header.
 pub fn flags_left(section: &Section) -> u64
     ensures { result ≡ flags_left section.now }
 {

@@ -71,8 +71,7 @@ pub fn index_called(sections: &[Section], name: &[u8]) -> Option<usize>
 }
 
 /// The index of the section that the table called `name` replaces. None for the unwind table and its index, which are
-/// in
-/// the new area.
+/// in the new area.
 pub fn place_replaced(sections: &[Section], name: &[u8]) -> Option<usize>
     ensures { result ≡ spec.place_replaced sections.now name.now }
 {

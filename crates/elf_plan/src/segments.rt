@@ -68,8 +68,7 @@ fn grown(p: &Segment, end: u64) -> Segment
 }
 
 // Whether the segment `p` can grow up to the address `end`: all its memory is from the file, it ends at or before
-// `end`, and
-// its bytes aren't among those that move, from the offset `from` on.
+// `end`, and its bytes aren't among those that move, from the offset `from` on.
 fn can_grow(p: &Segment, from: u64, end: u64) -> bool
     ensures { IsTrue result → spec.CanGrow from end p.now }
 {
@@ -79,8 +78,7 @@ fn can_grow(p: &Segment, from: u64, end: u64) -> bool
 }
 
 // Whether `size` bytes from the offset `start` on start before the area's end, at the offset `end`, and end after it.
-// In a
-// tight file no bytes move, so the result is false.
+// In a tight file no bytes move, so the result is false.
 fn leaves_area(area: &Area, end: u64, start: u128, size: u64) -> bool
     requires end { end ≡ area_offset area.now area.now.end }
     requires low { start < 2 ^ 65 }
@@ -143,8 +141,7 @@ impl<'a> Places<'a> {
     }
 
     // The offset of the bytes of the header `p` in the written file: in the section at `home`, at the same distance
-    // from its
-    // start as in the input.
+    // from its start as in the input.
     fn place_in(&self, p: &Segment, home: usize) -> Result<u64, Unwritable>
         ensures { IfOk result (λ o. o ≡ place_in self.now.elf.now.sections.items self.now.sections_at.now p.now home) }
     {
@@ -153,8 +150,7 @@ impl<'a> Places<'a> {
     }
 
     // The new offset of the bytes of the header `p`, which no section contains: they move with the loaded bytes, are
-    // put after the
-    // area if they would start in it and end after it, and never are after the end of the file.
+    // put after the area if they would start in it and end after it, and never are after the end of the file.
     fn beside(&self, p: &Segment, align: u64) -> Result<u64, Unwritable>
         requires { 0 < align }
         ensures { IfOk result (λ o. o ≡ beside (outline self.now) align p.now) }
@@ -168,8 +164,7 @@ impl<'a> Places<'a> {
     }
 
     // Whether the header `p` refers to the table of program headers: it has type PT_PHDR, and the table doesn't start
-    // in the area
-    // and end after it.
+    // in the area and end after it.
     fn names_table(&self, p: &Segment) -> Result<bool, Unwritable>
         ensures { IfOk result (λ names. names ≡ names_table (outline self.now) p.now) }
     {
@@ -178,8 +173,7 @@ impl<'a> Places<'a> {
     }
 
     // The new offset of the bytes of the header `p`, which are at or after the executable segment's end. `home` is the
-    // section
-    // that they move with.
+    // section that they move with.
     fn place_behind(&self, p: &Segment, home: Option<usize>, align: u64) -> Result<u64, Unwritable>
         requires { 0 < align }
         ensures load { IfOk result (λ o. p.now.kind ≡ PT_LOAD → 0 < p.now.filesz →

@@ -111,8 +111,7 @@ pub fn weight_by(names: &BTreeMap<u64, Symbol>, elf: &Elf, funcs: &[Func], cold:
 }
 
 /// A bound on the bytes of the tables of names that are written: the old tables, the new names, and 64 bytes for those
-/// of
-/// new sections, saturated at 2^64 - 1. `cold` has the addresses of the first instructions of cold parts.
+/// of new sections, saturated at 2^64 - 1. `cold` has the addresses of the first instructions of cold parts.
 pub fn name_weight(alloc: Global, elf: &Elf, funcs: &[Func], cold: &[u64]) -> Result<u64, NoMemory>
     requires { AreLaidOut funcs.now }
     ensures { IfOk result (λ n. n ≡ spec.name_weight elf.now funcs.now cold.now) }

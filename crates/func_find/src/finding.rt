@@ -24,8 +24,7 @@ use std::alloc::Global;
 
 /// The functions of a file, by address, with their instructions and roles, or the first of the faults `BadEntry`,
 /// `BadInstruction` or `BareAuipc`, and `BadTarget`. `starts` and `refs` are those of the file, and `whole` the ranges
-/// with
-/// exception tables, by their starts and ends.
+/// with exception tables, by their starts and ends.
 pub fn functions(
     alloc: Global,
     elf: &Elf,

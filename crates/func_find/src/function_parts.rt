@@ -59,8 +59,7 @@ fn have_nops(alloc: Global, elf: &Elf, starts: &[u64], parts: &[Part]) -> Result
 }
 
 // The parts that are functions, by address. `starts` and `parts` are those of the file, and `referred` the addresses
-// that
-// are referred to.
+// that are referred to.
 fn function_parts(
     alloc: Global,
     elf: &Elf,

@@ -16,8 +16,7 @@ use rv_code::{Func, Inst, Placed, Role};
 use std::alloc::Global;
 
 /// The functions of these parts, or the fault of the first instruction that isn't valid. `wholes` are the whole parts
-/// of
-/// the file, and `roles` its roles.
+/// of the file, and `roles` its roles.
 pub fn functions_of(
     alloc: Global,
     elf: &Elf,

@@ -30,8 +30,7 @@ pub struct Referred {
 
 impl Referred {
     /// The addresses that a branch or jump, a role, a cell or the entry point refers to. `starts` and `parts` are those
-    /// of the
-    /// file.
+    /// of the file.
     pub fn new(
         alloc: Global,
         elf: &Elf,

@@ -8,8 +8,7 @@ use elf_image::Elf;
 use rv_code::Inst;
 
 /// The instruction at an address, and its length in bytes, if it is valid there: it ends at or before `end`, the
-/// address is
-/// even, and it only has two bytes if the file's flags say that the file has such instructions.
+/// address is even, and it only has two bytes if the file's flags say that the file has such instructions.
 pub fn valid_before(elf: &Elf, end: u64, address: u64) -> Option<(Inst, u8)>
     requires { address < end }
     ensures there { IfSome result (λ r. IsValidBefore elf.now end address r.0 r.1) }

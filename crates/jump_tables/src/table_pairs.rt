@@ -16,8 +16,7 @@ const MOST_PAIRS: usize = 1 << 24;
 
 /// The pairs of an indirect jump through a table and an address of its function that a cell refers to, by jump and by
 /// address. The result is `NoMemory` also if there are more than 2^24 pairs before those of a jump, which no usual
-/// program
-/// has.
+/// program has.
 pub fn tables(
     alloc: Global,
     funcs: &[Func],

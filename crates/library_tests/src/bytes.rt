@@ -87,8 +87,7 @@ fn examples_of_the_standard(rt: HostRuntime) -> Result<(), Fail> {
 }
 
 // Unsigned and signed numbers that are longer than necessary and followed by other bytes; that are cut off; and with
-// one
-// bit more than 64.
+// one bit more than 64.
 const SPELLINGS: &str = "\
 unsigned 85808080808080808080800099 Ok((5, 12))
 signed ffff7f99 Ok((-1, 3))

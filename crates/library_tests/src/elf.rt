@@ -140,9 +140,8 @@ fn changed_fields_are_refused(rt: HostRuntime) -> Result<(), Fail> {
 }
 
 // The example's segment ends at 88 in the file. Its program headers are at 160, after everything before them, the
-// second of
-// them at 198, and the file ends at 1d0. A header is its type, flags, offset, address, and sizes in the file and in
-// memory.
+// second of them at 198, and the file ends at 1d0. A header is its type, flags, offset, address, and sizes in the file
+// and in memory.
 const SEGMENTS: &str = "\
 # A second segment must share no address: it begins behind the first, where that ends, and one address below.
 like exit7

@@ -11,8 +11,7 @@ fn span(out: u64, len: u8, input: u64) -> Span {
 }
 
 // A jump was added after the instruction at 10078. The instructions at 10084 and 1008a were left out before their
-// target
-// at 1007c. An empty span is inside another one, and two spans have the greatest numbers.
+// target at 1007c. An empty span is inside another one, and two spans have the greatest numbers.
 fn spans() -> [Span; 9] {
     [
         span(0x1009c, 4, 0x1007c),

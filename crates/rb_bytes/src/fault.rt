@@ -13,23 +13,18 @@ pub enum FaultKind {
     /// Header".
     NotElf,
     /// A structure is not completely in the file, or an entry size or an index in the header is wrong. Place: the
-    /// offset of
-    /// the structure, or of the header's field.
+    /// offset of the structure, or of the header's field.
     Truncated,
     /// The header's flags require more than the compressed extension. Place: the offset of the flags, 30 in
-    /// hexadecimal.
-    /// psABI, "File Header".
+    /// hexadecimal. psABI, "File Header".
     Flags,
     /// The file is not a static executable. Place: the offset of the file type, 10 in hexadecimal, or of the program
     /// header that asks for a dynamic linker (PT_INTERP) or describes dynamic linking (PT_DYNAMIC).
     NotStatic,
     /// The loaded segments break a rule: exactly one is executable (or two, in a file that was rewritten), no two share
-    /// an
-    /// address or a byte of the file, and all sections with code are in executable segments. Place: the offset of the
-    /// program
-    /// header concerned, of the table of program headers, or of the section header; if no segment is executable, the
-    /// offset of
-    /// the header's field `e_phoff`, 20 in hexadecimal.
+    /// an address or a byte of the file, and all sections with code are in executable segments. Place: the offset of
+    /// the program header concerned, of the table of program headers, or of the section header; if no segment is
+    /// executable, the offset of the header's field `e_phoff`, 20 in hexadecimal.
     ExecSegments,
     /// The executable segment is writable. Place: the offset of its program header.
     WritableCode,
@@ -61,8 +56,7 @@ pub enum FaultKind {
     /// call.
     BadTarget,
     /// Functions that lead into each other by branches and JALs, or a single function, take more than 1,000,000 bytes:
-    /// a
-    /// JAL reaches 1,048,576 (ISA manual, section 2.5). Place: their lowest address.
+    /// a JAL reaches 1,048,576 (ISA manual, section 2.5). Place: their lowest address.
     UnitTooLong,
     /// A branch, or a jump of two bytes, leaves a function that is moved whole. Place: its address.
     KeptBranch,

@@ -1,7 +1,7 @@
 -- Counts of faults, which saturate at 2^64 - 1.
 use Rattle.std.specs.Prelude.{ℕ, ◌+◌, ◌-◌, ◌<◌, ◌^◌, min}
 
--- The count rose, unless it is 2^64 - 1.
+-- The count rose, or is 2^64 - 1 now.
 abbrev pub Rose : ℕ → ℕ → Type 0
 Rose before now = now < 2 ^ 64 - 1 → before < now
 

@@ -6,12 +6,12 @@ use crate::whole_files::{rights_of, write_file};
 use std::fs;
 use std::io::Read;
 
-/// The files of the operating system. They are opaque: contracts see no contents. All names, reads and writes share
-/// one count of faults.
+/// The files of the operating system. They are opaque: contracts see no contents. All names, reads and writes share one
+/// count of faults.
 ///
 /// A regular file, or one that doesn't exist, is written whole or not at all: as `.sudrepka-N` in its folder, which is
-/// then
-/// renamed. A killed process may leave such a file behind, but never a partial file under the name it was to write.
+/// then renamed. A killed process may leave such a file behind, but never a partial file under the name it was to
+/// write.
 #[derive(Drop)]
 pub struct HostFiles<'a, R> {
     rt: &'a R,
@@ -36,8 +36,8 @@ impl<'a, R: std::rt::Files> HostFiles<'a, R> {
     }
 
     /// These files, except that writing `name` gives it the permissions that `like` has at that time, if the system
-    /// allows
-    /// it. Set-user-ID and set-group-ID bits are left out. Only regular files get permissions; a device keeps its own.
+    /// allows it. Set-user-ID and set-group-ID bits are left out. Only regular files get permissions; a device keeps
+    /// its own.
     pub fn with_permissions_of(self, like: &'a str, name: &'a str) -> Self
         ensures { result.faults ≡ self.entry.faults }
     {

@@ -118,8 +118,7 @@ impl Files for MemFiles {
         ensures others_kept { UnchangedBut name.now (content self.old) (content self.new) }
         ensures goes_on { FilesGoOn (files_seen self.old) (files_seen self.new) }
         // A write fails if its number is to fail or the name has no room for the bytes, and only then. It then changes
-        // no
-        // content.
+        // no content.
         ensures fails { write_failed result ≡ write_fails self.old name.now (length bytes.now) }
         ensures contents_kept { result ≡ Wrote.Failed → Unchanged (content self.old) (content self.new) }
         ensures rooms_kept { Unchanged (room_for self.old) (room_for self.new) }

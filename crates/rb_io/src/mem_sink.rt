@@ -74,8 +74,7 @@ impl Sink for MemSink {
         ensures failed { result ≡ Put.Failed → Rose (calls_of self.old).faults (calls_of self.new).faults }
         ensures never_falls { (calls_of self.old).faults ≤ (calls_of self.new).faults }
         // A write fails if its number is to fail or no room is left for a piece that isn't empty, and only then.
-        // Otherwise
-        // it takes as many bytes as there is room for.
+        // Otherwise it takes as many bytes as there is room for.
         ensures answer { result ≡ write_answer self.old (length piece.now) }
         ensures room { room_left self.new ≡ room_after (room_left self.old) result }
         ensures calls { calls_of self.new ≡ after_call (calls_of self.old) (put_failed result) }

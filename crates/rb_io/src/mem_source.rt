@@ -50,8 +50,7 @@ impl Source for MemSource {
         ensures failed { result ≡ Got.Failed → Rose (calls_of self.old).faults (calls_of self.new).faults }
         ensures never_falls { (calls_of self.old).faults ≤ (calls_of self.new).faults }
         // A read fails if its number is to fail, and only then. Otherwise it moves as many bytes as are left and fit in
-        // the
-        // buffer.
+        // the buffer.
         ensures answer { result ≡ read_answer self.old (length buf.old) }
         ensures calls { calls_of self.new ≡ after_call (calls_of self.old) (got_failed result) }
         ensures rest_kept { IfBytes result (λ n. drop n buf.new ≡ drop n buf.old) }

@@ -35,13 +35,10 @@ pub(crate) fn rights_of<R: Files>(rt: &R, name: &str) -> Option<u32> {
 /// Makes `bytes` the content of a file, and gives it `rights` if there are some and the system allows it.
 ///
 /// A regular file, or one that doesn't exist, is replaced atomically: at each moment it has the old content or the new
-/// one.
-/// An existing file keeps its owner and group if the system allows it, and its permissions, without the bits above
+/// one. An existing file keeps its owner and group if the system allows it, and its permissions, without the bits above
 /// `RIGHTS`, if `rights` is `None`. A symbolic link is followed, and stays. Of a file with several hard links only this
-/// name gets
-/// the new bytes. Other files, such as devices and pipes, are written in place and keep their permissions. So are
-/// targets
-/// of links that don't exist, and files that the system allows to be written but not to be replaced.
+/// name gets the new bytes. Other files, such as devices and pipes, are written in place and keep their permissions. So
+/// are targets of links that don't exist, and files that the system allows to be written but not to be replaced.
 pub(crate) fn write_file<R: Files + AllocGlobal>(
     rt: &R,
     name: &str,

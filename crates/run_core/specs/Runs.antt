@@ -48,8 +48,7 @@ StateRunsTo step answer.WriteFault limit n s trace = ⊥
 StateRunsTo step answer.Memory limit n s trace = ⊥
 
 -- `state_of` gives the state of a machine of type M with the remaining input. `step` relates a state to the outcomes of
--- a
--- step.
+-- a step.
 module _ {M S C : Type 0} (state_of : M → List ℕ → S) (step : S → Outcome S C → Type 0) where
   -- n steps, none of which ended or halted, reached the machine's state. The source has the rest of the input left, and
   -- the sink took the output of the calls.

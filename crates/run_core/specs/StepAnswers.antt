@@ -46,8 +46,7 @@ module _ {M S C : Type 0} (state_of : M → List ℕ → S) (step : S → Outcom
     pub taken_is : after.output.taken ≡ append_known before.output.taken (output (events event))
 
   -- The machine goes on, whatever comes after the bytes that it read from the source. A source whose end was found
-  -- isn't
-  -- read again.
+  -- isn't read again.
   pub record StepGoes (old new : M) (ended ends : Bool) (before after : Outside) : Type 0 where
     pub read : List ℕ
     pub bytes : All (λ b. b < 256) read

@@ -8,8 +8,7 @@ ghost use Rattle.run_core.specs.Inputs.{IsRightly};
 use rb_io::{Got, Source};
 
 /// Whether the end of a source was found. After that the source isn't read again: a terminal could still give bytes,
-/// and
-/// then no single list of bytes would be the input of the run.
+/// and then no single list of bytes would be the input of the run.
 #[derive(Clone, Copy)]
 pub struct InputEnd {
     pub reached: bool,
@@ -24,8 +23,7 @@ impl InputEnd {
     }
 
     /// Fills a buffer from the front, piece by piece, until it is full or the source is at its end. `Failed` doesn't
-    /// say how
-    /// many bytes were read before the read that failed.
+    /// say how many bytes were read before the read that failed.
     pub fn fill<I: Source>(&mut self, input: &mut I, buffer: &mut [u8]) -> Got
         ensures within { IfBytes result (λ n. n ≤ length buffer.new) }
         ensures moved { IfBytes result (λ n.

@@ -75,8 +75,8 @@ pub fn is_branch(inst: &Inst) -> bool
     }
 }
 
-/// Whether an instruction falls through to the next one. A call that is the last instruction of its function is
-/// assumed not to return.
+/// Whether an instruction falls through to the next one. A call that is the last instruction of its function is assumed
+/// not to return.
 pub fn falls(inst: &Inst, is_last: bool) -> bool
     ensures { result ≡ flow.falls (action_of inst.now) is_last }
 {

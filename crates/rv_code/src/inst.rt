@@ -3,10 +3,8 @@
 /// An instruction of RV64I or M. A compressed instruction is represented by the one that it expands to.
 ///
 /// `rd`, `rs1` and `rs2` are register numbers from 0 to 31. `imm` is the signed immediate: for jumps, branches, loads
-/// and
-/// stores a number of bytes; for `Lui` and `Auipc` bits 31:12 as a signed 20-bit number; and for shifts the amount.
-/// `Fence`
-/// keeps the fields of format I. ISA manual (volume I, version 20240411), chapters 2, 4 and 13.
+/// and stores a number of bytes; for `Lui` and `Auipc` bits 31:12 as a signed 20-bit number; and for shifts the amount.
+/// `Fence` keeps the fields of format I. ISA manual (volume I, version 20240411), chapters 2, 4 and 13.
 #[derive(Clone, Copy, Debug)]
 pub enum Inst {
     Lui { rd: u8, imm: i64 },

@@ -1,7 +1,7 @@
 // Data that one step of the layout passes to the next.
 
-/// The blocks of each function, split into a hot and a cold part. A block is its index in the list of blocks, and
-/// the outer lists have the order of the list of functions.
+/// The blocks of each function, split into a hot and a cold part. A block is its index in the list of blocks, and the
+/// outer lists have the order of the list of functions.
 #[derive(Drop)]
 pub struct Chains {
     /// The blocks of each function's hot part, in their new order.

@@ -41,8 +41,7 @@ pub enum Op {
 
 impl Op {
     /// The result of the operation on two 64-bit numbers. Nothing traps: the quotient of a division by zero has all
-    /// bits
-    /// set, and the remainder is the dividend.
+    /// bits set, and the remainder is the dividend.
     pub fn apply(self, left: u64, right: u64) -> u64
         ensures { result ≡ apply self left right }
     {

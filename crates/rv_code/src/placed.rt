@@ -14,8 +14,7 @@ pub enum Width {
 /// The part of a code address that an instruction's immediate has, named by the assembler's operators.
 ///
 /// All fields are addresses: `target` is the address that both parts give together, and `hi` is the address of the
-/// AUIPC
-/// with the upper part. psABI, section "Relocations".
+/// AUIPC with the upper part. psABI, section "Relocations".
 #[derive(Clone, Copy, PartialEq, Eq)]
 pub enum Role {
     /// No part of an address.

@@ -1,8 +1,7 @@
 // Encodes four-byte words by format. ISA manual, sections 2.2, 2.3 and 4.2.1.
 //
 // The result is None if no word has these fields: a register number is above 31, or the immediate is out of range or
-// not a
-// multiple of its unit.
+// not a multiple of its unit.
 ghost use Rattle.std.specs.Prelude.{◌<◌, ◌^◌, IsSome};
 ghost use Rattle.rv_code.specs.isa.Reach.{IsWithin, Reaches};
 ghost use Rattle.rv_code.specs.isa.FullRows.{FormatR, FormatI, FormatS, FormatB, FormatU, FormatJ, Shift64, Shift32};

@@ -6,8 +6,7 @@ use Rattle.rv_memory.specs.PageIndex.{place_of}
 use Rattle.rv_memory.specs.declared.page_index.PageIndex.{PageIndex}
 use Rattle.rv_memory.specs.declared.pages.Pages.{Pages}
 
--- The page of an address has the number of the address divided by 4096. The bytes of all pages are in one list, ordered
--- by page index.
+-- The page of an address has the number a / 4096. The bytes of all pages are in one list, ordered by page index.
 unfoldable pub byte_in : PageIndex → List ℕ → ℕ → Option ℕ
 byte_in index bytes a = option_map (λ place. slice_index bytes (place * 4096 + a % 4096)) (place_of index (a / 4096))
 

@@ -114,8 +114,7 @@ impl<'a> Memory<'a> {
     }
 
     /// The halfwords at an address and after it, if both are in code that the program can't write. They are read from
-    /// the
-    /// file.
+    /// the file.
     pub fn code_halves(&self, address: u64) -> Option<(u16, u16)>
         ensures first { IfSome result (λ halves. halves.0 ≡ little (memory_bytes (memory_of self.now) address 2)) }
         ensures second { IfSome result (λ halves. halves.1 ≡ little
@@ -348,8 +347,7 @@ impl<'a> Memory<'a> {
     }
 
     // Whether all addresses are in the stack, in the break or in one segment, and the access is allowed. This decides
-    // most
-    // accesses. If it is false, each address is examined.
+    // most accesses. If it is false, each address is examined.
     fn may_run(&self, access: Access, address: u64, count: usize) -> bool
         ensures { IsTrue result → all_may (may self.now access) address count ≡ true }
     {

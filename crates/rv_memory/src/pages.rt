@@ -68,8 +68,7 @@ impl Pages {
     }
 
     /// The little-endian number of 1, 2, 4 or 8 bytes at an address, all in one page. None if the page doesn't exist,
-    /// or for
-    /// another number of bytes.
+    /// or for another number of bytes.
     pub fn number(&self, address: u64, count: u8) -> Option<u64>
         requires { address % 4096 + count ≤ 4096 }
         ensures value { IfSome result

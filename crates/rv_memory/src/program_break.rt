@@ -20,8 +20,7 @@ pub fn break_start(segments: &[Segment]) -> u64
 }
 
 /// The greatest break: at most `BREAK_ROOM` above the least, and at most the start of the page on which a higher
-/// segment
-/// starts. It is 0 if no segment is writable.
+/// segment starts. It is 0 if no segment is writable.
 pub fn break_bound(segments: &[Segment]) -> u64
     requires { writable_end segments.now ≤ 2 ^ 63 }
     ensures { result ≡ break_bound segments.now }

@@ -121,8 +121,8 @@ fn put_vector(out: &mut Vec<u8>, table: u64, count: u64, entry: u64) -> Result<(
     put_numbers(out, &entries)
 }
 
-// The numbers from the stack pointer on: the number of arguments, their addresses, the ends of the lists of
-// arguments and of environment variables, and the auxiliary vector.
+// The numbers from the stack pointer on: the number of arguments, their addresses, the ends of the lists of arguments
+// and of environment variables, and the auxiliary vector.
 fn start_bytes(alloc: Global, elf: &Elf, args: &[String], address: u64) -> Result<Vec<u8>, NoMemory>
     requires entry { elf.now.entry ≡ e_entry elf.now.file.now }
     requires phoff { elf.now.phoff ≡ e_phoff elf.now.file.now }
@@ -145,9 +145,9 @@ fn start_bytes(alloc: Global, elf: &Elf, args: &[String], address: u64) -> Resul
     Ok(out)
 }
 
-// The initial stack pointer, a multiple of 16 below the texts at `address`. There are 17 numbers besides the
-// addresses of `count` texts: the count, the ends of two lists, and the 14 numbers of the auxiliary vector. `room`
-// requires far more than all these take.
+// The initial stack pointer, a multiple of 16 below the texts at `address`. There are 17 numbers besides the addresses
+// of `count` texts: the count, the ends of two lists, and the 14 numbers of the auxiliary vector. `room` requires far
+// more than all these take.
 fn stack_pointer(address: u64, count: u64) -> u64
     requires address { address ≤ random_address }
     requires room { 1000000 ≤ address }

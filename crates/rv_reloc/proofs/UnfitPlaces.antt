@@ -23,8 +23,7 @@ use Rattle.rv_reloc.proofs.Faulty.{of_record}
 use Rattle.rv_reloc.proofs.Lebs.{bytes-from}
 
 -- A relocation's field is in each section that the relocation applies to, if it is in one that starts at the same
--- address or later and in
--- one that ends at the same address or earlier.
+-- address or later and in one that ends at the same address or earlier.
 
 leb_more : (elf : Elf) (a n m : ℕ) (bs : List ℕ) → leb_at elf a n ≡ Some bs → n ≤ m → leb_at elf a m ≡ Some bs
 leb_more elf a n m bs is upto =

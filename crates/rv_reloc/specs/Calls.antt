@@ -42,7 +42,6 @@ abbrev pub GoesTo : ℕ → CallInsts → ℕ → Type 0
 GoesTo a c target = IsThrough c × (pos target ≡ pair_target a c.auipc.imm c.jalr.imm)
 
 -- The target in the role of the AUIPC of a call at address `a`: the call's target, or `a` itself if the JALR jumps
--- through
--- x0.
+-- through x0.
 abbrev pub Names : ℕ → CallInsts → ℕ → Type 0
 Names a c target = GoesTo a c target ⊎ ((c.jalr.base ≡ 0) × (target ≡ a))

@@ -35,7 +35,7 @@ abbrev pub ends_with : Option ℕ → Bool
 ends_with None = true
 ends_with (Some byte) = is_last byte
 
--- The distance from zero of the number whose bits are left.
+-- A measure for the bits of a number that are left: n for n and for -n - 1.
 abbrev pub magnitude : ℤ → ℕ
 magnitude (pos n) = n
 magnitude (negsuc n) = n

@@ -10,9 +10,8 @@ abbrev pub for_section : Section → Relocation → Relocation
 for_section s r = record r { section = s }
 
 -- For each relocation, `kept` has one for a section that starts at the same address or later, and one for a section
--- that
--- ends at the same address or earlier. For each test that ignores sections, both lists have the same number of passing
--- relocations, or both have at least two.
+-- that ends at the same address or earlier. For each test that ignores sections, both lists have the same number of
+-- passing relocations, or both have at least two.
 pub record IsThinned (full kept : List Relocation) : Type 0 where
   pub back : (r : Relocation) → Contains kept r → Contains full r
   pub starts : (r : Relocation) → Contains full r → (s : Section) × Contains kept (for_section s r)

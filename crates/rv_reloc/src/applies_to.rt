@@ -5,8 +5,7 @@ ghost use Rattle.rv_reloc.specs.AppliesTo.{end_of, later_start, sooner_end};
 use elf_image::Section;
 
 /// The sections that relocations apply to. Of several, two are kept: a field is in all sections if it is in the one
-/// that
-/// starts last and in the one that ends first.
+/// that starts last and in the one that ends first.
 #[derive(Clone, Copy)]
 pub enum AppliesTo<'a> {
     One(&'a Section<'a>),

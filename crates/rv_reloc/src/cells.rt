@@ -62,8 +62,7 @@ fn lowest_bad_field(counted: &[Candidate]) -> Option<u64>
 }
 
 /// The lowest place of a difference among the fields that count with a label that isn't an address. If there is none,
-/// all
-/// labels are addresses.
+/// all labels are addresses.
 pub fn lowest_bad_label(counted: &[Candidate]) -> Option<u64>
     ensures lowest { (elf : file.Elf) (tabled : List (ℕ × ℕ)) → AreCounted elf tabled (map as_field counted.now) →
         IsLowest (HasBadLabel elf tabled) result }

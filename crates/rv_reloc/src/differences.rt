@@ -39,8 +39,7 @@ pub struct Difference {
 }
 
 // The difference of the label that is added or set and the label that is subtracted, if there is exactly one of each.
-// In
-// this file `near` is a guess for the index of the relocation in `records`.
+// In this file `near` is a guess for the index of the relocation in `records`.
 fn labels_difference(
     elf: &Elf,
     records: &[Record],

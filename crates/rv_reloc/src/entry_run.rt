@@ -5,8 +5,7 @@ ghost use Rattle.rv_reloc.specs.AppliesTo.{end_of, last_start, first_end};
 use crate::applies_to::AppliesTo;
 
 /// Consecutive relocation entries that apply to the same sections. The entry with number k is at file offset `phase` +
-/// 24
-/// k, so that tables that share entries number them equally.
+/// 24 k, so that tables that share entries number them equally.
 #[derive(Clone, Copy)]
 pub struct EntryRun<'a> {
     pub applies_to: AppliesTo<'a>,

@@ -19,8 +19,8 @@ pub fn is_named(section: &Section, name: &[u8]) -> bool
     section.name == name
 }
 
-// Whether the relocations of a section count. Those of unwind tables don't, since these tables are read and written
-// as a whole.
+// Whether the relocations of a section count. Those of unwind tables don't, since these tables are read and written as
+// a whole.
 fn counts(section: &Section) -> bool
     ensures { result ≡ counts section.now }
 {

@@ -62,9 +62,8 @@ fn check_cells(elf: &Elf, starts: &Starts, wholes: &[Part], records: &[Record]) 
 }
 
 /// Looks for the faults `RelocType`, `RelocMismatch`, `LoMismatch`, `NarrowDiff`, `IfuncOrPlt` and `AlreadyMoved`, in
-/// this
-/// order. All lists are those of the file. `counted` are the fields that count, and `misfit` is the lowest place of a
-/// relocation that doesn't fit.
+/// this order. All lists are those of the file. `counted` are the fields that count, and `misfit` is the lowest place
+/// of a relocation that doesn't fit.
 pub fn check(
     elf: &Elf,
     starts: &Starts,

@@ -82,8 +82,7 @@ fn count_below(records: &[Record], place: u64, at: u64) -> usize
 }
 
 // The result of `count_below`. The index `near` and its neighbours are tried before a binary search, since relocations
-// for
-// the same field, or for an AUIPC and its lower part, are adjacent.
+// for the same field, or for an AUIPC and its lower part, are adjacent.
 fn count_near(records: &[Record], near: usize, place: u64, at: u64) -> usize
     requires { AreInOrder records.now }
     ensures { IsSplit place at records.now result }

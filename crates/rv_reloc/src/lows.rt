@@ -57,8 +57,7 @@ fn immediate_s(action: &Action) -> Option<i64>
 }
 
 /// The immediate that can have a lower part for a relocation of this type: that of format I or format S, depending on
-/// the
-/// type.
+/// the type.
 pub fn lower_immediate(kind: u32, inst: &Inst) -> Option<i64>
     ensures { result ≡ lower_immediate kind inst.now }
 {
@@ -71,8 +70,7 @@ pub fn lower_immediate(kind: u32, inst: &Inst) -> Option<i64>
 }
 
 /// The lower part that a relocation gives, if it is for one and on an instruction that can have one. The symbol refers
-/// to
-/// the AUIPC, not to the target. psABI, "PC-Relative Symbol Addresses".
+/// to the AUIPC, not to the target. psABI, "PC-Relative Symbol Addresses".
 pub fn low_of(elf: &Elf, starts: &Starts, parts: &[Part], relocation: &Record) -> Option<Low>
     requires starts { AreStarts elf.now starts.now }
     requires parts { AreCodeParts elf.now parts.now }

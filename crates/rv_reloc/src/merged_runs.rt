@@ -38,8 +38,7 @@ fn push_first<'a>(runs: &mut VecDeque<EntryRun<'a>>, run: &EntryRun<'a>) -> Resu
 }
 
 // Merges two runs of which `next` starts inside `run`, up to the end of the shorter one. Their common entries become
-// one
-// run, and the rest of the other run goes back to the front of its list.
+// one run, and the rest of the other run goes back to the front of its list.
 fn merge_common<'a>(
     done: &mut VecDeque<EntryRun<'a>>,
     left: &mut VecDeque<EntryRun<'a>>,

@@ -18,8 +18,7 @@ use std::alloc::Global;
 
 // At most one relocation is kept for this number of bytes of the file. A table has 24 bytes for each relocation, which
 // is kept at most twice. Tables that overlap without sharing entries, which no linker makes, could have many more:
-// these
-// are refused as out of memory.
+// these are refused as out of memory.
 const BYTES_A_RECORD: usize = 6;
 
 /// A relocation with a section that it applies to.

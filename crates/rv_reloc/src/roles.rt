@@ -17,8 +17,7 @@ pub struct Claim {
     /// The type of the relocation.
     pub kind: u32,
     /// The address of the AUIPC, or the target of an absolute address. Claims to one instruction with the same type and
-    /// key
-    /// have the same role.
+    /// key have the same role.
     pub key: u64,
     pub role: Role,
 }

@@ -7,8 +7,7 @@ ghost use Rattle.elf_code.specs.Relocations.{is_absolute, is_pc_difference, is_s
 use elf_image::relocation::*;
 
 /// Whether the relocation is ignored: a hint for the linker, a branch or jump (whose target is read from the
-/// instruction),
-/// or an offset of thread-local data.
+/// instruction), or an offset of thread-local data.
 pub fn is_ignored(kind: u32) -> bool
     ensures { result ≡ is_ignored kind }
 {

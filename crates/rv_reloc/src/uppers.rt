@@ -40,8 +40,7 @@ pub fn is_bad_upper(
 }
 
 // Whether there is an AUIPC at an address, with an upper part that isn't part of a call. `near` is a guess for the
-// index
-// of its relocation in `records`.
+// index of its relocation in `records`.
 fn is_upper(
     elf: &Elf,
     starts: &Starts,
@@ -66,8 +65,7 @@ fn is_upper(
 }
 
 /// Whether a relocation for a lower part isn't on an instruction that can have one, or refers to no upper part. `near`
-/// is
-/// a guess for the index in `records` of the relocation for the upper part.
+/// is a guess for the index in `records` of the relocation for the upper part.
 pub fn is_bad_lower(
     elf: &Elf,
     starts: &Starts,

@@ -9,8 +9,7 @@ use std::test::Fail;
 use test_files::words::{Row, file_in_words, rows};
 
 // Each row has the offset, the unit, the depth and the tag of each entry, and the name, the form, the offset and the
-// value
-// of each attribute; or the fault.
+// value of each attribute; or the fault.
 const UNITS: &str = "\
 # A unit `sample.c` with three functions; its version is 4, or its length greater by 1.
 code .text 10078 lui a0,0; addi a0,a0,7; exit

@@ -142,8 +142,7 @@ fn encoded(mnemonic: &str, rest: &str) -> Result<(u32, usize), BuildError> {
 }
 
 /// Appends instructions. `.rept N` repeats the instruction after it, and `exit` stands for `addi a7,zero,93; ecall`,
-/// which
-/// ends the program with the status in a0.
+/// which ends the program with the status in a0.
 pub fn push_assembly(code: &mut Vec<u8>, text: &str) -> Result<(), BuildError> {
     for line in text.split("; ") {
         let mut words = line.split(' ');

@@ -22,8 +22,7 @@ pub enum HeaderTable {
 }
 
 /// The address of the code segment, which includes the file header; and the address after the file header and one
-/// program
-/// header.
+/// program header.
 pub const BASE: u64 = 0x10000;
 
 pub const CODE: u64 = 0x10078;
@@ -34,10 +33,8 @@ pub const PAGE: u64 = 0x1000;
 /// A file to build. A test may change each part before the file is built.
 ///
 /// The file has, in this order: its header; bytes with a fixed offset; sections without one; a section of relocations
-/// for
-/// each section that has some; the symbols and their names, if there are symbols; the names of sections; and the
-/// section
-/// headers, at a multiple of 8.
+/// for each section that has some; the symbols and their names, if there are symbols; the names of sections; and the
+/// section headers, at a multiple of 8.
 #[derive(Drop)]
 pub struct ElfFile<'a> {
     /// `e_type`.

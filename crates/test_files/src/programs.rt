@@ -1,6 +1,5 @@
 // Descriptions of programs that tests of several crates read, lay out and run. The code of each starts at 10078, which
-// is
-// the entry point, unless its name says otherwise.
+// is the entry point, unless its name says otherwise.
 use crate::error::BuildError;
 
 // A paragraph is a name, and then the lines that describe a file.

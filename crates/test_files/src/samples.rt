@@ -119,8 +119,7 @@ fn push_call(alloc: Global, words: &mut String, number: u8) -> Result<(), BuildE
 }
 
 /// The description of the file, with a symbol for each function and a relocation for each call and pointer, and the
-/// profile
-/// of its run.
+/// profile of its run.
 pub fn sample_in_words(alloc: Global, sample: &Sample) -> Result<String, BuildError> {
     let mut words = String::new(alloc);
     push_code_lines(alloc, &mut words, sample)?;

@@ -286,8 +286,7 @@ fn change(alloc: Global, file: &mut Vec<u8>, words: &str) -> Result<(), BuildErr
 ///
 /// - `code NAME ADDR INSTRUCTION; ..`: a section of the first segment, whose address is the entry point
 /// - `loaded NAME ADDR BYTES`, `zeros NAME ADDR SIZE`, `writable NAME ADDR BYTES`, `zeroed NAME ADDR SIZE`: a section
-///   of the
-///   last segment; `zeroed` has no bytes in the file
+///   of the last segment; `zeroed` has no bytes in the file
 /// - `unloaded NAME 0 BYTES`: a section that isn't loaded
 /// - `segment r|rw OFFSET ADDR`: another segment
 /// - `header TYPE FLAGS OFFSET ADDR FILESZ MEMSZ`: a program header for existing bytes, or for none
@@ -333,11 +332,10 @@ pub struct Row<'a> {
     pub wanted: &'a str,
 }
 
-/// The rows of a table of paragraphs, which are separated by empty lines. A paragraph begins with a title line `#
-/// TITLE`,
-/// and then has lines that describe a file and are shared by its rows. A row is `- LINES => WANTED`: more lines of the
-/// description, and the expected result. Lines may be joined by ` | `. `like NAME` is replaced by the lines of a
-/// program.
+/// The rows of a table of paragraphs, which are separated by empty lines. A paragraph begins with a title line, which
+/// starts with `# `, and then has lines that describe a file and are shared by its rows. A row is `- LINES => WANTED`:
+/// more lines of the description, and the expected result. Lines may be joined by ` | `. `like NAME` is replaced by the
+/// lines of a program.
 pub fn rows(alloc: Global, table: &str) -> Result<Vec<Row<'_>>, BuildError> {
     let mut rows = Vec::new(alloc);
     for paragraph in table.split("\n\n") {

@@ -1,6 +1,5 @@
 -- The functions of a file without faults ascend by address without overlap, are below the end of addresses, and their
--- instructions follow
--- one another at even addresses.
+-- instructions follow one another at even addresses.
 use Rattle.std.proofs.Common.{◌≡◌, ◌∙◌, sym, ap, refl, ℕ, ◌+◌, ◌-◌, ◌%◌, ◌<◌, ◌≤◌, inl, inr, ⊎_elim, true, List, [], ◌∷◌, Some}
 use Rattle.std.proofs.Common.{All, length, slice_index_or, arith}
 use Rattle.std.specs.Prelude.{Any, Contains, IsTrue, slice_get}

@@ -1,6 +1,5 @@
 -- The blocks of a function partition its instructions: each instruction is in one block, and each block except the last
--- is followed by the
--- block that starts with the next instruction.
+-- is followed by the block that starts with the next instruction.
 use Rattle.std.proofs.Common.{◌≡◌, ◌∙◌, sym, subst, ap, refl, ℕ, zero, suc, ◌+◌, ◌-◌, ◌<◌, ◌≤◌, ◌⊎◌, inl, inr, ⊎_elim, true, List}
 use Rattle.std.proofs.Common.{[], ◌∷◌, Some, length, slice_index_or, arith}
 use Rattle.std.specs.Prelude.{Contains, slice_get}

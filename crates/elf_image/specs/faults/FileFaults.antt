@@ -28,7 +28,7 @@ EM_RISCV = 0xf3
 abbrev pub ET_EXEC : ℕ
 ET_EXEC = 2
 
--- The identification and, if the file is long enough for the field, the machine.
+-- The file has the identification and, if it is long enough for the field e_machine, the machine.
 pub record IsElf (file : List ℕ) : Type 0 where
   pub identification_is : take 7 file ≡ identification
   pub machine_is : 20 ≤ length file → e_machine file ≡ EM_RISCV

@@ -1,9 +1,7 @@
 -- Places at which a file is truncated: structures that aren't completely in the file, and header fields without which
 -- these structures can't be found. Entries of a table are only examined if the table is complete, and names only if
--- their
--- string table exists and is complete. gABI, "ELF Header", "Program Header", "Section Header", "String Table" and
--- "Symbol
--- Table".
+-- their string table exists and is complete. gABI, "ELF Header", "Program Header", "Section Header", "String Table" and
+-- "Symbol Table".
 use Rattle.std.specs.Prelude.{◌≡◌, ◌≢◌, ◌≤◌, ◌<◌, ◌⊎◌, ◌+◌, ◌*◌, ℕ, List, length, IfSome, Option, Some, None}
 use Rattle.elf_image.specs.declared.section.SectionHeader.{SectionHeader}
 use Rattle.elf_image.specs.declared.section.TheConstants.{SHT_NOBITS, SHDR_SIZE}

@@ -1,7 +1,6 @@
 -- The fields of an ELF file's header and program headers in the bytes of the file. gABI, "ELF Header" and "Program
 -- Header"; psABI, "File Header". Counts are those in the header. Extended counts in the null section, which the gABI
--- has
--- for files with more headers, aren't supported.
+-- has for files with more headers, aren't supported.
 use Rattle.std.specs.Prelude.{ℕ, zero, suc, ◌+◌, ◌*◌, ◌/◌, ◌%◌, ◌==◌, Bool, List, [], ◌∷◌, drop}
 use Rattle.byteorder.specs.Endian.{little_number}
 use Rattle.elf_image.specs.declared.segment.Segment.{Segment}

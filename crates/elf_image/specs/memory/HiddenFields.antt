@@ -45,13 +45,13 @@ only test range = if test then range ∷ [] else []
 abbrev pub is_executable_segment : Elf → ℕ → Bool
 is_executable_segment elf index = option_map_or (λ e. e.0 == index) (executable_segment elf.segments.items) false
 
--- The byte at an address belongs to the field e_entry, if that is loaded.
+-- The byte at an address belongs to the field e_entry, which is loaded.
 abbrev pub is_in_entry_field : Elf → ℕ → Bool
 is_in_entry_field file a =
     option_map_or (λ start. is_in_range a (record { start = start; size = 8 })) (address_of file e_entry_field) false
 
 -- Hidden fields of one program header: the sizes of the executable segment; the offset of a segment that is after the
--- executable one in the file; and all addresses and sizes of the unwind table index (LSB, "PT_GNU_EH_FRAME").
+-- executable one in the file; and the offset, addresses and sizes of the unwind table index (LSB, "PT_GNU_EH_FRAME").
 abbrev pub hidden_in_segment : Elf → ℕ × Segment → List Range
 hidden_in_segment elf indexed =
     let at = elf.phoff + PHDR_SIZE * indexed.0 in

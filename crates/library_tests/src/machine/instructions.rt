@@ -27,8 +27,7 @@ fn parse(line: &str) -> Option<Row> {
 }
 
 // The instruction after the tested one, so that a0 shows its effect: LI a0,1 after a branch, which skips it if taken;
-// LD
-// a0,16(s0) after a store; and a NOP after others.
+// LD a0,16(s0) after a store; and a NOP after others.
 fn follow(word: u64) -> &'static str {
     match word % 128 {
         0x63 => "addi a0,zero,1",
@@ -38,8 +37,7 @@ fn follow(word: u64) -> &'static str {
 }
 
 // The description of the file. The operands of each row are loaded from the data, and its result is stored there. At
-// the
-// end come write(1, data, s0 - data) and exit(0).
+// the end come write(1, data, s0 - data) and exit(0).
 fn file(alloc: Global) -> Result<String, Fail> {
     let mut code = String::from_str(alloc, "flags 1\ncode .text 100b0 lui s0,80")?;
     let mut data = String::from_str(alloc, "\nsegment rw 3000 50000\nwritable .data 50000 ")?;

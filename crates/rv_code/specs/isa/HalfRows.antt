@@ -71,8 +71,8 @@ rd half = field half 7 5
 abbrev pub rs2 : ℕ → ℕ
 rs2 half = field half 2 5
 
--- Registers 8 to 15 as three bits: bits 9:7 for rs1' and for rd' of arithmetic, bits 4:2 for rs2' and for rd' of
--- loads and of C.ADDI4SPN.
+-- Registers 8 to 15 as three bits: bits 9:7 for rs1' and for rd' of arithmetic, bits 4:2 for rs2' and for rd' of loads
+-- and of C.ADDI4SPN.
 abbrev pub upper_register : ℕ → ℕ
 upper_register half = 8 + field half 7 3
 

@@ -30,8 +30,7 @@ EndsBlock p = IsTrue (is_branch (action_at p)) ⊎ IsTrue (is_plain_jump (action
 
 -- A block begins at the i-th instruction of a function: at the first one and, unless the function is whole, at each
 -- target of a branch or jump, at each address that a role, a cell or the entry point has, and after each instruction
--- that
--- ends a block.
+-- that ends a block.
 pub data Begins (code : ProgramCode) (func : Func) (i : ℕ) : Type 0 where
   at_start : i ≡ 0 → Begins code func i
   named : func.whole ≡ false → IsSomeAnd (inst_at func i) (λ p. IsTarget code.funcs p.addr ⊎ IsHeld code p.addr) →

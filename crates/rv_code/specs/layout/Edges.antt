@@ -1,5 +1,5 @@
--- Edges of the control-flow graph, between blocks of one function, and the pairs of an indirect jump and an address
--- to which a jump table leads it.
+-- Edges of the control-flow graph, between blocks of one function, and the pairs of an indirect jump and an address to
+-- which a jump table leads it.
 use Rattle.std.specs.Prelude.{◌≡◌, ◌≢◌, ℕ, ◌+◌, List, Some, IsTrue, IsSomeAnd, Contains, Any, slice_get}
 use Rattle.rv_code.specs.declared.action.Action.{Action}
 use Rattle.rv_code.specs.declared.action.Action.TheVariants.{JumpTo}
@@ -15,8 +15,8 @@ use Rattle.rv_code.specs.layout.Lists.{ListsPairs}
 
 -- Indirect jumps.
 
--- An indirect jump through a table: a JALR that saves no return address, has no role and isn't a return. A return
--- reads x1 (psABI, "Integer Register Convention").
+-- An indirect jump through a table: a JALR that saves no return address, has no role and isn't a return. A return reads
+-- x1 (psABI, "Integer Register Convention").
 abbrev pub IsTableJump : Placed → Type 0
 IsTableJump p = (p.role ≡ Plain) × Jumps (action_at p)
   where

@@ -32,8 +32,8 @@ target a (Branch test wanted rs1 rs2 imm) = Some (plus a (unsigned64 imm))
 target a (Jump rd imm) = Some (plus a (unsigned64 imm))
 target a _ = None
 
--- An instruction falls through to the next one unless it is a jump that saves no return address, or is a call and
--- the last instruction of its function: such a call is assumed not to return.
+-- An instruction falls through to the next one unless it is a jump that saves no return address, or is a call and the
+-- last instruction of its function: such a call is assumed not to return.
 abbrev pub falls : Action → Bool → Bool
 falls action is_last = not (is_plain_jump action || (is_call action && is_last))
 

@@ -1,5 +1,5 @@
--- Parts shared by the byte machine and the symbol machine: registers and memory over any type of value, access
--- rights, the program break, system calls, and runs.
+-- Parts shared by the byte machine and the symbol machine: registers and memory over any type of value, access rights,
+-- the program break, system calls, and runs.
 use Rattle.std.specs.Prelude.{◌≡◌, ℕ, zero, suc, ◌+◌, ◌-◌, ◌*◌, ◌/◌, ◌%◌, ◌^◌, ◌&&◌, ◌||◌, ◌==◌, nat_lt, nat_le}
 use Rattle.std.specs.Prelude.{if◌then◌else◌, Bool, true, List, [], ◌∷◌, ◌++◌, Option, Some, None}
 
@@ -37,9 +37,9 @@ unfoldable pub low_bytes : ℕ → ℕ → List ℕ
 low_bytes zero x = []
 low_bytes (suc n) x = x % 256 ∷ low_bytes n (x / 256)
 
--- The address ranges that a file and its stack give a program for a whole run.
+-- The permissions that a file and its stack give a program for a whole run.
 pub record Space : Type 0 where
-  -- Addresses that the program may read, write and execute, without those up to its break.
+  -- Addresses that the program may read, write and execute, without the memory that its break gains.
   pub reads : ℕ → Bool
   pub writes : ℕ → Bool
   pub executes : ℕ → Bool
@@ -71,8 +71,8 @@ may_write s a = s.space.writes a || in_break s a
 abbrev pub may_execute : {V C : Type 0} → State V C → ℕ → Bool
 may_execute s a = s.space.executes a
 
--- The break is set as asked if the new break is between its start and its bound. Gained bytes are zero, also those
--- that were given back before.
+-- The break is set as asked if the new break is between its start and its bound. Gained bytes are zero, also those that
+-- were given back before.
 abbrev pub with_break : {V C : Type 0} → C → ℕ → State V C → State V C
 with_break nought to s =
     if nat_le s.space.break_start to && nat_le to s.space.break_bound
@@ -82,7 +82,8 @@ with_break nought to s =
     }
     else s
 
--- A system call that returned: its number, its arguments, the bytes that it moved in or out, and its result.
+-- A system call that returned: its number, the arguments that it uses, the bytes that it moved in or out, and its
+-- result.
 pub record Event : Type 0 where
   pub number : ℕ
   pub used : List ℕ
@@ -118,8 +119,8 @@ bad_file = error_result 9
 abbrev pub no_such_call : ℕ
 no_such_call = error_result 38
 
--- The outcome of a step, on a machine with states S and causes C: it goes on, possibly with a system call; it ends
--- with an exit status; or it halts at a pc.
+-- The outcome of a step, on a machine with states S and causes C: it goes on, possibly with a system call; it ends with
+-- an exit status; or it halts at a pc.
 pub data Outcome (S C : Type 0) : Type 0 where
   Going : S → Option Event → Outcome S C
   Ended : ℕ → Outcome S C
@@ -135,8 +136,8 @@ pub data SoFar {S C : Type 0} (step : S → Outcome S C → Type 0) (s : S) : �
   more : {n : ℕ} {trace : List Event} {t u : S} (e : Option Event) → SoFar step s n trace t → step t (Going u e) →
       SoFar step s (suc n) (trace ++ events e) u
 
--- The n-th step from s ends with this status, and the steps before it make the system calls `trace`. The last step
--- is counted, but its exit call isn't in `trace`.
+-- The n-th step from s ends with this status, and the steps before it make the system calls `trace`. The last step is
+-- counted, but its exit call isn't in `trace`.
 pub record Run {S C : Type 0} (step : S → Outcome S C → Type 0) (s : S) (n : ℕ) (trace : List Event)
     (status : ℕ) : Type 0 where
   pub before : ℕ

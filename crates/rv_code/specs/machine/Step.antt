@@ -161,8 +161,8 @@ effect Breakpoint next s = trap s cause.Break
 abbrev pub halfword : ByteState → ℕ → ℕ
 halfword s a = little (memory_bytes s.memory a 2)
 
--- The input of the decoder: the halfword at the pc, and the next halfword if the low bits of the first are 11,
--- which begin a longer instruction. ISA manual, section 1.5.
+-- The input of the decoder: the halfword at the pc, and the next halfword if the low bits of the first are 11, which
+-- begin a longer instruction. ISA manual, section 1.5.
 abbrev pub parcels : ByteState → Bool → Bool → Option (ℕ × Option ℕ)
 parcels s false more = Some (halfword s s.pc, None)
 parcels s true true = Some (halfword s s.pc, Some (halfword s (plus s.pc 2)))
