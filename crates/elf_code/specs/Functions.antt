@@ -33,8 +33,8 @@ pub data IsReferred (elf : Elf) (tabled : List (ℕ × ℕ)) (a : ℕ) : Type 0 
   cell : (cell : CodeCell) → IsCell elf tabled cell → CellNames cell a → IsReferred elf tabled a
   entry : elf.entry ≡ a → IsReferred elf tabled a
 
--- The parts that are functions: those with code other than nops, and parts of nops that have a nop that is referred to,
--- or that the last instruction of the function before them falls through to.
+-- The parts that are functions: parts with code other than nops, and parts of nops if a reference goes to one of the
+-- nops, or if the last instruction of the function before the part falls through to it.
 pub data IsFunctionPart (elf : Elf) (tabled : List (ℕ × ℕ)) : ℕ → ℕ → Type 0 where
   code : (start end : ℕ) → IsCodePart elf start end → (IsNopPart elf start end → ⊥) →
       IsFunctionPart elf tabled start end

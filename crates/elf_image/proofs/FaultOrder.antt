@@ -13,7 +13,7 @@ use Rattle.rb_bytes.specs.declared.fault.FaultKind.TheVariants.{LoMismatch, Narr
 use Rattle.rb_bytes.specs.FirstFault.{LacksBelow, IsAnswered}
 use Rattle.elf_image.specs.faults.LowestPlace.{IsLowest}
 
--- The kind with a number below 16, which two kinds share.
+-- The kind with a number below 16. Two kinds share the number 16.
 numbered : ℕ → FaultKind
 numbered n =
     if n == 1 then NotElf else

@@ -43,7 +43,7 @@ pub fn signed_six(half: u32) -> i64
     sign(six_bits(half), 5)
 }
 
-/// The distance from the stack pointer in C.ADDI4SPN. The halfword is reserved if it is 0.
+/// The distance from the stack pointer in C.ADDI4SPN. The halfword is reserved if the distance is 0.
 pub fn addi4spn_imm(half: u32) -> u32
     ensures { result ≡ addi4spn_imm half }
 {
@@ -53,7 +53,8 @@ pub fn addi4spn_imm(half: u32) -> u32
         + (bits(half, 6, 1) << 2)
 }
 
-/// The ten bits of the immediate of C.ADDI16SP, with the sign as the highest bit. The halfword is reserved if it is 0.
+/// The ten bits of the immediate of C.ADDI16SP, with the sign as the highest bit. The halfword is reserved if the
+/// immediate is 0.
 pub fn addi16sp_imm(half: u32) -> u32
     ensures value { result ≡ addi16sp_imm half }
     ensures below { result < 1024 }

@@ -37,8 +37,8 @@ pages_above segments =
     map (λ p. rounded_down page_size p.vaddr) (filter (λ p. has_memory p && nat_le (writable_end segments) p.vaddr)
     segments)
 
--- The greatest break: at most the start of the page on which the next higher segment starts, and at least the start of
--- the break. It is 0 if no segment is writable.
+-- The greatest break: at most `break_room` above its start, and at most the start of the page on which the next higher
+-- segment starts, but never below its start. It is 0 if no segment is writable.
 abbrev pub break_bound : List Segment → ℕ
 break_bound segments =
     if writable_end segments == 0
