@@ -1,4 +1,4 @@
--- The addresses to which the end of a block leads, as the code collects them.
+-- The targets of the end of a block, as the code collects them.
 use Rattle.std.proofs.Common.{[], arith, ◌≡◌, sym, subst, ℕ, ◌+◌, ◌⊎◌, inl, inr, ⊎_elim, Bool, List, Option, Some, IsTrue}
 use Rattle.std.proofs.Common.{ap, refl, true, false, None}
 use Rattle.std.specs.Prelude.{◌↔◌, Contains, if◌then◌else◌}

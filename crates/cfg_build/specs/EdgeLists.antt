@@ -1,4 +1,4 @@
--- Edges, as the code lists them: the addresses to which the end of a block leads, and the blocks that start there.
+-- Edges, as the code lists them: the targets of the end of a block, and the blocks that start there.
 use Rattle.std.specs.Prelude.{◌≡◌, ℕ, List, Some, IsSomeAnd, All, Any, AllPairs, Contains, slice_get}
 use Rattle.rv_code.specs.declared.placed.Func.{Func}
 use Rattle.rv_code.specs.declared.placed.Block.{Block}
@@ -11,8 +11,8 @@ pub record AreStretches (funcs : List Func) (blocks : List Block) : Type 0 where
   pub each : All (IsOfFunction funcs) blocks
   pub ordered : AllPairs IsBefore blocks
 
--- The i-th instruction of a function leads to address `a`. `targets` are the pairs of an indirect jump and an address
--- to which a jump table leads it.
+-- The i-th instruction of a function leads to address `a`. `targets` are the pairs of an indirect jump and one of its
+-- targets in a jump table.
 abbrev pub LeadsFrom : List (ℕ × ℕ) → Func → ℕ → ℕ → Type 0
 LeadsFrom targets func i a = IsSomeAnd (inst_at func i) (λ p. LeadsTo (Contains targets) func i p a)
 

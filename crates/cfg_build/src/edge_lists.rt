@@ -19,7 +19,7 @@ use rv_code::{Block, Func};
 use std::alloc::Global;
 
 /// The edges of the control-flow graph of each function, as indices of blocks, by source and by target. `targets` are
-/// the pairs of an indirect jump and an address to which a jump table leads it, in order.
+/// the pairs of an indirect jump and one of its targets in a jump table, in order.
 pub fn edges(
     alloc: Global,
     funcs: &[Func],
@@ -44,7 +44,7 @@ pub fn edges(
     Ok(edges)
 }
 
-// Appends the addresses to which instruction `i` of `func` leads, if a block ends with it.
+// Appends the targets of instruction `i` of `func`, including fall-through, if a block ends with it.
 fn push_leads(
     leads: &mut Vec<u64>,
     func: &Func,
@@ -64,7 +64,7 @@ fn push_leads(
     Ok(())
 }
 
-// Appends the addresses to which a jump table leads the jump at the address `jump`.
+// Appends the targets in jump tables of the jump at the address `jump`.
 fn push_table(leads: &mut Vec<u64>, targets: &[(u64, u64)], jump: u64) -> Result<(), NoMemory>
     requires { AllPairs IsPairBefore targets.now }
     ensures { OnOk result (Gains leads.old.items leads.new.items (λ a. Contains targets.now (jump, a))) }

@@ -76,7 +76,7 @@ IsPaired elf place width =
     (plus : Relocation) × (minus : Relocation) × IsOnly (is_plus place width) (relocations elf) plus
     × IsOnly (is_minus place width) (relocations elf) minus
 
--- Relocations that don't fit what they apply to.
+-- Relocations that don't fit the instructions or fields that they apply to.
 
 -- The symbol doesn't exist, or the field isn't in the section.
 pub data IsBadField (elf : Elf) (r : Relocation) : Type 0 where
@@ -129,7 +129,7 @@ pub record HasBadLabel (elf : Elf) (tabled : List (ℕ × ℕ)) (place : ℕ) : 
   pub counted : Counts elf tabled (record { place = place; width = width; content = Difference to from }) true
   pub unfit : IsAddress to × IsAddress from → ⊥
 
--- The relocation doesn't fit what it applies to.
+-- The relocation doesn't fit the instructions or the field that it applies to.
 pub data IsMisfit (elf : Elf) (r : Relocation) : Type 0 where
   field : IsBadField elf r → IsMisfit elf r
   call : IsBadCall elf r → IsMisfit elf r

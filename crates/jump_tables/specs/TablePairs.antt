@@ -1,4 +1,4 @@
--- Pairs of an indirect jump and an address to which a jump table can lead it, as the code collects them.
+-- Pairs of an indirect jump and a possible target in a jump table, as the code collects them.
 use Rattle.std.specs.Prelude.{◌≡◌, ℕ, List, Any, Contains}
 use Rattle.rv_code.specs.declared.placed.Placed.{Placed}
 use Rattle.rv_code.specs.layout.Edges.{IsTableJump}

@@ -1,4 +1,4 @@
-//! Indirect jumps through jump tables, and the addresses to which they can lead.
+//! Indirect jumps through jump tables, and their possible targets.
 #![tactic(auto)]
 
 mod labels;

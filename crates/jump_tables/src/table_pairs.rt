@@ -1,4 +1,4 @@
-// The pairs of an indirect jump and an address to which a jump table can lead it.
+// The pairs of an indirect jump and a possible target in a jump table.
 ghost use Rattle.std.specs.Prelude.{◌≡◌, ◌<◌, ◌↔◌, ℕ, AllPairs, Any, Contains, IfOk, OnOk, IsTrue};
 ghost use Rattle.rv_code.specs.layout.Edges.{AreTablePairs, IsTableJump};
 ghost use Rattle.rv_code.specs.layout.Lists.{IsPairBefore};
@@ -10,12 +10,13 @@ use rb_bytes::fault::NoMemory;
 use rv_code::{CodeCell, Func, Inst, Placed, RETURN_ADDRESS, Role, ZERO};
 use std::alloc::Global;
 
-// The most pairs before those of one more jump are added. Each jump of a function has a pair with each of its labels,
-// so a small file could have very many. A function with 4,000 jumps through tables and 4,000 labels is just within.
+// The most pairs before the pairs of one more jump are added. Each jump of a function has a pair with each of its
+// labels, so a small file could have very many. A function with 4,000 jumps through tables and 4,000 labels is just
+// within.
 const MOST_PAIRS: usize = 1 << 24;
 
 /// The pairs of an indirect jump through a table and an address of its function that a cell refers to, by jump and by
-/// address. The result is `NoMemory` also if there are more than 2^24 pairs before those of a jump, which no usual
+/// address. The result is `NoMemory` also if there are more than 2^24 pairs before the pairs of a jump, which no usual
 /// program has.
 pub fn tables(
     alloc: Global,

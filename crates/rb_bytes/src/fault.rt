@@ -34,8 +34,8 @@ pub enum FaultKind {
     CompressedSection,
     /// A relocation has a type that is not supported. Place: the address that it applies to.
     RelocType,
-    /// A relocation does not fit what it applies to. Place: the address that it applies to, or
-    /// that of the AUIPC concerned.
+    /// A relocation does not fit the instruction or field that it applies to. Place: the address of the instruction or
+    /// field, or the address of the AUIPC concerned.
     RelocMismatch,
     /// Two low parts of one AUIPC differ. Place: the address of the AUIPC.
     LoMismatch,

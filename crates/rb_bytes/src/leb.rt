@@ -7,7 +7,7 @@ ghost use Rattle.rb_bytes.specs.Leb.{fits_seven_bits, uleb, sleb, IsShortestUleb
 
 use crate::fault::NoMemory;
 
-/// The base of a digit, of which each byte has one. A byte is below the base only if it is the last.
+/// The base of the digits. Each byte has one digit, and only the last byte is below the base.
 pub(crate) const BASE: u8 = 128;
 
 // A 64-bit number takes at most ten bytes of seven bits each.
