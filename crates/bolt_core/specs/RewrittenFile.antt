@@ -60,8 +60,8 @@ FollowsTables x parts given code spans written =
     HasNewTables x.elf given code x.code.funcs (cold_starts x.code.funcs x.blocks parts) spans
     (is_tight_program x) written
 
--- The program headers of the written file are those of the input, of which the executable segment's may grow; and one
--- more if the new code has a segment of its own.
+-- The program headers of the written file follow the input's: the executable segment may grow, and there is one more if
+-- the new code has a segment of its own.
 abbrev pub FollowsSegments : Program → List ReadTable → List ℕ → List ℕ → Type 0
 FollowsSegments x given code written =
     let segments = x.elf.segments.items in
@@ -100,7 +100,8 @@ pub record IsRewritten (file profile written : List ℕ) (spans : List Span) (co
   pub ordered : IsProfileOrder program profile pairs parts order
   pub code : List ℕ
   pub laid_out : IsLaidOutBy program order spans code
-  -- this stretch has the bytes of the new code; headers, sections and symbols follow the input's, and name the new code
+  -- the spans fill one stretch, which has the bytes of the new code; headers, sections and symbols follow the input's,
+  -- and name the new code
   pub stretch : IsStretch spans (new_start program) (new_start program + length code)
   pub code_stands : HoldsBytes written (segments_of written) (new_start program) code
   pub given : List ReadTable
@@ -113,8 +114,8 @@ pub record IsRewritten (file profile written : List ℕ) (spans : List Span) (co
   -- at each byte of the new code all tables have the answers that they had at the byte's owner, and other debug data is
   -- kept
   pub answers : CarriesTables spans program.elf tables.new
-  -- before the offset from which bytes move, bytes that no segment loads are unchanged, except those of a table that is
-  -- replaced
+  -- before the offset from which bytes move, bytes that no segment loads are unchanged, except the bytes of a replaced
+  -- table
   pub front : KeepsFront program.elf (is_tight_program program) written
   -- after this offset, bytes that a segment names and doesn't load have moved with it
   pub behind : KeepsBehind program.elf (area_for program.elf given code (is_tight_program program)) written

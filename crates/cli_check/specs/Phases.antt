@@ -8,7 +8,7 @@ use Rattle.cli_base.specs.WrittenFiles.{HoldsFile}
 use Rattle.cli_base.specs.declared.status.Status.{Status}
 use Rattle.cli_base.specs.declared.status.Status.TheVariants as status
 
--- It was written, and then the lines printed; or writing the file fails, or printing the lines.
+-- The repaired profile was written, and then the lines printed; or writing the file fails, or printing the lines.
 pub data RepairWritten (answer : Status) (out written printed : List ℕ) (old new : World) : Type 0 where
   all_written : answer ≡ status.Ok → HoldsFile out written old new → TakesAll old.output.taken new.output.taken printed
       → RepairWritten answer out written printed old new

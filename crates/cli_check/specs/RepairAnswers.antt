@@ -33,7 +33,7 @@ pub data RepairAnswers (names : RepairNames) (old new : World) (answer : Status)
       → HoldsFile names.out written old new → FailsToPrint printed old new → RepairAnswers names old new answer
   stopped : IsStopped CannotRepair names.inputs old new answer → RepairAnswers names old new answer
 
--- no count of faults rose, nor that of the file that is written
+-- no count of faults rose, also of the file that is written
 pub record NoneRoseRepairing (names : RepairNames) (old new : World) : Type 0 where
   pub others : NoInputErrors names.inputs old new
   pub out : WriteRose old new names.out → ⊥

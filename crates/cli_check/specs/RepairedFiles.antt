@@ -1,4 +1,4 @@
--- Repairs: of which profiles of which files, with which text and lines.
+-- The repair of a profile of a file: the text that is written, and the lines that are printed.
 use Rattle.std.specs.Prelude.{◌≡◌, ◌≤◌, ℕ, List, length}
 use Rattle.rb_bytes.specs.declared.fault.Fault.{Fault}
 use Rattle.rv_code.specs.layout.Edges.{AreEdges}

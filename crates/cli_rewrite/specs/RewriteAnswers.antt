@@ -49,7 +49,7 @@ pub data RewriteAnswers (names : RewriteNames) (old new : World) (answer : Statu
       → RewriteAnswers names old new answer
   stopped : IsStopped IsRefused names.inputs old new answer → RewriteAnswers names old new answer
 
--- no count of faults rose, nor those of the files that are written
+-- no count of faults rose, also of the files that are written
 pub record NoneRoseWriting (names : RewriteNames) (old new : World) : Type 0 where
   pub others : NoInputErrors names.inputs old new
   pub out : WriteRose old new names.out → ⊥

@@ -51,7 +51,7 @@ pub record Holds (prices : List ℤ) (l : Link) : Type 0 where
 abbrev pub AllHold : List ℤ → List Link → Type 0
 AllHold prices links = All (Holds prices) links
 
--- the same links with the same counts, for any flows
+-- a link without its flow; and two lists with equal links and counts, for any flows
 abbrev pub bare : Link → Link
 bare l = record l { flow = 0 }
 

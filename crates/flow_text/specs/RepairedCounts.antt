@@ -15,7 +15,7 @@ end_at funcs blocks k = option_map_or (block_end funcs) (slice_get blocks k) 0
 abbrev pub start_at : List Func → List Block → ℕ → ℕ
 start_at funcs blocks k = option_map_or (block_start funcs) (slice_get blocks k) 0
 
--- from the end of one block to the start of another, with the flow as the count
+-- the pair from the end of one block to the start of another, with the flow as its count; None for a way in or out
 abbrev pub flow_between : List Func → List Block → Option ℕ → Option ℕ → ℕ → Option Counted
 flow_between funcs blocks (Some s) (Some t) flow = Some (end_at funcs blocks s, start_at funcs blocks t, flow)
 flow_between funcs blocks _ _ flow = None

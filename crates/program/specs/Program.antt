@@ -34,7 +34,7 @@ pub record IsPlain (file : List ℕ) : Type 0 where
   pub fits : length file ≤ file_limit
   pub sound : IsSound file
 
--- such a file, with its reader's representation `elf`; its code has no fault
+-- a file within the size limit, without a fault of the file or of its code; `elf` is its reader's representation
 pub record IsFaultless (file : List ℕ) (elf : Elf) : Type 0 where
   pub plain : IsPlain file
   pub read : IsElfOf file elf

@@ -1,5 +1,5 @@
--- The symbol machine's operations on values. A rule gives a result that holds at whatever addresses the code is, or
--- None if it has none. On numbers the rules are those of the byte machine.
+-- The symbol machine's operations on values. A rule gives a result that holds for any addresses of the code, or None if
+-- there is none. On numbers the rules are the byte machine's.
 use Rattle.std.specs.Prelude.{ℕ, zero, suc, ◌-◌, ◌^◌, ◌==◌, ◌&&◌, ◌||◌, if◌then◌else◌, Bool, true, false, List, ◌∷◌}
 use Rattle.std.specs.Prelude.{Option, Some, None, option_map}
 use Rattle.std.specs.Option.{option_or}

@@ -57,7 +57,7 @@ hidden_byte elf tight args a = if is_hidden_field elf tight a || is_hidden_entry
 abbrev pub code_cell_byte : List CodeCell → ℕ → Option MemoryByte
 code_cell_byte cells a = option_map (byte_of_cell a) (find (λ c. is_in_range a (code_cell_range c)) cells)
 
--- If these overlap, the entry point has the byte, then hidden fields, then code cells. All other bytes are those of the
+-- If these overlap, the entry point has the byte, then hidden fields, then code cells. All other bytes are as on the
 -- byte machine.
 abbrev pub sym_memory : Elf → List CodeCell → Bool → List (List ℕ) → ℕ → MemoryByte
 sym_memory elf cells tight args a =

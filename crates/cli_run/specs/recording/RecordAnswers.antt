@@ -70,7 +70,7 @@ pub record IsRecording (args : RecordArgs) (old new : World) (answer : Status) :
 abbrev pub RecordAnswers : RecordArgs → World → World → Status → Type 0
 RecordAnswers args old new answer = FileAnswers record_mode args.run (IsRecording args old new answer) old new answer
 
--- no count of faults rose, nor that of the file that is written
+-- no count of faults rose, also of the file that is written
 pub record NoneRoseRecording (args : RecordArgs) (old new : World) : Type 0 where
   pub others : NoRunErrors args.run old new
   pub out : WriteRose old new args.out → ⊥

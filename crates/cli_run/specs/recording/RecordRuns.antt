@@ -1,4 +1,4 @@
--- Recorded runs: runs on the byte machine, of which the moves between the blocks of the file's code are recorded.
+-- Recorded runs: runs on the byte machine, and their moves between the blocks of the file's code.
 use Rattle.std.specs.Prelude.{◌-◌, ℕ, List}
 use Rattle.rv_code.specs.declared.cause.Cause.{Cause}
 use Rattle.program.specs.Program.{Program}
