@@ -83,7 +83,7 @@ AreLinksWithin s first end links = (code : ProgramCode) → IsCodeOf code s →
 abbrev pub link_if : Option ℕ → Option ℕ → Option ℕ → Option Link
 link_if from to count = option_map (λ c. record { from = from; to = to; count = c; flow = c }) count
 
--- The blocks from `first`, the first of its function, to before `end` are its function's.
+-- The blocks from `first` to before `end` are in one function, and the block at `end`, if there is one, is in another.
 pub record IsFunctionFrom (blocks : List Block) (first end : ℕ) : Type 0 where
   pub some : first < end
   pub within : end ≤ length blocks

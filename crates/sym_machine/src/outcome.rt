@@ -9,10 +9,9 @@ pub enum Reason {
     EndOfFunction,
     /// No instruction of a function starts at the pc.
     FellOff,
-    /// A symbol is used otherwise than the rules allow, or the base of a lower part isn't its upper
-    /// part.
+    /// A symbol is used in a way that no rule covers, or the base of a lower part isn't its upper part.
     Operate,
-    /// A branch compares symbols otherwise than the rules allow.
+    /// A branch compares symbols in a way that no rule covers.
     Compare,
     /// A load of bytes that are neither all numbers nor successive bytes of one symbol that is stored in one width.
     Mixed,
