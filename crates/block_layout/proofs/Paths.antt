@@ -18,7 +18,7 @@ pub record IsWithin (n : ℕ) (p : Links) : Type 0 where
   pub inside : (s t : ℕ) → p.next s ≡ Some t → t < n
   pub back : (s t : ℕ) → p.next s ≡ Some t → p.prev t ≡ Some s
 
--- blocks, each of which follows the one before it
+-- blocks in a row: each follows the block before it
 pub record IsPath (p : Links) (h : ℕ) (xs : List ℕ) : Type 0 where
   pub some : 0 < length xs
   pub begins : get_or xs 0 0 ≡ h

@@ -32,7 +32,7 @@ one_value is is' = cc
 -- Links form no cycle.
 module _ (p : Links) (back : (s t : ℕ) → p.next s ≡ Some t → p.prev t ≡ Some s) (s t : ℕ) (joined : p.next s ≡ Some t)
     (round : Lead p t s) where
-  -- a block to which links lead from t follows a block to which links also lead
+  -- if links lead from t to a block, this block follows another one to which they lead
   follows_one : {y : ℕ} → Lead p t y → (z : ℕ) × (p.next z ≡ Some y) × Lead p t z
   follows_one stays = (s, joined, round)
   follows_one (goes {y = z} way next) = (z, next, way)

@@ -1,4 +1,4 @@
--- How often control took edges, and the order in which edges are considered.
+-- How often control took edges, and the order of edges for linking blocks.
 use Rattle.std.specs.Prelude.{◌≡◌, ◌⊎◌, ◌<◌, ℕ, List, slice_get}
 use Rattle.std.specs.Option.{option_map_or}
 use Rattle.rv_code.specs.declared.placed.Func.{Func}

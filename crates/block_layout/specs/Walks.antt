@@ -10,7 +10,7 @@ use Rattle.block_layout.specs.declared.hot_chains.HotChain.{HotChain}
 abbrev pub links_of : ChainLinks → Links
 links_of links = told links.next.items links.prev.items
 
--- links between the first n blocks, where prev is the inverse of next
+-- links between the first n blocks, and prev is the inverse of next
 pub record AreBetween (n : ℕ) (p : Links) : Type 0 where
   pub inside : (s t : ℕ) → p.next s ≡ Some t → (s < n) × (t < n)
   pub back : (s t : ℕ) → p.next s ≡ Some t → p.prev t ≡ Some s

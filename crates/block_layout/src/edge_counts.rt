@@ -1,4 +1,4 @@
-// Edges with their counts, in the order in which they are considered for linking blocks.
+// Edges with their counts, in the order of their use for linking blocks.
 ghost use Rattle.std.specs.Prelude.{◌≡◌, ◌<◌, ◌≤◌, ℕ, All, AllPairs, IfOk, IsPermutation, IsSomeAnd, OnOk, length};
 ghost use Rattle.std.specs.Prelude.{slice_index_or};
 ghost use Rattle.rv_code.specs.declared.placed.Block.{Block};
@@ -24,8 +24,8 @@ pub struct Edge {
     pub count: u128,
 }
 
-/// The edges with positive counts, in the order in which they are considered for linking blocks: by greater count, then
-/// by lower source and target.
+/// The edges with positive counts, in the order of their use for linking blocks: by greater count, then by lower source
+/// and target.
 pub fn counted_edges(
     alloc: Global,
     funcs: &[Func],
@@ -42,7 +42,7 @@ pub fn counted_edges(
     ensures once { IfOk result (λ taken. AllPairs HaveOtherEnds taken.items) }
 {
     let mut taken = Vec::new(alloc);
-    // Edges ascend, as pairs do, and most lead forward through the code: so an edge's pair is near that of the edge
+    // Edges ascend, as pairs do, and most lead forward through the code: so an edge's pair is near the pair of the edge
     // before.
     let mut near = 0;
     for edge in edges {

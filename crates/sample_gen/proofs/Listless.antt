@@ -34,7 +34,7 @@ no_sum w (x ∷ xs) zeros =
     let rest = no_sum w xs (λ y c. zeros y (Contains-there x xs y c)) in
     omega (arith, e, here, rest)
 
--- a sum of weights, each of which is within a bound
+-- a sum of weights that are all within a bound
 pub sum_within : {X : Type 0} (Weighs : X → ℕ → Type 0) (most : ℕ) (xs : List X) →
     ((x : X) → Contains xs x → (n : ℕ) → Weighs x n → n ≤ most) → (n : ℕ) → IsSumOf Weighs xs n → n ≤ most * length xs
 sum_within Weighs most [] within n none = omega arith

@@ -90,8 +90,8 @@ fn is_light_func(alloc: Global, lines: &Lines, func: &Func) -> Result<bool, NoMe
     have_one_row(alloc, lines, &func.insts)
 }
 
-// Whether there are few functions, each with few instructions, to each of which at most one row of line programs
-// applies.
+// Whether there are few functions, each with few instructions, and at most one row of line programs applies to each
+// instruction.
 fn are_light_funcs(alloc: Global, lines: &Lines, funcs: &[Func]) -> Result<bool, NoMemory>
     ensures { IfOk result (λ b. IsTrue b → AreLightFuncs lines.now funcs.now) }
 {
@@ -128,8 +128,8 @@ fn has_no_lists(entries: &[Entry]) -> bool
     entries.iter().all(|entry| are_listless(&entry.attrs))
 }
 
-// Whether a file has few debugging entries, none of which uses a list, and few abbreviations. The error is a fault of
-// units, or that memory ran out.
+// Whether a file has few debugging entries, all without lists, and few abbreviations. The error is a fault of units, or
+// that memory ran out.
 fn has_light_units(alloc: Global, elf: &Elf<'_>) -> Result<bool, Refusal>
     ensures { IfOk result (λ b. IsTrue b → AreLightUnits (sections_of elf.now)) }
 {

@@ -30,7 +30,7 @@ pub record AreLightUnits (s : Sections) : Type 0 where
 abbrev pub HasOneRow : LineSections → ℕ → Type 0
 HasOneRow s a = IfSome (line_at s a) (λ said. length said.rows ≤ 1)
 
--- a function with few instructions, to each of which at most one row applies
+-- a function with few instructions, each with at most one row
 pub record IsLightFunc (s : LineSections) (f : Func) : Type 0 where
   pub few : length f.insts.items ≤ 12
   pub rows : All (λ (p : Placed). HasOneRow s p.addr) f.insts.items
