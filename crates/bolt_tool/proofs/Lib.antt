@@ -1,8 +1,1 @@
 mod GivenRuns
-mod OneClaim
-mod OneFault
-mod OneLook
-mod OneOrder
-mod OneProgram
-mod OneRewrite
-mod Refusals

@@ -1,4 +1,3 @@
 pub mod CommandAnswers
 pub mod Lines
-pub mod RefusalLaw
 pub mod RunCommands

@@ -6,5 +6,5 @@ mod Cells
 mod Misfits
 mod Functions
 mod Faults
-mod OneList
+pub mod OneList
 pub mod Readings

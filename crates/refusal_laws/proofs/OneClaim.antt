@@ -8,7 +8,7 @@ use Rattle.cli_base.specs.ProgramFiles.{IsNoProgram}
 use Rattle.cli_check.specs.RepairedFiles.{CannotRepair, IsRepairOf}
 use Rattle.cli_check.specs.VerdictLines.{refused_output_line}
 use Rattle.cli_check.specs.VerifiedFiles.{IsRefusedBy, IsVerdictOn, by_input, by_map, by_output}
-use Rattle.bolt_tool.proofs.OneProgram.{no_image, no_program, one_image, one_program}
+use Rattle.refusal_laws.proofs.OneProgram.{no_image, no_program, one_image, one_program}
 
 one_length : (file profile : List ℕ) (f g : Fault) → IsTooLong file profile f → IsTooLong file profile g → f ≡ g
 one_length file profile f g (long_file long is) (long_file long' is') = is ∙ sym is'

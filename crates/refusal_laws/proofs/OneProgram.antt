@@ -20,7 +20,7 @@ use Rattle.cli_base.specs.ImageFiles.{IsImageFile, IsNoImage}
 use Rattle.cli_base.specs.ProgramFiles.{IsFileProgram, IsNoProgram, IsProgramFile, large_code, too_long, unreadable}
 use Rattle.cli_run.proofs.SymbolRunAnswering.{by_count, not_both, readable, same_count}
 use Rattle.cli_run.proofs.TabledRanges.{same_tabled}
-use Rattle.bolt_tool.proofs.OneFault.{AreApart, none_answered, one_answered, one_limit}
+use Rattle.refusal_laws.proofs.OneFault.{AreApart, none_answered, one_answered, one_limit}
 
 pub file_apart : (file : List ℕ) → AreApart (HasFault file)
 file_apart file place bad bare = bad

@@ -1,10 +1,10 @@
 -- A command refuses its files for at most one fault, and for none if it is done.
 use Rattle.block_layout.specs.Laws.{PartsLaw}
-use Rattle.bolt_tool.specs.RefusalLaw.{RefusalLaw}
-use Rattle.bolt_tool.proofs.OneClaim.{none_judged, none_repaired, one_line, one_refusal, one_repair}
-use Rattle.bolt_tool.proofs.OneLook.{none_looked, one_look}
-use Rattle.bolt_tool.proofs.OneProgram.{no_image, no_program, one_image, one_program}
-use Rattle.bolt_tool.proofs.OneRewrite.{none_rewritten, one_rewrite}
+use Rattle.refusal_laws.specs.RefusalLaw.{RefusalLaw}
+use Rattle.refusal_laws.proofs.OneClaim.{none_judged, none_repaired, one_line, one_refusal, one_repair}
+use Rattle.refusal_laws.proofs.OneLook.{none_looked, one_look}
+use Rattle.refusal_laws.proofs.OneProgram.{no_image, no_program, one_image, one_program}
+use Rattle.refusal_laws.proofs.OneRewrite.{none_rewritten, one_rewrite}
 
 pub refusal_law : PartsLaw → RefusalLaw
 refusal_law law = record {
@@ -23,6 +23,6 @@ refusal_law law = record {
     none = λ f is on. none_judged input output map v f is.0 is.1 on;
   };
   verdict_lines = one_line;
-  rewrites = λ file profile x. one_rewrite file profile x law;
+  rewrites = λ file profile. one_rewrite file profile law;
   rewritten = λ file profile written spans counts made. none_rewritten made law;
 }

@@ -1,4 +1,4 @@
--- For one reading, a file is refused with a profile for at most one fault, and for none if it is rewritten.
+-- A file is refused with a profile for at most one fault, and for none if it is rewritten.
 use Rattle.std.proofs.Common.{◌≡◌, ◌∙◌, ◌<◌, ◌≤◌, refl, sym, subst, ℕ, List, [], Some, None, arith}
 use Rattle.std.specs.List.{filter_map, range_with_len}
 use Rattle.std.specs.Prelude.{length, slice_index_or}
@@ -30,13 +30,16 @@ use Rattle.bolt_core.specs.RewriteCounts.{RewriteCounts}
 use Rattle.bolt_core.specs.RewrittenFile.{IsRewritten}
 use Rattle.bolt_core.specs.TableFaults.{HasCarryingFault}
 use Rattle.cli_run.proofs.SymbolRunAnswering.{readable}
-use Rattle.bolt_tool.specs.RefusalLaw.{IsOfReading}
-use Rattle.bolt_tool.proofs.OneFault.{AreApart, none_answered, one_answered, one_limit}
-use Rattle.bolt_tool.proofs.OneLook.{no_place as nowhere}
-use Rattle.bolt_tool.proofs.OneOrder.{one_listing, one_pair_list, pair_strict}
-use Rattle.bolt_tool.proofs.OneProgram.{one_unreadable}
+use Rattle.refusal_laws.specs.RefusalLaw.{IsOfLayout}
+use Rattle.refusal_laws.proofs.OneFault.{AreApart, none_answered, one_answered, one_limit}
+use Rattle.refusal_laws.proofs.OneLook.{no_place as nowhere}
+use Rattle.refusal_laws.proofs.OneOrder.{one_listing, one_pair_list, pair_strict}
+use Rattle.refusal_laws.proofs.OneProgram.{one_unreadable}
+use Rattle.refusal_laws.proofs.SameLimits.{same_weights}
+use Rattle.refusal_laws.proofs.SamePrograms.{IsSameProgram, answered_by, can_move, can_stand, carrying_by, exchanged, free_by, large_by}
+use Rattle.refusal_laws.proofs.SamePrograms.{parts_by, placing_by, same_cold, same_program, same_room, too_large_by}
 
--- The lists that a profile and a program make are unique.
+-- The lists that a profile and a program make are one.
 
 same_pairs : (counts : ℕ → ℕ → ℕ) (xs ys : List Counted) → ArePairs counts xs → ArePairs counts ys → xs ≡ ys
 same_pairs counts = one_listing IsCountedBefore (λ p q. pair_strict (p.0, p.1) (q.0, q.1)) (IsCountOf counts)
@@ -46,7 +49,7 @@ module _ (x : Program) (profile : List ℕ) where
       AreEdges x.code.funcs x.code.cells x.blocks ys → xs ≡ ys
   same_edges = one_pair_list (IsEdgeIn x.code.funcs x.code.cells x.blocks)
 
-  -- the cold parts of the functions, and their starts
+  -- the cold parts of the functions, and where they start
   record IsColdBy (cold : List ℕ) : Type 0 where
     pub pairs : List Counted
     pub parts : Chains
@@ -72,7 +75,7 @@ module _ (x : Program) (profile : List ℕ) where
   abbrev Passes : List ℕ → ℕ → Type 0
   Passes cold = IsTooLarge x.elf x.code.funcs cold
 
-  -- the limit for which the file is refused: one on its code, another one, or one on the weight of a table
+  -- the limit for which it is refused: one on its code, another one, or one on the weight of a table
   data Limit (f : Fault) : Type 0 where
     code : IsLimitFault PassesCode f → Limit f
     other : (cold : List ℕ) → IsColdBy cold → IsLimitFault (Passes cold) f → Limit f
@@ -143,95 +146,135 @@ module _ (x : Program) (profile : List ℕ) where
   one_stage law f g (limit stands is) (room moves is') = absurd (some_none g is' stands.room)
   one_stage law f g (limit stands is) (limit stands' is') = one_limit_of law f g is is'
 
--- Why a file is refused, for the reading `x`.
-data Reason (file profile : List ℕ) (x : Program) (f : Fault) : Type 0 where
-  file_long : file_limit < length file → f ≡ fault_at fault.TooLarge FILE_BYTES → Reason file profile x f
+-- A reason is one for each reading of the file.
+
+limit_fault_by : (P Q : ℕ → Type 0) → ((p : ℕ) → P p → Q p) → ((p : ℕ) → Q p → P p) → (f : Fault) → IsLimitFault P f → IsLimitFault Q f
+limit_fault_by P Q to from f is = record {
+  place = is.place;
+  first = record { present = to is.place is.first.present; least = λ place has. is.first.least place (from place has) };
+  fault_is = is.fault_is;
+}
+
+module _ (x y : Program) (s : IsSameProgram x y) (profile : List ℕ) where
+  abbrev backward : IsSameProgram y x
+  backward = exchanged x y s
+
+  cold_by : (cold : List ℕ) → IsColdBy x profile cold → IsColdBy y profile cold
+  cold_by cold is = record {
+    pairs = is.pairs;
+    parts = is.parts;
+    are = parts_by x y s profile is.pairs is.parts is.are;
+    cold_is = is.cold_is ∙ same_cold x y s is.parts;
+  }
+
+  limit_by : (f : Fault) → Limit x profile f → Limit y profile f
+  limit_by f (code is) =
+      code (limit_fault_by (PassesCode x profile) (PassesCode y profile) (large_by x y s) (large_by y x backward) f is)
+  limit_by f (other cold of is) =
+      other cold (cold_by cold of)
+      (limit_fault_by (Passes x profile cold) (Passes y profile cold) (too_large_by x y s cold) (too_large_by y x backward cold) f is)
+  limit_by f (weight cold of fits is) =
+      weight cold (cold_by cold of) (λ place passes. fits place (too_large_by y x backward cold place passes)) is
+
+  stage_by : (f : Fault) → Stage x profile f → Stage y profile f
+  stage_by f (placing is) =
+      placing (answered_by (Placing x profile) (Placing y profile) (placing_by x y s) (placing_by y x backward) f is)
+  stage_by f (carrying free is) =
+      carrying (free_by (Placing x profile) (Placing y profile) (placing_by x y s) (placing_by y x backward) free)
+      (answered_by (Carrying x profile) (Carrying y profile) (carrying_by x y s) (carrying_by y x backward) f is)
+  stage_by f (room moves is) = room (can_move x y s moves) (sym (same_room x y s) ∙ is)
+  stage_by f (limit stands is) = limit (can_stand x y s stands) (limit_by f is)
+
+-- Why a file is refused.
+data Reason (file profile : List ℕ) (f : Fault) : Type 0 where
+  file_long : file_limit < length file → f ≡ fault_at fault.TooLarge FILE_BYTES → Reason file profile f
   profile_long : length file ≤ file_limit → file_limit < length profile → f ≡ fault_at fault.TooLarge PROFILE_BYTES →
-      Reason file profile x f
-  not_read : Fit file profile → IsUnreadable file f → Reason file profile x f
-  staged : IsInput file profile x → Stage x profile f → Reason file profile x f
+      Reason file profile f
+  not_read : Fit file profile → IsUnreadable file f → Reason file profile f
+  staged : (x : Program) → IsInput file profile x → Stage x profile f → Reason file profile f
 
-module _ (file profile : List ℕ) (x : Program) where
-  reason_of : (spans : List Span) (f : Fault) (r : IsRefused file profile f) → IsOfReading x spans r → Reason file profile x f
-  reason_of spans f (long_file long is) of = file_long long is
-  reason_of spans f (long_profile fits long is) of = profile_long fits long is
-  reason_of spans f (unreadable fit is) of = not_read fit is
-  reason_of spans f (misplaced y input has) of =
-      subst (λ (z : Program). Reason file profile z f) of (staged input (placing has))
-  reason_of spans f (not_carried y input placed has) of =
-      subst (λ (z : Program). Reason file profile z f) of (staged input (carrying placed has))
-  reason_of spans f (no_place y input moves is) of =
-      subst (λ (z : Program). Reason file profile z f) of (staged input (room moves is))
-  reason_of spans f (large_code y input stands is) of =
-      subst (λ (z : Program). Reason file profile z f) of (staged input (limit stands (code is)))
-  reason_of spans f (too_large y input stands pairs parts are is) of =
-      subst (λ (z : Program). Reason file profile z f) of (staged input (limit stands
-      (other (cold_starts y.code.funcs y.blocks parts) (record { pairs = pairs; parts = parts; are = are; cold_is = refl }) is)))
-  reason_of spans f (too_heavy y input stands pairs parts fits order ordered laid made are heavy is) of =
-      subst (λ (z : Program). Reason file profile z f) of.0 (staged input (limit stands
-      (weight (cold_starts y.code.funcs y.blocks parts)
-      (record { pairs = pairs; parts = parts; are = ordered.parts_are; cold_is = refl }) fits is)))
+module _ (file profile : List ℕ) where
+  reason_of : (f : Fault) → IsRefused file profile f → Reason file profile f
+  reason_of f (long_file long is) = file_long long is
+  reason_of f (long_profile fits long is) = profile_long fits long is
+  reason_of f (unreadable fit is) = not_read fit is
+  reason_of f (misplaced x input has) = staged x input (placing has)
+  reason_of f (not_carried x input placed has) = staged x input (carrying placed has)
+  reason_of f (no_place x input moves is) = staged x input (room moves is)
+  reason_of f (large_code x input stands is) = staged x input (limit stands (code is))
+  reason_of f (too_large x input stands pairs parts are is) =
+      staged x input (limit stands
+      (other (cold_starts x.code.funcs x.blocks parts) (record { pairs = pairs; parts = parts; are = are; cold_is = refl }) is))
+  reason_of f (too_heavy x input stands pairs parts fits order ordered laid made are heavy is) =
+      staged x input (limit stands
+      (weight (cold_starts x.code.funcs x.blocks parts)
+      (record { pairs = pairs; parts = parts; are = ordered.parts_are; cold_is = refl }) fits is))
 
-  read : (f : Fault) → IsUnreadable file f → IsInput file profile x → ⊥
-  read f is input = readable file f is x.elf input.program.faultless
+  read : (f : Fault) → IsUnreadable file f → (x : Program) → IsInput file profile x → ⊥
+  read f is x input = readable file f is x.elf input.program.faultless
 
-  one_reason : PartsLaw → (f g : Fault) → Reason file profile x f → Reason file profile x g → f ≡ g
+  one_reason : PartsLaw → (f g : Fault) → Reason file profile f → Reason file profile g → f ≡ g
   one_reason law f g (file_long long is) (file_long long' is') = is ∙ sym is'
   one_reason law f g (file_long long is) (profile_long fits long' is') = absurd (omega (arith, long, fits))
   one_reason law f g (file_long long is) (not_read fit is') = let fits = fit.file_fits in absurd (omega (arith, long, fits))
-  one_reason law f g (file_long long is) (staged input is') =
+  one_reason law f g (file_long long is) (staged x input is') =
       let fits = input.program.faultless.plain.fits in absurd (omega (arith, long, fits))
   one_reason law f g (profile_long fits long is) (file_long long' is') = absurd (omega (arith, long', fits))
   one_reason law f g (profile_long fits long is) (profile_long fits' long' is') = is ∙ sym is'
   one_reason law f g (profile_long fits long is) (not_read fit is') = let fits' = fit.profile_fits in absurd (omega (arith, long, fits'))
-  one_reason law f g (profile_long fits long is) (staged input is') =
+  one_reason law f g (profile_long fits long is) (staged x input is') =
       let fits' = input.profile_fits in absurd (omega (arith, long, fits'))
   one_reason law f g (not_read fit is) (file_long long is') = let fits = fit.file_fits in absurd (omega (arith, long, fits))
   one_reason law f g (not_read fit is) (profile_long fits long is') = let fits' = fit.profile_fits in absurd (omega (arith, long, fits'))
   one_reason law f g (not_read fit is) (not_read fit' is') = one_unreadable file f g is is'
-  one_reason law f g (not_read fit is) (staged input is') = absurd (read f is input)
-  one_reason law f g (staged input is) (file_long long is') =
+  one_reason law f g (not_read fit is) (staged x input is') = absurd (read f is x input)
+  one_reason law f g (staged x input is) (file_long long is') =
       let fits = input.program.faultless.plain.fits in absurd (omega (arith, long, fits))
-  one_reason law f g (staged input is) (profile_long fits long is') =
+  one_reason law f g (staged x input is) (profile_long fits long is') =
       let fits' = input.profile_fits in absurd (omega (arith, long, fits'))
-  one_reason law f g (staged input is) (not_read fit is') = absurd (read g is' input)
-  one_reason law f g (staged input is) (staged input' is') = one_stage x profile law f g is is'
+  one_reason law f g (staged x input is) (not_read fit is') = absurd (read g is' x input)
+  one_reason law f g (staged x input is) (staged y input' is') =
+      let same = same_program file y x input'.program input.program in
+      one_stage x profile law f g is (stage_by y x same profile g is')
 
-  pub one_rewrite : PartsLaw → (s t : List Span) (f g : Fault) (r : IsRefused file profile f) (q : IsRefused file profile g) →
-      IsOfReading x s r → IsOfReading x t q → f ≡ g
-  one_rewrite law s t f g r q of of' = one_reason law f g (reason_of s f r of) (reason_of t g q of')
+  pub one_rewrite : PartsLaw → (f g : Fault) → IsRefused file profile f → IsRefused file profile g → f ≡ g
+  one_rewrite law f g r q = one_reason law f g (reason_of f r) (reason_of g q)
 
 module _ {file profile written : List ℕ} {spans : List Span} {counts : RewriteCounts}
     (made : IsRewritten file profile written spans counts) where
   abbrev x : Program
   x = made.program
 
-  same_fits : PartsLaw → (pairs : List Counted) (parts : Chains) → ArePartsBy x profile pairs parts → (p : ℕ) →
-      IsTooLarge x.elf x.code.funcs (cold_starts x.code.funcs x.blocks parts) p → ⊥
-  same_fits law pairs parts are p passes =
-      made.fits p (passes_by x profile law (cold_starts x.code.funcs x.blocks parts) (cold_starts x.code.funcs x.blocks made.parts)
-      (record { pairs = pairs; parts = parts; are = are; cold_is = refl })
-      (record { pairs = made.pairs; parts = made.parts; are = made.ordered.parts_are; cold_is = refl }) p passes)
+  of_made : (y : Program) → IsInput file profile y → IsSameProgram y x
+  of_made y input = same_program file y x input.program made.accepted.program
 
-  pub none_rewritten : PartsLaw → (f : Fault) (r : IsRefused file profile f) → IsOfReading x spans r → ⊥
+  made_cold : IsColdBy x profile (cold_starts x.code.funcs x.blocks made.parts)
+  made_cold = record { pairs = made.pairs; parts = made.parts; are = made.ordered.parts_are; cold_is = refl }
+
+  pub none_rewritten : PartsLaw → (f : Fault) (r : IsRefused file profile f) → IsOfLayout spans r → ⊥
   none_rewritten law f (long_file long is) of = let fits = made.accepted.program.faultless.plain.fits in absurd (omega (arith, long, fits))
   none_rewritten law f (long_profile fits long is) of = let fits' = made.accepted.profile_fits in absurd (omega (arith, long, fits'))
-  none_rewritten law f (unreadable fit is) of = read file profile x f is made.accepted
+  none_rewritten law f (unreadable fit is) of = read file profile f is x made.accepted
   none_rewritten law f (misplaced y input has) of =
-      none_answered (HasPlacementFault x.code.funcs x.blocks) f
-      (subst (λ (z : Program). IsAnswered (HasPlacementFault z.code.funcs z.blocks) f) of has) made.stands.moves.placed
+      let same = of_made y input in
+      none_answered (Placing x profile) f
+      (answered_by (Placing y profile) (Placing x profile) (placing_by y x same) (placing_by x y (exchanged y x same)) f has)
+      made.stands.moves.placed
   none_rewritten law f (not_carried y input placed has) of =
-      none_answered (HasCarryingFault x.elf) f (subst (λ (z : Program). IsAnswered (HasCarryingFault z.elf) f) of has)
+      let same = of_made y input in
+      none_answered (Carrying x profile) f
+      (answered_by (Carrying y profile) (Carrying x profile) (carrying_by y x same) (carrying_by x y (exchanged y x same)) f has)
       made.stands.moves.carried
   none_rewritten law f (no_place y input moves is) of =
-      some_none x profile f (subst (λ (z : Program). no_program_room z ≡ Some f) of is) made.stands.room
+      some_none x profile f (sym (same_room y x (of_made y input)) ∙ is) made.stands.room
   none_rewritten law f (large_code y input stands is) of =
-      let moved = subst (λ (z : Program). IsLimitFault (IsCodeTooLarge z.elf.file.now z.code.funcs) f) of is in
-      made.fits moved.place (code_too_large moved.first.present)
+      made.fits is.place (code_too_large (large_by y x (of_made y input) is.place is.first.present))
   none_rewritten law f (too_large y input stands pairs parts are is) of =
-      let moved = subst (λ (z : Program). ArePartsBy z profile pairs parts) of are in
-      let there = subst
-      (λ (z : Program). IsLimitFault (IsTooLarge z.elf z.code.funcs (cold_starts z.code.funcs z.blocks parts)) f) of is in
-      same_fits law pairs parts moved there.place there.first.present
+      let same = of_made y input in
+      let cold = cold_starts y.code.funcs y.blocks parts in
+      let there = cold_by y x same profile cold (record { pairs = pairs; parts = parts; are = are; cold_is = refl }) in
+      made.fits is.place
+      (passes_by x profile law cold (cold_starts x.code.funcs x.blocks made.parts) there made_cold is.place
+      (too_large_by y x same cold is.place is.first.present))
   none_rewritten law f (too_heavy y input stands pairs parts fits order ordered laid bytes are heavy is) of =
-      made.light (subst (λ (z : Program). IsTooHeavy z.elf spans) of.0 (subst (λ (ss : List Span). IsTooHeavy y.elf ss) of.1 heavy))
+      made.light (same_weights y.elf x.elf (of_made y input).alike spans (subst (λ (ss : List Span). IsTooHeavy y.elf ss) of heavy))

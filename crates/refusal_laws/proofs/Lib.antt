@@ -1,0 +1,16 @@
+mod OneClaim
+mod OneDecoding
+mod OneFault
+mod OneLook
+mod OneOrder
+mod OneProgram
+mod OneRewrite
+mod Refusals
+mod SameBlocks
+mod SameCode
+mod SameFunctions
+mod SameLimits
+mod SameParts
+mod SamePlacement
+mod SamePrograms
+mod SameTables
