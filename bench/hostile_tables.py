@@ -106,16 +106,17 @@ def folded(state, number):
 def frames_of_many_kinds(size):
     """Entries of `.debug_frame` for an instruction of two bytes each, with as many CIEs: the return register and the
     handler of each are its own, and in sets of 256 that hasher takes both to one number."""
-    count = size // 58
-    table, functions = bytearray(), halfwords(count)
-    for k in range(count):
+    length = min(size // 58, 1 << 14)
+    functions = halfwords(length) * (size // 58 // length)
+    table = bytearray()
+    for k in range(len(functions) // 2):
         handler = folded(0x243F6A8885A308D3, k % 256) ^ 1 + k // 256
         # version 1, `zP`, factors 1 and -8, the register; an absolute handler; DW_CFA_def_cfa 2, 0
         cie = struct.pack("<I9BQ3B", 0xFFFFFFFF, 1, 0x7A, 0x50, 0, 1, 0x78, k % 256, 9, 0, handler, 0x0C, 2, 0)
         place = len(table)
         table += frame_entry(cie)
         table += frame_entry(struct.pack("<IQQB", place, BASE + TEXT + 2 * k, 2, 0))
-    return debug_file({".debug_frame": bytes(table)}, functions)
+    return debug_file({".debug_frame": bytes(table)}, functions, 2 * length)
 
 
 def nested_ranges(count):
