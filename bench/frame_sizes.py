@@ -1,12 +1,15 @@
 #!/usr/bin/env python3
 """The sizes of frame tables before and after a rewrite.
 
-    python3 bench/frame_sizes.py [--tool COMMAND] [--sources FOLDER] [--keep FOLDER] [--most RATIO] [PROGRAM..]
+    python3 bench/frame_sizes.py [--tool COMMAND] [--refined] [--sources FOLDER] [--keep FOLDER] [--most RATIO]
+        [PROGRAM..]
 
 Lua, zlib, bzip2 and pugixml (`packages.py`) and the programs of `examples/` are built at -O2 -g by GCC and by Clang:
 `debug` with `.debug_frame`, and `indexed` with a loaded `.eh_frame` and its index; those that unwind themselves as
 `index` and `unwinder` (`report_files.py`). `large` is a program of 27 MiB, of like units by GCC (`debug_files.py`),
-with `.eh_frame`. COMMAND (`./sudrepka` if it isn't given) records a run of each and rewrites it by that profile.
+with `.eh_frame`. COMMAND (`./sudrepka` if it isn't given) records a whole run of each and rewrites it by that profile;
+with --refined by what `tools/refine.py` makes of it, as `tools/optimize.py` does. How many FDEs there are follows from
+how many functions the profile splits: a function that ran whole, or not at all, keeps its one FDE.
 
 All functions stay in these files, as the linker leaves them if it isn't asked for less: of functions that it takes out
 it leaves the entries in the table.
@@ -25,6 +28,7 @@ import tempfile
 from debug_files import build_large
 from frame_rows import table_at
 from frames import unread
+from layouts import refine
 from packages import CACHE, PACKAGES, fetch
 from profiles import CROSS, built, output
 from real_programs import LINK, LONGER, NO_COMPILER, ROOT, UNWINDING, buildable, compilers
@@ -70,8 +74,8 @@ def shown(was, now):
 class Sizes:
     """Builds programs, rewrites them and compares their tables."""
 
-    def __init__(self, tool, folder, sources, most):
-        self.tool, self.folder, self.most = tool, folder, most
+    def __init__(self, tool, folder, sources, most, refined):
+        self.tool, self.folder, self.most, self.refined = tool, folder, most, refined
         self.builder, self.problems = Builder(folder, sources, link=WHOLE), []
 
     def files(self, program):
@@ -90,11 +94,14 @@ class Sizes:
                 yield path
 
     def moved(self, path, words, given):
-        """Rewrites a file by the profile of a run of it; None if that isn't done."""
-        profile, new, spans = (f"{path}.{end}" for end in ("profile", "moved", "map"))
+        """Rewrites a file by the profile of a whole run of it; None if that isn't done."""
+        profile, better, new, spans = (f"{path}.{end}" for end in ("profile", "refined", "moved", "map"))
         record = [*self.tool, "record", "--steps", "1000000000", path, profile, "--", *words]
         subprocess.run(record, input=given, stdout=subprocess.DEVNULL, check=False)
-        command = [*self.tool, "rewrite", path, profile, new, spans]
+        if self.refined and (why := refine(self.tool, path, profile, better, [])):
+            self.problems.append(f"{os.path.basename(path)}: {why}")
+            return None
+        command = [*self.tool, "rewrite", path, better if self.refined else profile, new, spans]
         done = subprocess.run(command, capture_output=True, text=True, check=False)
         if done.returncode != 0:
             self.problems.append(f"{os.path.basename(path)}: {done.stdout.strip() or done.returncode}")
@@ -125,6 +132,7 @@ class Sizes:
 def main():
     words = argparse.ArgumentParser(description="the sizes of frame tables before and after a rewrite")
     words.add_argument("--tool", default=os.path.join(ROOT, "sudrepka"), help="the command that takes `rewrite ..`")
+    words.add_argument("--refined", action="store_true", help="rewrite by refined profiles")
     words.add_argument("--sources", default=CACHE, help="where the sources of packages are, or go")
     words.add_argument("--keep", help="a folder for all files")
     words.add_argument("--most", type=float, default=1.3, help="how many times as large a table may be")
@@ -137,7 +145,7 @@ def main():
     with tempfile.TemporaryDirectory() as room:
         folder = given.keep or room
         os.makedirs(folder, exist_ok=True)
-        sizes = Sizes(tool, folder, given.sources, given.most)
+        sizes = Sizes(tool, folder, given.sources, given.most, given.refined)
         if any(name in UNWINDING for name in programs):
             sizes.builder.add_unwinders()
         sizes.go(programs, given.sources)
