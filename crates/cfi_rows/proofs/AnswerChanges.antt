@@ -1,4 +1,4 @@
--- Where the answers of a frame table change: at the start of a row, or at the end of a range.
+-- The answers of a frame table change at the start of a row, or at the end of a range.
 use Rattle.std.proofs.Common.{◌≡◌, ℕ, zero, ◌<◌, ◌≤◌, ◌⊎◌, ◌∙◌, inl, inr, List, [], ◌∷◌, refl, sym, ap, subst}
 use Rattle.std.proofs.Common.{arith, Option, Some, None, Bool, true, false, cond}
 use Rattle.std.specs.Prelude.{Contains, nat_le}
@@ -46,7 +46,7 @@ row_change z a less (r ∷ rs) found =
     by ih (inr x) (inl y) = absurd (omega (arith, less, x, y))
     by ih (inr x) (inr y) = more (Some r.row) (rw (low r.start z x) refl) (rw (low r.start a y) refl) (ih (Some r.row))
 
--- the first row begins where the rows do
+-- the first row begins at the start of the rows
 pub record FirstRow (rs : List PlacedRow) (a : ℕ) : Type 0 where
   pub r : PlacedRow
   pub among : Contains rs r
@@ -107,7 +107,7 @@ entry_change z a less (g ∷ gs) f found =
     own e h (inl x) = Starts (subst (λ (u : Fde). Between z a u.start) e (x, (bounds g a h).0))
     own e h (inr x) = Same (rw (inside g z x (let y = (bounds g a h).1 in omega (arith, y, less))) (ap (λ (u : Fde). Some u) e))
 
-    -- it isn't the one, and lies before a or behind it
+    -- it isn't the one, and comes before a or after it
     later : Change gs z a f → is_in_range g z ≡ false → Change (g ∷ gs) z a f
     later (Same e) h = Same (rw h e)
     later (Starts b) h = Starts b

@@ -116,7 +116,7 @@ rows-ascend initial [] s a = before-ascend s.location s.known.cfa s.known.rules 
 rows-ascend initial (i ∷ is) s a =
     and-ascend (ends_row i) s _ a (then-ascend initial is (step initial i s) (step-ascend initial i s a) (rows-ascend initial is))
 
--- What is known after the instructions of a CIE
+-- The state known after the instructions of a CIE
 
 abbrev pub KnownAscends : Option Known → Type 0
 KnownAscends None = Unit {0}

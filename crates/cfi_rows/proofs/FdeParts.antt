@@ -28,7 +28,7 @@ use Rattle.cfi_rows.specs.FdeHeads.{fde_head_at, head_sized, head_from, head_by}
 use Rattle.cfi_rows.specs.KeptCies.{cie_of, IsKept}
 use Rattle.cfi_rows.proofs.Outlining.{CountedRows, counted-rows, no-rows}
 
--- what is made of the fields
+-- the FDE that the fields make
 abbrev from_head : Cie → ℕ → ℕ → FdeHead → List ℕ → Result Fde Malformed
 from_head cie end place h rest = fde_by cie end place h.start h.size h.table rest
 
@@ -155,7 +155,7 @@ made k own known end e h rest is n r b kept f g o =
     by-rows k own known end e h rest is n r b kept f g
     (counted-rows known.rules is (begins h.start known) n (of-kind is h.start (kind_of known.cfa) k.frame (Some n) kept.frame o))
 
--- the same, with its fields as they are computed
+-- with its fields as they are computed
 pub made-as : (k : Kept) (own : List Instruction) (known : Known) (end : ℕ) (e : RawEntry) (h : FdeHead) (rest : List ℕ)
     (is : List Instruction)
     (n : ℕ) (r : Registers) (b place regs total : ℕ) → IsKept k own known →

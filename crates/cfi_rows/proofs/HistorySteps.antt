@@ -1,4 +1,4 @@
--- Steps in which rows are kept by the changes of rules.
+-- Steps that keep rows by the changes of rules.
 use Rattle.std.proofs.Common.{◌≡◌, ◌∙◌, ◌+◌, ◌-◌, ◌<◌, ◌≤◌, ◌++◌, ℕ, zero, suc, List, [], ◌∷◌, map, length, take, drop, reverse, get_or}
 use Rattle.std.proofs.Common.{Option, Some, None, option_map, refl, sym, ap, subst, arith, length-append}
 use Rattle.std.specs.Prelude.{All, Result, Ok, Err, OnOk, slice_get, slice_index_or}

@@ -10,7 +10,7 @@ use Rattle.cfi_rows.specs.declared.instruction.Malformed.TheVariants.{Entry}
 use Rattle.cfi_rows.specs.declared.instruction.Instruction.{Instruction}
 use Rattle.cfi_rows.specs.FrameInstructions.{Context, instruction_at, instructions_in}
 
--- a list that was read, with what is read next
+-- a list that was read, and then the rest
 abbrev pub after : {X E : Type 0} → List X → Result (List X) E → Result (List X) E
 after xs (Ok ys) = Ok (xs ++ ys)
 after xs (Err e) = Err e

@@ -1,4 +1,4 @@
--- The entries that are read are made: their rows are those of their instructions.
+-- The entries that are read are made: their instructions describe their rows.
 use Rattle.std.proofs.Common.{◌≡◌, ℕ, ◌+◌, ◌⊎◌, ◌^◌, inl, inr, List, [], ◌∷◌, refl, ap, subst}
 use Rattle.std.proofs.Common.{Option, Some, None, Result, Ok, Err, Bool, true, false, cond}
 use Rattle.std.specs.Prelude.{Contains, nat_lt}
@@ -14,7 +14,7 @@ use Rattle.cfi_rows.specs.Entries.{RawEntry, Cie, Fde, Head, cie_at, cie_by, cie
 use Rattle.cfi_rows.specs.Entries.{fde_at, fde_sized, fde_from, fde_by, fde_after, fde_made, fde_context, table_at, size_encoding}
 use Rattle.cfi_rows.specs.Entries.{one_cie, one_fde, frames_from, frames, walked_entries, cie_in, entry_named, cie_place, is_cie, end_of}
 
--- its rows are those of its instructions, after what its CIE's say
+-- its instructions describe its rows, from the state after its CIE
 pub record IsMade (f : Fde) : Type 0 where
   pub rows_are : rows f.cie.known.rules f.instructions (begins f.start f.cie.known) ≡ Some f.rows
   pub cie_known : known_after f.cie.instructions (Some (begins 0 nothing_known)) ≡ Some f.cie.known

@@ -1,4 +1,4 @@
--- The rows of an FDE are those of its instructions alone, over the rules of its CIE.
+-- The rows of an FDE are the rows of only its instructions, over the rules of its CIE.
 use Rattle.std.proofs.Common.{ℕ, ◌+◌, ◌<◌, ◌≡◌, ◌∙◌, ◌==◌, List, [], ◌∷◌, map, Option, Some, None, option_map, cond, ltb, Bool, true}
 use Rattle.std.proofs.Common.{false, refl, sym, ap, arith}
 use Rattle.std.specs.Prelude.{nat_lt, nat_le, ◌^◌}
@@ -76,7 +76,7 @@ pub over-ascend : (initial xs : Rules) → Ascend 0 initial → Ascend 0 (over i
 over-ascend initial [] a = a
 over-ascend initial (x ∷ xs) a = over-ascend (with_rule x.0 x.1 initial) xs (with-ascend x.0 x.1 initial 0 (omega arith) a)
 
--- Rules that ascend are the same where all look-ups are.
+-- Rules that ascend are the same if all look-ups are.
 
 first-found : (k : ℕ) (x : ℕ × Rule) (xs : Rules) → x.0 ≡ k → rule_of k (x ∷ xs) ≡ Some x.1
 first-found k x xs e = ap (λ (b : Bool). cond b (Some x.1) (rule_of k xs)) (ap (λ n. n == k) e ∙ same-number k)
@@ -132,7 +132,7 @@ over-with initial xs k v a c =
           ∙ sym (ap (λ (o : Option Rule). option_or o (rule_of q initial)) (rule-with k v q xs
           ∙ ap (λ (t : Bool). cond t (Some v) (rule_of q xs)) e))
 
--- a look-up in rules of which one register's is given back
+-- a look-up in rules after one register's rule is given back
 rule-back : (k q : ℕ) (o : Option Rule) (xs : Rules) → Ascend 0 xs → rule_of q (restored k o xs) ≡ cond (k == q) o (rule_of q xs)
 rule-back k q None xs a = rule-without k q 0 xs a
 rule-back k q (Some v) xs a = rule-with k v q xs

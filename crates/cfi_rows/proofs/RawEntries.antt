@@ -5,7 +5,7 @@ use Rattle.std.proofs.lemmas.List.{append-nil}
 use Rattle.rb_bytes.proofs.Tests.{less_one}
 use Rattle.cfi_rows.specs.Entries.{RawEntry, Front, Ends, Breaks, Stands, front_of, WalkedEntries, walk, onward}
 
--- what was walked, with what is walked next
+-- the entries that were walked, and then the rest
 abbrev pub after : List RawEntry → WalkedEntries → WalkedEntries
 after es w = record { entries = es ++ w.entries; broken = w.broken }
 

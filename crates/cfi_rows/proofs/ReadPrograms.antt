@@ -17,7 +17,7 @@ use Rattle.cfi_rows.specs.RowMachines.{known_of}
 use Rattle.cfi_rows.specs.FramePrograms.{IsCieProgram, IsProgram, rows_of}
 use Rattle.cfi_rows.proofs.FdeParts as fde
 
--- a CIE's own context is that of what is kept
+-- a CIE's own context is the context of its kept part
 context-same : (k : CieProgram) (c : Cie) (end : ℕ) → IsCieProgram k c →
     head_context end (head_of k.head) ≡ fde_context c end
 context-same k c end h = ap (head_context end) (sym h.head)

@@ -140,7 +140,7 @@ set-more xs k d h =
 pub nothing : (set : BTreeSet ℕ) → set.keys ≡ [] → AreIn [] set
 nothing set e = λ q. ap (λ (ks : List ℕ). list_any (λ k. is_eq (nat_cmp q k)) ks) e
 
--- where no register is known
+-- if no register is known
 pub alone : (none : BTreeSet ℕ) (r : Registers) (ys zs : List ℕ) → none.keys ≡ [] →
     ((xs : List ℕ) → AreIn xs none → AreCounted xs ys none r) → ys ≡ zs →
     AreIn zs r.set × (length (distinct zs) ≡ r.count)

@@ -9,7 +9,7 @@ use Rattle.cfi_rows.specs.FrameRows.{Rules, restored, Known, State}
 use Rattle.cfi_rows.specs.RowMachines.{remembered}
 use Rattle.cfi_rows.specs.RuleChanges.{after_changes}
 
--- the last one stands first
+-- the last one comes first
 last-first : {X : Type 0} (xs : List X) (x : X) → reverse (xs ++ x ∷ []) ≡ x ∷ reverse xs
 last-first xs x = reverse-append xs (x ∷ [])
 

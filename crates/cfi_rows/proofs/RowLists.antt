@@ -1,4 +1,4 @@
--- Where the rows of a program begin, and the last of them that begins at or before an address.
+-- The starts of a program's rows, and the last row that begins at or before an address.
 use Rattle.std.proofs.Common.{◌≡◌, ◌∙◌, ◌+◌, ◌<◌, ◌≤◌, ℕ, zero, suc, Bool, true, false, cond, List, [], ◌∷◌, map, Option, Some, None}
 use Rattle.std.proofs.Common.{option_map, refl, sym, ap, subst, arith, drop, length}
 use Rattle.std.proofs.lemmas.Bool.Decides.{nat_tests}
@@ -16,7 +16,7 @@ pub rows-end : (xs : List Instruction) (k : ℕ) (s : State) → length xs ≤ k
     → rows [] (drop k xs) s ≡ prepended s.location (row_of s.known) (Some [])
 rows-end xs k s h = ap (λ is. rows [] is s) (drop_all k xs h)
 
--- Where rows begin
+-- The starts of rows
 
 abbrev place_of : Option State → ℕ
 place_of None = 0
@@ -62,7 +62,7 @@ moved-to : (a : ℕ) (b : Bool) (s t : State) → nat_le s.location a ≡ b → 
 moved-to a true s t l e = moved a (nat_lt a (2 ^ 64)) s t (grind (arith, nat_tests)) e
 moved-to a false s t l e = absurd (cc)
 
--- one that does changes nothing else, and moves it on
+-- one that does only moves it on
 moves : (initial : Rules) (i : Instruction) (s t : State) → step initial i s ≡ Some t → ends_row i ≡ true → Moved s t
 moves initial (Advance n) s t e f = moved (s.location + n) (nat_lt (s.location + n) (2 ^ 64)) s t (omega arith) e
 moves initial (SetLoc a) s t e f = moved-to a (nat_le s.location a) s t refl e
@@ -75,7 +75,7 @@ moves initial RememberState s t e f = absurd (cc)
 moves initial RestoreState s t e f = absurd (cc)
 moves initial Nop s t e f = absurd (cc)
 
--- rows that begin at a location, and of which none begins before the one before it
+-- rows that begin at a location, in ascending order
 abbrev Rising : ℕ → List PlacedRow → Type 0
 Rising lo [] = Unit {0}
 Rising lo (r ∷ rs) = (lo ≤ r.start) × Rising r.start rs
@@ -135,7 +135,7 @@ pub starts-rise : {X : Type 0} (f : X → PlacedRow) (xs : List X) (is : List In
     → IsNonDecreasingBy (λ x. (f x).start) xs
 starts-rise f xs is s e = pair-rising f xs s.location (subst (IfRising s.location) e (rising is s))
 
--- The last of so many rows, or what was found before.
+-- The last of n rows, or the one found before.
 
 abbrev pub last_of : ℕ → List PlacedRow → Option RowValue → Option RowValue
 last_of zero rs found = found
@@ -150,7 +150,7 @@ row-step : (a : ℕ) (r : PlacedRow) (rs : List PlacedRow) (found : Option RowVa
     → row_at a (r ∷ rs) found ≡ row_at a rs (cond b (Some r.row) found)
 row-step a r rs found b e = ap (λ (t : Bool). row_at a rs (cond t (Some r.row) found)) e
 
--- of rows of which the first so many begin at or before an address, and the others behind it
+-- if the first n rows begin at or before an address, and the others after it
 pub row-counted : {X : Type 0} (f : X → PlacedRow) (a : ℕ) (xs : List X) (n : ℕ) (found : Option RowValue) → n ≤ length xs
     → ((k : ℕ) (d : X) → k < n → (f (slice_index_or xs k d)).start ≤ a)
     → ((k : ℕ) (d : X) → n ≤ k → k < length xs → a < (f (slice_index_or xs k d)).start)

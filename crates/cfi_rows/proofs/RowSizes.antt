@@ -78,7 +78,7 @@ any_there (k ∷ ks) m e = by (any_there ks m) (k == m) refl e where
   by more true h f = (zero, omega arith, same_number k m h)
   by more false h f = Contains-there k ks m (more f)
 
--- a list keeps what it has when each number is listed once
+-- a list keeps its numbers when each is listed once
 in_distinct : (ns : List ℕ) (n : ℕ) → Contains ns n → Contains (distinct ns) n
 in_distinct [] n c = absurd (Contains-nil n c)
 in_distinct (m ∷ ms) n c = by (in_distinct ms n) (Contains-cons_cases m ms n c) (list_any (λ k. k == m) ms) refl where
@@ -200,7 +200,7 @@ module _ (all : List Instruction) where
       let b = count_all (distinct (flat_map registers_set all)) in
       omega (arith, l, a, b)
 
-  -- What is known at each point.
+  -- The state known at each point.
 
   abbrev CfaFits : Option Cfa → Type 0
   CfaFits None = Unit {0}
@@ -280,7 +280,7 @@ module _ (all : List Instruction) where
         subst (λ (u : State). IsState u) same (record { known = m.0; saved = m.1 })
   step_good initial g Nop c s t h e = let same : s ≡ t = cc in subst (λ (u : State). IsState u) same h
 
-  -- what is known after instructions
+  -- the state known after instructions
   pub known_good : (is : List Instruction) → ((i : Instruction) → Contains is i → Contains all i) → (s : State) → IsState s →
       (k : Known) →
       known_after is (Some s) ≡ Some k → IsKnown k

@@ -14,7 +14,7 @@ use Rattle.cfi_rows.specs.RuleEntries.{valued, Ascend}
 use Rattle.cfi_rows.specs.FrameRows.{Rules, with_rule, without_rule, rule_of, restored}
 use Rattle.cfi_rows.proofs.RegisterCounts.{at-number, same-test}
 
--- Entries of a map whose values stand for rules.
+-- Entries of a map whose values are seen as rules.
 
 insert-at : {X : Type 0} (f : X → Rule) (k : ℕ) (v : X) (e : ℕ × X) (es : List (ℕ × X)) (a b c d : Bool) →
     nat_lt k e.0 ≡ a → (k == e.0) ≡ b → nat_lt e.0 k ≡ c → (e.0 == k) ≡ d →
@@ -129,7 +129,7 @@ to-front : (k : ℕ) (v : Rule) (xs : Rules) → Ascend (k + 1) xs → with_rule
 to-front k v [] a = refl
 to-front k v (x ∷ xs) a = let l = a.0 in front-at k v x xs (nat_lt x.0 k) (x.0 == k) refl refl (omega arith)
 
--- of a register that comes behind the first one
+-- of a register that comes after the first one
 behind : (k : ℕ) (o : Option Rule) (x : ℕ × Rule) (xs : Rules) → nat_lt x.0 k ≡ true → (x.0 == k) ≡ false →
     restored k o (x ∷ xs) ≡ x ∷ restored k o xs
 behind k None x xs e f = rw f refl

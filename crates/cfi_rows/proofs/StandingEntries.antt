@@ -1,4 +1,4 @@
--- An entry that a walk of a table found stands at its place, and is found there again.
+-- An entry that a walk of a table found is at its place, and is found there again.
 use Rattle.std.proofs.Common.{◌≡◌, ◌∙◌, ◌+◌, ◌-◌, ◌==◌, ◌&&◌, ◌^◌, ℕ, zero, suc, Bool, true, false, cond, not, List, [], ◌∷◌, Result, Ok}
 use Rattle.std.proofs.Common.{Err, Option, Some, None, refl, sym, ap, subst, arith, take, drop, length, map, get_or, option_map}
 use Rattle.std.proofs.lemmas.Bool.Decides.{nat_tests}
@@ -24,12 +24,12 @@ use Rattle.cfi_rows.specs.ReadEntries.{fde_of}
 use Rattle.cfi_rows.specs.FramePrograms.{entry_in, entry_standing, cie_standing, fde_standing}
 use Rattle.cfi_rows.specs.KeptTables.{fde_in}
 
--- each of some entries stands at its place
+-- each of some entries is at its place
 abbrev pub AllStand : (debug : Bool) → List ℕ → List RawEntry → Type 0
 AllStand debug table [] = Unit {0}
 AllStand debug table (e ∷ es) = (entry_standing debug table e.place ≡ Some e) × AllStand debug table es
 
--- where an entry stands, and where the bytes after it do
+-- the place of an entry, and of the bytes after it
 abbrev LiesAt : ℕ → List ℕ → Front → Type 0
 LiesAt place left Ends = Unit {0}
 LiesAt place left Breaks = Unit {0}

@@ -55,7 +55,7 @@ fde_standing debug t place =
     and_so (sound_if (entry_standing debug t.bytes place))
     (λ e. and_so (cie_standing debug t (cie_place debug e)) (λ cie. fde_at cie (end_of t.address e) e))
 
--- values that stand for CIEs, by the places of these
+-- values that are seen as CIEs, by the places of these
 abbrev pub AreRead : {X : Type 0} → (X → CieProgram) → (debug : Bool) → Held → BTreeMap ℕ X → Type 0
 AreRead {X} value debug t cies = (p : ℕ) (x : X) → get nat_cmp cies p ≡ Some x →
     IsOkAnd (cie_standing debug t (Some p)) (IsCieProgram (value x))

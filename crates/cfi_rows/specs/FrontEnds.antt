@@ -1,4 +1,4 @@
--- What stands where no entry does.
+-- Bytes that aren't an entry.
 use Rattle.cfi_rows.specs.declared.raw_entry.NoEntry.{NoEntry}
 use Rattle.cfi_rows.specs.declared.raw_entry.NoEntry.TheVariants as none
 use Rattle.cfi_rows.specs.Entries.{Front, Ends, Breaks}

@@ -21,7 +21,7 @@ cie_of k is known =
       known = known;
     }
 
--- what is kept of some instructions, after which something is known
+-- the kept part of a CIE by its instructions and the state known after them
 pub record IsKept (k : Kept) (is : List Instruction) (known : Known) : Type 0 where
   pub frame : kind_of known.cfa ≡ k.frame
   pub registers : AreIn (flat_map registers_set is) k.registers.set

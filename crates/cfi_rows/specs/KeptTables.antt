@@ -11,14 +11,14 @@ use Rattle.cfi_rows.specs.Entries.{Cie, Fde, Frames, RawEntry, cie_at, cie_in, c
 use Rattle.cfi_rows.specs.KeptCies.{IsKeptCie}
 use Rattle.cfi_rows.specs.ReadEntries.{fde_of}
 
--- a CIE is kept where it is sound
+-- a CIE is kept if it is sound
 abbrev pub KeptAs : Option Kept → Result Cie Malformed → Type 0
 KeptAs (Some k) (Ok c) = IsKeptCie k c
 KeptAs None (Err e) = Unit {0}
 KeptAs (Some k) (Err e) = ⊥
 KeptAs None (Ok c) = ⊥
 
--- what is found at a place, where that of a CIE entry is found if there is one
+-- the kept CIE at a place, if a CIE entry there is always found
 abbrev pub KeptFor : ℕ → Option (Option Kept) → Option RawEntry → Type 0
 KeptFor address None None = Unit {0}
 KeptFor address (Some k) (Some e) = KeptAs k (cie_at (end_of address e) e.body)
@@ -34,7 +34,7 @@ abbrev pub fde_in : (debug : Bool) → ℕ → List RawEntry → RawEntry → Re
 fde_in debug address es e = and_so (cie_in debug address es (cie_place debug e))
     (λ cie. fde_at cie (end_of address e) e)
 
--- what is answered of a table
+-- the answer for a table
 pub record SaidFrames : Type 0 where
   pub cies : ℕ
   pub list : List ReadFde
@@ -43,7 +43,7 @@ pub record SaidFrames : Type 0 where
 abbrev pub said : Frames → SaidFrames
 said t = record { cies = t.cies; list = map fde_of t.list; bad = t.bad }
 
--- what was read of a table, with what is read next
+-- the entries read of a table, and then the rest
 abbrev pub joined : ℕ → List ReadFde → SaidFrames → SaidFrames
 joined n fs t = record { cies = n + t.cies; list = fs ++ t.list; bad = t.bad }
 

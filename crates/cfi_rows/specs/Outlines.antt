@@ -29,7 +29,7 @@ abbrev pub outline_of : State → Outline
 outline_of s =
     record { location = s.location; frame = kind_of s.known.cfa; saved = map (λ (k : Known). kind_of k.cfa) s.saved }
 
--- as the code keeps it, with what was remembered last at the end
+-- as kept by the code, with the state remembered last at the end
 abbrev pub kept_outline : Kept → Outline
 kept_outline o = record { location = o.location; frame = o.frame; saved = reverse o.saved.items }
 

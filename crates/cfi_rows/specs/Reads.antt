@@ -4,7 +4,7 @@ use Rattle.cfi_rows.specs.declared.failed.Failed.TheVariants.{Memory, Malformed}
 use Rattle.cfi_rows.specs.declared.factors.Factors.{Factors}
 use Rattle.cfi_rows.specs.FrameInstructions.{Context}
 
--- nothing is read for want of memory, or since what stands there is malformed
+-- nothing is read for want of memory, or since the bytes there are malformed
 abbrev pub Fails : Failed → Type 0 → Type 0
 Fails Memory P = Unit {0}
 Fails Malformed P = P

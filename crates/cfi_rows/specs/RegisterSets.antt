@@ -10,7 +10,7 @@ use Rattle.cfi_rows.specs.declared.registers.Registers.{Registers}
 abbrev pub AreIn : List ℕ → BTreeSet ℕ → Type 0
 AreIn xs set = (q : ℕ) → contains nat_cmp set q ≡ list_any (λ m. m == q) xs
 
--- what a set has beside another is counted, where the other has the first numbers of a list
+-- the numbers of a set that another set lacks are counted, if the other has the first numbers of a list
 pub record AreCounted (xs ys : List ℕ) (known : BTreeSet ℕ) (r : Registers) : Type 0 where
   pub count : length (distinct (xs ++ ys)) ≡ length (distinct xs) + r.count
   pub members : (q : ℕ) → (contains nat_cmp known q || contains nat_cmp r.set q) ≡ list_any (λ m. m == q) (xs ++ ys)

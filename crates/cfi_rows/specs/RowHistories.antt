@@ -8,7 +8,7 @@ use Rattle.cfi_rows.specs.declared.row_history.RowHistory.{RowHistory}
 use Rattle.cfi_rows.specs.FrameRows.{Rules, PlacedRow}
 use Rattle.cfi_rows.specs.RuleChanges.{after_changes, over}
 
--- the rules after so many changes
+-- the rules after n changes
 abbrev pub rules_after : List Change → ℕ → Rules
 rules_after changes n = after_changes [] (take n changes)
 
@@ -25,7 +25,7 @@ told h = map (told_row h.changes.items) h.rows.items
 abbrev pub before : List PlacedRow → Option (List PlacedRow) → Option (List PlacedRow)
 before list more = option_map (λ rest. list ++ rest) more
 
--- rules that are kept are those after so many changes
+-- kept rules are the rules after their number of changes
 pub record IsRight (changes : List Change) (k : KeptRules) : Type 0 where
   pub within : k.changes ≤ length changes
   pub rules : k.rules ≡ rules_after changes k.changes

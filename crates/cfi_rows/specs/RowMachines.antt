@@ -8,7 +8,7 @@ use Rattle.cfi_rows.specs.declared.machine.Saved.{Saved}
 use Rattle.cfi_rows.specs.FrameRows.{Rules, Known, State}
 use Rattle.cfi_rows.specs.RuleChanges.{after_changes}
 
--- the states that were remembered, of which the last one stands first, by changes that take back, the last one first
+-- the remembered states, the last one first, by changes that take back, the last one first
 abbrev pub remembered : Rules → List Change → List Saved → List Known
 remembered rules cs [] = []
 remembered rules cs (s ∷ ss) =

@@ -4,7 +4,7 @@ use Rattle.std.specs.Rc.{rc_value}
 use Rattle.cfi_rows.specs.declared.rules.Change.{Change}
 use Rattle.cfi_rows.specs.FrameRows.{Rules, with_rule, restored}
 
--- rules after changes, the first of which stands first
+-- rules after changes, the first change first
 abbrev pub after_changes : Rules → List Change → Rules
 after_changes rules [] = rules
 after_changes rules (c ∷ cs) = after_changes (restored c.register (option_map rc_value c.rule) rules) cs

@@ -3,7 +3,7 @@ use Rattle.std.specs.Prelude.{ℕ, ◌+◌, ◌≤◌, [], ◌∷◌}
 use Rattle.cfi_rows.specs.declared.row.Rule.{Rule}
 use Rattle.cfi_rows.specs.FrameRows.{Rules}
 
--- an entry whose value stands for a rule
+-- an entry whose value is seen as a rule
 abbrev pub valued : {X : Type 0} → (X → Rule) → ℕ × X → ℕ × Rule
 valued f e = (e.0, f e.1)
 

@@ -18,13 +18,13 @@ use rb_bytes::cursor::Cursor;
 /// What the augmentation of a CIE says of its FDEs and of their frames.
 #[derive(Clone, Copy)]
 pub struct Augmentation {
-    /// Whether augmentation data stand in the FDEs.
+    /// Whether FDEs have augmentation data.
     pub has_data: bool,
     /// The encoding of addresses.
     pub encoding: Encoding,
-    /// The encoding of the pointer to an exception table, where there is one.
+    /// The encoding of the pointer to an exception table, if there is one.
     pub table: Option<Encoding>,
-    /// The address of the handler, and 0 where there is none.
+    /// The address of the handler, and 0 if there is none.
     pub handler: u64,
     pub indirect: bool,
     /// Whether the frame is one of a signal handler.
@@ -109,7 +109,7 @@ impl Augmentation {
         Ok(())
     }
 
-    /// The pointer to an exception table of an FDE, and 0 where there is none.
+    /// The pointer to an exception table of an FDE, and 0 if there is none.
     pub(crate) fn table_pointer(&self, end: u128, cursor: &mut Cursor<'_>) -> Result<u64, Failed>
         requires { end < 2 ^ 66 }
         ensures ok { IfOk result (λ t. spec.table_at (augmentation_of self.now) end cursor.old.left
@@ -125,7 +125,7 @@ impl Augmentation {
     }
 }
 
-// The encoding that a byte stands for.
+// The encoding that a byte names.
 fn encoding_of(byte: u8) -> Result<Encoding, Failed>
     ensures ok { IfOk result (λ e. spec.encoding_of byte ≡ Some e) }
     ensures err { IfErr result (λ e. Fails e (spec.encoding_of byte ≡ None)) }
@@ -139,7 +139,7 @@ fn encoding_of(byte: u8) -> Result<Encoding, Failed>
     }
 }
 
-// The encoding that a byte stands for, or none where it says that the pointer is omitted.
+// The encoding that a byte names, or none if it says that the pointer is omitted.
 fn table_encoding_of(byte: u8) -> Result<Option<Encoding>, Failed>
     ensures ok { IfOk result (λ e. spec.table_encoding_of byte ≡ Some e) }
     ensures err { IfErr result (λ e. Fails e (spec.table_encoding_of byte ≡ None)) }
@@ -176,7 +176,7 @@ fn table_by(encoding: Option<Encoding>, end: u128, bytes: &[u8]) -> Result<u64, 
     Ok(encoding.pointed(at, stored))
 }
 
-// The letters behind the first one, by their data, which end at an address.
+// The letters after the first one, by their data, which end at an address.
 fn by_letters(letters: &[u8], end: u128, bytes: &[u8]) -> Result<Augmentation, Failed>
     requires { end < 2 ^ 66 }
     ensures ok { IfOk result (λ a. spec.letters_at end letters.now spec.with_data bytes.now ≡ Ok (augmentation_of a)) }
@@ -190,7 +190,7 @@ fn by_letters(letters: &[u8], end: u128, bytes: &[u8]) -> Result<Augmentation, F
     Ok(augmentation)
 }
 
-/// The augmentation by its text; `end` is where the bytes left end.
+/// The augmentation by its text; `end` is the address after the bytes left.
 pub(crate) fn read_augmentation(
     text: &[u8],
     end: u128,

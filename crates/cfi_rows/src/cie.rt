@@ -112,7 +112,7 @@ pub(crate) fn read_head(end: u128, cursor: &mut Cursor<'_>) -> Result<Head, Fail
     })
 }
 
-/// A CIE by its body, the bytes behind its id; `end` is the address at which they end.
+/// A CIE by its body, the bytes after its id; `end` is the address at which they end.
 pub(crate) fn read_cie(alloc: Global, end: u128, body: &[u8]) -> Result<Cie, Failed>
     requires { end < 2 ^ 66 }
     ensures ok { IfOk result (λ k. IsOkAnd (spec.cie_at end body.now) (IsKeptCie k)) }

@@ -1,4 +1,4 @@
-// What is known behind the instructions of a CIE, where its FDEs begin. DWARF 5, section 6.4.1.
+// The state after the instructions of a CIE, with which its FDEs begin. DWARF 5, section 6.4.1.
 ghost use Rattle.std.specs.Prelude.{◌≡◌, ◌<◌, ◌^◌, Some, IfOk, IsOkAnd};
 ghost use Rattle.cfi_rows.specs.FrameRows as spec;
 ghost use Rattle.cfi_rows.specs.Entries.{cie_at};
@@ -13,14 +13,14 @@ use crate::machine::{Known, Machine};
 use rb_bytes::cursor::Cursor;
 use std::alloc::Global;
 
-/// What is kept of a CIE for the rows of its FDEs: its fields, and the rules with which its FDEs begin.
+/// The part of a CIE that is kept for the rows of its FDEs: its fields, and the rules with which its FDEs begin.
 #[derive(Drop)]
 pub struct CieProgram {
     pub head: Head,
     pub known: Known,
 }
 
-// What is known after the instructions of a CIE.
+// The state known after the instructions of a CIE.
 fn known_after(alloc: Global, instructions: &[Instruction]) -> Result<Known, Failed>
     ensures { IfOk result (λ k. spec.known_after instructions.now (Some (spec.begins 0 spec.nothing_known))
         ≡ Some (known_of k)) }
@@ -35,7 +35,7 @@ fn known_after(alloc: Global, instructions: &[Instruction]) -> Result<Known, Fai
     })
 }
 
-/// A CIE by its body, the bytes behind its id, with its rules; `end` is the address at which they end.
+/// A CIE by its body, the bytes after its id, with its rules; `end` is the address at which they end.
 pub(crate) fn read_cie_program(alloc: Global, end: u128, body: &[u8]) -> Result<CieProgram, Failed>
     requires { end < 2 ^ 66 }
     ensures { IfOk result (λ k. IsOkAnd (cie_at end body.now) (IsCieProgram k)) }

@@ -1,4 +1,4 @@
-// What is counted of the instructions of an entry.
+// Counts of the instructions of an entry.
 ghost use Rattle.std.specs.Prelude.{◌≡◌, ◌≤◌, ◌<◌, ◌^◌, ◌+◌, ◌++◌, ℕ, List, [], ◌∷◌, length, IfOk, OnOk, IfSome, Some};
 ghost use Rattle.std.specs.Prelude.{None, sum_by, flat_map};
 ghost use Rattle.std.specs.Option.{option_to_list};
@@ -44,7 +44,7 @@ impl Registers {
     }
 }
 
-/// The registers that instructions give a rule, but for those in `known`.
+/// The registers that instructions give a rule, without the registers in `known`.
 pub(crate) fn new_registers(
     alloc: Global,
     known: &BTreeSet<u64>,
@@ -63,7 +63,7 @@ pub(crate) fn new_registers(
     Ok(registers)
 }
 
-/// How many bytes the expressions of instructions have together; none where that passes 64 bits.
+/// How many bytes the expressions of instructions have together; none if that passes 64 bits.
 pub(crate) fn expression_bytes(instructions: &[Instruction]) -> Option<u64>
     ensures { IfSome result (λ n. n ≡ sum_by spec.bytes_in instructions.now) }
 {

@@ -16,7 +16,7 @@ use crate::operand::byte;
 use rb_bytes::cursor::Cursor;
 use std::alloc::Global;
 
-// The most instructions of an entry. No function's entry needs so many, and each takes some 200 bytes while the entry
+// The most instructions of an entry. No function's entry needs as many, and each takes some 200 bytes while the entry
 // is run; so an entry with more is answered with want of memory.
 const MOST_INSTRUCTIONS: usize = 1 << 23;
 
@@ -50,7 +50,7 @@ pub(crate) fn instructions(
     ensures err { IfErr result (λ e. Fails e (instructions_at (context_of factors.now) cursor.old.left ≡ Err Entry)) }
 {
     let mut list = Vec::new(alloc);
-    // Each instruction takes a byte at least, so nothing is left behind the loop.
+    // Each instruction takes a byte at least, so nothing is left after the loop.
     for count in 0..cursor.left() {
         if cursor.left() == 0 {
             return Ok(list);

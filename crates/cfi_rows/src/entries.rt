@@ -31,7 +31,7 @@ impl<'a> RawEntry<'a> {
     }
 
     // The offset of the CIE that an FDE names, if it can be one: in `.eh_frame` an id is the distance back from the id
-    // field, which stands four bytes behind the start of the entry.
+    // field, which is four bytes after the start of the entry.
     pub(crate) fn cie_place(&self, debug: bool) -> Option<u128>
         ensures { result ≡ spec.cie_place debug self.now }
     {
@@ -45,7 +45,7 @@ impl<'a> RawEntry<'a> {
         Some(field - self.id as u128)
     }
 
-    // The address at which it ends, where its section is at `address`. In a malformed file the sum may pass 2^64.
+    // The address at which it ends, if its section is at `address`. In a malformed file the sum may pass 2^64.
     pub(crate) fn end(&self, address: u64) -> u128
         ensures is { result ≡ spec.end_of address self.now }
         ensures small { result < 2 ^ 66 }
@@ -57,7 +57,7 @@ impl<'a> RawEntry<'a> {
 // The id of a CIE in `.debug_frame`.
 const DEBUG_CIE_ID: u32 = 0xffff_ffff;
 
-// A CIE, or none where it is malformed.
+// A CIE, or none if it is malformed.
 fn sound_cie(alloc: Global, end: u128, body: &[u8]) -> Result<Option<Cie>, NoMemory>
     requires { end < 2 ^ 66 }
     ensures { IfOk result (λ cie. KeptAs cie (spec.cie_at end body.now)) }
@@ -104,7 +104,7 @@ fn read_cies(
     Ok(cies)
 }
 
-// Adds an entry, if it is a CIE, to the CIEs of the entries that stand behind it.
+// Adds an entry, if it is a CIE, to the CIEs of the entries after it.
 fn add_cie(
     alloc: Global,
     debug: bool,
@@ -146,7 +146,7 @@ fn fde_among(
     }
 }
 
-// The entries up to the first malformed one, or else up to `broken`, where bytes stand that are no entry.
+// The entries up to the first malformed one, or up to `broken`, the offset of bytes that are no entry.
 fn sound_entries(
     alloc: Global,
     debug: bool,
@@ -209,7 +209,7 @@ fn take_entry(
     }
 }
 
-/// The entries of a frame table, `.debug_frame` where `debug` holds, by the contents and the address of its section.
+/// The entries of a frame table, `.debug_frame` if `debug` is true, by the contents and the address of its section.
 pub fn read_entries(
     alloc: Global,
     debug: bool,

@@ -8,7 +8,7 @@ use crate::row_history::RowHistory;
 use std::marker::Model;
 use std::rc::Rc;
 
-/// The rows of an FDE. Their rules are those of its CIE, overridden by those that its own instructions set.
+/// The rows of an FDE. They have its CIE's rules, overridden by the rules that its own instructions set.
 #[derive(Drop)]
 pub struct EntryRows {
     pub initial: Rc<CieProgram>,

@@ -22,7 +22,7 @@ use crate::raw_entry::RawEntry;
 use rb_bytes::cursor::Cursor;
 use std::alloc::Global;
 
-/// The fields of an FDE before its instructions: where its range starts, the size of the range, and the address of
+/// The fields of an FDE before its instructions: the start of its range, the size of the range, and the address of
 /// its exception table, or 0.
 #[derive(Clone, Copy)]
 pub struct FdeHead {
@@ -32,7 +32,7 @@ pub struct FdeHead {
 }
 
 impl Encoding {
-    // The encoding of the size of a range: that of its start, but never relative to where it stands.
+    // The encoding of the size of a range: its start's encoding, but never relative to its own field.
     fn of_size(self) -> Encoding
         ensures { result ≡ spec.size_encoding self }
     {

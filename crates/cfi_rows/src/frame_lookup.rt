@@ -10,7 +10,7 @@ use rb_bytes::fault::NoMemory;
 use std::alloc::Global;
 
 impl Frames {
-    /// The row that entry `i` of the list has at `a`, an address of its range. `NoMemory` is answered, too, where there
+    /// The row that entry `i` of the list has at `a`, an address of its range. `NoMemory` is answered, too, if there
     /// is no such entry, or `a` is below all of its rows.
     pub fn row(&self, alloc: Global, i: usize, a: u64) -> Result<Row, NoMemory>
         ensures { IfOk result (λ row. (f : Entry) → slice_get (read_as self.now).list i ≡ Some f →
@@ -19,7 +19,7 @@ impl Frames {
         self.row_at(alloc, i, a)?.ok_or(NoMemory)
     }
 
-    /// The last row of entry `i` of the list that begins at or below `a`, if one does. Where the entry's range ends
+    /// The last row of entry `i` of the list that begins at or below `a`, if one does. The end of the entry's range
     /// isn't looked at.
     pub fn row_at(&self, alloc: Global, i: usize, a: u64) -> Result<Option<Row>, NoMemory>
         ensures { IfOk result (λ row.
@@ -31,7 +31,7 @@ impl Frames {
         }
     }
 
-    /// Whether two addresses have the same row of entry `i` of the list; `false` where there is no such entry.
+    /// Whether two addresses have the same row of entry `i` of the list; `false` if there is no such entry.
     pub fn alike(&self, i: usize, a: u64, b: u64) -> bool
         ensures { IsTrue result → (f : Entry) → slice_get (read_as self.now).list i ≡ Some f →
             spec.row_at a f.rows None ≡ spec.row_at b f.rows None }

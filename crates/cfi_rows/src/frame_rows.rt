@@ -34,7 +34,7 @@ pub(crate) fn rows_of(
     for fde in list {
         match rows_standing(alloc, debug, held, fde.place, &mut cies) {
             Ok(rows) => all.push(rows)?,
-            // The list has only entries that were read before and weren't malformed, so memory is what is wanting.
+            // The list has only entries that were read before and weren't malformed, so memory has run out.
             Err(_) => return Err(NoMemory),
         }
     }

@@ -1,7 +1,7 @@
 // The entries of a table that were read.
 use crate::frame_table::Fde;
 
-/// What was read of a table up to its first malformed entry: how many CIEs and which FDEs stand before that one, and
+/// The part of a table up to its first malformed entry: how many CIEs and which FDEs come before that one, and
 /// its offset. Bytes that are no entry count as a malformed one.
 #[derive(Drop)]
 pub struct Listed {

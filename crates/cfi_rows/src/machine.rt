@@ -13,7 +13,7 @@ use std::alloc::Global;
 use std::mem;
 use std::rc::Rc;
 
-/// What is known at a point of a program: how the canonical frame address is found, and the rules of registers.
+/// The state known at a point of a program: how the canonical frame address is found, and the rules of registers.
 #[derive(Drop)]
 pub struct Known {
     pub cfa: Option<Rc<Cfa>>,
@@ -94,8 +94,8 @@ impl Machine {
         })
     }
 
-    /// Does one instruction, as where there are no initial rules: `Restore` takes a register's rule away. The rules of
-    /// a CIE are put below those of its FDE when a row is asked for.
+    /// Does one instruction, as if there were no initial rules: `Restore` takes a register's rule away. The rules of
+    /// a CIE are put below its FDE's when a row is asked for.
     pub(crate) fn step(&mut self, alloc: Global, instruction: &Instruction) -> Result<(), Failed>
         ensures { OnOk result (spec.step [] instruction.now (state_of self.old) ≡ Some (state_of self.new)) }
     {

@@ -46,7 +46,7 @@ pub(crate) fn signed(cursor: &mut Cursor<'_>) -> Result<i64, Failed>
     Ok(cursor.sleb()?)
 }
 
-/// An expression, which stands behind its length.
+/// An expression, after its length.
 pub(crate) fn block(alloc: Global, cursor: &mut Cursor<'_>) -> Result<Expression, Failed>
     ensures ok { IfOk result (λ b. block_at cursor.old.left ≡ Ok (b, cursor.new.left)) }
     ensures err { IfErr result (λ e. Fails e (block_at cursor.old.left ≡ Err Entry)) }

@@ -1,4 +1,4 @@
-// The rows that the instructions of an FDE describe, from what is known behind those of its CIE.
+// The rows that the instructions of an FDE describe, from the state known after its CIE.
 // DWARF 5, sections 6.4.1 and 6.4.3.
 ghost use Rattle.std.specs.Prelude.{◌≡◌, ◌<◌, ◌^◌, Some, IfOk};
 ghost use Rattle.std.specs.Rc.{rc_value};
@@ -17,7 +17,7 @@ use rb_bytes::cursor::Cursor;
 use std::alloc::Global;
 use std::rc::Rc;
 
-/// An FDE to be run: its CIE, where its range begins, and its instructions.
+/// An FDE to be run: its CIE, the start of its range, and its instructions.
 #[derive(Drop)]
 pub struct Program {
     pub initial: Rc<CieProgram>,
@@ -25,7 +25,7 @@ pub struct Program {
     pub instructions: Vec<Instruction>,
 }
 
-/// An FDE by its CIE and by its body, the bytes behind its id; `end` is the address at which they end.
+/// An FDE by its CIE and by its body, the bytes after its id; `end` is the address at which they end.
 pub(crate) fn read_program(
     alloc: Global,
     cie: Rc<CieProgram>,
@@ -58,7 +58,7 @@ impl Program {
             history.run(alloc, &mut machine, instruction)?;
         }
         history.add_row(&machine)?;
-        // Only for the clause of `len` that the rules of the CIE ascend by register, as those of rows have to.
+        // Only for the clause of `len` that the rules of the CIE ascend by register, as the rules of rows have to.
         let _ = known.rules.len();
         Ok(EntryRows {
             initial: self.initial.clone()?,

@@ -8,8 +8,8 @@ use rb_bytes::fault::NoMemory;
 use std::alloc::Global;
 use std::marker::Model;
 
-/// An entry of a frame table: the offset of its length field, its id, and the bytes after the id. The id tells a CIE
-/// from an FDE, and the FDE's CIE.
+/// An entry of a frame table: the offset of its length field, its id, and the bytes after the id. The id tells CIEs
+/// from FDEs, and gives an FDE's CIE.
 #[derive(Drop)]
 pub struct RawEntry<'a> {
     pub place: u64,
@@ -25,7 +25,7 @@ impl<'a> Model for RawEntry<'a> {
     ghost view = { λ e. record { place = e.place; id = e.id; body = e.body.now } };
 }
 
-/// Why no entry stands at the front of some bytes.
+/// Why there is no entry at the front of some bytes.
 #[derive(Clone, Copy)]
 pub enum NoEntry {
     /// A length of 0 ends the table, in `.eh_frame`.
@@ -37,7 +37,7 @@ pub enum NoEntry {
 // The length that says that one of 64 bits follows.
 const WIDE_LENGTH: u32 = 0xffff_ffff;
 
-/// The entry at the front of the bytes left, which stand at offset `place`, and the bytes after it.
+/// The entry at the front of the bytes left, which are at offset `place`, and the bytes after it.
 pub(crate) fn entry_at<'a>(
     debug: bool,
     place: u64,
@@ -66,14 +66,14 @@ pub(crate) fn entry_at<'a>(
     Ok((RawEntry { place, id, body }, rest))
 }
 
-/// The entries that stand one after another, and the offset behind them at which bytes stand that are no entry.
+/// The entries one after another, and the offset after them, if bytes there are no entry.
 #[derive(Drop)]
 pub struct Walked<'a> {
     pub entries: Vec<RawEntry<'a>>,
     pub broken: Option<u64>,
 }
 
-/// Walks the entries of a table, up to its end or to what is no entry.
+/// Walks the entries of a table, up to its end or to bytes that are no entry.
 pub(crate) fn walk<'a>(alloc: Global, debug: bool, table: &'a [u8]) -> Result<Walked<'a>, NoMemory>
     ensures { IfOk result (λ w. walked_entries debug table.now ≡ record
         { entries = w.entries.items; broken = w.broken }) }

@@ -14,7 +14,7 @@ use crate::rules::{Change, RuleMap};
 use std::alloc::Global;
 use std::rc::Rc;
 
-/// A row: where it begins, how the canonical frame address is found, and how many changes of rules led to it.
+/// A row: its start, how the canonical frame address is found, and how many changes of rules led to it.
 #[derive(Drop)]
 pub struct KeptRow {
     pub start: u64,
@@ -22,7 +22,7 @@ pub struct KeptRow {
     pub changes: usize,
 }
 
-/// The rules after so many changes.
+/// The rules after the first `changes` changes.
 #[derive(Drop)]
 pub struct KeptRules {
     pub changes: usize,

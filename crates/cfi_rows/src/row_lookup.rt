@@ -25,7 +25,7 @@ fn count_up_to(rows: &[KeptRow], address: u64) -> usize
 }
 
 impl RowHistory {
-    // The rules after so many changes.
+    // The rules after `count` changes.
     fn rules_after(&self, alloc: Global, count: usize) -> Result<RuleMap, NoMemory>
         requires right { All (IsRight self.now.changes.items) self.now.kept.items }
         requires within { count ≤ length self.now.changes.items }
@@ -40,7 +40,7 @@ impl RowHistory {
         Ok(rules)
     }
 
-    // The last rules that were kept after at most `count` changes, and after how many; or else none, after no change.
+    // The last rules that were kept after at most `count` changes, and after how many; or no rules, after no change.
     fn kept_rules(&self, alloc: Global, count: usize) -> Result<(RuleMap, usize), NoMemory>
         requires { All (IsRight self.now.changes.items) self.now.kept.items }
         ensures rules { IfOk result (λ k. k.0 ≡ rules_after self.now.changes.items k.1) }
@@ -49,7 +49,7 @@ impl RowHistory {
         let above = self.kept.partition_point(|kept| kept.changes <= count);
         if above > 0 {
             let kept = &self.kept[above - 1];
-            // True, since they ascend by their changes; but the prover isn't told so.
+            // True, since they ascend by their changes; but the prover doesn't know that.
             if kept.changes <= count {
                 return Ok((kept.rules.shared()?, kept.changes));
             }

@@ -65,7 +65,7 @@ impl RuleMap {
         Ok(RuleMap { by_register })
     }
 
-    /// How many registers have a rule. A clause tells that they ascend.
+    /// How many registers have a rule. A clause says that they ascend.
     pub(crate) fn len(&self) -> usize
         ensures small { result < 2 ^ 63 }
         ensures ascends { Ascend 0 self.now }

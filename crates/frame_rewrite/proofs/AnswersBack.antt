@@ -142,7 +142,7 @@ at-all P (r ∷ rs) p a f e = one (leb r.start p && ltb p (r.start + r.len)) ref
           ∙ e)) (All-head (λ (q : Run FrameAnswer). P q.answer) r rs f)
       one false t later = later (sym (ap (λ (b : Bool). option_or (cond b (Some r.answer) None) (run_at rs p)) t) ∙ e)
 
--- the range of an entry has no bytes but those of runs
+-- the range of an entry has only bytes that runs have
 group-filled : (spans : List Span) (all : Runs) (r : Run FrameAnswer) (end : ℕ) (more : Runs) → Touch end more
     → All (IsReached spans all) more
     → ((p : ℕ) → start_of spans r ≤ p → p < end → IsSome (run_at all p)) → (p : ℕ) → start_of spans r ≤ p
@@ -156,7 +156,7 @@ group-filled spans all r end (q ∷ qs) c f h p a b =
       least : (s a e x : ℕ) → s ≤ a → a ≡ e → e ≤ x → s ≤ x
       least s a e x h i j = omega arith
 
--- Where no run has a byte
+-- If no run has a byte
 
 no-some : (o : Option FrameAnswer) → o ≡ None → IsSome o → ⊥
 no-some None e s = cc
@@ -195,7 +195,7 @@ none-made form is_marked spans all (suc n) place (r ∷ rs) p f e =
           (All-head (IsReached spans all) r rs f).filled p h.0 h.1))
       out false t = refl
 
--- Where a run has the byte
+-- If a run has the byte
 
 -- the entry of a group answers at a byte of one of its runs
 group-answer : (form : Form) (is_marked : Fde → Bool) (spans : List Span) (place lo hi p : ℕ) (r : Run FrameAnswer) (more : Runs)
@@ -274,7 +274,7 @@ is_out s p end t = grind (arith, nat_tests)
 shorter : (k : ℕ) (rs : Runs) (n : ℕ) → suc (length rs) ≤ suc n → length (drop k rs) ≤ n
 shorter k rs n h = grind (arith, common_steps)
 
--- the first group has the byte, or it lies behind
+-- the first group has the byte, or a later one does
 split-made : (form : Form) (is_marked : Fde → Bool) (spans : List Span) (n place lo hi : ℕ) (r : Run FrameAnswer) (rs : Runs) (p : ℕ)
     (a : FrameAnswer) → IsWithin lo (r ∷ rs) hi
     → All (Before spans) (r ∷ rs) → run_at (r ∷ rs) p ≡ Some a

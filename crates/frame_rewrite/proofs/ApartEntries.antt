@@ -32,7 +32,7 @@ use Rattle.frame_rewrite.proofs.TableBack.{Before, made}
 abbrev Runs : Type 0
 Runs = List (Run FrameAnswer)
 
--- A run that has bytes between where the entry of another begins and that one goes on in it.
+-- A run with bytes between the start of another run's entry and that run is of the same entry.
 abbrev pub Alike : List Span → Runs → Run FrameAnswer → Type 0
 Alike spans all r = (q : Run FrameAnswer) (p : ℕ) → Contains all q → q.start ≤ p → p < q.start + q.len
     → start_of spans r ≤ p → p < r.start → Continues q r
@@ -160,12 +160,12 @@ last-of h all end hi (q ∷ qs) x c m w =
     })
     (All-tail (Continues h) q qs c) (All-tail (Contains all) q qs m) w.2
 
--- the entry of the first of some runs begins at an address or behind it
+-- the entry of the first of some runs begins at an address or after it
 abbrev FirstFrom : List Span → ℕ → Runs → Type 0
 FirstFrom spans end [] = Unit {0}
 FirstFrom spans end (r ∷ rs) = end ≤ start_of spans r
 
--- behind an address, the bytes of all runs are those of some of them
+-- from an address on, the bytes of all runs are the bytes of some of them
 abbrev pub Behind : Runs → ℕ → Runs → Type 0
 Behind all lo rs = (p : ℕ) → lo ≤ p → run_at all p ≡ run_at rs p
 
@@ -231,7 +231,7 @@ next spans all lo hi h rs w same reach alike m (r ∷ ds) e =
           (λ (x : end ≤ s). x)
           (cases_lt s end)
 
--- each entry begins where the one before it ends, or behind that, and ends behind where it begins
+-- each entry begins at or after the end of the one before it, and isn't empty
 abbrev Follows : ℕ → List Fde → Type 0
 Follows end [] = Unit {0}
 Follows end (f ∷ fs) = (end ≤ f.start) × (f.start < f.end) × Follows f.end fs
@@ -305,7 +305,7 @@ apart-of end (f ∷ fs) x = AllPairs-cons ShareNoAddress f fs (none-behind f f.e
   same : (n : ℕ) → n ≤ n
   same n = omega arith
 
--- what is read of a written table
+-- the entries that are read in a written table
 pub written-filled : (form : Form) (spans : List Span) (keys : List CieKey) (runs : Runs) (bytes : List ℕ) (address : ℕ)
     → All KeyFits keys → IsAt form address → IsWithin 0 runs (2 ^ 64 - 1) → All (IsReached spans runs) runs
     → IsSpelled form spans keys runs bytes → AreFilled (frames (is_debug form) address bytes).list

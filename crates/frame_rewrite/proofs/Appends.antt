@@ -35,7 +35,7 @@ spelled-more spelled xs i x d o new want h is e w =
     ∙ ap (λ y. o ++ (spelled y ++ flat_map spelled (drop (i + 1) xs))) is
     ∙ ap (λ l. o ++ flat_map spelled l) (sym n) ∙ w
 
--- rules of which only the new ones, and others, are spelled
+-- of the rules only new and changed ones are spelled
 pub other-more : (old xs : Rules) (i : ℕ) (x d : ℕ × Rule) (o new want : List ℕ)
     → i < length xs → x ≡ get_or xs i d → new ≡ o ++ spelled_other old x.0 x.1
     → o ++ spelled_rules (other_rules old (drop i xs)) ≡ want → new ++ spelled_rules (other_rules old (drop (i + 1) xs)) ≡ want
@@ -54,7 +54,7 @@ other-more old xs i x d o new want h is e w =
         by true e = rw e refl
         by false e = rw e refl
 
--- an item behind the first
+-- an item after the first
 pub item-behind : {A : Type 0} (x : A) (xs : List A) (i : ℕ) (d : A) → get_or (x ∷ xs) (i + 1) d ≡ get_or xs i d
 item-behind x xs i d = rw add-one refl
 

@@ -1,4 +1,4 @@
--- Rules of which some are taken back, and others are set, are the rules of the next row.
+-- If some rules are taken back, and others are set, the next row's rules come out.
 use Rattle.std.proofs.Common.{ℕ, ◌+◌, ◌≤◌, ◌≡◌, ◌==◌, ◌∙◌, [], ◌∷◌, Option, Some, None, cond, Bool, true, false}
 use Rattle.std.proofs.Common.{refl, sym, ap, arith}
 use Rattle.std.specs.Prelude.{filter, is_some, not, option_and_then}
@@ -86,7 +86,7 @@ same-so (rule.Expr a) (rule.Expr b) e = ap (λ n. rule.Expr n) ((bytes_eq-Decide
 same-so (rule.ValExpr a) (rule.ValExpr b) e = ap (λ n. rule.ValExpr n) ((bytes_eq-Decides a b).0 e)
 same-so a b e = absurd (cc)
 
--- What is left of the old rules, and what is set over them
+-- The old rules that are left, and the rules that are set over them
 
 joined : (o n : Option Rule) → option_or (option_and_then (λ v. cond (other_by o v) (Some v) None) n)
     (cond (is_some (option_and_then (λ v. cond (gone_by n) (Some v) None) o)) None o) ≡ n
@@ -99,7 +99,7 @@ joined (Some v) (Some w) = by (same_rule v w) refl where
   by true e = rw e (ap (λ (x : Rule). Some x) (same-so v w e))
   by false e = rw e refl
 
--- what is gone is taken back, and then what is new or another is set
+-- first the rules that are gone are taken back, and then new and changed ones are set
 pub changed : (old new : Rules) → Ascend 0 old → Ascend 0 new
     → over (without_all (gone_rules old new) old) (other_rules old new) ≡ new
 changed old new a c =

@@ -287,7 +287,7 @@ plain-so debug k e =
       four true true t s e = absurd (cc)
       four false h t s e = absurd (cc)
 
--- where there is no augmentation, an entry has no exception table
+-- without an augmentation an entry has no exception table
 pub plain-tabled : (debug : Bool) (k : CieKey) → has_data debug k ≡ false → false ≡ k.tabled
 plain-tabled debug k e = (plain-so debug k e).tabled
 

@@ -1,4 +1,4 @@
--- Where the new code ends, and what comes after it.
+-- The end of the new code, and the address after it.
 use Rattle.std.proofs.Common.{ℕ, ◌+◌, ◌-◌, ◌≤◌, ◌<◌, ◌≡◌, List, [], ◌∷◌, Option, Some, None, true, false, leb, ltb, refl, sym}
 use Rattle.std.proofs.Common.{◌∙◌, ap, subst, arith, inl, inr, length, drop, get_or}
 use Rattle.std.specs.Prelude.{All, Contains, IsTrue, ◌&&◌, ◌⊎◌, max, nat_le, nat_lt, is_some, option_map, slice_get, IfSome}

@@ -15,7 +15,7 @@ use Rattle.frame_rewrite.specs.FrameLookups.{is_marked_as}
 abbrev is_strictly_inside : ReadFde → ℕ → Bool
 is_strictly_inside f a = nat_lt f.start a && nat_lt a f.end
 
--- so many cuts are at most an address
+-- how many cuts are at most an address
 pub record IsCount (cuts : List ℕ) (address n : ℕ) : Type 0 where
   pub bound : n ≤ length cuts
   pub below : (k : ℕ) (d : ℕ) → k < n → slice_index_or cuts k d ≤ address
@@ -69,7 +69,7 @@ absent cuts start n h c m = list_any_none (λ c. c == start) cuts
           m p (sym (ap (λ j. slice_index_or cuts j 0) is) ∙ sym same ∙ e)
       at k d l e false b f g = let p : n ≤ k = grind (arith, nat_tests) in let s = c.above k d p l in omega arith
 
--- none lies strictly inside
+-- none is strictly inside
 clear : (cuts : List ℕ) (f : ReadFde) (n : ℕ) → IsCount cuts f.start n →
     ((k d : ℕ) → n ≤ k → k < length cuts → f.end ≤ slice_index_or cuts k d) →
     list_any (is_strictly_inside f) cuts ≡ false

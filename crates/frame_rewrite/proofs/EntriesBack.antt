@@ -10,7 +10,7 @@ use Rattle.cfi_rows.specs.Entries.{RawEntry, Front, Stands, entry_of, front_of, 
 use Rattle.frame_rewrite.specs.SpelledFrames.{spelled_entry, spelled_entries, end_mark}
 use Rattle.frame_rewrite.proofs.NumbersBack.{length-little}
 
--- a number in front of bytes, and what is left behind it
+-- a number in front of bytes, and the bytes after it
 little-front : (n d : ℕ) (rest : List ℕ) → d < 256 ^ n
     → (little_number n (little_bytes n d ++ rest) ≡ d) × (drop n (little_bytes n d ++ rest) ≡ rest)
 little-front n d rest f =
@@ -146,7 +146,7 @@ unfolding walk
 walk-none debug zero place h = refl
 walk-none debug (suc n) place h = refl
 
--- with nothing behind them
+-- with nothing after them
 pub walked-alone : (debug : Bool) (es : List RawEntry) → AreFrom 0 es
     → walked_entries debug (spelled_entries es) ≡ record { entries = es; broken = None }
 walked-alone debug es a =

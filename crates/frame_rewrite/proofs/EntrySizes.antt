@@ -89,7 +89,7 @@ rules-size (x ∷ xs) =
       sums : (t a b x n r s : ℕ) → t ≡ a + b → a ≤ 21 + x → b ≤ 21 * n + r → s ≡ x + r → t ≤ 21 * suc n + s
       sums t a b x n r s e h g k = omega arith
 
--- what is counted of a row
+-- how much is counted for a row
 abbrev row_count : RowValue → ℕ
 row_count row = 21 * length row.rules + (cfa_bytes row.cfa + rules_bytes row.rules)
 

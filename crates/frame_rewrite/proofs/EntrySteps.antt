@@ -156,7 +156,7 @@ out-of-writes form spans keys n count place rest W h w =
 pub longer : (out new : List ℕ) (n : ℕ) (e : RawEntry) → new ≡ out ++ spelled_entry e → n ≤ length out → n ≤ length new
 longer out new n e w h = let l : length new ≡ length out + 8 + length e.body = new-length out new e w in omega arith
 
--- what the runs behind a group keep
+-- the runs after a group still have these properties
 pub within-behind : (k : ℕ) (r : Run FrameAnswer) (rs rest : Runs) (hi : ℕ) → rest ≡ r ∷ rs → IsWithin 0 rest hi
     → IsWithin 0 (drop k rs) hi
 within-behind k r rs rest hi e w =
@@ -174,7 +174,7 @@ before-behind spans k r rs rest e f = All-drop (Before spans) k rs
 pub ascend-behind : (k : ℕ) (r : Run FrameAnswer) (rs rest : Runs) → rest ≡ r ∷ rs → All RunAscends rest → All RunAscends (drop k rs)
 ascend-behind k r rs rest e f = All-drop RunAscends k rs (All-tail RunAscends r rs (subst (All RunAscends) e f))
 
--- what is asked of a group
+-- the requirements on a group
 
 pub group-ascends : (k : ℕ) (r : Run FrameAnswer) (rs rest : Runs) → rest ≡ r ∷ rs → All RunAscends rest
     → All RunAscends (r ∷ take k rs)

@@ -1,4 +1,4 @@
--- The entries of a written table are the longest stretches of new code of those that were read, if no instruction lies
+-- The entries of a written table are the longest stretches of new code of the entries that were read, if no instruction is
 -- in two of these.
 use Rattle.std.proofs.Common.{ℕ, ◌+◌, ◌-◌, ◌≤◌, ◌<◌, ◌≡◌, ◌&&◌, List, Option, Some, None, leb, ltb, Bool, true, false}
 use Rattle.std.proofs.Common.{refl, sym, ◌∙◌, ap, subst, arith, length, ⊎_elim}
@@ -77,7 +77,7 @@ module _ (marks : Fde → Bool) (list : List Fde) (spans : List Span) (runs : Ru
   abbrev pub IsStretch : ℕ → ℕ → Type 0
   IsStretch low high = (f : Fde) × Contains list f × IsStretchOf spans f (record { low = low; high = high })
 
-  -- what is known of a byte that an entry is asked for
+  -- the facts about a byte that an entry is asked for
   record Said (f : Fde) (p : ℕ) : Type 0 where
     pub run : Run FrameAnswer
     pub at : run_at runs p ≡ Some run.answer

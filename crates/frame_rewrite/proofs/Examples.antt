@@ -1,5 +1,5 @@
--- A marked range from 10078 to 10090, of which the instruction at 1007c moved to 20000. Between where the range starts, which
--- didn't move, and that instruction stands code of another function.
+-- A marked range from 10078 to 10090. Its instruction at 1007c moved to 20000. Between the start of the range, which
+-- didn't move, and that instruction there is code of another function.
 use Rattle.std.proofs.Common.{◌≡◌, ℕ, pos, [], ◌∷◌, Option, Some, true, false, refl, sym, ap, subst, arith}
 use Rattle.std.specs.Prelude.{IsTrue, unwrap_or}
 use Rattle.addr_map.specs.declared.span.Span.{Span}
@@ -30,7 +30,7 @@ fde = record {
   rows = [];
 }
 
--- its range begins at a cut, and no cut lies strictly inside
+-- its range begins at a cut, and no cut is strictly inside
 marked : is_marked_by (0x10078 ∷ 0x10090 ∷ []) fde ≡ true
 marked = refl
 
@@ -43,7 +43,7 @@ moved_apart = record { out = 0x20000; len = 4; input = 0x1007c }
 abbrev other_code : Span
 other_code = record { out = 0x10100; len = 4; input = 0x30000 }
 
--- Each entry that starts where the range starts and holds 20000 would hold 10100 too, which no entry held.
+-- Each entry that starts at the start of the range and holds 20000 would hold 10100 too, which no entry held.
 gap : MovesWhole (moved_apart ∷ other_code ∷ []) fde → ⊥
 gap whole =
     let found = whole.no_gap moved_apart 0x10100 (0, omega arith, refl) refl (omega arith) (omega arith) in
@@ -51,7 +51,7 @@ gap whole =
     let inside : is_in_range fde 0x30000 ≡ true = subst (λ (o : ℕ). IsTrue (is_in_range fde o)) same found.2 in
     absurd (cc)
 
--- A piece of it that begins where it does holds its first addresses too. A search for the address behind the piece finds
+-- A piece of it with the same start holds its first addresses too. A search for the address after the piece finds
 -- the later one of the two.
 abbrev piece : Fde
 piece = record {

@@ -41,7 +41,7 @@ fde_of form spans k place r more =
       rows = record { start = start_of spans r; row = r.answer.row } ∷ placed more;
     }
 
--- A table is read where it was written for; `.debug_frame` anywhere.
+-- A table is read at the address that it was written for; `.debug_frame` at any.
 abbrev pub IsAt : Form → (address : ℕ) → Type 0
 IsAt Debug address = Unit {0}
 IsAt (Loaded at) address = at ≡ address

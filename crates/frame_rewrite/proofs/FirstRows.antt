@@ -42,7 +42,7 @@ back-stays : (s : State) (ks : List Known) → Stays s.location (take_back s ks)
 back-stays s [] = tt
 back-stays s (k ∷ ks) = refl
 
--- the rows from a state on, where those after the step begin where that is
+-- the rows from a state on, if the rows after the step begin at its location
 abbrev Onward : State → List Instruction → Rules → Type 0
 Onward s is initial = (t : State) → t.location ≡ s.location → IfRows s.location (rows initial is t)
 

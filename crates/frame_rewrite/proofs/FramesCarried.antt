@@ -1,4 +1,4 @@
--- From the law of frame tables that stand in a file: its answers at new code are the input's at the owners. And what its
+-- From the law of frame tables in a file: its answers at new code are the input's at the owners. And what its
 -- entries are.
 use Rattle.std.proofs.Common.{◌≡◌, ◌∙◌, ap, refl, sym, subst, ℕ, List, Option, Some, None, Bool, true, false}
 use Rattle.std.specs.Prelude.{IfSome, IsSome, option_and_then}
@@ -24,7 +24,7 @@ use Rattle.frame_rewrite.specs.Tables.{DebugComesFrom, DebugMakes, EhComesFrom, 
 use Rattle.frame_rewrite.specs.Tables.{debug_name, debug_says, eh_answers, eh_name, eh_says}
 use Rattle.frame_rewrite.proofs.WrittenTables.{no-stretches, none-listed, nothing-held}
 
--- what is wanted at a byte with an owner
+-- the answer that a byte with an owner has to have
 pub owned : {A : Type 0} (R : A → A → Type 0) (says : ℕ → Option A) (spans : List Span) (p o : ℕ) (at : ℕ → Option A) →
     owner spans p ≡ Some o → Agree R (carried says spans p) (at p) → Agree R (says o) (at p)
 owned R says spans p o at e h = subst (λ (x : Option ℕ). Agree R (option_and_then says x) (at p)) e h

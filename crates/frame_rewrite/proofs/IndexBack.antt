@@ -1,4 +1,4 @@
--- The index that is made of what is kept of entries is that of the entries.
+-- The index that is made of the kept parts of entries is the index of the entries.
 use Rattle.std.proofs.Common.{ℕ, suc, ◌+◌, ◌*◌, ◌≤◌, ◌<◌, ◌≡◌, List, [], ◌∷◌, ◌++◌, refl, sym, ◌∙◌, ap, subst, arith, length, map, get_or, set}
 use Rattle.std.proofs.Common.{flat_map, length-append}
 use Rattle.std.specs.Prelude.{IsPermutation, AllPairs}
@@ -16,7 +16,7 @@ use Rattle.frame_rewrite.specs.Index.{IsIndexOf, pair_bytes, distance, distance_
 use Rattle.frame_rewrite.proofs.IndexSearch.{leads-to}
 use Rattle.frame_rewrite.proofs.NumbersBack.{length-little}
 
--- the pair of what is kept of an entry
+-- the pair of a kept part of an entry
 abbrev pub pairs_of : ℕ → ℕ → ReadFde → List ℕ
 pairs_of at index f = pair_bytes at index f.start f.place
 

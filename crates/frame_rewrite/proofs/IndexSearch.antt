@@ -14,7 +14,7 @@ use Rattle.frame_rewrite.specs.Index.{AreApart, AreFilled, ShareNoAddress, last_
 abbrev Rise : List Fde → Type 0
 Rise list = AllPairs (λ f g. f.start ≤ g.start) list
 
--- behind the entry that holds an address none begins at it or below
+-- after the entry that holds an address none begins at it or below
 module _ (a : ℕ) where
   abbrev begins : Fde → Bool
   begins g = leb g.start a

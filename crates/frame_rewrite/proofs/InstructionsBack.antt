@@ -139,7 +139,7 @@ cfa-back end (Expr b) rest f =
     opens (plain end) 0x0f (spelled_block b) rest ∙ ap (λ (x : Read (List ℕ)). and_then x
     (λ y more. cfa_read (Expr y) more)) (block-back b rest f)
 
--- the offset alone
+-- only the offset
 offset-back : (end : Ending) (n : ℤ) (rest : List ℕ) → FitsSigned w64 n
     → instruction_at (plain end) (0x0e ∷ (uleb (up n) ++ rest)) ≡ Ok (DefCfaOffset n, rest)
 offset-back end n rest f =
@@ -277,7 +277,7 @@ change_list known row =
     cfa_list known.cfa row.cfa
     ++ (restore_list (gone_rules known.rules row.rules) ++ rule_list (other_rules known.rules row.rules))
 
--- a row behind which the location moves on
+-- a row after which the location moves on
 abbrev pub before_list : Known → RowValue → ℕ → List Instruction
 before_list known row n =
     if are_low row.rules then change_list known row ++ Advance n ∷ []
@@ -392,7 +392,7 @@ spells-before end known row n h change = by (are_low row.rules) where
       (spells-both end (spelled_advance n) (0x0b ∷ []) (Advance n ∷ []) (RestoreState ∷ []) (spells-advance end n h)
       (restores end)))
 
--- what is known has low registers alone
+-- the known state has only low registers
 known-low : (known : Known) (row : RowValue) → are_low known.rules ≡ true → are_low (known_behind known row).rules ≡ true
 known-low known row low = by (are_low row.rules) refl where
   by : (b : Bool) → are_low row.rules ≡ b → are_low (if b then known_by row else known).rules ≡ true
@@ -420,7 +420,7 @@ nops-in end (suc k) n h =
     in-step (plain end) n (0 ∷ zeros k) (zeros k) Nop (nops k) (opens (plain end) 0 [] (zeros k)) (omega arith)
     (omega arith) (nops-in end k (n - 1) (omega arith))
 
--- a frame address alone
+-- only a frame address
 pub cfa-alone : (end : Ending) (v : Cfa) → CfaFits v → instructions_at (plain end) (spelled_cfa v) ≡ Ok (DefCfa v ∷ [])
 cfa-alone end v f =
     subst (λ (l : List ℕ). instructions_in (plain end) (length (spelled_cfa v)) l ≡ Ok (DefCfa v ∷ []))
@@ -429,7 +429,7 @@ cfa-alone end v f =
       long : (xs : List ℕ) → length (xs ++ []) ≤ length xs
       long xs = let e = length-append xs [] in omega arith
 
--- and nops behind it
+-- and nops after it
 pub cfa-nops : (end : Ending) (k : ℕ) (v : Cfa) → CfaFits v
     → instructions_at (plain end) (spelled_cfa v ++ zeros k) ≡ Ok (DefCfa v ∷ nops k)
 cfa-nops end k v f =

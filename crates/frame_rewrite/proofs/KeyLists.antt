@@ -64,7 +64,7 @@ key-itself k =
     let h : (k.handler == k.handler) ≡ true = grind (arith, nat_tests) in
     rw (r, h, one-itself k.indirect, one-itself k.signal, one-itself k.tabled) refl
 
--- Among keys that differ the place of one is where it is found.
+-- Among keys that differ, one is found at its place.
 
 all-at : (P : CieKey → Type 0) (ks : List CieKey) (i : ℕ) (k : CieKey) → AllByRecursion P ks → slice_get ks i ≡ Some k → P k
 all-at P [] i k a e = absurd (cc)

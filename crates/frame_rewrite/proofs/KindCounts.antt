@@ -1,4 +1,4 @@
--- The kinds of frames of a table that was read are those of its CIEs, so they are no more.
+-- The kinds of frames of a table that was read come from its CIEs, so there are no more of them.
 use Rattle.std.proofs.Common.{ℕ, suc, ◌+◌, ◌≤◌, ◌<◌, ◌≡◌, ◌==◌, ◌||◌, ◌⊎◌, inl, inr, List, [], ◌∷◌, Option, Some, None, Result, Ok, Err}
 use Rattle.std.proofs.Common.{cond, Bool, true, false, refl, sym, ◌∙◌, ap, subst, arith, length, map}
 use Rattle.std.specs.Prelude.{All, Contains, slice_get}

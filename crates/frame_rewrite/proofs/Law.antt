@@ -42,7 +42,7 @@ made-agrees form is_marked spans place hi runs p w r = one (run_at runs p) refl 
       (some-made form is_marked spans (length runs) place 0 hi runs p a (full (length runs)) w
       (reached-before spans runs runs r) e)
 
--- what is read of a written table where it was written for
+-- a written table, read at the address that it was written for
 pub reads-as : (form : Form) (spans : List Span) (keys : List CieKey) (runs : Runs) (bytes : List ℕ) (address : ℕ)
     → All KeyFits keys → IsAt form address → IsWithin 0 runs (2 ^ 64 - 1)
     → All (IsReached spans runs) runs → IsSpelled form spans keys runs bytes

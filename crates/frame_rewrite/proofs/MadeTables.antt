@@ -1,4 +1,4 @@
--- What is said of a table that was written, besides its answers.
+-- The clauses on a table that was written, besides its answers.
 use Rattle.std.proofs.Common.{ℕ, zero, suc, ◌+◌, ◌-◌, ◌*◌, ◌^◌, ◌≤◌, ◌<◌, ◌≡◌, List, [], ◌∷◌, ◌++◌, Option, Some, None, true, false, refl, sym, inl, inr}
 use Rattle.std.proofs.Common.{◌∙◌, ap, subst, arith, length, take, drop, length-append}
 use Rattle.std.specs.Prelude.{All, IsTrue, IsSome, is_some, option_and_then, sum_by}
@@ -52,7 +52,7 @@ made-starts form P spans (suc n) place (r ∷ rs) h =
     (All-drop (λ (r : Run FrameAnswer). P (start_of spans r)) (more_count r rs) rs
     (All-tail (λ (r : Run FrameAnswer). P (start_of spans r)) r rs h)))
 
--- where a run is, there is new code
+-- a run is new code
 some-owned : (says : ℕ → Option FrameAnswer) (spans : List Span) (p : ℕ) (o : Option FrameAnswer) → IsSome o
     → o ≡ carried says spans p → IsTrue (is_new_code spans p)
 some-owned says spans p o s e = owned (owner spans p) (subst IsSome e s) where

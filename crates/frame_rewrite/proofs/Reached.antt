@@ -1,4 +1,4 @@
--- The entry of a marked run holds no bytes but those of runs, where the ranges that are marked move whole.
+-- The entry of a marked run holds only bytes of runs, if the ranges that are marked move whole.
 use Rattle.std.proofs.Common.{ℕ, ◌+◌, ◌-◌, ◌≤◌, ◌<◌, ◌≡◌, ◌&&◌, ◌⊎◌, inl, inr, List, [], ◌∷◌, Option, Some, None, option_map, leb, ltb}
 use Rattle.std.proofs.Common.{Bool, true, false, refl, sym, ◌∙◌, ap, subst, arith}
 use Rattle.std.specs.Prelude.{All, IsTrue, IsSome, Contains, option_and_then}
@@ -70,7 +70,7 @@ map-some : {A B : Type 0} (f : A → B) (o : Option A) → IsSome o → IsSome (
 map-some f None s = s
 map-some f (Some a) s = refl
 
--- what is known of a byte at which a table answers
+-- the facts about a byte at which a table answers
 pub record Answered (marks : Fde → Bool) (list : List Fde) (spans : List Span) (p : ℕ) (a : FrameAnswer) : Type 0 where
   pub span : Span
   pub in_map : Contains spans span
@@ -124,7 +124,7 @@ run-some lo (q ∷ qs) hi r w c = either (Contains-cons_cases q qs r c) (run-som
   either (inl same) later = subst (λ (x : Run FrameAnswer). 0 < x.len) same w.1
   either (inr there) later = later there
 
--- what is known of a run's answer, at each of its bytes and at its first one
+-- the facts about a run's answer, at each of its bytes and at its first one
 module _ (marks : Fde → Bool) (list : List Fde) (spans : List Span) (runs : Runs) (hi : ℕ) (within : IsWithin 0 runs hi)
     (answers : (p : ℕ) → run_at runs p ≡ carried (answer_at marks list) spans p) where
   pub answered : (r : Run FrameAnswer) → Contains runs r → (p : ℕ) → r.start ≤ p → p < r.start + r.len

@@ -22,7 +22,7 @@ use Rattle.frame_rewrite.proofs.ReadEntries.{IfFde, IfCie, cie-so, fde-so, fde-r
 abbrev pub Bytes : List ℕ → Type 0
 Bytes l = All (λ (b : ℕ). b < 256) l
 
--- What holds of what is read, and of the bytes after it
+-- A property of what a reader reads, and of the bytes after it
 
 abbrev IfRead : {X : Type 0} → (X → List ℕ → Type 0) → Read X → Type 0
 IfRead R (Ok x) = R x.0 x.1

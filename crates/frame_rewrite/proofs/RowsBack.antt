@@ -1,4 +1,4 @@
--- The instructions of an entry describe its rows: each changes what is known to what the next row says.
+-- The instructions of an entry describe its rows: each changes the known state to the next row.
 use Rattle.std.proofs.Common.{ℕ, zero, suc, ℤ, ◌+◌, ◌-◌, ◌^◌, ◌≤◌, ◌<◌, ◌≡◌, List, [], ◌∷◌, ◌++◌, Option, Some, None, ltb, refl, ◌∙◌}
 use Rattle.std.proofs.Common.{ap, arith, append_assoc, map, Bool, true, false}
 use Rattle.std.specs.Prelude.{◌==◌, if◌then◌else◌}
@@ -25,7 +25,7 @@ fit-ascend lo (x ∷ xs) f = (f.0, fit-ascend (x.0 + 1) xs f.3)
 abbrev at_point : ℕ → Option Cfa → Rules → List Known → State
 at_point start cfa rules saved = record { location = start; known = record { cfa = cfa; rules = rules }; saved = saved }
 
--- A change of what is known
+-- A change of the known state
 
 cfa-run : (start : ℕ) (o : Option Cfa) (v : Cfa) (rules : Rules) (saved : List Known) (more : List Instruction)
     → rows [] (cfa_list o v ++ more) (at_point start o rules saved) ≡ rows [] more (at_point start (Some v) rules saved)
@@ -93,7 +93,7 @@ abbrev pub Follow : ℕ → List (Run FrameAnswer) → Type 0
 Follow at [] = Unit {0}
 Follow at (r ∷ rs) = (at ≤ r.start) × (r.start < 2 ^ 64) × RulesFit 0 r.answer.row.rules × Follow r.start rs
 
--- where the location moves on, a row ends
+-- a row ends as the location moves on
 advance-run : (at to : ℕ) (row : RowValue) (saved : List Known) (more : List Instruction) → at ≤ to → to < 2 ^ 64
     → rows [] (Advance (to - at) ∷ more) (at_point at (Some row.cfa) row.rules saved)
     ≡ prepended at (Some row) (rows [] more (at_point to (Some row.cfa) row.rules saved))
@@ -102,7 +102,7 @@ advance-run at to row saved more l h =
     let t : ltb to (2 ^ 64) ≡ true = grind (arith, nat_tests) in
     rw (is, t) refl
 
--- a row behind which the location moves on
+-- a row after which the location moves on
 before-run : (at to : ℕ) (known : Known) (row : RowValue) (more : List Instruction) → Ascend 0 known.rules
     → RulesFit 0 row.rules → at ≤ to → to < 2 ^ 64
     → rows [] (before_list known row (to - at) ++ more) (begins at known)

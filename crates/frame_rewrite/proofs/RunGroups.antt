@@ -86,7 +86,7 @@ at-before lo (r ∷ rs) hi p w h =
     let t : (leb r.start p && ltb p (r.start + r.len)) ≡ false = grind (arith, nat_tests) in
     rw (over-out r.start r.len p r.answer t) (at-before (r.start + r.len) rs hi p w.2 (omega arith))
 
--- behind the first runs, a byte is one of those that follow
+-- a byte after the first runs is a byte of a later run
 pub at-behind : (k lo : ℕ) (rs : Runs) (hi p : ℕ) → IsWithin lo rs hi → last_end lo (take k rs) ≤ p
     → run_at rs p ≡ run_at (drop k rs) p
 at-behind zero lo rs hi p w h = refl

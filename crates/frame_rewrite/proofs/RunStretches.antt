@@ -1,4 +1,4 @@
--- A group of runs, whose answers go on in one entry, and the runs before it and behind it, whose answers don't.
+-- A group of runs, whose answers go on in one entry, and the runs before and after it, whose answers don't.
 use Rattle.std.proofs.Common.{ℕ, zero, suc, ◌+◌, ◌≤◌, ◌<◌, ◌≡◌, ◌==◌, ◌&&◌, List, [], ◌∷◌, Some, None, cond, leb, ltb, Bool, true, false}
 use Rattle.std.proofs.Common.{refl, sym, ◌∙◌, ap, subst, arith, length, take, drop, ⊎_elim}
 use Rattle.std.specs.Prelude.{All, Contains}
@@ -25,7 +25,7 @@ use Rattle.frame_rewrite.proofs.TableBack.{made}
 abbrev Runs : Type 0
 Runs = List (Run FrameAnswer)
 
--- what is known of a group, which ends at an address
+-- the facts about a group, which ends at an address
 pub record IsGroup (all : Runs) (h : Run FrameAnswer) (end : ℕ) : Type 0 where
   pub some : h.start < end
   pub bytes : (p : ℕ) → h.start ≤ p → p < end → (q : Run FrameAnswer) × (run_at all p ≡ Some q.answer) × Continues h q
@@ -67,7 +67,7 @@ to-same h q r e c = record {
   signal = c.signal ∙ ap (λ (a : FrameAnswer). a.signal) e;
 }
 
--- a byte of the first of some runs, and one that lies after it
+-- a byte of the first of some runs, and one that comes later
 
 run-inside : (q : Run FrameAnswer) (more : Runs) (p : ℕ) → q.start ≤ p → p < q.start + q.len → run_at (q ∷ more) p ≡ Some q.answer
 run-inside q more p a x =

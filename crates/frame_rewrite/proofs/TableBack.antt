@@ -145,7 +145,7 @@ key-fits [] i k f e = absurd (cc)
 key-fits (y ∷ ys) zero k f e = subst KeyFits (same_Some y k e) (All-head KeyFits y ys f)
 key-fits (y ∷ ys) (suc i) k f e = key-fits ys i k (All-tail KeyFits y ys f) e
 
--- What is read.
+-- The entries that are read.
 
 unfoldable pub made : Form → List Span → ℕ → ℕ → Runs → List Fde
 made form spans n place [] = []

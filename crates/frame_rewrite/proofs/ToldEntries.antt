@@ -1,4 +1,4 @@
--- What is told of the first entry that holds an address.
+-- What the code says of the first entry that holds an address.
 use Rattle.std.proofs.Common.{◌≡◌, ◌∙◌, ℕ, Bool, true, List, [], ◌∷◌, map, Option, Some, None, option_map, refl, sym, ap, arith, length}
 use Rattle.std.proofs.Common.{get_or, ◌<◌}
 use Rattle.std.proofs.lemmas.Bool.Decides.{nat_tests}
@@ -76,14 +76,14 @@ answered is_marked mark list a same = by-entry (find (λ f. is_in_range f a) lis
   by-entry None = refl
   by-entry (Some f) = by-row f (row_at a f.rows None)
 
--- where the same is told, the same is answered
+-- two parts that say the same give equal answers
 pub answered-alike : (is_marked : Fde → Bool) (mark : ReadFde → Bool) (list : List Fde) (a b : ℕ)
     → ((f : Fde) → mark (fde_of f) ≡ is_marked f) → told_at list a ≡ told_at list b
     → answer_at is_marked list a ≡ answer_at is_marked list b
 answered-alike is_marked mark list a b same e =
     sym (answered is_marked mark list a same) ∙ ap (option_map (answer_of_told mark)) e ∙ answered is_marked mark list b same
 
--- as it is answered where an entry is told
+-- the answer, if an entry is found
 pub told-answer : (is_marked : Fde → Bool) (mark : ReadFde →
     Bool) (list : List Fde) (a : ℕ) (fde : ReadFde) (row : RowValue) (answer : FrameAnswer) →
     ((f : Fde) → mark (fde_of f) ≡ is_marked f) → Some (fde, row) ≡ told_at list a → answer ≡ answer_by fde row (mark fde) →
@@ -107,7 +107,7 @@ index-of (Err e) kept ranges h g = tt
 index-of (Ok index) kept ranges h g = λ list e a.
     h a ∙ ap (position (holds_address a)) (g ∙ ap (map kept_range) e ∙ same-ranges kept_range list)
 
--- what is found at an index
+-- the entry at an index
 pub item-at : (xs kept : List ReadFde) (i : ℕ) (fde : ReadFde) → true ≡ nat_lt i (length xs) → fde ≡ get_or xs i fde →
     xs ≡ kept →
     slice_get kept i ≡ Some fde

@@ -1,4 +1,4 @@
--- The answers of runs are those of entries that were read.
+-- The answers of runs come from entries that were read.
 use Rattle.std.proofs.Common.{ℕ, suc, ◌-◌, ◌*◌, ◌^◌, ◌≤◌, ◌<◌, ◌≡◌, ◌==◌, ◌⊎◌, inl, inr, List, [], ◌∷◌, length, Bool, true, false, None, refl, sym, subst, arith}
 use Rattle.std.specs.Prelude.{All, Contains, not}
 use Rattle.std.specs.List.{IsDistinct}

@@ -1,4 +1,4 @@
--- The law and what is made, of the two tables where they stand.
+-- The law, and the clauses on what is written, of the two tables in a file.
 use Rattle.std.proofs.Common.{ℕ, ◌+◌, ◌-◌, ◌*◌, ◌^◌, ◌≤◌, ◌<◌, ◌≡◌, List, [], Option, Some, None, Bool, true, false, refl, sym, ◌∙◌, ap, subst}
 use Rattle.std.proofs.Common.{arith, length}
 use Rattle.std.specs.Prelude.{All, Contains, is_some, option_and_then, sum_by}
@@ -45,7 +45,7 @@ use Rattle.frame_rewrite.proofs.Reached.{AreWhole, reached}
 abbrev Runs : Type 0
 Runs = List (Run FrameAnswer)
 
--- where the table stands
+-- the table in a file
 abbrev pub Stands : (debug : Bool) → (Fde → Bool) → List Span → Runs → Held → Type 0
 Stands debug is_marked spans runs section =
     IsCarried (IsCarriedFrame spans) spans (run_at runs) (answers is_marked (frames_of debug section))
@@ -98,13 +98,13 @@ pub nothing-held : (file : List ℕ) (s : Option Section) → is_some s ≡ fals
 nothing-held file None e = refl
 nothing-held file (Some s) e = absurd (cc)
 
--- What is made
+-- Written tables
 
 nothing-apart : (debug : Bool) (at : ℕ) (bytes : List ℕ) → bytes ≡ [] → AreApart (frames debug at bytes).list
 nothing-apart debug at bytes e = subst (λ (x : Frames). AreApart x.list) (sym (ap (frames debug at) e ∙ none-framed debug at))
     (λ i j d less inside. absurd (omega arith))
 
--- where nothing was read, and nothing is written
+-- if nothing was read, nothing is written
 pub no-stretches : (spans : List Span) (old new : List Fde) → old ≡ [] → new ≡ [] → AreStretches spans old new
 no-stretches spans old new e f =
     subst (λ (l : List Fde). AreStretches spans l new) (sym e) (subst (AreStretches spans []) (sym f) (record {
@@ -176,7 +176,7 @@ makes-nothing t spans runs w none e lists =
       room : (n c s : ℕ) → n ≤ s → 0 + n ≤ 16 + 64 * c + s
       room n c s h = omega arith
 
--- that of `.debug_frame`
+-- the law of `.debug_frame`
 
 pub debug-makes : (t : DebugFrames) (spans : List Span) (keys : List CieKey) (runs : Runs) (w : Written) → All KeyFits keys
     → IsWithin 0 runs (2 ^ 64 - 1) → All (IsReached spans runs) runs → All (Alike spans runs) runs
@@ -203,7 +203,7 @@ debug-makes-nothing t spans w none e lists = record {
   lists = lists;
 }
 
--- the entries of marked runs hold no bytes but those of runs
+-- the entries of marked runs hold only bytes of runs
 pub all-reached : (debug : Bool) (is_marked : Fde → Bool) (section : Held) (spans : List Span) (runs : Runs)
     → IsWithin 0 runs (2 ^ 64 - 1)
     → ((p : ℕ) → run_at runs p ≡ carried (answer_at is_marked (frames_of debug section).list) spans p)

@@ -10,7 +10,7 @@ pub record IsPlain (x : FrameAnswer) : Type 0 where
   pub signal : x.signal ≡ false
   pub table : x.table ≡ 0
 
--- The text of a CIE's augmentation stands behind its version and ends with a zero: here it is empty.
+-- The text of a CIE's augmentation comes after its version and ends with a zero: here it is empty.
 abbrev pub HasNoText : RawEntry → Type 0
 HasNoText e = slice_get e.body 1 ≡ Some 0
 

@@ -52,12 +52,12 @@ RunAscends r = Ascend 0 r.answer.row.rules
 abbrev pub RunReturns : Run FrameAnswer → Type 0
 RunReturns r = r.answer.ra < 256
 
--- each run begins where the one before does, or behind that, from an address on
+-- each run begins at the start of the one before or later, from an address on
 abbrev pub IsAbove : ℕ → List (Run FrameAnswer) → Type 0
 IsAbove at [] = Unit {0}
 IsAbove at (r ∷ rs) = (at ≤ r.start) × IsAbove r.start rs
 
--- each run begins less than 2 ^ 32 behind the one before
+-- each run begins less than 2 ^ 32 after the one before
 abbrev pub Near : ℕ → List (Run FrameAnswer) → Type 0
 Near at [] = Unit {0}
 Near at (r ∷ rs) = (r.start - at < 2 ^ 32) × Near r.start rs
@@ -96,7 +96,7 @@ pub record IsReached (spans : List Span) (runs : List (Run FrameAnswer)) (r : Ru
 abbrev pub EndFits : Run FrameAnswer → Type 0
 EndFits r = r.start + r.len < 2 ^ 64
 
--- a table that was written of runs, whose CIEs are those of some kinds of frames
+-- a table that was written of runs, with a CIE for each of some kinds of frames
 pub record IsSpelled (form : Form) (spans : List Span) (keys : List CieKey) (runs : List (Run FrameAnswer))
     (bytes : List ℕ) : Type 0 where
   pub writes : WritesAll form spans keys (length runs) (cie_size * length keys) runs

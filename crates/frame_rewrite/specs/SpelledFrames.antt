@@ -1,5 +1,5 @@
 -- How a frame table is written: one CIE for each kind of frame, and then the FDEs. Addresses of code are absolute in
--- `.debug_frame`; in `.eh_frame` they are distances from where they stand, so its bytes depend on its address. LSB, "The
+-- `.debug_frame`; in `.eh_frame` they are distances from their fields, so its bytes depend on its address. LSB, "The
 -- .eh_frame section"; DWARF 5, sections 6.4.1, 6.4.2 and 7.24.
 use Rattle.std.specs.Prelude.{ℕ, zero, suc, ℤ, pos, ◌+◌, ◌-◌, ◌*◌, ◌%◌, ◌==◌, ◌&&◌, ◌||◌, ◌++◌, Bool, true, false, not, cond, List}
 use Rattle.std.specs.Prelude.{[], ◌∷◌, Option, Some, None, is_some}
@@ -50,7 +50,7 @@ abbrev pub spelled_cfa : Cfa → List ℕ
 spelled_cfa (Reg r n) = DW_CFA_def_cfa ∷ (uleb r ++ uleb (up n))
 spelled_cfa (Expr b) = DW_CFA_def_cfa_expression ∷ spelled_block b
 
--- the frame address behind another one, if that is known: where the register stays, only the offset is said
+-- the frame address after another one, if that is known: if the register stays, only the offset is said
 abbrev pub spelled_cfa_from : Option Cfa → Cfa → List ℕ
 spelled_cfa_from None cfa = spelled_cfa cfa
 spelled_cfa_from (Some (Expr c)) cfa = spelled_cfa cfa
@@ -58,7 +58,7 @@ spelled_cfa_from (Some (Reg q m)) (Expr b) = spelled_cfa (Expr b)
 spelled_cfa_from (Some (Reg q m)) (Reg r n) =
     if q == r then (if int_eq m n then [] else DW_CFA_def_cfa_offset ∷ uleb (up n)) else spelled_cfa (Reg r n)
 
--- a register is saved at an offset; one of the first 64 stands in the opcode
+-- a register is saved at an offset; one of the first 64 is a part of the opcode
 abbrev pub spelled_saved : ℕ → ℕ → List ℕ
 spelled_saved r n =
     if nat_lt r 64 then (DW_CFA_offset * 64 + r) ∷ uleb n else DW_CFA_offset_extended ∷ (uleb r ++ uleb n)
@@ -93,7 +93,7 @@ same_rule (rule.Expr a) (rule.Expr b) = bytes_eq a b
 same_rule (rule.ValExpr a) (rule.ValExpr b) = bytes_eq a b
 same_rule _ _ = false
 
--- a rule that a register has is gone where it has none any more, and it is another than the one before, if there was one
+-- a register's rule is gone if it has none in the new row, and is changed if it differs from the one before, if any
 
 abbrev pub gone_by : Option Rule → Bool
 gone_by new = not (is_some new)
@@ -111,7 +111,7 @@ other_rules old new = filter (λ x. other_by (rule_of x.0 old) x.1) new
 abbrev pub spelled_other : (old : Rules) → ℕ → Rule → List ℕ
 spelled_other old r v = if other_by (rule_of r old) v then spelled_rule r v else []
 
--- what leads from what is known to a row
+-- the change from the known state to a row
 abbrev pub spelled_change : Known → RowValue → List ℕ
 spelled_change known row =
     spelled_cfa_from known.cfa row.cfa
@@ -127,8 +127,8 @@ spelled_advance n =
 abbrev pub known_by : RowValue → Known
 known_by row = record { cfa = Some row.cfa; rules = row.rules }
 
--- a row behind which the location moves on, and what is known then: what was known before, where the row has a rule of
--- a register that isn't low, so that what is known always takes a byte a rule to take back
+-- a row after which the location moves on, and the state known then: the one known before, if the row has a rule of
+-- a register that isn't low, so that each known rule is always taken back by one byte
 
 abbrev pub spelled_row_before : Known → RowValue → ℕ → List ℕ
 spelled_row_before known row n =
@@ -138,13 +138,13 @@ spelled_row_before known row n =
 abbrev pub known_behind : Known → RowValue → Known
 known_behind known row = if are_low row.rules then known_by row else known
 
--- the rows of an entry, from what is known at a location on: the first one, and those of the runs behind its first
+-- the rows of an entry, from the known state at a location on: the first row, and the rows of the runs after the first
 abbrev pub spelled_rows : Known → ℕ → RowValue → List (Run FrameAnswer) → List ℕ
 spelled_rows known at row [] = spelled_change known row
 spelled_rows known at row (r ∷ rs) =
     spelled_row_before known row (r.start - at) ++ spelled_rows (known_behind known row) r.start r.answer.row rs
 
--- Entries, each behind its length and its id
+-- Entries, each after its length and its id
 
 abbrev pub spelled_entry : RawEntry → List ℕ
 spelled_entry e = little_bytes 4 (length e.body + 4) ++ (little_bytes 4 e.id ++ e.body)
@@ -152,7 +152,7 @@ spelled_entry e = little_bytes 4 (length e.body + 4) ++ (little_bytes 4 e.id ++ 
 abbrev pub spelled_entries : List RawEntry → List ℕ
 spelled_entries es = flat_map spelled_entry es
 
--- DW_CFA_nop, so many times
+-- n times DW_CFA_nop
 abbrev pub zeros : ℕ → List ℕ
 zeros zero = []
 zeros (suc n) = 0 ∷ zeros n
@@ -177,7 +177,7 @@ abbrev pub is_debug : Form → Bool
 is_debug Debug = true
 is_debug (Loaded at) = false
 
--- bytes that are written only where they are needed
+-- bytes that are written only if they are needed
 abbrev pub bytes_if : Bool → List ℕ → List ℕ
 bytes_if true bytes = bytes
 bytes_if false bytes = []
@@ -185,12 +185,12 @@ bytes_if false bytes = []
 abbrev pub has_handler : CieKey → Bool
 has_handler k = not (k.handler == 0) || k.indirect
 
--- An augmentation has to be written where addresses aren't absolute, and for a handler, an exception table or a frame of
+-- An augmentation has to be written if addresses aren't absolute, and for a handler, an exception table or a frame of
 -- a signal handler.
 abbrev pub has_data : (debug : Bool) → CieKey → Bool
 has_data debug k = not debug || has_handler k || k.tabled || k.signal
 
--- the letters of what is needed, in the order in which assemblers write them
+-- the letters that are needed, in the assemblers' order
 abbrev pub cie_letters : (debug : Bool) → CieKey → List ℕ
 cie_letters debug k =
     bytes_if (has_handler k) (letter_P ∷ [])
@@ -211,7 +211,7 @@ cie_text debug k = bytes_if (has_data debug k) (letter_z ∷ cie_letters debug k
 abbrev pub cie_data : (debug : Bool) → CieKey → List ℕ
 cie_data debug k = bytes_if (has_data debug k) (length (letter_data debug k) ∷ letter_data debug k)
 
--- Where a function begins the frame address is the stack pointer. The frame of a signal handler isn't found so.
+-- At the start of a function the frame address is the stack pointer. The frame of a signal handler isn't found so.
 abbrev pub first_cfa : (signal : Bool) → Option Cfa
 first_cfa false = Some (Reg 2 (pos 0))
 first_cfa true = None
@@ -219,7 +219,7 @@ first_cfa true = None
 abbrev pub first_known : (signal : Bool) → Known
 first_known signal = record { cfa = first_cfa signal; rules = [] }
 
--- what is known behind a row, if there was one
+-- the state known after a row, if there was one
 abbrev pub known_of : (signal : Bool) → Option RowValue → Known
 known_of signal None = first_known signal
 known_of signal (Some row) = known_by row
@@ -246,8 +246,8 @@ abbrev pub cie_entries : (debug : Bool) → ℕ → List CieKey → List RawEntr
 cie_entries debug i [] = []
 cie_entries debug i (k ∷ ks) = cie_entry debug i k ∷ cie_entries debug (i + 1) ks
 
--- FDEs, each of a group of runs: of one that begins, and those behind it that touch one another and are answered by the
--- same entry. The range of an entry that is marked begins where its start went.
+-- FDEs, each of a group of runs: a first run, and the runs after it that touch one another and are answered by the
+-- same entry. The range of a marked entry begins at the new address of its start.
 
 abbrev pub is_alike : Run FrameAnswer → Run FrameAnswer → Bool
 is_alike r q =
@@ -255,7 +255,7 @@ is_alike r q =
     && (r.answer.ra == q.answer.ra) && (r.answer.handler == q.answer.handler)
     && beq r.answer.indirect q.answer.indirect && beq r.answer.signal q.answer.signal
 
--- how many of the runs behind one are of its group, of which the runs so far end at an address
+-- how many of the runs after one are of its group, if the group's runs so far end at an address
 abbrev pub count_on : ℕ → Run FrameAnswer → List (Run FrameAnswer) → ℕ
 count_on end r [] = 0
 count_on end r (q ∷ qs) = cond ((q.start == end) && is_alike r q) (suc (count_on (q.start + q.len) r qs)) 0
@@ -266,7 +266,7 @@ more_count r rs = count_on (r.start + r.len) r rs
 abbrev pub start_of : List Span → Run FrameAnswer → ℕ
 start_of spans r = cond r.answer.marked (new spans r.answer.start) r.start
 
--- where the last of some runs ends, or a given address where there are none
+-- the end of the last of some runs, or a given address if there are none
 abbrev pub last_end : ℕ → List (Run FrameAnswer) → ℕ
 last_end end [] = end
 last_end end (r ∷ rs) = last_end (r.start + r.len) rs
@@ -276,8 +276,8 @@ abbrev pub padding : (debug : Bool) → ℕ → ℕ
 padding true n = 7 - (n % 8 + 7) % 8
 padding false n = 3 - (n % 4 + 3) % 4
 
--- the start and the size of a range, of an entry at an offset: absolute, or the distance to the start from where that
--- stands, behind the length and the id
+-- the start and the size of a range, of an entry at an offset: absolute, or the distance to the start from its own
+-- field, after the length and the id
 abbrev pub spelled_range : Form → (place start size : ℕ) → List ℕ
 spelled_range Debug place start size = little_bytes 8 start ++ little_bytes 8 size
 spelled_range (Loaded at) place start size = distance_bytes start (at + place + 8) ++ little_bytes 4 size
@@ -317,7 +317,7 @@ fde_entry form spans keys place r more = record {
   body = fde_body form place spans r more;
 }
 
--- the entries of runs, from an offset on, where there are at most n
+-- the entries of at most n runs, from an offset on
 unfoldable pub fde_entries : Form → List Span → List CieKey → ℕ → ℕ → List (Run FrameAnswer) → List RawEntry
 fde_entries form spans keys n place [] = []
 fde_entries form spans keys zero place (r ∷ rs) = []

@@ -19,7 +19,7 @@ pub record IsStretchOf (spans : List Span) (f : Fde) (r : Range) : Type 0 where
   pub before : (p : ℕ) → p + 1 ≡ r.low → IsOf spans f p → ⊥
   pub after : IsOf spans f r.high → ⊥
 
--- no instruction lies in two entries
+-- no instruction is in two entries
 abbrev pub AreApartAt : List Span → List Fde → Type 0
 AreApartAt spans list = (s : Span) (f g : Fde) → Contains spans s → Contains list f → Contains list g →
     IsTrue (is_in_range f s.input) → IsTrue (is_in_range g s.input) → f ≡ g

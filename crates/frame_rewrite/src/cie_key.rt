@@ -1,4 +1,4 @@
-// The kinds of frames, for each of which one CIE is written.
+// The kinds of frames: one CIE is written for each.
 ghost use Rattle.std.specs.Prelude.{◌≡◌, ◌<◌, ◌^◌};
 ghost use Rattle.frame_rewrite.specs.SpelledFrames.{key_of, has_handler, has_data};
 

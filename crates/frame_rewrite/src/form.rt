@@ -1,13 +1,13 @@
-// The form in which a frame table is written.
+// The form of a written frame table.
 ghost use Rattle.std.specs.Prelude.{◌≡◌};
 ghost use Rattle.frame_rewrite.specs.SpelledFrames.{is_debug};
 
 /// Which of the two tables is written. What differs is how addresses are spelled.
 #[derive(Clone, Copy)]
 pub enum Form {
-    /// `.debug_frame`: addresses stand as they are, in eight bytes.
+    /// `.debug_frame`: addresses are absolute, of eight bytes.
     Debug,
-    /// `.eh_frame` at an address: each address is a distance from where it stands, in four bytes.
+    /// `.eh_frame` at an address: each address is a distance from its own field, in four bytes.
     Loaded(u64),
 }
 

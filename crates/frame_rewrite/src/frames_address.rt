@@ -1,4 +1,4 @@
-// Where the new `.eh_frame` comes in the written file.
+// The address of the new `.eh_frame` in the written file.
 ghost use Rattle.std.specs.Prelude.{◌≡◌, ◌+◌, ◌≤◌, All, IfSome};
 ghost use Rattle.rv_code.specs.layout.FunctionLists.{address_end};
 ghost use Rattle.frame_rewrite.specs.Tables as spec;
@@ -29,7 +29,7 @@ fn code_end(map: &AddrMap) -> u64
     end
 }
 
-/// The address of the new `.eh_frame`, behind the new code.
+/// The address of the new `.eh_frame`, after the new code.
 pub(crate) fn frames_address(map: &AddrMap) -> u64
     requires { All (λ s. s.out + s.len ≤ address_end) map.now }
     ensures { result ≡ spec.frames_address map.now }

@@ -47,7 +47,7 @@ pub(crate) fn keys_of(
     Ok(kinds.iter().copied().collect(alloc)?)
 }
 
-/// The index of a kind of frame, which is there; that isn't proved, so `NoMemory` is answered where it isn't.
+/// The index of a kind of frame, which is there; that isn't proved, so `NoMemory` is answered if it isn't.
 pub(crate) fn index_of(keys: &[CieKey], key: &CieKey) -> Result<usize, NoMemory>
     requires { IsDistinct spec.is_key keys.now }
     ensures index { IfOk result (λ i. i ≡ position_or_len (spec.is_key key.now) keys.now) }

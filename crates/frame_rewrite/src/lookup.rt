@@ -1,4 +1,4 @@
-// The entry of a frame table that holds an address, and what it says there.
+// The entry of a frame table that holds an address, and its answer there.
 ghost use Rattle.std.specs.Prelude.{◌≡◌, ℕ, List, IfOk, IsTrue, map, option_map, position};
 ghost use Rattle.answer_runs.specs.AddressRanges.{holds_address};
 ghost use Rattle.answer_runs.specs.FirstRanges.{first_range};
@@ -22,7 +22,7 @@ pub struct Told {
 }
 
 impl Told {
-    /// The answer; `marked` tells whether the entry is marked.
+    /// The answer; `marked`: whether the entry is marked.
     pub(crate) fn answer(self, marked: bool) -> FrameAt
         ensures { result ≡ answer_by self.fde self.row marked }
     {
@@ -61,7 +61,7 @@ fn ranges_of(alloc: Global, list: &[Fde]) -> Result<Vec<Range>, NoMemory>
     Ok(ranges)
 }
 
-/// The first entry that holds address `a`, and its row there, by an index of the table's entries; none where no entry
+/// The first entry that holds address `a`, and its row there, by an index of the table's entries; none if no entry
 /// holds it.
 pub(crate) fn tell(
     alloc: Global,

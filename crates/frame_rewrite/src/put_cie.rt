@@ -22,17 +22,17 @@ const DATA_ALIGNMENT_FACTOR: u8 = 0x7f;
 
 const STACK_POINTER: u8 = 2;
 
-// How many bytes a CIE has behind its id.
+// How many bytes a CIE has after its id.
 const BODY_SIZE: usize = 24;
 
-// How many bytes an entry may have behind its id: with the id its length stays below 0xffffffff, which says that a
+// How many bytes an entry may have after its id: with the id its length stays below 0xffffffff, which says that a
 // length of 64 bits follows.
 const MAX_BODY: usize = 0xffff_fff0;
 
 // The greatest id of an entry.
 const MAX_ID: usize = 0xffff_ffff;
 
-/// Appends an entry: its length, its id, and its body. `NoMemory` is answered, too, where the id or the length doesn't
+/// Appends an entry: its length, its id, and its body. `NoMemory` is answered, too, if the id or the length doesn't
 /// fit its field.
 pub(crate) fn put_entry(out: &mut Vec<u8>, id: usize, body: &[u8]) -> Result<(), NoMemory>
     ensures written { OnOk result (out.new.items ≡ out.old.items
@@ -48,7 +48,7 @@ pub(crate) fn put_entry(out: &mut Vec<u8>, id: usize, body: &[u8]) -> Result<(),
     put_bytes(out, body)
 }
 
-// Appends bytes where they are needed.
+// Appends bytes if they are needed.
 fn put_if(out: &mut Vec<u8>, is_needed: bool, bytes: &[u8]) -> Result<(), NoMemory>
     ensures { OnOk result (out.new.items ≡ out.old.items ++ spec.bytes_if is_needed bytes.now) }
 {
@@ -70,7 +70,7 @@ fn put_letters(out: &mut Vec<u8>, debug: bool, key: &CieKey) -> Result<(), NoMem
     put_if(out, key.signal, b"S")
 }
 
-// Appends the letters, after the one that says that they have data (z), where any is needed.
+// Appends the letters, after the one that says that they have data (z), if any is needed.
 fn put_needed(out: &mut Vec<u8>, debug: bool, key: &CieKey) -> Result<(), NoMemory>
     ensures { OnOk result (out.new.items ≡ out.old.items
         ++ spec.bytes_if (spec.has_data debug key.now) (entries.letter_z ∷ spec.cie_letters debug key.now)) }
@@ -165,7 +165,7 @@ fn fill(body: &mut Vec<u8>) -> Result<(), NoMemory>
     put_zeros(body, BODY_SIZE.saturating_sub(body.len()))
 }
 
-// The id by which an entry is a CIE.
+// The id of a CIE.
 fn cie_id(debug: bool) -> usize
     ensures { result ≡ entries.cie_id debug }
 {

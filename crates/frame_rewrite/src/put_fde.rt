@@ -46,7 +46,7 @@ fn is_alike(first: &Run<FrameAt>, next: &Run<FrameAt>) -> bool
         && first.signal == next.signal
 }
 
-// How many of the runs behind `first` touch it, or one another, and go on in its entry.
+// How many of the runs after `first` touch it, or one another, and go on in its entry.
 fn more_count(first: &Run<FrameAt>, others: &[Run<FrameAt>]) -> usize
     requires { All EndFits (first.now ∷ others.now) }
     ensures count { result ≡ spec.more_count first.now others.now }
@@ -62,7 +62,7 @@ fn more_count(first: &Run<FrameAt>, others: &[Run<FrameAt>]) -> usize
     others.len()
 }
 
-// Where the range of a run's FDE begins: for a marked entry where its start went, which may be before the run.
+// The start of the range of a run's FDE: for a marked entry the new address of its start, which may be before the run.
 fn start_of(map: &AddrMap, run: &Run<FrameAt>) -> u64
     ensures { result ≡ spec.start_of map.now run.now }
 {
@@ -73,7 +73,7 @@ fn start_of(map: &AddrMap, run: &Run<FrameAt>) -> u64
     }
 }
 
-// Where the last run of a group ends, which is `first` and `more`.
+// The end of the last run of a group, which is `first` and `more`.
 fn group_end(first: &Run<FrameAt>, more: &[Run<FrameAt>]) -> u64
     requires { All EndFits (first.now ∷ more.now) }
     ensures { result ≡ spec.last_end (first.now.start + first.now.len) more.now }
@@ -133,7 +133,7 @@ fn put_rows<'x>(
     put_change(out, signal, known, last)
 }
 
-// Appends the start and the size of the range of an FDE at offset `place`. `NoMemory` is answered, too, where they
+// Appends the start and the size of the range of an FDE at offset `place`. `NoMemory` is answered, too, if they
 // don't fit the form's fields.
 fn put_range(
     out: &mut Vec<u8>,
@@ -246,7 +246,7 @@ fn pad(out: &mut Vec<u8>, debug: bool) -> Result<(), NoMemory>
 }
 
 // The id of an FDE at offset `place`, whose CIE is the one of `index`: the offset of that in `.debug_frame`, and in
-// `.eh_frame` the distance to it from the id, four bytes behind the start of the FDE.
+// `.eh_frame` the distance to it from the id, four bytes after the start of the FDE.
 fn fde_id(debug: bool, place: usize, index: usize) -> usize
     requires within { CIE_SIZE * index ≤ place }
     requires fits { place + 4 < 2 ^ 32 }

@@ -34,7 +34,7 @@ pub(crate) fn put_bytes(out: &mut Vec<u8>, bytes: &[u8]) -> Result<(), NoMemory>
     Ok(())
 }
 
-// Appends an expression behind its length.
+// Appends an expression after its length.
 fn put_block(out: &mut Vec<u8>, block: &Expression) -> Result<(), NoMemory>
     ensures { OnOk result (out.new.items ≡ out.old.items ++ spec.spelled_block block.now) }
 {
@@ -179,7 +179,7 @@ fn fits_signed(n: i64)
     ensures { FitsSigned w64 n }
 {}
 
-// Does nothing. Its clauses tell the prover, where it is called, that a rule fits its fields.
+// Does nothing. Its clauses say to the prover, at its calls, that a rule fits its fields.
 fn fits(register: u64, rule: &Rule)
     ensures fits { RuleFits rule.now }
     ensures register { register < 2 ^ 64 }
@@ -276,7 +276,7 @@ fn put_next(out: &mut Vec<u8>, known: &Row, row: &Row) -> Result<(), NoMemory>
     put_rules(out, &known.rules, &row.rules)
 }
 
-// Appends what leads to a row from what is known behind its CIE.
+// Appends the change to a row from the state after its CIE.
 fn put_first(out: &mut Vec<u8>, signal: bool, row: &Row) -> Result<(), NoMemory>
     requires { Ascend 0 row.now.rules }
     ensures spelled { OnOk result (out.new.items ≡ out.old.items ++ spec.spelled_change (spec.first_known signal) row.now) }
@@ -290,7 +290,7 @@ fn put_first(out: &mut Vec<u8>, signal: bool, row: &Row) -> Result<(), NoMemory>
     put_rules(out, &[], &row.rules)
 }
 
-/// Appends what leads to a row from the one that is known, or from the CIE where none is.
+/// Appends the change to a row from the known one, or from the state after the CIE if none is known.
 pub(crate) fn put_change(
     out: &mut Vec<u8>,
     signal: bool,
@@ -310,7 +310,7 @@ pub(crate) fn put_change(
     }
 }
 
-/// Appends that the location moves on. `NoMemory` is answered, too, where the distance doesn't fit four bytes.
+/// Appends that the location moves on. `NoMemory` is answered, too, if the distance doesn't fit four bytes.
 pub(crate) fn put_advance(out: &mut Vec<u8>, distance: u64) -> Result<(), NoMemory>
     ensures spelled { OnOk result (out.new.items ≡ out.old.items ++ spec.spelled_advance distance) }
     ensures near { OnOk result (distance < 2 ^ 32) }
@@ -333,7 +333,7 @@ pub(crate) fn put_advance(out: &mut Vec<u8>, distance: u64) -> Result<(), NoMemo
     put_u32(out, distance as u32)
 }
 
-/// Appends a row behind which the location moves on by a distance.
+/// Appends a row after which the location moves on by a distance.
 pub(crate) fn put_row_before(
     out: &mut Vec<u8>,
     signal: bool,
@@ -359,7 +359,7 @@ pub(crate) fn put_row_before(
     put_byte(out, DW_CFA_restore_state as u8)
 }
 
-/// The row that is known behind one: what was known before, where that has a rule of a register that isn't low.
+/// The row that is known after one: the row known before, if this one has a rule of a register that isn't low.
 pub(crate) fn known_behind<'x>(
     signal: bool,
     known: Option<&'x Row>,

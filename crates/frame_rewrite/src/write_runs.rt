@@ -1,4 +1,4 @@
-// The two tables written anew, of runs.
+// The two tables, written of runs.
 ghost use Rattle.std.specs.Prelude.{◌≡◌, ◌<◌, ◌-◌, ◌^◌, ℕ, All, IfOk};
 ghost use Rattle.elf_image.specs.declared.elf.Elf.{Elf};
 ghost use Rattle.rb_bytes.specs.FirstFault.{IsFree};
@@ -22,12 +22,12 @@ use rb_bytes::fault::NoMemory;
 use std::alloc::Global;
 use table_core::Written;
 
-// Does nothing. Its clause tells the prover, where it is called, that what a slice of bytes holds is below 256.
+// Does nothing. Its clause says to the prover, at its calls, that a slice of bytes holds numbers below 256.
 fn are_bytes(bytes: &[u8])
     ensures { All (λ b. b < 256) bytes.now }
 {}
 
-/// The new `.eh_frame`, made of runs; where the file has no such section, no bytes.
+/// The new `.eh_frame`, made of runs; no bytes if the file has no such section.
 pub(crate) fn write_eh(
     table: &EhFrames,
     alloc: Global,
@@ -57,7 +57,7 @@ pub(crate) fn write_eh(
     Ok(Written { bytes, lists })
 }
 
-/// The new `.debug_frame`, made of runs; where the old one is empty, no bytes.
+/// The new `.debug_frame`, made of runs; no bytes if the old one is empty.
 pub(crate) fn write_debug(
     table: &DebugFrames,
     alloc: Global,
