@@ -19,9 +19,9 @@ has to be below 2.5 but where what is said has a bound, past which memory is sai
 may end by a signal. The script ends with status 1 where some isn't so. No more is given than 6 GiB and 300 seconds.
 With --large those of LARGE are run, at a quarter, a half and the whole of the size that is named there: 60,000 units
 over one table of declarations, a million lists that overlap, 64 MiB of rows at one address, a million entries for one
-range, a million kinds of frames, as many functions as a file may have with a row of lines for each instruction, and entries, ranges, locations,
-attributes, lists, relocations and sequences of lines in files of nearly 64 MiB. With --make the smallest file of each
-kind is written into FOLDER, which is made where it isn't there, and nothing is run.
+range, a million kinds of frames, as many functions as a file may have with a row of lines for each instruction, and
+entries, ranges, locations, attributes, lists, relocations and sequences of lines in files of nearly 64 MiB. With --make
+the smallest file of each kind is written into FOLDER, which is made where it isn't there, and nothing is run.
 """
 import argparse
 import os
