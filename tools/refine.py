@@ -15,7 +15,8 @@ proved of an output doesn't depend on them. It changes
   units of functions go to their two ends, and a count of 1 from each unit to the next one asks for the order;
 - cold blocks: if a branch that often runs leads to one that never ran, more than 4 KiB away, it becomes a branch around
   a jump, and is taken each time. A count of 1 lets that block stand at the end of the function's hot part, and a count
-  from a block to itself lets its chain stand earlier, if that end is too far away.
+  from a block to itself lets its chain stand earlier, if that end is too far away. Cold blocks of a function that have
+  at most 20 bytes together stay at that end too: apart they would take more bytes in unwind tables.
 
 Each kind of change is counted; with --verbose each line that is changed is printed, with its count before and after.
 The estimate is what a run that PROFILE counts costs by the map: transfers taken, instructions more than in IN, and
@@ -70,6 +71,7 @@ def refine(mapper, wishes):
     wishes.order_blocks()
     if wishes.bytes_that_ran() > CACHE:
         wishes.order_functions()
+    wishes.keep_small()
     layout = mapper.layout(wishes.counts)
     for _ in range(ROUNDS):
         if not wishes.bring_near(layout):

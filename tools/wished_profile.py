@@ -11,6 +11,7 @@ LINE = 64
 REACH = 3700  # bytes that a branch surely reaches, some left for growth
 CLUSTER = 900_000  # the most bytes that are asked for in one cluster, some left of a million
 MILLION = 1_000_000
+SMALL = 20  # bytes up to which cold parts aren't moved away, as few as an entry of an unwind table has
 
 
 class Weighing:
@@ -214,6 +215,16 @@ class Wishes:
                     lifted[target] = min(lifted.get(target, layout.at[branch]), layout.at[branch])
         moved = sum(self.lift(target, at + REACH, layout, weights) for target, at in sorted(lifted.items()))
         return moved + self.add_blocks(added)
+
+    def keep_small(self):
+        """Lets cold blocks of few bytes stay at the end of their function's hot part: apart they would take more bytes in
+        unwind tables and names than they have."""
+        weights = block_weights(self.program, self.counts)
+        for _, starts in sorted(self.program.functions.items()):
+            cold = [start for start in starts if not weights[start]]
+            if 0 < len(cold) < len(starts) and sum(map(self.program.length, cold)) <= SMALL:
+                self.counts.update({(start, start): 1 for start in cold})
+                self.done["small cold parts kept"] += 1
 
     def often(self):
         """The branches that run often enough to be looked at, with their counts."""
