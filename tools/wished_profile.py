@@ -217,8 +217,8 @@ class Wishes:
         return moved + self.add_blocks(added)
 
     def keep_small(self):
-        """Lets cold blocks of few bytes stay at the end of their function's hot part: apart they would take more bytes in
-        unwind tables and names than they have."""
+        """Lets cold blocks of few bytes stay at the end of their function's hot part: apart they would take more bytes
+        in unwind tables and names than they have."""
         weights = block_weights(self.program, self.counts)
         for _, starts in sorted(self.program.functions.items()):
             cold = [start for start in starts if not weights[start]]
