@@ -4,3 +4,4 @@ pub mod Patches
 pub mod ReadBack
 pub mod SameBytes
 pub mod Spellings
+pub mod TablesRead

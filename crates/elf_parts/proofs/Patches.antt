@@ -134,6 +134,21 @@ stands-behind xs bytes =
     place : (j : ℕ) → (length xs + j) - length xs ≡ j
     place j = omega arith
 
+-- bytes of what is added stand behind the rest
+pub stands-added : (xs ys : List ℕ) (o : ℕ) (bytes : List ℕ) → Stands ys o bytes → Stands (xs ++ ys) (length xs + o) bytes
+stands-added xs ys o bytes stands =
+    let size : length (xs ++ ys) ≡ length xs + length ys = grind (arith, common_steps) in
+    let old : o + length bytes ≤ length ys = stands.within in
+    record {
+      within = omega arith;
+      same = λ j below. get_or-append_right xs ys (length xs) (length xs + o + j) 0 refl (omega arith)
+          ∙ ap (λ (i : ℕ). get_or ys i 0) (place j)
+          ∙ stands.same j below;
+    }
+  where
+    place : (j : ℕ) → (length xs + o + j) - length xs ≡ o + j
+    place j = omega arith
+
 -- Read back.
 
 pub number_at-stands : (file : List ℕ) (o : ℕ) (bytes : List ℕ) (i n : ℕ) → Stands file o bytes → i + n ≤ length bytes →

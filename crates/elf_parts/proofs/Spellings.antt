@@ -13,6 +13,7 @@ use Rattle.elf_image.specs.file.Header.{number_at, segment_at, segments_from}
 use Rattle.elf_parts.specs.declared.spell.SymbolEntry.{SymbolEntry}
 use Rattle.elf_parts.specs.Patches.{Stands}
 use Rattle.elf_parts.specs.Spellings.{Number, number, spelled, segment_bytes, section_header_bytes, symbol_entry_bytes, SegmentFits}
+use Rattle.elf_parts.specs.Spellings.{link_numbers}
 use Rattle.elf_parts.specs.Spellings.{segment_table, section_table}
 use Rattle.elf_parts.proofs.Patches.{number_at-stands}
 
@@ -48,11 +49,11 @@ stands-rest file o xs ys stands =
 
 -- Spelled numbers.
 
-number_at-here : (n v : ℕ) (ns : List Number) → v < 256 ^ n → number_at (spelled (number n v ∷ ns)) 0 n ≡ v
+pub number_at-here : (n v : ℕ) (ns : List Number) → v < 256 ^ n → number_at (spelled (number n v ∷ ns)) 0 n ≡ v
 unfolding spelled
 number_at-here n v ns fits = little_number-reads_back n v (spelled ns) fits
 
-number_at-next : (n v : ℕ) (ns : List Number) (o m : ℕ) →
+pub number_at-next : (n v : ℕ) (ns : List Number) (o m : ℕ) →
     number_at (spelled (number n v ∷ ns)) (n + o) m ≡ number_at (spelled ns) o m
 unfolding spelled
 number_at-next n v ns o m =
@@ -62,13 +63,13 @@ number_at-next n v ns o m =
     ∙ drop-append-add (little_bytes n v) (spelled ns) o in
     ap (λ (xs : List ℕ). little_number m xs) rest
 
-length-spelled_more : (n v : ℕ) (ns : List Number) → length (spelled (number n v ∷ ns)) ≡ n + length (spelled ns)
+pub length-spelled_more : (n v : ℕ) (ns : List Number) → length (spelled (number n v ∷ ns)) ≡ n + length (spelled ns)
 unfolding spelled
 length-spelled_more n v ns =
     let size : length (little_bytes n v) ≡ n = length-bytes_low_first 0 n v in
     length-append (little_bytes n v) (spelled ns) ∙ ap (λ (k : ℕ). k + length (spelled ns)) size
 
-length-spelled_none : length (spelled []) ≡ 0
+pub length-spelled_none : length (spelled []) ≡ 0
 unfolding spelled
 length-spelled_none = refl
 
@@ -166,10 +167,15 @@ pub section_table-none : section_table [] ≡ []
 unfolding section_table
 section_table-none = refl
 
+pub link_bytes-appended : (xs : List ℕ) (s : SectionHeader) →
+    (((xs ++ little_bytes 4 s.link) ++ little_bytes 4 s.info) ++ little_bytes 8 s.align) ++ little_bytes 8 s.entsize
+    ≡ xs ++ spelled (link_numbers s)
+unfolding spelled
+link_bytes-appended xs s = simp (append_assoc, append-nil)
+
 pub section_bytes-appended : (xs : List ℕ) (s : SectionHeader) →
-    (((((((((xs ++ little_bytes 4 s.name) ++ little_bytes 4 s.kind) ++ little_bytes 8 s.flags) ++ little_bytes 8 s.addr)
-    ++ little_bytes 8 s.offset) ++ little_bytes 8 s.size) ++ little_bytes 4 s.link) ++ little_bytes 4 s.info)
-    ++ little_bytes 8 s.align) ++ little_bytes 8 s.entsize ≡ xs ++ section_header_bytes s
+    ((((((xs ++ little_bytes 4 s.name) ++ little_bytes 4 s.kind) ++ little_bytes 8 s.flags) ++ little_bytes 8 s.addr)
+    ++ little_bytes 8 s.offset) ++ little_bytes 8 s.size) ++ spelled (link_numbers s) ≡ xs ++ section_header_bytes s
 unfolding spelled
 section_bytes-appended xs s = simp (append_assoc, append-nil)
 

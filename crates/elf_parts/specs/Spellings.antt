@@ -26,10 +26,13 @@ segment_numbers p =
 abbrev pub segment_bytes : Segment → List ℕ
 segment_bytes p = spelled (segment_numbers p)
 
+abbrev pub link_numbers : SectionHeader → List Number
+link_numbers s = number 4 s.link ∷ number 4 s.info ∷ number 8 s.align ∷ number 8 s.entsize ∷ []
+
 abbrev pub section_numbers : SectionHeader → List Number
 section_numbers s =
     number 4 s.name ∷ number 4 s.kind ∷ number 8 s.flags ∷ number 8 s.addr ∷ number 8 s.offset ∷ number 8 s.size
-    ∷ number 4 s.link ∷ number 4 s.info ∷ number 8 s.align ∷ number 8 s.entsize ∷ []
+    ∷ link_numbers s
 
 abbrev pub section_header_bytes : SectionHeader → List ℕ
 section_header_bytes s = spelled (section_numbers s)
@@ -52,6 +55,29 @@ pub record SegmentFits (p : Segment) : Type 0 where
   pub memsz : p.memsz < 256 ^ 8
   pub align : p.align < 256 ^ 8
 
+pub record LinksFit (s : SectionHeader) : Type 0 where
+  pub link : s.link < 256 ^ 4
+  pub info : s.info < 256 ^ 4
+  pub align : s.align < 256 ^ 8
+  pub entsize : s.entsize < 256 ^ 8
+
+pub record SectionFits (s : SectionHeader) : Type 0 where
+  pub name : s.name < 256 ^ 4
+  pub kind : s.kind < 256 ^ 4
+  pub flags : s.flags < 256 ^ 8
+  pub addr : s.addr < 256 ^ 8
+  pub offset : s.offset < 256 ^ 8
+  pub size : s.size < 256 ^ 8
+  pub links : LinksFit s
+
+pub record SymbolFits (s : SymbolEntry) : Type 0 where
+  pub name : s.name < 256 ^ 4
+  pub info : s.info < 256 ^ 1
+  pub other : s.other < 256 ^ 1
+  pub section : s.section < 256 ^ 2
+  pub value : s.value < 256 ^ 8
+  pub size : s.size < 256 ^ 8
+
 -- tables of program headers and of section headers
 unfoldable pub segment_table : List Segment → List ℕ
 segment_table [] = []
@@ -60,3 +86,7 @@ segment_table (p ∷ ps) = segment_bytes p ++ segment_table ps
 unfoldable pub section_table : List SectionHeader → List ℕ
 section_table [] = []
 section_table (s ∷ ss) = section_header_bytes s ++ section_table ss
+
+unfoldable pub symbol_entries : List SymbolEntry → List ℕ
+symbol_entries [] = []
+symbol_entries (s ∷ ss) = symbol_entry_bytes s ++ symbol_entries ss

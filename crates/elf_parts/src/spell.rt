@@ -51,16 +51,11 @@ pub fn put_segments(out: &mut Vec<u8>, segments: &[Segment]) -> Result<(), NoMem
     Ok(())
 }
 
-// Appends a section header.
-fn put_section(out: &mut Vec<u8>, s: &SectionHeader) -> Result<(), NoMemory>
-    ensures { OnOk result (out.new.items ≡ out.old.items ++ spec.section_header_bytes s.now) }
+// Appends what a section header says behind its section's size.
+fn put_links(out: &mut Vec<u8>, s: &SectionHeader) -> Result<(), NoMemory>
+    ensures bytes { OnOk result (out.new.items ≡ out.old.items ++ spec.spelled (spec.link_numbers s.now)) }
+    ensures fits { OnOk result (spec.LinksFit s.now) }
 {
-    put_u32(out, s.name)?;
-    put_u32(out, s.kind)?;
-    put_u64(out, s.flags)?;
-    put_u64(out, s.addr)?;
-    put_u64(out, s.offset)?;
-    put_u64(out, s.size)?;
     put_u32(out, s.link)?;
     put_u32(out, s.info)?;
     put_u64(out, s.align)?;
@@ -68,10 +63,26 @@ fn put_section(out: &mut Vec<u8>, s: &SectionHeader) -> Result<(), NoMemory>
     Ok(())
 }
 
+// Appends a section header.
+fn put_section(out: &mut Vec<u8>, s: &SectionHeader) -> Result<(), NoMemory>
+    ensures bytes { OnOk result (out.new.items ≡ out.old.items ++ spec.section_header_bytes s.now) }
+    ensures fits { OnOk result (spec.SectionFits s.now) }
+{
+    put_u32(out, s.name)?;
+    put_u32(out, s.kind)?;
+    put_u64(out, s.flags)?;
+    put_u64(out, s.addr)?;
+    put_u64(out, s.offset)?;
+    put_u64(out, s.size)?;
+    put_links(out, s)?;
+    Ok(())
+}
+
 /// Appends a table of section headers.
 #[tactic(auto, using(crate::proofs::Spellings::section_tables))]
 pub fn put_sections(out: &mut Vec<u8>, sections: &[SectionHeader]) -> Result<(), NoMemory>
-    ensures { OnOk result (out.new.items ≡ out.old.items ++ spec.section_table sections.now) }
+    ensures bytes { OnOk result (out.new.items ≡ out.old.items ++ spec.section_table sections.now) }
+    ensures fits { OnOk result (All spec.SectionFits sections.now) }
 {
     for s in sections {
         put_section(out, s)?;
@@ -81,7 +92,8 @@ pub fn put_sections(out: &mut Vec<u8>, sections: &[SectionHeader]) -> Result<(),
 
 /// Appends an entry of the symbol table.
 pub fn put_symbol(out: &mut Vec<u8>, s: &SymbolEntry) -> Result<(), NoMemory>
-    ensures { OnOk result (out.new.items ≡ out.old.items ++ spec.symbol_entry_bytes s.now) }
+    ensures bytes { OnOk result (out.new.items ≡ out.old.items ++ spec.symbol_entry_bytes s.now) }
+    ensures fits { OnOk result (spec.SymbolFits s.now) }
 {
     put_u32(out, s.name)?;
     put_u8(out, s.info)?;

@@ -1,8 +1,8 @@
 use Rattle.elf_parts.proofs.Spellings.{symbol_bytes-appended}
 use Rattle.elf_parts.proofs.spell.put_symbol.Goals as goal
 
-pub returns : goal.returns
-returns c =
+pub returns-clause-bytes : goal.returns-clause-bytes
+returns-clause-bytes c =
     rw (
       c.in_ok-put_u64-2.ensures,
       c.in_ok-put_u64.ensures,
